@@ -1,0 +1,4 @@
+pub mod Marks
+pub mod Number
+pub mod Sendable
+pub mod Xor

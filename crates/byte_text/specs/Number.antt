@@ -1,0 +1,15 @@
+use Rattle.std.specs.Prelude.{ℕ, ◌+◌, ◌-◌, ◌*◌, List, fold, min}
+use Rattle.std.specs.Char.{is_ascii_digit}
+use Rattle.std.specs.List.{take_while}
+
+-- the digits at the front
+unfoldable pub leading_digits : List ℕ → List ℕ
+leading_digits bytes = take_while is_ascii_digit bytes
+
+-- what a list of digits says in decimal, 0 for none
+unfoldable pub decimal_value : List ℕ → ℕ
+decimal_value digits = fold (λ n digit. 10 * n + (digit - 48)) 0 digits
+
+-- the number at the front: no digits read as 0, and nothing above 4,294,967,295
+unfoldable pub number_of : List ℕ → ℕ
+number_of bytes = min (decimal_value (leading_digits bytes)) 4294967295
