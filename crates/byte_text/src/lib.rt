@@ -5,6 +5,7 @@ ghost use Rattle.std.specs.Prelude.{◌≡◌};
 ghost use Rattle.byte_text.specs.Xor.{xor_of};
 
 /// The exclusive or of all bytes, Marlin's checksum.
+#[tactic(auto, unfolding(crate::specs::Xor::xor_of))]
 pub fn xor(bytes: &[u8]) -> u8
     ensures { result ≡ xor_of bytes.now }
 {
