@@ -13,3 +13,6 @@ pub use job::Job;
 pub use laws::{job_law, line_law, single_law};
 pub use reading::read_commands;
 pub use single::one_command;
+
+#[cfg(test)]
+mod tests;
