@@ -4,5 +4,5 @@
 mod number;
 mod word;
 
-pub use number::{Number, read_number};
+pub use number::{Number, decimal_up_to, read_number};
 pub use word::CodeWord;

@@ -1,5 +1,5 @@
 //! Decimal numbers, in whole millionths.
-ghost use Rattle.std.specs.Prelude.{◌≡◌, ◌-◌, ◌≤◌, length, min, slice_index_or, IfSome, MatchOption, None, Some};
+ghost use Rattle.std.specs.Prelude.{◌≡◌, ◌-◌, ◌^◌, ◌<◌, ◌≤◌, length, min, slice_index_or, IfSome, MatchOption, None, Some};
 ghost use Rattle.byte_text.specs.Number.{decimal_value, leading_digits};
 ghost use Rattle.gcode_words.specs.Value.{millionths, micro_of, behind_digits, decimals_at, behind_decimals, magnitude_at, is_negative, behind_sign, number_at};
 
@@ -102,20 +102,21 @@ fn micro(whole: &[u8], decimals: &[u8]) -> u64
     ensures value { result ≡ micro_of whole.now decimals.now }
     ensures bound { result ≤ 9000001000000000000 }
 {
-    let units = capped_value(whole);
+    let units = decimal_up_to(whole, GREATEST_WHOLE + 1);
     if units > GREATEST_WHOLE {
         return GREATEST_WHOLE * MILLION;
     }
     units * MILLION + first_decimals(decimals)
 }
 
-/// The number that these digits write, where it is above the greatest whole part one more than that.
-fn capped_value(digits: &[u8]) -> u64
-    ensures { result ≡ min (decimal_value digits.now) 9000000000001 }
+/// The number that digits write, and `most` where they write more.
+pub fn decimal_up_to(digits: &[u8], most: u64) -> u64
+    requires { most < 2 ^ 60 }
+    ensures { result ≡ min (decimal_value digits.now) most }
 {
     let mut value = 0;
     for digit in digits {
-        value = (value * 10 + u64::from(digit.saturating_sub(b'0'))).min(GREATEST_WHOLE + 1);
+        value = (value * 10 + u64::from(digit.saturating_sub(b'0'))).min(most);
     }
     value
 }

@@ -1,7 +1,7 @@
 use Rattle.std.specs.Prelude.{ℕ, nat_eq, nat_le, Bool, true, false, ◌||◌, ◌&&◌, if◌then◌else◌, codes, List, length, drop, Option, None, Some}
 use lib.Pointwise.{pointwise}
 use Rattle.byte_text.specs.Number.{leading_digits, decimal_value}
-use Rattle.marlin_reply.specs.Pieces.{trimmed, begins, behind_spaces, field_of}
+use Rattle.marlin_reply.specs.Pieces.{trimmed, begins, behind_spaces, field_of, small_number}
 use Rattle.marlin_reply.specs.Temperatures.{temps_of}
 use Rattle.marlin_reply.specs.declared.reply.Reply.{Reply}
 use Rattle.marlin_reply.specs.declared.reply.Reply.TheVariants as reply
@@ -15,12 +15,15 @@ is text word = pointwise nat_eq text word
 unfoldable pub ok_of : List ℕ → Reply
 ok_of text = reply.Ok (field_of 78 text) (field_of 80 text) (field_of 66 text) (temps_of text)
 
+-- a request for the line of that number
+abbrev pub request_of : Option ℕ → Reply
+request_of None = reply.Other
+request_of (Some number) = reply.Resend number
+
 -- behind `Resend:` one to ten digits up to 4,294,967,295, where no eleventh digit follows
 unfoldable pub resend_of : List ℕ → Reply
 resend_of digits =
-    if nat_le 1 (length digits) && (nat_le (length digits) 10 && nat_le (decimal_value digits) 4294967295)
-    then reply.Resend (decimal_value digits)
-    else reply.Other
+    if nat_le 1 (length digits) && nat_le (length digits) 10 then request_of (small_number digits) else reply.Other
 
 -- a report of temperatures, another line where no heater is whole
 abbrev pub report_of : Option Temps → Reply
