@@ -36,14 +36,21 @@ fn count_blanks(bytes: &[u8]) -> usize
     ensures value { result ≡ prefix_len is_blank bytes.now }
     ensures bound { result ≤ length bytes.now }
 {
-    bytes.iter().take_while(|byte| matches!(**byte, b' ' | b'\t')).count()
+    bytes
+        .iter()
+        .take_while(|byte| matches!(**byte, b' ' | b'\t'))
+        .count()
 }
 
 fn count_line_ends(bytes: &[u8]) -> usize
     ensures value { result ≡ suffix_len is_line_end bytes.now }
     ensures bound { result ≤ length bytes.now }
 {
-    bytes.iter().rev().take_while(|byte| matches!(**byte, b' ' | b'\t' | b'\r')).count()
+    bytes
+        .iter()
+        .rev()
+        .take_while(|byte| matches!(**byte, b' ' | b'\t' | b'\r'))
+        .count()
 }
 
 /// A text without the spaces at its front.

@@ -2,10 +2,9 @@
 ghost use Rattle.std.specs.Prelude.{◌≡◌};
 ghost use Rattle.marlin_reply.specs.Temperatures.{target_at, heat_at, heat_of, temps_of};
 
-use gcode_words::read_number;
-
-use super::{Heat, Temps};
 use super::pieces::{PieceStarts, skip_spaces};
+use super::{Heat, Temps};
+use gcode_words::read_number;
 
 /// The temperatures of a line; None where no heater is reported whole.
 #[tactic(auto, unfolding(crate::specs::Temperatures::temps_of))]
@@ -49,7 +48,10 @@ fn read_target(actual: i64, text: &[u8]) -> Option<Heat>
     match text {
         [b'/', behind @ ..] => {
             let target = read_number(behind)?;
-            Some(Heat { actual, target: target.micro })
+            Some(Heat {
+                actual,
+                target: target.micro,
+            })
         }
         _ => None,
     }
