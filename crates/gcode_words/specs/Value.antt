@@ -1,0 +1,49 @@
+use Rattle.std.specs.Prelude.{ℕ, ◌+◌, ◌*◌, ℤ, pos, neg_ℤ, if◌then◌else◌, ◌==◌, nat_lt, List, [], ◌∷◌, ◌++◌, length, take, drop, replicate, Option, None, Some}
+use Rattle.byte_text.specs.Number.{leading_digits, decimal_value}
+
+-- a number at the front of a text, in whole millionths, and what stands behind it
+pub record NumberAt : Type 0 where
+  pub micro : ℤ
+  pub rest : List ℕ
+
+-- the first six decimals in millionths, where fewer stand filled up with zeros
+unfoldable pub millionths : List ℕ → ℕ
+millionths decimals = decimal_value (take 6 (decimals ++ replicate 6 48))
+
+-- the digits before and behind the point as whole millionths; above 9,000,000,000,000 it is that number and has no fraction
+unfoldable pub micro_of : List ℕ → List ℕ → ℕ
+micro_of whole decimals =
+    if nat_lt 9000000000000 (decimal_value whole)
+    then 9000000000000 * 1000000
+    else decimal_value whole * 1000000 + millionths decimals
+
+-- what stands behind the digits at the front
+unfoldable pub behind_digits : List ℕ → List ℕ
+behind_digits bytes = drop (length (leading_digits bytes)) bytes
+
+-- the digits behind a point at the front, none where no point stands there
+unfoldable pub decimals_at : List ℕ → List ℕ
+decimals_at [] = []
+decimals_at (byte ∷ bytes) = if byte == 46 then leading_digits bytes else []
+
+-- what stands behind a point at the front and its digits
+unfoldable pub behind_decimals : List ℕ → List ℕ
+behind_decimals [] = []
+behind_decimals (byte ∷ bytes) = if byte == 46 then behind_digits bytes else byte ∷ bytes
+
+-- digits with at most one point, read with a sign; nothing without a digit
+unfoldable pub unsigned_at : (ℕ → ℤ) → List ℕ → Option NumberAt
+unsigned_at sign bytes =
+    if length (leading_digits bytes) + length (decimals_at (behind_digits bytes)) == 0
+    then None
+    else Some (record {
+      micro = sign (micro_of (leading_digits bytes) (decimals_at (behind_digits bytes)));
+      rest = behind_decimals (behind_digits bytes);
+    })
+
+-- a number at the front: a sign `+` or `-` or none, digits, and behind a point digits again
+unfoldable pub number_at : List ℕ → Option NumberAt
+number_at [] = None
+number_at (byte ∷ bytes) =
+    if byte == 45 then unsigned_at (λ n. neg_ℤ (pos n)) bytes
+    else (if byte == 43 then unsigned_at pos bytes else unsigned_at pos (byte ∷ bytes))
