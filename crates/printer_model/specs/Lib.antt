@@ -1,0 +1,4 @@
+pub mod Executed
+pub mod Printer
+pub mod Replies
+pub mod World

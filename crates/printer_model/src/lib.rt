@@ -1,0 +1,8 @@
+//! A modelled Marlin printer, the world of wires between host and printer as events, and a link over it in memory.
+#![tactic(auto)]
+
+mod event;
+mod printer;
+
+pub use event::WorldEvent;
+pub use printer::{Reason, Taken};
