@@ -103,6 +103,7 @@ pub fn line_number(line: &[u8]) -> u32
     }
 }
 
+// What follows the digits at the front.
 #[tactic(auto, unfolding(crate::specs::Frame::behind_digits))]
 fn behind_digits(bytes: &[u8]) -> &[u8]
     ensures { result.now ≡ behind_digits bytes.now }
@@ -110,6 +111,7 @@ fn behind_digits(bytes: &[u8]) -> &[u8]
     behind(bytes, leading_digits(bytes).len())
 }
 
+// The bytes without one space at the front, where there is one.
 fn behind_space(bytes: &[u8]) -> &[u8]
     ensures { result.now ≡ behind_space bytes.now }
 {
