@@ -1,4 +1,5 @@
-//! The commands of a G-code file: its lines without comments, checksums and line numbers, as a Marlin printer takes them.
+//! The commands of a G-code file, as a host sends them to a Marlin printer one by one: its lines without comments,
+//! checksums, blanks and line numbers.
 #![tactic(auto)]
 
 mod fault;
