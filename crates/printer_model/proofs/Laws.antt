@@ -1,0 +1,147 @@
+-- What one event, or several, leave of the world.
+use Rattle.std.proofs.Common.{◌≡◌, ℕ, Bool, true, false, cond, List, [], ◌∷◌, ◌++◌, refl, sym, ◌∙◌, ap, append_assoc, append-nil}
+use Rattle.std.specs.Prelude.{Result, Ok, Err}
+use Rattle.std.proofs.lemmas.List.Sums.{fold-append}
+use Rattle.std.proofs.lemmas.Bool.{cond_both}
+use Rattle.printer_model.specs.Printer.{PrinterData, Entry, Logged, is_full, judged, take_judged, take_line, run_queue}
+use Rattle.printer_model.specs.World.{WorldData, new_world, can_happen, arrive_front, after_run, happen, apply, world_from, world_of, Grew}
+use Rattle.printer_model.specs.declared.printer.Reason.{Reason}
+use Rattle.printer_model.specs.declared.event.WorldEvent.{WorldEvent}
+use Rattle.printer_model.specs.declared.event.WorldEvent.TheVariants.{Opened, Send, Arrive, Lose, Garble, Run, Chatter, Recv, Closed}
+
+-- events in two parts
+pub world_from-append : (w : WorldData) (first then : List WorldEvent) → world_from w (first ++ then) ≡ world_from (world_from w first) then
+world_from-append w first then = fold-append apply w first then
+
+-- one more event
+pub world_from-push : (w : WorldData) (past : List WorldEvent) (event : WorldEvent) → world_from w (past ++ event ∷ []) ≡ apply (world_from w past) event
+world_from-push w past event = world_from-append w past (event ∷ [])
+
+pub world_of-append : (places : ℕ) (advanced : Bool) (past added : List WorldEvent) → world_of places advanced (past ++ added) ≡ world_from (world_of places advanced past) added
+world_of-append places advanced past added = world_from-append (new_world places advanced) past added
+
+pub world_of-push : (places : ℕ) (advanced : Bool) (past : List WorldEvent) (event : WorldEvent) → world_of places advanced (past ++ event ∷ []) ≡ apply (world_of places advanced past) event
+world_of-push places advanced past event = world_from-push (new_world places advanced) past event
+
+-- an event that can happen happens
+pub happens : (w : WorldData) (event : WorldEvent) → can_happen w event ≡ true → apply w event ≡ happen w event
+happens w event can = ap (λ (b : Bool). cond b (happen w event) w) can
+
+-- one that can't changes nothing
+pub stays : (w : WorldData) (event : WorldEvent) → can_happen w event ≡ false → apply w event ≡ w
+stays w event cannot = ap (λ (b : Bool). cond b (happen w event) w) cannot
+
+-- what holds before an event, and after it where it happens, holds after it
+pub after_event : (P : WorldData → Type 0) (w : WorldData) (event : WorldEvent) → P w → (can_happen w event ≡ true → P (happen w event)) → P (apply w event)
+after_event P w event before after = cond_both (can_happen w event) (happen w event) w P after (λ _. before)
+
+-- the log grows from itself
+pub Grew-refl : (log : List Logged) → Grew log log
+Grew-refl log = record { added = []; is = sym (append-nil log) }
+
+pub Grew-trans : {a b c : List Logged} → Grew a b → Grew b c → Grew a c
+Grew-trans {a} {b} {c} first then =
+    record {
+      added = first.added ++ then.added;
+      is = then.is ∙ ap (λ (l : List Logged). l ++ then.added) first.is ∙ append_assoc a first.added then.added;
+    }
+
+-- the log after a line from the wire was taken
+arrived_log : (w : WorldData) (up : List (List ℕ)) → (arrive_front w up).log ≡ w.log
+arrived_log w [] = refl
+arrived_log w (line ∷ behind) = refl
+
+-- the log after a run grew by at most one line
+ran_log : (w : WorldData) (queue : List Entry) → Grew w.log (after_run w (run_queue w.printer queue)).log
+ran_log w [] = Grew-refl w.log
+ran_log w (entry ∷ behind) = record { added = record { number = entry.number; text = entry.text } ∷ []; is = refl }
+
+-- an event that happens only adds to the log
+happen-Grew : (w : WorldData) (event : WorldEvent) → Grew w.log (happen w event).log
+happen-Grew w (Opened last) = Grew-refl w.log
+happen-Grew w (Send line) = Grew-refl w.log
+happen-Grew w Arrive = record { added = []; is = arrived_log w w.up ∙ sym (append-nil w.log) }
+happen-Grew w (Lose at) = Grew-refl w.log
+happen-Grew w (Garble at line) = Grew-refl w.log
+happen-Grew w Run = ran_log w w.printer.queue
+happen-Grew w (Chatter reply) = Grew-refl w.log
+happen-Grew w Recv = Grew-refl w.log
+happen-Grew w Closed = Grew-refl w.log
+
+-- an event only adds to the log
+pub apply-Grew : (w : WorldData) (event : WorldEvent) → Grew w.log (apply w event).log
+apply-Grew w event = after_event (λ (v : WorldData). Grew w.log v.log) w event (Grew-refl w.log) (λ _. happen-Grew w event)
+
+-- events only add to the log
+pub world_from-Grew : (w : WorldData) (events : List WorldEvent) → Grew w.log (world_from w events).log
+world_from-Grew w [] = Grew-refl w.log
+world_from-Grew w (event ∷ events) = Grew-trans (apply-Grew w event) (world_from-Grew (apply w event) events)
+
+-- whether an event is a run
+abbrev pub is_run : WorldEvent → Bool
+is_run Run = true
+is_run _ = false
+
+happen-log : (w : WorldData) (event : WorldEvent) → is_run event ≡ false → (happen w event).log ≡ w.log
+happen-log w (Opened last) _ = refl
+happen-log w (Send line) _ = refl
+happen-log w Arrive _ = arrived_log w w.up
+happen-log w (Lose at) _ = refl
+happen-log w (Garble at line) _ = refl
+happen-log w Run no_run = absurd (cc)
+happen-log w (Chatter reply) _ = refl
+happen-log w Recv _ = refl
+happen-log w Closed _ = refl
+
+-- all events but a run leave the log
+pub apply-log : (w : WorldData) (event : WorldEvent) → is_run event ≡ false → (apply w event).log ≡ w.log
+apply-log w event no_run = after_event (λ (v : WorldData). v.log ≡ w.log) w event refl (λ _. happen-log w event no_run)
+
+-- what the printer is made with
+pub record IsSameKind (old new : PrinterData) : Type 0 where
+  pub places : new.places ≡ old.places
+  pub advanced : new.advanced ≡ old.advanced
+
+pub IsSameKind-refl : (p : PrinterData) → IsSameKind p p
+IsSameKind-refl p = record { places = refl; advanced = refl }
+
+take_judged-IsSameKind : (p : PrinterData) (what : Result Entry Reason) → IsSameKind p (take_judged p what).1
+take_judged-IsSameKind p (Ok entry) = record { places = refl; advanced = refl }
+take_judged-IsSameKind p (Err reason) = IsSameKind-refl p
+
+-- a line that is taken leaves the places and the kind of answers
+pub take_line-IsSameKind : (p : PrinterData) (line : List ℕ) → IsSameKind p (take_line p line).1
+take_line-IsSameKind p line =
+    cond_both (is_full p) _ (take_judged p (judged p.last line)) (λ t. IsSameKind p t.1) (λ _. IsSameKind-refl p)
+    (λ _. take_judged-IsSameKind p (judged p.last line))
+
+arrived-IsSameKind : (w : WorldData) (up : List (List ℕ)) → IsSameKind w.printer (arrive_front w up).printer
+arrived-IsSameKind w [] = IsSameKind-refl w.printer
+arrived-IsSameKind w (line ∷ behind) = take_line-IsSameKind w.printer line
+
+ran-IsSameKind : (w : WorldData) (queue : List Entry) → IsSameKind w.printer (after_run w (run_queue w.printer queue)).printer
+ran-IsSameKind w [] = IsSameKind-refl w.printer
+ran-IsSameKind w (entry ∷ behind) = record { places = refl; advanced = refl }
+
+happen-IsSameKind : (w : WorldData) (event : WorldEvent) → IsSameKind w.printer (happen w event).printer
+happen-IsSameKind w (Opened last) = record { places = refl; advanced = refl }
+happen-IsSameKind w (Send line) = IsSameKind-refl w.printer
+happen-IsSameKind w Arrive = arrived-IsSameKind w w.up
+happen-IsSameKind w (Lose at) = IsSameKind-refl w.printer
+happen-IsSameKind w (Garble at line) = IsSameKind-refl w.printer
+happen-IsSameKind w Run = ran-IsSameKind w w.printer.queue
+happen-IsSameKind w (Chatter reply) = IsSameKind-refl w.printer
+happen-IsSameKind w Recv = IsSameKind-refl w.printer
+happen-IsSameKind w Closed = IsSameKind-refl w.printer
+
+-- an event leaves the places and the kind of answers
+pub apply-IsSameKind : (w : WorldData) (event : WorldEvent) → IsSameKind w.printer (apply w event).printer
+apply-IsSameKind w event =
+    after_event (λ (v : WorldData). IsSameKind w.printer v.printer) w event (IsSameKind-refl w.printer) (λ _. happen-IsSameKind w event)
+
+pub world_from-IsSameKind : (w : WorldData) (events : List WorldEvent) → IsSameKind w.printer (world_from w events).printer
+world_from-IsSameKind w [] = IsSameKind-refl w.printer
+world_from-IsSameKind w (event ∷ events) =
+    let here = apply-IsSameKind w event in
+    let behind = world_from-IsSameKind (apply w event) events in
+    record { places = behind.places ∙ here.places; advanced = behind.advanced ∙ here.advanced }

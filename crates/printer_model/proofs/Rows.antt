@@ -1,0 +1,44 @@
+-- Worked cases of the printer and of the world, computed.
+use Rattle.std.proofs.Common.{◌≡◌, ℕ, false, [], ◌∷◌, refl}
+use Rattle.std.specs.Prelude.{Some, None, codes}
+use Rattle.byte_text.specs.Marks.{has_m110, has_byte}
+use Rattle.byte_text.specs.Number.{number_of, decimal_value, leading_digits}
+use Rattle.byte_text.specs.Xor.{xor_of}
+use Rattle.marlin_frame.specs.Frame.{begins_with_n, checked_part, has_checksum, checksum_matches, fails, lead_of, has_second_n, line_number_of, behind_digits, behind_space, text_of}
+use Rattle.printer_model.specs.Printer.{PrinterData, judged, is_out_of_turn, take_line}
+use Rattle.printer_model.specs.declared.printer.Reason.TheVariants.{WrongNumber, NoChecksum, Mismatch}
+use Rattle.printer_model.specs.declared.printer.Taken.TheVariants.{Accepted, Refused}
+
+-- a printer whose last line was this one
+abbrev at : ℕ → PrinterData
+at last = record { last = last; places = 4; advanced = false; queue = [] }
+
+-- a wrong number
+wrong_number : (take_line (at 4) (codes "N7 G28*20")).0 ≡ Refused WrongNumber 4
+unfolding judged is_out_of_turn begins_with_n has_checksum fails line_number_of lead_of has_second_n has_m110 has_byte number_of leading_digits decimal_value
+wrong_number = refl
+
+-- the hello of any printer
+hello : (take_line (at 4) (codes "N0 M110 N0*125")) ≡ (Accepted, record { last = 0; places = 4; advanced = false; queue = record { number = Some 0; lead = Some 0; text = codes "M110 N0" } ∷ [] })
+unfolding judged is_out_of_turn begins_with_n checked_part has_checksum checksum_matches fails line_number_of lead_of has_second_n has_m110 has_byte number_of leading_digits decimal_value xor_of text_of behind_digits behind_space
+hello = refl
+
+-- a garbled hello
+garbled : (take_line (at 4) (codes "N0 M110 N0*126")) ≡ (Refused Mismatch 4, at 4)
+unfolding judged is_out_of_turn begins_with_n checked_part has_checksum checksum_matches fails line_number_of lead_of has_second_n has_m110 has_byte number_of leading_digits decimal_value xor_of text_of behind_digits behind_space
+garbled = refl
+
+-- no checksum at all, for a line in turn
+bare : (take_line (at 4) (codes "N5 G28")) ≡ (Refused NoChecksum 4, at 4)
+unfolding judged is_out_of_turn begins_with_n checked_part has_checksum checksum_matches fails line_number_of lead_of has_second_n has_m110 has_byte number_of leading_digits decimal_value xor_of text_of behind_digits behind_space
+bare = refl
+
+-- a line without a number
+plain : (take_line (at 4) (codes "M105")) ≡ (Accepted, record { last = 4; places = 4; advanced = false; queue = record { number = None; lead = None; text = codes "M105" } ∷ [] })
+unfolding judged begins_with_n
+plain = refl
+
+-- a second N gives the number, the first one the lead
+second : (take_line (at 4) (codes "N7 M110 N9*115")).1.queue ≡ record { number = Some 9; lead = Some 7; text = codes "M110 N9" } ∷ []
+unfolding judged is_out_of_turn begins_with_n checked_part has_checksum checksum_matches fails line_number_of lead_of has_second_n has_m110 has_byte number_of leading_digits decimal_value xor_of text_of behind_digits behind_space
+second = refl

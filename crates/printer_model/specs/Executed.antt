@@ -1,0 +1,56 @@
+-- What was executed in a session of a past.
+use Rattle.std.specs.Prelude.{ℕ, zero, suc, pred, Bool, true, false, not, ◌==◌, if◌then◌else◌, List, [], ◌∷◌, length, drop, filter, Option, Some, None}
+use Rattle.printer_model.specs.Printer.{Logged}
+use Rattle.printer_model.specs.World.{world_of}
+use Rattle.printer_model.specs.declared.event.WorldEvent.{WorldEvent}
+use Rattle.printer_model.specs.declared.event.WorldEvent.TheVariants.{Opened, Send, Lose, Garble}
+
+-- whether an event opens a session
+abbrev pub is_opened : WorldEvent → Bool
+is_opened (Opened last) = true
+is_opened _ = false
+
+-- whether an event is a line that the host sent
+abbrev pub is_send : WorldEvent → Bool
+is_send (Send line) = true
+is_send _ = false
+
+-- whether an event is a line lost or garbled on its way to the printer
+abbrev pub is_loss : WorldEvent → Bool
+is_loss (Lose at) = true
+is_loss (Garble at line) = true
+is_loss _ = false
+
+-- how many sessions a past has
+abbrev pub opens : List WorldEvent → ℕ
+opens [] = 0
+opens (event ∷ past) = if is_opened event then suc (opens past) else opens past
+
+-- the events from an Opened on, where sessions are still to come
+abbrev pub open_on : ℕ → List WorldEvent → List WorldEvent
+open_on zero events = []
+open_on (suc s) events = events
+
+-- the events before the Opened that follows session s
+abbrev pub till : ℕ → List WorldEvent → List WorldEvent
+till s [] = []
+till s (event ∷ past) =
+    if is_opened event then open_on s (event ∷ till (pred s) past) else event ∷ till s past
+
+-- whether a number is 0
+abbrev pub is_zero : Option ℕ → Bool
+is_zero None = false
+is_zero (Some number) = number == 0
+
+-- whether a line that was run has another number than 0, the hello's
+abbrev pub is_counted : Logged → Bool
+is_counted line = not (is_zero line.number)
+
+-- what the printer had run by the end of session s
+abbrev pub log_till : ℕ → Bool → ℕ → List WorldEvent → List Logged
+log_till places advanced s past = (world_of places advanced (till s past)).log
+
+-- the lines run in session s, counted from 1, without the hello
+abbrev pub executed : ℕ → Bool → List WorldEvent → ℕ → List Logged
+executed places advanced past s =
+    filter is_counted (drop (length (log_till places advanced (pred s) past)) (log_till places advanced s past))

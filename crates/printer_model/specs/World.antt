@@ -1,0 +1,127 @@
+-- The world between host and printer: two wires and the printer, by events.
+use Rattle.std.specs.Prelude.{◌≡◌, ℕ, Bool, true, false, ◌&&◌, not, nat_le, nat_lt, if◌then◌else◌, List, [], ◌∷◌, ◌++◌, length, drop, remove, slice_set, fold, Option, Some, None, Result, Ok, Err}
+use Rattle.marlin_frame.specs.Frame.{fails}
+use Rattle.marlin_reply.specs.Kind.{is_chatter}
+use Rattle.printer_model.specs.Printer.{PrinterData, Logged, RanLine, is_full, take_line, run_front, logged}
+use Rattle.printer_model.specs.Replies.{taken_replies}
+use Rattle.printer_model.specs.declared.printer.Taken.{Taken}
+use Rattle.printer_model.specs.declared.event.WorldEvent.{WorldEvent}
+use Rattle.printer_model.specs.declared.event.WorldEvent.TheVariants.{Opened, Send, Arrive, Lose, Garble, Run, Chatter, Recv, Closed}
+
+-- whether a link is made, the printer, what it ran, and the lines on the wires to the printer and from it
+pub record WorldData : Type 0 where
+  pub linked : Bool
+  pub printer : PrinterData
+  pub log : List Logged
+  pub up : List (List ℕ)
+  pub down : List (List ℕ)
+
+-- before the first event
+abbrev pub new_world : ℕ → Bool → WorldData
+new_world places advanced =
+    record {
+      linked = false;
+      printer = record { last = 0; places = places; advanced = advanced; queue = [] };
+      log = [];
+      up = [];
+      down = [];
+    }
+
+-- whether a list has no item
+abbrev pub is_empty : {X : Type 0} → List X → Bool
+is_empty [] = true
+is_empty (x ∷ xs) = false
+
+-- whether a line may stand on the wire to the printer
+abbrev pub fits_wire : List ℕ → Bool
+fits_wire line = nat_le (length line) 95
+
+-- whether an event is one that the line and the printer add by themselves
+abbrev pub is_free : WorldEvent → Bool
+is_free Arrive = true
+is_free (Lose at) = true
+is_free (Garble at line) = true
+is_free Run = true
+is_free (Chatter reply) = true
+is_free _ = false
+
+-- whether an event can happen
+abbrev pub can_happen : WorldData → WorldEvent → Bool
+can_happen w (Opened last) = not w.linked && is_empty w.printer.queue
+can_happen w (Send line) = w.linked && fits_wire line.items
+can_happen w Arrive = not (is_empty w.up) && not (is_full w.printer)
+can_happen w (Lose at) = nat_lt at (length w.up)
+can_happen w (Garble at line) = nat_lt at (length w.up) && (fails line.items && fits_wire line.items)
+can_happen w Run = not (is_empty w.printer.queue)
+can_happen w (Chatter reply) = w.linked && is_chatter reply.items
+can_happen w Recv = w.linked && not (is_empty w.down)
+can_happen w Closed = w.linked
+
+-- the printer took the front of the wire to it
+abbrev pub arrived : WorldData → List (List ℕ) → Taken × PrinterData → WorldData
+arrived w behind taken = record w { printer = taken.1; up = behind; down = w.down ++ taken_replies taken.0 }
+
+-- the front of the wire to the printer arrives
+abbrev pub arrive_front : WorldData → List (List ℕ) → WorldData
+arrive_front w [] = w
+arrive_front w (line ∷ behind) = arrived w behind (take_line w.printer line)
+
+-- a reply line on the wire from the printer, where a link is made
+abbrev pub replied : WorldData → List ℕ → List (List ℕ)
+replied w reply = if w.linked then w.down ++ reply ∷ [] else w.down
+
+-- the printer ran a line
+abbrev pub after_run : WorldData → Option RanLine × PrinterData → WorldData
+after_run w (None, p) = w
+after_run w (Some ran, p) = record w { printer = p; log = w.log ++ logged ran ∷ []; down = replied w ran.reply }
+
+-- what an event does where it can happen
+abbrev pub happen : WorldData → WorldEvent → WorldData
+happen w (Opened last) = record w { linked = true; printer = record w.printer { last = last }; up = []; down = [] }
+happen w (Send line) = record w { up = w.up ++ line.items ∷ [] }
+happen w Arrive = arrive_front w w.up
+happen w (Lose at) = record w { up = remove w.up at }
+happen w (Garble at line) = record w { up = slice_set w.up at line.items }
+happen w Run = after_run w (run_front w.printer)
+happen w (Chatter reply) = record w { down = w.down ++ reply.items ∷ [] }
+happen w Recv = record w { down = drop 1 w.down }
+happen w Closed = record w { linked = false; up = []; down = [] }
+
+-- the world after an event; one that can't happen changes nothing
+abbrev pub apply : WorldData → WorldEvent → WorldData
+apply w event = if can_happen w event then happen w event else w
+
+-- what an attempt at an event answers and leaves; without memory nothing changes
+abbrev pub IsStep : {E : Type 0} → WorldData → WorldEvent → WorldData → Result Bool E → Type 0
+IsStep old event new (Ok happened) = (happened ≡ can_happen old event) × (new ≡ apply old event)
+IsStep old event new (Err _) = new ≡ old
+
+-- whether an event may take memory
+abbrev pub takes_memory : WorldEvent → Bool
+takes_memory (Send line) = true
+takes_memory Arrive = true
+takes_memory Run = true
+takes_memory (Chatter reply) = true
+takes_memory _ = false
+
+-- the world after events, the first of them first
+abbrev pub world_from : WorldData → List WorldEvent → WorldData
+world_from w events = fold apply w events
+
+-- the world after a past
+abbrev pub world_of : ℕ → Bool → List WorldEvent → WorldData
+world_of places advanced past = world_from (new_world places advanced) past
+
+-- without a link nothing stands on the wires
+pub record IsShut (w : WorldData) : Type 0 where
+  pub up : w.up ≡ []
+  pub down : w.down ≡ []
+
+-- a link is made, or nothing stands on the wires
+abbrev pub IsTidy : WorldData → Type 0
+IsTidy w = w.linked ≡ false → IsShut w
+
+-- new is old with further lines
+pub record Grew (old new : List Logged) : Type 0 where
+  pub added : List Logged
+  pub is : new ≡ old ++ added
