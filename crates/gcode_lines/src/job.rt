@@ -1,5 +1,5 @@
 //! The commands of one file.
-ghost use Rattle.std.specs.Prelude.{◌≡◌, ℕ, ◌+◌, ◌<◌, ◌≤◌, ◌⊎◌, [], ◌∷◌, length, slice_index, slice_index_or, MatchResult, IfOk};
+ghost use Rattle.std.specs.Prelude.{◌≡◌, ℕ, ◌+◌, ◌<◌, ◌≤◌, ◌⊎◌, [], ◌∷◌, length, slice_index, slice_index_or, MatchResult};
 ghost use Rattle.byte_text.specs.Sendable.{IsSendable};
 ghost use Rattle.gcode_lines.specs.Job.{most_bytes, texts_of, numbers_of, places_of, with_command};
 ghost use Rattle.gcode_lines.specs.Commands.{file_line, fault_at, with_line};
@@ -18,7 +18,7 @@ pub(crate) struct Placed {
     place: u32,
 }
 
-/// The commands of one file, in the file's order.
+/// The commands of one file, in the file's order, each with its line and that line's place, as a print's progress needs them.
 #[derive(Drop)]
 pub struct Job {
     commands: Vec<Placed>,
@@ -104,8 +104,9 @@ impl Job {
     fn push(&mut self, text: &[u8], line: u32, place: u32) -> Result<(), AllocError>
         requires sendable { IsSendable text.now }
         requires room { length self.old.commands + self.old.skipped < most_bytes }
-        ensures { IfOk result
-            (λ _. self.new ≡ with_command self.old (record { text = text.now; line = line; place = place })) }
+        ensures { MatchResult result
+            (λ _. self.new ≡ with_command self.old (record { text = text.now; line = line; place = place }))
+            (λ _. self.new ≡ self.old) }
     {
         let placed = Placed {
             text: text_from(text),
@@ -126,7 +127,7 @@ impl Job {
         self.skipped += 1;
     }
 
-    /// Reads one line. After a fault the job is not used again.
+    /// Reads one line. After a fault the job is as before.
     #[tactic(auto, using(crate::proofs::Sendable::sendable_text))]
     pub(crate) fn read_line(
         &mut self,
@@ -137,7 +138,7 @@ impl Job {
         requires { length self.old.commands + self.old.skipped < most_bytes }
         ensures { let line = file_line bytes.now number place in MatchResult result
             (λ _. (fault_at line ≡ None) × (self.new ≡ with_line self.old line))
-            (λ fault. (fault ≡ FileFault.NoMemory) ⊎ (fault_at line ≡ Some fault)) }
+            (λ fault. ((fault ≡ FileFault.NoMemory) ⊎ (fault_at line ≡ Some fault)) × (self.new ≡ self.old)) }
     {
         let text = text_of(bytes);
         if is_skipped(text) {

@@ -1,4 +1,5 @@
-//! The commands of a G-code file: its lines without comments, checksums and line numbers, as a Marlin printer takes them.
+//! The commands of a G-code file, as a host sends them to a Marlin printer one by one: its lines without comments,
+//! checksums, blanks and line numbers. The words of a command come from `gcode_words`.
 #![tactic(auto)]
 
 mod fault;
@@ -9,6 +10,7 @@ mod single;
 mod text;
 
 pub use fault::{FileFault, NotOne};
+pub use gcode_words::{CodeWord, Words, words};
 pub use job::Job;
 pub use laws::{job_law, line_law, single_law};
 pub use reading::read_commands;

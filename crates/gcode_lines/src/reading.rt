@@ -27,7 +27,9 @@ fn first_line(bytes: &[u8]) -> &[u8]
     &bytes[..line_len(bytes)]
 }
 
-/// The commands of a file. It is refused where it has over 67,108,864 bytes, or else at the first line that is too long or holds a control byte; NoMemory may come at any point.
+/// The commands of a file of at most 67,108,864 bytes. Lines that are empty without their comments or hold `M110` are
+/// counted as skipped. The first line whose text has over 79 bytes or a control byte refuses the file; NoMemory may come
+/// at any point.
 pub fn read_commands(alloc: Global, bytes: &[u8]) -> Result<Job, FileFault>
     ensures exact { (result ≡ Err FileFault.NoMemory) ⊎ (result ≡ job_of bytes.now) }
     ensures sendable { IfOk result (λ job. AllSendable (texts_of job)) }

@@ -1,4 +1,6 @@
-//! The text of one line.
+//! The text of one line: what stands before a `;` comment or a `*` checksum, without blanks at both ends and without
+//! the line number `N..` that hosts put in front, as in the G-code that Marlin reads. A text with `M110` is passed
+//! over, since Marlin would take a new line number from it.
 ghost use Rattle.std.specs.Prelude.{◌≡◌, ◌≤◌, length};
 ghost use Rattle.std.specs.Bool.{OnTrue};
 ghost use Rattle.std.specs.List.{before_first, position_or_len, prefix_len, suffix_len};
@@ -11,24 +13,28 @@ use octo_outside::Text;
 /// The most bytes of a command, so that its frame fits a line of Marlin's buffer.
 const MOST_TEXT: usize = 79;
 
+/// A byte that begins a comment or a checksum.
 fn is_mark(byte: u8) -> bool
     ensures { result ≡ is_mark byte }
 {
     byte == b';' || byte == b'*'
 }
 
+/// A space or a tab.
 fn is_space(byte: u8) -> bool
     ensures { result ≡ is_space byte }
 {
     byte == b' ' || byte == b'\t'
 }
 
+/// A space, a tab or a carriage return.
 fn is_blank(byte: u8) -> bool
     ensures { result ≡ is_blank byte }
 {
     is_space(byte) || byte == b'\r'
 }
 
+/// A byte that no command may hold: a control byte other than tab.
 fn is_control(byte: u8) -> bool
     ensures { result ≡ is_control byte }
 {

@@ -24,7 +24,7 @@ returns-in_err-read_line-clause-exact c =
     let bytes = c.args.bytes.now in
     let line : c.first_line-line.result.now ≡ front_of (drop c.loop-at.at bytes) = c.first_line-line.ensures.value ∙ ap front_of (take_rest bytes c.loop-at.at) in
     let told = err_from_is_err_and c.from_residual.result c.from_residual.ensures.1 in
-    HasRead-refused bytes c.loop-at.at c.loop-at.number c.loop-at.job c.first_line-line.result.now c.in_err-read_line.field-0.0 c.from_residual.result c.loop-at.invariant c.if-bytes-gt-MOST_BYTES.false c.loop-at-test.true line c.in_err-read_line.ensures (rw (told.1, told.2) refl)
+    HasRead-refused bytes c.loop-at.at c.loop-at.number c.loop-at.job c.first_line-line.result.now c.in_err-read_line.field-0.0 c.from_residual.result c.loop-at.invariant c.if-bytes-gt-MOST_BYTES.false c.loop-at-test.true line c.in_err-read_line.ensures.0 (rw (told.1, told.2) refl)
 
 pub returns-clause-exact : goal.returns-clause-exact
 returns-clause-exact c =
