@@ -1,5 +1,4 @@
-use Rattle.std.specs.Prelude.{ℕ, nat_eq, nat_le, Bool, true, false, ◌||◌, ◌&&◌, if◌then◌else◌, codes, List, length, drop, Option, None, Some}
-use lib.Pointwise.{pointwise}
+use Rattle.std.specs.Prelude.{ℕ, nat_le, bytes_eq, Bool, true, false, ◌||◌, ◌&&◌, if◌then◌else◌, codes, List, length, drop, Option, None, Some}
 use Rattle.byte_text.specs.Number.{leading_digits}
 use Rattle.marlin_reply.specs.Pieces.{trimmed, begins, behind_spaces, field_of, small_number}
 use Rattle.marlin_reply.specs.Temperatures.{temps_of}
@@ -7,11 +6,7 @@ use Rattle.marlin_reply.specs.declared.reply.Reply.{Reply}
 use Rattle.marlin_reply.specs.declared.reply.Reply.TheVariants as reply
 use Rattle.marlin_reply.specs.declared.reply.Temps.{Temps}
 
--- whether two texts are equal
-abbrev pub is : List ℕ → List ℕ → Bool
-is text word = pointwise nat_eq text word
-
--- an `ok` with the fields that its pieces hold
+-- an `ok` with the numbers of its pieces `N`, `P` and `B`, and its temperatures
 unfoldable pub ok_of : List ℕ → Reply
 ok_of text = reply.Ok (field_of 78 text) (field_of 80 text) (field_of 66 text) (temps_of text)
 
@@ -41,9 +36,9 @@ talk_of text =
 -- what a line without blanks at its ends says, the first of these that fits
 unfoldable pub kind_of_text : List ℕ → Reply
 kind_of_text text =
-    if is text (codes "ok") || begins text (codes "ok ") then ok_of text
+    if bytes_eq text (codes "ok") || begins text (codes "ok ") then ok_of text
     else (if begins text (codes "Resend:") then resend_of (leading_digits (behind_spaces (drop 7 text)))
-    else (if is text (codes "start") then reply.Start
+    else (if bytes_eq text (codes "start") then reply.Start
     else talk_of text))
 
 -- the reply that a line is

@@ -1,7 +1,7 @@
 //! Which reply a line is.
-ghost use Rattle.std.specs.Prelude.{◌≡◌, ◌||◌, codes};
+ghost use Rattle.std.specs.Prelude.{◌≡◌, ◌||◌, bytes_eq, codes};
 ghost use Rattle.marlin_reply.specs.Pieces.{begins};
-ghost use Rattle.marlin_reply.specs.Kind.{is, ok_of, resend_of, talk_of, kind_of_text, kind_of};
+ghost use Rattle.marlin_reply.specs.Kind.{ok_of, resend_of, talk_of, kind_of_text, kind_of};
 
 use super::Reply;
 use super::pieces::{find_field, read_small, skip_spaces, trim_line};
@@ -49,13 +49,13 @@ fn read_talk(text: &[u8]) -> Reply
 
 /// Whether a text is `ok`, alone or before a space.
 fn is_ok(text: &[u8]) -> bool
-    ensures { result ≡ (is text.now (codes "ok") || begins text.now (codes "ok ")) }
+    ensures { result ≡ (bytes_eq text.now (codes "ok") || begins text.now (codes "ok ")) }
 {
     text == b"ok".as_slice() || text.starts_with(b"ok ")
 }
 
 fn is_start(text: &[u8]) -> bool
-    ensures { result ≡ is text.now (codes "start") }
+    ensures { result ≡ bytes_eq text.now (codes "start") }
 {
     text == b"start".as_slice()
 }
