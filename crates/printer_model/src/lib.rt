@@ -6,6 +6,8 @@ mod executed;
 mod link;
 mod printer;
 mod replies;
+mod schedule;
+mod story;
 mod wire;
 mod world;
 
@@ -14,4 +16,5 @@ pub use executed::ExecutedLine;
 pub use link::{Heard, Link, LinkFault};
 pub use printer::{Printer, Ran, Reason, Taken};
 pub use replies::{error_line, ok_line, resend_line};
+pub use schedule::{Fate, FateList, Schedule};
 pub use world::World;
