@@ -1,4 +1,5 @@
 pub mod Laws
+pub mod Links
 mod Rows
 pub mod Sessions
 pub mod Stories

@@ -1,16 +1,16 @@
 -- A past that grows event by event, and the world with it.
-use Rattle.std.proofs.Common.{◌≡◌, ℕ, zero, suc, ◌+◌, ◌-◌, ◌<◌, ◌≤◌, Bool, true, false, cond, List, [], ◌∷◌, ◌++◌, length, replicate, min, refl, sym, ◌∙◌, ap, subst, append_assoc, append-nil, add-one, arith}
-use Rattle.std.specs.Prelude.{fold, count_by, if◌then◌else◌, not, ◌&&◌, Result, Ok, Err, OnErr}
-use Rattle.std.specs.List.{list_all}
+use Rattle.std.proofs.Common.{◌≡◌, ℕ, zero, suc, ◌+◌, ◌<◌, Bool, true, false, List, [], ◌∷◌, ◌++◌, length, replicate, refl, sym, ◌∙◌, ap, append_assoc, append-nil, arith}
+use Rattle.std.specs.Prelude.{if◌then◌else◌, not, ◌&&◌, Result, Ok, Err, OnErr, OnOk, IfOk}
+use Rattle.std.specs.List.{list_all, list_any}
 use Rattle.std.proofs.lemmas.List.{replicate_more}
 use Rattle.std.proofs.lemmas.Bool.{cond_both}
 use Rattle.printer_model.specs.Printer.{is_full}
-use Rattle.printer_model.specs.Executed.{is_send}
-use Rattle.printer_model.specs.World.{WorldData, arrive_front, world_of, world_from, apply, happen, can_happen, is_free, is_empty}
-use Rattle.printer_model.specs.Link.{arrivals}
-use Rattle.printer_model.specs.Memory.{StoryData, story_world, with_events, sends, IsKept, RunsOnly, FreeOnly}
+use Rattle.printer_model.specs.Executed.{is_opened}
+use Rattle.printer_model.specs.World.{WorldData, arrive_front, world_from, apply, happen, can_happen, is_free, is_empty}
+use Rattle.printer_model.specs.Link.{arrivals, dial_events}
+use Rattle.printer_model.specs.Memory.{StoryData, opening_last, queue_runs, story_world, with_events}
 use Rattle.printer_model.specs.declared.event.WorldEvent.{WorldEvent}
-use Rattle.printer_model.specs.declared.event.WorldEvent.TheVariants.{Arrive, Run}
+use Rattle.printer_model.specs.declared.event.WorldEvent.TheVariants.{Arrive, Opened}
 use Rattle.printer_model.proofs.Laws.{world_of-push, world_of-append, happens}
 
 -- a story with another past
@@ -110,3 +110,25 @@ on_err (Err e) fact = fact
 pub on_err_so : {T E P Q : Type 0} (r : Result T E) → OnErr r P → (P → Q) → OnErr r Q
 on_err_so (Ok x) fact so = tt
 on_err_so (Err e) fact so = so fact
+
+pub on_ok_so : {T E P Q : Type 0} (r : Result T E) → OnOk r P → (P → Q) → OnOk r Q
+on_ok_so (Ok x) fact so = so fact
+on_ok_so (Err e) fact so = tt
+
+pub if_ok_so : {T E : Type 0} {P Q : T → Type 0} (r : Result T E) → IfOk r P → ((x : T) → P x → Q x) → IfOk r Q
+if_ok_so (Ok x) fact so = so x fact
+if_ok_so (Err e) fact so = tt
+
+-- runs, and then a link that is made with the right number
+pub dialled : (s mid now : StoryData) (first last : ℕ) (opened : Bool) → mid ≡ with_events s (queue_runs (story_world s)) → opened ≡ list_any is_opened s.past → last ≡ (if opened then (story_world mid).printer.last else first) → now ≡ with_events mid (Opened last ∷ []) → now ≡ with_events s (dial_events (story_world s) (opening_last s first))
+dialled s mid now first last opened mid_is opened_is last_is now_is =
+    let world_is : story_world mid ≡ world_from (story_world s) (queue_runs (story_world s)) = ap story_world mid_is ∙ story_append s (queue_runs (story_world s)) in
+    let same : last ≡ opening_last s first =
+    last_is
+    ∙ ap (λ (b : Bool). if b then (story_world mid).printer.last else first) opened_is
+    ∙ ap (λ (w : WorldData). if list_any is_opened s.past then w.printer.last else first) world_is
+    in
+    now_is
+    ∙ ap (λ (m : StoryData). with_events m (Opened last ∷ [])) mid_is
+    ∙ with_then s (queue_runs (story_world s)) (Opened last ∷ [])
+    ∙ ap (λ (l : ℕ). with_events s (queue_runs (story_world s) ++ Opened l ∷ [])) same

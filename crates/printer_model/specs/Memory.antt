@@ -1,16 +1,19 @@
 -- A link in memory: its schedule, its past, and the events that each call adds.
-use Rattle.std.specs.Prelude.{◌≡◌, ℕ, ◌+◌, ◌-◌, ◌%◌, Bool, true, false, ◌==◌, if◌then◌else◌, List, [], ◌∷◌, ◌++◌, length, replicate, min, count_by, slice_index, slice_index_or, slice_set}
+use Rattle.std.specs.Prelude.{◌≡◌, ◌≤◌, ℕ, ◌+◌, ◌-◌, ◌%◌, Bool, true, false, ◌==◌, ◌&&◌, if◌then◌else◌, List, [], ◌∷◌, ◌++◌, length, replicate, min, count_by, slice_index, slice_index_or, slice_set}
 use Rattle.std.specs.Char.{is_ascii_digit}
 use Rattle.std.specs.List.{list_all, list_any}
 use Rattle.std.specs.Str.{bytes_eq}
 use Rattle.arrayvec.specs.ArrayString.{ArrayString}
 use Rattle.arrayvec.specs.ArrayVec.{ArrayVec}
 use Rattle.octo_outside.specs.Memory.{one_more}
-use Rattle.printer_model.specs.World.{WorldData, world_from, world_of, is_free}
-use Rattle.printer_model.specs.Executed.{is_send, opens}
-use Rattle.printer_model.specs.Link.{printer_events, recv_events}
+use Rattle.printer_model.specs.World.{WorldData, world_from, world_of, is_empty, is_free}
+use Rattle.printer_model.specs.Executed.{is_send, is_opened}
+use Rattle.printer_model.specs.Link.{printer_events}
 use Rattle.printer_model.specs.declared.event.WorldEvent.{WorldEvent}
-use Rattle.printer_model.specs.declared.event.WorldEvent.TheVariants.{Opened, Send, Lose, Garble, Run, Closed}
+use Rattle.printer_model.specs.declared.event.WorldEvent.TheVariants.{Send, Lose, Garble, Run, Recv, Closed}
+use Rattle.printer_model.specs.declared.link.Heard.{Heard}
+use Rattle.printer_model.specs.declared.link.Heard.TheVariants.{Line, Nothing}
+use Rattle.printer_model.specs.declared.schedule.Schedule.{Schedule}
 use Rattle.printer_model.specs.declared.schedule.Fate.{Fate}
 use Rattle.printer_model.specs.declared.schedule.Fate.TheVariants.{Whole, Lost, Garbled}
 
@@ -70,6 +73,11 @@ send_events w line fate = Send line ∷ harm_events fate (length w.up) line
 abbrev pub queue_runs : WorldData → List WorldEvent
 queue_runs w = replicate (length w.printer.queue) Run
 
+-- the number that the printer has where a link is made: the given one at the first, then its own
+abbrev pub opening_last : StoryData → ℕ → ℕ
+opening_last s first =
+    if list_any is_opened s.past then (world_from (story_world s) (queue_runs (story_world s))).printer.last else first
+
 -- a link that is made is closed
 abbrev pub closing_events : WorldData → List WorldEvent
 closing_events w = if w.linked then Closed ∷ [] else []
@@ -92,6 +100,8 @@ pub record IsFrontReply (reply : List ℕ) (down : List (List ℕ)) : Type 0 whe
 
 -- what is kept beside a past: its world, and the place of the next fate
 pub record IsKept (places : ℕ) (advanced : Bool) (fates : List Fate) (past : List WorldEvent) (world : WorldData) (next : ℕ) : Type 0 where
+  pub some : 1 ≤ places
+  pub few : places ≤ 16
   pub world_is : world ≡ world_of places advanced past
   pub next_is : next ≡ min (sends past) (length fates)
 
@@ -103,14 +113,23 @@ link_world l = story_world l.story
 abbrev pub lists_name : List ArrayString → List ℕ → Bool
 lists_name names name = list_any (λ (listed : ArrayString). bytes_eq listed.bytes name) names
 
--- the number that the printer has where the next link is made: the given one first, then its own
-abbrev pub opening_last : MemoryLinkData → ℕ
-opening_last l =
-    if opens l.story.past == 0 then l.last else (world_from (link_world l) (queue_runs (link_world l))).printer.last
-
 -- whether the receiving of this number lets the printer run a line
 abbrev pub is_due : ℕ → ℕ → Bool
 is_due slow recvs = recvs % (slow + 1) == 0
+
+-- a link that nothing was asked of
+abbrev pub new_link : Schedule → MemoryLinkData
+new_link schedule =
+    record {
+      story = record { places = schedule.places; advanced = schedule.advanced; fates = schedule.fates; past = [] };
+      names = schedule.names;
+      last = schedule.last;
+      slow = schedule.slow;
+      fail_at = schedule.fail_at;
+      calls = 0;
+      recvs = 0;
+      faults = 0;
+    }
 
 -- a call was counted
 abbrev pub called : MemoryLinkData → MemoryLinkData
@@ -134,7 +153,32 @@ is_whole Whole = true
 is_whole Lost = false
 is_whole Garbled = false
 
--- whether there is no item
-abbrev pub is_none : List ℕ → Bool
-is_none [] = true
-is_none (call ∷ calls) = false
+-- whether each line arrives whole, is run at the next receiving, and no call fails
+abbrev pub is_prompt : MemoryLinkData → Bool
+is_prompt l = list_all is_whole l.story.fates && (l.slow == 0 && is_empty l.fail_at)
+
+-- a link that only let the printer run
+pub record LinkRan (old new : MemoryLinkData) : Type 0 where
+  pub count : ℕ
+  pub is : new ≡ grown old (replicate count Run)
+
+-- a link on which only the line and the printer did something
+pub record LinkMoved (old new : MemoryLinkData) : Type 0 where
+  pub added : List WorldEvent
+  pub is : new ≡ grown old added
+  pub free : list_all is_free added ≡ true
+
+-- a line was received behind what the printer did
+pub record LinkHeard (due : Bool) (into : List ℕ) (old new : MemoryLinkData) : Type 0 where
+  pub is : new ≡ grown old (printer_events due (link_world old) ++ Recv ∷ [])
+  pub front : IsFrontReply into (world_from (link_world old) (printer_events due (link_world old))).down
+
+-- nothing came behind what the printer did
+pub record LinkQuiet (due : Bool) (old new : MemoryLinkData) : Type 0 where
+  pub is : new ≡ grown old (printer_events due (link_world old))
+  pub empty : (world_from (link_world old) (printer_events due (link_world old))).down ≡ []
+
+-- a receiving that didn't fail
+abbrev pub LinkReceived : Bool → List ℕ → Heard → MemoryLinkData → MemoryLinkData → Type 0
+LinkReceived due into Line old new = LinkHeard due into old new
+LinkReceived due into Nothing old new = LinkQuiet due old new

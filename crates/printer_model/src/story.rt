@@ -1,15 +1,15 @@
 //! A world together with the events that led to it.
-ghost use Rattle.std.specs.Prelude.{◌≡◌, ◌<◌, ◌≤◌, ◌+◌, ◌%◌, ◌∷◌, ◌++◌, [], true, false, length, min, slice_index, slice_index_or, slice_set, vec_len, vec_capacity, OnOk, OnErr, IfOk};
-ghost use Rattle.octo_outside.specs.Memory.{one_more};
-ghost use Rattle.printer_model.specs.Executed.{is_send};
+ghost use Rattle.std.specs.Prelude.{◌≡◌, ◌<◌, ◌≤◌, ◌+◌, ◌%◌, ◌∷◌, ◌++◌, [], true, false, if◌then◌else◌, length, min, slice_index, slice_index_or, slice_set, vec_len, vec_capacity, OnOk, OnErr, IfOk};
+ghost use Rattle.std.specs.List.{list_any};
+ghost use Rattle.printer_model.specs.Executed.{is_opened, is_send};
 ghost use Rattle.printer_model.specs.World.{apply, world_from, takes_memory};
 ghost use Rattle.printer_model.specs.Link.{arrivals, due_run, printer_events, dial_events};
-ghost use Rattle.printer_model.specs.Memory.{story_world, with_events, sends, next_fate, next_digit, garbled, harm_events, send_events, queue_runs, closing_events, RunsOnly, FreeOnly, IsFrontReply};
+ghost use Rattle.printer_model.specs.Memory.{story_world, with_events, sends, next_fate, next_digit, garbled, harm_events, send_events, opening_last, queue_runs, closing_events, RunsOnly, FreeOnly, IsFrontReply};
 ghost use Rattle.printer_model.specs.declared.event.WorldEvent.TheVariants as event;
 ghost use Rattle.printer_model.specs.declared.link.Heard.TheVariants as heard;
 ghost use Rattle.printer_model.specs.declared.schedule.Fate.TheVariants.{Whole};
 
-use crate::event::WorldEvent;
+use crate::event::{WorldEvent, is_opened};
 use crate::link::Heard;
 use crate::printer::line_of;
 use crate::schedule::{Fate, FateList};
@@ -65,6 +65,22 @@ impl Story {
         &self.world
     }
 
+    /// How many lines the printer keeps waiting.
+    pub(crate) fn places(&self) -> u8
+        ensures value { result ≡ self.now.places }
+        ensures some { 1 ≤ result }
+        ensures few { result ≤ 16 }
+    {
+        self.places
+    }
+
+    /// Whether the printer's replies name the line.
+    pub(crate) fn advanced(&self) -> bool
+        ensures { result ≡ self.now.advanced }
+    {
+        self.advanced
+    }
+
     /// The events so far.
     pub(crate) fn past(&self) -> &[WorldEvent]
         ensures { result.now ≡ self.now.past }
@@ -105,14 +121,22 @@ impl Story {
         Ok(())
     }
 
+    /// The printer runs all that waits, and then a link is made: at the first with the given last number, later with the printer's.
+    pub(crate) fn dial(&mut self, first: u32) -> Result<(), AllocError>
+        ensures ok { OnOk result (self.new ≡ with_events self.old (dial_events (story_world self.old) (opening_last self.old first))) }
+        ensures err { OnErr result (RunsOnly self.old self.new) }
+    {
+        let opened = has_opened(self.past());
+        self.run_all()?;
+        self.open(later_or_first(opened, self.world().last(), first))
+    }
+
     /// A link is made.
-    pub(crate) fn open(&mut self, last: u32) -> Result<(), AllocError>
+    fn open(&mut self, last: u32) -> Result<(), AllocError>
         ensures ok { OnOk result (self.new ≡ with_events self.old (event.Opened last ∷ [])) }
         ensures err { OnErr result (self.new ≡ self.old) }
     {
-        self.add(WorldEvent::Opened {
-            last,
-        })
+        self.add(WorldEvent::Opened { last })
     }
 
     /// All that is on the wire arrives, until the printer is full; without memory a part of it.
@@ -152,7 +176,7 @@ impl Story {
 
     /// Takes the front of the wire from the printer, where there is one.
     pub(crate) fn receive(&mut self, into: &mut ReplyLine) -> Result<Heard, AllocError>
-        ensures line { IfOk result (λ got. got ≡ heard.Line → (self.new ≡ with_events self.old (event.Recv ∷ [])) × IsFrontReply into.new.items (story_world self.old).down × (length into.new.items ≤ 256)) }
+        ensures line { IfOk result (λ got. got ≡ heard.Line → (self.new ≡ with_events self.old (event.Recv ∷ [])) × IsFrontReply into.new.items (story_world self.old).down) }
         ensures nothing { IfOk result (λ got. got ≡ heard.Nothing → (self.new ≡ self.old) × ((story_world self.old).down ≡ [])) }
         ensures err { OnErr result (self.new ≡ self.old) }
     {
@@ -185,6 +209,20 @@ impl Story {
     }
 }
 
+/// Whether a link was made in a past.
+fn has_opened(past: &[WorldEvent]) -> bool
+    ensures { result ≡ list_any is_opened past.now }
+{
+    past.iter().any(|event| is_opened(event))
+}
+
+/// The number of a later link, or that of the first.
+fn later_or_first(opened: bool, later: u32, first: u32) -> u32
+    ensures { result ≡ (if opened then later else first) }
+{
+    if opened { later } else { first }
+}
+
 /// The fate at a place, whole behind the last.
 fn fate_at(fates: &[Fate], place: usize) -> Fate
     ensures { result ≡ slice_index_or fates.now place Whole }
@@ -207,7 +245,11 @@ fn copy_of(line: &Line) -> Line
 fn next_digit(byte: u8) -> u8
     ensures { result ≡ next_digit byte }
 {
-    if byte.is_ascii_digit() { b'0' + (byte - b'0' + 1) % 10 } else { byte }
+    if byte.is_ascii_digit() {
+        b'0' + (byte - b'0' + 1) % 10
+    } else {
+        byte
+    }
 }
 
 /// The line whose last byte became the next digit.
@@ -231,13 +273,15 @@ fn harm(world: &mut World, past: &mut Vec<WorldEvent>, fate: Fate, at: u32, line
 {
     match fate {
         Fate::Whole => {}
-        Fate::Lost => note(world, past, WorldEvent::Lose {
-            at,
-        }),
-        Fate::Garbled => note(world, past, WorldEvent::Garble {
-            at,
-            line: garbled(line),
-        }),
+        Fate::Lost => note(world, past, WorldEvent::Lose { at }),
+        Fate::Garbled => note(
+            world,
+            past,
+            WorldEvent::Garble {
+                at,
+                line: garbled(line),
+            },
+        ),
     }
 }
 

