@@ -1,10 +1,12 @@
 -- What one event, or several, leave of the world.
-use Rattle.std.proofs.Common.{◌≡◌, ℕ, Bool, true, false, cond, List, [], ◌∷◌, ◌++◌, refl, sym, ◌∙◌, ap, append_assoc, append-nil}
+use Rattle.std.proofs.Common.{◌≡◌, ℕ, Bool, true, false, cond, List, [], ◌∷◌, ◌++◌, refl, sym, ◌∙◌, ap, append_assoc, append-nil, length, zero, suc, replicate, not, ◌&&◌}
 use Rattle.std.specs.Prelude.{Result, Ok, Err}
 use Rattle.std.proofs.lemmas.List.Sums.{fold-append}
+use Rattle.std.specs.List.{list_all}
 use Rattle.std.proofs.lemmas.Bool.{cond_both}
 use Rattle.printer_model.specs.Printer.{PrinterData, Entry, Logged, is_full, judged, take_judged, take_line, run_queue}
-use Rattle.printer_model.specs.World.{WorldData, new_world, can_happen, arrive_front, after_run, happen, apply, world_from, world_of, Grew}
+use Rattle.printer_model.specs.World.{WorldData, new_world, can_happen, is_empty, arrive_front, after_run, happen, apply, world_from, world_of, Grew, is_free}
+use Rattle.printer_model.specs.Link.{is_run}
 use Rattle.printer_model.specs.declared.printer.Reason.{Reason}
 use Rattle.printer_model.specs.declared.event.WorldEvent.{WorldEvent}
 use Rattle.printer_model.specs.declared.event.WorldEvent.TheVariants.{Opened, Send, Arrive, Lose, Garble, Run, Chatter, Recv, Closed}
@@ -77,11 +79,6 @@ pub world_from-Grew : (w : WorldData) (events : List WorldEvent) → Grew w.log 
 world_from-Grew w [] = Grew-refl w.log
 world_from-Grew w (event ∷ events) = Grew-trans (apply-Grew w event) (world_from-Grew (apply w event) events)
 
--- whether an event is a run
-abbrev pub is_run : WorldEvent → Bool
-is_run Run = true
-is_run _ = false
-
 happen-log : (w : WorldData) (event : WorldEvent) → is_run event ≡ false → (happen w event).log ≡ w.log
 happen-log w (Opened last) _ = refl
 happen-log w (Send line) _ = refl
@@ -145,3 +142,66 @@ world_from-IsSameKind w (event ∷ events) =
     let here = apply-IsSameKind w event in
     let behind = world_from-IsSameKind (apply w event) events in
     record { places = behind.places ∙ here.places; advanced = behind.advanced ∙ here.advanced }
+
+-- two tests that both hold
+pub both_left : (a b : Bool) → (a && b) ≡ true → a ≡ true
+both_left true b both = refl
+both_left false b both = both
+
+pub both_right : (a b : Bool) → (a && b) ≡ true → b ≡ true
+both_right true b both = both
+both_right false b both = absurd (cc)
+
+arrived_linked : (w : WorldData) (up : List (List ℕ)) → (arrive_front w up).linked ≡ w.linked
+arrived_linked w [] = refl
+arrived_linked w (line ∷ behind) = refl
+
+ran_linked : (w : WorldData) (queue : List Entry) → (after_run w (run_queue w.printer queue)).linked ≡ w.linked
+ran_linked w [] = refl
+ran_linked w (entry ∷ behind) = refl
+
+happen-linked : (w : WorldData) (event : WorldEvent) → is_free event ≡ true → (happen w event).linked ≡ w.linked
+happen-linked w (Opened last) free = absurd (cc)
+happen-linked w (Send line) free = absurd (cc)
+happen-linked w Arrive free = arrived_linked w w.up
+happen-linked w (Lose at) free = refl
+happen-linked w (Garble at line) free = refl
+happen-linked w Run free = ran_linked w w.printer.queue
+happen-linked w (Chatter reply) free = refl
+happen-linked w Recv free = absurd (cc)
+happen-linked w Closed free = absurd (cc)
+
+-- what the line and the printer do leaves a link open or closed
+pub apply-linked : (w : WorldData) (event : WorldEvent) → is_free event ≡ true → (apply w event).linked ≡ w.linked
+apply-linked w event free = after_event (λ (v : WorldData). v.linked ≡ w.linked) w event refl (λ _. happen-linked w event free)
+
+pub world_from-linked : (w : WorldData) (events : List WorldEvent) → list_all is_free events ≡ true → (world_from w events).linked ≡ w.linked
+world_from-linked w [] free = refl
+world_from-linked w (event ∷ events) free =
+    world_from-linked (apply w event) events (both_right (is_free event) (list_all is_free events) free)
+    ∙ apply-linked w event (both_left (is_free event) (list_all is_free events) free)
+
+-- a run of a printer in which something waits
+pub run_queue_of : (w : WorldData) (entry : Entry) (behind : List Entry) → w.printer.queue ≡ entry ∷ behind → apply w Run ≡ after_run w (run_queue w.printer (entry ∷ behind))
+run_queue_of w entry behind same =
+    let can : can_happen w Run ≡ true = ap (λ (q : List Entry). not (is_empty q)) same in
+    happens w Run can ∙ ap (λ (q : List Entry). after_run w (run_queue w.printer q)) same
+
+-- as many runs as entries wait leave none
+pub run_out : (w : WorldData) (queue : List Entry) → w.printer.queue ≡ queue → (world_from w (replicate (length queue) Run)).printer.queue ≡ []
+run_out w [] same = same
+run_out w (entry ∷ behind) same =
+    run_out (apply w Run) behind (ap (λ (v : WorldData). v.printer.queue) (run_queue_of w entry behind same))
+
+-- a link can be made where none is and nothing waits
+pub can_open : (w : WorldData) (last : ℕ) → w.linked ≡ false → w.printer.queue ≡ [] → can_happen w (Opened last) ≡ true
+can_open w last closed idle = ap (λ (b : Bool). not b && is_empty w.printer.queue) closed ∙ ap is_empty idle
+
+-- a number of runs
+pub runs_only : (n : ℕ) → list_all is_run (replicate n Run) ≡ true
+runs_only zero = refl
+runs_only (suc n) = runs_only n
+
+pub runs_free : (n : ℕ) → list_all is_free (replicate n Run) ≡ true
+runs_free zero = refl
+runs_free (suc n) = runs_free n

@@ -1,4 +1,6 @@
 pub mod Laws
+pub mod Links
 mod Rows
 pub mod Sessions
+pub mod Stories
 pub mod Wires

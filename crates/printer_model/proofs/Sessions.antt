@@ -1,12 +1,12 @@
 -- A past by its sessions: what further events leave of what was executed.
-use Rattle.std.proofs.Common.{◌≡◌, ℕ, zero, suc, pred, ◌+◌, ◌<◌, ◌≤◌, Bool, List, [], ◌∷◌, ◌++◌, length, drop, refl, sym, append-nil, length-append, ◌∙◌, ap, arith}
-use Rattle.std.specs.Prelude.{filter}
+use Rattle.std.proofs.Common.{◌≡◌, ℕ, zero, suc, pred, ◌+◌, ◌-◌, ◌<◌, ◌≤◌, Bool, List, [], ◌∷◌, ◌++◌, length, drop, refl, sym, append-nil, length-append, ◌∙◌, ap, arith}
+use Rattle.std.specs.Prelude.{Some, None, filter}
 use Rattle.std.proofs.lemmas.List.{drop-append-le}
 use Rattle.std.proofs.lemmas.List.Elements.{filter-append}
 use Rattle.printer_model.specs.Printer.{Logged}
 use Rattle.printer_model.specs.World.{WorldData, world_of, world_from, Grew}
 use Rattle.printer_model.proofs.Laws.{world_of-append, world_from-Grew}
-use Rattle.printer_model.specs.Executed.{opens, till, is_counted, executed}
+use Rattle.printer_model.specs.Executed.{left_behind, is_opened, opens, till, is_counted, executed}
 use Rattle.printer_model.specs.declared.event.WorldEvent.{WorldEvent}
 use Rattle.printer_model.specs.declared.event.WorldEvent.TheVariants.{Opened, Send, Arrive, Lose, Garble, Run, Chatter, Recv, Closed}
 
@@ -129,3 +129,40 @@ pub executed-same : (places : ℕ) (advanced : Bool) (past added : List WorldEve
 executed-same places advanced past added s counted last same_session same =
     executed-more places advanced past added s [] counted last same_session (same ∙ sym (append-nil (world_of places advanced past).log))
     ∙ append-nil (executed places advanced past s)
+
+-- a session ends before an Opened too many
+pub till-over : (s : ℕ) (event : WorldEvent) (past : List WorldEvent) → left_behind s (is_opened event) ≡ None → till s (event ∷ past) ≡ []
+till-over zero (Opened last) past over = refl
+till-over (suc s) (Opened last) past over = absurd (cc)
+till-over s (Send line) past over = absurd (cc)
+till-over s Arrive past over = absurd (cc)
+till-over s (Lose at) past over = absurd (cc)
+till-over s (Garble at line) past over = absurd (cc)
+till-over s Run past over = absurd (cc)
+till-over s (Chatter reply) past over = absurd (cc)
+till-over s Recv past over = absurd (cc)
+till-over s Closed past over = absurd (cc)
+
+-- and otherwise goes on behind the event
+pub till-on : (s : ℕ) (event : WorldEvent) (past : List WorldEvent) (n : ℕ) → left_behind s (is_opened event) ≡ Some n → till s (event ∷ past) ≡ event ∷ till n past
+till-on zero (Opened last) past n on = absurd (cc)
+till-on (suc s) (Opened last) past n on = let same : s ≡ n = cc in ap (λ (k : ℕ). Opened last ∷ till k past) same
+till-on s (Send line) past n on = let same : s ≡ n = cc in ap (λ (k : ℕ). Send line ∷ till k past) same
+till-on s Arrive past n on = let same : s ≡ n = cc in ap (λ (k : ℕ). Arrive ∷ till k past) same
+till-on s (Lose at) past n on = let same : s ≡ n = cc in ap (λ (k : ℕ). Lose at ∷ till k past) same
+till-on s (Garble at line) past n on = let same : s ≡ n = cc in ap (λ (k : ℕ). Garble at line ∷ till k past) same
+till-on s Run past n on = let same : s ≡ n = cc in ap (λ (k : ℕ). Run ∷ till k past) same
+till-on s (Chatter reply) past n on = let same : s ≡ n = cc in ap (λ (k : ℕ). Chatter reply ∷ till k past) same
+till-on s Recv past n on = let same : s ≡ n = cc in ap (λ (k : ℕ). Recv ∷ till k past) same
+till-on s Closed past n on = let same : s ≡ n = cc in ap (λ (k : ℕ). Closed ∷ till k past) same
+
+pub pred_less_one : (s : ℕ) → pred s ≡ s - 1
+pred_less_one zero = refl
+pred_less_one (suc s) = omega arith
+
+-- the lines between two worlds that were made anew
+pub session_lines : (places : ℕ) (advanced : Bool) (past : List WorldEvent) (s k : ℕ) (before whole : WorldData) → k ≡ s - 1 → before ≡ world_of places advanced (till k past) → whole ≡ world_of places advanced (till s past) → filter is_counted (drop (length before.log) whole.log) ≡ executed places advanced past s
+session_lines places advanced past s k before whole less b w =
+    ap (λ (v : WorldData). filter is_counted (drop (length v.log) whole.log)) b
+    ∙ ap (λ (v : WorldData). filter is_counted (drop (length (world_of places advanced (till k past)).log) v.log)) w
+    ∙ ap (λ (n : ℕ). filter is_counted (drop (length (world_of places advanced (till n past)).log) (world_of places advanced (till s past)).log)) (less ∙ sym (pred_less_one s))

@@ -1,5 +1,6 @@
 pub mod Executed
 pub mod Link
+pub mod Memory
 pub mod Printer
 pub mod Replies
 pub mod World

@@ -1,4 +1,7 @@
 //! What can happen between host and printer.
+ghost use Rattle.std.specs.Prelude.{◌≡◌};
+ghost use Rattle.printer_model.specs.Executed.{is_opened, is_send, is_loss};
+
 use octo_outside::{Line, ReplyLine};
 
 /// One event of the world between host and printer. An event that can't happen changes nothing.
@@ -22,4 +25,25 @@ pub enum WorldEvent {
     Recv,
     /// The open link is closed: what stands on both wires is gone, and what waits in the printer stays.
     Closed,
+}
+
+/// Whether an event opens a session.
+pub(crate) fn is_opened(event: &WorldEvent) -> bool
+    ensures { result ≡ is_opened event.now }
+{
+    matches!(event, WorldEvent::Opened { .. })
+}
+
+/// Whether an event is a line that the host sent.
+pub(crate) fn is_send(event: &WorldEvent) -> bool
+    ensures { result ≡ is_send event.now }
+{
+    matches!(event, WorldEvent::Send(_))
+}
+
+/// Whether an event is a line lost or garbled on its way to the printer.
+pub(crate) fn is_loss(event: &WorldEvent) -> bool
+    ensures { result ≡ is_loss event.now }
+{
+    matches!(event, WorldEvent::Lose { .. } | WorldEvent::Garble { .. })
 }

@@ -4,14 +4,19 @@
 mod event;
 mod executed;
 mod link;
+mod memory_link;
 mod printer;
 mod replies;
+mod schedule;
+mod story;
 mod wire;
 mod world;
 
 pub use event::WorldEvent;
-pub use executed::ExecutedLine;
+pub use executed::{Executed, ExecutedLine};
 pub use link::{Heard, Link, LinkFault};
+pub use memory_link::MemoryLink;
 pub use printer::{Printer, Ran, Reason, Taken};
 pub use replies::{error_line, ok_line, resend_line};
+pub use schedule::{Fate, FateList, Schedule};
 pub use world::World;

@@ -1,7 +1,7 @@
 //! The printer: it takes numbered lines into a short queue and runs them in order, as Marlin's command queue does.
 ghost use Rattle.std.specs.Prelude.{◌≡◌, ◌≤◌, ◌+◌, ◌-◌, List, [], ◌∷◌, length, Option, drop};
 ghost use Rattle.printer_model.specs.Replies.{run_reply};
-ghost use Rattle.printer_model.specs.Printer.{judged, is_out_of_turn, last_behind, last_after, numbered_entry, plain_entry, run_front, take_line};
+ghost use Rattle.printer_model.specs.Printer.{is_full, judged, is_out_of_turn, last_behind, last_after, numbered_entry, plain_entry, run_front, take_line};
 
 use crate::replies::run_reply;
 use arrayvec::ArrayVec;
@@ -114,7 +114,7 @@ impl Printer {
         ensures taken { result ≡ (take_line self.old line.now).0 }
         ensures after { self.new ≡ (take_line self.old line.now).1 }
     {
-        if self.queue.len() >= usize::from(self.places) {
+        if self.is_full() {
             return Taken::Full;
         }
         match judge(self.last, line) {
@@ -171,6 +171,20 @@ impl Printer {
         ensures { result ≡ length self.now.queue }
     {
         self.queue.len()
+    }
+
+    /// Whether as many entries wait as may.
+    pub(crate) fn is_full(&self) -> bool
+        ensures { result ≡ is_full self.now }
+    {
+        self.queue.len() >= usize::from(self.places)
+    }
+
+    /// The last line number.
+    pub(crate) fn last(&self) -> u32
+        ensures { result ≡ self.now.last }
+    {
+        self.last
     }
 
     /// Sets the last line number, as a printer has it where a link is made.

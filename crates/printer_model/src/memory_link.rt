@@ -1,0 +1,256 @@
+//! A link to the printer in memory, which loses, garbles and fails by a schedule.
+ghost use Rattle.std.specs.Prelude.{◌≡◌, ◌≤◌, ◌∷◌, ◌++◌, [], true, false, IfOk, OnOk, OnErr, IsErr, Some, length, count_by};
+ghost use Rattle.octo_outside.specs.Memory.{one_more, is_listed};
+ghost use Rattle.octo_outside.specs.Told.{Rose};
+ghost use Rattle.printer_model.specs.Executed.{executed, is_loss};
+ghost use Rattle.printer_model.specs.Memory.{called, failed, grown, heard, is_due, is_prompt, lists_name, link_world, new_link, next_fate, opening_last, send_events, sends, IsFrontReply, LinkMoved, LinkRan, LinkReceived};
+ghost use Rattle.printer_model.specs.Link.{dial_events, printer_events};
+ghost use Rattle.printer_model.specs.declared.event.WorldEvent.TheVariants as event;
+ghost use Rattle.printer_model.specs.declared.link.Heard.TheVariants as heard_as;
+ghost use Rattle.printer_model.specs.declared.link.LinkFault.TheVariants as fault;
+
+use crate::event::{is_loss, is_send};
+use crate::executed::Executed;
+use crate::link::{Heard, Link, LinkFault};
+use crate::schedule::Schedule;
+use crate::story::Story;
+use octo_outside::{CallList, Line, NameList, ReplyLine};
+use std::alloc::{AllocError, Global};
+use std::marker::Model;
+
+/// A link to a printer in memory. It tells its past.
+#[derive(Drop)]
+pub struct MemoryLink {
+    alloc: Global,
+    story: Story,
+    names: NameList,
+    last: u32,
+    slow: u32,
+    fail_at: CallList,
+    calls: u64,
+    recvs: u64,
+    faults: u64,
+}
+
+impl Model for MemoryLink {
+    ghost use Rattle.printer_model.specs.Memory.{MemoryLinkData};
+
+    ghost Value = { MemoryLinkData };
+
+    ghost view = { λ l. record { story = l.story; names = l.names; last = l.last; slow = l.slow; fail_at = l.fail_at; calls = l.calls; recvs = l.recvs; faults = l.faults } };
+}
+
+impl MemoryLink {
+    /// A link that does as the schedule says, to a printer of 1 to 16 places that has run nothing.
+    pub fn new(alloc: Global, schedule: Schedule) -> Result<Self, AllocError>
+        requires some { 1 ≤ schedule.places }
+        requires few { schedule.places ≤ 16 }
+        ensures { IfOk result (λ l. l ≡ new_link schedule) }
+    {
+        let Schedule {
+            names,
+            last,
+            places,
+            advanced,
+            fates,
+            slow,
+            fail_at,
+        } = schedule;
+        Ok(MemoryLink {
+            alloc,
+            story: Story::new(alloc, places, advanced, fates),
+            names,
+            last,
+            slow,
+            fail_at,
+            calls: 0,
+            recvs: 0,
+            faults: 0,
+        })
+    }
+
+    /// How many lines were sent.
+    pub fn sends(&self) -> u64
+        ensures { result ≡ sends self.now.story.past }
+    {
+        self.story
+            .past()
+            .iter()
+            .filter(|event| is_send(event))
+            .count() as u64
+    }
+
+    /// How many lines were lost or garbled.
+    pub fn losses(&self) -> u64
+        ensures { result ≡ count_by is_loss self.now.story.past }
+    {
+        self.story
+            .past()
+            .iter()
+            .filter(|event| is_loss(event))
+            .count() as u64
+    }
+
+    /// The lines that the printer ran in a session, counted from 1, without those of number 0.
+    pub fn executed(&self, session: u32) -> Result<Executed, AllocError>
+        ensures { IfOk result (λ e. e ≡ executed self.now.story.places self.now.story.advanced self.now.story.past session) }
+    {
+        Executed::of_session(
+            self.alloc,
+            self.story.places(),
+            self.story.advanced(),
+            self.story.past(),
+            session,
+        )
+    }
+
+    /// Counts a call, and says whether it is one of those that fail.
+    fn begin(&mut self) -> bool
+        ensures fails { result ≡ is_listed self.old.fail_at (one_more self.old.calls) }
+        ensures counts { self.new ≡ called self.old }
+    {
+        self.calls = self.calls.saturating_add(1);
+        let call = self.calls;
+        self.fail_at.as_slice().iter().any(|listed| *listed == call)
+    }
+
+    /// Counts a receiving, and says whether the printer runs a line at it.
+    fn begin_recv(&mut self) -> bool
+        ensures due { result ≡ is_due self.old.slow (one_more self.old.recvs) }
+        ensures counts { self.new ≡ heard self.old }
+    {
+        self.recvs = self.recvs.saturating_add(1);
+        self.recvs % (u64::from(self.slow) + 1) == 0
+    }
+
+    /// Counts a failure, and closes the link where one is made.
+    fn fail(&mut self) -> LinkFault
+        ensures fault { result ≡ fault.Failed }
+        ensures after { self.new ≡ failed self.old }
+        ensures counted { self.old.faults ≤ self.new.faults }
+        ensures rose { Rose self.old.faults self.new.faults }
+    {
+        self.story.close();
+        self.faults = self.faults.saturating_add(1);
+        LinkFault::Failed
+    }
+
+    /// Whether a name is listed.
+    fn lists(&self, name: &str) -> bool
+        ensures { result ≡ lists_name self.now.names name.now }
+    {
+        self.names
+            .as_slice()
+            .iter()
+            .any(|listed| listed.as_str() == name)
+    }
+
+    /// The printer runs all that waits, and a link is made; `fails` gives up at once.
+    fn make_link(&mut self, fails: bool) -> Result<(), AllocError>
+        ensures ok { OnOk result (self.new ≡ grown self.old (dial_events (link_world self.old) (opening_last self.old.story self.old.last))) }
+        ensures err { OnErr result (LinkRan self.old self.new) }
+        ensures fails { fails ≡ true → IsErr result × (self.new ≡ self.old) }
+    {
+        if fails {
+            return Err(AllocError);
+        }
+        self.story.dial(self.last)
+    }
+
+    /// A line is sent and meets its fate; `fails` gives up at once.
+    fn transmit(&mut self, fails: bool, line: &Line) -> Result<(), AllocError>
+        ensures ok { OnOk result (self.new ≡ grown self.old (send_events (link_world self.old) line.now (next_fate self.old.story))) }
+        ensures err { OnErr result (self.new ≡ self.old) }
+        ensures fails { fails ≡ true → IsErr result }
+    {
+        if fails {
+            return Err(AllocError);
+        }
+        self.story.send(line)
+    }
+
+    /// The printer does what it does before a receiving.
+    fn let_print(&mut self, due: bool) -> Result<(), AllocError>
+        ensures ok { OnOk result (self.new ≡ grown self.old (printer_events due (link_world self.old))) }
+        ensures err { OnErr result (LinkMoved self.old self.new) }
+    {
+        self.story.let_print(due)
+    }
+
+    /// Takes the front of the wire from the printer, where there is one.
+    fn take_front(&mut self, into: &mut ReplyLine) -> Result<Heard, AllocError>
+        ensures line { IfOk result (λ got. got ≡ heard_as.Line → (self.new ≡ grown self.old (event.Recv ∷ [])) × IsFrontReply into.new.items (link_world self.old).down) }
+        ensures nothing { IfOk result (λ got. got ≡ heard_as.Nothing → (self.new ≡ self.old) × ((link_world self.old).down ≡ [])) }
+        ensures err { OnErr result (self.new ≡ self.old) }
+    {
+        self.story.receive(into)
+    }
+
+    /// The printer does what is due, and its next reply is taken; `fails` gives up at once.
+    fn take_reply(
+        &mut self,
+        fails: bool,
+        due: bool,
+        into: &mut ReplyLine,
+    ) -> Result<Heard, AllocError>
+        ensures ok { IfOk result (λ got. LinkReceived due into.new.items got self.old self.new) }
+        ensures err { OnErr result (LinkMoved self.old self.new) }
+        ensures fails { fails ≡ true → IsErr result × (self.new ≡ self.old) }
+    {
+        if fails {
+            return Err(AllocError);
+        }
+        self.let_print(due)?;
+        self.take_front(into)
+    }
+}
+
+impl Link for MemoryLink {
+    ghost past = { λ l. Some l.story.past };
+
+    ghost places = { λ l. l.story.places };
+
+    ghost advanced = { λ l. l.story.advanced };
+
+    ghost calls = { λ l. Some l.calls };
+
+    ghost listed = { λ l. lists_name l.names };
+
+    ghost up = { λ l. (link_world l).linked };
+
+    ghost prompt = { is_prompt };
+
+    ghost faults = { λ l. l.faults };
+
+    fn dial(&mut self, name: &str) -> Result<(), LinkFault> {
+        let fails = self.begin();
+        if !self.lists(name) {
+            return Err(LinkFault::NoPort);
+        }
+        match self.make_link(fails) {
+            Ok(()) => Ok(()),
+            Err(AllocError) => Err(self.fail()),
+        }
+    }
+
+    fn send(&mut self, line: &Line) -> Result<(), LinkFault> {
+        let fails = self.begin();
+        match self.transmit(fails, line) {
+            Ok(()) => Ok(()),
+            Err(AllocError) => Err(self.fail()),
+        }
+    }
+
+    fn recv(&mut self, into: &mut ReplyLine) -> Result<Heard, LinkFault> {
+        let fails = self.begin();
+        let due = self.begin_recv();
+        match self.take_reply(fails, due, into) {
+            Ok(got) => Ok(got),
+            Err(AllocError) => Err(self.fail()),
+        }
+    }
+
+    fn hang_up(&mut self) {
+        self.story.close();
+    }
+}

@@ -1,0 +1,35 @@
+//! What a link in memory does by itself.
+use octo_outside::{CallList, ItemList, NameList};
+
+/// What becomes of a line that is sent.
+#[derive(Clone, Copy, Debug, PartialEq, Eq)]
+pub enum Fate {
+    /// It arrives as it was sent.
+    Whole,
+    /// It is lost.
+    Lost,
+    /// Its last byte, a digit, becomes the next digit, with 0 behind 9.
+    Garbled,
+}
+
+/// The fates of the lines that are sent, in order.
+pub type FateList = ItemList<Fate>;
+
+/// What a link in memory does at each call.
+#[derive(Drop)]
+pub struct Schedule {
+    /// The ports that are listed.
+    pub names: NameList,
+    /// The printer's last line number where the first link is made.
+    pub last: u32,
+    /// How many lines the printer keeps waiting, 1 to 16.
+    pub places: u8,
+    /// Whether the printer's replies name the line.
+    pub advanced: bool,
+    /// The fate of each line that is sent; further ones arrive whole.
+    pub fates: FateList,
+    /// The printer runs a line at every receiving whose number is a multiple of this one and 1.
+    pub slow: u32,
+    /// The calls that fail, counted from 1.
+    pub fail_at: CallList,
+}
