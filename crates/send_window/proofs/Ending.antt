@@ -1,9 +1,8 @@
 -- Each end of a session comes exactly where its rule says.
-use Rattle.std.proofs.Common.{◌≡◌, ◌↔◌, ℕ, ◌+◌, ◌<◌, ◌≤◌, Bool, true, false, List, arith, refl, sym, ◌∙◌, ap, subst}
+use Rattle.std.proofs.Common.{◌≡◌, ◌↔◌, ℕ, arith, sym, ap, subst}
 use Rattle.std.specs.Prelude.{Option, None, Some}
 use Rattle.std.proofs.lemmas.Grind.{common_steps}
 use Rattle.marlin_reply.specs.declared.reply.Reply.{Reply}
-use Rattle.marlin_reply.specs.declared.reply.Reply.TheVariants as reply
 use Rattle.marlin_reply.specs.declared.session.SessionEnd.{SessionEnd}
 use Rattle.marlin_reply.specs.declared.session.SessionEnd.TheVariants.{NoAnswer, AskedBack, AskedAhead, Counts, Restarted, NumbersUsed}
 use Rattle.send_window.specs.Data.{SenderData}

@@ -1,13 +1,12 @@
 -- The lines that a sender holds are the issued ones above acked.
-use Rattle.std.proofs.Common.{◌≡◌, ℕ, ◌+◌, ◌<◌, ◌≤◌, Bool, true, false, List, [], ◌∷◌, ◌++◌, length, drop, arith, refl, sym, ◌∙◌, ap, subst, append_assoc}
+use Rattle.std.proofs.Common.{◌≡◌, ℕ, ◌+◌, List, [], ◌∷◌, ◌++◌, drop, arith, refl, sym, ◌∙◌, ap, subst, append_assoc}
 use Rattle.std.specs.Prelude.{Option, None, Some}
 use Rattle.std.proofs.lemmas.Grind.{common_steps}
 use Rattle.std.proofs.lemmas.List.{drop-drop, drop-append-le, append-nil, length-append}
 use Rattle.marlin_reply.specs.declared.reply.Reply.{Reply}
-use Rattle.marlin_reply.specs.declared.reply.Reply.TheVariants as reply
 use Rattle.marlin_reply.specs.declared.session.SessionEnd.{SessionEnd}
 use Rattle.send_window.specs.Data.{SenderData, begun}
-use Rattle.send_window.specs.Hearing.{hear_step, tick_step, heard_reply, unless_ended}
+use Rattle.send_window.specs.Hearing.{tick_step, heard_reply, unless_ended}
 use Rattle.send_window.specs.Sending.{push_step}
 use Rattle.send_window.specs.Session.{Step, hears, ticks, issues, gives, after_step, after_steps, texts_of, HoldsIssued}
 

@@ -1,4 +1,6 @@
 pub mod Ending
 pub mod Issued
+pub mod OwnOks
+pub mod Silence
 pub mod Soundness
 pub mod Tally

@@ -1,13 +1,13 @@
 -- No step of a sender breaks what holds of it between its calls.
-use Rattle.std.proofs.Common.{◌≡◌, ℕ, ◌+◌, ◌-◌, ◌<◌, ◌≤◌, Bool, true, false, List, length, drop, arith, refl, rules}
-use Rattle.std.specs.Prelude.{Option, None, Some, unwrap_or}
+use Rattle.std.proofs.Common.{◌≡◌, ℕ, ◌<◌, ◌≤◌, List, arith, refl, rules}
+use Rattle.std.specs.Prelude.{Option, None, Some}
 use Rattle.std.proofs.lemmas.Grind.{common_steps}
 use Rattle.marlin_reply.specs.declared.reply.Reply.{Reply}
 use Rattle.marlin_reply.specs.declared.reply.Reply.TheVariants as reply
 use Rattle.marlin_reply.specs.declared.session.SessionEnd.{SessionEnd}
 use Rattle.send_window.specs.Data.{SenderData, IsSound, new_sender, begun}
-use Rattle.send_window.specs.Hearing.{hear_step, tick_step, heard_reply, heard_ok, heard_resend, heard_start, marked, unless_ended, named_ok, line_ok, resend_asked, line_asked, hello_asked, acknowledged}
-use Rattle.send_window.specs.Sending.{next_of, room_of}
+use Rattle.send_window.specs.Hearing.{hear_step, tick_step, heard_reply, heard_ok, heard_resend, heard_start, marked, unless_ended}
+use Rattle.send_window.specs.Sending.{room_of}
 use Rattle.send_window.specs.Session.{Step, hears, ticks, issues, gives, after_step, IsAllowed}
 
 pub new_sound : (w l : ℕ) → 1 ≤ w → w ≤ 16 → 1 ≤ l → IsSound (new_sender w l)

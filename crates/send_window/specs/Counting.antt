@@ -1,9 +1,10 @@
 -- What a list of replies alone says of a session.
-use Rattle.std.specs.Prelude.{◌≡◌, ◌⊎◌, ℕ, ◌-◌, ◌<◌, ◌≤◌, Bool, true, false, not, ◌&&◌, ◌||◌, List, [], ◌∷◌, filter, count_by, zip, reverse}
+use Rattle.std.specs.Prelude.{◌≡◌, ◌⊎◌, ℕ, ◌+◌, ◌-◌, ◌<◌, ◌≤◌, Bool, true, false, not, ◌&&◌, ◌||◌, List, [], ◌∷◌, ◌++◌, filter, count_by, zip, reverse, None, is_some, if◌then◌else◌}
 use Rattle.std.specs.List.{prefix_len}
 use Rattle.marlin_reply.specs.declared.reply.Reply.{Reply}
 use Rattle.marlin_reply.specs.declared.reply.Reply.TheVariants as reply
 use Rattle.send_window.specs.Data.{SenderData}
+use Rattle.send_window.specs.Sending.{next_of}
 use Rattle.send_window.specs.Session.{Step, hears, ticks, issues, gives, after_step}
 
 -- whether a reply is an `ok`
@@ -46,6 +47,15 @@ own_oks first replies = count_by is_own_ok (with_former first (answers_of replie
 abbrev pub acked_of : List Reply → ℕ
 acked_of replies = own_oks reply.Start replies - 1
 
+-- the last of a list of replies, given what stands before the first
+abbrev pub last_of : Reply → List Reply → Reply
+last_of first [] = first
+last_of first (heard_line ∷ replies) = last_of heard_line replies
+
+-- whether a Resend is the last `ok` or Resend, so that the next `ok` doesn't count
+abbrev pub is_pending : List Reply → Bool
+is_pending replies = is_resend (last_of reply.Start (answers_of replies))
+
 -- a line that was sent, or a reply that was received
 pub data Traffic : Type 0 where
   sent : Traffic
@@ -69,6 +79,39 @@ sent_since traffic = prefix_len is_sent (reverse traffic)
 -- the printer is silent: the hello has no `ok`, or at least four lines were sent since anything was received
 abbrev pub IsSilent : List Traffic → Type 0
 IsSilent traffic = (own_oks reply.Start (received_of traffic) ≡ 0) ⊎ (4 ≤ sent_since traffic)
+
+-- what goes over the line in a step of a sender
+abbrev pub traffic_at : Step → SenderData → List Traffic
+traffic_at (hears heard_line moment) s = received heard_line ∷ []
+traffic_at (ticks moment) s = []
+traffic_at (issues text) s = []
+traffic_at (gives moment) s = if is_some (next_of s) then sent ∷ [] else []
+
+-- what goes over the line in these steps
+abbrev pub traffic_of : List Step → SenderData → List Traffic
+traffic_of [] s = []
+traffic_of (step ∷ steps) s = traffic_at step s ++ traffic_of steps (after_step step s)
+
+-- a tick comes where nothing is unsent, unless something was heard since the last limit passed
+abbrev pub IsInTurn : Step → SenderData → Type 0
+IsInTurn (hears heard_line moment) s = Unit {0}
+IsInTurn (ticks moment) s = (next_of s ≡ None) ⊎ ((s.heard ≡ true) ⊎ (s.silent ≡ 0))
+IsInTurn (issues text) s = Unit {0}
+IsInTurn (gives moment) s = Unit {0}
+
+-- each tick does
+abbrev pub AreInTurn : List Step → SenderData → Type 0
+AreInTurn [] s = Unit {0}
+AreInTurn (step ∷ steps) s = IsInTurn step s × AreInTurn steps (after_step step s)
+
+-- at least as many lines were sent since the last reply as limits passed in silence
+pub record IsQuiet (since : ℕ) (s : SenderData) : Type 0 where
+  pub sent_enough : s.ended ≡ None → s.ready ≡ true → s.heard ≡ false → s.silent ≤ since
+
+-- one more limit than that may have passed, and then a line is to be sent
+pub record OwesLine (since : ℕ) (s : SenderData) : Type 0 where
+  pub one_more : s.ended ≡ None → s.ready ≡ true → s.heard ≡ false → s.silent ≤ since + 1
+  pub unsent : s.ended ≡ None → s.ready ≡ true → s.heard ≡ false → since < s.silent → s.cursor ≤ s.issued
 
 -- an `ok` that counts for a line comes while one is unacknowledged
 abbrev pub IsAwaited : Step → SenderData → Type 0

@@ -1,14 +1,15 @@
 -- What the steps of a sender keep and bring, in the words of the protocol.
-use Rattle.std.specs.Prelude.{◌≡◌, ◌≢◌, ◌⊎◌, ◌↔◌, ℕ, ◌+◌, ◌-◌, ◌<◌, ◌≤◌, Bool, true, false, not, ◌&&◌, List, [], ◌∷◌, ◌++◌, Option, None, Some, slice_get, is_some}
+use Rattle.std.specs.Prelude.{◌≡◌, ◌≢◌, ◌⊎◌, ◌↔◌, ℕ, ◌+◌, ◌-◌, ◌<◌, ◌≤◌, Bool, true, false, not, ◌&&◌, List, [], ◌∷◌, ◌++◌, Option, None, Some, slice_get, is_some, ◌||◌, if◌then◌else◌}
+use Rattle.byte_text.specs.Sendable.{IsSendable}
 use Rattle.marlin_reply.specs.declared.reply.Reply.{Reply}
 use Rattle.marlin_reply.specs.declared.reply.Reply.TheVariants as reply
 use Rattle.marlin_reply.specs.declared.session.SessionEnd.{SessionEnd}
 use Rattle.marlin_reply.specs.declared.session.SessionEnd.TheVariants.{NoAnswer, AskedBack, AskedAhead, Counts, Restarted, NumbersUsed}
 use Rattle.send_window.specs.Data.{SenderData, IsSound, new_sender, begun}
 use Rattle.send_window.specs.Hearing.{hear_step, tick_step, is_past}
-use Rattle.send_window.specs.Sending.{Outgoing, hello, line, next_of, room_of}
+use Rattle.send_window.specs.Sending.{hello, line, next_of, room_of, push_step, frame_step, IsFramable}
 use Rattle.send_window.specs.Session.{Step, hears, ticks, issues, gives, after_step, after_steps, IsAllowed, AreAllowed, replies_of, texts_of, HoldsIssued}
-use Rattle.send_window.specs.Counting.{is_ok, acked_of, AreAwaited}
+use Rattle.send_window.specs.Counting.{is_ok, is_resend, is_pending, own_oks, acked_of, AreAwaited, IsInTurn, AreInTurn, traffic_of, IsSilent, IsQuiet, OwesLine}
 
 -- a new sender is sound, a session begins so, and no step breaks it
 abbrev pub StaysSound : Type 0
@@ -130,3 +131,56 @@ AckedIsCounted =
     ((after_steps steps (begun s)).acked ≤ acked_of (replies_of steps))
     × ((after_steps steps (begun s)).ended ≡ None → AreAwaited steps (begun s) →
     (after_steps steps (begun s)).acked ≡ acked_of (replies_of steps))
+
+-- one more reply counts where it is an `ok` and no Resend is pending; a Resend is pending from then on to the next `ok`
+abbrev pub CountsNext : Type 0
+CountsNext =
+    (replies : List Reply) (next : Reply) →
+    (own_oks reply.Start (replies ++ next ∷ [])
+    ≡ own_oks reply.Start replies + (if is_ok next && not (is_pending replies) then 1 else 0))
+    × (is_pending (replies ++ next ∷ []) ≡ (is_resend next || (not (is_ok next) && is_pending replies)))
+
+-- the swallow flag stands exactly where a Resend is pending, and the session is ready from the first `ok` that counts
+abbrev pub FlagsAreCounted : Type 0
+FlagsAreCounted =
+    (steps : List Step) (s : SenderData) → (after_steps steps (begun s)).ended ≡ None →
+    ((after_steps steps (begun s)).swallow ≡ is_pending (replies_of steps))
+    × (((after_steps steps (begun s)).ready ≡ true) ↔ (1 ≤ own_oks reply.Start (replies_of steps)))
+
+-- how the steps of a turn keep what a silent limit owes: a tick may owe a line, and once nothing is unsent none is owed
+abbrev pub SendsInSilence : Type 0
+SendsInSilence =
+    ((heard_line : Reply) (moment : ℕ) (s : SenderData) → IsQuiet 0 (hear_step heard_line moment s))
+    × ((moment since : ℕ) (s : SenderData) → IsSound s → IsQuiet since s → OwesLine since (tick_step moment s))
+    × ((text : List ℕ) (since : ℕ) (s : SenderData) → OwesLine since s → OwesLine since (push_step text s))
+    × ((moment since : ℕ) (s : SenderData) → IsSound s → OwesLine since s → is_some (next_of s) ≡ true →
+    IsQuiet (since + 1) (frame_step moment s))
+    × ((since : ℕ) (s : SenderData) → IsSound s → OwesLine since s → next_of s ≡ None → IsQuiet since s)
+
+-- a session ends with no answer only where the printer is silent by the replies and lines alone, if at each tick
+-- nothing was unsent
+abbrev pub EndsInSilence : Type 0
+EndsInSilence =
+    (steps : List Step) (s : SenderData) (moment count : ℕ) → IsSound s →
+    AreAllowed steps (begun s) → AreInTurn steps (begun s) →
+    let before = after_steps steps (begun s) in
+    IsInTurn (ticks moment) before → before.ended ≡ None →
+    (tick_step moment before).ended ≡ Some (NoAnswer count) →
+    IsSilent (traffic_of steps (begun s))
+
+-- a text that may be sent is one that a frame can carry
+abbrev pub CarriesSendable : Type 0
+CarriesSendable = (text : List ℕ) → IsSendable text → IsFramable text
+
+-- what neither the clock nor a frame that goes out changes
+pub record KeepsLines (old new : SenderData) : Type 0 where
+  pub issued : new.issued ≡ old.issued
+  pub acked : new.acked ≡ old.acked
+  pub held : new.held ≡ old.held
+  pub ready : new.ready ≡ old.ready
+  pub swallow : new.swallow ≡ old.swallow
+
+-- ticks and frames that go out issue and acknowledge nothing
+abbrev pub KeepsAllLines : Type 0
+KeepsAllLines =
+    (moment : ℕ) (s : SenderData) → KeepsLines s (tick_step moment s) × KeepsLines s (frame_step moment s)

@@ -1,5 +1,5 @@
 //! Laws of the steps above, for proofs that cite them: each function does nothing, and its contract is the law.
-ghost use Rattle.send_window.specs.Laws.{StaysSound, HoldsLines, GivesHeldLines, GivesNothing, AckedRises, ResendKeepsAcked, EndStays, EndsByRule, AckedIsCounted};
+ghost use Rattle.send_window.specs.Laws.{StaysSound, HoldsLines, GivesHeldLines, GivesNothing, AckedRises, ResendKeepsAcked, EndStays, EndsByRule, AckedIsCounted, CountsNext, FlagsAreCounted, SendsInSilence, EndsInSilence, CarriesSendable, KeepsAllLines};
 
 /// What holds of a sender between its calls holds after each of them.
 pub fn sound_law()
@@ -44,4 +44,30 @@ pub fn ends_law()
 /// The lines acknowledged are counted over the replies.
 pub fn counted_law()
     ensures { AckedIsCounted }
+{}
+
+/// How one more reply is counted.
+pub fn count_law()
+    ensures { CountsNext }
+{}
+
+/// What the replies alone say of the next `ok` and of the hello's.
+pub fn flags_law()
+    ensures { FlagsAreCounted }
+{}
+
+/// Each limit that passes in silence brings a line, and the fifth the end.
+pub fn silence_law()
+    ensures turns { SendsInSilence }
+    ensures ends { EndsInSilence }
+{}
+
+/// A command that may be sent can be issued.
+pub fn sendable_law()
+    ensures { CarriesSendable }
+{}
+
+/// What the clock and the frames that go out leave as it is.
+pub fn kept_law()
+    ensures { KeepsAllLines }
 {}
