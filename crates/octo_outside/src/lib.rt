@@ -1,6 +1,20 @@
 //! What the print host and the modelled printer ask of the world outside, in traits, and their forms in memory.
 #![tactic(auto)]
 
+mod blob;
+mod clock;
+mod conn;
+mod lists;
+mod memory_source;
+mod sink;
+mod source;
 mod types;
 
+pub use blob::Blob;
+pub use clock::{Clock, MemoryClock};
+pub use conn::{Conn, Got};
+pub use lists::{CallList, ItemList, NameList, WordList};
+pub use memory_source::{MemoryFile, MemorySource};
+pub use sink::{MemorySink, Sink, StdSink, write_all};
+pub use source::{ReadAll, Source, read_all};
 pub use types::{Failed, Line, Name, ReplyLine, Text};

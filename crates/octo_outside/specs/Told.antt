@@ -1,0 +1,23 @@
+-- How an object of the outside tells what it holds or did, and how its count of faults moves.
+use Rattle.std.specs.Prelude.{◌≡◌, ℕ, ◌<◌, ◌≤◌, ◌+◌, List, ◌++◌, Option, Some, take}
+
+-- told afterwards: it was told before, and grew by an addition of this kind
+abbrev pub Became : {A : Type 0} → Option (List A) → Option (List A) → (List A → List A → Type 0) → Type 0
+Became {A} old new Kind = (now : List A) → new ≡ Some now → (past : List A) × (added : List A) × (old ≡ Some past) × (now ≡ past ++ added) × Kind past added
+
+-- the addition is this list
+abbrev pub Adds : {A : Type 0} → Option (List A) → Option (List A) → List A → Type 0
+Adds old new list = Became old new (λ _ added. added ≡ list)
+
+-- the addition is the first elements of this list
+abbrev pub AddsPrefix : {A : Type 0} → Option (List A) → Option (List A) → List A → Type 0
+AddsPrefix old new list = Became old new (λ _ added. (n : ℕ) × (added ≡ take n list))
+
+-- a count of faults rose, or stands at its type's last value
+abbrev pub Rose : ℕ → ℕ → Type 0
+Rose before now = before < 18446744073709551615 → before < now
+
+-- a count of faults didn't rise, and would have shown it
+pub record Steady (before now : ℕ) : Type 0 where
+  pub same : now ≡ before
+  pub shows : before < 18446744073709551615
