@@ -93,7 +93,7 @@ till-IsFront s (Closed ∷ past) = more_front Closed (till-IsFront s past)
 pub front-Grew : (places : ℕ) (advanced : Bool) (front whole : List WorldEvent) → IsFront front whole → Grew (world_of places advanced front).log (world_of places advanced whole).log
 front-Grew places advanced front whole part =
     let same : world_of places advanced whole ≡ world_from (world_of places advanced front) part.behind =
-        ap (world_of places advanced) part.is ∙ world_of-append places advanced front part.behind
+    ap (world_of places advanced) part.is ∙ world_of-append places advanced front part.behind
     in
     let grew : Grew (world_of places advanced front).log (world_from (world_of places advanced front) part.behind).log = world_from-Grew (world_of places advanced front) part.behind in
     record { added = grew.added; is = ap (λ (w : WorldData). w.log) same ∙ grew.is }

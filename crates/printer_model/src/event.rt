@@ -5,22 +5,15 @@ use octo_outside::{Line, ReplyLine};
 #[derive(Drop)]
 pub enum WorldEvent {
     /// A link is made, and the printer's last line number is then this one. It needs a closed link and an empty queue.
-    Opened {
-        last: u32,
-    },
+    Opened { last: u32 },
     /// The host sends a line of at most 95 bytes over an open link.
     Send(Line),
     /// The printer takes the front of the wire to it, unless its queue is full.
     Arrive,
     /// The line at this place of the wire to the printer is lost; places are counted from 0.
-    Lose {
-        at: u32,
-    },
+    Lose { at: u32 },
     /// The line at this place becomes another one, of at most 95 bytes, that begins with `N` and fails its checksum.
-    Garble {
-        at: u32,
-        line: Line,
-    },
+    Garble { at: u32, line: Line },
     /// The printer runs the front of its queue.
     Run,
     /// The printer says something that is neither `ok`, `Resend:` nor `start`, over an open link.

@@ -2,7 +2,9 @@
 #![tactic(auto)]
 
 mod event;
+mod link;
 mod printer;
 
 pub use event::WorldEvent;
+pub use link::{Heard, Link, LinkFault};
 pub use printer::{Reason, Taken};

@@ -19,8 +19,5 @@ pub enum Taken {
     /// The queue was full; the line wasn't read.
     Full,
     /// It was refused at this last line number, and nothing changed.
-    Refused {
-        reason: Reason,
-        last: u32,
-    },
+    Refused { reason: Reason, last: u32 },
 }
