@@ -1,5 +1,5 @@
 -- What the calls of a link add to its past.
-use Rattle.std.specs.Prelude.{◌≡◌, ℕ, ◌+◌, Bool, true, false, if◌then◌else◌, List, [], ◌∷◌, ◌++◌, length, take, replicate, Option, Some, None, min}
+use Rattle.std.specs.Prelude.{◌≡◌, ℕ, ◌+◌, Bool, true, false, if◌then◌else◌, List, [], ◌∷◌, ◌++◌, length, replicate, Option, Some, None, min}
 use Rattle.std.specs.List.{list_all}
 use Rattle.octo_outside.specs.Told.{Became}
 use Rattle.marlin_frame.specs.Frame.{fails}
@@ -54,7 +54,7 @@ pub record IsSend (line : List ℕ) (w : WorldData) (added : List WorldEvent) : 
   pub free_behind : list_all is_free behind ≡ true
   pub sends : can_happen (world_from w before) sent ≡ true
 
--- a reply is received, and round it only what the line and the printer do
+-- a reply is received whole, and round it only what the line and the printer do
 pub record IsHeard (into : List ℕ) (w : WorldData) (added : List WorldEvent) : Type 0 where
   pub before : List WorldEvent
   pub reply : List ℕ
@@ -63,7 +63,7 @@ pub record IsHeard (into : List ℕ) (w : WorldData) (added : List WorldEvent) :
   pub is : added ≡ before ++ Recv ∷ behind
   pub front : (world_from w before).down ≡ reply ∷ rest
   pub linked : (world_from w before).linked ≡ true
-  pub cut : into ≡ take 256 reply
+  pub whole : into ≡ reply
   pub free_before : list_all is_free before ≡ true
   pub free_behind : list_all is_free behind ≡ true
 
