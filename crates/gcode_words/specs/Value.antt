@@ -1,9 +1,15 @@
-use Rattle.std.specs.Prelude.{ℕ, ◌+◌, ◌*◌, ℤ, pos, neg_ℤ, if◌then◌else◌, ◌==◌, nat_lt, List, [], ◌∷◌, ◌++◌, length, take, drop, replicate, Option, None, Some}
+use Rattle.std.specs.Prelude.{ℕ, ◌+◌, ◌*◌, ℤ, pos, neg_ℤ, Bool, true, false, ◌||◌, if◌then◌else◌, ◌==◌, nat_lt, List, [], ◌∷◌, ◌++◌, length, take, drop, replicate, Option, None, Some}
+use Rattle.std.specs.Option.{option_map}
 use Rattle.byte_text.specs.Number.{leading_digits, decimal_value}
 
 -- a number at the front of a text, in whole millionths, and what stands behind it
 pub record NumberAt : Type 0 where
   pub micro : ℤ
+  pub rest : List ℕ
+
+-- the same without its sign
+pub record MagnitudeAt : Type 0 where
+  pub micro : ℕ
   pub rest : List ℕ
 
 -- the first six decimals in millionths, where fewer stand filled up with zeros
@@ -31,19 +37,31 @@ unfoldable pub behind_decimals : List ℕ → List ℕ
 behind_decimals [] = []
 behind_decimals (byte ∷ bytes) = if byte == 46 then behind_digits bytes else byte ∷ bytes
 
--- digits with at most one point, read with a sign; nothing without a digit
-unfoldable pub unsigned_at : (ℕ → ℤ) → List ℕ → Option NumberAt
-unsigned_at sign bytes =
+-- digits with at most one point behind them or among them, in millionths; nothing without a digit
+unfoldable pub magnitude_at : List ℕ → Option MagnitudeAt
+magnitude_at bytes =
     if length (leading_digits bytes) + length (decimals_at (behind_digits bytes)) == 0
     then None
     else Some (record {
-      micro = sign (micro_of (leading_digits bytes) (decimals_at (behind_digits bytes)));
+      micro = micro_of (leading_digits bytes) (decimals_at (behind_digits bytes));
       rest = behind_decimals (behind_digits bytes);
     })
 
+-- a magnitude below zero, or not
+abbrev pub with_sign : Bool → MagnitudeAt → NumberAt
+with_sign true magnitude = record { micro = neg_ℤ (pos magnitude.micro); rest = magnitude.rest }
+with_sign false magnitude = record { micro = pos magnitude.micro; rest = magnitude.rest }
+
+-- whether `-` stands at the front
+abbrev pub is_negative : List ℕ → Bool
+is_negative [] = false
+is_negative (byte ∷ bytes) = byte == 45
+
+-- what stands behind a sign at the front
+abbrev pub behind_sign : List ℕ → List ℕ
+behind_sign [] = []
+behind_sign (byte ∷ bytes) = if byte == 45 || byte == 43 then bytes else byte ∷ bytes
+
 -- a number at the front: a sign `+` or `-` or none, digits, and behind a point digits again
 unfoldable pub number_at : List ℕ → Option NumberAt
-number_at [] = None
-number_at (byte ∷ bytes) =
-    if byte == 45 then unsigned_at (λ n. neg_ℤ (pos n)) bytes
-    else (if byte == 43 then unsigned_at pos bytes else unsigned_at pos (byte ∷ bytes))
+number_at bytes = option_map (with_sign (is_negative bytes)) (magnitude_at (behind_sign bytes))

@@ -41,16 +41,22 @@ starts_behind (byte ∷ bytes) = if byte == 32 then bytes ∷ starts_behind byte
 abbrev pub piece_starts : List ℕ → List (List ℕ)
 piece_starts text = text ∷ starts_behind text
 
+-- the same of a text or none
+abbrev pub starts_left : Option (List ℕ) → List (List ℕ)
+starts_left None = []
+starts_left (Some text) = piece_starts text
+
 -- the piece at the front
 unfoldable pub front_piece : List ℕ → List ℕ
 front_piece text = take_while (λ byte. not (byte == 32)) text
 
--- the number that a text of digits alone writes, if it is at most 4,294,967,295
+-- the number that digits write, if it is at most 4,294,967,295
+unfoldable pub small_number : List ℕ → Option ℕ
+small_number digits = if nat_le (decimal_value digits) 4294967295 then Some (decimal_value digits) else None
+
+-- the number that a text writes which has digits alone
 unfoldable pub whole_number : List ℕ → Option ℕ
-whole_number text =
-    if nat_le 1 (length text) && (list_all is_ascii_digit text && nat_le (decimal_value text) 4294967295)
-    then Some (decimal_value text)
-    else None
+whole_number text = if nat_le 1 (length text) && list_all is_ascii_digit text then small_number text else None
 
 -- the number of a piece that is a letter and digits alone
 unfoldable pub field_at : ℕ → List ℕ → Option ℕ

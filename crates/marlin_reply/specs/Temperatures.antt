@@ -1,4 +1,4 @@
-use Rattle.std.specs.Prelude.{ℕ, ℤ, ◌==◌, if◌then◌else◌, codes, List, [], ◌∷◌, drop, Option, None, Some}
+use Rattle.std.specs.Prelude.{ℕ, ℤ, ◌==◌, if◌then◌else◌, codes, List, [], ◌∷◌, length, drop, Option, None, Some}
 use Rattle.std.specs.List.{find}
 use Rattle.std.specs.Option.{option_map, option_and_then}
 use Rattle.gcode_words.specs.Value.{number_at}
@@ -18,9 +18,9 @@ target_at actual (byte ∷ bytes) =
 unfoldable pub heat_at : List ℕ → Option Heat
 heat_at text = option_and_then (λ actual. target_at actual.micro (behind_spaces actual.rest)) (number_at text)
 
--- the temperatures behind the first piece that begins with a heater's mark, which is two bytes long
+-- the temperatures behind the first piece that begins with a heater's mark
 unfoldable pub heat_of : List ℕ → List ℕ → Option Heat
-heat_of mark text = option_and_then (λ start. heat_at (drop 2 start)) (find (λ start. begins start mark) (piece_starts text))
+heat_of mark text = option_and_then (λ start. heat_at (drop (length mark) start)) (find (λ start. begins start mark) (piece_starts text))
 
 -- nothing where neither heater is reported whole
 abbrev pub reported : Option Heat → Option Heat → Option Temps
