@@ -1,5 +1,5 @@
 -- Where the line in flight may be, while a file is printed one line at a time.
-use Rattle.std.specs.Prelude.{◌≡◌, ◌⊎◌, ℕ, ◌+◌, ◌≤◌, ◌<◌, suc, Bool, true, false, not, List, [], ◌∷◌, ◌++◌, length, take, slice_index_or, Option, Some, None, codes}
+use Rattle.std.specs.Prelude.{◌≡◌, ◌⊎◌, ℕ, ◌+◌, ◌≤◌, ◌<◌, suc, Bool, true, false, List, [], ◌∷◌, ◌++◌, length, take, slice_index_or, Option, Some, None, codes}
 use Rattle.std.specs.List.{list_all}
 use Rattle.byte_text.specs.Marks.{has_m110}
 use Rattle.marlin_frame.specs.Frame.{frame_of, begins_with_n, fails, lead_of, line_number_of, text_of}
@@ -8,8 +8,6 @@ use Rattle.marlin_reply.specs.declared.reply.Reply.{Reply}
 use Rattle.marlin_reply.specs.declared.reply.Reply.TheVariants as reply
 use Rattle.printer_model.specs.Printer.{Entry, Logged}
 use Rattle.printer_model.specs.World.{WorldData}
-use Rattle.printer_model.specs.Executed.{is_opened}
-use Rattle.printer_model.specs.declared.event.WorldEvent.{WorldEvent}
 
 -- the command with which the host sets the printer's number to 0
 abbrev pub hello_text : List ℕ
@@ -34,11 +32,11 @@ line_at lines n = slice_index_or lines n []
 
 -- the printer reads a line's frame back; only the hello sets its number
 pub record IsCarried (n : ℕ) (text : List ℕ) : Type 0 where
-  pub numbered : begins_with_n (frame_of n text) ≡ true
+  pub begins : begins_with_n (frame_of n text) ≡ true
   pub whole : fails (frame_of n text) ≡ false
   pub number : line_number_of (frame_of n text) ≡ n
   pub lead : lead_of (frame_of n text) ≡ n
-  pub text : text_of (frame_of n text) ≡ text
+  pub command : text_of (frame_of n text) ≡ text
   pub sets : n ≡ 0 → has_m110 (frame_of n text) ≡ true
   pub short : length (frame_of n text) ≤ 95
 
@@ -108,12 +106,12 @@ pub record IsReady (start : List Logged) (lines : List (List ℕ)) (n : ℕ) (w 
 
 -- the line n was sent: on its way, garbled, lost, refused, waiting in the printer, or run and answered
 pub data InFlight (start : List Logged) (lines : List (List ℕ)) (n : ℕ) (w : WorldData) : Type 0 where
-  sent : (places : ℕ) (advanced : Bool) (last : ℕ) (down : List (List ℕ)) → IsNext n last → is_calm down ≡ true → w ≡ open_world places advanced last [] (start ++ log_of lines n) (frame_of n (line_at lines n) ∷ []) down → InFlight
-  garbled : (places : ℕ) (advanced : Bool) (last : ℕ) (line : List ℕ) (down : List (List ℕ)) → fails line ≡ true → is_calm down ≡ true → w ≡ open_world places advanced last [] (start ++ log_of lines n) (line ∷ []) down → InFlight
-  lost : (places : ℕ) (advanced : Bool) (last : ℕ) (down : List (List ℕ)) → is_calm down ≡ true → w ≡ open_world places advanced last [] (start ++ log_of lines n) [] down → InFlight
-  refused : (places : ℕ) (advanced : Bool) (last : ℕ) (down : List (List ℕ)) → IsRefused down → w ≡ open_world places advanced last [] (start ++ log_of lines n) [] down → InFlight
-  waiting : (places : ℕ) (advanced : Bool) (down : List (List ℕ)) → is_calm down ≡ true → w ≡ open_world places advanced n (entry_of lines n ∷ []) (start ++ log_of lines n) [] down → InFlight
-  answered : (places : ℕ) (advanced : Bool) (down : List (List ℕ)) → IsAnswered down → w ≡ open_world places advanced n [] (start ++ log_of lines (suc n)) [] down → InFlight
+  sent : (places : ℕ) (advanced : Bool) (last : ℕ) (down : List (List ℕ)) → IsNext n last → is_calm down ≡ true → w ≡ open_world places advanced last [] (start ++ log_of lines n) (frame_of n (line_at lines n) ∷ []) down → InFlight start lines n w
+  garbled : (places : ℕ) (advanced : Bool) (last : ℕ) (line : List ℕ) (down : List (List ℕ)) → fails line ≡ true → is_calm down ≡ true → w ≡ open_world places advanced last [] (start ++ log_of lines n) (line ∷ []) down → InFlight start lines n w
+  lost : (places : ℕ) (advanced : Bool) (last : ℕ) (down : List (List ℕ)) → is_calm down ≡ true → w ≡ open_world places advanced last [] (start ++ log_of lines n) [] down → InFlight start lines n w
+  refused : (places : ℕ) (advanced : Bool) (last : ℕ) (down : List (List ℕ)) → IsRefused down → w ≡ open_world places advanced last [] (start ++ log_of lines n) [] down → InFlight start lines n w
+  waiting : (places : ℕ) (advanced : Bool) (down : List (List ℕ)) → is_calm down ≡ true → w ≡ open_world places advanced n (entry_of lines n ∷ []) (start ++ log_of lines n) [] down → InFlight start lines n w
+  answered : (places : ℕ) (advanced : Bool) (down : List (List ℕ)) → IsAnswered down → w ≡ open_world places advanced n [] (start ++ log_of lines (suc n)) [] down → InFlight start lines n w
 
 -- the printer has run the first of the lines, in order, and nothing else
 pub record HasRun (start : List Logged) (lines : List (List ℕ)) (w : WorldData) : Type 0 where
@@ -121,12 +119,16 @@ pub record HasRun (start : List Logged) (lines : List (List ℕ)) (w : WorldData
   pub within : count ≤ length lines
   pub is : w.log ≡ start ++ log_of lines count
 
+-- nothing is on its way or waiting, and the printer has run the lines before n
+pub record IsStopped (start : List Logged) (lines : List (List ℕ)) (n : ℕ) (w : WorldData) : Type 0 where
+  pub places : ℕ
+  pub advanced : Bool
+  pub last : ℕ
+  pub down : List (List ℕ)
+  pub is : w ≡ open_world places advanced last [] (start ++ log_of lines n) [] down
+
 -- what a reply makes of the line in flight
 abbrev pub IsHeardAs : List Logged → List (List ℕ) → ℕ → Reply → WorldData → Type 0
 IsHeardAs start lines n (reply.Ok number planner block temps) w = IsReady start lines (suc n) w
-IsHeardAs start lines n (reply.Resend number) w = HasRun start lines w
+IsHeardAs start lines n (reply.Resend number) w = IsStopped start lines n w
 IsHeardAs start lines n _ w = InFlight start lines n w
-
--- whether an event opens no session
-abbrev pub opens_none : WorldEvent → Bool
-opens_none event = not (is_opened event)

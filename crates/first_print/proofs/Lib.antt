@@ -1,0 +1,4 @@
+pub mod Line
+pub mod Logs
+pub mod Steps
+pub mod Joins
