@@ -109,5 +109,23 @@ after_last-append byte front back none =
     ∙ ap (drop (length (front ++ byte ∷ []))) (sym (append_assoc front (byte ∷ []) back))
     ∙ drop_at (front ++ byte ∷ []) back (length (front ++ byte ∷ [])) refl
 
+-- where a byte stands nowhere, nothing stands before its last place and all stands after it
+no_last_place : (byte : ℕ) (bytes : List ℕ) → has_byte byte bytes ≡ false → suffix_len (λ b. not (b == byte)) bytes ≡ length bytes
+no_last_place byte bytes none =
+    suffix_len_is (λ b. not (b == byte)) bytes 0 0 (omega arith) (λ k low high. no_byte_suffix byte bytes k (has_byte_none byte bytes none k high)) (λ some. absurd (omega arith))
+    ∙ omega arith
+
+pub before_last_none : (byte : ℕ) (bytes : List ℕ) → has_byte byte bytes ≡ false → before_last (λ b. b == byte) bytes ≡ []
+before_last_none byte bytes none =
+    let e = no_last_place byte bytes none in
+    let zero : length bytes - suffix_len (λ b. not (b == byte)) bytes - 1 ≡ 0 = omega (arith, e) in
+    ap (λ k. take k bytes) zero
+
+pub after_last_none : (byte : ℕ) (bytes : List ℕ) → has_byte byte bytes ≡ false → after_last (λ b. b == byte) bytes ≡ bytes
+after_last_none byte bytes none =
+    let e = no_last_place byte bytes none in
+    let zero : length bytes - suffix_len (λ b. not (b == byte)) bytes ≡ 0 = omega (arith, e) in
+    ap (λ k. drop k bytes) zero
+
 -- the steps and the end of a search for `M110`
 pub ruleset m110_steps = (has_m110_at, has_m110_end, take_rest)

@@ -1,5 +1,5 @@
 //! Laws of these readings, on which proofs about lines rest. A law's function does nothing: its contract is the law.
-ghost use Rattle.std.specs.Prelude.{◌≡◌, ℕ, ◌<◌, ◌^◌, Bool, true, false, ◌||◌, ◌==◌, List, ◌∷◌, ◌++◌, codes, decimal, bit_xor};
+ghost use Rattle.std.specs.Prelude.{◌≡◌, ℕ, ◌<◌, ◌^◌, Bool, true, false, ◌||◌, ◌==◌, List, [], ◌∷◌, ◌++◌, codes, decimal, bit_xor};
 ghost use Rattle.std.specs.Char.{is_ascii_digit};
 ghost use Rattle.std.specs.List.{All, before_last, after_last};
 ghost use Rattle.byte_text.specs.Marks.{has_byte, has_m110};
@@ -24,6 +24,8 @@ pub fn byte_law()
     ensures pieces { (byte : ℕ) (front back : List ℕ) → has_byte byte (front ++ back) ≡ (has_byte byte front || has_byte byte back) }
     ensures before { (byte : ℕ) (front back : List ℕ) → has_byte byte back ≡ false → before_last (λ b. b == byte) (front ++ byte ∷ back) ≡ front }
     ensures after { (byte : ℕ) (front back : List ℕ) → has_byte byte back ≡ false → after_last (λ b. b == byte) (front ++ byte ∷ back) ≡ back }
+    ensures before_none { (byte : ℕ) (bytes : List ℕ) → has_byte byte bytes ≡ false → before_last (λ b. b == byte) bytes ≡ [] }
+    ensures after_none { (byte : ℕ) (bytes : List ℕ) → has_byte byte bytes ≡ false → after_last (λ b. b == byte) bytes ≡ bytes }
 {}
 
 /// `M110` doesn't stand across a byte that isn't in it, nor where there is no `M`.

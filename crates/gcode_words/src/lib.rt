@@ -2,7 +2,9 @@
 #![tactic(auto)]
 
 mod number;
+mod scan;
 mod word;
 
 pub use number::{Number, decimal_up_to, read_number};
-pub use word::CodeWord;
+pub use scan::words;
+pub use word::{CodeWord, Words};

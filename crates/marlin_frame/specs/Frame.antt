@@ -1,9 +1,8 @@
 -- The numbered lines of Marlin's serial protocol: `N`, the number, a space, the command, `*` and the checksum.
-use Rattle.std.specs.Prelude.{ℕ, Bool, false, ◌&&◌, ◌==◌, not, List, [], ◌∷◌, ◌++◌, drop, codes, decimal, if◌then◌else◌}
-use Rattle.std.specs.Char.{is_ascii_digit}
-use Rattle.std.specs.List.{prefix_len, after_first, before_last, after_last}
+use Rattle.std.specs.Prelude.{◌≡◌, ℕ, Bool, true, false, ◌&&◌, ◌==◌, not, List, [], ◌∷◌, ◌++◌, length, drop, codes, decimal, if◌then◌else◌}
+use Rattle.std.specs.List.{after_first, before_last, after_last}
 use Rattle.byte_text.specs.Marks.{has_byte, has_m110}
-use Rattle.byte_text.specs.Number.{number_of}
+use Rattle.byte_text.specs.Number.{leading_digits, number_of}
 use Rattle.byte_text.specs.Xor.{xor_of}
 
 -- what the checksum of a numbered command is taken of
@@ -52,7 +51,7 @@ line_number_of line =
 
 -- what follows the digits at the front
 unfoldable pub behind_digits : List ℕ → List ℕ
-behind_digits bytes = drop (prefix_len is_ascii_digit bytes) bytes
+behind_digits bytes = drop (length (leading_digits bytes)) bytes
 
 -- without one space at the front, where there is one
 unfoldable pub behind_space : List ℕ → List ℕ
@@ -62,3 +61,10 @@ behind_space (byte ∷ bytes) = if byte == 32 then bytes else byte ∷ bytes
 -- the command of a numbered line: behind the `N`, its digits and one space, up to the last `*`
 unfoldable pub text_of : List ℕ → List ℕ
 text_of line = behind_space (behind_digits (drop 1 (checked_part line)))
+
+-- a line that carries a command under a number, with a right checksum
+pub record IsNumberedLine (n : ℕ) (text line : List ℕ) : Type 0 where
+  pub numbered : begins_with_n line ≡ true
+  pub whole : fails line ≡ false
+  pub number : line_number_of line ≡ n
+  pub command : text_of line ≡ text

@@ -1,4 +1,20 @@
 //! The numbered lines of Marlin's serial protocol: written, checked and read back.
+//!
+//! A command is sent as `N`, its number, a space, the command, `*` and the checksum in decimal, the exclusive
+//! or of all bytes before the `*`. This is the form that Marlin's serial queue takes.
 #![tactic(auto)]
 
+mod laws;
+mod parts;
+mod read;
+#[cfg(test)]
+mod tests;
+mod written;
+
 pub use byte_text::xor;
+pub use laws::{frame_law, hello_law, line_law};
+pub use parts::{
+    begins_with_n, checksum_matches, fails, has_checksum, has_second_n, lead, line_number, text,
+};
+pub use read::{Read, read_frame};
+pub use written::frame;

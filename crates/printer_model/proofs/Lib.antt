@@ -1,3 +1,4 @@
 pub mod Laws
 mod Rows
 pub mod Sessions
+pub mod Wires

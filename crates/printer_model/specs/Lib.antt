@@ -1,5 +1,5 @@
 pub mod Executed
+pub mod Link
 pub mod Printer
 pub mod Replies
 pub mod World
-pub mod Link

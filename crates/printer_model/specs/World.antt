@@ -1,5 +1,5 @@
 -- The world between host and printer: two wires and the printer, by events.
-use Rattle.std.specs.Prelude.{◌≡◌, ℕ, Bool, true, false, ◌&&◌, not, nat_le, nat_lt, if◌then◌else◌, List, [], ◌∷◌, ◌++◌, length, drop, remove, slice_set, fold, Option, Some, None}
+use Rattle.std.specs.Prelude.{◌≡◌, ℕ, Bool, true, false, ◌&&◌, not, nat_le, nat_lt, if◌then◌else◌, List, [], ◌∷◌, ◌++◌, length, drop, remove, slice_set, fold, Option, Some, None, Result, Ok, Err}
 use Rattle.marlin_frame.specs.Frame.{fails}
 use Rattle.marlin_reply.specs.Kind.{is_chatter}
 use Rattle.printer_model.specs.Printer.{PrinterData, Logged, RanLine, is_full, take_line, run_front, logged}
@@ -90,6 +90,19 @@ happen w Closed = record w { linked = false; up = []; down = [] }
 -- the world after an event; one that can't happen changes nothing
 abbrev pub apply : WorldData → WorldEvent → WorldData
 apply w event = if can_happen w event then happen w event else w
+
+-- what an attempt at an event answers and leaves; without memory nothing changes
+abbrev pub IsStep : {E : Type 0} → WorldData → WorldEvent → WorldData → Result Bool E → Type 0
+IsStep old event new (Ok happened) = (happened ≡ can_happen old event) × (new ≡ apply old event)
+IsStep old event new (Err _) = new ≡ old
+
+-- whether an event may take memory
+abbrev pub takes_memory : WorldEvent → Bool
+takes_memory (Send line) = true
+takes_memory Arrive = true
+takes_memory Run = true
+takes_memory (Chatter reply) = true
+takes_memory _ = false
 
 -- the world after events, the first of them first
 abbrev pub world_from : WorldData → List WorldEvent → WorldData

@@ -1,4 +1,14 @@
 //! The printer: it takes numbered lines into a short queue and runs them in order, as Marlin's command queue does.
+ghost use Rattle.std.specs.Prelude.{◌≡◌, ◌≤◌, ◌+◌, ◌-◌, List, [], ◌∷◌, length, Option, drop};
+ghost use Rattle.printer_model.specs.Replies.{run_reply};
+ghost use Rattle.printer_model.specs.Printer.{judged, is_out_of_turn, last_behind, last_after, numbered_entry, plain_entry, run_front, take_line};
+
+use crate::replies::run_reply;
+use arrayvec::ArrayVec;
+use byte_text::has_m110;
+use marlin_frame::{begins_with_n, fails, has_checksum, lead, line_number, text};
+use octo_outside::{Line, ReplyLine};
+use std::marker::Model;
 
 /// Why the printer refuses a line that begins with `N`.
 #[derive(Clone, Copy, Debug, PartialEq, Eq)]
@@ -20,4 +30,238 @@ pub enum Taken {
     Full,
     /// It was refused at this last line number, and nothing changed.
     Refused { reason: Reason, last: u32 },
+}
+
+/// A line that the printer ran, with its number where it had one, and the reply to it.
+#[derive(Drop)]
+pub struct Ran {
+    pub number: Option<u32>,
+    pub text: Line,
+    pub reply: ReplyLine,
+}
+
+impl Model for Ran {
+    ghost use Rattle.printer_model.specs.Printer.{RanLine};
+
+    ghost Value = { RanLine };
+
+    ghost view = { λ r. record { number = r.number; text = r.text.items; reply = r.reply.items } };
+}
+
+/// A line that waits to be run. The lead is the number at its front; where a second `N` follows, that one gives the number.
+#[derive(Default, Drop)]
+struct Waiting {
+    number: Option<u32>,
+    lead: Option<u32>,
+    text: Line,
+}
+
+impl Model for Waiting {
+    ghost use Rattle.printer_model.specs.Printer.{Entry};
+
+    ghost Value = { Entry };
+
+    ghost view = { λ w. record { number = w.number; lead = w.lead; text = w.text.items } };
+}
+
+/// The printer without a record of what it ran: its last line number, its places, its kind of answers, and what waits.
+#[derive(Drop)]
+pub struct Printer {
+    last: u32,
+    places: u8,
+    advanced: bool,
+    queue: ArrayVec<Waiting, 16>,
+}
+
+impl Model for Printer {
+    ghost use Rattle.std.specs.Prelude.{◌≤◌, length};
+    ghost use Rattle.printer_model.specs.Printer.{PrinterData};
+
+    ghost Value = { PrinterData };
+
+    ghost view = { λ p. record { last = p.last; places = p.places; advanced = p.advanced; queue = p.queue.items } };
+
+    ghost invariant = { λ p. (p.places ≤ 16) × (length p.queue.items ≤ p.places) };
+}
+
+impl Printer {
+    /// A printer with this last line number, 1 to 16 places, and replies that name their line where `advanced` is set. Nothing waits.
+    pub fn new(last: u32, places: u8, advanced: bool) -> Self
+        requires some { 1 ≤ places }
+        requires few { places ≤ 16 }
+        ensures { result ≡ record { last = last; places = places; advanced = advanced; queue = [] } }
+    {
+        Printer {
+            last,
+            places,
+            advanced,
+            queue: ArrayVec::new(),
+        }
+    }
+
+    /// Takes a line of at most 95 bytes into the queue, refuses it, or leaves it unread where the queue is full.
+    pub fn arrive(&mut self, line: &[u8]) -> Taken
+        requires { length line.now ≤ 95 }
+        ensures taken { result ≡ (take_line self.old line.now).0 }
+        ensures after { self.new ≡ (take_line self.old line.now).1 }
+    {
+        self.take(line)
+    }
+
+    /// `arrive` for any line that the outside can hold.
+    pub(crate) fn take(&mut self, line: &[u8]) -> Taken
+        requires { length line.now ≤ 96 }
+        ensures taken { result ≡ (take_line self.old line.now).0 }
+        ensures after { self.new ≡ (take_line self.old line.now).1 }
+    {
+        if self.queue.len() >= usize::from(self.places) {
+            return Taken::Full;
+        }
+        match judge(self.last, line) {
+            Ok(entry) => {
+                if let Some(number) = entry.number {
+                    self.last = number;
+                }
+                self.queue.push(entry);
+                Taken::Accepted
+            }
+            Err(reason) => Taken::Refused {
+                reason,
+                last: self.last,
+            },
+        }
+    }
+
+    /// Runs the front of the queue; None where nothing waits.
+    pub fn run_one(&mut self) -> Option<Ran>
+        ensures ran { result ≡ (run_front self.old).0 }
+        ensures after { self.new ≡ (run_front self.old).1 }
+    {
+        let ran = self.next_run();
+        self.drop_front();
+        ran
+    }
+
+    /// What running the front of the queue would tell.
+    pub(crate) fn next_run(&self) -> Option<Ran>
+        ensures { result ≡ (run_front self.now).0 }
+    {
+        match self.queue.as_slice() {
+            [] => None,
+            [entry, ..] => Some(ran_line(
+                self.advanced,
+                self.places - self.queue.len() as u8,
+                entry,
+            )),
+        }
+    }
+
+    /// The printer after the front of its queue was run.
+    pub(crate) fn drop_front(&mut self)
+        ensures { self.new ≡ (run_front self.old).1 }
+    {
+        if !self.queue.is_empty() {
+            let entry = self.queue.remove(0);
+            self.last = next_last(self.last, &entry);
+        }
+    }
+
+    /// How many entries wait.
+    pub(crate) fn waiting(&self) -> usize
+        ensures { result ≡ length self.now.queue }
+    {
+        self.queue.len()
+    }
+
+    /// Sets the last line number, as a printer has it where a link is made.
+    pub(crate) fn set_last(&mut self, last: u32)
+        ensures { self.new ≡ record self.old { last = last } }
+    {
+        self.last = last;
+    }
+}
+
+/// What running an entry tells, with this many free places.
+fn ran_line(advanced: bool, free: u8, entry: &Waiting) -> Ran
+    ensures { result ≡ record { number = entry.now.number; text = entry.now.text; reply = run_reply advanced entry.now.lead entry.now.text free } }
+{
+    Ran {
+        number: entry.number,
+        text: line_of(entry.text.as_slice()),
+        reply: run_reply(advanced, entry.lead, entry.text.as_slice(), free),
+    }
+}
+
+/// A line of the outside from bytes that fit one.
+pub(crate) fn line_of(bytes: &[u8]) -> Line
+    requires { length bytes.now ≤ 96 }
+    ensures { result.items ≡ bytes.now }
+{
+    let mut line = Line::new();
+    match line.try_extend_from_slice(bytes) {
+        Ok(()) => line,
+        Err(_) => unreachable!(),
+    }
+}
+
+/// Whether a line's number doesn't follow the last one, and the line doesn't set the number either.
+#[tactic(auto, unfolding(crate::specs::Printer::is_out_of_turn))]
+fn is_out_of_turn(last: u32, line: &[u8]) -> bool
+    ensures { result ≡ is_out_of_turn last line.now }
+{
+    u64::from(line_number(line)) != u64::from(last) + 1 && !has_m110(line)
+}
+
+/// A line without a number, as it waits.
+fn plain_entry(line: &[u8]) -> Waiting
+    requires { length line.now ≤ 96 }
+    ensures { result ≡ plain_entry line.now }
+{
+    Waiting {
+        number: None,
+        lead: None,
+        text: line_of(line),
+    }
+}
+
+/// A line with its number, as it waits.
+fn numbered_entry(line: &[u8]) -> Waiting
+    requires { length line.now ≤ 96 }
+    ensures { result ≡ numbered_entry line.now }
+{
+    Waiting {
+        number: Some(line_number(line)),
+        lead: Some(lead(line)),
+        text: line_of(text(line)),
+    }
+}
+
+/// What the printer makes of a line: an entry, or the first rule that the line breaks.
+#[tactic(auto, unfolding(crate::specs::Printer::judged))]
+fn judge(last: u32, line: &[u8]) -> Result<Waiting, Reason>
+    requires { length line.now ≤ 96 }
+    ensures { result ≡ judged last line.now }
+{
+    if !begins_with_n(line) {
+        Ok(plain_entry(line))
+    } else if is_out_of_turn(last, line) {
+        Err(Reason::WrongNumber)
+    } else if !has_checksum(line) {
+        Err(Reason::NoChecksum)
+    } else if fails(line) {
+        Err(Reason::Mismatch)
+    } else {
+        Ok(numbered_entry(line))
+    }
+}
+
+/// The last number after an entry was run: a text with `M110` sets it again to the entry's number, where it has one.
+#[tactic(auto, unfolding(crate::specs::Printer::last_after))]
+fn next_last(last: u32, entry: &Waiting) -> u32
+    ensures { result ≡ last_after last entry.now }
+{
+    match entry.number {
+        Some(number) if has_m110(entry.text.as_slice()) => number,
+        _ => last,
+    }
 }

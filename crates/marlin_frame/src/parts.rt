@@ -1,0 +1,131 @@
+//! The parts of a numbered line. Each reading is total: on a line that isn't numbered it gives what its definition
+//! gives there, so callers ask `begins_with_n` first.
+ghost use Rattle.std.specs.Prelude.{◌≡◌, ◌≤◌, ◌==◌, length, drop};
+ghost use Rattle.std.specs.List.{position_or_len, after_first, before_last, after_last};
+ghost use Rattle.marlin_frame.specs.Frame.{begins_with_n, has_checksum, checksum_matches, fails, lead_of, has_second_n, line_number_of, behind_digits, behind_space, text_of};
+
+use byte_text::{has_byte, has_m110, leading_digits, number, split_at_last, xor};
+
+/// Whether the line is numbered: it begins with `N`.
+pub fn begins_with_n(line: &[u8]) -> bool
+    ensures { result ≡ begins_with_n line.now }
+{
+    line.starts_with(b"N")
+}
+
+/// Whether the line has a checksum: it holds a `*`.
+#[tactic(auto, unfolding(crate::specs::Frame::has_checksum))]
+pub fn has_checksum(line: &[u8]) -> bool
+    ensures { result ≡ has_checksum line.now }
+{
+    has_byte(line, b'*')
+}
+
+// What stands before and behind the last `*`; where there is none, nothing before it and all behind it.
+fn around_last_star(line: &[u8]) -> (&[u8], &[u8])
+    ensures before { result.0.now ≡ before_last (λ byte. byte == 42) line.now }
+    ensures behind { result.1.now ≡ after_last (λ byte. byte == 42) line.now }
+{
+    match split_at_last(line, b'*') {
+        Some(parts) => parts,
+        None => (&[], line),
+    }
+}
+
+/// Whether the number behind the last `*` is the exclusive or of all bytes before it.
+#[tactic(auto, unfolding(crate::specs::Frame::checksum_matches, crate::specs::Frame::checked_part))]
+pub fn checksum_matches(line: &[u8]) -> bool
+    ensures { result ≡ checksum_matches line.now }
+{
+    let (checked, sum) = around_last_star(line);
+    number(sum) == u32::from(xor(checked))
+}
+
+/// Whether the line is numbered and has no checksum or a wrong one.
+#[tactic(auto, unfolding(crate::specs::Frame::fails))]
+pub fn fails(line: &[u8]) -> bool
+    ensures { result ≡ fails line.now }
+{
+    begins_with_n(line) && !(has_checksum(line) && checksum_matches(line))
+}
+
+// The bytes but for the first `count`, none where there are no more.
+fn behind(bytes: &[u8], count: usize) -> &[u8]
+    ensures { result.now ≡ drop count bytes.now }
+{
+    if count <= bytes.len() {
+        &bytes[count..]
+    } else {
+        &[]
+    }
+}
+
+// How many bytes stand before the first `N`, all where there is none.
+fn length_before_n(bytes: &[u8]) -> usize
+    ensures { result ≡ position_or_len (λ byte. byte == 78) bytes.now }
+{
+    bytes.iter().take_while(|byte| **byte != b'N').count()
+}
+
+// What stands behind the first `N`, nothing where there is none.
+fn behind_first_n(bytes: &[u8]) -> &[u8]
+    ensures { result.now ≡ after_first (λ byte. byte == 78) bytes.now }
+{
+    behind(behind(bytes, length_before_n(bytes)), 1)
+}
+
+/// The number behind the `N` that the line begins with: 0 for no digits, 4,294,967,295 for everything above it.
+#[tactic(auto, unfolding(crate::specs::Frame::lead_of))]
+pub fn lead(line: &[u8]) -> u32
+    ensures { result ≡ lead_of line.now }
+{
+    number(behind(line, 1))
+}
+
+/// Whether the line holds `M110` and an `N` at its fifth byte or later, which then gives its number.
+#[tactic(auto, unfolding(crate::specs::Frame::has_second_n))]
+pub fn has_second_n(line: &[u8]) -> bool
+    ensures { result ≡ has_second_n line.now }
+{
+    has_m110(line) && has_byte(behind(line, 4), b'N')
+}
+
+/// The number that the line counts by: its lead, or in a line with `M110` the number behind the first `N` at the
+/// fifth byte or later, where there is one.
+#[tactic(auto, unfolding(crate::specs::Frame::line_number_of))]
+pub fn line_number(line: &[u8]) -> u32
+    ensures { result ≡ line_number_of line.now }
+{
+    if has_second_n(line) {
+        number(behind_first_n(behind(line, 4)))
+    } else {
+        lead(line)
+    }
+}
+
+#[tactic(auto, unfolding(crate::specs::Frame::behind_digits))]
+fn behind_digits(bytes: &[u8]) -> &[u8]
+    ensures { result.now ≡ behind_digits bytes.now }
+{
+    behind(bytes, leading_digits(bytes).len())
+}
+
+fn behind_space(bytes: &[u8]) -> &[u8]
+    ensures { result.now ≡ behind_space bytes.now }
+{
+    if bytes.starts_with(b" ") {
+        behind(bytes, 1)
+    } else {
+        bytes
+    }
+}
+
+/// The command of the line: behind the `N`, its digits and one space, up to the last `*`.
+#[tactic(auto, unfolding(crate::specs::Frame::text_of, crate::specs::Frame::checked_part))]
+pub fn text(line: &[u8]) -> &[u8]
+    ensures value { result.now ≡ text_of line.now }
+    ensures within { length result.now ≤ length line.now }
+{
+    let (checked, _) = around_last_star(line);
+    behind_space(behind_digits(behind(checked, 1)))
+}

@@ -1,0 +1,61 @@
+//! A numbered line, written.
+ghost use Rattle.std.specs.Prelude.{◌≡◌, ◌≤◌, ◌+◌, ◌++◌, false, true, length, decimal};
+ghost use Rattle.byte_text.specs.Marks.{has_byte, has_m110};
+ghost use Rattle.marlin_frame.specs.Frame.{head_of, frame_of, begins_with_n, fails, lead_of, IsNumberedLine};
+
+use byte_text::xor;
+use itoa::Buffer;
+use octo_outside::Line;
+
+// Adds the bytes to the line.
+fn append(line: &mut Line, bytes: &[u8])
+    requires { length line.old.items + length bytes.now ≤ 96 }
+    ensures items { line.new.items ≡ line.old.items ++ bytes.now }
+    ensures len { length line.new.items ≡ length line.old.items + length bytes.now }
+{
+    let _ = line.try_extend_from_slice(bytes);
+}
+
+// Adds a number in decimal to the line.
+fn append_number(line: &mut Line, n: u32)
+    requires { length line.old.items + length (decimal n) ≤ 96 }
+    ensures items { line.new.items ≡ line.old.items ++ decimal n }
+    ensures len { length line.new.items ≡ length line.old.items + length (decimal n) }
+{
+    let mut buffer = Buffer::new();
+    append(line, buffer.format(n).as_bytes());
+}
+
+// Writes what the checksum is taken of.
+fn write_head(n: u32, text: &[u8], into: &mut Line)
+    requires { length text.now ≤ 79 }
+    ensures items { into.new.items ≡ head_of n text.now }
+    ensures len { length into.new.items ≤ 91 }
+{
+    into.clear();
+    append(into, b"N");
+    append_number(into, n);
+    append(into, b" ");
+    append(into, text);
+}
+
+/// Writes the command into the line under the number, with its checksum. Nothing of what the line held stays.
+pub fn frame(n: u32, text: &[u8], into: &mut Line)
+    requires number { n ≤ 2000000000 }
+    requires some { 1 ≤ length text.now }
+    requires short { length text.now ≤ 79 }
+    requires no_star { has_byte 42 text.now ≡ false }
+    requires no_line_feed { has_byte 10 text.now ≡ false }
+    ensures written { into.new.items ≡ frame_of n text.now }
+    ensures at_most_95 { length into.new.items ≤ 95 }
+    ensures one_line { has_byte 10 into.new.items ≡ false }
+    ensures numbered { begins_with_n into.new.items ≡ true }
+    ensures whole { fails into.new.items ≡ false }
+    ensures lead { lead_of into.new.items ≡ n }
+    ensures reads_back { has_m110 text.now ≡ false → IsNumberedLine n text.now into.new.items }
+{
+    write_head(n, text, into);
+    let sum = xor(into.as_slice());
+    append(into, b"*");
+    append_number(into, u32::from(sum));
+}

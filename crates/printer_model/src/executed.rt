@@ -1,0 +1,18 @@
+//! What the printer ran, in order.
+use octo_outside::Line;
+use std::marker::Model;
+
+/// A line that the printer ran, with its number where it had one.
+#[derive(Drop)]
+pub struct ExecutedLine {
+    pub number: Option<u32>,
+    pub text: Line,
+}
+
+impl Model for ExecutedLine {
+    ghost use Rattle.printer_model.specs.Printer.{Logged};
+
+    ghost Value = { Logged };
+
+    ghost view = { λ l. record { number = l.number; text = l.text.items } };
+}

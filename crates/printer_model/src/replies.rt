@@ -1,0 +1,124 @@
+//! The lines that the printer replies, by Marlin's serial protocol.
+ghost use Rattle.std.specs.Prelude.{◌≡◌, ◌+◌, ◌≤◌, ◌++◌, length, decimal, codes, min};
+ghost use Rattle.arrayvec.specs.ArrayVec.{array_vec_len};
+ghost use Rattle.printer_model.specs.Replies.{reason_text, asked_after, error_line, resend_line, ok_line, temperatures_line, lead_text, numbered_ok, run_reply};
+
+use crate::printer::Reason;
+use itoa::Buffer;
+use octo_outside::ReplyLine;
+
+/// Adds bytes to a reply that has room for them.
+fn put(line: &mut ReplyLine, bytes: &[u8])
+    requires { array_vec_len line.old + length bytes.now ≤ 256 }
+    ensures { line.new.items ≡ line.old.items ++ bytes.now }
+{
+    match line.try_extend_from_slice(bytes) {
+        Ok(()) => {}
+        Err(_) => unreachable!(),
+    }
+}
+
+/// Adds a number in decimal, of at most ten digits.
+fn put_number(line: &mut ReplyLine, number: u32)
+    requires { array_vec_len line.old + 10 ≤ 256 }
+    ensures items { line.new.items ≡ line.old.items ++ decimal number }
+    ensures short { array_vec_len line.new ≤ array_vec_len line.old + 10 }
+{
+    let mut buffer = Buffer::new();
+    put(line, buffer.format(number).as_bytes());
+}
+
+/// Why a line was refused, as the printer says it.
+#[tactic(auto, unfolding(crate::specs::Replies::reason_text))]
+fn reason_bytes(reason: Reason) -> &'static [u8]
+    ensures text { result.now ≡ reason_text reason }
+    ensures short { length result.now ≤ 37 }
+{
+    match reason {
+        Reason::WrongNumber => b"Line Number is not Last Line Number+1",
+        Reason::NoChecksum => b"No Checksum with line number",
+        Reason::Mismatch => b"checksum mismatch",
+    }
+}
+
+/// The first of the three lines of a refusal: `Error:<reason>, Last Line: <last>`.
+pub fn error_line(reason: Reason, last: u32) -> ReplyLine
+    ensures { result.items ≡ error_line reason last }
+{
+    let mut line = ReplyLine::new();
+    put(&mut line, b"Error:");
+    put(&mut line, reason_bytes(reason));
+    put(&mut line, b", Last Line: ");
+    put_number(&mut line, last);
+    line
+}
+
+/// The second line of a refusal: `Resend:` and the number after the last, or the greatest number behind which there is none.
+#[tactic(auto, unfolding(crate::specs::Replies::resend_line, crate::specs::Replies::asked_after))]
+pub fn resend_line(last: u32) -> ReplyLine
+    ensures { result.items ≡ resend_line last }
+{
+    let mut line = ReplyLine::new();
+    put(&mut line, b"Resend: ");
+    put_number(&mut line, last.saturating_add(1));
+    line
+}
+
+/// The third line of a refusal, and the plain reply to a line that was run: `ok`.
+#[tactic(auto, unfolding(crate::specs::Replies::ok_line))]
+pub fn ok_line() -> ReplyLine
+    ensures { result.items ≡ ok_line }
+{
+    let mut line = ReplyLine::new();
+    put(&mut line, b"ok");
+    line
+}
+
+/// The reply to `M105`, which asks for the temperatures.
+#[tactic(auto, unfolding(crate::specs::Replies::temperatures_line))]
+fn temperatures_line() -> ReplyLine
+    ensures { result.items ≡ temperatures_line }
+{
+    let mut line = ReplyLine::new();
+    put(&mut line, b"ok T:21.30 /0.00 B:21.22 /0.00 @:0 B@:0");
+    line
+}
+
+/// Adds ` N<lead>` where there is a lead.
+fn put_lead(line: &mut ReplyLine, lead: Option<u32>)
+    requires { array_vec_len line.old + 12 ≤ 256 }
+    ensures items { line.new.items ≡ line.old.items ++ lead_text lead }
+    ensures short { array_vec_len line.new ≤ array_vec_len line.old + 12 }
+{
+    if let Some(number) = lead {
+        put(line, b" N");
+        put_number(line, number);
+    }
+}
+
+/// An `ok` that names the line and the free places: `ok N<lead> P15 B<free>`.
+#[tactic(auto, unfolding(crate::specs::Replies::numbered_ok))]
+fn numbered_ok(lead: Option<u32>, free: u8) -> ReplyLine
+    ensures { result.items ≡ numbered_ok lead free }
+{
+    let mut line = ReplyLine::new();
+    put(&mut line, b"ok");
+    put_lead(&mut line, lead);
+    put(&mut line, b" P15 B");
+    put_number(&mut line, u32::from(free));
+    line
+}
+
+/// The reply to a line that was run, numbered where the printer answers so.
+#[tactic(auto, unfolding(crate::specs::Replies::run_reply))]
+pub(crate) fn run_reply(advanced: bool, lead: Option<u32>, text: &[u8], free: u8) -> ReplyLine
+    ensures { result.items ≡ run_reply advanced lead text.now free }
+{
+    if text == b"M105".as_slice() {
+        temperatures_line()
+    } else if advanced {
+        numbered_ok(lead, free)
+    } else {
+        ok_line()
+    }
+}

@@ -1,0 +1,62 @@
+-- The lines that a sender holds are the issued ones above acked.
+use Rattle.std.proofs.Common.{◌≡◌, ℕ, ◌+◌, ◌<◌, ◌≤◌, Bool, true, false, List, [], ◌∷◌, ◌++◌, length, drop, arith, refl, sym, ◌∙◌, ap, subst, append_assoc}
+use Rattle.std.specs.Prelude.{Option, None, Some}
+use Rattle.std.proofs.lemmas.Grind.{common_steps}
+use Rattle.std.proofs.lemmas.List.{drop-drop, drop-append-le, append-nil, length-append}
+use Rattle.marlin_reply.specs.declared.reply.Reply.{Reply}
+use Rattle.marlin_reply.specs.declared.reply.Reply.TheVariants as reply
+use Rattle.marlin_reply.specs.declared.session.SessionEnd.{SessionEnd}
+use Rattle.send_window.specs.Data.{SenderData, begun}
+use Rattle.send_window.specs.Hearing.{hear_step, tick_step, heard_reply, unless_ended}
+use Rattle.send_window.specs.Sending.{push_step}
+use Rattle.send_window.specs.Session.{Step, hears, ticks, issues, gives, after_step, after_steps, texts_of, HoldsIssued}
+
+reply_holds : (heard_line : Reply) (moment : ℕ) (s : SenderData) (texts : List (List ℕ)) → HoldsIssued texts s → HoldsIssued texts (heard_reply heard_line moment s)
+reply_holds heard_line moment s texts holds =
+    let without_first : drop 1 s.held ≡ drop (s.acked + 1) texts = ap (drop 1) holds.rest ∙ drop-drop 1 s.acked texts in
+    grind (arith, common_steps, without_first)
+
+unless_ended_holds : (ended : Option SessionEnd) (after s : SenderData) (texts : List (List ℕ)) → HoldsIssued texts after → HoldsIssued texts s → HoldsIssued texts (unless_ended ended after s)
+unless_ended_holds None after s texts then_holds holds = then_holds
+unless_ended_holds (Some why) after s texts then_holds holds = holds
+
+ticks_hold : (moment : ℕ) (s : SenderData) (texts : List (List ℕ)) → HoldsIssued texts s → HoldsIssued texts (tick_step moment s)
+ticks_hold moment s texts holds = grind (arith, common_steps)
+
+gives_hold : (moment : ℕ) (s : SenderData) (texts : List (List ℕ)) → HoldsIssued texts s → HoldsIssued texts (after_step (gives moment) s)
+gives_hold moment s texts holds = grind (arith, common_steps)
+
+issues_hold : (text : List ℕ) (s : SenderData) (texts : List (List ℕ)) → HoldsIssued texts s → HoldsIssued (texts ++ text ∷ []) (push_step text s)
+issues_hold text s texts holds = record {
+  count = ap (λ n. n + 1) holds.count ∙ sym (length-append texts (text ∷ []));
+  rest = ap (λ lines. lines ++ text ∷ []) holds.rest ∙ sym (drop-append-le s.acked texts (text ∷ []) holds.acked_issued);
+  acked_issued = omega (arith, length-append texts (text ∷ []), holds.acked_issued);
+}
+
+none_added : (s : SenderData) (texts : List (List ℕ)) → HoldsIssued texts s → HoldsIssued (texts ++ []) s
+none_added s texts holds = rw (append-nil texts) holds
+
+pub step_holds : (step : Step) (s : SenderData) (texts : List (List ℕ)) → HoldsIssued texts s → HoldsIssued (texts ++ texts_of (step ∷ [])) (after_step step s)
+step_holds (hears heard_line moment) s texts holds =
+    none_added _ texts (unless_ended_holds s.ended (heard_reply heard_line moment s) s texts (reply_holds heard_line moment s texts holds) holds)
+step_holds (ticks moment) s texts holds = none_added _ texts (ticks_hold moment s texts holds)
+step_holds (issues text) s texts holds = issues_hold text s texts holds
+step_holds (gives moment) s texts holds = none_added _ texts (gives_hold moment s texts holds)
+
+texts_first : (step : Step) (steps : List Step) → texts_of (step ∷ steps) ≡ texts_of (step ∷ []) ++ texts_of steps
+texts_first (hears heard_line moment) steps = refl
+texts_first (ticks moment) steps = refl
+texts_first (issues text) steps = refl
+texts_first (gives moment) steps = refl
+
+-- further steps add what they issue
+pub steps_hold : (steps : List Step) (s : SenderData) (texts : List (List ℕ)) → HoldsIssued texts s → HoldsIssued (texts ++ texts_of steps) (after_steps steps s)
+steps_hold [] s texts holds = none_added s texts holds
+steps_hold (step ∷ steps) s texts holds =
+    let P : List (List ℕ) → Type 0 = λ all. HoldsIssued all (after_steps steps (after_step step s)) in
+    let one_by_one : (texts ++ texts_of (step ∷ [])) ++ texts_of steps ≡ texts ++ texts_of (step ∷ steps) =
+    append_assoc texts (texts_of (step ∷ [])) (texts_of steps) ∙ sym (ap (λ (more : List (List ℕ)). texts ++ more) (texts_first step steps)) in
+    subst P one_by_one (steps_hold steps (after_step step s) (texts ++ texts_of (step ∷ [])) (step_holds step s texts holds))
+
+pub session_holds : (steps : List Step) (s : SenderData) → HoldsIssued (texts_of steps) (after_steps steps (begun s))
+session_holds steps s = steps_hold steps (begun s) [] (record { count = refl; rest = refl; acked_issued = omega arith })

@@ -1,0 +1,4 @@
+pub mod Ending
+pub mod Issued
+pub mod Soundness
+pub mod Tally

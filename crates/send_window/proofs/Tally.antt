@@ -1,0 +1,124 @@
+-- The lines that a session acknowledges are the `ok`s that count among its replies.
+use Rattle.std.proofs.Common.{◌≡◌, ℕ, ◌+◌, ◌-◌, ◌<◌, ◌≤◌, Bool, true, false, not, ◌&&◌, ◌||◌, cond, List, [], ◌∷◌, arith, refl, sym, ◌∙◌, ap, subst}
+use Rattle.std.specs.Prelude.{Option, None, Some, if◌then◌else◌}
+use Rattle.std.proofs.lemmas.Grind.{common_steps}
+use Rattle.std.proofs.lemmas.List.Sums.{sum_by-cons}
+use Rattle.marlin_reply.specs.declared.reply.Reply.{Reply}
+use Rattle.marlin_reply.specs.declared.reply.Reply.TheVariants as reply
+use Rattle.marlin_reply.specs.declared.session.SessionEnd.{SessionEnd}
+use Rattle.send_window.specs.Data.{SenderData, begun}
+use Rattle.send_window.specs.Hearing.{hear_step, tick_step, heard_reply, heard_ok, unless_ended}
+use Rattle.send_window.specs.Session.{Step, hears, ticks, issues, gives, after_step, after_steps, replies_of}
+use Rattle.send_window.specs.Counting.{is_ok, is_resend, answers_of, with_former, is_own_ok, own_oks, IsAwaited, AreAwaited}
+use Rattle.send_window.specs.Laws.{AckedIsCounted}
+
+-- how many `ok`s the hello still takes
+abbrev pub owed : Bool → ℕ
+owed true = 0
+owed false = 1
+
+-- the answer before the next one
+abbrev pub former_after : Reply → Step → Reply
+former_after former (hears heard_line moment) = if is_ok heard_line || is_resend heard_line then heard_line else former
+former_after former (ticks moment) = former
+former_after former (issues text) = former
+former_after former (gives moment) = former
+
+-- the `ok`s of one step that count
+abbrev pub own_of : Reply → Step → ℕ
+own_of former (hears heard_line moment) = if is_ok heard_line && not (is_resend former) then 1 else 0
+own_of former (ticks moment) = 0
+own_of former (issues text) = 0
+own_of former (gives moment) = 0
+
+-- what one step adds to the tally
+pub record Adds (own : ℕ) (later former : Reply) (awaited : Type 0) (s after : SenderData) : Type 0 where
+  pub swallows : after.ended ≡ None → after.swallow ≡ is_resend later
+  pub most : (rest : ℕ) → after.acked + (rest - owed after.ready) ≤ s.acked + (own + rest - owed s.ready)
+  pub exact : after.ended ≡ None → awaited → (rest : ℕ) → after.acked + (rest - owed after.ready) ≡ s.acked + (own + rest - owed s.ready)
+  pub open_before : after.ended ≡ None → s.ended ≡ None
+
+reply_adds : (heard_line : Reply) (moment : ℕ) (s : SenderData) (former : Reply) → s.ended ≡ None → s.swallow ≡ is_resend former →
+    Adds (own_of former (hears heard_line moment)) (former_after former (hears heard_line moment)) former (IsAwaited (hears heard_line moment) s) s (heard_reply heard_line moment s)
+reply_adds heard_line moment s former none_yet swallows = record {
+  swallows = grind (arith, common_steps);
+  most = grind (arith, common_steps);
+  exact = grind (arith, common_steps);
+  open_before = λ _. none_yet;
+}
+
+unless_ended_adds : (ended : Option SessionEnd) (own : ℕ) (later former : Reply) (awaited : Type 0) (after s : SenderData) → s.ended ≡ ended →
+    (ended ≡ None → Adds own later former awaited s after) → Adds own later former awaited s (unless_ended ended after s)
+unless_ended_adds None own later former awaited after s e adds = adds refl
+unless_ended_adds (Some why) own later former awaited after s e adds = record {
+  swallows = λ (open_still : s.ended ≡ None). absurd (cc);
+  most = λ rest. omega arith;
+  exact = λ (open_still : s.ended ≡ None) _ rest. absurd (cc);
+  open_before = λ open_still. open_still;
+}
+
+tick_adds : (moment : ℕ) (s : SenderData) (former : Reply) → (s.ended ≡ None → s.swallow ≡ is_resend former) →
+    Adds 0 former former (Unit {0}) s (tick_step moment s)
+tick_adds moment s former swallows = grind (arith, common_steps)
+
+give_adds : (moment : ℕ) (s : SenderData) (former : Reply) → (s.ended ≡ None → s.swallow ≡ is_resend former) →
+    Adds 0 former former (Unit {0}) s (after_step (gives moment) s)
+give_adds moment s former swallows = grind (arith, common_steps)
+
+issue_adds : (text : List ℕ) (s : SenderData) (former : Reply) → (s.ended ≡ None → s.swallow ≡ is_resend former) →
+    Adds 0 former former (Unit {0}) s (after_step (issues text) s)
+issue_adds text s former swallows = grind (arith, common_steps)
+
+step_adds : (step : Step) (s : SenderData) (former : Reply) → (s.ended ≡ None → s.swallow ≡ is_resend former) →
+    Adds (own_of former step) (former_after former step) former (IsAwaited step s) s (after_step step s)
+step_adds (hears heard_line moment) s former swallows =
+    unless_ended_adds s.ended _ _ former _ (heard_reply heard_line moment s) s refl
+    (λ none_yet. reply_adds heard_line moment s former none_yet (swallows none_yet))
+step_adds (ticks moment) s former swallows = tick_adds moment s former swallows
+step_adds (issues text) s former swallows = issue_adds text s former swallows
+step_adds (gives moment) s former swallows = give_adds moment s former swallows
+
+-- the tally of a list is that of its first step and that of the others
+first_counts : (step : Step) (steps : List Step) (former : Reply) →
+    own_oks former (replies_of (step ∷ steps)) ≡ own_of former step + own_oks (former_after former step) (replies_of steps)
+first_counts (hears (reply.Ok number p b t) moment) steps former =
+    sum_by-cons (λ (pair : Reply × Reply). cond (is_own_ok pair) 1 0) (former, reply.Ok number p b t) (with_former (reply.Ok number p b t) (answers_of (replies_of steps)))
+first_counts (hears (reply.Resend number) moment) steps former = omega arith
+first_counts (hears reply.Start moment) steps former = omega arith
+first_counts (hears reply.Busy moment) steps former = omega arith
+first_counts (hears (reply.Temps t) moment) steps former = omega arith
+first_counts (hears reply.Error moment) steps former = omega arith
+first_counts (hears reply.Other moment) steps former = omega arith
+first_counts (ticks moment) steps former = omega arith
+first_counts (issues text) steps former = omega arith
+first_counts (gives moment) steps former = omega arith
+
+-- the tally of steps from any state
+record Tally (steps : List Step) (former : Reply) (s : SenderData) : Type 0 where
+  most : (after_steps steps s).acked ≤ s.acked + (own_oks former (replies_of steps) - owed s.ready)
+  exact : (after_steps steps s).ended ≡ None → AreAwaited steps s → (after_steps steps s).acked ≡ s.acked + (own_oks former (replies_of steps) - owed s.ready)
+  open_before : (after_steps steps s).ended ≡ None → s.ended ≡ None
+
+none_tally : (former : Reply) (s : SenderData) → Tally [] former s
+none_tally former s = record { most = omega arith; exact = λ _ _. omega arith; open_before = λ e. e }
+
+more_tally : (step : Step) (steps : List Step) (former : Reply) (s : SenderData) →
+    Adds (own_of former step) (former_after former step) former (IsAwaited step s) s (after_step step s) →
+    Tally steps (former_after former step) (after_step step s) → Tally (step ∷ steps) former s
+more_tally step steps former s adds rest = record {
+  most = omega (arith, rest.most, adds.most (own_oks (former_after former step) (replies_of steps)), first_counts step steps former);
+  exact = λ open_still awaited.
+      omega (arith, rest.exact open_still awaited.1, adds.exact (rest.open_before open_still) awaited.0 (own_oks (former_after former step) (replies_of steps)), first_counts step steps former);
+  open_before = λ open_still. adds.open_before (rest.open_before open_still);
+}
+
+steps_tally : (steps : List Step) (former : Reply) (s : SenderData) → (s.ended ≡ None → s.swallow ≡ is_resend former) → Tally steps former s
+steps_tally [] former s swallows = none_tally former s
+steps_tally (step ∷ steps) former s swallows =
+    let adds = step_adds step s former swallows in
+    more_tally step steps former s adds (steps_tally steps (former_after former step) (after_step step s) adds.swallows)
+
+pub acked_is_counted : AckedIsCounted
+acked_is_counted steps s =
+    let tally = steps_tally steps reply.Start (begun s) (λ _. refl) in
+    (omega (arith, tally.most), λ open_still awaited. omega (arith, tally.exact open_still awaited))

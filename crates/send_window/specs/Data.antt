@@ -1,0 +1,89 @@
+-- What a sender knows of its session with a printer.
+use Rattle.std.specs.Prelude.{◌≡◌, ℕ, ◌+◌, ◌≤◌, Bool, true, false, List, [], length, Option, None}
+use Rattle.marlin_reply.specs.declared.session.SessionEnd.{SessionEnd}
+
+-- the sender as plain data; lines go by their numbers, from 1, and times are in milliseconds
+pub record SenderData : Type 0 where
+  -- the most lines that may be unacknowledged
+  pub window : ℕ
+  -- how long an answer may take
+  pub limit : ℕ
+  -- how many lines were issued
+  pub issued : ℕ
+  -- how many of them were acknowledged
+  pub acked : ℕ
+  -- the texts of the others, in the order of their numbers
+  pub held : List (List ℕ)
+  -- the next number to send
+  pub cursor : ℕ
+  -- the greatest number that was sent, 0 for none
+  pub sent : ℕ
+  -- the next `ok` only ends a Resend
+  pub swallow : Bool
+  -- the number that the last Resend asked for, and how many more of the same are ignored
+  pub asked : ℕ
+  pub left : ℕ
+  -- the moment by which an answer is wanted
+  pub deadline : Option ℕ
+  -- something was heard since the deadline was set
+  pub heard : Bool
+  -- how many limits in a row passed in silence
+  pub silent : ℕ
+  -- the hello is to be sent
+  pub hello_due : Bool
+  -- the hello was acknowledged
+  pub ready : Bool
+  -- why the session ended
+  pub ended : Option SessionEnd
+
+-- a sender that has sent and heard nothing
+abbrev pub new_sender : ℕ → ℕ → SenderData
+new_sender w l = record {
+  window = w;
+  limit = l;
+  issued = 0;
+  acked = 0;
+  held = [];
+  cursor = 1;
+  sent = 0;
+  swallow = false;
+  asked = 0;
+  left = 0;
+  deadline = None;
+  heard = false;
+  silent = 0;
+  hello_due = false;
+  ready = false;
+  ended = None;
+}
+
+-- the same sender at the beginning of a session
+abbrev pub begun : SenderData → SenderData
+begun s = record (new_sender s.window s.limit) { hello_due = true }
+
+-- what holds of a sender between its calls
+pub record IsSound (s : SenderData) : Type 0 where
+  -- the window is 1 to 16 lines, the limit a millisecond at least
+  pub open_window : 1 ≤ s.window
+  pub small_window : s.window ≤ 16
+  pub some_limit : 1 ≤ s.limit
+  -- the lines held are as many as were issued above acked, and the window holds them
+  pub counted : s.acked + length s.held ≡ s.issued
+  pub in_window : length s.held ≤ s.window
+  pub few : s.issued ≤ 2000000000
+  -- the cursor is above acked, and at most one past the last line
+  pub above_acked : s.acked + 1 ≤ s.cursor
+  pub not_past : s.cursor ≤ s.issued + 1
+  -- a line is sent only once it was issued, and no more Resends are ignored than lines were sent
+  pub sent_issued : s.sent ≤ s.issued
+  pub left_sent : s.left ≤ s.sent
+  -- lines are issued only behind the hello's `ok`, and the hello isn't sent behind it
+  pub hello_first : s.ready ≡ false → s.issued ≡ 0
+  pub hello_before : s.ready ≡ true → s.hello_due ≡ false
+  -- no answer is waited for where all lines are acknowledged, or where the hello is still to be sent
+  pub none_awaited : s.ready ≡ true → s.acked ≡ s.issued → s.deadline ≡ None
+  pub hello_unsent : s.hello_due ≡ true → s.deadline ≡ None
+  -- four silent limits are borne, and none is counted where no answer is waited for
+  pub silent_most : s.silent ≤ 5
+  pub silent_few : s.ended ≡ None → s.silent ≤ 4
+  pub silent_none : s.ready ≡ true → s.deadline ≡ None → s.silent ≡ 0

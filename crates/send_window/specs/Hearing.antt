@@ -1,0 +1,160 @@
+-- What a sender does with a reply and at a tick of the clock.
+use Rattle.std.specs.Prelude.{ℕ, ◌+◌, ◌-◌, min, max, Bool, true, false, not, ◌&&◌, List, drop, Option, None, Some, Result, Ok, Err, is_none, if◌then◌else◌, nat_lt, nat_le, ◌==◌}
+use Rattle.marlin_reply.specs.declared.reply.Reply.{Reply}
+use Rattle.marlin_reply.specs.declared.reply.Reply.TheVariants as reply
+use Rattle.marlin_reply.specs.declared.session.SessionEnd.{SessionEnd}
+use Rattle.marlin_reply.specs.declared.session.SessionEnd.TheVariants.{NoAnswer, AskedBack, AskedAhead, Counts, Restarted, NumbersUsed}
+use Rattle.send_window.specs.Data.{SenderData}
+
+-- a moment so many milliseconds later, at most the greatest one
+unfoldable pub later : ℕ → ℕ → ℕ
+later moment span = min (moment + span) 18446744073709551615
+
+-- the deadline at a moment: none where every issued line is acknowledged
+abbrev pub deadline_at : ℕ → ℕ → ℕ → ℕ → Option ℕ
+deadline_at moment span acknowledged all = if acknowledged == all then None else Some (later moment span)
+
+-- the end of a session whose line numbers are used up
+abbrev pub end_of_numbers : ℕ → ℕ → Option SessionEnd
+end_of_numbers acknowledged all = if acknowledged == 2000000000 then Some (NumbersUsed all) else None
+
+-- something was heard
+abbrev pub marked : SenderData → SenderData
+marked s = record s { heard = true }
+
+-- the session ends
+abbrev pub ended_by : SessionEnd → SenderData → SenderData
+ended_by why s = record s { ended = Some why }
+
+-- the `ok` behind a Resend counts for nothing
+abbrev pub swallowed : SenderData → SenderData
+swallowed s = record s { swallow = false; heard = true }
+
+-- the `ok` of the hello
+abbrev pub made_ready : SenderData → SenderData
+made_ready s = record s { ready = true; hello_due = false; deadline = None; silent = 0; heard = false }
+
+-- the `ok` of the next line
+abbrev pub acknowledged : ℕ → SenderData → SenderData
+acknowledged moment s = record s {
+  acked = s.acked + 1;
+  held = drop 1 s.held;
+  cursor = max s.cursor (s.acked + 2);
+  deadline = deadline_at moment s.limit (s.acked + 1) s.issued;
+  silent = 0;
+  heard = false;
+  ended = end_of_numbers (s.acked + 1) s.issued;
+}
+
+-- an `ok` of a ready session: of a line where one is unacknowledged, else it counts for nothing
+abbrev pub line_ok : ℕ → SenderData → SenderData
+line_ok moment s = if nat_lt s.acked s.issued then acknowledged moment s else marked s
+
+-- an `ok` of a ready session that may name its line, which is the next one to acknowledge
+abbrev pub named_ok : Option ℕ → ℕ → SenderData → SenderData
+named_ok None moment s = line_ok moment s
+named_ok (Some number) moment s =
+    if number == s.acked + 1 then line_ok moment s else ended_by (Counts number (s.acked + 1)) s
+
+-- an `ok`, by whether it is swallowed and whether the session is ready
+abbrev pub heard_ok : Bool → Bool → Option ℕ → ℕ → SenderData → SenderData
+heard_ok true _ number moment s = swallowed s
+heard_ok false false number moment s = made_ready s
+heard_ok false true number moment s = named_ok number moment s
+
+-- a Resend of the hello
+abbrev pub hello_asked : ℕ → SenderData → SenderData
+hello_asked moment s = record s {
+  swallow = true;
+  hello_due = true;
+  deadline = deadline_at moment s.limit s.acked s.issued;
+  silent = 0;
+  heard = false;
+}
+
+-- a Resend is one of those to ignore: each line that was sent behind a lost one brings the same again
+abbrev pub is_repeated : ℕ → SenderData → Bool
+is_repeated number s = number == s.asked && nat_lt 0 s.left
+
+-- a Resend of a line that may be asked for
+abbrev pub line_asked : ℕ → ℕ → SenderData → SenderData
+line_asked number moment s = record s {
+  swallow = true;
+  cursor = if is_repeated number s then s.cursor else number;
+  asked = number;
+  left = if is_repeated number s then s.left - 1 else s.sent - number;
+  deadline = deadline_at moment s.limit s.acked s.issued;
+  silent = 0;
+  heard = false;
+}
+
+-- a Resend of a ready session: neither of an acknowledged line nor past the next line to issue
+abbrev pub resend_asked : ℕ → ℕ → SenderData → SenderData
+resend_asked number moment s =
+    if nat_le number s.acked then ended_by (AskedBack number s.acked) (record s { swallow = true })
+    else if nat_lt (s.issued + 1) number then ended_by (AskedAhead number s.issued) (record s { swallow = true })
+    else line_asked number moment s
+
+-- a Resend, by whether the session is ready
+abbrev pub heard_resend : Bool → ℕ → ℕ → SenderData → SenderData
+heard_resend false number moment s = hello_asked moment s
+heard_resend true number moment s = resend_asked number moment s
+
+-- the printer began anew, by whether the session is ready
+abbrev pub heard_start : Bool → SenderData → SenderData
+heard_start false s = marked s
+heard_start true s = ended_by Restarted s
+
+-- a reply in a session that hasn't ended
+abbrev pub heard_reply : Reply → ℕ → SenderData → SenderData
+heard_reply (reply.Ok number _ _ _) moment s = heard_ok s.swallow s.ready number moment s
+heard_reply (reply.Resend number) moment s = heard_resend s.ready number moment s
+heard_reply reply.Start moment s = heard_start s.ready s
+heard_reply reply.Busy moment s = marked s
+heard_reply (reply.Temps _) moment s = marked s
+heard_reply reply.Error moment s = marked s
+heard_reply reply.Other moment s = marked s
+
+-- a step of a session, which changes nothing once it has ended
+abbrev pub unless_ended : Option SessionEnd → SenderData → SenderData → SenderData
+unless_ended None after s = after
+unless_ended (Some _) after s = s
+
+-- a reply
+abbrev pub hear_step : Reply → ℕ → SenderData → SenderData
+hear_step heard_line moment s = unless_ended s.ended (heard_reply heard_line moment s) s
+
+-- whether a deadline stands and the moment has come
+abbrev pub is_past : Option ℕ → ℕ → Bool
+is_past None moment = false
+is_past (Some wanted) moment = nat_le wanted moment
+
+-- the count of silent limits where one more has passed
+abbrev pub silent_limits : SenderData → ℕ
+silent_limits s = if s.heard then 0 else s.silent + 1
+
+-- a limit passed: from the fifth in silence the session ends, else all that is unacknowledged is sent again
+abbrev pub limit_passed : ℕ → SenderData → SenderData
+limit_passed moment s =
+    if silent_limits s == 5
+    then ended_by (NoAnswer 5) (record s { silent = 5 })
+    else record s {
+      silent = silent_limits s;
+      cursor = if s.ready then s.acked + 1 else s.cursor;
+      left = if s.ready then 0 else s.left;
+      heard = false;
+      deadline = Some (later moment s.limit);
+    }
+
+-- a tick of the clock in a session that hasn't ended
+abbrev pub ticked : ℕ → SenderData → SenderData
+ticked moment s = if is_past s.deadline moment then limit_passed moment s else s
+
+-- a tick of the clock
+abbrev pub tick_step : ℕ → SenderData → SenderData
+tick_step moment s = unless_ended s.ended (ticked moment s) s
+
+-- what hearing and ticking answer: the end, where the session has ended
+abbrev pub answer_of : Option SessionEnd → Result (Unit {0}) SessionEnd
+answer_of None = Ok tt
+answer_of (Some why) = Err why

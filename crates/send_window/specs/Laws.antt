@@ -1,0 +1,132 @@
+-- What the steps of a sender keep and bring, in the words of the protocol.
+use Rattle.std.specs.Prelude.{◌≡◌, ◌≢◌, ◌⊎◌, ◌↔◌, ℕ, ◌+◌, ◌-◌, ◌<◌, ◌≤◌, Bool, true, false, not, ◌&&◌, List, [], ◌∷◌, ◌++◌, Option, None, Some, slice_get, is_some}
+use Rattle.marlin_reply.specs.declared.reply.Reply.{Reply}
+use Rattle.marlin_reply.specs.declared.reply.Reply.TheVariants as reply
+use Rattle.marlin_reply.specs.declared.session.SessionEnd.{SessionEnd}
+use Rattle.marlin_reply.specs.declared.session.SessionEnd.TheVariants.{NoAnswer, AskedBack, AskedAhead, Counts, Restarted, NumbersUsed}
+use Rattle.send_window.specs.Data.{SenderData, IsSound, new_sender, begun}
+use Rattle.send_window.specs.Hearing.{hear_step, tick_step, is_past}
+use Rattle.send_window.specs.Sending.{Outgoing, hello, line, next_of, room_of}
+use Rattle.send_window.specs.Session.{Step, hears, ticks, issues, gives, after_step, after_steps, IsAllowed, AreAllowed, replies_of, texts_of, HoldsIssued}
+use Rattle.send_window.specs.Counting.{is_ok, acked_of, AreAwaited}
+
+-- a new sender is sound, a session begins so, and no step breaks it
+abbrev pub StaysSound : Type 0
+StaysSound =
+    ((w l : ℕ) → 1 ≤ w → w ≤ 16 → 1 ≤ l → IsSound (new_sender w l))
+    × ((s : SenderData) → IsSound s → IsSound (begun s))
+    × ((step : Step) (s : SenderData) → IsAllowed step s → IsSound s → IsSound (after_step step s))
+
+-- the lines held are the issued ones above acked, after each step and after any steps of a session
+abbrev pub HoldsLines : Type 0
+HoldsLines =
+    ((step : Step) (s : SenderData) (texts : List (List ℕ)) →
+    HoldsIssued texts s → HoldsIssued (texts ++ texts_of (step ∷ [])) (after_step step s))
+    × ((steps : List Step) (s : SenderData) → HoldsIssued (texts_of steps) (after_steps steps (begun s)))
+
+-- a line to be sent is an issued one above acked, under its own number, and the session is ready
+pub record IsUnacknowledged (texts : List (List ℕ)) (s : SenderData) (number : ℕ) (text : List ℕ) : Type 0 where
+  pub above_acked : s.acked < number
+  pub was_issued : number ≤ s.issued
+  pub its_text : slice_get texts (number - 1) ≡ Some text
+  pub after_hello : s.ready ≡ true
+
+-- what goes out is the hello, before the session is ready, or an unacknowledged line
+abbrev pub GivesHeldLines : Type 0
+GivesHeldLines =
+    (s : SenderData) (texts : List (List ℕ)) → IsSound s → HoldsIssued texts s →
+    (next_of s ≡ Some hello → s.ready ≡ false)
+    × ((number : ℕ) (text : List ℕ) → next_of s ≡ Some (line number text) → IsUnacknowledged texts s number text)
+
+-- nothing goes out exactly where the session has ended, or no hello is due and the cursor is past the last line
+abbrev pub GivesNothing : Type 0
+GivesNothing =
+    (s : SenderData) →
+    (next_of s ≡ None) ↔ ((is_some s.ended ≡ true) ⊎ ((s.hello_due ≡ false) × (s.issued < s.cursor)))
+
+-- an `ok` that isn't swallowed
+abbrev pub is_counted : Step → SenderData → Bool
+is_counted (hears heard_line moment) s = is_ok heard_line && not s.swallow
+is_counted (ticks moment) s = false
+is_counted (issues text) s = false
+is_counted (gives moment) s = false
+
+-- acked never falls, rises by one at most, and only by an `ok` that isn't swallowed
+abbrev pub AckedRises : Type 0
+AckedRises =
+    (step : Step) (s : SenderData) →
+    (s.acked ≤ (after_step step s).acked)
+    × ((after_step step s).acked ≤ s.acked + 1)
+    × (is_counted step s ≡ false → (after_step step s).acked ≡ s.acked)
+
+-- a Resend acknowledges nothing, nor does the `ok` behind it
+abbrev pub ResendKeepsAcked : Type 0
+ResendKeepsAcked =
+    (number moment : ℕ) (s : SenderData) →
+    ((hear_step (reply.Resend number) moment s).acked ≡ s.acked)
+    × ((heard_line : Reply) (later_moment : ℕ) → is_ok heard_line ≡ true →
+    (hear_step heard_line later_moment (hear_step (reply.Resend number) moment s)).acked ≡ s.acked)
+
+-- an end stays, acked with it, and nothing more goes out or is issued
+abbrev pub EndStays : Type 0
+EndStays =
+    (s : SenderData) (why : SessionEnd) → s.ended ≡ Some why →
+    (next_of s ≡ None) × (room_of s ≡ 0)
+    × ((step : Step) → ((after_step step s).ended ≡ Some why) × ((after_step step s).acked ≡ s.acked))
+
+-- the number that an `ok` names, where it is one
+abbrev pub ok_number : Reply → Option (Option ℕ)
+ok_number (reply.Ok number _ _ _) = Some number
+ok_number (reply.Resend _) = None
+ok_number reply.Start = None
+ok_number reply.Busy = None
+ok_number (reply.Temps _) = None
+ok_number reply.Error = None
+ok_number reply.Other = None
+
+-- an `ok` that acknowledges the last line number
+pub record IsLastOk (heard_line : Reply) (s : SenderData) : Type 0 where
+  pub its_line : (ok_number heard_line ≡ Some None) ⊎ (ok_number heard_line ≡ Some (Some (s.acked + 1)))
+  pub own : s.swallow ≡ false
+  pub after_hello : s.ready ≡ true
+  pub awaited : s.acked < s.issued
+  pub last : s.acked + 1 ≡ 2000000000
+
+-- what a reply must be to end the session so
+abbrev pub IsEndedBy : SessionEnd → Reply → SenderData → Type 0
+IsEndedBy (NoAnswer _) heard_line s = ⊥
+IsEndedBy (AskedBack number acknowledged) heard_line s =
+    (heard_line ≡ reply.Resend number) × (s.ready ≡ true) × (number ≤ s.acked) × (acknowledged ≡ s.acked)
+IsEndedBy (AskedAhead number all) heard_line s =
+    (heard_line ≡ reply.Resend number) × (s.ready ≡ true) × (s.issued + 1 < number) × (s.acked < number) × (all ≡ s.issued)
+IsEndedBy (Counts number expected) heard_line s =
+    (ok_number heard_line ≡ Some (Some number)) × (s.swallow ≡ false) × (s.ready ≡ true)
+    × (number ≢ s.acked + 1) × (expected ≡ s.acked + 1)
+IsEndedBy Restarted heard_line s = (heard_line ≡ reply.Start) × (s.ready ≡ true)
+IsEndedBy (NumbersUsed all) heard_line s = IsLastOk heard_line s × (all ≡ s.issued)
+
+-- what a tick must find to end the session so: the fifth limit in a row has passed with nothing heard
+abbrev pub IsEndedAt : SessionEnd → ℕ → SenderData → Type 0
+IsEndedAt (NoAnswer count) moment s =
+    (is_past s.deadline moment ≡ true) × (s.heard ≡ false) × (s.silent ≡ 4) × (count ≡ 5)
+IsEndedAt (AskedBack _ _) moment s = ⊥
+IsEndedAt (AskedAhead _ _) moment s = ⊥
+IsEndedAt (Counts _ _) moment s = ⊥
+IsEndedAt Restarted moment s = ⊥
+IsEndedAt (NumbersUsed _) moment s = ⊥
+
+-- each end comes exactly where its rule says
+abbrev pub EndsByRule : Type 0
+EndsByRule =
+    (why : SessionEnd) (s : SenderData) (moment : ℕ) → s.ended ≡ None →
+    ((heard_line : Reply) → ((hear_step heard_line moment s).ended ≡ Some why) ↔ IsEndedBy why heard_line s)
+    × (((tick_step moment s).ended ≡ Some why) ↔ IsEndedAt why moment s)
+
+-- after any steps of a session acked is at most what the replies alone say, and just that where the session hasn't
+-- ended and each `ok` that counts for a line came while one was unacknowledged
+abbrev pub AckedIsCounted : Type 0
+AckedIsCounted =
+    (steps : List Step) (s : SenderData) →
+    ((after_steps steps (begun s)).acked ≤ acked_of (replies_of steps))
+    × ((after_steps steps (begun s)).ended ≡ None → AreAwaited steps (begun s) →
+    (after_steps steps (begun s)).acked ≡ acked_of (replies_of steps))

@@ -1,0 +1,7 @@
+pub mod Counting
+pub mod Data
+pub mod Fields
+pub mod Hearing
+pub mod Laws
+pub mod Sending
+pub mod Session

@@ -1,0 +1,77 @@
+-- What a sender issues and gives out.
+use Rattle.std.specs.Prelude.{◌≡◌, ℕ, ◌+◌, ◌-◌, ◌≤◌, min, max, Bool, true, false, List, [], ◌∷◌, ◌++◌, length, codes, Option, None, Some, unwrap_or, is_some, if◌then◌else◌, ◌&&◌, nat_le, slice_index_or}
+use Rattle.marlin_reply.specs.declared.session.SessionEnd.{SessionEnd}
+use Rattle.byte_text.specs.Marks.{has_byte}
+use Rattle.marlin_frame.specs.Frame.{frame_of}
+use Rattle.send_window.specs.Data.{SenderData}
+use Rattle.send_window.specs.Hearing.{later}
+
+-- a text that a frame can carry: 1 to 79 bytes, no `*`, no line feed
+pub record IsFramable (text : List ℕ) : Type 0 where
+  pub some : 1 ≤ length text
+  pub short : length text ≤ 79
+  pub no_star : has_byte 42 text ≡ false
+  pub no_line_feed : has_byte 10 text ≡ false
+
+-- what a sender gives out: the hello, or a line under its number
+pub data Outgoing : Type 0 where
+  hello : Outgoing
+  line : ℕ → List ℕ → Outgoing
+
+-- its number; the hello has 0
+abbrev pub number_of_outgoing : Outgoing → ℕ
+number_of_outgoing hello = 0
+number_of_outgoing (line number text) = number
+
+-- its bytes; the hello is `N0 M110 N0*125`
+abbrev pub bytes_of_outgoing : Outgoing → List ℕ
+bytes_of_outgoing hello = frame_of 0 (codes "M110 N0")
+bytes_of_outgoing (line number text) = frame_of number text
+
+-- how many more lines may be issued, by whether the session has ended and is ready
+abbrev pub room_at : Option SessionEnd → Bool → SenderData → ℕ
+room_at (Some _) _ s = 0
+room_at None false s = 0
+room_at None true s = min (s.window - (s.issued - s.acked)) (2000000000 - s.issued)
+
+-- how many more lines may be issued
+abbrev pub room_of : SenderData → ℕ
+room_of s = room_at s.ended s.ready s
+
+-- a line is issued
+abbrev pub push_step : List ℕ → SenderData → SenderData
+push_step text s = record s { issued = s.issued + 1; held = s.held ++ text ∷ [] }
+
+-- the line at the cursor, where it was issued
+abbrev pub next_line : SenderData → Option Outgoing
+next_line s =
+    if nat_le s.cursor s.issued
+    then Some (line s.cursor (slice_index_or s.held (s.cursor - s.acked - 1) []))
+    else None
+
+-- what is to be sent next, by whether the session has ended and the hello is due
+abbrev pub next_at : Option SessionEnd → Bool → SenderData → Option Outgoing
+next_at (Some _) _ s = None
+next_at None true s = Some hello
+next_at None false s = next_line s
+
+-- what is to be sent next
+abbrev pub next_of : SenderData → Option Outgoing
+next_of s = next_at s.ended s.hello_due s
+
+-- something was given out: where no deadline stands, one is set
+abbrev pub timed : ℕ → SenderData → SenderData
+timed moment s = record s {
+  deadline = Some (unwrap_or s.deadline (later moment s.limit));
+  heard = is_some s.deadline && s.heard;
+}
+
+-- what was to be sent is given out
+abbrev pub given : Option Outgoing → ℕ → SenderData → SenderData
+given None moment s = s
+given (Some hello) moment s = timed moment (record s { hello_due = false })
+given (Some (line number text)) moment s = timed moment (record s { cursor = s.cursor + 1; sent = max s.sent s.cursor })
+
+-- a call for the next frame
+abbrev pub frame_step : ℕ → SenderData → SenderData
+frame_step moment s = given (next_of s) moment s

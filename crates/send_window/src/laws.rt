@@ -1,0 +1,47 @@
+//! Laws of the steps above, for proofs that cite them: each function does nothing, and its contract is the law.
+ghost use Rattle.send_window.specs.Laws.{StaysSound, HoldsLines, GivesHeldLines, GivesNothing, AckedRises, ResendKeepsAcked, EndStays, EndsByRule, AckedIsCounted};
+
+/// What holds of a sender between its calls holds after each of them.
+pub fn sound_law()
+    ensures { StaysSound }
+{}
+
+/// The lines held are the issued ones above acked, each with its number.
+pub fn held_law()
+    ensures { HoldsLines }
+{}
+
+/// What goes out is the hello or the frame of a line above acked.
+pub fn given_law()
+    ensures { GivesHeldLines }
+{}
+
+/// When nothing goes out.
+pub fn nothing_law()
+    ensures { GivesNothing }
+{}
+
+/// Only an `ok` that no Resend stands before acknowledges a line.
+pub fn acked_law()
+    ensures { AckedRises }
+{}
+
+/// A Resend acknowledges nothing.
+pub fn resend_law()
+    ensures { ResendKeepsAcked }
+{}
+
+/// An end stays until the next session begins.
+pub fn end_law()
+    ensures { EndStays }
+{}
+
+/// When each end comes.
+pub fn ends_law()
+    ensures { EndsByRule }
+{}
+
+/// The lines acknowledged are counted over the replies.
+pub fn counted_law()
+    ensures { AckedIsCounted }
+{}

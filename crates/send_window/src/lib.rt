@@ -1,0 +1,14 @@
+//! The sender of a print host, by Marlin's serial protocol: lines with a number and a checksum, a window of lines
+//! that may be unacknowledged, Resend requests, and a time limit for the printer's `ok`.
+#![tactic(auto)]
+
+mod held;
+mod laws;
+mod sender;
+
+pub use laws::{
+    acked_law, counted_law, end_law, ends_law, given_law, held_law, nothing_law, resend_law,
+    sound_law,
+};
+pub use marlin_reply::{LinkFact, SessionEnd};
+pub use sender::Sender;

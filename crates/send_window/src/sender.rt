@@ -1,0 +1,460 @@
+//! The sender of one session after another.
+ghost use Rattle.std.specs.Prelude.{◌≡◌, ◌<◌, ◌≤◌, ◌+◌, length, map, IfOk, IfSome, IsNone, None, Some, option_map, unwrap_or, true, false};
+ghost use Rattle.byte_text.specs.Marks.{has_byte};
+ghost use Rattle.send_window.specs.Data.{IsSound, new_sender, begun};
+ghost use Rattle.send_window.specs.Hearing.{later, deadline_at, end_of_numbers, acknowledged, line_ok, named_ok, heard_ok, hello_asked, is_repeated, line_asked, resend_asked, heard_resend, heard_start, heard_reply, hear_step, is_past, silent_limits, limit_passed, ticked, tick_step, answer_of};
+ghost use Rattle.send_window.specs.Sending.{IsFramable, room_of, push_step, next_line, next_of, hello, number_of_outgoing, bytes_of_outgoing, given, frame_step};
+
+use crate::held::Held;
+use marlin_frame::frame;
+use marlin_reply::{Reply, SessionEnd};
+use octo_outside::Line;
+use std::alloc::{AllocError, Global};
+use std::marker::Model;
+
+#[cfg(test)]
+mod tests;
+
+/// The greatest line number of a session.
+const MOST_LINES: u32 = 2_000_000_000;
+
+/// After so many limits in a row in which nothing was heard, the session ends.
+const MOST_SILENT: u8 = 5;
+
+/// Sends the lines of a session in order, as Marlin's serial protocol asks: each has a number from 1 and a checksum,
+/// is held until its `ok`, and goes out again on a Resend or where the limit passes. A session begins with the hello
+/// `N0 M110 N0*125`, and sends nothing else before its `ok`. Moments and the limit are in milliseconds.
+#[derive(Drop)]
+pub struct Sender {
+    window: u8,
+    limit: u64,
+    issued: u32,
+    acked: u32,
+    held: Held,
+    cursor: u32,
+    sent: u32,
+    swallow: bool,
+    asked: u32,
+    left: u32,
+    deadline: Option<u64>,
+    heard: bool,
+    silent: u8,
+    hello_due: bool,
+    ready: bool,
+    ended: Option<SessionEnd>,
+}
+
+impl Model for Sender {
+    ghost use Rattle.send_window.specs.Data.{SenderData};
+
+    ghost Value = { SenderData };
+
+    ghost use Rattle.send_window.specs.Fields.{data_of, IsInOrder};
+
+    ghost view = { data_of };
+
+    ghost invariant = { IsInOrder };
+}
+
+impl Sender {
+    /// A sender of no session yet. At most `window` lines are unacknowledged at a time, 1 to 16; `limit` is the time
+    /// that an answer may take, in milliseconds, at least 1.
+    pub fn new(alloc: Global, window: u8, limit: u64) -> Result<Sender, AllocError>
+        requires open_window { 1 ≤ window }
+        requires small_window { window ≤ 16 }
+        requires some_limit { 1 ≤ limit }
+        ensures { IfOk result (λ sender. sender ≡ new_sender window limit) }
+    {
+        let held = Held::new(alloc)?;
+        Ok(Sender {
+            window,
+            limit,
+            issued: 0,
+            acked: 0,
+            held,
+            cursor: 1,
+            sent: 0,
+            swallow: false,
+            asked: 0,
+            left: 0,
+            deadline: None,
+            heard: false,
+            silent: 0,
+            hello_due: false,
+            ready: false,
+            ended: None,
+        })
+    }
+
+    /// Begins a session: all is as new, and the hello is to be sent.
+    pub fn hello(&mut self)
+        ensures state { self.new ≡ begun self.old }
+        ensures sound { IsSound self.new }
+    {
+        self.issued = 0;
+        self.acked = 0;
+        self.held.clear();
+        self.cursor = 1;
+        self.sent = 0;
+        self.swallow = false;
+        self.asked = 0;
+        self.left = 0;
+        self.deadline = None;
+        self.heard = false;
+        self.silent = 0;
+        self.hello_due = true;
+        self.ready = false;
+        self.ended = None;
+    }
+
+    /// Takes a reply of the printer that came at `moment`. After an end it changes nothing and answers that end.
+    pub fn hear(&mut self, reply: &Reply, moment: u64) -> Result<(), SessionEnd>
+        ensures state { self.new ≡ hear_step reply.now moment self.old }
+        ensures answer { result ≡ answer_of self.new.ended }
+        ensures sound { IsSound self.new }
+    {
+        if self.ended.is_none() {
+            self.hear_reply(reply, moment);
+        }
+        self.answer()
+    }
+
+    /// Notes that it is `moment`. After an end it changes nothing and answers that end.
+    pub fn tick(&mut self, moment: u64) -> Result<(), SessionEnd>
+        ensures state { self.new ≡ tick_step moment self.old }
+        ensures answer { result ≡ answer_of self.new.ended }
+        ensures sound { IsSound self.new }
+    {
+        if self.ended.is_none() {
+            self.tick_open(moment);
+        }
+        self.answer()
+    }
+
+    /// Whether the hello of the session was acknowledged.
+    pub fn ready(&self) -> bool
+        ensures ready { result ≡ self.now.ready }
+        ensures sound { IsSound self.now }
+    {
+        self.ready
+    }
+
+    /// How many lines of the session were acknowledged.
+    pub fn acked(&self) -> u32
+        ensures acked { result ≡ self.now.acked }
+        ensures sound { IsSound self.now }
+    {
+        self.acked
+    }
+
+    /// How many lines of the session were issued.
+    pub fn issued(&self) -> u32
+        ensures issued { result ≡ self.now.issued }
+        ensures sound { IsSound self.now }
+    {
+        self.issued
+    }
+
+    /// How many more lines may be issued: in a ready session as many as the window and the line numbers leave, else 0.
+    pub fn room(&self) -> usize
+        ensures room { result ≡ room_of self.now }
+        ensures sound { IsSound self.now }
+    {
+        if self.ended.is_some() || !self.ready {
+            return 0;
+        }
+        let open = self.window as u32 - (self.issued - self.acked);
+        open.min(MOST_LINES - self.issued) as usize
+    }
+
+    /// Issues a line and answers its number.
+    pub fn push(&mut self, text: &[u8]) -> u32
+        requires room { 0 < room_of self.old }
+        requires framable { IsFramable text.now }
+        ensures state { self.new ≡ push_step text.now self.old }
+        ensures number { result ≡ self.old.issued + 1 }
+        ensures sound { IsSound self.new }
+    {
+        self.held.push(text);
+        self.issued += 1;
+        self.issued
+    }
+
+    /// Writes what is to be sent next and answers its number, 0 for the hello. Where nothing is, it writes nothing.
+    pub fn next_frame(&mut self, moment: u64, into: &mut Line) -> Option<u32>
+        ensures number { result ≡ option_map number_of_outgoing (next_of self.old) }
+        ensures bytes { IfSome (next_of self.old) (λ next. into.new.items ≡ bytes_of_outgoing next) }
+        ensures short { IfSome (next_of self.old) (λ _. length into.new.items ≤ 95) }
+        ensures one_line { IfSome (next_of self.old) (λ _. has_byte 10 into.new.items ≡ false) }
+        ensures nothing { IsNone (next_of self.old) → into.new ≡ into.old }
+        ensures state { self.new ≡ frame_step moment self.old }
+        ensures sound { IsSound self.new }
+    {
+        if self.ended.is_some() {
+            return None;
+        }
+        if self.hello_due {
+            write_hello(into);
+            self.give_hello(moment);
+            return Some(0);
+        }
+        if self.cursor > self.issued {
+            return None;
+        }
+        let number = self.cursor;
+        self.held
+            .frame_at((number - self.acked - 1) as usize, number, into);
+        self.give_line(moment);
+        Some(number)
+    }
+
+    fn give_hello(&mut self, moment: u64)
+        requires { self.old.hello_due ≡ true }
+        ensures state { self.new ≡ given (Some hello) moment self.old }
+        ensures sound { IsSound self.new }
+    {
+        self.hello_due = false;
+        self.heard = self.deadline.is_some() && self.heard;
+        self.deadline = Some(deadline_from(self.deadline, moment, self.limit));
+    }
+
+    fn give_line(&mut self, moment: u64)
+        requires hello_given { self.old.hello_due ≡ false }
+        requires issued { self.old.cursor ≤ self.old.issued }
+        ensures state { self.new ≡ given (next_line self.old) moment self.old }
+        ensures sound { IsSound self.new }
+    {
+        self.sent = self.sent.max(self.cursor);
+        self.cursor += 1;
+        self.heard = self.deadline.is_some() && self.heard;
+        self.deadline = Some(deadline_from(self.deadline, moment, self.limit));
+    }
+
+    fn answer(&self) -> Result<(), SessionEnd>
+        ensures answer { result ≡ answer_of self.now.ended }
+        ensures sound { IsSound self.now }
+    {
+        match self.ended {
+            Some(end) => Err(end),
+            None => Ok(()),
+        }
+    }
+
+    fn hear_reply(&mut self, reply: &Reply, moment: u64)
+        requires { self.old.ended ≡ None }
+        ensures { self.new ≡ heard_reply reply.now moment self.old }
+    {
+        match reply {
+            Reply::Ok { number, .. } => self.hear_ok(*number, moment),
+            Reply::Resend { number } => self.hear_resend(*number, moment),
+            Reply::Start => self.hear_start(),
+            Reply::Busy | Reply::Temps(_) | Reply::Error | Reply::Other => self.heard = true,
+        }
+    }
+
+    fn hear_ok(&mut self, number: Option<u32>, moment: u64)
+        requires { self.old.ended ≡ None }
+        ensures { self.new ≡ heard_ok self.old.swallow self.old.ready number moment self.old }
+    {
+        if self.swallow {
+            self.swallow = false;
+            self.heard = true;
+        } else if self.ready {
+            self.hear_named_ok(number, moment);
+        } else {
+            self.ready = true;
+            self.hello_due = false;
+            self.deadline = None;
+            self.silent = 0;
+            self.heard = false;
+        }
+    }
+
+    fn hear_named_ok(&mut self, number: Option<u32>, moment: u64)
+        requires open { self.old.ended ≡ None }
+        requires ready { self.old.ready ≡ true }
+        ensures { self.new ≡ named_ok number moment self.old }
+    {
+        let expected = self.acked + 1;
+        match number {
+            Some(number) if number != expected => {
+                self.ended = Some(SessionEnd::Counts { number, expected });
+            }
+            _ => self.hear_line_ok(moment),
+        }
+    }
+
+    fn hear_line_ok(&mut self, moment: u64)
+        requires open { self.old.ended ≡ None }
+        requires ready { self.old.ready ≡ true }
+        ensures { self.new ≡ line_ok moment self.old }
+    {
+        if self.acked < self.issued {
+            self.acknowledge(moment);
+        } else {
+            self.heard = true;
+        }
+    }
+
+    fn acknowledge(&mut self, moment: u64)
+        requires open { self.old.ended ≡ None }
+        requires ready { self.old.ready ≡ true }
+        requires awaited { self.old.acked < self.old.issued }
+        ensures { self.new ≡ acknowledged moment self.old }
+    {
+        self.held.drop_front();
+        self.acked += 1;
+        self.cursor = self.cursor.max(self.acked + 1);
+        self.deadline = deadline_of(moment, self.limit, self.acked, self.issued);
+        self.silent = 0;
+        self.heard = false;
+        self.ended = end_of(self.acked, self.issued);
+    }
+
+    fn hear_resend(&mut self, number: u32, moment: u64)
+        requires { self.old.ended ≡ None }
+        ensures { self.new ≡ heard_resend self.old.ready number moment self.old }
+    {
+        if self.ready {
+            self.hear_line_resend(number, moment);
+        } else {
+            self.swallow = true;
+            self.hello_due = true;
+            self.deadline = deadline_of(moment, self.limit, self.acked, self.issued);
+            self.silent = 0;
+            self.heard = false;
+        }
+    }
+
+    fn hear_line_resend(&mut self, number: u32, moment: u64)
+        requires open { self.old.ended ≡ None }
+        requires ready { self.old.ready ≡ true }
+        ensures { self.new ≡ resend_asked number moment self.old }
+    {
+        if number <= self.acked {
+            self.swallow = true;
+            self.ended = Some(SessionEnd::AskedBack {
+                asked: number,
+                acked: self.acked,
+            });
+        } else if number > self.issued + 1 {
+            self.swallow = true;
+            self.ended = Some(SessionEnd::AskedAhead {
+                asked: number,
+                issued: self.issued,
+            });
+        } else {
+            self.go_to(number, moment);
+        }
+    }
+
+    fn go_to(&mut self, number: u32, moment: u64)
+        requires open { self.old.ended ≡ None }
+        requires ready { self.old.ready ≡ true }
+        requires unacknowledged { self.old.acked < number }
+        requires issued { number ≤ self.old.issued + 1 }
+        ensures { self.new ≡ line_asked number moment self.old }
+    {
+        if number == self.asked && self.left > 0 {
+            self.left -= 1;
+        } else {
+            self.cursor = number;
+            self.asked = number;
+            self.left = self.sent.saturating_sub(number);
+        }
+        self.swallow = true;
+        self.deadline = deadline_of(moment, self.limit, self.acked, self.issued);
+        self.silent = 0;
+        self.heard = false;
+    }
+
+    fn hear_start(&mut self)
+        requires { self.old.ended ≡ None }
+        ensures { self.new ≡ heard_start self.old.ready self.old }
+    {
+        if self.ready {
+            self.ended = Some(SessionEnd::Restarted);
+        } else {
+            self.heard = true;
+        }
+    }
+
+    fn tick_open(&mut self, moment: u64)
+        requires { self.old.ended ≡ None }
+        ensures { self.new ≡ ticked moment self.old }
+    {
+        match self.deadline {
+            Some(deadline) if deadline <= moment => self.pass_limit(moment),
+            _ => {}
+        }
+    }
+
+    fn pass_limit(&mut self, moment: u64)
+        requires open { self.old.ended ≡ None }
+        requires late { is_past self.old.deadline moment ≡ true }
+        ensures { self.new ≡ limit_passed moment self.old }
+    {
+        let silent = if self.heard { 0 } else { self.silent + 1 };
+        self.silent = silent;
+        if silent == MOST_SILENT {
+            self.ended = Some(SessionEnd::NoAnswer { silent });
+            return;
+        }
+        if self.ready {
+            self.cursor = self.acked + 1;
+            self.left = 0;
+        }
+        self.heard = false;
+        self.deadline = Some(later_by(moment, self.limit));
+    }
+}
+
+// The moment `span` milliseconds later, at most the greatest one.
+#[tactic(auto, unfolding(crate::specs::Hearing::later))]
+fn later_by(moment: u64, span: u64) -> u64
+    ensures { result ≡ later moment span }
+{
+    moment.saturating_add(span)
+}
+
+// The deadline at a moment, none where all lines are acknowledged.
+fn deadline_of(moment: u64, span: u64, acknowledged: u32, all: u32) -> Option<u64>
+    ensures { result ≡ deadline_at moment span acknowledged all }
+{
+    if acknowledged == all {
+        None
+    } else {
+        Some(later_by(moment, span))
+    }
+}
+
+// The end of a session whose line numbers are used up.
+fn end_of(acknowledged: u32, all: u32) -> Option<SessionEnd>
+    ensures { result ≡ end_of_numbers acknowledged all }
+{
+    if acknowledged == MOST_LINES {
+        Some(SessionEnd::NumbersUsed { issued: all })
+    } else {
+        None
+    }
+}
+
+// The deadline that stands, or else the one from a moment on.
+fn deadline_from(standing: Option<u64>, moment: u64, span: u64) -> u64
+    ensures { result ≡ unwrap_or standing (later moment span) }
+{
+    match standing {
+        Some(deadline) => deadline,
+        None => later_by(moment, span),
+    }
+}
+
+// The line that sets the printer's line number to 0.
+#[tactic(auto, unfolding(byte_text::specs::Marks::has_byte))]
+fn write_hello(into: &mut Line)
+    ensures hello { into.new.items ≡ bytes_of_outgoing hello }
+    ensures short { length into.new.items ≤ 95 }
+    ensures one_line { has_byte 10 into.new.items ≡ false }
+{
+    frame(0, b"M110 N0", into);
+}

@@ -1,0 +1,325 @@
+use crate::Sender;
+use byte_text::has_byte;
+use marlin_reply::{Reply, SessionEnd};
+use octo_outside::Line;
+use std::process::Abort;
+use std::test::*;
+
+const LIMIT: u64 = 30_000;
+
+const HELLO: &[u8] = b"N0 M110 N0*125";
+
+const N1: &[u8] = b"N1 G28*18";
+
+const N2: &[u8] = b"N2 G1 X10*83";
+
+const N3: &[u8] = b"N3 G1 X20*81";
+
+const N4: &[u8] = b"N4 G1 X30*87";
+
+#[derive(Drop)]
+enum Act {
+    Begin,
+    Issue(&'static [u8]),
+    Hear(Reply),
+    Tick,
+}
+
+// At a moment something happens, is answered so, and then these frames go out.
+#[derive(Drop)]
+struct Step {
+    moment: u64,
+    act: Act,
+    answer: Result<(), SessionEnd>,
+    frames: &'static [&'static [u8]],
+}
+
+fn at(moment: u64, act: Act, frames: &'static [&'static [u8]]) -> Step {
+    Step {
+        moment,
+        act,
+        answer: Ok(()),
+        frames,
+    }
+}
+
+fn ends(moment: u64, act: Act, end: SessionEnd) -> Step {
+    Step {
+        moment,
+        act,
+        answer: Err(end),
+        frames: &[],
+    }
+}
+
+fn ok() -> Act {
+    Act::Hear(Reply::Ok {
+        number: None,
+        planner: None,
+        block: None,
+        temps: None,
+    })
+}
+
+fn ok_of(number: u32) -> Act {
+    Act::Hear(Reply::Ok {
+        number: Some(number),
+        planner: Some(15),
+        block: Some(3),
+        temps: None,
+    })
+}
+
+fn resend(number: u32) -> Act {
+    Act::Hear(Reply::Resend { number })
+}
+
+fn issue(rt: &impl Abort, sender: &mut Sender, text: &[u8]) {
+    assert!(rt; sender.room() > 0);
+    assert!(rt; !text.is_empty() && text.len() <= 79);
+    assert!(rt; !has_byte(text, b'*'));
+    assert!(rt; !has_byte(text, b'\n'));
+    let number = sender.push(text);
+    assert_eq!(rt; number, sender.issued());
+}
+
+fn perform(rt: &impl Abort, sender: &mut Sender, step: &Step) -> Result<(), SessionEnd> {
+    match &step.act {
+        Act::Begin => {
+            sender.hello();
+            Ok(())
+        }
+        Act::Issue(text) => {
+            issue(rt, sender, text);
+            Ok(())
+        }
+        Act::Hear(reply) => sender.hear(reply, step.moment),
+        Act::Tick => sender.tick(step.moment),
+    }
+}
+
+fn play(rt: &impl Abort, sender: &mut Sender, steps: &[Step]) {
+    let mut line = Line::new();
+    for (i, step) in steps.iter().enumerate() {
+        let answer = perform(rt, sender, step);
+        assert_eq!(rt; answer, step.answer, "step {i}");
+        for frame in step.frames {
+            let number = sender.next_frame(step.moment, &mut line);
+            assert!(rt; number.is_some(), "step {i}");
+            assert!(rt; line.as_slice() == *frame, "step {i}");
+        }
+        assert_eq!(rt; sender.next_frame(step.moment, &mut line), None, "step {i}");
+    }
+}
+
+// A line is sent again after a limit in silence, though the printer has it: it asks for the one behind it.
+#[test]
+fn late_resend(rt: HostRuntime) -> Result<(), Fail> {
+    let mut sender = Sender::new(rt.alloc(), 4, LIMIT)?;
+    play(
+        &rt,
+        &mut sender,
+        &[
+            at(0, Act::Begin, &[HELLO]),
+            at(0, ok(), &[]),
+            at(0, Act::Issue(b"G28"), &[N1]),
+            at(29_999, Act::Tick, &[]),
+            at(30_000, Act::Tick, &[N1]),
+            at(30_001, resend(2), &[]),
+            at(30_002, ok(), &[]),
+        ],
+    );
+    assert_eq!(rt; sender.acked(), 0);
+    play(&rt, &mut sender, &[at(30_003, ok(), &[])]);
+    assert_eq!(rt; sender.acked(), 1);
+    Ok(())
+}
+
+// Four lines, the second of which is lost: the printer asks for it at the third and at the fourth.
+#[test]
+fn repeated_resend(rt: HostRuntime) -> Result<(), Fail> {
+    let mut sender = Sender::new(rt.alloc(), 4, LIMIT)?;
+    play(
+        &rt,
+        &mut sender,
+        &[
+            at(0, Act::Begin, &[HELLO]),
+            at(0, ok(), &[]),
+            at(0, Act::Issue(b"G28"), &[N1]),
+            at(0, Act::Issue(b"G1 X10"), &[N2]),
+            at(0, Act::Issue(b"G1 X20"), &[N3]),
+            at(0, Act::Issue(b"G1 X30"), &[N4]),
+            at(1, ok(), &[]),
+            at(2, resend(2), &[N2, N3, N4]),
+            at(2, ok(), &[]),
+            at(3, resend(2), &[]),
+            at(3, ok(), &[]),
+            at(4, ok(), &[]),
+            at(5, ok(), &[]),
+            at(6, ok(), &[]),
+        ],
+    );
+    assert_eq!(rt; sender.acked(), 4);
+    assert_eq!(rt; sender.room(), 4);
+    Ok(())
+}
+
+// Three lines, the first of which is lost twice: two Resends are ignored, and the third one counts.
+#[test]
+fn third_resend(rt: HostRuntime) -> Result<(), Fail> {
+    let mut sender = Sender::new(rt.alloc(), 16, LIMIT)?;
+    play(
+        &rt,
+        &mut sender,
+        &[
+            at(0, Act::Begin, &[HELLO]),
+            at(0, ok(), &[]),
+            at(0, Act::Issue(b"G28"), &[N1]),
+            at(0, Act::Issue(b"G1 X10"), &[N2]),
+            at(0, Act::Issue(b"G1 X20"), &[N3]),
+            at(1, resend(1), &[N1, N2, N3]),
+            at(1, ok(), &[]),
+            at(2, resend(1), &[]),
+            at(2, ok(), &[]),
+            at(3, resend(1), &[]),
+            at(3, ok(), &[]),
+            at(4, resend(1), &[N1, N2, N3]),
+            at(4, ok(), &[]),
+            at(5, ok_of(1), &[]),
+            at(5, ok_of(2), &[]),
+            at(5, ok_of(3), &[]),
+            at(5, ok_of(4), &[]),
+        ],
+    );
+    assert_eq!(rt; sender.acked(), 3);
+    assert_eq!(rt; sender.issued(), 3);
+    Ok(())
+}
+
+// The printer counted from 4 and got a garbled hello; later a line passes a limit in which it was busy.
+#[test]
+fn garbled_hello(rt: HostRuntime) -> Result<(), Fail> {
+    let mut sender = Sender::new(rt.alloc(), 1, LIMIT)?;
+    assert_eq!(rt; sender.room(), 0);
+    play(
+        &rt,
+        &mut sender,
+        &[
+            at(0, Act::Begin, &[HELLO]),
+            at(1, Act::Hear(Reply::Error), &[]),
+            at(1, resend(5), &[HELLO]),
+            at(1, ok(), &[]),
+            at(2, Act::Hear(Reply::Start), &[]),
+        ],
+    );
+    assert_eq!(rt; sender.room(), 0);
+    play(&rt, &mut sender, &[at(100, ok(), &[])]);
+    assert!(rt; sender.ready());
+    assert_eq!(rt; sender.room(), 1);
+    play(
+        &rt,
+        &mut sender,
+        &[
+            at(200, Act::Issue(b"G28"), &[N1]),
+            at(20_000, Act::Hear(Reply::Busy), &[]),
+            at(30_199, Act::Tick, &[]),
+            at(30_200, Act::Tick, &[N1]),
+            at(60_200, Act::Tick, &[N1]),
+            at(90_200, Act::Tick, &[N1]),
+            at(120_200, Act::Tick, &[N1]),
+            at(150_200, Act::Tick, &[N1]),
+            ends(180_200, Act::Tick, SessionEnd::NoAnswer { silent: 5 }),
+            ends(180_201, ok(), SessionEnd::NoAnswer { silent: 5 }),
+        ],
+    );
+    Ok(())
+}
+
+// The hello is lost: it isn't sent again, and the session ends after five limits.
+#[test]
+fn lost_hello(rt: HostRuntime) -> Result<(), Fail> {
+    let mut sender = Sender::new(rt.alloc(), 4, LIMIT)?;
+    play(
+        &rt,
+        &mut sender,
+        &[
+            at(0, Act::Begin, &[HELLO]),
+            at(30_000, Act::Tick, &[]),
+            at(60_000, Act::Tick, &[]),
+            at(90_000, Act::Tick, &[]),
+            at(149_999, Act::Tick, &[]),
+            ends(179_999, Act::Tick, SessionEnd::NoAnswer { silent: 5 }),
+            at(180_000, Act::Begin, &[HELLO]),
+        ],
+    );
+    Ok(())
+}
+
+// With 5 of 8 lines acknowledged: which replies end the session, and how; the end then stays.
+#[test]
+fn ends_of_a_session(rt: HostRuntime) -> Result<(), Fail> {
+    let cases = [
+        (
+            ok_of(7),
+            SessionEnd::Counts {
+                number: 7,
+                expected: 6,
+            },
+        ),
+        (resend(5), SessionEnd::AskedBack { asked: 5, acked: 5 }),
+        (
+            resend(10),
+            SessionEnd::AskedAhead {
+                asked: 10,
+                issued: 8,
+            },
+        ),
+        (Act::Hear(Reply::Start), SessionEnd::Restarted),
+    ];
+    for (reply, end) in cases {
+        let mut sender = Sender::new(rt.alloc(), 4, LIMIT)?;
+        play(
+            &rt,
+            &mut sender,
+            &[
+                at(0, Act::Begin, &[HELLO]),
+                at(0, ok(), &[]),
+                at(0, Act::Issue(b"G28"), &[N1]),
+                at(0, ok(), &[]),
+                at(0, Act::Issue(b"G28"), &[b"N2 G28*17"]),
+                at(0, ok(), &[]),
+                at(0, Act::Issue(b"G28"), &[b"N3 G28*16"]),
+                at(0, ok(), &[]),
+                at(0, Act::Issue(b"G28"), &[b"N4 G28*23"]),
+                at(0, ok(), &[]),
+                at(0, Act::Issue(b"G28"), &[b"N5 G28*22"]),
+                at(0, ok(), &[]),
+                at(0, Act::Issue(b"G28"), &[b"N6 G28*21"]),
+                at(0, Act::Issue(b"G28"), &[b"N7 G28*20"]),
+                at(0, Act::Issue(b"G28"), &[b"N8 G28*27"]),
+                at(1, resend(9), &[]),
+                at(1, ok_of(7), &[]),
+            ],
+        );
+        assert_eq!(rt; sender.acked(), 5);
+        assert_eq!(rt; sender.room(), 1);
+        play(
+            &rt,
+            &mut sender,
+            &[ends(2, reply, end), ends(90_000, Act::Tick, end)],
+        );
+        assert_eq!(rt; sender.acked(), 5);
+        assert_eq!(rt; sender.room(), 0);
+    }
+    Ok(())
+}
+
+// The one call that takes memory.
+#[test]
+fn ample(rt: HostRuntime) -> Result<(), Fail> {
+    let sender = Sender::new(rt.alloc(), 16, 1)?;
+    assert!(rt; !sender.ready());
+    assert_eq!(rt; sender.acked(), 0);
+    assert_eq!(rt; sender.issued(), 0);
+    Ok(())
+}
