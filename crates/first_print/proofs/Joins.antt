@@ -16,8 +16,8 @@ use Rattle.printer_model.specs.declared.event.WorldEvent.{WorldEvent}
 use Rattle.printer_model.specs.declared.event.WorldEvent.TheVariants.{Opened, Send, Arrive, Lose, Garble, Run, Chatter, Recv, Closed}
 use Rattle.printer_model.proofs.Laws.{world_from-append}
 use Rattle.first_print.specs.Play.{IsCarried, is_resend, line_at, IsReady, IsStopped, InFlight, HasRun, IsHeardAs}
-use Rattle.first_print.specs.Leads.{opens_none, front_asks, event_asks, asks, Leads, Begins, IsUnopened}
-use Rattle.first_print.proofs.Line.{SpeaksMarlin, flies, waits, rests}
+use Rattle.first_print.specs.Leads.{opens_none, front_asks, event_asks, asks, Leads, Ready, Flying, Ran}
+use Rattle.first_print.proofs.Flight.{SpeaksMarlin, flies, waits, rests}
 use Rattle.first_print.proofs.Steps.{keep, opened_ready, ready_sent, ready_failing, ready_ran, flying_ran, closed_ran, heard}
 
 -- what is asked by events in two parts
@@ -91,7 +91,7 @@ leads_then a b P Q R w first next one two =
       opens = list_all-append opens_none first next ∙ and_from (list_all opens_none first) (list_all opens_none next) one.opens two.opens;
       asking = asks-append w first next ∙ ap (λ (x : Bool). x || asks (world_from w first) next) one.asking ∙ ap (λ (x : Bool). a || x) two.asking;
       leads = λ start here. (let After : WorldData → Type 0 = λ v. R start v in
-        subst After (sym (world_from-append w first next)) (two.leads start (one.leads start here)));
+          subst After (sym (world_from-append w first next)) (two.leads start (one.leads start here)));
     }
 
 -- nothing added
@@ -162,16 +162,6 @@ failing_silent w (Chatter reply) is = absurd is
 failing_silent w Recv is = absurd is
 failing_silent w Closed is = absurd is
 
--- the states of a print by the number of the line
-abbrev pub Ready : List (List ℕ) → ℕ → List Logged → WorldData → Type 0
-Ready lines n start w = IsReady start lines n w
-
-abbrev pub Flying : List (List ℕ) → ℕ → List Logged → WorldData → Type 0
-Flying lines n start w = InFlight start lines n w
-
-abbrev pub Ran : List (List ℕ) → List Logged → WorldData → Type 0
-Ran lines start w = HasRun start lines w
-
 -- the next line was sent
 pub send_leads : (speech : SpeaksMarlin) (lines : List (List ℕ)) (n : ℕ) → IsCarried n (line_at lines n) → n < length lines → (w : WorldData) (added : List WorldEvent) → IsSend (frame_of n (line_at lines n)) w added → Leads false (Ready lines n) (Flying lines n) w added
 send_leads speech lines n carried within w added send =
@@ -213,14 +203,15 @@ send_loss_leads speech lines n carried within w added loss =
     let one = leads_one false Either (Ran lines) last Closed refl refl (λ start here. closed_ran start lines last (either_ran lines n within start last here)) in
     let So : List WorldEvent → Type 0 = λ es. Leads false (Ready lines n) (Ran lines) w es in
     let shape : added ≡ loss.before ++ (loss.failing ++ (loss.behind ++ Closed ∷ [])) =
-        loss.is ∙ append_assoc (loss.before ++ loss.failing) loss.behind (Closed ∷ []) ∙ append_assoc loss.before loss.failing (loss.behind ++ Closed ∷ []) in
+    loss.is ∙ append_assoc (loss.before ++ loss.failing) loss.behind (Closed ∷ []) ∙ append_assoc loss.before loss.failing (loss.behind ++ Closed ∷ []) in
     subst So (sym shape)
     (leads_then false false _ _ _ w loss.before (loss.failing ++ (loss.behind ++ Closed ∷ [])) before
-      (leads_then false false _ _ _ at loss.failing (loss.behind ++ Closed ∷ []) may (leads_then false false _ _ _ next loss.behind (Closed ∷ []) behind one)))
+    (leads_then false false _ _ _ at loss.failing (loss.behind ++ Closed ∷ []) may (leads_then false false _ _ _ next loss.behind (Closed ∷ []) behind one)))
   where
     either_free : SpeaksMarlin → (lines : List (List ℕ)) (n : ℕ) → IsCarried n (line_at lines n) → n < length lines → (start : List Logged) (v : WorldData) (event : WorldEvent) → is_free event ≡ true → Ready lines n start v ⊎ Flying lines n start v → Ready lines n start (apply v event) ⊎ Flying lines n start (apply v event)
     either_free speech lines n carried within start v event free (inl here) = inl (waits start lines n v event free here)
     either_free speech lines n carried within start v event free (inr here) = inr (flies speech start lines n carried within v event free here)
+
     either_ran : (lines : List (List ℕ)) (n : ℕ) → n < length lines → (start : List Logged) (v : WorldData) → Ready lines n start v ⊎ Flying lines n start v → HasRun start lines v
     either_ran lines n within start v (inl here) = ready_ran start lines n v (omega arith) here
     either_ran lines n within start v (inr here) = flying_ran start lines n v within here

@@ -1,4 +1,4 @@
-pub mod Line
+pub mod Flight
 pub mod Logs
 pub mod Steps
 pub mod Joins

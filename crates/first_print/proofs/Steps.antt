@@ -15,7 +15,7 @@ use Rattle.printer_model.specs.declared.event.WorldEvent.TheVariants.{Opened, Se
 use Rattle.printer_model.proofs.Laws.{happens, apply-log}
 use Rattle.first_print.specs.Play.{IsCarried, AreCarried, IsNext, open_world, entry_of, line_at, log_of, is_calm, is_ok, is_resend, IsAnswered, IsRefused, IsReady, InFlight, sent, garbled, lost, refused, waiting, answered, HasRun, IsStopped, IsHeardAs}
 use Rattle.first_print.proofs.Logs.{calm-front, calm-rest}
-use Rattle.first_print.proofs.Line.{SpeaksMarlin, flies, waits}
+use Rattle.first_print.proofs.Flight.{SpeaksMarlin, flies, waits}
 
 -- what each event of the line and the printer keeps, all of them keep
 pub keep : (P : WorldData → Type 0) → ((w : WorldData) (event : WorldEvent) → is_free event ≡ true → P w → P (apply w event)) → (w : WorldData) (events : List WorldEvent) → list_all is_free events ≡ true → P w → P (world_from w events)
@@ -41,8 +41,8 @@ opened_ready lines w last can =
       next = inl refl;
       calm = refl;
       is = happens w (Opened last) can
-        ∙ ap (λ (queue : List Entry). open_world w.printer.places w.printer.advanced last queue w.log [] []) none
-        ∙ ap (λ (log : List Logged). open_world w.printer.places w.printer.advanced last [] log [] []) (sym (append-nil w.log));
+          ∙ ap (λ (queue : List Entry). open_world w.printer.places w.printer.advanced last queue w.log [] []) none
+          ∙ ap (λ (log : List Logged). open_world w.printer.places w.printer.advanced last [] log [] []) (sym (append-nil w.log));
     }
 
 -- the next line was sent
@@ -51,8 +51,8 @@ ready_sent start lines n w (Send line) is can r =
     let o = open_world r.places r.advanced r.last [] (start ++ log_of lines n) [] r.down in
     sent r.places r.advanced r.last r.down r.next r.calm
     (happens w (Send line) can
-     ∙ ap (λ (v : WorldData). happen v (Send line)) r.is
-     ∙ ap (λ (l : List ℕ). open_world r.places r.advanced r.last [] (start ++ log_of lines n) (l ∷ []) r.down) is)
+    ∙ ap (λ (v : WorldData). happen v (Send line)) r.is
+    ∙ ap (λ (l : List ℕ). open_world r.places r.advanced r.last [] (start ++ log_of lines n) (l ∷ []) r.down) is)
 ready_sent start lines n w (Opened last) is can r = absurd is
 ready_sent start lines n w Arrive is can r = absurd is
 ready_sent start lines n w (Lose at) is can r = absurd is
@@ -141,7 +141,7 @@ talks line chat = chat
 received : (w o : WorldData) (reply : List ℕ) (rest : List (List ℕ)) → w ≡ o → o.down ≡ reply ∷ rest → o.linked ≡ true → apply w Recv ≡ record o { down = rest }
 received w o reply rest is front linked =
     let can : can_happen o Recv ≡ true =
-        ap (λ (b : Bool). b && not (is_empty o.down)) linked ∙ ap (λ (d : List (List ℕ)). not (is_empty d)) front in
+    ap (λ (b : Bool). b && not (is_empty o.down)) linked ∙ ap (λ (d : List (List ℕ)). not (is_empty d)) front in
     ap (λ (v : WorldData). apply v Recv) is ∙ happens o Recv can ∙ ap (λ (d : List (List ℕ)). record o { down = drop 1 d }) front
 
 -- the two lists of an equation

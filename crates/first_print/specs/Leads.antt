@@ -7,7 +7,11 @@ use Rattle.printer_model.specs.World.{WorldData, can_happen, apply, world_from}
 use Rattle.printer_model.specs.Executed.{is_opened, opens, executed}
 use Rattle.printer_model.specs.declared.event.WorldEvent.{WorldEvent}
 use Rattle.printer_model.specs.declared.event.WorldEvent.TheVariants.{Recv}
-use Rattle.first_print.specs.Play.{is_resend, numbered, lines_of, log_of, HasRun}
+use Rattle.first_print.specs.declared.print.Turn.{Turn}
+use Rattle.first_print.specs.declared.print.Turn.TheVariants as turn
+use Rattle.first_print.specs.declared.print.PrintEnd.{PrintEnd}
+use Rattle.first_print.specs.declared.print.PrintEnd.TheVariants as end
+use Rattle.first_print.specs.Play.{is_resend, numbered, log_of, line_at, IsCarried, IsReady, InFlight, HasRun}
 
 -- whether an event opens no session
 abbrev pub opens_none : WorldEvent → Bool
@@ -34,26 +38,19 @@ pub record Leads (asked : Bool) (P R : List Logged → WorldData → Type 0) (w 
   pub asking : asks w added ≡ asked
   pub leads : (start : List Logged) → P start w → R start (world_from w added)
 
--- a session was opened, and led to a state of the line
-pub record Begins (asked : Bool) (R : List Logged → WorldData → Type 0) (w : WorldData) (added : List WorldEvent) : Type 0 where
-  pub before : List WorldEvent
-  pub opening : WorldEvent
-  pub behind : List WorldEvent
-  pub is : added ≡ before ++ opening ∷ behind
-  pub none_before : list_all opens_none before ≡ true
-  pub opens : is_opened opening ≡ true
-  pub none_behind : list_all opens_none behind ≡ true
-  pub asking : asks w added ≡ asked
-  pub holds : R (world_from w before).log (world_from w added)
+-- the states of a print by the number of the line
+abbrev pub Ready : List (List ℕ) → ℕ → List Logged → WorldData → Type 0
+Ready lines n start w = IsReady start lines n w
+
+abbrev pub Flying : List (List ℕ) → ℕ → List Logged → WorldData → Type 0
+Flying lines n start w = InFlight start lines n w
+
+abbrev pub Ran : List (List ℕ) → List Logged → WorldData → Type 0
+Ran lines start w = HasRun start lines w
 
 -- the printer has run all lines, in order, and nothing else
 abbrev pub HasRunAll : List (List ℕ) → List Logged → WorldData → Type 0
 HasRunAll lines start w = w.log ≡ start ++ log_of lines (length lines)
-
--- no session was opened
-pub record IsUnopened (w : WorldData) (added : List WorldEvent) : Type 0 where
-  pub none : list_all opens_none added ≡ true
-  pub silent : asks w added ≡ false
 
 -- of a print that is done all commands were executed, each once and in order; of any other the first ones
 pub record IsPrintOf (places : ℕ) (advanced : Bool) (texts : List (List ℕ)) (done : Bool) (past added : List WorldEvent) : Type 0 where
@@ -61,3 +58,40 @@ pub record IsPrintOf (places : ℕ) (advanced : Bool) (texts : List (List ℕ)) 
   pub within : count ≤ length texts
   pub is : executed places advanced (past ++ added) (suc (opens past)) ≡ numbered 1 (take count texts)
   pub whole : done ≡ true → count ≡ length texts
+
+-- what a turn leaves of the print
+abbrev pub AfterTurn : List (List ℕ) → Turn → List Logged → WorldData → Type 0
+AfterTurn lines (turn.Going line) start w = InFlight start lines line w
+AfterTurn lines turn.Done start w = HasRunAll lines start w
+AfterTurn lines turn.Resent start w = HasRun start lines w
+AfterTurn lines turn.Failed start w = HasRun start lines w
+
+-- whether a turn ended since the printer asked for a line again
+abbrev pub turn_asked : Turn → Bool
+turn_asked turn.Resent = true
+turn_asked _ = false
+
+-- whether a print ended so
+abbrev pub end_asked : PrintEnd → Bool
+end_asked end.Resent = true
+end_asked _ = false
+
+-- whether all was printed
+abbrev pub is_done : PrintEnd → Bool
+is_done end.Done = true
+is_done _ = false
+
+-- what the end of a print says of what was run
+abbrev pub AtEnd : List (List ℕ) → PrintEnd → List Logged → WorldData → Type 0
+AtEnd lines end.Done start w = HasRunAll lines start w
+AtEnd lines _ start w = HasRun start lines w
+
+-- a turn that goes on has a line in flight that the printer reads back
+abbrev pub IsGoing : List (List ℕ) → Turn → Type 0
+IsGoing lines (turn.Going line) = (suc line ≤ length lines) × IsCarried line (line_at lines line)
+IsGoing lines _ = Unit {0}
+
+-- whether a turn goes on
+abbrev pub goes_on : Turn → Bool
+goes_on (turn.Going line) = true
+goes_on _ = false

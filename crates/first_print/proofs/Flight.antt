@@ -137,21 +137,21 @@ sent_event speech start lines n places advanced last down carried next calm Arri
     let w = open_world places advanced last [] (start ++ log_of lines n) (line ∷ []) down in
     after_event (λ (v : WorldData). InFlight start lines n v) w Arrive (sent places advanced last down next calm refl)
     (λ can. waiting places advanced down calm
-      (ap (arrived w []) (took p line _ (room_from p can) (judged_next n last (line_at lines n) carried next))
-       ∙ ap (λ (d : List (List ℕ)). open_world places advanced n (entry_of lines n ∷ []) (start ++ log_of lines n) [] d) (append-nil down)))
+    (ap (arrived w []) (took p line _ (room_from p can) (judged_next n last (line_at lines n) carried next))
+    ∙ ap (λ (d : List (List ℕ)). open_world places advanced n (entry_of lines n ∷ []) (start ++ log_of lines n) [] d) (append-nil down)))
 sent_event speech start lines n places advanced last down carried next calm (Lose at) free =
     let line = frame_of n (line_at lines n) in
     let w = open_world places advanced last [] (start ++ log_of lines n) (line ∷ []) down in
     after_event (λ (v : WorldData). InFlight start lines n v) w (Lose at) (sent places advanced last down next calm refl)
     (λ can. lost places advanced last down calm
-      (ap (λ (u : List (List ℕ)). open_world places advanced last [] (start ++ log_of lines n) u down) (remove_only line at can)))
+    (ap (λ (u : List (List ℕ)). open_world places advanced last [] (start ++ log_of lines n) u down) (remove_only line at can)))
 sent_event speech start lines n places advanced last down carried next calm (Garble at other) free =
     let line = frame_of n (line_at lines n) in
     let w = open_world places advanced last [] (start ++ log_of lines n) (line ∷ []) down in
     after_event (λ (v : WorldData). InFlight start lines n v) w (Garble at other) (sent places advanced last down next calm refl)
     (λ can. let parts = and_parts (nat_lt at 1) (fails other.items && fits_wire other.items) can in
-      garbled places advanced last other.items down (and_parts (fails other.items) (fits_wire other.items) parts.1).0 calm
-      (ap (λ (u : List (List ℕ)). open_world places advanced last [] (start ++ log_of lines n) u down) (set_only line other.items at parts.0)))
+    garbled places advanced last other.items down (and_parts (fails other.items) (fits_wire other.items) parts.1).0 calm
+    (ap (λ (u : List (List ℕ)). open_world places advanced last [] (start ++ log_of lines n) u down) (set_only line other.items at parts.0)))
 sent_event speech start lines n places advanced last down carried next calm Run free = sent places advanced last down next calm refl
 sent_event speech start lines n places advanced last down carried next calm (Chatter reply) free =
     let line = frame_of n (line_at lines n) in
@@ -171,18 +171,18 @@ garbled_event speech start lines n places advanced last line down failing calm A
     let why = judged_fails last line failing in
     after_event (λ (v : WorldData). InFlight start lines n v) w Arrive (garbled places advanced last line down failing calm refl)
     (λ can. refused places advanced last (down ++ error_line why.0 last ∷ resend_line last ∷ ok_line ∷ []) (refusal_is speech down why.0 last calm)
-      (ap (arrived w []) (took p line _ (room_from p can) why.1)))
+    (ap (arrived w []) (took p line _ (room_from p can) why.1)))
 garbled_event speech start lines n places advanced last line down failing calm (Lose at) free =
     let w = open_world places advanced last [] (start ++ log_of lines n) (line ∷ []) down in
     after_event (λ (v : WorldData). InFlight start lines n v) w (Lose at) (garbled places advanced last line down failing calm refl)
     (λ can. lost places advanced last down calm
-      (ap (λ (u : List (List ℕ)). open_world places advanced last [] (start ++ log_of lines n) u down) (remove_only line at can)))
+    (ap (λ (u : List (List ℕ)). open_world places advanced last [] (start ++ log_of lines n) u down) (remove_only line at can)))
 garbled_event speech start lines n places advanced last line down failing calm (Garble at other) free =
     let w = open_world places advanced last [] (start ++ log_of lines n) (line ∷ []) down in
     after_event (λ (v : WorldData). InFlight start lines n v) w (Garble at other) (garbled places advanced last line down failing calm refl)
     (λ can. let parts = and_parts (nat_lt at 1) (fails other.items && fits_wire other.items) can in
-      garbled places advanced last other.items down (and_parts (fails other.items) (fits_wire other.items) parts.1).0 calm
-      (ap (λ (u : List (List ℕ)). open_world places advanced last [] (start ++ log_of lines n) u down) (set_only line other.items at parts.0)))
+    garbled places advanced last other.items down (and_parts (fails other.items) (fits_wire other.items) parts.1).0 calm
+    (ap (λ (u : List (List ℕ)). open_world places advanced last [] (start ++ log_of lines n) u down) (set_only line other.items at parts.0)))
 garbled_event speech start lines n places advanced last line down failing calm Run free = garbled places advanced last line down failing calm refl
 garbled_event speech start lines n places advanced last line down failing calm (Chatter reply) free =
     let w = open_world places advanced last [] (start ++ log_of lines n) (line ∷ []) down in
@@ -241,7 +241,7 @@ waiting_event speech start lines n places advanced down within calm Run free =
     answered places advanced (down ++ reply ∷ [])
     (record { before = down; reply = reply; behind = []; is = refl; calm_before = calm; kind = speech.ok advanced n text (places - 1); calm_behind = refl })
     (ap (λ (last : ℕ). Behind last ((start ++ log_of lines n) ++ record { number = Some n; text = text } ∷ [])) (last_same n text)
-     ∙ ap (λ (log : List Logged). Behind n log) (sym (log_of-suc start lines n within)))
+    ∙ ap (λ (log : List Logged). Behind n log) (sym (log_of-suc start lines n within)))
 waiting_event speech start lines n places advanced down within calm (Chatter reply) free =
     let w = open_world places advanced n (entry_of lines n ∷ []) (start ++ log_of lines n) [] down in
     after_event (λ (v : WorldData). InFlight start lines n v) w (Chatter reply) (waiting places advanced down calm refl)
