@@ -8,3 +8,6 @@ mod word;
 pub use number::{Number, decimal_up_to, read_number};
 pub use scan::words;
 pub use word::{CodeWord, Words};
+
+#[cfg(test)]
+mod tests;

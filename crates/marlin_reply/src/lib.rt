@@ -12,3 +12,6 @@ pub use laws::{ok_law, request_law};
 pub use read::read_reply;
 pub use reply::{Heat, Reply, Temps};
 pub use session::{LinkFact, SessionEnd};
+
+#[cfg(test)]
+mod tests;

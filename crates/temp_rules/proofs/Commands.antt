@@ -1,10 +1,10 @@
 -- A step of the search for the first command that is too hot.
-use Rattle.std.proofs.Common.{◌≡◌, ℕ, ◌+◌, ◌<◌, List, [], ◌∷◌, length, drop, map, get_or, sym, ap, ◌∙◌, Option, Some, None}
+use Rattle.std.proofs.Common.{◌≡◌, ℕ, ◌+◌, ◌<◌, List, [], length, drop, map, get_or, sym, ap, ◌∙◌, Option, Some, None}
 use Rattle.std.proofs.lemmas.List.{drop_more}
 use Rattle.std.proofs.Math.ListN.{get_or-map}
 use Rattle.std.specs.Option.{option_map, option_or}
 use Rattle.gcode_lines.specs.Job.{Command}
-use Rattle.temp_rules.specs.Hot.{hot_of, hot_line, first_hot_of}
+use Rattle.temp_rules.specs.Hot.{hot_of, first_hot_of}
 use Rattle.temp_rules.specs.declared.limits.Limits.{Limits}
 use Rattle.temp_rules.specs.declared.limits.TooHot.{TooHot}
 use Rattle.temp_rules.specs.declared.job.HotLine.{HotLine}

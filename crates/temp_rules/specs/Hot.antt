@@ -1,7 +1,7 @@
-use Rattle.std.specs.Prelude.{ℕ, ◌*◌, ℤ, pos, int_lt, Bool, List, [], ◌∷◌, Option, None, Some}
+use Rattle.std.specs.Prelude.{All, ◌≤ℤ◌, ℕ, ◌*◌, ℤ, pos, int_lt, Bool, List, [], ◌∷◌, Option, None}
 use Rattle.std.specs.List.{find}
 use Rattle.std.specs.Option.{option_map, option_or}
-use Rattle.gcode_lines.specs.Job.{Command, JobData}
+use Rattle.gcode_lines.specs.Job.{Command}
 use Rattle.temp_rules.specs.Asked.{asked_of, degrees_up}
 use Rattle.temp_rules.specs.declared.heater.Heater.TheVariants.{Tool, Bed}
 use Rattle.temp_rules.specs.declared.limits.Limits.{Limits}
@@ -11,6 +11,10 @@ use Rattle.temp_rules.specs.declared.job.HotLine.{HotLine}
 -- whether a value is above a limit in whole degrees
 abbrev pub is_above : ℕ → ℤ → Bool
 is_above limit micro = int_lt (pos (limit * 1000000)) micro
+
+-- no value is above the limit
+abbrev pub AllWithin : ℕ → List ℤ → Type 0
+AllWithin limit values = All (λ micro. micro ≤ℤ pos (limit * 1000000)) values
 
 -- the first of the values that is above the limit
 abbrev pub too_hot : ℕ → List ℤ → Option TooHot

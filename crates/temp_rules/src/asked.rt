@@ -3,9 +3,8 @@ ghost use Rattle.std.specs.Prelude.{◌≡◌, ◌≤◌, length};
 ghost use Rattle.gcode_words.specs.Words.{words_of};
 ghost use Rattle.temp_rules.specs.Asked.{whole_part, first_code, asking_code, value_asked, asking_of, degrees_up};
 
-use gcode_words::{CodeWord, words};
-
 use super::heater::{Asking, Heater};
+use gcode_words::{CodeWord, words};
 
 /// Millionths in one degree.
 pub(crate) const MILLION: u64 = 1_000_000;
@@ -23,7 +22,12 @@ fn read_code(text: &[u8]) -> Option<u64>
     ensures { result ≡ first_code (words_of text.now) }
 {
     match words(text).next() {
-        Some(CodeWord { letter: b'M', micro }) => whole_degrees(micro),
+        Some(
+            CodeWord {
+                letter: b'M',
+                micro,
+            },
+        ) => whole_degrees(micro),
         _ => None,
     }
 }

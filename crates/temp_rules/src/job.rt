@@ -2,9 +2,8 @@
 ghost use Rattle.std.specs.Prelude.{◌≡◌};
 ghost use Rattle.temp_rules.specs.Hot.{first_hot_of};
 
-use gcode_lines::Job;
-
 use super::limits::{Limits, check};
+use gcode_lines::Job;
 
 /// A command that is too hot: its line counted from 1, the value in whole degrees rounded up, and the limit.
 #[derive(Clone, Copy, Debug, PartialEq, Eq)]
@@ -20,7 +19,11 @@ pub fn first_hot(job: &Job, limits: &Limits) -> Option<HotLine>
 {
     for i in 0..job.count() {
         if let Err(hot) = check(job.get(i), limits) {
-            return Some(HotLine { line: job.line(i), asked: hot.asked, limit: hot.limit });
+            return Some(HotLine {
+                line: job.line(i),
+                asked: hot.asked,
+                limit: hot.limit,
+            });
         }
     }
     None

@@ -3,11 +3,10 @@ ghost use Rattle.std.specs.Prelude.{◌≡◌, MatchResult};
 ghost use Rattle.temp_rules.specs.Asked.{asked_of};
 ghost use Rattle.temp_rules.specs.Hot.{too_hot, hot_of};
 
-use gcode_words::words;
-use thiserror::Error;
-
 use super::asked::{MILLION, read_asking, round_up};
 use super::heater::Heater;
+use gcode_words::words;
+use thiserror::Error;
 
 /// The limits of tool and bed, in whole degrees.
 #[derive(Clone, Copy, Debug, PartialEq, Eq)]
@@ -48,7 +47,10 @@ fn check_heater(text: &[u8], heater: Heater, limit: u16) -> Result<(), TooHot>
     for word in words(text) {
         if let Some(micro) = asking.value(word) {
             if micro > most {
-                return Err(TooHot { asked: round_up(micro), limit });
+                return Err(TooHot {
+                    asked: round_up(micro),
+                    limit,
+                });
             }
         }
     }

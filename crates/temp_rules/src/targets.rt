@@ -3,11 +3,10 @@ ghost use Rattle.std.specs.Prelude.{◌≡◌};
 ghost use Rattle.temp_rules.specs.Asked.{asked_of};
 ghost use Rattle.temp_rules.specs.Most.{most_degrees, no_targets, with_text};
 
-use gcode_words::words;
-use std::marker::Model;
-
 use super::asked::{read_asking, round_up};
 use super::heater::Heater;
+use gcode_words::words;
+use std::marker::Model;
 
 /// The greatest values that commands asked of tool and bed so far, in whole degrees, rounded up.
 #[derive(Drop)]

@@ -1,4 +1,4 @@
-use Rattle.std.proofs.Common.{◌≡◌, ◌<◌, length, sym, ◌∙◌, arith}
+use Rattle.std.proofs.Common.{◌<◌, length, sym, ◌∙◌, arith}
 use Rattle.temp_rules.proofs.Commands.{first_hot-found, first_hot-cool}
 use Rattle.temp_rules.proofs.job.first_hot.Goals as goal
 
