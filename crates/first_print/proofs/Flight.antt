@@ -15,14 +15,14 @@ use Rattle.printer_model.specs.declared.printer.Taken.TheVariants.{Accepted, Ful
 use Rattle.printer_model.specs.declared.event.WorldEvent.{WorldEvent}
 use Rattle.printer_model.specs.declared.event.WorldEvent.TheVariants.{Opened, Send, Arrive, Lose, Garble, Run, Chatter, Recv, Closed}
 use Rattle.printer_model.proofs.Laws.{after_event}
-use Rattle.first_print.specs.Play.{IsCarried, AreCarried, IsNext, open_world, entry_of, line_at, log_of, is_calm, is_ok, is_resend, IsAnswered, IsRefused, IsReady, IsStopped, InFlight, sent, garbled, lost, refused, waiting, answered}
+use Rattle.first_print.specs.Play.{IsCarried, IsNext, open_world, entry_of, line_at, log_of, is_calm, is_ok, is_resend, IsAnswered, IsRefused, IsReady, IsStopped, InFlight, sent, garbled, lost, refused, waiting, answered}
 use Rattle.first_print.proofs.Logs.{log_of-suc, calm-push, calm-front, calm-rest}
 
 -- the printer's own lines are of these kinds
 pub record SpeaksMarlin : Type 0 where
   pub error : (reason : Reason) (last : ℕ) → is_chatter (error_line reason last) ≡ true
   pub resend : (last : ℕ) → is_resend (kind_of (resend_line last)) ≡ true
-  pub ok : (advanced : Bool) (n : ℕ) (text : List ℕ) (free : ℕ) → is_ok (kind_of (run_reply advanced (Some n) text free)) ≡ true
+  pub ok : (advanced : Bool) (n : ℕ) (text : List ℕ) (free : ℕ) → n ≤ 2000000000 → free ≤ 16 → is_ok (kind_of (run_reply advanced (Some n) text free)) ≡ true
 
 -- a failing line begins with N
 fails_begins : (line : List ℕ) → fails line ≡ true → begins_with_n line ≡ true
@@ -128,68 +128,68 @@ refused-push down reply held =
     }
 
 -- the line n on its way
-sent_event : (speech : SpeaksMarlin) (start : List Logged) (lines : List (List ℕ)) (n : ℕ) (places : ℕ) (advanced : Bool) (last : ℕ) (down : List (List ℕ)) → IsCarried n (line_at lines n) → IsNext n last → is_calm down ≡ true → (event : WorldEvent) → is_free event ≡ true → InFlight start lines n (apply (open_world places advanced last [] (start ++ log_of lines n) (frame_of n (line_at lines n) ∷ []) down) event)
-sent_event speech start lines n places advanced last down carried next calm (Opened l) free = absurd (cc)
-sent_event speech start lines n places advanced last down carried next calm (Send l) free = absurd (cc)
-sent_event speech start lines n places advanced last down carried next calm Arrive free =
+sent_event : (speech : SpeaksMarlin) (start : List Logged) (lines : List (List ℕ)) (n : ℕ) (places : ℕ) (few : places ≤ 16) (advanced : Bool) (last : ℕ) (down : List (List ℕ)) → IsCarried n (line_at lines n) → IsNext n last → is_calm down ≡ true → (event : WorldEvent) → is_free event ≡ true → InFlight start lines n (apply (open_world places advanced last [] (start ++ log_of lines n) (frame_of n (line_at lines n) ∷ []) down) event)
+sent_event speech start lines n places few advanced last down carried next calm (Opened l) free = absurd (cc)
+sent_event speech start lines n places few advanced last down carried next calm (Send l) free = absurd (cc)
+sent_event speech start lines n places few advanced last down carried next calm Arrive free =
     let p = idle places advanced last in
     let line = frame_of n (line_at lines n) in
     let w = open_world places advanced last [] (start ++ log_of lines n) (line ∷ []) down in
-    after_event (λ (v : WorldData). InFlight start lines n v) w Arrive (sent places advanced last down next calm refl)
-    (λ can. waiting places advanced down calm
+    after_event (λ (v : WorldData). InFlight start lines n v) w Arrive (sent places few advanced last down next calm refl)
+    (λ can. waiting places few advanced down calm
     (ap (arrived w []) (took p line _ (room_from p can) (judged_next n last (line_at lines n) carried next))
     ∙ ap (λ (d : List (List ℕ)). open_world places advanced n (entry_of lines n ∷ []) (start ++ log_of lines n) [] d) (append-nil down)))
-sent_event speech start lines n places advanced last down carried next calm (Lose at) free =
+sent_event speech start lines n places few advanced last down carried next calm (Lose at) free =
     let line = frame_of n (line_at lines n) in
     let w = open_world places advanced last [] (start ++ log_of lines n) (line ∷ []) down in
-    after_event (λ (v : WorldData). InFlight start lines n v) w (Lose at) (sent places advanced last down next calm refl)
-    (λ can. lost places advanced last down calm
+    after_event (λ (v : WorldData). InFlight start lines n v) w (Lose at) (sent places few advanced last down next calm refl)
+    (λ can. lost places few advanced last down calm
     (ap (λ (u : List (List ℕ)). open_world places advanced last [] (start ++ log_of lines n) u down) (remove_only line at can)))
-sent_event speech start lines n places advanced last down carried next calm (Garble at other) free =
+sent_event speech start lines n places few advanced last down carried next calm (Garble at other) free =
     let line = frame_of n (line_at lines n) in
     let w = open_world places advanced last [] (start ++ log_of lines n) (line ∷ []) down in
-    after_event (λ (v : WorldData). InFlight start lines n v) w (Garble at other) (sent places advanced last down next calm refl)
+    after_event (λ (v : WorldData). InFlight start lines n v) w (Garble at other) (sent places few advanced last down next calm refl)
     (λ can. let parts = and_parts (nat_lt at 1) (fails other.items && fits_wire other.items) can in
-    garbled places advanced last other.items down (and_parts (fails other.items) (fits_wire other.items) parts.1).0 calm
+    garbled places few advanced last other.items down (and_parts (fails other.items) (fits_wire other.items) parts.1).0 calm
     (ap (λ (u : List (List ℕ)). open_world places advanced last [] (start ++ log_of lines n) u down) (set_only line other.items at parts.0)))
-sent_event speech start lines n places advanced last down carried next calm Run free = sent places advanced last down next calm refl
-sent_event speech start lines n places advanced last down carried next calm (Chatter reply) free =
+sent_event speech start lines n places few advanced last down carried next calm Run free = sent places few advanced last down next calm refl
+sent_event speech start lines n places few advanced last down carried next calm (Chatter reply) free =
     let line = frame_of n (line_at lines n) in
     let w = open_world places advanced last [] (start ++ log_of lines n) (line ∷ []) down in
-    after_event (λ (v : WorldData). InFlight start lines n v) w (Chatter reply) (sent places advanced last down next calm refl)
-    (λ can. sent places advanced last (down ++ reply.items ∷ []) next (calm-push down reply.items calm can) refl)
-sent_event speech start lines n places advanced last down carried next calm Recv free = absurd (cc)
-sent_event speech start lines n places advanced last down carried next calm Closed free = absurd (cc)
+    after_event (λ (v : WorldData). InFlight start lines n v) w (Chatter reply) (sent places few advanced last down next calm refl)
+    (λ can. sent places few advanced last (down ++ reply.items ∷ []) next (calm-push down reply.items calm can) refl)
+sent_event speech start lines n places few advanced last down carried next calm Recv free = absurd (cc)
+sent_event speech start lines n places few advanced last down carried next calm Closed free = absurd (cc)
 
 -- a failing line on its way
-garbled_event : (speech : SpeaksMarlin) (start : List Logged) (lines : List (List ℕ)) (n : ℕ) (places : ℕ) (advanced : Bool) (last : ℕ) (line : List ℕ) (down : List (List ℕ)) → fails line ≡ true → is_calm down ≡ true → (event : WorldEvent) → is_free event ≡ true → InFlight start lines n (apply (open_world places advanced last [] (start ++ log_of lines n) (line ∷ []) down) event)
-garbled_event speech start lines n places advanced last line down failing calm (Opened l) free = absurd (cc)
-garbled_event speech start lines n places advanced last line down failing calm (Send l) free = absurd (cc)
-garbled_event speech start lines n places advanced last line down failing calm Arrive free =
+garbled_event : (speech : SpeaksMarlin) (start : List Logged) (lines : List (List ℕ)) (n : ℕ) (places : ℕ) (few : places ≤ 16) (advanced : Bool) (last : ℕ) (line : List ℕ) (down : List (List ℕ)) → fails line ≡ true → is_calm down ≡ true → (event : WorldEvent) → is_free event ≡ true → InFlight start lines n (apply (open_world places advanced last [] (start ++ log_of lines n) (line ∷ []) down) event)
+garbled_event speech start lines n places few advanced last line down failing calm (Opened l) free = absurd (cc)
+garbled_event speech start lines n places few advanced last line down failing calm (Send l) free = absurd (cc)
+garbled_event speech start lines n places few advanced last line down failing calm Arrive free =
     let p = idle places advanced last in
     let w = open_world places advanced last [] (start ++ log_of lines n) (line ∷ []) down in
     let why = judged_fails last line failing in
-    after_event (λ (v : WorldData). InFlight start lines n v) w Arrive (garbled places advanced last line down failing calm refl)
-    (λ can. refused places advanced last (down ++ error_line why.0 last ∷ resend_line last ∷ ok_line ∷ []) (refusal_is speech down why.0 last calm)
+    after_event (λ (v : WorldData). InFlight start lines n v) w Arrive (garbled places few advanced last line down failing calm refl)
+    (λ can. refused places few advanced last (down ++ error_line why.0 last ∷ resend_line last ∷ ok_line ∷ []) (refusal_is speech down why.0 last calm)
     (ap (arrived w []) (took p line _ (room_from p can) why.1)))
-garbled_event speech start lines n places advanced last line down failing calm (Lose at) free =
+garbled_event speech start lines n places few advanced last line down failing calm (Lose at) free =
     let w = open_world places advanced last [] (start ++ log_of lines n) (line ∷ []) down in
-    after_event (λ (v : WorldData). InFlight start lines n v) w (Lose at) (garbled places advanced last line down failing calm refl)
-    (λ can. lost places advanced last down calm
+    after_event (λ (v : WorldData). InFlight start lines n v) w (Lose at) (garbled places few advanced last line down failing calm refl)
+    (λ can. lost places few advanced last down calm
     (ap (λ (u : List (List ℕ)). open_world places advanced last [] (start ++ log_of lines n) u down) (remove_only line at can)))
-garbled_event speech start lines n places advanced last line down failing calm (Garble at other) free =
+garbled_event speech start lines n places few advanced last line down failing calm (Garble at other) free =
     let w = open_world places advanced last [] (start ++ log_of lines n) (line ∷ []) down in
-    after_event (λ (v : WorldData). InFlight start lines n v) w (Garble at other) (garbled places advanced last line down failing calm refl)
+    after_event (λ (v : WorldData). InFlight start lines n v) w (Garble at other) (garbled places few advanced last line down failing calm refl)
     (λ can. let parts = and_parts (nat_lt at 1) (fails other.items && fits_wire other.items) can in
-    garbled places advanced last other.items down (and_parts (fails other.items) (fits_wire other.items) parts.1).0 calm
+    garbled places few advanced last other.items down (and_parts (fails other.items) (fits_wire other.items) parts.1).0 calm
     (ap (λ (u : List (List ℕ)). open_world places advanced last [] (start ++ log_of lines n) u down) (set_only line other.items at parts.0)))
-garbled_event speech start lines n places advanced last line down failing calm Run free = garbled places advanced last line down failing calm refl
-garbled_event speech start lines n places advanced last line down failing calm (Chatter reply) free =
+garbled_event speech start lines n places few advanced last line down failing calm Run free = garbled places few advanced last line down failing calm refl
+garbled_event speech start lines n places few advanced last line down failing calm (Chatter reply) free =
     let w = open_world places advanced last [] (start ++ log_of lines n) (line ∷ []) down in
-    after_event (λ (v : WorldData). InFlight start lines n v) w (Chatter reply) (garbled places advanced last line down failing calm refl)
-    (λ can. garbled places advanced last line (down ++ reply.items ∷ []) failing (calm-push down reply.items calm can) refl)
-garbled_event speech start lines n places advanced last line down failing calm Recv free = absurd (cc)
-garbled_event speech start lines n places advanced last line down failing calm Closed free = absurd (cc)
+    after_event (λ (v : WorldData). InFlight start lines n v) w (Chatter reply) (garbled places few advanced last line down failing calm refl)
+    (λ can. garbled places few advanced last line (down ++ reply.items ∷ []) failing (calm-push down reply.items calm can) refl)
+garbled_event speech start lines n places few advanced last line down failing calm Recv free = absurd (cc)
+garbled_event speech start lines n places few advanced last line down failing calm Closed free = absurd (cc)
 
 -- no place on an empty wire
 no_place : (at : ℕ) → nat_lt at 0 ≡ true → ⊥
@@ -223,52 +223,52 @@ unfolding last_after
 last_same n text = cond_both (has_m110 text) n n (λ (l : ℕ). l ≡ n) (λ _. refl) (λ _. refl)
 
 -- the line n waiting in the printer
-waiting_event : (speech : SpeaksMarlin) (start : List Logged) (lines : List (List ℕ)) (n : ℕ) (places : ℕ) (advanced : Bool) (down : List (List ℕ)) → n < length lines → is_calm down ≡ true → (event : WorldEvent) → is_free event ≡ true → InFlight start lines n (apply (open_world places advanced n (entry_of lines n ∷ []) (start ++ log_of lines n) [] down) event)
-waiting_event speech start lines n places advanced down within calm (Opened l) free = absurd (cc)
-waiting_event speech start lines n places advanced down within calm (Send l) free = absurd (cc)
-waiting_event speech start lines n places advanced down within calm Arrive free = waiting places advanced down calm refl
-waiting_event speech start lines n places advanced down within calm (Lose at) free =
+waiting_event : (speech : SpeaksMarlin) (start : List Logged) (lines : List (List ℕ)) (n : ℕ) (places : ℕ) (few : places ≤ 16) (advanced : Bool) (down : List (List ℕ)) → n < length lines → n ≤ 2000000000 → is_calm down ≡ true → (event : WorldEvent) → is_free event ≡ true → InFlight start lines n (apply (open_world places advanced n (entry_of lines n ∷ []) (start ++ log_of lines n) [] down) event)
+waiting_event speech start lines n places few advanced down within small calm (Opened l) free = absurd (cc)
+waiting_event speech start lines n places few advanced down within small calm (Send l) free = absurd (cc)
+waiting_event speech start lines n places few advanced down within small calm Arrive free = waiting places few advanced down calm refl
+waiting_event speech start lines n places few advanced down within small calm (Lose at) free =
     let w = open_world places advanced n (entry_of lines n ∷ []) (start ++ log_of lines n) [] down in
-    after_event (λ (v : WorldData). InFlight start lines n v) w (Lose at) (waiting places advanced down calm refl) (λ can. absurd (no_place at can))
-waiting_event speech start lines n places advanced down within calm (Garble at other) free =
+    after_event (λ (v : WorldData). InFlight start lines n v) w (Lose at) (waiting places few advanced down calm refl) (λ can. absurd (no_place at can))
+waiting_event speech start lines n places few advanced down within small calm (Garble at other) free =
     let w = open_world places advanced n (entry_of lines n ∷ []) (start ++ log_of lines n) [] down in
-    after_event (λ (v : WorldData). InFlight start lines n v) w (Garble at other) (waiting places advanced down calm refl)
+    after_event (λ (v : WorldData). InFlight start lines n v) w (Garble at other) (waiting places few advanced down calm refl)
     (λ can. absurd (no_place at (and_parts (nat_lt at 0) (fails other.items && fits_wire other.items) can).0))
-waiting_event speech start lines n places advanced down within calm Run free =
+waiting_event speech start lines n places few advanced down within small calm Run free =
     let text = line_at lines n in
     let reply : List ℕ = run_reply advanced (Some n) text (places - 1) in
     let Behind : ℕ → List Logged → WorldData = λ last log. open_world places advanced last [] log [] (down ++ reply ∷ []) in
-    answered places advanced (down ++ reply ∷ [])
-    (record { before = down; reply = reply; behind = []; is = refl; calm_before = calm; kind = speech.ok advanced n text (places - 1); calm_behind = refl })
+    answered places few advanced (down ++ reply ∷ [])
+    (record { before = down; reply = reply; behind = []; is = refl; calm_before = calm; kind = speech.ok advanced n text (places - 1) small (omega arith); calm_behind = refl })
     (ap (λ (last : ℕ). Behind last ((start ++ log_of lines n) ++ record { number = Some n; text = text } ∷ [])) (last_same n text)
     ∙ ap (λ (log : List Logged). Behind n log) (sym (log_of-suc start lines n within)))
-waiting_event speech start lines n places advanced down within calm (Chatter reply) free =
+waiting_event speech start lines n places few advanced down within small calm (Chatter reply) free =
     let w = open_world places advanced n (entry_of lines n ∷ []) (start ++ log_of lines n) [] down in
-    after_event (λ (v : WorldData). InFlight start lines n v) w (Chatter reply) (waiting places advanced down calm refl)
-    (λ can. waiting places advanced (down ++ reply.items ∷ []) (calm-push down reply.items calm can) refl)
-waiting_event speech start lines n places advanced down within calm Recv free = absurd (cc)
-waiting_event speech start lines n places advanced down within calm Closed free = absurd (cc)
+    after_event (λ (v : WorldData). InFlight start lines n v) w (Chatter reply) (waiting places few advanced down calm refl)
+    (λ can. waiting places few advanced (down ++ reply.items ∷ []) (calm-push down reply.items calm can) refl)
+waiting_event speech start lines n places few advanced down within small calm Recv free = absurd (cc)
+waiting_event speech start lines n places few advanced down within small calm Closed free = absurd (cc)
 
 -- one event of the line or the printer leaves the line in flight
 pub flies : (speech : SpeaksMarlin) (start : List Logged) (lines : List (List ℕ)) (n : ℕ) → IsCarried n (line_at lines n) → n < length lines → (w : WorldData) (event : WorldEvent) → is_free event ≡ true → InFlight start lines n w → InFlight start lines n (apply w event)
-flies speech start lines n carried within w event free (sent places advanced last down next calm is) =
+flies speech start lines n carried within w event free (sent places few advanced last down next calm is) =
     let After : WorldData → Type 0 = λ v. InFlight start lines n (apply v event) in
-    subst After (sym is) (sent_event speech start lines n places advanced last down carried next calm event free)
-flies speech start lines n carried within w event free (garbled places advanced last line down failing calm is) =
+    subst After (sym is) (sent_event speech start lines n places few advanced last down carried next calm event free)
+flies speech start lines n carried within w event free (garbled places few advanced last line down failing calm is) =
     let After : WorldData → Type 0 = λ v. InFlight start lines n (apply v event) in
-    subst After (sym is) (garbled_event speech start lines n places advanced last line down failing calm event free)
-flies speech start lines n carried within w event free (lost places advanced last down calm is) =
+    subst After (sym is) (garbled_event speech start lines n places few advanced last line down failing calm event free)
+flies speech start lines n carried within w event free (lost places few advanced last down calm is) =
     let q = quiet_event places advanced last (start ++ log_of lines n) down (λ d. is_calm d ≡ true) calm (λ reply chat. calm-push down reply calm chat) event free in
-    lost places advanced last q.0 q.1 (ap (λ (v : WorldData). apply v event) is ∙ q.2)
-flies speech start lines n carried within w event free (refused places advanced last down held is) =
+    lost places few advanced last q.0 q.1 (ap (λ (v : WorldData). apply v event) is ∙ q.2)
+flies speech start lines n carried within w event free (refused places few advanced last down held is) =
     let q = quiet_event places advanced last (start ++ log_of lines n) down IsRefused held (λ reply chat. refused-push down reply held) event free in
-    refused places advanced last q.0 q.1 (ap (λ (v : WorldData). apply v event) is ∙ q.2)
-flies speech start lines n carried within w event free (waiting places advanced down calm is) =
+    refused places few advanced last q.0 q.1 (ap (λ (v : WorldData). apply v event) is ∙ q.2)
+flies speech start lines n carried within w event free (waiting places few advanced down calm is) =
     let After : WorldData → Type 0 = λ v. InFlight start lines n (apply v event) in
-    subst After (sym is) (waiting_event speech start lines n places advanced down within calm event free)
-flies speech start lines n carried within w event free (answered places advanced down held is) =
+    subst After (sym is) (waiting_event speech start lines n places few advanced down within carried.small calm event free)
+flies speech start lines n carried within w event free (answered places few advanced down held is) =
     let q = quiet_event places advanced n (start ++ log_of lines (suc n)) down IsAnswered held (λ reply chat. answered-push down reply held chat) event free in
-    answered places advanced q.0 q.1 (ap (λ (v : WorldData). apply v event) is ∙ q.2)
+    answered places few advanced q.0 q.1 (ap (λ (v : WorldData). apply v event) is ∙ q.2)
 
 -- nothing in flight
 pub waits : (start : List Logged) (lines : List (List ℕ)) (n : ℕ) (w : WorldData) (event : WorldEvent) → is_free event ≡ true → IsReady start lines n w → IsReady start lines n (apply w event)
@@ -276,6 +276,7 @@ waits start lines n w event free r =
     let q = quiet_event r.places r.advanced r.last (start ++ log_of lines n) r.down (λ d. is_calm d ≡ true) r.calm (λ reply chat. calm-push r.down reply r.calm chat) event free in
     record {
       places = r.places;
+      few = r.few;
       advanced = r.advanced;
       last = r.last;
       down = q.0;

@@ -72,13 +72,13 @@ runs_free (event ∷ events) runs =
     let parts = and_parts (is_run event) (list_all is_run events) runs in
     and_from (is_free event) (list_all is_free events) (run_free event parts.0) (runs_free events parts.1)
 
-all_silent : (w : WorldData) (events : List WorldEvent) → list_all is_free events ≡ true → asks w events ≡ false
+pub all_silent : (w : WorldData) (events : List WorldEvent) → list_all is_free events ≡ true → asks w events ≡ false
 all_silent w [] free = refl
 all_silent w (event ∷ events) free =
     let parts = and_parts (is_free event) (list_all is_free events) free in
     ap (λ (b : Bool). b || asks (apply w event) events) (free_silent w event parts.0) ∙ all_silent (apply w event) events parts.1
 
-all_none : (events : List WorldEvent) → list_all is_free events ≡ true → list_all opens_none events ≡ true
+pub all_none : (events : List WorldEvent) → list_all is_free events ≡ true → list_all opens_none events ≡ true
 all_none [] free = refl
 all_none (event ∷ events) free =
     let parts = and_parts (is_free event) (list_all is_free events) free in
@@ -108,7 +108,7 @@ pub leads_free : (P : List Logged → WorldData → Type 0) (w : WorldData) (eve
 leads_free P w events one free =
     record { opens = all_none events free; asking = all_silent w events free; leads = λ start here. keep (P start) (one start) w events free here }
 
-or_false : (x : Bool) → (x || false) ≡ x
+pub or_false : (x : Bool) → (x || false) ≡ x
 or_false true = refl
 or_false false = refl
 
@@ -247,3 +247,9 @@ heard_leads speech lines n carried within into w added h =
     let So2 : Bool → Type 0 = λ b. Leads b (Flying lines n) Heard w (h.before ++ (Recv ∷ h.behind)) in
     subst So (sym h.is)
     (subst So2 (or_false (is_resend kind)) (leads_then false (is_resend kind || false) _ _ _ w h.before (Recv ∷ h.behind) before (leads_then (is_resend kind) false _ _ _ at (Recv ∷ []) h.behind one behind)))
+
+-- an open link was closed
+pub hang_up_leads : (P R : List Logged → WorldData → Type 0) (w : WorldData) (added : List WorldEvent) → ((start : List Logged) (v : WorldData) → P start v → R start (apply v Closed)) → IsHangUp true w added → Leads false P R w added
+hang_up_leads P R w added closed hung =
+    let So : List WorldEvent → Type 0 = λ es. Leads false P R w es in
+    subst So (sym hung.0) (leads_one false P R w Closed refl refl (λ start here. closed start w here))

@@ -39,10 +39,7 @@ pub record IsCarried (n : ℕ) (text : List ℕ) : Type 0 where
   pub command : text_of (frame_of n text) ≡ text
   pub sets : n ≡ 0 → has_m110 (frame_of n text) ≡ true
   pub short : length (frame_of n text) ≤ 95
-
--- each line is read back
-abbrev pub AreCarried : List (List ℕ) → Type 0
-AreCarried lines = (n : ℕ) → n < length lines → IsCarried n (line_at lines n)
+  pub small : n ≤ 2000000000
 
 -- the line n is the next one for a printer with this last number
 abbrev pub IsNext : ℕ → ℕ → Type 0
@@ -97,6 +94,7 @@ pub record IsRefused (down : List (List ℕ)) : Type 0 where
 -- the printer has run the lines before n, and the next one may be sent
 pub record IsReady (start : List Logged) (lines : List (List ℕ)) (n : ℕ) (w : WorldData) : Type 0 where
   pub places : ℕ
+  pub few : places ≤ 16
   pub advanced : Bool
   pub last : ℕ
   pub down : List (List ℕ)
@@ -106,12 +104,12 @@ pub record IsReady (start : List Logged) (lines : List (List ℕ)) (n : ℕ) (w 
 
 -- the line n was sent: on its way, garbled, lost, refused, waiting in the printer, or run and answered
 pub data InFlight (start : List Logged) (lines : List (List ℕ)) (n : ℕ) (w : WorldData) : Type 0 where
-  sent : (places : ℕ) (advanced : Bool) (last : ℕ) (down : List (List ℕ)) → IsNext n last → is_calm down ≡ true → w ≡ open_world places advanced last [] (start ++ log_of lines n) (frame_of n (line_at lines n) ∷ []) down → InFlight start lines n w
-  garbled : (places : ℕ) (advanced : Bool) (last : ℕ) (line : List ℕ) (down : List (List ℕ)) → fails line ≡ true → is_calm down ≡ true → w ≡ open_world places advanced last [] (start ++ log_of lines n) (line ∷ []) down → InFlight start lines n w
-  lost : (places : ℕ) (advanced : Bool) (last : ℕ) (down : List (List ℕ)) → is_calm down ≡ true → w ≡ open_world places advanced last [] (start ++ log_of lines n) [] down → InFlight start lines n w
-  refused : (places : ℕ) (advanced : Bool) (last : ℕ) (down : List (List ℕ)) → IsRefused down → w ≡ open_world places advanced last [] (start ++ log_of lines n) [] down → InFlight start lines n w
-  waiting : (places : ℕ) (advanced : Bool) (down : List (List ℕ)) → is_calm down ≡ true → w ≡ open_world places advanced n (entry_of lines n ∷ []) (start ++ log_of lines n) [] down → InFlight start lines n w
-  answered : (places : ℕ) (advanced : Bool) (down : List (List ℕ)) → IsAnswered down → w ≡ open_world places advanced n [] (start ++ log_of lines (suc n)) [] down → InFlight start lines n w
+  sent : (places : ℕ) → places ≤ 16 → (advanced : Bool) (last : ℕ) (down : List (List ℕ)) → IsNext n last → is_calm down ≡ true → w ≡ open_world places advanced last [] (start ++ log_of lines n) (frame_of n (line_at lines n) ∷ []) down → InFlight start lines n w
+  garbled : (places : ℕ) → places ≤ 16 → (advanced : Bool) (last : ℕ) (line : List ℕ) (down : List (List ℕ)) → fails line ≡ true → is_calm down ≡ true → w ≡ open_world places advanced last [] (start ++ log_of lines n) (line ∷ []) down → InFlight start lines n w
+  lost : (places : ℕ) → places ≤ 16 → (advanced : Bool) (last : ℕ) (down : List (List ℕ)) → is_calm down ≡ true → w ≡ open_world places advanced last [] (start ++ log_of lines n) [] down → InFlight start lines n w
+  refused : (places : ℕ) → places ≤ 16 → (advanced : Bool) (last : ℕ) (down : List (List ℕ)) → IsRefused down → w ≡ open_world places advanced last [] (start ++ log_of lines n) [] down → InFlight start lines n w
+  waiting : (places : ℕ) → places ≤ 16 → (advanced : Bool) (down : List (List ℕ)) → is_calm down ≡ true → w ≡ open_world places advanced n (entry_of lines n ∷ []) (start ++ log_of lines n) [] down → InFlight start lines n w
+  answered : (places : ℕ) → places ≤ 16 → (advanced : Bool) (down : List (List ℕ)) → IsAnswered down → w ≡ open_world places advanced n [] (start ++ log_of lines (suc n)) [] down → InFlight start lines n w
 
 -- the printer has run the first of the lines, in order, and nothing else
 pub record HasRun (start : List Logged) (lines : List (List ℕ)) (w : WorldData) : Type 0 where

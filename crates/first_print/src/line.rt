@@ -32,6 +32,7 @@ fn write_command(job: &Job, i: usize, n: u32, into: &mut Line)
 /// Writes the line of that number.
 pub fn write_line(job: &Job, n: u32, into: &mut Line)
     requires there { n ≤ length job.now.commands }
+    requires small { n ≤ 2000000000 }
     ensures written { into.new.items ≡ frame_of n (line_at (lines_of (texts_of job.now)) n) }
     ensures carried { IsCarried n (line_at (lines_of (texts_of job.now)) n) }
     ensures short { length into.new.items ≤ 95 }
