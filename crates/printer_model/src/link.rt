@@ -65,6 +65,8 @@ pub trait Link {
         ensures down { OnErr result (up self.new ≡ false) }
         ensures open { IsOpenAs (places self.new) (advanced self.new) (past self.new) (up self.new) }
         ensures told { is_some (past self.new) ≡ is_some (past self.old) }
+        ensures some { 1 ≤ places self.new }
+        ensures few { places self.new ≤ 16 }
         ensures places { places self.new ≡ places self.old }
         ensures advanced { advanced self.new ≡ advanced self.old }
         ensures listed { listed self.new ≡ listed self.old }

@@ -1,0 +1,42 @@
+-- How the log of a print grows, and chatter.
+use Rattle.std.proofs.Common.{◌≡◌, ℕ, ◌+◌, ◌<◌, suc, zero, Bool, true, false, List, [], ◌∷◌, ◌++◌, length, take, get_or, refl, sym, ◌∙◌, ap, append_assoc, arith, add-zero, add-suc}
+use Rattle.std.specs.Prelude.{◌&&◌, Some}
+use Rattle.std.specs.List.{list_all}
+use Rattle.std.proofs.Math.Seq.{take-suc}
+use Rattle.std.proofs.lemmas.Bool.{and_parts, and_from}
+use Rattle.std.proofs.lemmas.List.Folds.{list_all-append}
+use Rattle.std.proofs.lemmas.List.{length-take-le}
+use Rattle.printer_model.specs.Printer.{Logged}
+use Rattle.marlin_reply.specs.Kind.{is_chatter}
+use Rattle.first_print.specs.Play.{numbered, log_of, line_at, is_calm}
+
+-- one more line at the end
+numbered-push : (n : ℕ) (texts : List (List ℕ)) (text : List ℕ) → numbered n (texts ++ text ∷ []) ≡ numbered n texts ++ record { number = Some (n + length texts); text = text } ∷ []
+numbered-push n [] text = ap (λ (k : ℕ). numbered k (text ∷ [])) (sym (add-zero n))
+numbered-push n (t ∷ ts) text =
+    let next : suc n + length ts ≡ n + length (t ∷ ts) = omega arith in
+    let Line : ℕ → Logged = λ k. record { number = Some k; text = text } in
+    ap (λ (l : List Logged). record { number = Some n; text = t } ∷ l)
+    (numbered-push (suc n) ts text ∙ ap (λ (k : ℕ). numbered (suc n) ts ++ Line k ∷ []) next)
+
+-- the log with line n
+pub log_of-suc : (start : List Logged) (lines : List (List ℕ)) (n : ℕ) → n < length lines → start ++ log_of lines (suc n) ≡ (start ++ log_of lines n) ++ record { number = Some n; text = line_at lines n } ∷ []
+log_of-suc start lines n within =
+    let text = line_at lines n in
+    let Line : ℕ → Logged = λ k. record { number = Some k; text = text } in
+    let count : 0 + length (take n lines) ≡ n = omega (arith, length-take-le n lines (omega arith)) in
+    ap (λ (l : List Logged). start ++ l)
+    (ap (numbered 0) (take-suc lines n [] within) ∙ numbered-push 0 (take n lines) text ∙ ap (λ (k : ℕ). log_of lines n ++ Line k ∷ []) count)
+    ∙ sym (append_assoc start (log_of lines n) (Line n ∷ []))
+
+-- one more line of chatter at the end
+pub calm-push : (down : List (List ℕ)) (reply : List ℕ) → is_calm down ≡ true → is_chatter reply ≡ true → is_calm (down ++ reply ∷ []) ≡ true
+calm-push down reply calm chat =
+    list_all-append is_chatter down (reply ∷ []) ∙ and_from (is_calm down) (is_chatter reply && true) calm (and_from (is_chatter reply) true chat refl)
+
+-- the front of what is calm, and the rest
+pub calm-front : (reply : List ℕ) (down : List (List ℕ)) → is_calm (reply ∷ down) ≡ true → is_chatter reply ≡ true
+calm-front reply down calm = (and_parts (is_chatter reply) (is_calm down) calm).0
+
+pub calm-rest : (reply : List ℕ) (down : List (List ℕ)) → is_calm (reply ∷ down) ≡ true → is_calm down ≡ true
+calm-rest reply down calm = (and_parts (is_chatter reply) (is_calm down) calm).1
