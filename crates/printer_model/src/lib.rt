@@ -22,3 +22,6 @@ pub use replies::{error_line, ok_line, resend_line};
 pub use schedule::{Fate, FateList, Schedule};
 pub use theorems::{line_law, refusal_law, reply_law, session_law, world_law};
 pub use world::World;
+
+#[cfg(test)]
+mod tests;
