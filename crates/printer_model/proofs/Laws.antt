@@ -5,7 +5,7 @@ use Rattle.std.proofs.lemmas.List.Sums.{fold-append}
 use Rattle.std.specs.List.{list_all}
 use Rattle.std.proofs.lemmas.Bool.{cond_both}
 use Rattle.printer_model.specs.Printer.{IsSameKind, waiting_as, PrinterData, Entry, Logged, is_full, judged, take_judged, take_line, run_queue, ran_line}
-use Rattle.printer_model.specs.World.{WorldData, new_world, can_happen, is_empty, arrive_front, after_run, happen, apply, world_from, world_of, Grew, IsTidy, accepted_lines, moves_printer, moves_up, moves_down, is_free, fits_wire}
+use Rattle.printer_model.specs.World.{WorldData, new_world, can_happen, is_empty, arrive_front, after_run, happen, apply, world_from, world_of, Grew, IsTidy, accepted_lines, moves_printer, moves_up, moves_down, is_free, fits_wire, arrived}
 use Rattle.printer_model.specs.Link.{is_run}
 use Rattle.marlin_reply.specs.Kind.{is_chatter}
 use Rattle.printer_model.specs.declared.printer.Reason.{Reason}
@@ -307,3 +307,19 @@ world_from-tidy w (event ∷ events) tidy = world_from-tidy (apply w event) even
 
 pub world_of-tidy : (places : ℕ) (advanced : Bool) (past : List WorldEvent) → IsTidy (world_of places advanced past)
 world_of-tidy places advanced past = world_from-tidy (new_world places advanced) past (λ _. record { up = refl; down = refl })
+
+-- what an arrival is, by the line at the front of the wire
+pub arrive_front_of : (w : WorldData) (line : List ℕ) (behind : List (List ℕ)) → w.up ≡ line ∷ behind → is_full w.printer ≡ false → apply w Arrive ≡ arrived w behind (take_judged w.printer (judged w.printer.last line))
+arrive_front_of w line behind same room =
+    let can : can_happen w Arrive ≡ true = ap (λ (up : List (List ℕ)). not (is_empty up) && not (is_full w.printer)) same ∙ ap not room in
+    happens w Arrive can
+    ∙ ap (arrive_front w) same
+    ∙ ap (λ (b : Bool). arrived w behind (if b then (Full, w.printer) else take_judged w.printer (judged w.printer.last line))) room
+
+-- the arrival of a line that is accepted
+pub arrive_accepts : (w : WorldData) (line : List ℕ) (behind : List (List ℕ)) (entry : Entry) → w.up ≡ line ∷ behind → is_full w.printer ≡ false → judged w.printer.last line ≡ Ok entry → apply w Arrive ≡ arrived w behind (take_judged w.printer (Ok entry))
+arrive_accepts w line behind entry same room is = arrive_front_of w line behind same room ∙ ap (λ (what : Result Entry Reason). arrived w behind (take_judged w.printer what)) is
+
+-- the arrival of a line that is refused
+pub arrive_refuses : (w : WorldData) (line : List ℕ) (behind : List (List ℕ)) (reason : Reason) → w.up ≡ line ∷ behind → is_full w.printer ≡ false → judged w.printer.last line ≡ Err reason → apply w Arrive ≡ arrived w behind (take_judged w.printer (Err reason))
+arrive_refuses w line behind reason same room is = arrive_front_of w line behind same room ∙ ap (λ (what : Result Entry Reason). arrived w behind (take_judged w.printer what)) is
