@@ -1,19 +1,21 @@
 -- What one event, or several, leave of the world.
-use Rattle.std.proofs.Common.{◌≡◌, ℕ, Bool, true, false, cond, List, [], ◌∷◌, ◌++◌, refl, sym, ◌∙◌, ap, append_assoc, append-nil, length, zero, suc, replicate, not, ◌&&◌}
-use Rattle.std.specs.Prelude.{Result, Ok, Err}
+use Rattle.std.proofs.Common.{◌≡◌, ℕ, Bool, true, false, cond, List, [], ◌∷◌, ◌++◌, refl, sym, ◌∙◌, ap, append_assoc, append-nil, length, zero, suc, replicate, not, ◌&&◌, ◌≢◌, map}
+use Rattle.std.specs.Prelude.{Result, Ok, Err, remove, slice_set, if◌then◌else◌}
 use Rattle.std.proofs.lemmas.List.Sums.{fold-append}
 use Rattle.std.specs.List.{list_all}
 use Rattle.std.proofs.lemmas.Bool.{cond_both}
-use Rattle.printer_model.specs.Printer.{PrinterData, Entry, Logged, is_full, judged, take_judged, take_line, run_queue}
-use Rattle.printer_model.specs.World.{WorldData, new_world, can_happen, is_empty, arrive_front, after_run, happen, apply, world_from, world_of, Grew, is_free}
+use Rattle.printer_model.specs.Printer.{IsSameKind, waiting_as, PrinterData, Entry, Logged, is_full, judged, take_judged, take_line, run_queue, ran_line}
+use Rattle.printer_model.specs.World.{WorldData, new_world, can_happen, is_empty, arrive_front, after_run, happen, apply, world_from, world_of, Grew, IsTidy, accepted_lines, moves_printer, moves_up, moves_down, is_free, fits_wire, arrived}
 use Rattle.printer_model.specs.Link.{is_run}
+use Rattle.marlin_reply.specs.Kind.{is_chatter}
 use Rattle.printer_model.specs.declared.printer.Reason.{Reason}
+use Rattle.printer_model.specs.declared.printer.Taken.TheVariants.{Accepted, Full}
 use Rattle.printer_model.specs.declared.event.WorldEvent.{WorldEvent}
 use Rattle.printer_model.specs.declared.event.WorldEvent.TheVariants.{Opened, Send, Arrive, Lose, Garble, Run, Chatter, Recv, Closed}
 
 -- events in two parts
-pub world_from-append : (w : WorldData) (first then : List WorldEvent) → world_from w (first ++ then) ≡ world_from (world_from w first) then
-world_from-append w first then = fold-append apply w first then
+pub world_from-append : (w : WorldData) (first more : List WorldEvent) → world_from w (first ++ more) ≡ world_from (world_from w first) more
+world_from-append w first more = fold-append apply w first more
 
 -- one more event
 pub world_from-push : (w : WorldData) (past : List WorldEvent) (event : WorldEvent) → world_from w (past ++ event ∷ []) ≡ apply (world_from w past) event
@@ -42,10 +44,10 @@ pub Grew-refl : (log : List Logged) → Grew log log
 Grew-refl log = record { added = []; is = sym (append-nil log) }
 
 pub Grew-trans : {a b c : List Logged} → Grew a b → Grew b c → Grew a c
-Grew-trans {a} {b} {c} first then =
+Grew-trans {a} {b} {c} first later =
     record {
-      added = first.added ++ then.added;
-      is = then.is ∙ ap (λ (l : List Logged). l ++ then.added) first.is ∙ append_assoc a first.added then.added;
+      added = first.added ++ later.added;
+      is = later.is ∙ ap (λ (l : List Logged). l ++ later.added) first.is ∙ append_assoc a first.added later.added;
     }
 
 -- the log after a line from the wire was taken
@@ -93,11 +95,6 @@ happen-log w Closed _ = refl
 -- all events but a run leave the log
 pub apply-log : (w : WorldData) (event : WorldEvent) → is_run event ≡ false → (apply w event).log ≡ w.log
 apply-log w event no_run = after_event (λ (v : WorldData). v.log ≡ w.log) w event refl (λ _. happen-log w event no_run)
-
--- what the printer is made with
-pub record IsSameKind (old new : PrinterData) : Type 0 where
-  pub places : new.places ≡ old.places
-  pub advanced : new.advanced ≡ old.advanced
 
 pub IsSameKind-refl : (p : PrinterData) → IsSameKind p p
 IsSameKind-refl p = record { places = refl; advanced = refl }
@@ -205,3 +202,124 @@ runs_only (suc n) = runs_only n
 pub runs_free : (n : ℕ) → list_all is_free (replicate n Run) ≡ true
 runs_free zero = refl
 runs_free (suc n) = runs_free n
+
+-- a line that isn't accepted leaves the printer
+take_judged-kept : (p : PrinterData) (what : Result Entry Reason) → (take_judged p what).0 ≢ Accepted → (take_judged p what).1 ≡ p
+take_judged-kept p (Ok entry) refused_it = absurd (refused_it refl)
+take_judged-kept p (Err reason) refused_it = refl
+
+pub take_line-kept : (p : PrinterData) (line : List ℕ) → (take_line p line).0 ≢ Accepted → (take_line p line).1 ≡ p
+take_line-kept p line =
+    cond_both (is_full p) (Full, p) (take_judged p (judged p.last line)) (λ t. t.0 ≢ Accepted → t.1 ≡ p) (λ _ _. refl) (λ _. take_judged-kept p (judged p.last line))
+
+happen-printer : (w : WorldData) (event : WorldEvent) → moves_printer event ≡ false → (happen w event).printer ≡ w.printer
+happen-printer w (Opened last) idle = absurd (cc)
+happen-printer w (Send line) idle = refl
+happen-printer w Arrive idle = absurd (cc)
+happen-printer w (Lose at) idle = refl
+happen-printer w (Garble at line) idle = refl
+happen-printer w Run idle = absurd (cc)
+happen-printer w (Chatter reply) idle = refl
+happen-printer w Recv idle = refl
+happen-printer w Closed idle = refl
+
+-- all events but Opened, Arrive and Run leave the printer
+pub apply-printer : (w : WorldData) (event : WorldEvent) → moves_printer event ≡ false → (apply w event).printer ≡ w.printer
+apply-printer w event idle = after_event (λ (v : WorldData). v.printer ≡ w.printer) w event refl (λ _. happen-printer w event idle)
+
+ran_up : (w : WorldData) (queue : List Entry) → (after_run w (run_queue w.printer queue)).up ≡ w.up
+ran_up w [] = refl
+ran_up w (entry ∷ behind) = refl
+
+happen-up : (w : WorldData) (event : WorldEvent) → moves_up event ≡ false → (happen w event).up ≡ w.up
+happen-up w (Opened last) idle = absurd (cc)
+happen-up w (Send line) idle = absurd (cc)
+happen-up w Arrive idle = absurd (cc)
+happen-up w (Lose at) idle = absurd (cc)
+happen-up w (Garble at line) idle = absurd (cc)
+happen-up w Run idle = ran_up w w.printer.queue
+happen-up w (Chatter reply) idle = refl
+happen-up w Recv idle = refl
+happen-up w Closed idle = absurd (cc)
+
+-- Run, Chatter and Recv leave the wire to the printer
+pub apply-up : (w : WorldData) (event : WorldEvent) → moves_up event ≡ false → (apply w event).up ≡ w.up
+apply-up w event idle = after_event (λ (v : WorldData). v.up ≡ w.up) w event refl (λ _. happen-up w event idle)
+
+happen-down : (w : WorldData) (event : WorldEvent) → moves_down event ≡ false → (happen w event).down ≡ w.down
+happen-down w (Opened last) idle = absurd (cc)
+happen-down w (Send line) idle = refl
+happen-down w Arrive idle = absurd (cc)
+happen-down w (Lose at) idle = refl
+happen-down w (Garble at line) idle = refl
+happen-down w Run idle = absurd (cc)
+happen-down w (Chatter reply) idle = absurd (cc)
+happen-down w Recv idle = absurd (cc)
+happen-down w Closed idle = absurd (cc)
+
+-- Send, Lose and Garble leave the wire from the printer
+pub apply-down : (w : WorldData) (event : WorldEvent) → moves_down event ≡ false → (apply w event).down ≡ w.down
+apply-down w event idle = after_event (λ (v : WorldData). v.down ≡ w.down) w event refl (λ _. happen-down w event idle)
+
+-- a run moves the front of the queue to the end of the log, and leaves what was accepted
+ran_accepted : (w : WorldData) (queue : List Entry) → w.log ++ map waiting_as queue ≡ accepted_lines w → w.printer.queue ≡ queue → accepted_lines (after_run w (run_queue w.printer queue)) ≡ accepted_lines w
+ran_accepted w [] joined same = refl
+ran_accepted w (entry ∷ behind) joined same = append_assoc w.log (waiting_as entry ∷ []) (map waiting_as behind) ∙ joined
+
+pub run-accepted : (w : WorldData) → accepted_lines (apply w Run) ≡ accepted_lines w
+run-accepted w = after_event (λ (v : WorldData). accepted_lines v ≡ accepted_lines w) w Run refl (λ _. ran_accepted w w.printer.queue refl refl)
+
+ran_tidy : (w : WorldData) (queue : List Entry) → IsTidy w → IsTidy (after_run w (run_queue w.printer queue))
+ran_tidy w [] tidy = tidy
+ran_tidy w (entry ∷ behind) tidy =
+    λ shut. let idle = tidy shut in record { up = idle.up; down = ap (λ (b : Bool). if b then w.down ++ (ran_line w.printer entry).reply ∷ [] else w.down) shut ∙ idle.down }
+
+arrived_tidy : (w : WorldData) (up : List (List ℕ)) → w.up ≡ up → IsTidy w → IsTidy (arrive_front w up)
+arrived_tidy w [] same tidy = tidy
+arrived_tidy w (line ∷ behind) same tidy = λ shut. let idle = tidy shut in absurd (cc (idle.up))
+
+nothing_out : (at : ℕ) → remove {X = List ℕ} [] at ≡ []
+nothing_out zero = refl
+nothing_out (suc at) = refl
+
+-- an event that needs an open link
+open_only : (w v : WorldData) (test : Bool) → (w.linked && test) ≡ true → v.linked ≡ w.linked → IsTidy v
+open_only w v test can same = λ shut. let open_now : w.linked ≡ true = both_left w.linked test can in absurd (cc)
+
+happen-tidy : (w : WorldData) (event : WorldEvent) → can_happen w event ≡ true → IsTidy w → IsTidy (happen w event)
+happen-tidy w (Opened last) can tidy = λ shut. absurd (cc)
+happen-tidy w (Send line) can tidy = open_only w (happen w (Send line)) (fits_wire line.items) can refl
+happen-tidy w Arrive can tidy = arrived_tidy w w.up refl tidy
+happen-tidy w (Lose at) can tidy = λ shut. let idle = tidy shut in record { up = ap (λ (up : List (List ℕ)). remove up at) idle.up ∙ nothing_out at; down = idle.down }
+happen-tidy w (Garble at line) can tidy = λ shut. let idle = tidy shut in record { up = ap (λ (up : List (List ℕ)). slice_set up at line.items) idle.up; down = idle.down }
+happen-tidy w Run can tidy = ran_tidy w w.printer.queue tidy
+happen-tidy w (Chatter reply) can tidy = open_only w (happen w (Chatter reply)) (is_chatter reply.items) can refl
+happen-tidy w Recv can tidy = open_only w (happen w Recv) (not (is_empty w.down)) can refl
+happen-tidy w Closed can tidy = λ shut. record { up = refl; down = refl }
+
+-- without a link nothing stands on the wires, after each event too
+pub apply-tidy : (w : WorldData) (event : WorldEvent) → IsTidy w → IsTidy (apply w event)
+apply-tidy w event tidy = after_event IsTidy w event tidy (λ can. happen-tidy w event can tidy)
+
+pub world_from-tidy : (w : WorldData) (events : List WorldEvent) → IsTidy w → IsTidy (world_from w events)
+world_from-tidy w [] tidy = tidy
+world_from-tidy w (event ∷ events) tidy = world_from-tidy (apply w event) events (apply-tidy w event tidy)
+
+pub world_of-tidy : (places : ℕ) (advanced : Bool) (past : List WorldEvent) → IsTidy (world_of places advanced past)
+world_of-tidy places advanced past = world_from-tidy (new_world places advanced) past (λ _. record { up = refl; down = refl })
+
+-- what an arrival is, by the line at the front of the wire
+pub arrive_front_of : (w : WorldData) (line : List ℕ) (behind : List (List ℕ)) → w.up ≡ line ∷ behind → is_full w.printer ≡ false → apply w Arrive ≡ arrived w behind (take_judged w.printer (judged w.printer.last line))
+arrive_front_of w line behind same room =
+    let can : can_happen w Arrive ≡ true = ap (λ (up : List (List ℕ)). not (is_empty up) && not (is_full w.printer)) same ∙ ap not room in
+    happens w Arrive can
+    ∙ ap (arrive_front w) same
+    ∙ ap (λ (b : Bool). arrived w behind (if b then (Full, w.printer) else take_judged w.printer (judged w.printer.last line))) room
+
+-- the arrival of a line that is accepted
+pub arrive_accepts : (w : WorldData) (line : List ℕ) (behind : List (List ℕ)) (entry : Entry) → w.up ≡ line ∷ behind → is_full w.printer ≡ false → judged w.printer.last line ≡ Ok entry → apply w Arrive ≡ arrived w behind (take_judged w.printer (Ok entry))
+arrive_accepts w line behind entry same room is = arrive_front_of w line behind same room ∙ ap (λ (what : Result Entry Reason). arrived w behind (take_judged w.printer what)) is
+
+-- the arrival of a line that is refused
+pub arrive_refuses : (w : WorldData) (line : List ℕ) (behind : List (List ℕ)) (reason : Reason) → w.up ≡ line ∷ behind → is_full w.printer ≡ false → judged w.printer.last line ≡ Err reason → apply w Arrive ≡ arrived w behind (take_judged w.printer (Err reason))
+arrive_refuses w line behind reason same room is = arrive_front_of w line behind same room ∙ ap (λ (what : Result Entry Reason). arrived w behind (take_judged w.printer what)) is

@@ -1,5 +1,5 @@
 -- The modelled printer: what it holds, how it takes a line and how it runs one.
-use Rattle.std.specs.Prelude.{ℕ, ◌+◌, ◌-◌, Bool, ◌&&◌, ◌==◌, not, nat_le, if◌then◌else◌, List, [], ◌∷◌, ◌++◌, length, Option, Some, None, Result, Ok, Err}
+use Rattle.std.specs.Prelude.{◌≡◌, ◌⊎◌, true, ℕ, ◌+◌, ◌-◌, Bool, ◌&&◌, ◌==◌, not, nat_le, if◌then◌else◌, List, [], ◌∷◌, ◌++◌, length, Option, Some, None, Result, Ok, Err}
 use Rattle.byte_text.specs.Marks.{has_m110}
 use Rattle.marlin_frame.specs.Frame.{begins_with_n, has_checksum, fails, lead_of, line_number_of, text_of}
 use Rattle.printer_model.specs.Replies.{run_reply}
@@ -97,3 +97,21 @@ run_front p = run_queue p p.queue
 -- what of it the log keeps
 abbrev pub logged : RanLine → Logged
 logged ran = record { number = ran.number; text = ran.text }
+
+-- a line that waits, as the log will keep it
+abbrev pub waiting_as : Entry → Logged
+waiting_as entry = record { number = entry.number; text = entry.text }
+
+-- two states of a printer of the same make
+pub record IsSameKind (old new : PrinterData) : Type 0 where
+  pub places : new.places ≡ old.places
+  pub advanced : new.advanced ≡ old.advanced
+
+-- a line follows the last number or sets it
+abbrev pub IsInTurn : ℕ → List ℕ → Type 0
+IsInTurn last line = (line_number_of line ≡ last + 1) ⊎ (has_m110 line ≡ true)
+
+-- a line is refused at this last number, for one of the reasons
+pub record IsRefusal (last : ℕ) (line : List ℕ) : Type 0 where
+  pub reason : Reason
+  pub is : judged last line ≡ Err reason

@@ -1,8 +1,8 @@
 -- The world between host and printer: two wires and the printer, by events.
-use Rattle.std.specs.Prelude.{◌≡◌, ℕ, Bool, true, false, ◌&&◌, not, nat_le, nat_lt, if◌then◌else◌, List, [], ◌∷◌, ◌++◌, length, drop, remove, slice_set, fold, Option, Some, None, Result, Ok, Err}
+use Rattle.std.specs.Prelude.{◌≡◌, ℕ, Bool, true, false, ◌&&◌, not, nat_le, nat_lt, if◌then◌else◌, List, [], ◌∷◌, ◌++◌, length, drop, map, remove, slice_set, fold, Option, Some, None, Result, Ok, Err}
 use Rattle.marlin_frame.specs.Frame.{fails}
 use Rattle.marlin_reply.specs.Kind.{is_chatter}
-use Rattle.printer_model.specs.Printer.{PrinterData, Logged, RanLine, is_full, take_line, run_front, logged}
+use Rattle.printer_model.specs.Printer.{PrinterData, Logged, RanLine, is_full, take_line, run_front, logged, waiting_as}
 use Rattle.printer_model.specs.Replies.{taken_replies}
 use Rattle.printer_model.specs.declared.printer.Taken.{Taken}
 use Rattle.printer_model.specs.declared.event.WorldEvent.{WorldEvent}
@@ -44,6 +44,27 @@ is_free (Garble at line) = true
 is_free Run = true
 is_free (Chatter reply) = true
 is_free _ = false
+
+-- whether an event may change what the printer holds
+abbrev pub moves_printer : WorldEvent → Bool
+moves_printer (Opened last) = true
+moves_printer Arrive = true
+moves_printer Run = true
+moves_printer _ = false
+
+-- whether an event may change the wire to the printer
+abbrev pub moves_up : WorldEvent → Bool
+moves_up Run = false
+moves_up (Chatter reply) = false
+moves_up Recv = false
+moves_up _ = true
+
+-- whether an event may change the wire from the printer
+abbrev pub moves_down : WorldEvent → Bool
+moves_down (Send line) = false
+moves_down (Lose at) = false
+moves_down (Garble at line) = false
+moves_down _ = true
 
 -- whether an event can happen
 abbrev pub can_happen : WorldData → WorldEvent → Bool
@@ -120,6 +141,10 @@ pub record IsShut (w : WorldData) : Type 0 where
 -- a link is made, or nothing stands on the wires
 abbrev pub IsTidy : WorldData → Type 0
 IsTidy w = w.linked ≡ false → IsShut w
+
+-- what the printer accepted: what it ran, and then what waits
+abbrev pub accepted_lines : WorldData → List Logged
+accepted_lines w = w.log ++ map waiting_as w.printer.queue
 
 -- new is old with further lines
 pub record Grew (old new : List Logged) : Type 0 where

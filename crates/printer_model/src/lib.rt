@@ -9,6 +9,7 @@ mod printer;
 mod replies;
 mod schedule;
 mod story;
+mod theorems;
 mod wire;
 mod world;
 
@@ -19,4 +20,8 @@ pub use memory_link::MemoryLink;
 pub use printer::{Printer, Ran, Reason, Taken};
 pub use replies::{error_line, ok_line, resend_line};
 pub use schedule::{Fate, FateList, Schedule};
+pub use theorems::{line_law, refusal_law, reply_law, session_law, world_law};
 pub use world::World;
+
+#[cfg(test)]
+mod tests;

@@ -50,6 +50,13 @@ impl World {
         }
     }
 
+    /// Whether a link is made.
+    pub(crate) fn is_linked(&self) -> bool
+        ensures { result ≡ self.now.linked }
+    {
+        self.linked
+    }
+
     /// How many lines wait in the printer.
     pub(crate) fn waiting(&self) -> usize
         ensures { result ≡ length self.now.printer.queue }

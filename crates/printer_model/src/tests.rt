@@ -1,0 +1,358 @@
+use super::*;
+use octo_outside::{CallList, Line, Name, NameList, ReplyLine};
+use std::alloc::{AllocError, Global};
+use std::process::Abort;
+
+// A line of the outside.
+fn line(rt: &impl Abort, text: &str) -> Line {
+    let mut line = Line::new();
+    line.try_extend_from_slice(text.as_bytes())
+        .expect(rt, "a short line");
+    line
+}
+
+fn reply(rt: &impl Abort, text: &str) -> ReplyLine {
+    let mut reply = ReplyLine::new();
+    reply
+        .try_extend_from_slice(text.as_bytes())
+        .expect(rt, "a short reply");
+    reply
+}
+
+// An event with its line as a text.
+#[derive(Clone, Copy)]
+enum Step {
+    Open(u32),
+    Send(&'static str),
+    Arrive,
+    Lose(u32),
+    Garble(&'static str),
+    Run,
+    Chat(&'static str),
+    // The reply at the front is this one, and is received.
+    Hear(&'static str),
+    // Nothing is there to receive.
+    Quiet,
+    Close,
+}
+
+fn event(rt: &impl Abort, step: Step) -> WorldEvent {
+    match step {
+        Step::Open(last) => WorldEvent::Opened { last },
+        Step::Send(text) => WorldEvent::Send(line(rt, text)),
+        Step::Arrive => WorldEvent::Arrive,
+        Step::Lose(at) => WorldEvent::Lose { at },
+        Step::Garble(text) => WorldEvent::Garble {
+            at: 0,
+            line: line(rt, text),
+        },
+        Step::Run => WorldEvent::Run,
+        Step::Chat(text) => WorldEvent::Chatter(reply(rt, text)),
+        Step::Hear(_) | Step::Quiet => WorldEvent::Recv,
+        Step::Close => WorldEvent::Closed,
+    }
+}
+
+// Does a step, which happens or does not.
+fn perform(rt: &impl Abort, world: &mut World, step: Step, happens: bool) {
+    if let Step::Hear(text) = step {
+        match world.front_reply() {
+            Some(reply) => assert_eq!(rt; reply.as_slice(), text.as_bytes()),
+            None => assert!(rt; false, "no reply, where {text} is due"),
+        }
+    }
+    let happened = world.apply(&event(rt, step)).expect(rt, "memory");
+    assert_eq!(rt; happened, happens);
+}
+
+// A printer that reads a wrong number, is full, and has its line asked again.
+const STEPS: [(Step, bool); 44] = [
+    (Step::Open(4), true),
+    (Step::Run, false),
+    (Step::Send("N7 G28*20"), true),
+    (Step::Arrive, true),
+    (
+        Step::Hear("Error:Line Number is not Last Line Number+1, Last Line: 4"),
+        true,
+    ),
+    (Step::Hear("Resend: 5"), true),
+    (Step::Hear("ok"), true),
+    (Step::Quiet, false),
+    (Step::Send("N0 M110 N0*126"), true),
+    (Step::Arrive, true),
+    (Step::Hear("Error:checksum mismatch, Last Line: 4"), true),
+    (Step::Hear("Resend: 5"), true),
+    (Step::Hear("ok"), true),
+    (Step::Send("N0 M110 N0*125"), true),
+    (Step::Send("N1 G28*18"), true),
+    (Step::Arrive, true),
+    (Step::Garble("N1 G28*18"), false),
+    (Step::Garble("G28"), false),
+    (Step::Garble("N1 G28*19"), true),
+    (Step::Arrive, true),
+    (Step::Run, true),
+    (Step::Hear("Error:checksum mismatch, Last Line: 0"), true),
+    (Step::Hear("Resend: 1"), true),
+    (Step::Hear("ok"), true),
+    (Step::Hear("ok"), true),
+    (Step::Send("M105"), true),
+    (Step::Send("M114"), true),
+    (Step::Send("M115"), true),
+    (Step::Send("N1 G28*18"), true),
+    (Step::Send("N2 G28*17"), true),
+    (Step::Arrive, true),
+    (Step::Arrive, true),
+    (Step::Arrive, true),
+    (Step::Arrive, true),
+    (Step::Arrive, false),
+    (Step::Run, true),
+    (Step::Hear("ok T:21.30 /0.00 B:21.22 /0.00 @:0 B@:0"), true),
+    (Step::Arrive, true),
+    (Step::Arrive, false),
+    (Step::Close, true),
+    (Step::Close, false),
+    (Step::Quiet, false),
+    (Step::Open(0), false),
+    (Step::Run, true),
+];
+
+// The greatest number, and events that can't happen.
+const REFUSALS: [(Step, bool); 23] = [
+    (Step::Send("M105"), false),
+    (Step::Quiet, false),
+    (Step::Close, false),
+    (Step::Chat("echo:busy: processing"), false),
+    (Step::Open(4_294_967_295), true),
+    (Step::Open(0), false),
+    (Step::Chat("ok"), false),
+    (Step::Chat("Resend: 1"), false),
+    (Step::Chat("start"), false),
+    (Step::Chat("echo:busy: processing"), true),
+    (Step::Hear("echo:busy: processing"), true),
+    (Step::Send("N0 M110 N0*126"), true),
+    (Step::Send("N1 G28"), true),
+    (Step::Lose(2), false),
+    (Step::Arrive, true),
+    (Step::Arrive, true),
+    (
+        Step::Hear("Error:checksum mismatch, Last Line: 4294967295"),
+        true,
+    ),
+    (Step::Hear("Resend: 4294967295"), true),
+    (Step::Hear("ok"), true),
+    (
+        Step::Hear("Error:Line Number is not Last Line Number+1, Last Line: 4294967295"),
+        true,
+    ),
+    (Step::Hear("Resend: 4294967295"), true),
+    (Step::Hear("ok"), true),
+    (Step::Quiet, false),
+];
+
+#[test]
+fn world_follows_steps(rt: HostRuntime) {
+    let mut world = World::new(rt.alloc(), 4, false);
+    for (step, happens) in STEPS {
+        perform(&rt, &mut world, step, happens);
+    }
+    assert_eq!(&rt; world.log().len(), 3);
+}
+
+#[test]
+fn world_refuses_events(rt: HostRuntime) {
+    let mut world = World::new(rt.alloc(), 4, false);
+    for (step, happens) in REFUSALS {
+        perform(&rt, &mut world, step, happens);
+    }
+    assert_eq!(&rt; world.log().len(), 0);
+}
+
+#[test]
+fn printer_answers(rt: HostRuntime) {
+    let mut printer = Printer::new(4, 2, true);
+    let full = Taken::Refused {
+        reason: Reason::NoChecksum,
+        last: 4,
+    };
+    for (text, want) in [
+        ("N5 G28", full),
+        (
+            "N0 M110 N0*126",
+            Taken::Refused {
+                reason: Reason::Mismatch,
+                last: 4,
+            },
+        ),
+        ("N0 M110 N0*125", Taken::Accepted),
+        (
+            "N2 G28*17",
+            Taken::Refused {
+                reason: Reason::WrongNumber,
+                last: 0,
+            },
+        ),
+        ("N1 G28*18", Taken::Accepted),
+        ("N2 G28*17", Taken::Full),
+    ] {
+        let bytes = text.as_bytes();
+        assert!(&rt; bytes.len() <= 95);
+        assert_eq!(&rt; printer.arrive(bytes), want);
+    }
+    for (number, reply) in [(0, "ok N0 P15 B0"), (1, "ok N1 P15 B1")] {
+        let ran = printer.run_one().expect(&rt, "a line that waits");
+        assert_eq!(&rt; ran.number, Some(number));
+        assert_eq!(&rt; ran.reply.as_slice(), reply.as_bytes());
+    }
+}
+
+// A call of a link with what it answers.
+#[derive(Clone, Copy)]
+enum Call {
+    Dial(&'static str, Result<(), LinkFault>),
+    Send(&'static str, Result<(), LinkFault>),
+    Hear(&'static str),
+    Quiet,
+    HangUp,
+}
+
+fn make_call(rt: &impl Abort, link: &mut MemoryLink, call: Call) {
+    match call {
+        Call::Dial(name, want) => {
+            assert!(rt; !link.is_up());
+            assert!(rt; link.dial(name) == want);
+        }
+        Call::Send(text, want) => {
+            let line = line(rt, text);
+            assert!(rt; link.is_up() && line.len() <= 95);
+            assert!(rt; link.send(&line) == want);
+        }
+        Call::Hear(text) => check_recv(rt, link, Heard::Line, text),
+        Call::Quiet => check_recv(rt, link, Heard::Nothing, ""),
+        Call::HangUp => link.hang_up(),
+    }
+}
+
+fn check_recv(rt: &impl Abort, link: &mut MemoryLink, want: Heard, text: &str) {
+    let mut reply = ReplyLine::new();
+    assert!(rt; link.is_up());
+    assert!(rt; link.recv(&mut reply) == Ok(want));
+    assert_eq!(rt; reply.as_slice(), text.as_bytes());
+}
+
+// A link to one listed port `p` and a printer of 4 places, whose last number is 4 at first.
+fn memory_link(rt: &impl Abort, alloc: Global, fates: &[Fate], fail_at: &[u64]) -> MemoryLink {
+    let mut list = FateList::new(alloc);
+    for fate in fates {
+        list.push(*fate).expect(rt, "memory");
+    }
+    let mut calls = CallList::new(alloc);
+    for call in fail_at {
+        calls.push(*call).expect(rt, "memory");
+    }
+    let mut names = NameList::new(alloc);
+    let mut name = Name::new();
+    name.try_push_str("p").expect(rt, "a short name");
+    names.push(name).expect(rt, "memory");
+    let schedule = Schedule {
+        names,
+        last: 4,
+        places: 4,
+        advanced: false,
+        fates: list,
+        slow: 0,
+        fail_at: calls,
+    };
+    MemoryLink::new(alloc, schedule).expect(rt, "memory")
+}
+
+fn check_executed(rt: &impl Abort, link: &MemoryLink, session: u32, wanted: &[(u32, &str)]) {
+    let executed = link.executed(session).expect(rt, "memory");
+    assert_eq!(rt; executed.as_slice().len(), wanted.len());
+    for (ran, want) in executed.as_slice().iter().zip(wanted) {
+        assert_eq!(rt; ran.number, Some(want.0));
+        assert_eq!(rt; ran.text.as_slice(), want.1.as_bytes());
+    }
+}
+
+// Two commands, and one more over the second link.
+const WHOLE: [Call; 12] = [
+    Call::Dial("q", Err(LinkFault::NoPort)),
+    Call::Dial("p", Ok(())),
+    Call::Send("N0 M110 N0*125", Ok(())),
+    Call::Hear("ok"),
+    Call::Send("N1 G28*18", Ok(())),
+    Call::Hear("ok"),
+    Call::Send("N2 G1 X10*83", Ok(())),
+    Call::Hear("ok"),
+    Call::Quiet,
+    Call::HangUp,
+    Call::Dial("p", Ok(())),
+    Call::Send("N3 G28*16", Ok(())),
+];
+
+// The second line garbled, the third lost; the tenth call fails.
+const LOSSES: [Call; 10] = [
+    Call::Dial("p", Ok(())),
+    Call::Send("N0 M110 N0*125", Ok(())),
+    Call::Hear("ok"),
+    Call::Send("N1 G28*18", Ok(())),
+    Call::Hear("Error:checksum mismatch, Last Line: 0"),
+    Call::Hear("Resend: 1"),
+    Call::Hear("ok"),
+    Call::Send("N1 G28*18", Ok(())),
+    Call::Quiet,
+    Call::Send("N1 G28*18", Err(LinkFault::Failed)),
+];
+
+#[test]
+fn link_follows_calls(rt: HostRuntime) {
+    let mut link = memory_link(&rt, rt.alloc(), &[], &[]);
+    for call in WHOLE {
+        make_call(&rt, &mut link, call);
+    }
+    make_call(&rt, &mut link, Call::Hear("ok"));
+    check_executed(&rt, &link, 0, &[]);
+    check_executed(&rt, &link, 1, &[(1, "G28"), (2, "G1 X10")]);
+    check_executed(&rt, &link, 2, &[(3, "G28")]);
+    assert_eq!(&rt; link.sends(), 4);
+    assert_eq!(&rt; link.losses(), 0);
+}
+
+#[test]
+fn link_loses_and_fails(rt: HostRuntime) {
+    let mut link = memory_link(
+        &rt,
+        rt.alloc(),
+        &[Fate::Whole, Fate::Garbled, Fate::Lost],
+        &[10, 11],
+    );
+    for call in LOSSES {
+        make_call(&rt, &mut link, call);
+    }
+    // A name that isn't listed beats a failing call.
+    make_call(&rt, &mut link, Call::Dial("q", Err(LinkFault::NoPort)));
+    check_executed(&rt, &link, 1, &[]);
+    assert_eq!(&rt; link.sends(), 3);
+    assert_eq!(&rt; link.losses(), 2);
+}
+
+// Each call that allocates, with ample memory.
+#[test]
+fn ample(rt: HostRuntime) {
+    let mut world = World::new(rt.alloc(), 1, false);
+    for step in [
+        Step::Open(0),
+        Step::Send("M105"),
+        Step::Arrive,
+        Step::Run,
+        Step::Chat("wait"),
+    ] {
+        let happened = world.apply(&event(&rt, step));
+        assert!(&rt; happened == Ok(true));
+    }
+    let link = memory_link(&rt, rt.alloc(), &[Fate::Lost], &[2]);
+    match link.executed(1) {
+        Ok(executed) => assert_eq!(&rt; executed.as_slice().len(), 0),
+        Err(AllocError) => assert!(&rt; false, "memory"),
+    }
+}
