@@ -4,3 +4,4 @@ pub mod OwnOks
 pub mod Silence
 pub mod Soundness
 pub mod Tally
+pub mod Waiting

@@ -86,4 +86,4 @@ pub record IsSound (s : SenderData) : Type 0 where
   -- four silent limits are borne, and none is counted where no answer is waited for
   pub silent_most : s.silent ≤ 5
   pub silent_few : s.ended ≡ None → s.silent ≤ 4
-  pub silent_none : s.ready ≡ true → s.deadline ≡ None → s.silent ≡ 0
+  pub silent_none : s.deadline ≡ None → s.silent ≡ 0

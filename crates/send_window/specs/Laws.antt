@@ -1,14 +1,14 @@
 -- What the steps of a sender keep and bring, in the words of the protocol.
-use Rattle.std.specs.Prelude.{◌≡◌, ◌≢◌, ◌⊎◌, ◌↔◌, ℕ, ◌+◌, ◌-◌, ◌<◌, ◌≤◌, Bool, true, false, not, ◌&&◌, List, [], ◌∷◌, ◌++◌, Option, None, Some, slice_get, is_some, ◌||◌, if◌then◌else◌}
+use Rattle.std.specs.Prelude.{◌≡◌, ◌≢◌, ◌⊎◌, ◌↔◌, ℕ, ◌+◌, ◌-◌, ◌*◌, ◌<◌, ◌≤◌, Bool, true, false, not, ◌&&◌, List, [], ◌∷◌, ◌++◌, Option, None, Some, slice_get, is_some, ◌||◌, if◌then◌else◌}
 use Rattle.byte_text.specs.Sendable.{IsSendable}
 use Rattle.marlin_reply.specs.declared.reply.Reply.{Reply}
 use Rattle.marlin_reply.specs.declared.reply.Reply.TheVariants as reply
 use Rattle.marlin_reply.specs.declared.session.SessionEnd.{SessionEnd}
 use Rattle.marlin_reply.specs.declared.session.SessionEnd.TheVariants.{NoAnswer, AskedBack, AskedAhead, Counts, Restarted, NumbersUsed}
 use Rattle.send_window.specs.Data.{SenderData, IsSound, new_sender, begun}
-use Rattle.send_window.specs.Hearing.{hear_step, tick_step, is_past}
+use Rattle.send_window.specs.Hearing.{later, hear_step, tick_step, is_past}
 use Rattle.send_window.specs.Sending.{hello, line, next_of, room_of, push_step, frame_step, IsFramable}
-use Rattle.send_window.specs.Session.{Step, hears, ticks, issues, gives, after_step, after_steps, IsAllowed, AreAllowed, replies_of, texts_of, HoldsIssued}
+use Rattle.send_window.specs.Session.{Step, hears, ticks, issues, gives, after_step, after_steps, IsAllowed, AreAllowed, replies_of, texts_of, HoldsIssued, IsSince, WaitsSince}
 use Rattle.send_window.specs.Counting.{is_ok, is_resend, is_pending, own_oks, acked_of, AreAwaited, IsInTurn, AreInTurn, traffic_of, IsSilent, IsQuiet, OwesLine}
 
 -- a new sender is sound, a session begins so, and no step breaks it
@@ -167,6 +167,16 @@ EndsInSilence =
     IsInTurn (ticks moment) before → before.ended ≡ None →
     (tick_step moment before).ended ≡ Some (NoAnswer count) →
     IsSilent (traffic_of steps (begun s))
+
+-- no session ends with no answer sooner than five limits after it began or a line was acknowledged, nor where the
+-- hello and all issued lines are acknowledged
+abbrev pub WaitsFiveLimits : Type 0
+WaitsFiveLimits =
+    ((start : ℕ) (s : SenderData) → WaitsSince start (begun s))
+    × ((start : ℕ) (step : Step) (s : SenderData) → IsSound s → IsSince start step → WaitsSince start s → WaitsSince start (after_step step s))
+    × ((heard_line : Reply) (moment : ℕ) (s : SenderData) → s.acked < (hear_step heard_line moment s).acked → WaitsSince moment (hear_step heard_line moment s))
+    × ((start moment count : ℕ) (s : SenderData) → IsSound s → WaitsSince start s → s.ended ≡ None → (tick_step moment s).ended ≡ Some (NoAnswer count) →
+    (later start (5 * s.limit) ≤ moment) × ((s.ready ≡ false) ⊎ (s.acked < s.issued)))
 
 -- a text that may be sent is one that a frame can carry
 abbrev pub CarriesSendable : Type 0

@@ -1,8 +1,8 @@
 -- What happens to a sender in a session, step by step.
-use Rattle.std.specs.Prelude.{◌≡◌, ℕ, ◌≤◌, ◌<◌, List, [], ◌∷◌, length, drop}
+use Rattle.std.specs.Prelude.{◌≡◌, ℕ, ◌+◌, ◌*◌, ◌≤◌, ◌<◌, List, [], ◌∷◌, length, drop, None, Some}
 use Rattle.marlin_reply.specs.declared.reply.Reply.{Reply}
 use Rattle.send_window.specs.Data.{SenderData}
-use Rattle.send_window.specs.Hearing.{hear_step, tick_step}
+use Rattle.send_window.specs.Hearing.{later, hear_step, tick_step}
 use Rattle.send_window.specs.Sending.{room_of, push_step, frame_step}
 
 -- one call: a reply is heard or the clock ticks at a moment, a text is issued, or a frame is asked for at a moment
@@ -57,3 +57,14 @@ pub record HoldsIssued (texts : List (List ℕ)) (s : SenderData) : Type 0 where
   pub count : s.issued ≡ length texts
   pub rest : s.held ≡ drop s.acked texts
   pub acked_issued : s.acked ≤ length texts
+
+-- the step doesn't come before this moment
+abbrev pub IsSince : ℕ → Step → Type 0
+IsSince start (hears heard_line moment) = start ≤ moment
+IsSince start (ticks moment) = start ≤ moment
+IsSince start (issues text) = Unit {0}
+IsSince start (gives moment) = start ≤ moment
+
+-- while the session goes on the deadline leaves room, from a moment on, for the limits that passed in silence and one more
+pub record WaitsSince (start : ℕ) (s : SenderData) : Type 0 where
+  pub long_enough : (wanted : ℕ) → s.ended ≡ None → s.deadline ≡ Some wanted → later start ((s.silent + 1) * s.limit) ≤ wanted

@@ -1,5 +1,5 @@
 //! Laws of the steps above, for proofs that cite them: each function does nothing, and its contract is the law.
-ghost use Rattle.send_window.specs.Laws.{StaysSound, HoldsLines, GivesHeldLines, GivesNothing, AckedRises, ResendKeepsAcked, EndStays, EndsByRule, AckedIsCounted, CountsNext, FlagsAreCounted, SendsInSilence, EndsInSilence, CarriesSendable, KeepsAllLines};
+ghost use Rattle.send_window.specs.Laws.{StaysSound, HoldsLines, GivesHeldLines, GivesNothing, AckedRises, ResendKeepsAcked, EndStays, EndsByRule, AckedIsCounted, CountsNext, FlagsAreCounted, SendsInSilence, EndsInSilence, WaitsFiveLimits, CarriesSendable, KeepsAllLines};
 
 /// What holds of a sender between its calls holds after each of them.
 pub fn sound_law()
@@ -70,4 +70,9 @@ pub fn sendable_law()
 /// What the clock and the frames that go out leave as it is.
 pub fn kept_law()
     ensures { KeepsAllLines }
+{}
+
+/// How long a session waits before it ends with no answer.
+pub fn wait_law()
+    ensures { WaitsFiveLimits }
 {}

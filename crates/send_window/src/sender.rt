@@ -107,7 +107,9 @@ impl Sender {
         self.ended = None;
     }
 
-    /// Takes a reply of the printer that came at `moment`. After an end it changes nothing and answers that end.
+    /// Takes a reply of the printer that came at `moment`: an `ok` acknowledges the next line unless it stands behind
+    /// a Resend, and a Resend has its line sent again with all behind it. What fits no line of the session ends it.
+    /// After an end it changes nothing and answers that end.
     pub fn hear(&mut self, reply: &Reply, moment: u64) -> Result<(), SessionEnd>
         ensures state { self.new ≡ hear_step reply.now moment self.old }
         ensures answer { result ≡ answer_of self.new.ended }
@@ -119,7 +121,8 @@ impl Sender {
         self.answer()
     }
 
-    /// Notes that it is `moment`. After an end it changes nothing and answers that end.
+    /// Notes that it is `moment`: where the limit has passed, all that is unacknowledged is sent again, and the session
+    /// ends when five limits in a row have passed in silence. After an end it changes nothing and answers that end.
     pub fn tick(&mut self, moment: u64) -> Result<(), SessionEnd>
         ensures state { self.new ≡ tick_step moment self.old }
         ensures answer { result ≡ answer_of self.new.ended }
@@ -167,7 +170,8 @@ impl Sender {
         open.min(MOST_LINES - self.issued) as usize
     }
 
-    /// Issues a line and answers its number.
+    /// Issues a line and answers its number, one more than the last one. The text has 1 to 79 bytes, no `*` and no
+    /// line feed.
     pub fn push(&mut self, text: &[u8]) -> u32
         requires room { 0 < room_of self.old }
         requires framable { IsFramable text.now }
@@ -180,7 +184,8 @@ impl Sender {
         self.issued
     }
 
-    /// Writes what is to be sent next and answers its number, 0 for the hello. Where nothing is, it writes nothing.
+    /// Writes what is to be sent next, at most 95 bytes without a line end, and answers its number, 0 for the hello.
+    /// Where nothing is, it writes nothing. Whoever calls it at `moment` sends the line then: that starts the time limit.
     pub fn next_frame(&mut self, moment: u64, into: &mut Line) -> Option<u32>
         ensures number { result ≡ option_map number_of_outgoing (next_of self.old) }
         ensures bytes { IfSome (next_of self.old) (λ next. into.new.items ≡ bytes_of_outgoing next) }
