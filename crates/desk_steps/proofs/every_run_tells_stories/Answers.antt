@@ -1,3 +1,4 @@
+use Rattle.desk_steps.proofs.Foreign.{ForeignTo}
 use Rattle.desk_steps.proofs.Steady.{Steady}
 use Rattle.desk_steps.proofs.Lines.{own}
 use Rattle.desk_steps.specs.Story.{EveryRunTellsStories}
