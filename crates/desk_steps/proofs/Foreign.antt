@@ -186,7 +186,7 @@ module _ (p : ℕ) where
   foreign-draw Closing moment d e f = foreign-scripts d.waiting d (nothing d) refl f (f, tt)
   foreign-draw Fault moment d e f = (f, tt)
 
-  foreign-settle : (s : State) (d : Data) → d.state ≡ s → ForeignTo p d → ForeignTo p (settle_at s d)
+  pub foreign-settle : (s : State) (d : Data) → d.state ≡ s → ForeignTo p d → ForeignTo p (settle_at s d)
   foreign-settle Printing d e f = choose (λ x. ForeignTo p x) (is_issued d) _ d (busy_script point.Done d Printing Finishing e (λ h. h) f) f
   foreign-settle _ d e f = f
 
@@ -221,7 +221,7 @@ module _ (p : ℕ) where
   left_end true d how e f = elim f.other [ inl o ↦ o | inr o ↦ absurd (false≢true (sym o.0 ∙ e)) ]
   left_end false d how e f = tt
 
-  foreign-leave : (s : State) (how : Outcome) (d : Data) → IsIdle s → ForeignTo p d → ForeignNoted (leave s how d)
+  pub foreign-leave : (s : State) (how : Outcome) (d : Data) → IsIdle s → ForeignTo p d → ForeignNoted (leave s how d)
   foreign-leave s how d i f = (record { none = refl; other = inr (refl, i) }, left_end d.active d how refl f)
 
   foreign-fail : (noted : Noted) → ForeignNoted noted → ForeignNoted (fail noted)

@@ -1,3 +1,6 @@
+pub mod Current
 pub mod Foreign
 pub mod Lines
+pub mod Noted
+pub mod Runs
 pub mod Steady

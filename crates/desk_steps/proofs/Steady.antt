@@ -48,13 +48,13 @@ same : (d : Data) → Steady d d
 same d = record { scripts = refl; greatest = refl; waiting = λ h. h }
 
 -- a call that changes other fields
-abbrev Alike : Data → Data → Type 0
+abbrev pub Alike : Data → Data → Type 0
 Alike d e = (e.scripts ≡ d.scripts) × (e.greatest ≡ d.greatest) × (e.waiting ≡ d.waiting)
 
 alike : (d e : Data) → Alike d e → Steady d e
 alike d e a = record { scripts = a.0; greatest = a.1; waiting = λ h. subst AreScripts (sym a.2) h }
 
-joins : (point : Point) (print : ℕ) (d e : Data) → Alike d e → Steady d (with_script point print e)
+pub joins : (point : Point) (print : ℕ) (d e : Data) → Alike d e → Steady d (with_script point print e)
 joins point print d e a = record {
   scripts = a.0;
   greatest = a.1;
@@ -177,7 +177,7 @@ steady-draw Finishing moment d = steady-talk moment d (nothing d) (same d)
 steady-draw Closing moment d = steady-scripts d.waiting d (nothing d) refl (same d)
 steady-draw _ moment d = same d
 
-steady-settle : (s : State) (d : Data) → Steady d (settle_at s d)
+pub steady-settle : (s : State) (d : Data) → Steady d (settle_at s d)
 steady-settle Printing d = either (λ e. Steady d e) (is_issued d) _ d (joins point.Done d.greatest d (record d { state = Finishing }) (refl, refl, refl)) (same d)
 steady-settle _ d = same d
 
