@@ -2,5 +2,6 @@ pub mod Current
 pub mod Foreign
 pub mod Lines
 pub mod Noted
+pub mod Plain
 pub mod Runs
 pub mod Steady

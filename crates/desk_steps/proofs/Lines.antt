@@ -14,7 +14,7 @@ choose_append : {X : Type 0} (b : Bool) (x : X) (xs ys : List X) → cond b (x �
 choose_append true x xs ys = refl
 choose_append false x xs ys = refl
 
-choose_step : {X : Type 0} (b : Bool) (x : X) (xs ys zs : List X) → xs ≡ ys ++ zs → cond b (x ∷ xs) xs ≡ cond b (x ∷ ys) ys ++ zs
+pub choose_step : {X : Type 0} (b : Bool) (x : X) (xs ys zs : List X) → xs ≡ ys ++ zs → cond b (x ∷ xs) xs ≡ cond b (x ∷ ys) ys ++ zs
 choose_step b x xs ys zs e = ap (λ l. cond b (x ∷ l) l) e ∙ choose_append b x ys zs
 
 pub lines_of-append : (p : ℕ) (xs ys : List Line) → lines_of p (xs ++ ys) ≡ lines_of p xs ++ lines_of p ys

@@ -2,6 +2,7 @@ pub mod Course
 pub mod Data
 pub mod Job
 pub mod Note
+pub mod Plain
 pub mod Pull
 pub mod Run
 pub mod Story

@@ -1,15 +1,10 @@
 //! What the desk of a print host does at each call, as steps on plain data, and what a whole run of calls gives.
 #![tactic(auto)]
 
-ghost use Rattle.desk_steps.specs.Story.{EveryRunTellsStories};
-
+mod laws;
 mod state;
 
+pub use laws::{every_beginning_is_in_order, every_course_reads_plainly, every_run_tells_stories};
 pub use marlin_reply::{LinkFact, SessionEnd};
 pub use print_queue::{Ending, Outcome};
 pub use state::{Point, Refusal, State, Tag};
-
-pub fn every_run_tells_stories()
-    ensures { EveryRunTellsStories }
-{
-}
