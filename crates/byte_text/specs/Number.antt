@@ -1,4 +1,4 @@
-use Rattle.std.specs.Prelude.{ℕ, ◌+◌, ◌-◌, ◌*◌, List, fold, min}
+use Rattle.std.specs.Prelude.{ℕ, Bool, false, ◌+◌, ◌-◌, ◌*◌, List, [], ◌∷◌, fold, min}
 use Rattle.std.specs.Char.{is_ascii_digit}
 use Rattle.std.specs.List.{take_while}
 
@@ -13,3 +13,8 @@ decimal_value digits = fold (λ n digit. 10 * n + (digit - 48)) 0 digits
 -- the number at the front: no digits read as 0, and nothing above 4,294,967,295
 unfoldable pub number_of : List ℕ → ℕ
 number_of bytes = min (decimal_value (leading_digits bytes)) 4294967295
+
+-- whether a digit stands at the front
+unfoldable pub begins_with_digit : List ℕ → Bool
+begins_with_digit [] = false
+begins_with_digit (byte ∷ bytes) = is_ascii_digit byte

@@ -1,10 +1,21 @@
 //! Readings of bytes that several crates share: the checksum, a number with its ceiling, and marks in a line.
 #![tactic(auto)]
 
+mod laws;
+mod marks;
+mod numbers;
+mod sendable;
+
 ghost use Rattle.std.specs.Prelude.{◌≡◌};
 ghost use Rattle.byte_text.specs.Xor.{xor_of};
 
-/// The exclusive or of all bytes, Marlin's checksum.
+pub use laws::{byte_law, m110_law, number_law, xor_law};
+pub use marks::{has_byte, has_m110, split_at_last};
+pub use numbers::{leading_digits, number};
+pub use sendable::is_sendable;
+
+/// The exclusive or of all bytes, which Marlin's serial protocol takes as a line's checksum.
+#[tactic(auto, unfolding(crate::specs::Xor::xor_of))]
 pub fn xor(bytes: &[u8]) -> u8
     ensures { result ≡ xor_of bytes.now }
 {
@@ -14,3 +25,6 @@ pub fn xor(bytes: &[u8]) -> u8
     }
     sum
 }
+
+#[cfg(test)]
+mod tests;

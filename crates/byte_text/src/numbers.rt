@@ -1,0 +1,38 @@
+//! A number at the front of bytes.
+ghost use Rattle.std.specs.Prelude.{◌≡◌};
+ghost use Rattle.std.specs.Char.{is_ascii_digit};
+ghost use Rattle.std.specs.List.{prefix_len};
+ghost use Rattle.byte_text.specs.Number.{leading_digits, number_of};
+
+// How many digits stand at the front.
+fn digit_count(bytes: &[u8]) -> usize
+    ensures { result ≡ prefix_len is_ascii_digit bytes.now }
+{
+    bytes
+        .iter()
+        .take_while(|byte| byte.is_ascii_digit())
+        .count()
+}
+
+/// The decimal digits at the front, none where the bytes begin with no digit.
+#[tactic(auto, unfolding(crate::specs::Number::leading_digits))]
+pub fn leading_digits(bytes: &[u8]) -> &[u8]
+    ensures { result.now ≡ leading_digits bytes.now }
+{
+    &bytes[..digit_count(bytes)]
+}
+
+/// The number that the digits at the front write: 0 for none, and 4,294,967,295 for everything above it.
+pub fn number(bytes: &[u8]) -> u32
+    ensures { result ≡ number_of bytes.now }
+{
+    let mut value: u32 = 0;
+    for byte in bytes {
+        if !byte.is_ascii_digit() {
+            return value;
+        }
+        let digit = u32::from(*byte - b'0');
+        value = value.saturating_mul(10).saturating_add(digit);
+    }
+    value
+}

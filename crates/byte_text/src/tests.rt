@@ -1,0 +1,45 @@
+use super::*;
+
+#[test]
+fn sums(rt: HostRuntime) {
+    assert_eq!(rt; xor(b""), 0);
+    assert_eq!(rt; xor(b"N0 M110 N0"), 125);
+    assert_eq!(rt; xor(b"N1 G28"), 18);
+    assert_eq!(rt; xor(b"N2 G1 X10"), 83);
+}
+
+#[test]
+fn numbers_at_the_front(rt: HostRuntime) {
+    assert_eq!(rt; number(b""), 0);
+    assert_eq!(rt; number(b"x7"), 0);
+    assert_eq!(rt; number(b"0125 G28"), 125);
+    assert_eq!(rt; number(b"4294967295"), 4_294_967_295);
+    assert_eq!(rt; number(b"4294967296"), 4_294_967_295);
+    assert_eq!(rt; number(b"99999999999999999999"), 4_294_967_295);
+    assert!(rt; leading_digits(b"28*22") == b"28".as_slice());
+}
+
+#[test]
+fn marks_in_a_line(rt: HostRuntime) {
+    assert!(rt; has_m110(b"N0 M110 N0"));
+    assert!(rt; has_m110(b"M1110M1101"));
+    assert!(rt; !has_m110(b"M11 0"));
+    assert!(rt; has_byte(b"G28*22", b'*'));
+    assert!(rt; !has_byte(b"G28", b'*'));
+    assert!(rt; split_at_last(b"G28", b'*').is_none());
+    let parts = split_at_last(b"G28*1*22", b'*');
+    assert!(rt;
+        parts.is_some_and(|parts| parts.0 == b"G28*1".as_slice() && parts.1 == b"22".as_slice())
+    );
+}
+
+#[test]
+fn sendable_texts(rt: HostRuntime) {
+    assert!(rt; is_sendable(b"G28"));
+    assert!(rt; is_sendable(&[b'a'; 79]));
+    assert!(rt; !is_sendable(&[b'a'; 80]));
+    assert!(rt; !is_sendable(b""));
+    assert!(rt; !is_sendable(b"G28*"));
+    assert!(rt; !is_sendable(b"G28\nG1"));
+    assert!(rt; !is_sendable(b"M110"));
+}

@@ -1,0 +1,5 @@
+pub mod JobLaws
+pub mod Kept
+pub mod Lines
+pub mod Sendable
+pub mod SingleLaw

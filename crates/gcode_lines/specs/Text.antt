@@ -1,0 +1,57 @@
+use Rattle.std.specs.Prelude.{ℕ, ◌-◌, Bool, ◌||◌, ◌&&◌, not, ◌==◌, nat_lt, List, length, take, drop, slice_index, if◌then◌else◌}
+use Rattle.std.specs.List.{prefix_len, suffix_len, before_first, list_any}
+use Rattle.std.specs.Char.{is_ascii_digit}
+use Rattle.byte_text.specs.Marks.{has_m110}
+
+-- `;` begins a comment, `*` a checksum
+abbrev pub is_mark : ℕ → Bool
+is_mark byte = byte == 59 || byte == 42
+
+-- a space or a tab
+abbrev pub is_space : ℕ → Bool
+is_space byte = byte == 32 || byte == 9
+
+-- a space, a tab or a carriage return
+abbrev pub is_blank : ℕ → Bool
+is_blank byte = is_space byte || byte == 13
+
+-- a list without those at its front that pass a test
+unfoldable pub without_front : (ℕ → Bool) → List ℕ → List ℕ
+without_front test bytes = drop (prefix_len test bytes) bytes
+
+-- a list without those at its end that pass a test
+unfoldable pub without_end : (ℕ → Bool) → List ℕ → List ℕ
+without_end test bytes = take (length bytes - suffix_len test bytes) bytes
+
+-- a text without blanks at both ends
+unfoldable pub trimmed : List ℕ → List ℕ
+trimmed bytes = without_end is_blank (without_front is_blank bytes)
+
+-- whether a text begins with a line number: `N` and a digit
+unfoldable pub is_numbered : List ℕ → Bool
+is_numbered text = slice_index text 0 == 78 && is_ascii_digit (slice_index text 1)
+
+-- a text without its line number and the spaces and tabs behind it
+unfoldable pub without_number : List ℕ → List ℕ
+without_number text =
+    if is_numbered text then without_front is_space (without_front is_ascii_digit (drop 1 text)) else text
+
+-- what a line says: without comment, checksum, blanks and line number
+unfoldable pub text_of : List ℕ → List ℕ
+text_of line = without_number (trimmed (before_first is_mark line))
+
+-- whether a text is passed over: it is empty or would set the printer's line number
+unfoldable pub is_skipped : List ℕ → Bool
+is_skipped text = length text == 0 || has_m110 text
+
+-- whether a text is too long to be sent in one line
+unfoldable pub is_too_long : List ℕ → Bool
+is_too_long text = nat_lt 79 (length text)
+
+-- a byte that no command may hold: below 32 but for the tab, and 127
+abbrev pub is_control : ℕ → Bool
+is_control byte = nat_lt byte 32 && not (byte == 9) || byte == 127
+
+-- whether a text holds such a byte
+unfoldable pub has_control : List ℕ → Bool
+has_control text = list_any is_control text

@@ -1,0 +1,162 @@
+//! The text of one line.
+ghost use Rattle.std.specs.Prelude.{◌≡◌, ◌≤◌, length};
+ghost use Rattle.std.specs.Bool.{OnTrue};
+ghost use Rattle.std.specs.List.{before_first, position_or_len, prefix_len, suffix_len};
+ghost use Rattle.gcode_lines.specs.Text.{is_mark, is_space, is_blank, is_control, is_numbered, is_skipped, is_too_long, has_control, trimmed, without_number, text_of};
+ghost use Rattle.std.specs.Char.{is_ascii_digit};
+
+use byte_text::has_m110;
+use octo_outside::Text;
+
+/// The most bytes of a command, so that its frame fits a line of Marlin's buffer.
+const MOST_TEXT: usize = 79;
+
+fn is_mark(byte: u8) -> bool
+    ensures { result ≡ is_mark byte }
+{
+    byte == b';' || byte == b'*'
+}
+
+fn is_space(byte: u8) -> bool
+    ensures { result ≡ is_space byte }
+{
+    byte == b' ' || byte == b'\t'
+}
+
+fn is_blank(byte: u8) -> bool
+    ensures { result ≡ is_blank byte }
+{
+    is_space(byte) || byte == b'\r'
+}
+
+fn is_control(byte: u8) -> bool
+    ensures { result ≡ is_control byte }
+{
+    byte < 32 && byte != b'\t' || byte == 127
+}
+
+/// Where a comment or a checksum begins, or the length.
+fn mark_place(line: &[u8]) -> usize
+    ensures { result ≡ position_or_len is_mark line.now }
+{
+    line.iter().take_while(|byte| !is_mark(**byte)).count()
+}
+
+/// How many blanks stand at the front.
+fn blanks_in_front(bytes: &[u8]) -> usize
+    ensures value { result ≡ prefix_len is_blank bytes.now }
+    ensures fits { result ≤ length bytes.now }
+{
+    bytes.iter().take_while(|byte| is_blank(**byte)).count()
+}
+
+/// How many blanks stand at the end.
+fn blanks_at_end(bytes: &[u8]) -> usize
+    ensures value { result ≡ suffix_len is_blank bytes.now }
+    ensures fits { result ≤ length bytes.now }
+{
+    bytes
+        .iter()
+        .rev()
+        .take_while(|byte| is_blank(**byte))
+        .count()
+}
+
+/// How many digits stand at the front.
+fn digits_in_front(bytes: &[u8]) -> usize
+    ensures value { result ≡ prefix_len is_ascii_digit bytes.now }
+    ensures fits { result ≤ length bytes.now }
+{
+    bytes
+        .iter()
+        .take_while(|byte| byte.is_ascii_digit())
+        .count()
+}
+
+/// How many spaces and tabs stand at the front.
+fn spaces_in_front(bytes: &[u8]) -> usize
+    ensures value { result ≡ prefix_len is_space bytes.now }
+    ensures fits { result ≤ length bytes.now }
+{
+    bytes.iter().take_while(|byte| is_space(**byte)).count()
+}
+
+/// What stands before a comment or a checksum.
+fn before_mark(line: &[u8]) -> &[u8]
+    ensures { result.now ≡ before_first is_mark line.now }
+{
+    &line[..mark_place(line)]
+}
+
+/// A text without blanks at both ends.
+#[tactic(auto, unfolding(crate::specs::Text::trimmed, crate::specs::Text::without_front, crate::specs::Text::without_end))]
+fn trimmed(bytes: &[u8]) -> &[u8]
+    ensures { result.now ≡ trimmed bytes.now }
+{
+    let bytes = &bytes[blanks_in_front(bytes)..];
+    &bytes[..bytes.len() - blanks_at_end(bytes)]
+}
+
+/// Whether a text begins with a line number.
+#[tactic(auto, unfolding(crate::specs::Text::is_numbered))]
+fn is_numbered(text: &[u8]) -> bool
+    ensures value { result ≡ is_numbered text.now }
+    ensures long { OnTrue result (2 ≤ length text.now) }
+{
+    text.len() > 1 && text[0] == b'N' && text[1].is_ascii_digit()
+}
+
+/// A text without its line number, `N` and digits, and the spaces and tabs behind it.
+#[tactic(auto, unfolding(crate::specs::Text::without_number, crate::specs::Text::without_front))]
+fn without_number(text: &[u8]) -> &[u8]
+    ensures { result.now ≡ without_number text.now }
+{
+    if !is_numbered(text) {
+        return text;
+    }
+    let text = &text[1..];
+    let text = &text[digits_in_front(text)..];
+    &text[spaces_in_front(text)..]
+}
+
+/// What a line says: without comment, checksum, blanks and line number.
+#[tactic(auto, unfolding(crate::specs::Text::text_of))]
+pub(crate) fn text_of(line: &[u8]) -> &[u8]
+    ensures { result.now ≡ text_of line.now }
+{
+    without_number(trimmed(before_mark(line)))
+}
+
+/// Whether a text holds a byte that no command may hold.
+#[tactic(auto, unfolding(crate::specs::Text::has_control))]
+pub(crate) fn has_control(text: &[u8]) -> bool
+    ensures { result ≡ has_control text.now }
+{
+    text.iter().any(|byte| is_control(*byte))
+}
+
+/// Whether a text is passed over: it is empty or would set the printer's line number.
+#[tactic(auto, unfolding(crate::specs::Text::is_skipped))]
+pub(crate) fn is_skipped(text: &[u8]) -> bool
+    ensures { result ≡ is_skipped text.now }
+{
+    text.is_empty() || has_m110(text)
+}
+
+/// Whether a text is too long to be sent in one line.
+#[tactic(auto, unfolding(crate::specs::Text::is_too_long))]
+pub(crate) fn is_too_long(text: &[u8]) -> bool
+    ensures { result ≡ is_too_long text.now }
+{
+    text.len() > MOST_TEXT
+}
+
+/// The bytes as a text.
+pub(crate) fn text_from(bytes: &[u8]) -> Text
+    requires { length bytes.now ≤ 79 }
+    ensures { result.items ≡ bytes.now }
+{
+    let mut text = Text::new();
+    let _ = text.try_extend_from_slice(bytes);
+    text
+}

@@ -1,0 +1,64 @@
+-- The numbered lines of Marlin's serial protocol: `N`, the number, a space, the command, `*` and the checksum.
+use Rattle.std.specs.Prelude.{ℕ, Bool, false, ◌&&◌, ◌==◌, not, List, [], ◌∷◌, ◌++◌, drop, codes, decimal, if◌then◌else◌}
+use Rattle.std.specs.Char.{is_ascii_digit}
+use Rattle.std.specs.List.{prefix_len, after_first, before_last, after_last}
+use Rattle.byte_text.specs.Marks.{has_byte, has_m110}
+use Rattle.byte_text.specs.Number.{number_of}
+use Rattle.byte_text.specs.Xor.{xor_of}
+
+-- what the checksum of a numbered command is taken of
+unfoldable pub head_of : ℕ → List ℕ → List ℕ
+head_of n text = codes "N" ++ decimal n ++ codes " " ++ text
+
+-- the line that carries a command under a number
+unfoldable pub frame_of : ℕ → List ℕ → List ℕ
+frame_of n text = head_of n text ++ codes "*" ++ decimal (xor_of (head_of n text))
+
+-- whether a line is numbered
+unfoldable pub begins_with_n : List ℕ → Bool
+begins_with_n [] = false
+begins_with_n (byte ∷ line) = byte == 78
+
+-- what a checksum, where there is one, is taken of
+unfoldable pub checked_part : List ℕ → List ℕ
+checked_part line = before_last (λ byte. byte == 42) line
+
+-- whether a line has a checksum, a `*`
+unfoldable pub has_checksum : List ℕ → Bool
+has_checksum line = has_byte 42 line
+
+-- whether the number behind the last `*` is the exclusive or of what stands before it
+unfoldable pub checksum_matches : List ℕ → Bool
+checksum_matches line = number_of (after_last (λ byte. byte == 42) line) == xor_of (checked_part line)
+
+-- whether a numbered line has no checksum or a wrong one
+unfoldable pub fails : List ℕ → Bool
+fails line = begins_with_n line && not (has_checksum line && checksum_matches line)
+
+-- the number behind the `N` that a numbered line begins with
+unfoldable pub lead_of : List ℕ → ℕ
+lead_of line = number_of (drop 1 line)
+
+-- whether a line that sets the printer's number gives it behind a further `N`, at its fifth byte or later
+unfoldable pub has_second_n : List ℕ → Bool
+has_second_n line = has_m110 line && has_byte 78 (drop 4 line)
+
+-- the number that a numbered line counts by
+unfoldable pub line_number_of : List ℕ → ℕ
+line_number_of line =
+    if has_second_n line
+    then number_of (after_first (λ byte. byte == 78) (drop 4 line))
+    else lead_of line
+
+-- what follows the digits at the front
+unfoldable pub behind_digits : List ℕ → List ℕ
+behind_digits bytes = drop (prefix_len is_ascii_digit bytes) bytes
+
+-- without one space at the front, where there is one
+unfoldable pub behind_space : List ℕ → List ℕ
+behind_space [] = []
+behind_space (byte ∷ bytes) = if byte == 32 then bytes else byte ∷ bytes
+
+-- the command of a numbered line: behind the `N`, its digits and one space, up to the last `*`
+unfoldable pub text_of : List ℕ → List ℕ
+text_of line = behind_space (behind_digits (drop 1 (checked_part line)))
