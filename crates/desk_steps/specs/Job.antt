@@ -1,17 +1,5 @@
-use Rattle.std.specs.Prelude.{ℕ, List, [], ◌∷◌, map, Option, None}
-
-pub record Command : Type 0 where
-  pub text : List ℕ
-  pub line : ℕ
-  pub place : ℕ
-
-pub record JobData : Type 0 where
-  pub commands : List Command
-  pub skipped : ℕ
-  pub bytes : ℕ
-
-abbrev pub texts_of : JobData → List (List ℕ)
-texts_of job = map (λ c. c.text) job.commands
+use Rattle.std.specs.Prelude.{ℕ, Option, None}
+use Rattle.gcode_lines.specs.Job.{JobData}
 
 pub record Limits : Type 0 where
   pub tool : ℕ

@@ -1,4 +1,5 @@
 //! The desk's states, the points at which scripts run, and how an issued line is tagged.
+use thiserror::Error;
 
 /// What the desk does with its printer.
 #[derive(Clone, Copy, Debug, PartialEq, Eq)]
@@ -16,9 +17,10 @@ pub enum State {
 }
 
 /// When a script runs; the names of OctoPrint's GCODE scripts stand beside.
-#[derive(Clone, Copy, Debug, PartialEq, Eq)]
+#[derive(Clone, Copy, Debug, PartialEq, Eq, Default)]
 pub enum Point {
     /// afterPrinterConnected
+    #[default]
     Connected,
     /// beforePrinterDisconnected
     Disconnect,
@@ -49,16 +51,21 @@ pub enum Tag {
 }
 
 /// Why the desk refuses a call.
-#[derive(Clone, Copy, Debug, PartialEq, Eq)]
+#[derive(Clone, Copy, Debug, PartialEq, Eq, Error)]
 pub enum Refusal {
     /// The call is not for this state.
+    #[error("not in the state {state:?}")]
     WrongState { state: State },
     /// No file is selected.
+    #[error("no file is selected")]
     NoFile,
-    /// So many manual lines wait that the new ones would pass 256.
+    /// With so many manual lines waiting, the new ones would pass 256.
+    #[error("{held} lines wait")]
     Full { held: u32 },
     /// The file is being printed.
+    #[error("the file is being printed")]
     FileBusy,
-    /// A command of the file asks for more degrees than the limit.
+    /// A command of the file asks for more degrees than the limit; the line is counted from 1.
+    #[error("line {line}: too hot: {asked} over {limit}")]
     TooHotLine { line: u32, asked: u64, limit: u16 },
 }

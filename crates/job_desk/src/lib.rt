@@ -1,0 +1,9 @@
+//! The desk of a print host: its states, its scripts and its prints.
+#![tactic(auto)]
+
+mod issued;
+mod scripts;
+
+pub use desk_steps::{Ending, LinkFact, Outcome, Point, Refusal, SessionEnd, State, Tag};
+pub use issued::{Issued, Note};
+pub use scripts::{AddFault, Scripts};
