@@ -1,3 +1,3 @@
-pub mod Held
+pub mod Entries
 pub mod Scripts
 pub mod Views

@@ -33,6 +33,10 @@ pub record IsScriptList (texts : List (List ℕ)) : Type 0 where
 abbrev pub AreScriptLists : ScriptTexts → Type 0
 AreScriptLists scripts = (point : Point) → IsScriptList (texts_at point scripts)
 
+-- the most scripts that wait
+abbrev pub most_waiting : ℕ
+most_waiting = 5
+
 -- the scripts, the lines of those that wait, and how many wait
 pub record WaitingData : Type 0 where
   pub scripts : ScriptTexts

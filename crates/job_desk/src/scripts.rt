@@ -26,29 +26,80 @@ pub enum AddFault {
     NoMemory,
 }
 
+/// The texts of one script.
+#[derive(Drop)]
+pub(crate) struct Script {
+    texts: Vec<Text>,
+}
+
+impl Model for Script {
+    ghost use Rattle.std.specs.Prelude.{ℕ, List, map};
+    ghost use Rattle.job_desk.specs.Scripts.{IsScriptList};
+
+    ghost Value = { List (List ℕ) };
+
+    ghost view = { λ s. map (λ t. t.items) s.texts.items };
+
+    ghost invariant = { λ s. IsScriptList (map (λ t. t.items) s.texts.items) };
+}
+
+impl Script {
+    fn new(alloc: Global) -> Script
+        ensures { result ≡ [] }
+    {
+        Script {
+            texts: Vec::new(alloc),
+        }
+    }
+
+    /// Adds a text at the end. After a fault the script is as before.
+    fn add(&mut self, text: &Text) -> Result<(), AddFault>
+        requires { IsSendable text.now.items }
+        ensures ok { OnOk result (self.new ≡ self.old ++ text.now.items ∷ []) }
+        ensures err { OnErr result (self.new ≡ self.old) }
+        ensures too_many { (result ≡ Err AddFault.TooMany) ↔ (length self.old ≡ most_lines) }
+    {
+        if self.texts.len() >= MOST_LINES {
+            return Err(AddFault::TooMany);
+        }
+        match self.texts.push(text_of(text.as_slice())) {
+            Ok(()) => Ok(()),
+            Err(_) => Err(AddFault::NoMemory),
+        }
+    }
+
+    fn get(&self, i: usize) -> Option<&Text>
+        ensures value { option_map (λ t. t.items) (option_copied result) ≡ slice_get self.now i }
+        ensures sendable { IfSome result (λ t. IsSendable t.now.items) }
+    {
+        self.texts.get(i)
+    }
+
+    fn len(&self) -> usize
+        ensures { result ≡ length self.now }
+    {
+        self.texts.len()
+    }
+}
+
 /// Up to 64 texts for each point, each of which may be sent.
 #[derive(Drop)]
 pub struct Scripts {
-    connected: Vec<Text>,
-    disconnect: Vec<Text>,
-    started: Vec<Text>,
-    paused: Vec<Text>,
-    resumed: Vec<Text>,
-    cancelled: Vec<Text>,
-    done: Vec<Text>,
+    connected: Script,
+    disconnect: Script,
+    started: Script,
+    paused: Script,
+    resumed: Script,
+    cancelled: Script,
+    done: Script,
 }
 
 impl Model for Scripts {
     ghost use Rattle.desk_steps.specs.Data.{ScriptTexts};
-    ghost use Rattle.job_desk.specs.Scripts.{AreScriptLists};
 
     ghost Value = { ScriptTexts };
 
-    ghost use Rattle.job_desk.specs.Held.{script_texts};
-
-    ghost view = { script_texts };
-
-    ghost invariant = { λ scripts. AreScriptLists (script_texts scripts) };
+    ghost view = { λ s. record { connected = s.connected; disconnect = s.disconnect; started = s.started; paused = s.paused; resumed = s.resumed; cancelled = s.cancelled; done = s.done } };
 }
 
 impl Scripts {
@@ -57,13 +108,13 @@ impl Scripts {
         ensures { result ≡ no_scripts }
     {
         Scripts {
-            connected: Vec::new(alloc),
-            disconnect: Vec::new(alloc),
-            started: Vec::new(alloc),
-            paused: Vec::new(alloc),
-            resumed: Vec::new(alloc),
-            cancelled: Vec::new(alloc),
-            done: Vec::new(alloc),
+            connected: Script::new(alloc),
+            disconnect: Script::new(alloc),
+            started: Script::new(alloc),
+            paused: Script::new(alloc),
+            resumed: Script::new(alloc),
+            cancelled: Script::new(alloc),
+            done: Script::new(alloc),
         }
     }
 
@@ -75,28 +126,28 @@ impl Scripts {
         ensures too_many { (result ≡ Err AddFault.TooMany) ↔ (length (texts_at point self.old) ≡ most_lines) }
     {
         match point {
-            Point::Connected => add_to(&mut self.connected, text),
-            Point::Disconnect => add_to(&mut self.disconnect, text),
-            Point::Started => add_to(&mut self.started, text),
-            Point::Paused => add_to(&mut self.paused, text),
-            Point::Resumed => add_to(&mut self.resumed, text),
-            Point::Cancelled => add_to(&mut self.cancelled, text),
-            Point::Done => add_to(&mut self.done, text),
+            Point::Connected => self.connected.add(text),
+            Point::Disconnect => self.disconnect.add(text),
+            Point::Started => self.started.add(text),
+            Point::Paused => self.paused.add(text),
+            Point::Resumed => self.resumed.add(text),
+            Point::Cancelled => self.cancelled.add(text),
+            Point::Done => self.done.add(text),
         }
     }
 
-    /// The texts of a script.
-    fn list(&self, point: Point) -> &[Text]
-        ensures { map (λ t. t.items) result.now ≡ texts_at point self.now }
+    /// The script at a point.
+    fn at(&self, point: Point) -> &Script
+        ensures { result.now ≡ texts_at point self.now }
     {
         match point {
-            Point::Connected => self.connected.as_slice(),
-            Point::Disconnect => self.disconnect.as_slice(),
-            Point::Started => self.started.as_slice(),
-            Point::Paused => self.paused.as_slice(),
-            Point::Resumed => self.resumed.as_slice(),
-            Point::Cancelled => self.cancelled.as_slice(),
-            Point::Done => self.done.as_slice(),
+            Point::Connected => &self.connected,
+            Point::Disconnect => &self.disconnect,
+            Point::Started => &self.started,
+            Point::Paused => &self.paused,
+            Point::Resumed => &self.resumed,
+            Point::Cancelled => &self.cancelled,
+            Point::Done => &self.done,
         }
     }
 
@@ -105,31 +156,13 @@ impl Scripts {
         ensures value { option_map (λ t. t.items) (option_copied result) ≡ slice_get (texts_at point self.now) i }
         ensures sendable { IfSome result (λ t. IsSendable t.now.items) }
     {
-        self.list(point).get(i)
+        self.at(point).get(i)
     }
 
     /// How many texts a script has.
     pub fn count(&self, point: Point) -> usize
         ensures { result ≡ length (texts_at point self.now) }
     {
-        self.list(point).len()
-    }
-}
-
-/// Adds a text at the end of one script.
-fn add_to(list: &mut Vec<Text>, text: &Text) -> Result<(), AddFault>
-    requires sendable { IsSendable text.now.items }
-    requires few { length list.old.items ≤ most_lines }
-    ensures ok { OnOk result (map (λ t. t.items) list.new.items ≡ map (λ t. t.items) list.old.items ++ text.now.items ∷ []) }
-    ensures err { OnErr result (list.new.items ≡ list.old.items) }
-    ensures too_many { (result ≡ Err AddFault.TooMany) ↔ (length list.old.items ≡ most_lines) }
-    ensures room { OnOk result (length list.old.items < most_lines) }
-{
-    if list.len() >= MOST_LINES {
-        return Err(AddFault::TooMany);
-    }
-    match list.push(text_of(text.as_slice())) {
-        Ok(()) => Ok(()),
-        Err(_) => Err(AddFault::NoMemory),
+        self.at(point).len()
     }
 }
