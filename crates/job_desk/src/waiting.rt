@@ -75,6 +75,39 @@ impl Waiting {
         self.entries.is_empty()
     }
 
+    /// The first line, if there is one.
+    fn first(&self) -> Option<Issued>
+        ensures value { option_map line_of result ≡ slice_get self.now.lines 0 }
+        ensures sendable { IfSome result (λ issued. IsSendable issued.text.items) }
+    {
+        let entry = self.entries.as_slice().first()?;
+        let text = self.scripts.get(entry.point, entry.next)?;
+        Some(Issued {
+            text: text_of(text.as_slice()),
+            tag: Tag::Script {
+                point: entry.point,
+                print: entry.print,
+            },
+        })
+    }
+
+    /// Goes past the first line.
+    fn advance(&mut self)
+        requires { 0 < length self.old.lines }
+        ensures scripts { self.new.scripts ≡ self.old.scripts }
+        ensures lines { self.new.lines ≡ drop 1 self.old.lines }
+        ensures count { self.new.count ≤ self.old.count }
+    {
+        let entry = self.entries[0];
+        let count = self.scripts.count(entry.point);
+        let next = entry.next + 1;
+        if next < count {
+            self.entries[0] = Entry { next, ..entry };
+        } else {
+            self.entries.remove(0);
+        }
+    }
+
     /// Takes the first line, if there is one.
     pub(crate) fn next(&mut self) -> Option<Issued>
         ensures value { option_map line_of result ≡ slice_get self.old.lines 0 }
@@ -83,21 +116,9 @@ impl Waiting {
         ensures lines { self.new.lines ≡ drop 1 self.old.lines }
         ensures count { self.new.count ≤ self.old.count }
     {
-        let entry = *self.entries.as_slice().first()?;
-        let text = text_of(self.scripts.get(entry.point, entry.next)?.as_slice());
-        let next = entry.next + 1;
-        if next < self.scripts.count(entry.point) {
-            self.entries[0] = Entry { next, ..entry };
-        } else {
-            self.entries.remove(0);
-        }
-        Some(Issued {
-            text,
-            tag: Tag::Script {
-                point: entry.point,
-                print: entry.print,
-            },
-        })
+        let line = self.first()?;
+        self.advance();
+        Some(line)
     }
 
     /// Drops all that wait.
