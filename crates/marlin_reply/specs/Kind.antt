@@ -1,0 +1,65 @@
+use Rattle.std.specs.Prelude.{ℕ, nat_eq, nat_le, Bool, true, false, ◌||◌, ◌&&◌, if◌then◌else◌, codes, List, length, drop, Option, None, Some}
+use lib.Pointwise.{pointwise}
+use Rattle.byte_text.specs.Number.{leading_digits}
+use Rattle.marlin_reply.specs.Pieces.{trimmed, begins, behind_spaces, field_of, small_number}
+use Rattle.marlin_reply.specs.Temperatures.{temps_of}
+use Rattle.marlin_reply.specs.declared.reply.Reply.{Reply}
+use Rattle.marlin_reply.specs.declared.reply.Reply.TheVariants as reply
+use Rattle.marlin_reply.specs.declared.reply.Temps.{Temps}
+
+-- whether two texts are equal
+abbrev pub is : List ℕ → List ℕ → Bool
+is text word = pointwise nat_eq text word
+
+-- an `ok` with the fields that its pieces hold
+unfoldable pub ok_of : List ℕ → Reply
+ok_of text = reply.Ok (field_of 78 text) (field_of 80 text) (field_of 66 text) (temps_of text)
+
+-- a request for the line of that number
+abbrev pub request_of : Option ℕ → Reply
+request_of None = reply.Other
+request_of (Some number) = reply.Resend number
+
+-- behind `Resend:` one to ten digits up to 4,294,967,295, where no eleventh digit follows
+unfoldable pub resend_of : List ℕ → Reply
+resend_of digits =
+    if nat_le 1 (length digits) && nat_le (length digits) 10 then request_of (small_number digits) else reply.Other
+
+-- a report of temperatures, another line where no heater is whole
+abbrev pub report_of : Option Temps → Reply
+report_of None = reply.Other
+report_of (Some temps) = reply.Temps temps
+
+-- what a line that is neither `ok` nor a request nor `start` says
+unfoldable pub talk_of : List ℕ → Reply
+talk_of text =
+    if begins text (codes "echo:busy:") || begins text (codes "busy:") then reply.Busy
+    else (if begins text (codes "T:") || begins text (codes "B:") then report_of (temps_of text)
+    else (if begins text (codes "Error:") then reply.Error
+    else reply.Other))
+
+-- what a line without blanks at its ends says, the first of these that fits
+unfoldable pub kind_of_text : List ℕ → Reply
+kind_of_text text =
+    if is text (codes "ok") || begins text (codes "ok ") then ok_of text
+    else (if begins text (codes "Resend:") then resend_of (leading_digits (behind_spaces (drop 7 text)))
+    else (if is text (codes "start") then reply.Start
+    else talk_of text))
+
+-- the reply that a line is
+unfoldable pub kind_of : List ℕ → Reply
+kind_of line = kind_of_text (trimmed line)
+
+-- whether a reply is neither Ok, Resend nor Start
+abbrev pub is_talk : Reply → Bool
+is_talk (reply.Ok number planner block temps) = false
+is_talk (reply.Resend number) = false
+is_talk reply.Start = false
+is_talk reply.Busy = true
+is_talk (reply.Temps temps) = true
+is_talk reply.Error = true
+is_talk reply.Other = true
+
+-- whether a line is chatter, which moves nothing: its reply is neither Ok, Resend nor Start
+unfoldable pub is_chatter : List ℕ → Bool
+is_chatter line = is_talk (kind_of line)
