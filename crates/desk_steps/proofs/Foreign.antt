@@ -1,7 +1,8 @@
 -- A print that is not going on: no call but its own start touches it.
 use Rattle.std.proofs.Common.{◌≡◌, ◌⊎◌, inl, inr, ℕ, ◌<◌, Bool, true, false, cond, nat_eq, ◌+◌, ◌&&◌, codes, List, [], ◌∷◌, ◌++◌, length, slice_get, Option, None, Some, Result, Ok, Err, if◌then◌else◌, refl, sym, ◌∙◌, ap, subst}
 use Rattle.std.proofs.lemmas.Bool.{false≢true}
-use Rattle.desk_steps.specs.Job.{HotLine, hot_of}
+use Rattle.temp_rules.specs.declared.job.HotLine.{HotLine}
+use Rattle.temp_rules.specs.Hot.{first_hot_of}
 use Rattle.desk_steps.specs.Data.{ScriptTexts, Data, File, Line, script_lines, commands_of, with_script, moment_after}
 use Rattle.desk_steps.specs.Table.{done, connecting, closing, cancelling, connect_at, disconnect_at, select_at, drop_file_step, is_named, start_at, start_checked, start_file, restart_at, printing, pause_at, resume_at, toggle_at, cancel_at, manual_at, add_manual}
 use Rattle.desk_steps.specs.Pull.{Drawn, talk, nothing, next_number, keep_number, issue, from_scripts, from_manual, from_poll, poll_is_due, from_file, draw_at, is_issued, settle_at, settled, pull_step}

@@ -1,7 +1,8 @@
 -- The law over whole runs.
 use Rattle.std.proofs.Common.{◌≡◌, ◌⊎◌, inl, inr, ℕ, ◌<◌, Bool, true, false, cond, nat_eq, ◌+◌, ◌&&◌, codes, List, [], ◌∷◌, ◌++◌, length, slice_get, Option, None, Some, Result, Ok, Err, if◌then◌else◌, refl, sym, ◌∙◌, ap, subst}
 use Rattle.std.proofs.lemmas.Bool.{false≢true}
-use Rattle.desk_steps.specs.Job.{HotLine, hot_of}
+use Rattle.temp_rules.specs.declared.job.HotLine.{HotLine}
+use Rattle.temp_rules.specs.Hot.{first_hot_of}
 use Rattle.desk_steps.specs.Data.{ScriptTexts, Data, File, Line, script_lines, commands_of, with_script, moment_after}
 use Rattle.desk_steps.specs.Table.{done, connecting, closing, cancelling, connect_at, disconnect_at, select_at, drop_file_step, is_named, start_at, start_checked, start_file, restart_at, printing, pause_at, resume_at, toggle_at, cancel_at, manual_at, add_manual}
 use Rattle.desk_steps.specs.Pull.{Drawn, talk, nothing, next_number, keep_number, issue, from_scripts, from_manual, from_poll, poll_is_due, from_file, draw_at, is_issued, settle_at, settled, pull_step}
@@ -25,7 +26,7 @@ use Rattle.std.proofs.lemmas.Bool.Decides.{nat_tests}
 use Rattle.std.proofs.lemmas.Bool.{cases_lt}
 use Rattle.std.proofs.lemmas.List.Elements.{All-push, All-nil}
 use Rattle.desk_steps.specs.Data.{new_desk, texts_at}
-use Rattle.desk_steps.specs.Job.{Limits}
+use Rattle.temp_rules.specs.declared.limits.Limits.{Limits}
 use Rattle.desk_steps.specs.Course as course
 use Rattle.desk_steps.specs.Course.{Course, Body, started, paused}
 use Rattle.desk_steps.specs.Story.{Story, IsBegun, never, going, left, IsPulledWell, TellsStories}
@@ -143,7 +144,7 @@ module _ (scripts : ScriptTexts) (p : ℕ) (positive : nat_eq 0 p ≡ false) whe
 
   start_of : (q : ℕ) (run : Run) (file : Option File) → run.desk.scripts ≡ scripts → run.desk.greatest < q → run.desk.state ≡ Operational → KnownOf run → KnownOf (after_start q (start_file file q run.desk) run)
   start_of q run None k rises s h = h
-  start_of q run (Some file) k rises s h = start_hot q run (hot_of run.desk.limits file.job) k rises s h
+  start_of q run (Some file) k rises s h = start_hot q run (first_hot_of run.desk.limits file.job.commands) k rises s h
 
   known-start : (q : ℕ) (run : Run) (s : State) → run.desk.state ≡ s → run.desk.scripts ≡ scripts → run.desk.greatest < q → KnownOf run → KnownOf (after_start q (start_at s q run.desk) run)
   known-start q run Operational e k rises h = start_of q run run.desk.file k rises e h
@@ -251,7 +252,7 @@ module _ (scripts : ScriptTexts) where
 
   sound_file : (q : ℕ) (run : Run) (file : Option File) → Sound scripts run → Sound scripts (after_start q (start_file file q run.desk) run)
   sound_file q run None h = h
-  sound_file q run (Some file) h = sound_hot q run (hot_of run.desk.limits file.job) h
+  sound_file q run (Some file) h = sound_hot q run (first_hot_of run.desk.limits file.job.commands) h
 
   sound_start : (q : ℕ) (run : Run) (s : State) → Sound scripts run → Sound scripts (after_start q (start_at s q run.desk) run)
   sound_start q run Operational h = sound_file q run run.desk.file h

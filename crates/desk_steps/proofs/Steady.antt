@@ -2,7 +2,8 @@
 use Rattle.std.proofs.Common.{◌≡◌, ℕ, Bool, true, false, cond, nat_eq, List, [], ◌∷◌, ◌++◌, map, Option, None, Some, refl, sym, ◌∙◌, ap, subst}
 use Rattle.std.proofs.Common.{◌+◌, ◌&&◌, codes, Result, Ok, Err, if◌then◌else◌}
 use Rattle.desk_steps.specs.Data.{moment_after, ScriptTexts, Data, File, Line, tagged, texts_at, script_lines, commands_of, with_script}
-use Rattle.desk_steps.specs.Job.{HotLine, hot_of}
+use Rattle.temp_rules.specs.declared.job.HotLine.{HotLine}
+use Rattle.temp_rules.specs.Hot.{first_hot_of}
 use Rattle.desk_steps.specs.Table.{done, connect_at, disconnect_at, select_at, drop_file_step, is_named, start_at, start_checked, restart_at, printing, pause_at, resume_at, toggle_at, cancel_at, manual_at, add_manual}
 use Rattle.desk_steps.specs.Pull.{Drawn, talk, nothing, next_number, keep_number, issue, from_scripts, from_manual, from_poll, poll_is_due, from_file, draw_at, is_issued, settle_at, settled, pull_step}
 use Rattle.desk_steps.specs.Course.{job_line}

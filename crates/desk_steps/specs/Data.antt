@@ -1,7 +1,7 @@
 -- The desk as plain data.
 use Rattle.std.specs.Prelude.{ℕ, ◌+◌, Bool, false, min, List, [], ◌∷◌, ◌++◌, map, length, Option, None, Some}
 use Rattle.gcode_lines.specs.Job.{JobData, texts_of}
-use Rattle.desk_steps.specs.Job.{Limits}
+use Rattle.temp_rules.specs.declared.limits.Limits.{Limits}
 use Rattle.desk_steps.specs.declared.state.State.{State}
 use Rattle.desk_steps.specs.declared.state.State.TheVariants.{Offline}
 use Rattle.desk_steps.specs.declared.state.Point.{Point}

@@ -1,6 +1,5 @@
 pub mod Course
 pub mod Data
-pub mod Job
 pub mod Note
 pub mod Plain
 pub mod Pull

@@ -1,7 +1,7 @@
 -- What whole runs of a desk come to.
 use Rattle.std.specs.Prelude.{◌≡◌, ℕ, ◌<◌, ◌≤◌, Bool, true, false, List, [], ◌∷◌, ◌++◌, length, take, All}
 use Rattle.desk_steps.specs.Data.{ScriptTexts, Data, Line, new_desk}
-use Rattle.desk_steps.specs.Job.{Limits}
+use Rattle.temp_rules.specs.declared.limits.Limits.{Limits}
 use Rattle.desk_steps.specs.Course.{End, Open, Paused, Cancelled, Done, Course}
 use Rattle.desk_steps.specs.Run.{DeskCall, Fate, Finished, Stopped, Left, Unplugged, Broken, Pulled, Run, new_run, run_of, MayCallAll, pulled_of, of_print}
 use Rattle.desk_steps.specs.declared.state.State.{State}

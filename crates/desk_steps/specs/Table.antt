@@ -1,7 +1,8 @@
 -- What each call does in each state: its answer and the desk after it.
 use Rattle.std.specs.Prelude.{ℕ, ◌+◌, Bool, true, false, ◌&&◌, nat_lt, nat_eq, nat_le, not, ◌==◌, ◌||◌, List, [], ◌++◌, length, Option, None, Some, Result, Ok, Err, if◌then◌else◌}
 use Rattle.std.specs.Cmp.Lexicographic.{pointwise}
-use Rattle.desk_steps.specs.Job.{hot_of, HotLine}
+use Rattle.temp_rules.specs.declared.job.HotLine.{HotLine}
+use Rattle.temp_rules.specs.Hot.{first_hot_of}
 use Rattle.desk_steps.specs.Data.{Data, File, with_script}
 use Rattle.desk_steps.specs.declared.state.State.{State}
 use Rattle.desk_steps.specs.declared.state.State.TheVariants.{Offline, Connecting, Operational, Printing, Pausing, Paused, Cancelling, Finishing, Closing, Fault}
@@ -87,7 +88,7 @@ start_checked (Some hot) print d = (Err (refusal.TooHotLine hot.line hot.asked h
 
 abbrev pub start_file : Option File → ℕ → Data → Answer
 start_file None print d = (Err refusal.NoFile, d)
-start_file (Some file) print d = start_checked (hot_of d.limits file.job) print d
+start_file (Some file) print d = start_checked (first_hot_of d.limits file.job.commands) print d
 
 abbrev pub start_at : State → ℕ → Data → Answer
 start_at Offline print d = wrong_state d

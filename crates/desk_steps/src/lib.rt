@@ -7,4 +7,5 @@ mod state;
 pub use laws::{every_beginning_is_in_order, every_course_reads_plainly, every_run_tells_stories};
 pub use marlin_reply::{LinkFact, SessionEnd};
 pub use print_queue::{Ending, Outcome};
+pub use temp_rules::{HotLine, Limits};
 pub use state::{Point, Refusal, State, Tag};

@@ -1,3 +1,4 @@
+pub mod DeskViews
 pub mod Entries
 pub mod Scripts
 pub mod Views

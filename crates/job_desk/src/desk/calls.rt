@@ -1,5 +1,5 @@
 //! The calls of the table: what a user asks of the desk.
-ghost use Rattle.std.specs.Prelude.{◌≡◌, ◌<◌, ◌×◌, Ok, Err, MatchResult};
+ghost use Rattle.std.specs.Prelude.{◌≡◌, ◌<◌, Ok, Err, MatchResult};
 ghost use Rattle.byte_text.specs.Sendable.{IsSendable};
 ghost use Rattle.desk_steps.specs.Table.{connect_at, disconnect_at, drop_file_step, pause_at, resume_at, toggle_at, cancel_at, manual_at, restart_at, select_at};
 ghost use Rattle.job_desk.specs.Views.{bytes_of};

@@ -1,0 +1,1 @@
+//! Which line is to be issued next.
