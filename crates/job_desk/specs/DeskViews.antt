@@ -2,6 +2,7 @@
 use Rattle.std.specs.Prelude.{◌≡◌, ℕ, ◌≤◌, List, map, All}
 use Rattle.std.specs.Option.{option_map}
 use Rattle.byte_text.specs.Sendable.{IsSendable}
+use Rattle.gcode_lines.specs.Job.{JobData}
 use Rattle.desk_steps.specs.Data.{Data, File}
 use Rattle.desk_steps.specs.declared.state.State.{State}
 use Rattle.desk_steps.specs.declared.state.State.TheVariants.{Offline, Connecting, Operational, Printing, Pausing, Paused, Cancelling, Finishing, Closing, Fault}
@@ -32,6 +33,10 @@ desk_data desk = record {
   poll_line = desk.lines.of_poll;
   ready = desk.ready;
 }
+
+-- a file by its name and its job
+abbrev pub named_file : List ℕ → JobData → File
+named_file name job = record { name = name; job = job }
 
 -- the most scripts that wait in a state: what a state adds is over before the next one that adds comes, but for a print
 -- that is paused, cancelled and disconnected while the first of its scripts still waits

@@ -1,9 +1,8 @@
 //! The desk of a print host.
-ghost use Rattle.std.specs.Prelude.{◌≡◌, ◌≤◌, Some, None, if◌then◌else◌};
+ghost use Rattle.std.specs.Prelude.{◌≡◌, ◌≤◌, IfOk};
 ghost use Rattle.std.specs.Option.{option_map, option_copied};
 ghost use Rattle.desk_steps.specs.Data.{new_desk};
 ghost use Rattle.desk_steps.specs.Table.{active_print, is_closable_at};
-ghost use Rattle.job_desk.specs.Views.{job_of};
 
 mod calls;
 mod note;
