@@ -6,6 +6,8 @@ use Rattle.gcode_lines.specs.Job.{JobData}
 use Rattle.desk_steps.specs.Data.{Data, File}
 use Rattle.desk_steps.specs.declared.state.State.{State}
 use Rattle.desk_steps.specs.declared.state.State.TheVariants.{Offline, Connecting, Operational, Printing, Pausing, Paused, Cancelling, Finishing, Closing, Fault}
+use Rattle.marlin_reply.specs.declared.session.LinkFact.{LinkFact}
+use Rattle.marlin_reply.specs.declared.session.LinkFact.TheVariants as fact
 use Rattle.job_desk.specs.Views.{bytes_of}
 use Rattle.job_desk.specs.declared.desk.Selected.{Selected}
 use Rattle.job_desk.specs.declared.desk.Desk.TheInside.{Inside}
@@ -57,3 +59,13 @@ pub record IsDesk (desk : Inside) : Type 0 where
   pub few : desk.waiting.count ≤ most_in desk.state
   pub room : desk.manual.capacity ≡ 256
   pub sendable : All IsSendable (bytes_of desk.manual.items)
+
+-- how many lines are acknowledged falls only where a session begins, with 0, and is at most how many were issued
+abbrev pub MayNote : ℕ → LinkFact → Data → Type 0
+MayNote acked fact.Opened d = acked ≡ 0
+MayNote acked fact.Quiet d = (d.acked ≤ acked) × (acked ≤ d.issued)
+MayNote acked fact.Ready d = (d.acked ≤ acked) × (acked ≤ d.issued)
+MayNote acked fact.Closed d = (d.acked ≤ acked) × (acked ≤ d.issued)
+MayNote acked fact.NoPort d = (d.acked ≤ acked) × (acked ≤ d.issued)
+MayNote acked fact.Failed d = (d.acked ≤ acked) × (acked ≤ d.issued)
+MayNote acked (fact.Ended end) d = (d.acked ≤ acked) × (acked ≤ d.issued)

@@ -141,7 +141,7 @@ impl Desk {
     }
 
     /// A print whose commands were all issued goes on to its last script.
-    fn settle(&mut self)
+    pub(super) fn settle(&mut self)
         ensures { self.new ≡ settled self.old }
     {
         if self.state == State::Printing
