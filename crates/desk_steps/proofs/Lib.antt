@@ -4,4 +4,5 @@ pub mod Lines
 pub mod Noted
 pub mod Plain
 pub mod Runs
+pub mod Settled
 pub mod Steady

@@ -4,5 +4,6 @@ pub mod Note
 pub mod Plain
 pub mod Pull
 pub mod Run
+pub mod Settled
 pub mod Story
 pub mod Table

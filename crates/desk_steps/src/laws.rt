@@ -1,5 +1,6 @@
 //! The laws of whole runs of a desk.
 ghost use Rattle.desk_steps.specs.Plain.{EveryBeginningIsInOrder, EveryCourseReadsPlainly};
+ghost use Rattle.desk_steps.specs.Settled.{IsSettledBySteps};
 ghost use Rattle.desk_steps.specs.Story.{EveryRunTellsStories};
 
 /// For every list of calls on a new desk, the pulled lines of each print begin a course, are a whole course with the end
@@ -20,5 +21,11 @@ pub fn every_course_reads_plainly()
 /// The file commands of lines that begin a course are the file's first ones, without a gap.
 pub fn every_beginning_is_in_order()
     ensures { EveryBeginningIsInOrder }
+{
+}
+
+/// A pull and a note leave nothing to settle, and a further pull that gives no line then changes nothing.
+pub fn nothing_is_left_to_settle()
+    ensures { IsSettledBySteps }
 {
 }

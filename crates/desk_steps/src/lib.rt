@@ -4,7 +4,7 @@
 mod laws;
 mod state;
 
-pub use laws::{every_beginning_is_in_order, every_course_reads_plainly, every_run_tells_stories};
+pub use laws::{every_beginning_is_in_order, every_course_reads_plainly, every_run_tells_stories, nothing_is_left_to_settle};
 pub use marlin_reply::{LinkFact, SessionEnd};
 pub use print_queue::{Ending, Outcome};
 pub use temp_rules::{HotLine, Limits};

@@ -7,6 +7,8 @@ ghost use Rattle.desk_steps.specs.Table.{active_print, is_closable_at};
 mod calls;
 mod note;
 mod pull;
+#[cfg(test)]
+mod tests;
 
 use crate::scripts::Scripts;
 use crate::waiting::Waiting;

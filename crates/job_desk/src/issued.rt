@@ -7,7 +7,7 @@ use marlin_reply::Temps;
 use octo_outside::Text;
 
 /// A line that was issued, and where it comes from.
-#[derive(Default, Drop)]
+#[derive(Debug, PartialEq, Eq, Default, Drop)]
 pub struct Issued {
     pub text: Text,
     pub tag: Tag,
