@@ -1,5 +1,5 @@
 -- The fields of the desk as plain data, and what holds of them.
-use Rattle.std.specs.Prelude.{◌≡◌, ℕ, ◌≤◌, List, map, All}
+use Rattle.std.specs.Prelude.{◌≡◌, ℕ, ◌≤◌, List, All}
 use Rattle.std.specs.Option.{option_map}
 use Rattle.byte_text.specs.Sendable.{IsSendable}
 use Rattle.gcode_lines.specs.Job.{JobData}

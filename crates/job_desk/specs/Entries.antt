@@ -1,5 +1,5 @@
 -- The scripts that wait, as lines.
-use Rattle.std.specs.Prelude.{◌≡◌, ℕ, ◌<◌, List, [], ◌∷◌, ◌++◌, length, drop}
+use Rattle.std.specs.Prelude.{◌<◌, List, [], ◌∷◌, ◌++◌, length, drop}
 use Rattle.desk_steps.specs.Data.{ScriptTexts, Line, script_lines, texts_at}
 use Rattle.job_desk.specs.declared.waiting.Entry.{Entry}
 

@@ -85,7 +85,12 @@ impl Model for Desk {
 
 impl Desk {
     /// A desk that is offline. A poll is due so many milliseconds after the last one, at least 1.
-    pub fn new(alloc: Global, scripts: Scripts, limits: Limits, poll_ms: u64) -> Result<Desk, AllocError>
+    pub fn new(
+        alloc: Global,
+        scripts: Scripts,
+        limits: Limits,
+        poll_ms: u64,
+    ) -> Result<Desk, AllocError>
         requires { 1 ≤ poll_ms }
         ensures { IfOk result (λ desk. desk ≡ new_desk scripts limits poll_ms) }
     {

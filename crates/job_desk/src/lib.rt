@@ -6,7 +6,7 @@ mod issued;
 mod scripts;
 mod waiting;
 
-pub use desk_steps::{Ending, LinkFact, Outcome, Point, Refusal, SessionEnd, State, Tag};
 pub use desk::{Desk, NotSelected};
+pub use desk_steps::{Ending, LinkFact, Outcome, Point, Refusal, SessionEnd, State, Tag};
 pub use issued::{Issued, Note};
 pub use scripts::{AddFault, Scripts};

@@ -102,7 +102,15 @@ fn desk_with(rt: &impl Abort, alloc: Global, lines: &[(Point, &str)]) -> Result<
     for (point, text) in lines {
         add(rt, &mut scripts, *point, text);
     }
-    let mut desk = Desk::new(alloc, scripts, Limits { tool: 250, bed: 100 }, 5000)?;
+    let mut desk = Desk::new(
+        alloc,
+        scripts,
+        Limits {
+            tool: 250,
+            bed: 100,
+        },
+        5000,
+    )?;
     select(rt, alloc, &mut desk)?;
     Ok(desk)
 }
@@ -208,7 +216,11 @@ fn way_to(state: State) -> &'static [Step] {
         State::Offline => &[],
         State::Connecting => &[Step::Does(Call::Connect)],
         State::Operational => &[Step::Does(Call::Connect), Step::Opens],
-        State::Printing => &[Step::Does(Call::Connect), Step::Opens, Step::Does(Call::Start)],
+        State::Printing => &[
+            Step::Does(Call::Connect),
+            Step::Opens,
+            Step::Does(Call::Start),
+        ],
         State::Pausing => &[
             Step::Does(Call::Connect),
             Step::Opens,
@@ -342,7 +354,15 @@ fn ample(rt: HostRuntime) -> Result<(), Fail> {
     let line = one_command(b"M84")?;
     assert_eq!(rt; scripts.add(Point::Done, &line), Err(AddFault::TooMany));
     assert_eq!(rt; scripts.add(Point::Paused, &line), Ok(()));
-    let desk = Desk::new(rt.alloc(), scripts, Limits { tool: 250, bed: 100 }, 5000)?;
+    let desk = Desk::new(
+        rt.alloc(),
+        scripts,
+        Limits {
+            tool: 250,
+            bed: 100,
+        },
+        5000,
+    )?;
     assert_eq!(rt; desk.state(), State::Offline);
     Ok(())
 }

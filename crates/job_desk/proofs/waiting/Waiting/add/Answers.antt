@@ -1,5 +1,4 @@
-use Rattle.std.proofs.Common.{arith, subst, sym}
-use Rattle.job_desk.specs.Entries.{HaveLines}
+use Rattle.std.proofs.Common.{arith}
 use Rattle.job_desk.proofs.Entries.{lines_left-append, HaveLines-append}
 use Rattle.job_desk.proofs.waiting.Waiting.add.Goals as goal
 

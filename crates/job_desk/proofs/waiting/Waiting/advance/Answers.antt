@@ -1,4 +1,4 @@
-use Rattle.std.proofs.Common.{◌≡◌, ◌<◌, ◌≤◌, ◌+◌, length, slice_index_or, arith}
+use Rattle.std.proofs.Common.{◌<◌, ◌≤◌, ◌+◌, length, slice_index_or, arith}
 use Rattle.desk_steps.specs.Data.{texts_at}
 use Rattle.desk_steps.specs.declared.state.Point.TheVariants as point
 use Rattle.job_desk.specs.declared.waiting.Entry.{Entry}
