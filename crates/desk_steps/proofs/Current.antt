@@ -1,29 +1,21 @@
 -- A print that is going on: its lines so far, with those that wait, stand where its state says.
-use Rattle.std.proofs.Common.{◌≡◌, ◌⊎◌, inl, inr, ℕ, ◌<◌, Bool, true, false, cond, nat_eq, ◌+◌, ◌&&◌, codes, List, [], ◌∷◌, ◌++◌, length, slice_get, Option, None, Some, Result, Ok, Err, if◌then◌else◌, refl, sym, ◌∙◌, ap, subst}
+use Rattle.std.proofs.Common.{◌≡◌, ℕ, Bool, true, false, cond, nat_eq, ◌+◌, codes, List, [], ◌∷◌, ◌++◌, length, slice_get, Option, None, Some, refl, sym, ◌∙◌, ap, subst}
 use Rattle.std.proofs.lemmas.Bool.{false≢true}
-use Rattle.temp_rules.specs.declared.job.HotLine.{HotLine}
-use Rattle.temp_rules.specs.Hot.{first_hot_of}
 use Rattle.desk_steps.specs.Data.{ScriptTexts, Data, File, Line, script_lines, commands_of, with_script, moment_after}
-use Rattle.desk_steps.specs.Table.{done, connecting, closing, cancelling, connect_at, disconnect_at, select_at, drop_file_step, is_named, start_at, start_checked, start_file, restart_at, printing, pause_at, resume_at, toggle_at, cancel_at, manual_at, add_manual}
-use Rattle.desk_steps.specs.Pull.{Drawn, talk, nothing, next_number, keep_number, issue, from_scripts, from_manual, from_poll, poll_is_due, from_file, draw_at, is_issued, settle_at, settled, pull_step}
-use Rattle.desk_steps.specs.Note.{Noted, ended, is_over, end_at, finish, leave, fail, ready_at, opened, note_fact, note_step}
+use Rattle.desk_steps.specs.Table.{closing, connect_at, disconnect_at, select_at, drop_file_step, is_named, pause_at, resume_at, toggle_at, cancel_at, manual_at, add_manual}
+use Rattle.desk_steps.specs.Pull.{Drawn, talk, nothing, next_number, keep_number, issue, from_scripts, from_manual, from_poll, poll_is_due, from_file, draw_at, is_issued, settle_at, pull_step}
 use Rattle.desk_steps.specs.Course.{job_line}
-use Rattle.desk_steps.specs.Run.{is_of, lines_of}
+use Rattle.desk_steps.specs.Run.{lines_of}
 use Rattle.desk_steps.specs.declared.state.State.{State}
 use Rattle.desk_steps.specs.declared.state.State.TheVariants.{Offline, Connecting, Operational, Printing, Pausing, Paused, Cancelling, Finishing, Closing, Fault}
 use Rattle.desk_steps.specs.declared.state.Point.{Point}
 use Rattle.desk_steps.specs.declared.state.Point.TheVariants as point
 use Rattle.desk_steps.specs.declared.state.Tag.{Tag}
 use Rattle.desk_steps.specs.declared.state.Tag.TheVariants.{Script, Job, Manual, Poll}
-use Rattle.marlin_reply.specs.declared.session.LinkFact.{LinkFact}
-use Rattle.marlin_reply.specs.declared.session.LinkFact.TheVariants as fact
-use Rattle.print_queue.specs.declared.ending.Ending.{Ending}
-use Rattle.print_queue.specs.declared.ending.Outcome.{Outcome}
-use Rattle.print_queue.specs.declared.ending.Outcome.TheVariants as outcome
 use Rattle.desk_steps.specs.Course.{End, Open, Body, started, command, round, Course, still_open, paused, cancelled, cancelled_paused, done as with_done, script}
 use Rattle.desk_steps.specs.Course as course
 use Rattle.desk_steps.specs.Story.{IsBegun}
-use Rattle.std.proofs.Common.{suc, append_assoc, arith}
+use Rattle.std.proofs.Common.{suc, arith}
 use Rattle.std.proofs.lemmas.List.{append-nil}
 use Rattle.std.proofs.lemmas.Bool.Decides.{nat_tests}
 use Rattle.desk_steps.proofs.Lines.{own, same_test, waits_own, waits_other, goes_over}
@@ -250,7 +242,7 @@ module _ (p : ℕ) (commands : List (List ℕ)) where
         ap (λ w. (out ++ own p (job_line d.greatest d.cursor text)) ++ lines_of p w) w ∙ append-nil _ ∙ ap (λ l. out ++ l) (own_job d text h.is) in
         let next : suc d.cursor ≡ d.cursor + 1 = omega arith in
         subst (λ s. At d.scripts s (d.cursor + 1) d.waiting ((out ++ own p (job_line d.greatest d.cursor text)) ++ lines_of p d.waiting)) (sym e)
-          (subst (λ l. Body d.scripts p commands (d.cursor + 1) l) (sym lines) (subst (λ n. Body d.scripts p commands n (out ++ job_line p d.cursor text ∷ [])) next more));
+        (subst (λ l. Body d.scripts p commands (d.cursor + 1) l) (sym lines) (subst (λ n. Body d.scripts p commands n (out ++ job_line p d.cursor text ∷ [])) next more));
   })
 
   current-talk : (out : List Line) (moment : ℕ) (d : Data) (next : Drawn) → CurrentTo p commands out d → (d.waiting ≡ [] → CurrentDrawn out next) → CurrentDrawn out (talk moment d next)

@@ -1,11 +1,9 @@
 -- A print that is not going on: no call but its own start touches it.
-use Rattle.std.proofs.Common.{◌≡◌, ◌⊎◌, inl, inr, ℕ, ◌<◌, Bool, true, false, cond, nat_eq, ◌+◌, ◌&&◌, codes, List, [], ◌∷◌, ◌++◌, length, slice_get, Option, None, Some, Result, Ok, Err, if◌then◌else◌, refl, sym, ◌∙◌, ap, subst}
+use Rattle.std.proofs.Common.{◌≡◌, ◌⊎◌, inl, inr, ℕ, Bool, true, false, cond, nat_eq, ◌+◌, codes, List, [], ◌∷◌, ◌++◌, Option, None, Some, refl, sym, ◌∙◌, ap, subst}
 use Rattle.std.proofs.lemmas.Bool.{false≢true}
-use Rattle.temp_rules.specs.declared.job.HotLine.{HotLine}
-use Rattle.temp_rules.specs.Hot.{first_hot_of}
-use Rattle.desk_steps.specs.Data.{ScriptTexts, Data, File, Line, script_lines, commands_of, with_script, moment_after}
-use Rattle.desk_steps.specs.Table.{done, connecting, closing, cancelling, connect_at, disconnect_at, select_at, drop_file_step, is_named, start_at, start_checked, start_file, restart_at, printing, pause_at, resume_at, toggle_at, cancel_at, manual_at, add_manual}
-use Rattle.desk_steps.specs.Pull.{Drawn, talk, nothing, next_number, keep_number, issue, from_scripts, from_manual, from_poll, poll_is_due, from_file, draw_at, is_issued, settle_at, settled, pull_step}
+use Rattle.desk_steps.specs.Data.{Data, File, Line, script_lines, moment_after}
+use Rattle.desk_steps.specs.Table.{connect_at, disconnect_at, select_at, drop_file_step, is_named, printing, pause_at, resume_at, toggle_at, cancel_at, manual_at, add_manual}
+use Rattle.desk_steps.specs.Pull.{Drawn, talk, nothing, next_number, keep_number, issue, from_scripts, from_manual, from_poll, poll_is_due, from_file, draw_at, is_issued, settle_at, pull_step}
 use Rattle.desk_steps.specs.Note.{Noted, ended, is_over, end_at, finish, leave, fail, ready_at, opened, note_fact, note_step}
 use Rattle.desk_steps.specs.Course.{job_line}
 use Rattle.desk_steps.specs.Run.{is_of, lines_of}
@@ -20,7 +18,7 @@ use Rattle.marlin_reply.specs.declared.session.LinkFact.TheVariants as fact
 use Rattle.print_queue.specs.declared.ending.Ending.{Ending}
 use Rattle.print_queue.specs.declared.ending.Outcome.{Outcome}
 use Rattle.print_queue.specs.declared.ending.Outcome.TheVariants as outcome
-use Rattle.desk_steps.proofs.Lines.{lines_of-append, script_other, waits_other}
+use Rattle.desk_steps.proofs.Lines.{waits_other}
 
 -- states in which no print is going on, but that an end of a connection may still be on its way
 abbrev pub IsIdle : State → Type 0
@@ -150,8 +148,8 @@ module _ (p : ℕ) where
   first_other : (line : Line) (lines : List Line) → lines_of p (line ∷ lines) ≡ [] → (is_of p line.tag ≡ false) × (lines_of p lines ≡ [])
   first_other line lines e =
       elim (is_of p line.tag) as (λ b. cond b (line ∷ lines_of p lines) (lines_of p lines) ≡ [] → (b ≡ false) × (lines_of p lines ≡ [])) [
-      | true ↦ λ h. absurd (cc h)
-      | false ↦ λ h. (refl, h)
+        | true ↦ λ h. absurd (cc h)
+        | false ↦ λ h. (refl, h)
       ] e
 
   foreign-scripts : (w : List Line) (d : Data) (next : Drawn) → d.waiting ≡ w → ForeignTo p d → ForeignDrawn next → ForeignDrawn (from_scripts w d next)

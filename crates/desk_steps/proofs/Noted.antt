@@ -1,35 +1,28 @@
 -- What a note makes of the print that is going on.
-use Rattle.std.proofs.Common.{◌≡◌, ◌⊎◌, inl, inr, ℕ, ◌<◌, Bool, true, false, cond, nat_eq, ◌+◌, ◌&&◌, codes, List, [], ◌∷◌, ◌++◌, length, slice_get, Option, None, Some, Result, Ok, Err, if◌then◌else◌, refl, sym, ◌∙◌, ap, subst}
+use Rattle.std.proofs.Common.{◌≡◌, inr, ℕ, Bool, true, false, cond, nat_eq, ◌&&◌, List, [], ◌∷◌, ◌++◌, length, Option, None, Some, refl, sym, ◌∙◌, ap, subst}
 use Rattle.std.proofs.lemmas.Bool.{false≢true}
-use Rattle.temp_rules.specs.declared.job.HotLine.{HotLine}
-use Rattle.temp_rules.specs.Hot.{first_hot_of}
-use Rattle.desk_steps.specs.Data.{ScriptTexts, Data, File, Line, script_lines, commands_of, with_script, moment_after}
-use Rattle.desk_steps.specs.Table.{done, connecting, closing, cancelling, connect_at, disconnect_at, select_at, drop_file_step, is_named, start_at, start_checked, start_file, restart_at, printing, pause_at, resume_at, toggle_at, cancel_at, manual_at, add_manual}
-use Rattle.desk_steps.specs.Pull.{Drawn, talk, nothing, next_number, keep_number, issue, from_scripts, from_manual, from_poll, poll_is_due, from_file, draw_at, is_issued, settle_at, settled, pull_step}
-use Rattle.desk_steps.specs.Note.{Noted, ended, is_over, end_at, finish, leave, fail, ready_at, opened, note_fact, note_step}
+use Rattle.desk_steps.specs.Data.{ScriptTexts, Data, Line}
+use Rattle.desk_steps.specs.Pull.{settled}
+use Rattle.desk_steps.specs.Note.{Noted, ended, is_over, end_at, finish, fail, ready_at, opened, note_fact, note_step}
 use Rattle.desk_steps.specs.Course.{job_line}
-use Rattle.desk_steps.specs.Run.{is_of, lines_of}
+use Rattle.desk_steps.specs.Run.{lines_of}
 use Rattle.desk_steps.specs.declared.state.State.{State}
-use Rattle.desk_steps.specs.declared.state.State.TheVariants.{Offline, Connecting, Operational, Printing, Pausing, Paused, Cancelling, Finishing, Closing, Fault}
-use Rattle.desk_steps.specs.declared.state.Point.{Point}
-use Rattle.desk_steps.specs.declared.state.Point.TheVariants as point
-use Rattle.desk_steps.specs.declared.state.Tag.{Tag}
-use Rattle.desk_steps.specs.declared.state.Tag.TheVariants.{Script, Job, Manual, Poll}
+use Rattle.desk_steps.specs.declared.state.State.TheVariants.{Offline, Connecting, Operational, Pausing, Paused, Cancelling, Finishing, Fault}
 use Rattle.marlin_reply.specs.declared.session.LinkFact.{LinkFact}
 use Rattle.marlin_reply.specs.declared.session.LinkFact.TheVariants as fact
 use Rattle.print_queue.specs.declared.ending.Ending.{Ending}
 use Rattle.print_queue.specs.declared.ending.Outcome.{Outcome}
 use Rattle.print_queue.specs.declared.ending.Outcome.TheVariants as outcome
-use Rattle.std.proofs.Common.{zero, suc, arith}
+use Rattle.std.proofs.Common.{suc, arith}
 use Rattle.std.proofs.lemmas.List.{append-nil}
 use Rattle.std.proofs.lemmas.Bool.Decides.{nat_tests}
 use Rattle.desk_steps.specs.Course as course
 use Rattle.desk_steps.specs.Course.{Course}
-use Rattle.desk_steps.specs.Story.{Story, IsBegun, finished, stopped, left, unplugged, broken}
-use Rattle.desk_steps.specs.Run.{Fate, Finished, Stopped, Left, Unplugged, Broken, fate_of}
+use Rattle.desk_steps.specs.Story.{Story, IsBegun, finished, stopped, unplugged, broken}
+use Rattle.desk_steps.specs.Run.{Stopped, Broken, fate_of}
 use Rattle.desk_steps.proofs.Foreign.{Foreign, ForeignTo, IsIdle, foreign-settle}
-use Rattle.desk_steps.proofs.Steady.{Steady, steady-settle}
-use Rattle.desk_steps.proofs.Current.{Stage, Current, CurrentTo, begun, current-settle}
+use Rattle.desk_steps.proofs.Steady.{steady-settle}
+use Rattle.desk_steps.proofs.Current.{Stage, CurrentTo, begun, current-settle}
 
 -- no line is left where the count of them is 0
 pub no_lines : (w : List Line) → nat_eq (length w) 0 ≡ true → w ≡ []

@@ -1,10 +1,10 @@
 -- Courses read as plain lists.
-use Rattle.std.proofs.Common.{◌≡◌, ℕ, zero, suc, ◌+◌, ◌-◌, ◌<◌, ◌≤◌, Bool, true, false, cond, List, [], ◌∷◌, ◌++◌, length, take, drop, map, slice_get, Option, None, Some, refl, sym, ◌∙◌, ap, subst, arith, append_assoc, length-append, length-take}
-use Rattle.std.proofs.lemmas.List.{append-nil, take-append-le, take_all, take_at, take-take}
+use Rattle.std.proofs.Common.{◌≡◌, ℕ, zero, suc, ◌+◌, ◌≤◌, Bool, List, [], ◌∷◌, ◌++◌, length, take, slice_get, Some, refl, sym, ◌∙◌, ap, arith, append_assoc, length-append, length-take}
+use Rattle.std.proofs.lemmas.List.{append-nil, take_all, take_at, take-take}
 use Rattle.desk_steps.specs.Data.{ScriptTexts, Line, tagged, texts_at, script_lines}
 use Rattle.desk_steps.specs.Course.{End, Open, Paused, Cancelled, Done, Body, started, command, round, Course, still_open, paused, cancelled, cancelled_paused, done, job_line}
 use Rattle.desk_steps.specs.Story.{IsBegun}
-use Rattle.desk_steps.specs.Plain.{is_job, is_script, part, numbered, repeated, last_scripts, first_scripts, CommandsInOrder, LastScripts, alone, behind_pause, ScriptsWhole, HasAllWhere, ReadsPlainly}
+use Rattle.desk_steps.specs.Plain.{is_job, is_script, part, numbered, repeated, first_scripts, CommandsInOrder, alone, behind_pause, ReadsPlainly}
 use Rattle.desk_steps.specs.declared.state.Point.{Point}
 use Rattle.desk_steps.specs.declared.state.Point.TheVariants as point
 use Rattle.desk_steps.specs.declared.state.Tag.{Tag}
@@ -62,11 +62,12 @@ module _ (scripts : ScriptTexts) (print : ℕ) (commands : List (List ℕ)) wher
   scripts_in _ _ started = (0, all_scripts point.Started print (texts_at point.Started scripts) ∙ sym (append-nil (script_lines scripts point.Started print)))
   scripts_in _ _ (command index text lines b e) = let so = scripts_in index lines b in (so.0, part-append is_script lines (job_line print index text ∷ []) ∙ append-nil (part is_script lines) ∙ so.1)
   scripts_in _ _ (round index lines b) =
-      let so = scripts_in index lines b in
-      (suc so.0,
-       scripts_behind point.Resumed (lines ++ script_lines scripts point.Paused print) ∙ ap (λ (l : List Line). l ++ script_lines scripts point.Resumed print) (scripts_behind point.Paused lines ∙ ap (λ (l : List Line). l ++ script_lines scripts point.Paused print) so.1)
-       ∙ append_assoc (first_scripts scripts print so.0) (script_lines scripts point.Paused print) (script_lines scripts point.Resumed print)
-       ∙ append_assoc (script_lines scripts point.Started print) (repeated so.0 one_round) one_round)
+      let so = scripts_in index lines b in (
+        suc so.0,
+        scripts_behind point.Resumed (lines ++ script_lines scripts point.Paused print) ∙ ap (λ (l : List Line). l ++ script_lines scripts point.Resumed print) (scripts_behind point.Paused lines ∙ ap (λ (l : List Line). l ++ script_lines scripts point.Paused print) so.1)
+            ∙ append_assoc (first_scripts scripts print so.0) (script_lines scripts point.Paused print) (script_lines scripts point.Resumed print)
+            ∙ append_assoc (script_lines scripts point.Started print) (repeated so.0 one_round) one_round,
+      )
 
   ordered : (index : ℕ) (lines more : List Line) → Body scripts print commands index lines → part is_job more ≡ part is_job lines → CommandsInOrder print commands more
   ordered index lines more b e = let so = in_body index lines b in record { count = index; within = so.0; first = e ∙ so.1 }

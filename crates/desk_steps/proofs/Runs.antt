@@ -1,42 +1,35 @@
 -- The law over whole runs.
-use Rattle.std.proofs.Common.{◌≡◌, ◌⊎◌, inl, inr, ℕ, ◌<◌, Bool, true, false, cond, nat_eq, ◌+◌, ◌&&◌, codes, List, [], ◌∷◌, ◌++◌, length, slice_get, Option, None, Some, Result, Ok, Err, if◌then◌else◌, refl, sym, ◌∙◌, ap, subst}
-use Rattle.std.proofs.lemmas.Bool.{false≢true}
+use Rattle.std.proofs.Common.{◌≡◌, ◌⊎◌, inl, inr, ℕ, ◌<◌, Bool, true, false, cond, nat_eq, List, [], ◌∷◌, ◌++◌, Option, None, Some, refl, sym, ◌∙◌, ap, subst}
 use Rattle.temp_rules.specs.declared.job.HotLine.{HotLine}
 use Rattle.temp_rules.specs.Hot.{first_hot_of}
-use Rattle.desk_steps.specs.Data.{ScriptTexts, Data, File, Line, script_lines, commands_of, with_script, moment_after}
-use Rattle.desk_steps.specs.Table.{done, connecting, closing, cancelling, connect_at, disconnect_at, select_at, drop_file_step, is_named, start_at, start_checked, start_file, restart_at, printing, pause_at, resume_at, toggle_at, cancel_at, manual_at, add_manual}
-use Rattle.desk_steps.specs.Pull.{Drawn, talk, nothing, next_number, keep_number, issue, from_scripts, from_manual, from_poll, poll_is_due, from_file, draw_at, is_issued, settle_at, settled, pull_step}
-use Rattle.desk_steps.specs.Note.{Noted, ended, is_over, end_at, finish, leave, fail, ready_at, opened, note_fact, note_step}
+use Rattle.desk_steps.specs.Data.{ScriptTexts, Data, File, Line, script_lines, commands_of}
+use Rattle.desk_steps.specs.Table.{start_at, start_checked, start_file, restart_at, printing}
+use Rattle.desk_steps.specs.Pull.{Drawn, talk, nothing, from_scripts, from_manual, poll_is_due, from_file, draw_at, pull_step}
+use Rattle.desk_steps.specs.Note.{note_step}
 use Rattle.desk_steps.specs.Course.{job_line}
 use Rattle.desk_steps.specs.Run.{is_of, lines_of}
 use Rattle.desk_steps.specs.declared.state.State.{State}
-use Rattle.desk_steps.specs.declared.state.State.TheVariants.{Offline, Connecting, Operational, Printing, Pausing, Paused, Cancelling, Finishing, Closing, Fault}
-use Rattle.desk_steps.specs.declared.state.Point.{Point}
+use Rattle.desk_steps.specs.declared.state.State.TheVariants.{Operational, Printing, Pausing, Paused, Cancelling, Finishing, Closing}
 use Rattle.desk_steps.specs.declared.state.Point.TheVariants as point
 use Rattle.desk_steps.specs.declared.state.Tag.{Tag}
 use Rattle.desk_steps.specs.declared.state.Tag.TheVariants.{Script, Job, Manual, Poll}
 use Rattle.marlin_reply.specs.declared.session.LinkFact.{LinkFact}
-use Rattle.marlin_reply.specs.declared.session.LinkFact.TheVariants as fact
 use Rattle.print_queue.specs.declared.ending.Ending.{Ending}
-use Rattle.print_queue.specs.declared.ending.Outcome.{Outcome}
-use Rattle.print_queue.specs.declared.ending.Outcome.TheVariants as outcome
-use Rattle.std.proofs.Common.{zero, suc, ⊎_elim, ◌≤◌, arith, All}
+use Rattle.std.proofs.Common.{⊎_elim, ◌≤◌, arith, All}
 use Rattle.std.proofs.lemmas.List.{append-nil}
-use Rattle.std.proofs.lemmas.Bool.Decides.{nat_tests}
 use Rattle.std.proofs.lemmas.Bool.{cases_lt}
 use Rattle.std.proofs.lemmas.List.Elements.{All-push, All-nil}
-use Rattle.desk_steps.specs.Data.{new_desk, texts_at}
+use Rattle.desk_steps.specs.Data.{new_desk}
 use Rattle.temp_rules.specs.declared.limits.Limits.{Limits}
 use Rattle.desk_steps.specs.Course as course
 use Rattle.desk_steps.specs.Course.{Course, Body, started, paused}
 use Rattle.desk_steps.specs.Story.{Story, IsBegun, never, going, left, IsPulledWell, TellsStories}
 use Rattle.desk_steps.specs.Run.{DeskCall, Connect, Disconnect, Select, DropFile, Start, Restart, Pause, Resume, Toggle, Cancel, Manually, Pull, Note, Fate, Left, fate_of, Pulled, Run, new_run, moved, after_start, after_restart, after_pull, after_note, after, run_of, MayCall, MayCallAll, pulled_of, of_print}
-use Rattle.desk_steps.specs.declared.state.Refusal.{Refusal}
-use Rattle.desk_steps.proofs.Lines.{own, pulled_of-push, of_print-other, of_print-own, same_test, below_test, above_test, waits_own, script_own}
+use Rattle.desk_steps.proofs.Lines.{pulled_of-push, of_print-other, of_print-own, same_test, below_test, above_test, waits_own}
 use Rattle.desk_steps.proofs.Steady.{joins, Steady, IsScript, AreScripts, steady-connect, steady-disconnect, steady-select, steady-drop_file, steady-pause, steady-resume, steady-toggle, steady-cancel, steady-manual, steady-pull, steady-note}
-use Rattle.desk_steps.proofs.Foreign.{Foreign, ForeignTo, IsIdle, IsNotOf, ForeignDrawn, IsNoEndOf, ForeignNoted, foreign-connect, foreign-disconnect, foreign-select, foreign-drop_file, foreign-printing, foreign-pause, foreign-resume, foreign-toggle, foreign-cancel, foreign-manual, foreign-pull, foreign-note}
-use Rattle.desk_steps.proofs.Current.{Stage, Current, CurrentTo, CurrentDrawn, with_line, begun, current-connect, current-disconnect, current-select, current-drop_file, current-pause, current-resume, current-toggle, current-cancel, current-manual, current-pull}
-use Rattle.desk_steps.proofs.Noted.{NotedAs, IsNotedAs, current-note}
+use Rattle.desk_steps.proofs.Foreign.{ForeignTo, IsIdle, IsNotOf, IsNoEndOf, foreign-connect, foreign-disconnect, foreign-select, foreign-drop_file, foreign-printing, foreign-pause, foreign-resume, foreign-toggle, foreign-cancel, foreign-manual, foreign-pull, foreign-note}
+use Rattle.desk_steps.proofs.Current.{Stage, CurrentTo, with_line, begun, current-connect, current-disconnect, current-select, current-drop_file, current-pause, current-resume, current-toggle, current-cancel, current-manual, current-pull}
+use Rattle.desk_steps.proofs.Noted.{NotedAs, current-note}
 
 module _ (scripts : ScriptTexts) (p : ℕ) (positive : nat_eq 0 p ≡ false) where
   -- what is known of one print: it is still to come, it is going on, or it is over or was passed over
@@ -92,6 +85,7 @@ module _ (scripts : ScriptTexts) (p : ℕ) (positive : nat_eq 0 p ≡ false) whe
     where
       fates : of_print p ends ≡ []
       fates = same ∙ c.no_fate
+
       before : q < p → KnownOf (record run { desk = printing q run.desk; begun = run.begun ++ (q, commands_of run.desk.file) ∷ []; ends = ends })
       before h = let e = below_test q p h in inl (record {
         above = h;
@@ -100,6 +94,7 @@ module _ (scripts : ScriptTexts) (p : ℕ) (positive : nat_eq 0 p ≡ false) whe
         no_line = c.no_line;
         no_fate = fates;
       })
+
       later : p < q → KnownOf (record run { desk = printing q run.desk; begun = run.begun ++ (q, commands_of run.desk.file) ∷ []; ends = ends })
       later h = let e = above_test q p h in
           let b : of_print p (run.begun ++ (q, commands_of run.desk.file) ∷ []) ≡ [] = of_print-other p q (commands_of run.desk.file) run.begun e ∙ c.no_begin in
@@ -108,6 +103,7 @@ module _ (scripts : ScriptTexts) (p : ℕ) (positive : nat_eq 0 p ≡ false) whe
             foreign = foreign-printing p q run.desk e c.foreign.none;
             story = subst (λ b. Story scripts p b (pulled_of p run.pulled) (of_print p ends)) (sym b) (subst (λ l. Story scripts p [] l (of_print p ends)) (sym c.no_line) (subst (λ f. Story scripts p [] [] f) (sym fates) never));
           }))
+
       here : q ≡ p → KnownOf (record run { desk = printing q run.desk; begun = run.begun ++ (q, commands_of run.desk.file) ∷ []; ends = ends })
       here h = inr (inl (record {
         commands = commands_of run.desk.file;
@@ -351,8 +347,8 @@ every_run scripts limits poll_ms calls may =
     let last = sound_run scripts calls first sound in
     record {
       stories = λ p positive. (
-        let z : nat_eq 0 p ≡ false = below_test 0 p positive in
-        tells scripts p z (run_of calls first) last (known_run scripts p z calls first sound may (inl (record { above = positive; foreign = record { none = refl; other = inr (refl, tt) }; no_begin = refl; no_line = refl; no_fate = refl })))
-      );
+          let z : nat_eq 0 p ≡ false = below_test 0 p positive in
+          tells scripts p z (run_of calls first) last (known_run scripts p z calls first sound may (inl (record { above = positive; foreign = record { none = refl; other = inr (refl, tt) }; no_begin = refl; no_line = refl; no_fate = refl })))
+          );
       only_printing = last.pulled;
     }

@@ -1,23 +1,13 @@
 -- What is left to settle after a pull or a note.
-use Rattle.std.proofs.Common.{◌≡◌, ◌⊎◌, inl, inr, ℕ, ◌<◌, Bool, true, false, cond, nat_eq, ◌+◌, ◌&&◌, codes, List, [], ◌∷◌, ◌++◌, length, slice_get, Option, None, Some, Result, Ok, Err, if◌then◌else◌, refl, sym, ◌∙◌, ap, subst}
-use Rattle.std.proofs.lemmas.Bool.{false≢true}
-use Rattle.desk_steps.specs.Data.{ScriptTexts, Data, File, Line, script_lines, commands_of, with_script, moment_after}
-use Rattle.desk_steps.specs.Table.{done, connecting, closing, cancelling, connect_at, disconnect_at, select_at, drop_file_step, is_named, start_at, start_checked, start_file, restart_at, printing, pause_at, resume_at, toggle_at, cancel_at, manual_at, add_manual}
-use Rattle.desk_steps.specs.Pull.{Drawn, talk, nothing, next_number, keep_number, issue, from_scripts, from_manual, from_poll, poll_is_due, from_file, draw_at, is_issued, settle_at, settled, pull_step}
-use Rattle.desk_steps.specs.Note.{Noted, ended, is_over, end_at, finish, leave, fail, ready_at, opened, note_fact, note_step}
+use Rattle.std.proofs.Common.{◌≡◌, ℕ, Bool, true, false, cond, codes, List, [], ◌∷◌, Option, None, Some, refl, ◌∙◌, ap}
+use Rattle.desk_steps.specs.Data.{Data, Line, with_script, moment_after}
+use Rattle.desk_steps.specs.Pull.{Drawn, talk, nothing, issue, from_scripts, from_manual, poll_is_due, from_file, draw_at, is_issued, settle_at, settled}
+use Rattle.desk_steps.specs.Note.{note_fact}
 use Rattle.desk_steps.specs.Course.{job_line}
-use Rattle.desk_steps.specs.Run.{is_of, lines_of}
 use Rattle.desk_steps.specs.declared.state.State.{State}
 use Rattle.desk_steps.specs.declared.state.State.TheVariants.{Offline, Connecting, Operational, Printing, Pausing, Paused, Cancelling, Finishing, Closing, Fault}
-use Rattle.desk_steps.specs.declared.state.Point.{Point}
 use Rattle.desk_steps.specs.declared.state.Point.TheVariants as point
-use Rattle.desk_steps.specs.declared.state.Tag.{Tag}
-use Rattle.desk_steps.specs.declared.state.Tag.TheVariants.{Script, Job, Manual, Poll}
-use Rattle.marlin_reply.specs.declared.session.LinkFact.{LinkFact}
-use Rattle.marlin_reply.specs.declared.session.LinkFact.TheVariants as fact
-use Rattle.print_queue.specs.declared.ending.Ending.{Ending}
-use Rattle.print_queue.specs.declared.ending.Outcome.{Outcome}
-use Rattle.print_queue.specs.declared.ending.Outcome.TheVariants as outcome
+use Rattle.desk_steps.specs.declared.state.Tag.TheVariants.{Manual, Poll}
 use Rattle.desk_steps.specs.Settled.{IsSettledBySteps}
 
 again : (b : Bool) (d : Data) → d.state ≡ Printing → is_issued d ≡ b → settled (cond b (with_script point.Done d.greatest (record d { state = Finishing })) d) ≡ cond b (with_script point.Done d.greatest (record d { state = Finishing })) d

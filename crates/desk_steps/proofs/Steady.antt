@@ -1,10 +1,8 @@
 -- What each call leaves alone: the scripts and, but for a start, the print; and only script lines wait.
-use Rattle.std.proofs.Common.{◌≡◌, ℕ, Bool, true, false, cond, nat_eq, List, [], ◌∷◌, ◌++◌, map, Option, None, Some, refl, sym, ◌∙◌, ap, subst}
-use Rattle.std.proofs.Common.{◌+◌, ◌&&◌, codes, Result, Ok, Err, if◌then◌else◌}
-use Rattle.desk_steps.specs.Data.{moment_after, ScriptTexts, Data, File, Line, tagged, texts_at, script_lines, commands_of, with_script}
-use Rattle.temp_rules.specs.declared.job.HotLine.{HotLine}
-use Rattle.temp_rules.specs.Hot.{first_hot_of}
-use Rattle.desk_steps.specs.Table.{done, connect_at, disconnect_at, select_at, drop_file_step, is_named, start_at, start_checked, restart_at, printing, pause_at, resume_at, toggle_at, cancel_at, manual_at, add_manual}
+use Rattle.std.proofs.Common.{◌≡◌, ℕ, Bool, true, false, cond, nat_eq, List, [], ◌∷◌, ◌++◌, Option, None, Some, refl, sym, ◌∙◌, subst}
+use Rattle.std.proofs.Common.{◌+◌, codes}
+use Rattle.desk_steps.specs.Data.{moment_after, Data, File, Line, tagged, texts_at, script_lines, with_script}
+use Rattle.desk_steps.specs.Table.{connect_at, disconnect_at, select_at, drop_file_step, is_named, pause_at, resume_at, toggle_at, cancel_at, manual_at, add_manual}
 use Rattle.desk_steps.specs.Pull.{Drawn, talk, nothing, next_number, keep_number, issue, from_scripts, from_manual, from_poll, poll_is_due, from_file, draw_at, is_issued, settle_at, settled, pull_step}
 use Rattle.desk_steps.specs.Course.{job_line}
 use Rattle.desk_steps.specs.Note.{Noted, ended, is_over, end_at, leave, fail, ready_at, opened, note_fact, note_step}
@@ -18,8 +16,6 @@ use Rattle.marlin_reply.specs.declared.session.LinkFact.{LinkFact}
 use Rattle.marlin_reply.specs.declared.session.LinkFact.TheVariants as fact
 use Rattle.print_queue.specs.declared.ending.Outcome.{Outcome}
 use Rattle.print_queue.specs.declared.ending.Outcome.TheVariants as outcome
-use Rattle.desk_steps.specs.declared.state.Refusal.{Refusal}
-use Rattle.desk_steps.specs.declared.state.Refusal.TheVariants as refusal
 
 -- the tag of a script's line
 abbrev pub IsScript : Tag → Type 0

@@ -1,9 +1,9 @@
 -- What the lines of one print look like.
-use Rattle.std.specs.Prelude.{◌≡◌, ℕ, ◌+◌, ◌<◌, suc, List, [], ◌∷◌, ◌++◌, length, take, slice_get, Option, Some}
+use Rattle.std.specs.Prelude.{◌≡◌, ℕ, suc, List, [], ◌∷◌, ◌++◌, length, slice_get, Some}
 use Rattle.desk_steps.specs.Data.{ScriptTexts, Line, script_lines}
 use Rattle.desk_steps.specs.declared.state.Point.{Point}
 use Rattle.desk_steps.specs.declared.state.Point.TheVariants as point
-use Rattle.desk_steps.specs.declared.state.Tag.TheVariants.{Script, Job}
+use Rattle.desk_steps.specs.declared.state.Tag.TheVariants.{Job}
 
 -- the file command at an index, as it is issued
 abbrev pub job_line : ℕ → ℕ → List ℕ → Line

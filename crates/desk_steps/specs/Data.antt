@@ -1,5 +1,5 @@
 -- The desk as plain data.
-use Rattle.std.specs.Prelude.{ℕ, ◌+◌, Bool, false, min, List, [], ◌∷◌, ◌++◌, map, length, Option, None, Some}
+use Rattle.std.specs.Prelude.{ℕ, ◌+◌, Bool, false, min, List, [], ◌++◌, map, Option, None, Some}
 use Rattle.gcode_lines.specs.Job.{JobData, texts_of}
 use Rattle.temp_rules.specs.declared.limits.Limits.{Limits}
 use Rattle.desk_steps.specs.declared.state.State.{State}
@@ -82,9 +82,23 @@ pub record Data : Type 0 where
 -- a desk at which nothing was done yet
 abbrev pub new_desk : ScriptTexts → Limits → ℕ → Data
 new_desk scripts limits poll_ms = record {
-  scripts = scripts; limits = limits; poll_ms = poll_ms; state = Offline; port = None; file = None; greatest = 0;
-  active = false; cursor = 0; waiting = []; manual = []; poll_at = 0; issued = 0; acked = 0; print_line = 0;
-  poll_line = 0; ready = false
+  scripts = scripts;
+  limits = limits;
+  poll_ms = poll_ms;
+  state = Offline;
+  port = None;
+  file = None;
+  greatest = 0;
+  active = false;
+  cursor = 0;
+  waiting = [];
+  manual = [];
+  poll_at = 0;
+  issued = 0;
+  acked = 0;
+  print_line = 0;
+  poll_line = 0;
+  ready = false;
 }
 
 -- a script's lines join those that wait

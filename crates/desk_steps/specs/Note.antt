@@ -1,5 +1,5 @@
 -- What the desk makes of what one turn of the link found.
-use Rattle.std.specs.Prelude.{ℕ, ◌+◌, Bool, true, false, ◌&&◌, ◌==◌, nat_le, List, [], length, Option, None, Some, if◌then◌else◌}
+use Rattle.std.specs.Prelude.{ℕ, Bool, true, false, ◌&&◌, ◌==◌, nat_le, [], length, Option, None, Some, if◌then◌else◌}
 use Rattle.desk_steps.specs.Data.{Data, with_script, moment_after}
 use Rattle.desk_steps.specs.Pull.{settled}
 use Rattle.desk_steps.specs.declared.state.State.{State}

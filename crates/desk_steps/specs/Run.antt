@@ -1,5 +1,5 @@
 -- Whole runs of calls on a desk.
-use Rattle.std.specs.Prelude.{◌≡◌, ℕ, ◌<◌, Bool, true, false, ◌==◌, List, [], ◌∷◌, ◌++◌, Option, None, Some, Result, Ok, Err, if◌then◌else◌}
+use Rattle.std.specs.Prelude.{ℕ, ◌<◌, Bool, false, ◌==◌, List, [], ◌∷◌, ◌++◌, Option, None, Some, Result, Ok, Err, if◌then◌else◌}
 use Rattle.desk_steps.specs.Data.{Data, File, Line, commands_of}
 use Rattle.desk_steps.specs.Table.{connect_at, disconnect_at, select_at, drop_file_step, start_at, restart_at, pause_at, resume_at, toggle_at, cancel_at, manual_at}
 use Rattle.desk_steps.specs.Pull.{pull_step}

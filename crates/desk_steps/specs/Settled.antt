@@ -1,5 +1,5 @@
 -- What is left to settle after a pull or a note.
-use Rattle.std.specs.Prelude.{◌≡◌, ℕ, Option, None}
+use Rattle.std.specs.Prelude.{◌≡◌, ℕ, None}
 use Rattle.desk_steps.specs.Data.{Data}
 use Rattle.desk_steps.specs.Pull.{settled, pull_step}
 use Rattle.desk_steps.specs.Note.{note_step}

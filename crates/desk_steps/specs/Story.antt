@@ -1,8 +1,8 @@
 -- What whole runs of a desk come to.
-use Rattle.std.specs.Prelude.{◌≡◌, ℕ, ◌<◌, ◌≤◌, Bool, true, false, List, [], ◌∷◌, ◌++◌, length, take, All}
-use Rattle.desk_steps.specs.Data.{ScriptTexts, Data, Line, new_desk}
+use Rattle.std.specs.Prelude.{◌≡◌, ℕ, ◌<◌, List, [], ◌∷◌, ◌++◌, All}
+use Rattle.desk_steps.specs.Data.{ScriptTexts, Line, new_desk}
 use Rattle.temp_rules.specs.declared.limits.Limits.{Limits}
-use Rattle.desk_steps.specs.Course.{End, Open, Paused, Cancelled, Done, Course}
+use Rattle.desk_steps.specs.Course.{End, Paused, Cancelled, Done, Course}
 use Rattle.desk_steps.specs.Run.{DeskCall, Fate, Finished, Stopped, Left, Unplugged, Broken, Pulled, Run, new_run, run_of, MayCallAll, pulled_of, of_print}
 use Rattle.desk_steps.specs.declared.state.State.{State}
 use Rattle.desk_steps.specs.declared.state.State.TheVariants.{Printing}

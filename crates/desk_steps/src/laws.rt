@@ -8,24 +8,20 @@ ghost use Rattle.desk_steps.specs.Story.{EveryRunTellsStories};
 /// while Printing.
 pub fn every_run_tells_stories()
     ensures { EveryRunTellsStories }
-{
-}
+{}
 
 /// The file commands of a course are the file's first ones, with the indexes 0, 1, 2 and so on without a gap, and each of
 /// its scripts stands whole.
 pub fn every_course_reads_plainly()
     ensures { EveryCourseReadsPlainly }
-{
-}
+{}
 
 /// The file commands of lines that begin a course are the file's first ones, without a gap.
 pub fn every_beginning_is_in_order()
     ensures { EveryBeginningIsInOrder }
-{
-}
+{}
 
 /// A pull and a note leave nothing to settle, and a further pull that gives no line then changes nothing.
 pub fn nothing_is_left_to_settle()
     ensures { IsSettledBySteps }
-{
-}
+{}

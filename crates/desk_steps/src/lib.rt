@@ -4,8 +4,11 @@
 mod laws;
 mod state;
 
-pub use laws::{every_beginning_is_in_order, every_course_reads_plainly, every_run_tells_stories, nothing_is_left_to_settle};
+pub use laws::{
+    every_beginning_is_in_order, every_course_reads_plainly, every_run_tells_stories,
+    nothing_is_left_to_settle,
+};
 pub use marlin_reply::{LinkFact, SessionEnd};
 pub use print_queue::{Ending, Outcome};
-pub use temp_rules::{HotLine, Limits};
 pub use state::{Point, Refusal, State, Tag};
+pub use temp_rules::{HotLine, Limits};
