@@ -1,0 +1,12 @@
+-- What is left to settle after a pull or a note.
+use Rattle.std.specs.Prelude.{◌≡◌, ℕ, None}
+use Rattle.desk_steps.specs.Data.{Data}
+use Rattle.desk_steps.specs.Pull.{settled, pull_step}
+use Rattle.desk_steps.specs.Note.{note_step}
+use Rattle.marlin_reply.specs.declared.session.LinkFact.{LinkFact}
+
+-- a pull and a note leave nothing to settle, and where nothing is left to settle a pull that gives no line changes nothing
+pub record IsSettledBySteps : Type 0 where
+  pub by_pull : (moment : ℕ) (d : Data) → settled (pull_step moment d).1 ≡ (pull_step moment d).1
+  pub by_note : (acked : ℕ) (fact : LinkFact) (moment : ℕ) (d : Data) → settled (note_step acked fact moment d).1 ≡ (note_step acked fact moment d).1
+  pub idle_pull : (moment : ℕ) (d : Data) → settled d ≡ d → (pull_step moment d).0 ≡ None → (pull_step moment d).1 ≡ d

@@ -1,0 +1,14 @@
+//! What the desk of a print host does at each call, as steps on plain data, and what a whole run of calls gives.
+#![tactic(auto)]
+
+mod laws;
+mod state;
+
+pub use laws::{
+    every_beginning_is_in_order, every_course_reads_plainly, every_run_tells_stories,
+    nothing_is_left_to_settle,
+};
+pub use marlin_reply::{LinkFact, SessionEnd};
+pub use print_queue::{Ending, Outcome};
+pub use state::{Point, Refusal, State, Tag};
+pub use temp_rules::{HotLine, Limits};

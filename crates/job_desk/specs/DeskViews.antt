@@ -1,0 +1,71 @@
+-- The fields of the desk as plain data, and what holds of them.
+use Rattle.std.specs.Prelude.{◌≡◌, ℕ, ◌≤◌, List, All}
+use Rattle.std.specs.Option.{option_map}
+use Rattle.byte_text.specs.Sendable.{IsSendable}
+use Rattle.gcode_lines.specs.Job.{JobData}
+use Rattle.desk_steps.specs.Data.{Data, File}
+use Rattle.desk_steps.specs.declared.state.State.{State}
+use Rattle.desk_steps.specs.declared.state.State.TheVariants.{Offline, Connecting, Operational, Printing, Pausing, Paused, Cancelling, Finishing, Closing, Fault}
+use Rattle.marlin_reply.specs.declared.session.LinkFact.{LinkFact}
+use Rattle.marlin_reply.specs.declared.session.LinkFact.TheVariants as fact
+use Rattle.job_desk.specs.Views.{bytes_of}
+use Rattle.job_desk.specs.declared.desk.Selected.{Selected}
+use Rattle.job_desk.specs.declared.desk.Desk.TheInside.{Inside}
+
+abbrev pub file_of : Selected → File
+file_of file = record { name = file.name.bytes; job = file.job }
+
+abbrev pub desk_data : Inside → Data
+desk_data desk = record {
+  scripts = desk.waiting.scripts;
+  limits = desk.limits;
+  poll_ms = desk.poll_ms;
+  state = desk.state;
+  port = option_map (λ name. name.bytes) desk.port;
+  file = option_map file_of desk.file;
+  greatest = desk.prints.greatest;
+  active = desk.prints.active;
+  cursor = desk.prints.cursor;
+  waiting = desk.waiting.lines;
+  manual = bytes_of desk.manual.items;
+  poll_at = desk.poll_at;
+  issued = desk.lines.issued;
+  acked = desk.lines.acked;
+  print_line = desk.lines.of_print;
+  poll_line = desk.lines.of_poll;
+  ready = desk.ready;
+}
+
+-- a file by its name and its job
+abbrev pub named_file : List ℕ → JobData → File
+named_file name job = record { name = name; job = job }
+
+-- the most scripts that wait in a state: what a state adds is over before the next one that adds comes, but for a print
+-- that is paused, cancelled and disconnected while the first of its scripts still waits
+abbrev pub most_in : State → ℕ
+most_in Offline = 0
+most_in Connecting = 0
+most_in Operational = 1
+most_in Printing = 2
+most_in Pausing = 3
+most_in Paused = 0
+most_in Cancelling = 4
+most_in Finishing = 1
+most_in Closing = 5
+most_in Fault = 0
+
+-- few enough scripts wait, so that the next one finds room, and the users' lines may be sent
+pub record IsDesk (desk : Inside) : Type 0 where
+  pub few : desk.waiting.count ≤ most_in desk.state
+  pub room : desk.manual.capacity ≡ 256
+  pub sendable : All IsSendable (bytes_of desk.manual.items)
+
+-- how many lines are acknowledged falls only where a session begins, with 0, and is at most how many were issued
+abbrev pub MayNote : ℕ → LinkFact → Data → Type 0
+MayNote acked fact.Opened d = acked ≡ 0
+MayNote acked fact.Quiet d = (d.acked ≤ acked) × (acked ≤ d.issued)
+MayNote acked fact.Ready d = (d.acked ≤ acked) × (acked ≤ d.issued)
+MayNote acked fact.Closed d = (d.acked ≤ acked) × (acked ≤ d.issued)
+MayNote acked fact.NoPort d = (d.acked ≤ acked) × (acked ≤ d.issued)
+MayNote acked fact.Failed d = (d.acked ≤ acked) × (acked ≤ d.issued)
+MayNote acked (fact.Ended end) d = (d.acked ≤ acked) × (acked ≤ d.issued)

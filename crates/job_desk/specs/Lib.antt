@@ -1,0 +1,4 @@
+pub mod DeskViews
+pub mod Entries
+pub mod Scripts
+pub mod Views

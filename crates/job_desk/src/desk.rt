@@ -1,0 +1,193 @@
+//! The desk of a print host.
+ghost use Rattle.std.specs.Prelude.{◌≡◌, ◌≤◌, IfOk};
+ghost use Rattle.std.specs.Option.{option_map, option_copied};
+ghost use Rattle.desk_steps.specs.Data.{new_desk};
+ghost use Rattle.desk_steps.specs.Table.{active_print, is_closable_at};
+
+mod calls;
+mod note;
+mod pull;
+#[cfg(test)]
+mod tests;
+
+use crate::scripts::Scripts;
+use crate::waiting::Waiting;
+use circular_buffer::HeapCircularBuffer;
+use desk_steps::{Limits, Refusal, State};
+use gcode_lines::Job;
+use octo_outside::{Name, Text};
+use std::alloc::{AllocError, Global};
+use std::marker::Model;
+
+/// The most lines of users that wait.
+const MOST_MANUAL: usize = 256;
+
+/// A file that is refused, with its job.
+#[derive(Drop)]
+pub struct NotSelected {
+    pub refusal: Refusal,
+    pub job: Job,
+}
+
+/// The selected file.
+#[derive(Drop)]
+struct Selected {
+    name: Name,
+    job: Job,
+}
+
+/// The prints of a desk: the greatest number given so far, whether that print is active, and the index of its next file
+/// command.
+#[derive(Clone, Copy)]
+struct Prints {
+    greatest: u32,
+    active: bool,
+    cursor: usize,
+}
+
+/// The lines of a session: how many were issued and acknowledged, and the numbers of the print's last one and of the last
+/// poll, 0 for none.
+#[derive(Clone, Copy)]
+struct Lines {
+    issued: u64,
+    acked: u32,
+    of_print: u64,
+    of_poll: u64,
+}
+
+/// The desk of a print host: it says which line is to be issued next, and keeps the states of OctoPrint's printer.
+#[derive(Drop)]
+pub struct Desk {
+    limits: Limits,
+    poll_ms: u64,
+    state: State,
+    port: Option<Name>,
+    file: Option<Selected>,
+    prints: Prints,
+    waiting: Waiting,
+    manual: HeapCircularBuffer<Text>,
+    poll_at: u64,
+    lines: Lines,
+    ready: bool,
+}
+
+impl Model for Desk {
+    ghost use Rattle.desk_steps.specs.Data.{Data};
+
+    ghost Value = { Data };
+
+    ghost use Rattle.job_desk.specs.DeskViews.{desk_data, IsDesk};
+
+    ghost view = { desk_data };
+
+    ghost invariant = { IsDesk };
+}
+
+impl Desk {
+    /// A desk that is offline. A poll is due so many milliseconds after the last one, at least 1.
+    pub fn new(
+        alloc: Global,
+        scripts: Scripts,
+        limits: Limits,
+        poll_ms: u64,
+    ) -> Result<Desk, AllocError>
+        requires { 1 ≤ poll_ms }
+        ensures { IfOk result (λ desk. desk ≡ new_desk scripts limits poll_ms) }
+    {
+        let manual = HeapCircularBuffer::with_capacity(alloc, MOST_MANUAL)?;
+        Ok(Desk {
+            limits,
+            poll_ms,
+            state: State::Offline,
+            port: None,
+            file: None,
+            prints: Prints {
+                greatest: 0,
+                active: false,
+                cursor: 0,
+            },
+            waiting: Waiting::new(scripts),
+            manual,
+            poll_at: 0,
+            lines: Lines {
+                issued: 0,
+                acked: 0,
+                of_print: 0,
+                of_poll: 0,
+            },
+            ready: false,
+        })
+    }
+
+    /// The limits that it was made with.
+    pub fn limits(&self) -> &Limits
+        ensures { result.now ≡ self.now.limits }
+    {
+        &self.limits
+    }
+
+    pub fn state(&self) -> State
+        ensures { result ≡ self.now.state }
+    {
+        self.state
+    }
+
+    /// The port of the last connect.
+    pub fn port(&self) -> Option<&Name>
+        ensures { option_map (λ name. name.bytes) (option_copied result) ≡ self.now.port }
+    {
+        self.port.as_ref()
+    }
+
+    /// The name of the selected file.
+    pub fn selected(&self) -> Option<&Name>
+        ensures { option_map (λ name. name.bytes) (option_copied result) ≡ option_map (λ f. f.name) self.now.file }
+    {
+        match &self.file {
+            Some(file) => Some(&file.name),
+            None => None,
+        }
+    }
+
+    /// The job of the selected file.
+    pub fn job(&self) -> Option<&Job>
+        ensures { option_copied result ≡ option_map (λ f. f.job) self.now.file }
+    {
+        match &self.file {
+            Some(file) => Some(&file.job),
+            None => None,
+        }
+    }
+
+    /// The print that is going on.
+    pub fn print(&self) -> Option<u32>
+        ensures { result ≡ active_print self.now }
+    {
+        if self.prints.active {
+            Some(self.prints.greatest)
+        } else {
+            None
+        }
+    }
+
+    /// The index of the next file command.
+    pub fn cursor(&self) -> usize
+        ensures { result ≡ self.now.cursor }
+    {
+        self.prints.cursor
+    }
+
+    /// Whether the connection may be closed now: the desk is closing, and its last script is over and acknowledged, or no
+    /// hello was acknowledged since the last accepted connect.
+    pub fn closable(&self) -> bool
+        ensures { result ≡ is_closable_at self.now.state self.now }
+    {
+        match self.state {
+            State::Closing => {
+                self.waiting.is_empty() && self.lines.issued <= u64::from(self.lines.acked)
+                    || !self.ready
+            }
+            _ => false,
+        }
+    }
+}

@@ -1,0 +1,248 @@
+//! The calls of the table: what a user asks of the desk.
+ghost use Rattle.std.specs.Prelude.{◌≡◌, ◌<◌, ◌≤◌, ◌+◌, ◌++◌, ◌⊎◌, length, Ok, Err, MatchResult, All};
+ghost use Rattle.byte_text.specs.Sendable.{IsSendable};
+ghost use Rattle.desk_steps.specs.Table.{add_manual, cancel_at, connect_at, disconnect_at, drop_file_step, manual_at, pause_at, printing, restart_at, resume_at, select_at, start_at, toggle_at};
+ghost use Rattle.job_desk.specs.DeskViews.{named_file};
+ghost use Rattle.job_desk.specs.Views.{bytes_of};
+
+use super::{Desk, MOST_MANUAL, NotSelected, Prints, Selected};
+use crate::issued::text_of;
+use circular_buffer::HeapCircularBuffer;
+use desk_steps::{Point, Refusal, State};
+use gcode_lines::Job;
+use octo_outside::{Name, Text};
+use temp_rules::first_hot;
+
+impl Desk {
+    /// The call is not for this state.
+    fn wrong_state(&self) -> Refusal
+        ensures { result ≡ Refusal.WrongState self.now.state }
+    {
+        Refusal::WrongState { state: self.state }
+    }
+
+    /// Begins to connect to a port.
+    pub fn connect(&mut self, port: &Name) -> Result<(), Refusal>
+        ensures answer { result ≡ (connect_at self.old.state port.now.bytes self.old).0 }
+        ensures after { self.new ≡ (connect_at self.old.state port.now.bytes self.old).1 }
+    {
+        match self.state {
+            State::Offline | State::Fault => {
+                self.state = State::Connecting;
+                self.port = Some(*port);
+                self.ready = false;
+                Ok(())
+            }
+            _ => Err(self.wrong_state()),
+        }
+    }
+
+    /// Ends the connection, after the script for it where there was one.
+    pub fn disconnect(&mut self)
+        ensures { self.new ≡ disconnect_at self.old.state self.old }
+    {
+        match self.state {
+            State::Offline | State::Closing => {}
+            State::Fault => self.state = State::Offline,
+            State::Connecting => self.state = State::Closing,
+            _ => {
+                self.state = State::Closing;
+                self.manual.clear();
+                self.waiting.add(Point::Disconnect, 0);
+            }
+        }
+    }
+
+    /// Selects a file. A refusal hands the job back.
+    pub fn select(&mut self, name: &Name, job: Job) -> Result<(), NotSelected>
+        ensures answer { let selected = select_at self.old.state (named_file name.now.bytes job) self.old in MatchResult result
+            (λ _. selected.0 ≡ Ok tt)
+            (λ refused. (selected.0 ≡ Err refused.refusal) × (refused.job ≡ job)) }
+        ensures after { self.new ≡ (select_at self.old.state (named_file name.now.bytes job) self.old).1 }
+    {
+        match self.state {
+            State::Offline | State::Connecting | State::Operational | State::Fault => {
+                self.file = Some(Selected { name: *name, job });
+                Ok(())
+            }
+            _ => Err(NotSelected {
+                refusal: self.wrong_state(),
+                job,
+            }),
+        }
+    }
+
+    /// The file of this name is no longer selected, unless it is being printed.
+    pub fn drop_file(&mut self, name: &Name) -> Result<(), Refusal>
+        ensures answer { result ≡ (drop_file_step name.now.bytes self.old).0 }
+        ensures after { self.new ≡ (drop_file_step name.now.bytes self.old).1 }
+    {
+        let is_selected = match &self.file {
+            Some(file) => file.name == *name,
+            None => false,
+        };
+        if !is_selected {
+            return Ok(());
+        }
+        if self.prints.active {
+            return Err(Refusal::FileBusy);
+        }
+        self.file = None;
+        Ok(())
+    }
+
+    /// A new print of the selected file begins.
+    fn begin(&mut self, print: u32)
+        requires { (self.old.state ≡ State.Operational) ⊎ (self.old.state ≡ State.Paused) }
+        ensures { self.new ≡ printing print self.old }
+    {
+        self.state = State::Printing;
+        self.prints = Prints {
+            greatest: print,
+            active: true,
+            cursor: 0,
+        };
+        self.lines.of_print = 0;
+        self.waiting.add(Point::Started, print);
+    }
+
+    /// Starts a print of the selected file. The file may have no command that is too hot.
+    pub fn start(&mut self, print: u32) -> Result<(), Refusal>
+        requires { self.old.greatest < print }
+        ensures answer { result ≡ (start_at self.old.state print self.old).0 }
+        ensures after { self.new ≡ (start_at self.old.state print self.old).1 }
+    {
+        if self.state != State::Operational {
+            return Err(self.wrong_state());
+        }
+        let Some(file) = &self.file else {
+            return Err(Refusal::NoFile);
+        };
+        if let Some(hot) = first_hot(&file.job, &self.limits) {
+            return Err(Refusal::TooHotLine {
+                line: hot.line,
+                asked: hot.asked,
+                limit: hot.limit,
+            });
+        }
+        self.begin(print);
+        Ok(())
+    }
+
+    /// Ends the paused print as cancelled and starts a new one. Answers the ended print.
+    pub fn restart(&mut self, print: u32) -> Result<u32, Refusal>
+        requires { self.old.greatest < print }
+        ensures answer { result ≡ (restart_at self.old.state print self.old).0 }
+        ensures after { self.new ≡ (restart_at self.old.state print self.old).1 }
+    {
+        match self.state {
+            State::Paused => {
+                let ended = self.prints.greatest;
+                self.begin(print);
+                Ok(ended)
+            }
+            _ => Err(self.wrong_state()),
+        }
+    }
+
+    /// Pauses the print, once the lines that are on their way are acknowledged.
+    pub fn pause(&mut self) -> Result<(), Refusal>
+        ensures answer { result ≡ (pause_at self.old.state self.old).0 }
+        ensures after { self.new ≡ (pause_at self.old.state self.old).1 }
+    {
+        match self.state {
+            State::Printing => {
+                self.state = State::Pausing;
+                self.waiting.add(Point::Paused, self.prints.greatest);
+                Ok(())
+            }
+            State::Pausing | State::Paused => Ok(()),
+            _ => Err(self.wrong_state()),
+        }
+    }
+
+    /// Goes on with a paused print.
+    pub fn resume(&mut self) -> Result<(), Refusal>
+        ensures answer { result ≡ (resume_at self.old.state self.old).0 }
+        ensures after { self.new ≡ (resume_at self.old.state self.old).1 }
+    {
+        match self.state {
+            State::Paused => {
+                self.state = State::Printing;
+                self.waiting.add(Point::Resumed, self.prints.greatest);
+                Ok(())
+            }
+            State::Printing => Ok(()),
+            _ => Err(self.wrong_state()),
+        }
+    }
+
+    /// Pauses a print that goes on, and goes on with one that is paused.
+    pub fn toggle(&mut self) -> Result<(), Refusal>
+        ensures answer { result ≡ (toggle_at self.old.state self.old).0 }
+        ensures after { self.new ≡ (toggle_at self.old.state self.old).1 }
+    {
+        match self.state {
+            State::Printing => self.pause(),
+            State::Paused => self.resume(),
+            _ => Err(self.wrong_state()),
+        }
+    }
+
+    /// Cancels the print: no further file command is issued.
+    pub fn cancel(&mut self) -> Result<(), Refusal>
+        ensures answer { result ≡ (cancel_at self.old.state self.old).0 }
+        ensures after { self.new ≡ (cancel_at self.old.state self.old).1 }
+    {
+        match self.state {
+            State::Printing | State::Pausing | State::Paused => {
+                self.state = State::Cancelling;
+                self.waiting.add(Point::Cancelled, self.prints.greatest);
+                Ok(())
+            }
+            _ => Err(self.wrong_state()),
+        }
+    }
+
+    /// Takes the lines of a user, all or none; at most 256 may wait.
+    pub fn manual(&mut self, lines: &[Text]) -> Result<(), Refusal>
+        requires { All IsSendable (bytes_of lines.now) }
+        ensures answer { result ≡ (manual_at self.old.state (bytes_of lines.now) self.old).0 }
+        ensures after { self.new ≡ (manual_at self.old.state (bytes_of lines.now) self.old).1 }
+    {
+        match self.state {
+            State::Operational
+            | State::Printing
+            | State::Pausing
+            | State::Paused
+            | State::Cancelling
+            | State::Finishing => self.add_manual(lines),
+            _ => Err(self.wrong_state()),
+        }
+    }
+
+    fn add_manual(&mut self, lines: &[Text]) -> Result<(), Refusal>
+        requires { All IsSendable (bytes_of lines.now) }
+        ensures answer { result ≡ (add_manual (bytes_of lines.now) self.old).0 }
+        ensures after { self.new ≡ (add_manual (bytes_of lines.now) self.old).1 }
+    {
+        let held = self.manual.len();
+        if lines.len() > MOST_MANUAL - held {
+            return Err(Refusal::Full { held: held as u32 });
+        }
+        push_all(&mut self.manual, lines);
+        Ok(())
+    }
+}
+
+/// Puts copies of texts behind those that wait.
+fn push_all(waiting: &mut HeapCircularBuffer<Text>, lines: &[Text])
+    requires sendable { All IsSendable (bytes_of lines.now) }
+    requires room { length waiting.old.items + length lines.now ≤ waiting.old.capacity }
+    ensures items { bytes_of waiting.new.items ≡ bytes_of waiting.old.items ++ bytes_of lines.now }
+    ensures capacity { waiting.new.capacity ≡ waiting.old.capacity }
+{
+    for line in lines {
+        let _ = waiting.try_push_back(text_of(line.as_slice()));
+    }
+}

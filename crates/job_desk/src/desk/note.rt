@@ -1,0 +1,135 @@
+//! What the desk makes of a turn of the link.
+ghost use Rattle.std.specs.Prelude.{◌≡◌, ◌⊎◌, true, false};
+ghost use Rattle.desk_steps.specs.Note.{ended, fail, leave, note_fact, note_step, opened, ready_at};
+ghost use Rattle.job_desk.specs.DeskViews.{MayNote};
+
+use super::{Desk, Lines, Prints};
+use desk_steps::{Ending, LinkFact, Outcome, Point, State};
+
+impl Prints {
+    /// The print is no longer active.
+    fn end(&mut self, outcome: Outcome) -> Ending
+        ensures ending { result ≡ record { print = self.old.greatest; outcome = outcome } }
+        ensures after { self.new ≡ record self.old { active = false } }
+    {
+        self.active = false;
+        Ending {
+            print: self.greatest,
+            outcome,
+        }
+    }
+}
+
+impl Desk {
+    /// Ends what is over by acknowledgement: no script line waits, and every issued line of the print is acknowledged.
+    fn end(&mut self) -> Option<Ending>
+        ensures ending { result ≡ (ended self.old).0 }
+        ensures after { self.new ≡ (ended self.old).1 }
+    {
+        if !self.waiting.is_empty() {
+            return None;
+        }
+        if self.lines.of_print > u64::from(self.lines.acked) {
+            return None;
+        }
+        match self.state {
+            State::Pausing => {
+                self.state = State::Paused;
+                None
+            }
+            State::Cancelling => {
+                self.state = State::Operational;
+                Some(self.prints.end(Outcome::Cancelled))
+            }
+            State::Finishing => {
+                self.state = State::Operational;
+                Some(self.prints.end(Outcome::Done))
+            }
+            _ => None,
+        }
+    }
+
+    /// The connection is gone: what waits is dropped, and an active print ends.
+    fn leave(&mut self, state: State, outcome: Outcome) -> Option<Ending>
+        requires { (state ≡ State.Offline) ⊎ (state ≡ State.Fault) }
+        ensures ending { result ≡ (leave state outcome self.old).0 }
+        ensures after { self.new ≡ (leave state outcome self.old).1 }
+    {
+        self.state = state;
+        self.waiting.clear();
+        self.manual.clear();
+        if self.prints.active {
+            Some(self.prints.end(outcome))
+        } else {
+            None
+        }
+    }
+
+    /// A new session: nothing was issued in it yet.
+    fn open(&mut self)
+        ensures { self.new ≡ opened self.old }
+    {
+        self.lines = Lines {
+            issued: 0,
+            acked: 0,
+            of_print: 0,
+            of_poll: 0,
+        };
+    }
+
+    /// The hello was acknowledged.
+    fn get_ready(&mut self, moment: u64)
+        ensures { self.new ≡ ready_at self.old.state moment (record self.old { ready = true }) }
+    {
+        self.ready = true;
+        if self.state == State::Connecting {
+            self.state = State::Operational;
+            self.poll_at = moment.saturating_add(self.poll_ms);
+            self.waiting.add(Point::Connected, 0);
+        }
+    }
+
+    /// What the fact and the acknowledgements do.
+    fn take_fact(&mut self, fact: &LinkFact, moment: u64) -> Option<Ending>
+        ensures ending { result ≡ (note_fact fact.now moment self.old).0 }
+        ensures after { self.new ≡ (note_fact fact.now moment self.old).1 }
+    {
+        match fact {
+            LinkFact::Quiet => self.end(),
+            LinkFact::Opened => {
+                self.open();
+                self.end()
+            }
+            LinkFact::Ready => {
+                self.get_ready(moment);
+                self.end()
+            }
+            LinkFact::Closed => self.leave(State::Offline, Outcome::Cancelled),
+            LinkFact::NoPort => self.leave(State::Fault, Outcome::Failed),
+            LinkFact::Failed | LinkFact::Ended(_) => self.fail(),
+        }
+    }
+
+    /// The link or the session failed, after what this very turn completes.
+    fn fail(&mut self) -> Option<Ending>
+        ensures ending { result ≡ (fail (ended self.old)).0 }
+        ensures after { self.new ≡ (fail (ended self.old)).1 }
+    {
+        let completed = self.end();
+        let broken = self.leave(State::Fault, Outcome::Failed);
+        completed.or(broken)
+    }
+
+    /// Notes how many lines of the session are acknowledged and what a turn at this moment, in milliseconds, found of the
+    /// link. Answers the end of a print, if this was one.
+    pub fn note(&mut self, acked: u32, fact: &LinkFact, moment: u64) -> Option<Ending>
+        requires { MayNote acked fact.now self.old }
+        ensures ending { result ≡ (note_step acked fact.now moment self.old).0 }
+        ensures after { self.new ≡ (note_step acked fact.now moment self.old).1 }
+    {
+        self.lines.acked = acked;
+        let ending = self.take_fact(fact, moment);
+        self.settle();
+        ending
+    }
+}

@@ -1,0 +1,167 @@
+//! Which line is to be issued next.
+ghost use Rattle.std.specs.Prelude.{◌≡◌, length, IfSome, slice_get};
+ghost use Rattle.std.specs.Option.{option_map};
+ghost use Rattle.byte_text.specs.Sendable.{IsSendable};
+ghost use Rattle.desk_steps.specs.Data.{commands_of};
+ghost use Rattle.desk_steps.specs.Pull.{draw_at, from_file, from_manual, from_poll, from_scripts, keep_number, next_number, poll_is_due, pull_step, settled, talk};
+ghost use Rattle.job_desk.specs.Views.{DrawsFrom, line_of};
+
+use super::Desk;
+use crate::issued::{Issued, text_of};
+use desk_steps::{Point, State, Tag};
+
+/// Marlin's question for temperatures.
+const POLL: &[u8] = b"M105";
+
+impl Desk {
+    /// How many commands the selected file has.
+    fn count(&self) -> usize
+        ensures { result ≡ length (commands_of self.now.file) }
+    {
+        match &self.file {
+            Some(file) => file.job.count(),
+            None => 0,
+        }
+    }
+
+    /// A line gets the next number of the session, which its print or the poll keeps.
+    fn number(&mut self, tag: Tag)
+        ensures { self.new ≡ keep_number tag (next_number self.old.issued) (record self.old { issued = next_number self.old.issued }) }
+    {
+        let number = self.lines.issued.saturating_add(1);
+        self.lines.issued = number;
+        match tag {
+            Tag::Script { print, .. } => {
+                if print != 0 {
+                    self.lines.of_print = number;
+                }
+            }
+            Tag::Job { .. } => self.lines.of_print = number,
+            Tag::Manual => {}
+            Tag::Poll => self.lines.of_poll = number,
+        }
+    }
+
+    /// The first line of the scripts that wait.
+    fn take_script(&mut self) -> Option<Issued>
+        ensures drawn { DrawsFrom (from_scripts self.old.waiting self.old) result self.old self.new }
+        ensures sendable { IfSome result (λ issued. IsSendable issued.text.items) }
+    {
+        let line = self.waiting.next()?;
+        self.number(line.tag);
+        Some(line)
+    }
+
+    /// The oldest line of a user.
+    fn take_manual(&mut self) -> Option<Issued>
+        ensures drawn { DrawsFrom (from_manual self.old.manual self.old) result self.old self.new }
+        ensures sendable { IfSome result (λ issued. IsSendable issued.text.items) }
+    {
+        let text = self.manual.pop_front()?;
+        self.number(Tag::Manual);
+        Some(Issued {
+            text,
+            tag: Tag::Manual,
+        })
+    }
+
+    /// Whether a poll is due, with every earlier one acknowledged.
+    fn poll_is_due(&self, moment: u64) -> bool
+        ensures { result ≡ poll_is_due moment self.now }
+    {
+        self.poll_at <= moment && self.lines.of_poll <= u64::from(self.lines.acked)
+    }
+
+    /// A due poll.
+    fn take_poll(&mut self, moment: u64) -> Option<Issued>
+        ensures drawn { DrawsFrom (from_poll moment self.old) result self.old self.new }
+        ensures sendable { IfSome result (λ issued. IsSendable issued.text.items) }
+    {
+        if !self.poll_is_due(moment) {
+            return None;
+        }
+        self.poll_at = moment.saturating_add(self.poll_ms);
+        self.number(Tag::Poll);
+        Some(Issued {
+            text: text_of(POLL),
+            tag: Tag::Poll,
+        })
+    }
+
+    /// The file command at the cursor, which moves on.
+    fn take_command(&mut self) -> Option<Issued>
+        ensures line { option_map line_of result ≡ (from_file (slice_get (commands_of self.old.file) self.old.cursor) self.old).0 }
+        ensures after { self.new ≡ (from_file (slice_get (commands_of self.old.file) self.old.cursor) self.old).1 }
+        ensures sendable { IfSome result (λ issued. IsSendable issued.text.items) }
+    {
+        let file = self.file.as_ref()?;
+        let at = self.prints.cursor;
+        if at >= file.job.count() {
+            return None;
+        }
+        let text = text_of(file.job.get(at));
+        let tag = Tag::Job {
+            print: self.prints.greatest,
+            index: at as u32,
+        };
+        self.prints.cursor = at + 1;
+        self.number(tag);
+        Some(Issued { text, tag })
+    }
+
+    /// A line other than a file command.
+    fn talk(&mut self, moment: u64) -> Option<Issued>
+        ensures drawn { DrawsFrom (talk moment self.old) result self.old self.new }
+        ensures sendable { IfSome result (λ issued. IsSendable issued.text.items) }
+    {
+        if let Some(line) = self.take_script() {
+            return Some(line);
+        }
+        if let Some(line) = self.take_manual() {
+            return Some(line);
+        }
+        self.take_poll(moment)
+    }
+
+    /// The next line, if there is one.
+    fn draw(&mut self, moment: u64) -> Option<Issued>
+        ensures line { option_map line_of result ≡ (draw_at self.old.state moment self.old).0 }
+        ensures after { self.new ≡ (draw_at self.old.state moment self.old).1 }
+        ensures sendable { IfSome result (λ issued. IsSendable issued.text.items) }
+    {
+        match self.state {
+            State::Offline | State::Connecting | State::Fault => None,
+            State::Closing => self.take_script(),
+            State::Printing => match self.talk(moment) {
+                Some(line) => Some(line),
+                None => self.take_command(),
+            },
+            _ => self.talk(moment),
+        }
+    }
+
+    /// A print whose commands were all issued goes on to its last script.
+    pub(super) fn settle(&mut self)
+        ensures { self.new ≡ settled self.old }
+    {
+        if self.state == State::Printing
+            && self.waiting.is_empty()
+            && self.prints.cursor == self.count()
+        {
+            self.state = State::Finishing;
+            self.waiting.add(Point::Done, self.prints.greatest);
+        }
+    }
+
+    /// The next line to issue, which then counts as issued and may be sent; None where there is none. The moment is in
+    /// milliseconds.
+    pub fn pull(&mut self, moment: u64) -> Option<Issued>
+        ensures line { option_map line_of result ≡ (pull_step moment self.old).0 }
+        ensures after { self.new ≡ (pull_step moment self.old).1 }
+        ensures sendable { IfSome result (λ issued. IsSendable issued.text.items) }
+    {
+        let line = self.draw(moment);
+        self.settle();
+        line
+    }
+}

@@ -1,0 +1,368 @@
+//! Worked cases: what is issued around a pause and a cancel, and each call in each state.
+use super::*;
+use crate::{AddFault, Ending, LinkFact, Outcome, Point, Tag};
+use gcode_lines::{one_command, read_commands};
+use std::process::Abort;
+use std::test::Fail;
+
+#[derive(Clone, Copy, Debug)]
+enum Call {
+    Connect,
+    Disconnect,
+    Select,
+    Start,
+    Pause,
+    Resume,
+    Toggle,
+    Cancel,
+    Restart,
+    Manual,
+}
+
+#[derive(Clone, Copy, Debug)]
+enum Step {
+    Does(Call),
+    Refuses(Call),
+    /// A session is opened, and its hello is acknowledged.
+    Opens,
+    Fails,
+    Issues(&'static str, Tag),
+    IssuesNothing,
+    /// So many lines of the session are acknowledged, which ends nothing.
+    Acknowledges(u32),
+    /// So many lines are acknowledged, which ends print 1.
+    Ends(u32, Outcome),
+    Is(State),
+}
+
+/// For each call the state after it, by its letter, from each of the states of `STATES`; `-` is a refusal.
+const TABLE: [(Call, &str); 10] = [
+    (Call::Connect, "C--------C"),
+    (Call::Disconnect, "OLLLLLLLLO"),
+    (Call::Select, "OCR------E"),
+    (Call::Start, "--P-------"),
+    (Call::Pause, "---GGA----"),
+    (Call::Resume, "---P-P----"),
+    (Call::Toggle, "---G-P----"),
+    (Call::Cancel, "---XXX----"),
+    (Call::Restart, "-----P----"),
+    (Call::Manual, "--RPGAXF--"),
+];
+
+const STATES: [State; 10] = [
+    State::Offline,
+    State::Connecting,
+    State::Operational,
+    State::Printing,
+    State::Pausing,
+    State::Paused,
+    State::Cancelling,
+    State::Finishing,
+    State::Closing,
+    State::Fault,
+];
+
+const G28: Step = Step::Issues("G28", Tag::Job { print: 1, index: 0 });
+
+const fn script(text: &'static str, point: Point) -> Step {
+    Step::Issues(text, Tag::Script { point, print: 1 })
+}
+
+fn letter(state: State) -> u8 {
+    match state {
+        State::Offline => b'O',
+        State::Connecting => b'C',
+        State::Operational => b'R',
+        State::Printing => b'P',
+        State::Pausing => b'G',
+        State::Paused => b'A',
+        State::Cancelling => b'X',
+        State::Finishing => b'F',
+        State::Closing => b'L',
+        State::Fault => b'E',
+    }
+}
+
+fn name(rt: &impl Abort, text: &str) -> Name {
+    let mut name = Name::new();
+    assert!(rt; name.try_push_str(text).is_ok());
+    name
+}
+
+fn add(rt: &impl Abort, scripts: &mut Scripts, point: Point, text: &str) {
+    match one_command(text.as_bytes()) {
+        Ok(text) => assert!(rt; scripts.add(point, &text).is_ok()),
+        Err(_) => panic!(rt; "no command"),
+    }
+}
+
+/// A desk with these scripts and a selected file of one command.
+fn desk_with(rt: &impl Abort, alloc: Global, lines: &[(Point, &str)]) -> Result<Desk, Fail> {
+    let mut scripts = Scripts::new(alloc);
+    for (point, text) in lines {
+        add(rt, &mut scripts, *point, text);
+    }
+    let mut desk = Desk::new(
+        alloc,
+        scripts,
+        Limits {
+            tool: 250,
+            bed: 100,
+        },
+        5000,
+    )?;
+    select(rt, alloc, &mut desk)?;
+    Ok(desk)
+}
+
+fn select(rt: &impl Abort, alloc: Global, desk: &mut Desk) -> Result<bool, Fail> {
+    let job = read_commands(alloc, b"G28\n")?;
+    Ok(desk.select(&name(rt, "a.gcode"), job).is_ok())
+}
+
+fn start(rt: &impl Abort, desk: &mut Desk) -> bool {
+    let former = desk.prints.greatest;
+    assert!(rt; former < 1000);
+    desk.start(former + 1).is_ok()
+}
+
+fn restart(rt: &impl Abort, desk: &mut Desk) -> bool {
+    let former = desk.prints.greatest;
+    assert!(rt; former < 1000);
+    desk.restart(former + 1) == Ok(former)
+}
+
+fn disconnect(desk: &mut Desk) -> bool {
+    desk.disconnect();
+    true
+}
+
+fn connect(rt: &impl Abort, desk: &mut Desk) -> bool {
+    desk.connect(&name(rt, "p")).is_ok()
+}
+
+/// Makes a call, and tells whether it was accepted.
+fn make(rt: &impl Abort, alloc: Global, desk: &mut Desk, call: Call) -> Result<bool, Fail> {
+    match call {
+        Call::Connect => Ok(connect(rt, desk)),
+        Call::Disconnect => Ok(disconnect(desk)),
+        Call::Select => select(rt, alloc, desk),
+        Call::Start => Ok(start(rt, desk)),
+        Call::Pause => Ok(desk.pause().is_ok()),
+        Call::Resume => Ok(desk.resume().is_ok()),
+        Call::Toggle => Ok(desk.toggle().is_ok()),
+        Call::Cancel => Ok(desk.cancel().is_ok()),
+        Call::Restart => Ok(restart(rt, desk)),
+        Call::Manual => Ok(desk.manual(&[]).is_ok()),
+    }
+}
+
+fn opens(rt: &impl Abort, desk: &mut Desk) {
+    assert_eq!(rt; desk.note(0, &LinkFact::Opened, 0), None);
+    let acked = desk.lines.acked;
+    assert!(rt; u64::from(acked) <= desk.lines.issued);
+    assert_eq!(rt; desk.note(acked, &LinkFact::Ready, 0), None);
+}
+
+fn fails(rt: &impl Abort, desk: &mut Desk) {
+    let acked = desk.lines.acked;
+    assert!(rt; u64::from(acked) <= desk.lines.issued);
+    assert_eq!(rt; desk.note(acked, &LinkFact::Failed, 0), None);
+}
+
+fn acknowledge(rt: &impl Abort, desk: &mut Desk, acked: u32) -> Option<Ending> {
+    assert!(rt; desk.lines.acked <= acked && u64::from(acked) <= desk.lines.issued);
+    desk.note(acked, &LinkFact::Quiet, 0)
+}
+
+fn issues(rt: &impl Abort, desk: &mut Desk, text: &str, tag: Tag) {
+    match desk.pull(0) {
+        Some(line) => {
+            assert_eq!(rt; line.text.as_slice(), text.as_bytes(), "{text}");
+            assert_eq!(rt; line.tag, tag, "{text}");
+        }
+        None => panic!(rt; "no line"),
+    }
+}
+
+fn take(rt: &impl Abort, alloc: Global, desk: &mut Desk, step: Step) -> Result<(), Fail> {
+    match step {
+        Step::Does(call) => assert!(rt; make(rt, alloc, desk, call)?, "{call:?}"),
+        Step::Refuses(call) => assert!(rt; !make(rt, alloc, desk, call)?, "{call:?}"),
+        Step::Opens => opens(rt, desk),
+        Step::Fails => fails(rt, desk),
+        Step::Issues(text, tag) => issues(rt, desk, text, tag),
+        Step::IssuesNothing => assert!(rt; desk.pull(0).is_none()),
+        Step::Acknowledges(acked) => assert_eq!(rt; acknowledge(rt, desk, acked), None),
+        Step::Ends(acked, outcome) => {
+            let ending = Ending { print: 1, outcome };
+            assert_eq!(rt; acknowledge(rt, desk, acked), Some(ending));
+        }
+        Step::Is(state) => assert_eq!(rt; desk.state(), state),
+    }
+    Ok(())
+}
+
+fn take_all(rt: &impl Abort, alloc: Global, desk: &mut Desk, steps: &[Step]) -> Result<(), Fail> {
+    for step in steps {
+        take(rt, alloc, desk, *step)?;
+    }
+    Ok(())
+}
+
+/// The steps from a new desk without scripts, but with a file selected, to a state.
+fn way_to(state: State) -> &'static [Step] {
+    match state {
+        State::Offline => &[],
+        State::Connecting => &[Step::Does(Call::Connect)],
+        State::Operational => &[Step::Does(Call::Connect), Step::Opens],
+        State::Printing => &[
+            Step::Does(Call::Connect),
+            Step::Opens,
+            Step::Does(Call::Start),
+        ],
+        State::Pausing => &[
+            Step::Does(Call::Connect),
+            Step::Opens,
+            Step::Does(Call::Start),
+            Step::Does(Call::Pause),
+        ],
+        State::Paused => &[
+            Step::Does(Call::Connect),
+            Step::Opens,
+            Step::Does(Call::Start),
+            Step::Does(Call::Pause),
+            Step::Acknowledges(0),
+        ],
+        State::Cancelling => &[
+            Step::Does(Call::Connect),
+            Step::Opens,
+            Step::Does(Call::Start),
+            Step::Does(Call::Cancel),
+        ],
+        State::Finishing => &[
+            Step::Does(Call::Connect),
+            Step::Opens,
+            Step::Does(Call::Start),
+            G28,
+        ],
+        State::Closing => &[Step::Does(Call::Connect), Step::Does(Call::Disconnect)],
+        State::Fault => &[Step::Does(Call::Connect), Step::Fails],
+    }
+}
+
+fn check_cell(
+    rt: &impl Abort,
+    alloc: Global,
+    call: Call,
+    state: State,
+    after: u8,
+) -> Result<(), Fail> {
+    let mut desk = desk_with(rt, alloc, &[])?;
+    take_all(rt, alloc, &mut desk, way_to(state))?;
+    assert_eq!(rt; desk.state(), state);
+    let accepted = make(rt, alloc, &mut desk, call)?;
+    assert_eq!(rt; accepted, after != b'-', "{call:?} in {state:?}");
+    let expected = if accepted { after } else { letter(state) };
+    assert_eq!(rt; letter(desk.state()), expected, "{call:?} in {state:?}");
+    Ok(())
+}
+
+#[test]
+fn each_call_in_each_state(rt: HostRuntime) -> Result<(), Fail> {
+    for (call, row) in TABLE {
+        for (state, after) in STATES.iter().zip(row.as_bytes()) {
+            check_cell(&rt, rt.alloc(), call, *state, *after)?;
+        }
+    }
+    Ok(())
+}
+
+/// A print that is paused after its first line goes on where it stood.
+#[test]
+fn pause_and_resume(rt: HostRuntime) -> Result<(), Fail> {
+    let scripts = [
+        (Point::Started, "M107"),
+        (Point::Started, "G92 E0"),
+        (Point::Paused, "G91"),
+        (Point::Resumed, "G90"),
+    ];
+    let steps = [
+        Step::Does(Call::Connect),
+        Step::Opens,
+        Step::Does(Call::Start),
+        script("M107", Point::Started),
+        Step::Acknowledges(1),
+        Step::Does(Call::Pause),
+        script("G92 E0", Point::Started),
+        Step::Acknowledges(2),
+        Step::Is(State::Pausing),
+        script("G91", Point::Paused),
+        Step::Is(State::Pausing),
+        Step::Acknowledges(3),
+        Step::Is(State::Paused),
+        Step::IssuesNothing,
+        Step::Does(Call::Resume),
+        script("G90", Point::Resumed),
+        G28,
+        Step::Is(State::Finishing),
+        Step::Acknowledges(4),
+        Step::Ends(5, Outcome::Done),
+        Step::Is(State::Operational),
+    ];
+    let mut desk = desk_with(&rt, rt.alloc(), &scripts)?;
+    take_all(&rt, rt.alloc(), &mut desk, &steps)
+}
+
+/// A cancel in the midst of a Paused script lets that script end first.
+#[test]
+fn cancel_while_pausing(rt: HostRuntime) -> Result<(), Fail> {
+    let scripts = [
+        (Point::Paused, "G91"),
+        (Point::Paused, "G1 Z1"),
+        (Point::Cancelled, "M84"),
+    ];
+    let steps = [
+        Step::Does(Call::Connect),
+        Step::Opens,
+        Step::Does(Call::Start),
+        Step::Does(Call::Pause),
+        script("G91", Point::Paused),
+        Step::Does(Call::Cancel),
+        Step::Refuses(Call::Cancel),
+        script("G1 Z1", Point::Paused),
+        script("M84", Point::Cancelled),
+        Step::IssuesNothing,
+        Step::Acknowledges(2),
+        Step::Is(State::Cancelling),
+        Step::Ends(3, Outcome::Cancelled),
+        Step::Is(State::Operational),
+        Step::Refuses(Call::Cancel),
+    ];
+    let mut desk = desk_with(&rt, rt.alloc(), &scripts)?;
+    take_all(&rt, rt.alloc(), &mut desk, &steps)
+}
+
+/// The 65th line of a script is one too many, and each call that takes memory gives its value.
+#[test]
+fn ample(rt: HostRuntime) -> Result<(), Fail> {
+    let mut scripts = Scripts::new(rt.alloc());
+    for _ in 0..64 {
+        add(&rt, &mut scripts, Point::Done, "M84");
+    }
+    assert!(rt; scripts.get(Point::Done, 63).is_some());
+    let line = one_command(b"M84")?;
+    assert_eq!(rt; scripts.add(Point::Done, &line), Err(AddFault::TooMany));
+    assert_eq!(rt; scripts.add(Point::Paused, &line), Ok(()));
+    let desk = Desk::new(
+        rt.alloc(),
+        scripts,
+        Limits {
+            tool: 250,
+            bed: 100,
+        },
+        5000,
+    )?;
+    assert_eq!(rt; desk.state(), State::Offline);
+    Ok(())
+}

@@ -1,0 +1,35 @@
+//! Issued lines, and what one turn of the link did.
+ghost use Rattle.std.specs.Prelude.{◌≡◌, ◌≤◌, length};
+
+use arrayvec::ArrayVec;
+use desk_steps::{LinkFact, Tag};
+use marlin_reply::Temps;
+use octo_outside::Text;
+
+/// A line that was issued, and where it comes from.
+#[derive(Debug, PartialEq, Eq, Default, Drop)]
+pub struct Issued {
+    pub text: Text,
+    pub tag: Tag,
+}
+
+/// What one turn did: its moment in milliseconds, the lines acknowledged in the session so far, the lines it issued, the
+/// temperatures it heard and what it found of the link.
+#[derive(Drop)]
+pub struct Note {
+    pub moment: u64,
+    pub acked: u32,
+    pub issued: ArrayVec<Issued, 16>,
+    pub temps: Option<Temps>,
+    pub fact: LinkFact,
+}
+
+/// The bytes as a text of their own.
+pub(crate) fn text_of(bytes: &[u8]) -> Text
+    requires { length bytes.now ≤ 79 }
+    ensures { result.items ≡ bytes.now }
+{
+    let mut text = Text::new();
+    let _ = text.try_extend_from_slice(bytes);
+    text
+}
