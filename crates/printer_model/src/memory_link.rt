@@ -34,11 +34,14 @@ pub struct MemoryLink {
 }
 
 impl Model for MemoryLink {
+    ghost use Rattle.std.specs.Prelude.{◌≤◌};
     ghost use Rattle.printer_model.specs.Memory.{MemoryLinkData};
 
     ghost Value = { MemoryLinkData };
 
     ghost view = { λ l. record { story = l.story; names = l.names; last = l.last; slow = l.slow; fail_at = l.fail_at; calls = l.calls; recvs = l.recvs; faults = l.faults } };
+
+    ghost invariant = { λ l. (1 ≤ l.story.places) × (l.story.places ≤ 16) };
 }
 
 impl MemoryLink {
@@ -145,7 +148,9 @@ impl MemoryLink {
 
     /// Whether a name is listed.
     fn lists(&self, name: &str) -> bool
-        ensures { result ≡ lists_name self.now.names name.now }
+        ensures lists { result ≡ lists_name self.now.names name.now }
+        ensures some { 1 ≤ self.now.story.places }
+        ensures few { self.now.story.places ≤ 16 }
     {
         self.names
             .as_slice()

@@ -1,0 +1,17 @@
+use Rattle.std.proofs.Common.{◌≡◌, ℕ, List, Bool, sym, subst, ap, ◌∙◌}
+use Rattle.std.specs.Prelude.{◌==◌, Some}
+use Rattle.octo.specs.Words.{print_file, command_of}
+use Rattle.octo.specs.Outcome.{is_printed, IsExecuted}
+use Rattle.octo.proofs.Reports.{done_is, executed_undone}
+use Rattle.octo.proofs.run.octo.Goals as goal
+
+pub returns-in-Ok-clause-executed : goal.returns-in-Ok-clause-executed
+returns-in-Ok-clause-executed g c port file is =
+    let r = c.run-report.result in
+    let done : (c.code.result == 0) ≡ is_printed r = ap (λ (n : ℕ). n == 0) c.code.ensures ∙ done_is r (c.run-report.ensures.unchecked port file is) in
+    let P : Bool → Type 0 = λ b. IsExecuted (g.L.Link.places c.args.link.now) (g.L.Link.advanced c.args.link.now) (g.F.Source.files c.args.files.now) file b (g.L.Link.past c.args.link.now) (g.L.Link.past c.run-report.new.link) in
+    subst P (sym done) (c.run-report.ensures.executed port file is)
+
+pub returns-in-Err-clause-executed : goal.returns-in-Err-clause-executed
+returns-in-Err-clause-executed g c port file is =
+    executed_undone (g.L.Link.places c.args.link.now) (g.L.Link.advanced c.args.link.now) (g.F.Source.files c.args.files.now) file (is_printed c.run-report.result) (g.L.Link.past c.args.link.now) (g.L.Link.past c.run-report.new.link) (c.run-report.ensures.executed port file is)

@@ -1,0 +1,47 @@
+//! A print host for one 3D printer: prints a file over a link to the printer, and checks files.
+#![tactic(auto)]
+
+mod absent;
+mod files;
+mod page;
+mod report;
+mod run;
+#[cfg(test)]
+mod tests;
+
+use absent::Absent;
+use octo_outside::{MemoryClock, StdSink, WordList};
+use report::{Report, write_report};
+use run::octo;
+use std::env;
+use std::process::ExitCode;
+
+// The words behind the program's name; none where memory ran out.
+fn words_of(rt: &HostRuntime) -> Option<WordList> {
+    let mut words = WordList::new(rt.alloc());
+    for word in env::args(rt).ok()?.skip(1) {
+        words.push(word.as_str()).ok()?;
+    }
+    Some(words)
+}
+
+fn main(rt: HostRuntime) -> ExitCode {
+    let mut out = StdSink::new(rt);
+    let Some(words) = words_of(&rt) else {
+        let _ = write_report(&mut out, &Report::NoMemory);
+        return ExitCode::from(Report::NoMemory.code());
+    };
+    let mut files = Absent::new();
+    let mut link = Absent::new();
+    let mut clock = MemoryClock::new(0, 1);
+    let status = octo(
+        &rt,
+        rt.alloc(),
+        &words,
+        &mut files,
+        &mut link,
+        &mut out,
+        &mut clock,
+    );
+    ExitCode::from(status.code)
+}
