@@ -33,7 +33,7 @@ grows_then places advanced old mid new a b P Q R first second =
     (λ past added. Leads (a || b) P R (world_of places advanced past) added)
     first second
     (λ past added more one two. (let At : WorldData → Type 0 = λ w. Leads b Q R w more in
-      leads_then a b P Q R (world_of places advanced past) added more one (subst At (world_of-append places advanced past added) two)))
+    leads_then a b P Q R (world_of places advanced past) added more one (subst At (world_of-append places advanced past added) two)))
 
 -- what holds where a call answers Ok, and where it answers Err
 pub ok_so : {T E P Q : Type 0} (r : Result T E) → OnOk r P → (P → Q) → OnOk r Q

@@ -100,9 +100,9 @@ executed_log places advanced past runs rest last lines none_runs none_rest grew 
     let before : till (opens past) all ≡ front = ap (λ (s : ℕ). till s all) (sym counted_front) ∙ ap (till (opens front)) shape ∙ till_stop front rest last in
     let start = (world_from (world_of places advanced past) runs).log in
     let begun : (world_of places advanced (till (opens past) all)).log ≡ start =
-        ap (λ (es : List WorldEvent). (world_of places advanced es).log) before ∙ ap (λ (w : WorldData). w.log) (world_of-append places advanced past runs) in
+    ap (λ (es : List WorldEvent). (world_of places advanced es).log) before ∙ ap (λ (w : WorldData). w.log) (world_of-append places advanced past runs) in
     let ended : (world_of places advanced (till (suc (opens past)) all)).log ≡ start ++ lines =
-        ap (λ (es : List WorldEvent). (world_of places advanced es).log) upto ∙ grew in
+    ap (λ (es : List WorldEvent). (world_of places advanced es).log) upto ∙ grew in
     ap (λ (l : List Logged). filter is_counted (drop (length l) (world_of places advanced (till (suc (opens past)) all)).log)) begun
     ∙ ap (λ (l : List Logged). filter is_counted (drop (length start) l)) ended
     ∙ ap (filter is_counted) (drop-append_seam start lines)
@@ -122,16 +122,16 @@ print_of places advanced texts e past first second few d led =
     let none_runs = all_none d.runs (runs_free d.runs d.only_runs) in
     let shape : first ++ second ≡ d.runs ++ Opened d.last ∷ second = ap (λ (es : List WorldEvent). es ++ second) d.is ∙ append_assoc d.runs (Opened d.last ∷ []) second in
     let grew : (world_of places advanced (past ++ (d.runs ++ Opened d.last ∷ second))).log ≡ start ++ log_of lines log.count =
-        ap (λ (es : List WorldEvent). (world_of places advanced (past ++ es)).log) (sym shape)
-        ∙ ap (λ (es : List WorldEvent). (world_of places advanced es).log) (sym (append_assoc past first second))
-        ∙ ap (λ (w : WorldData). w.log) (world_of-append places advanced (past ++ first) second)
-        ∙ log.is in
+    ap (λ (es : List WorldEvent). (world_of places advanced (past ++ es)).log) (sym shape)
+    ∙ ap (λ (es : List WorldEvent). (world_of places advanced es).log) (sym (append_assoc past first second))
+    ∙ ap (λ (w : WorldData). w.log) (world_of-append places advanced (past ++ first) second)
+    ∙ log.is in
     record {
       count = pred log.count;
       within = pred_within log.count (length texts) log.within;
       is = ap (λ (es : List WorldEvent). executed places advanced (past ++ es) (suc (opens past))) shape
-        ∙ executed_log places advanced past d.runs second d.last (log_of lines log.count) none_runs led.opens grew
-        ∙ counted_log texts log.count;
+          ∙ executed_log places advanced past d.runs second d.last (log_of lines log.count) none_runs led.opens grew
+          ∙ counted_log texts log.count;
       whole = λ done. ap pred (log.whole done);
     }
 
@@ -146,8 +146,8 @@ print_unopened places advanced texts past added none =
       count = 0;
       within = omega arith;
       is = ap (λ (es : List WorldEvent). filter is_counted (drop (length (world_of places advanced es).log) (world_of places advanced (till (suc (opens past)) all)).log)) before
-        ∙ ap (λ (es : List WorldEvent). filter is_counted (drop (length (world_of places advanced all).log) (world_of places advanced es).log)) upto
-        ∙ ap (filter is_counted) (drop_whole (world_of places advanced all).log);
+          ∙ ap (λ (es : List WorldEvent). filter is_counted (drop (length (world_of places advanced all).log) (world_of places advanced es).log)) upto
+          ∙ ap (filter is_counted) (drop_whole (world_of places advanced all).log);
       whole = λ e. absurd (cc);
     }
   where

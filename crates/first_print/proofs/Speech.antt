@@ -14,7 +14,7 @@ unfolding is_chatter error_line
 error_is reason last =
     ap (λ (l : List ℕ). is_talk (kind_of l))
     (append_assoc (codes "Error:" ++ reason_text reason) (codes ", Last Line: ") (decimal last)
-     ∙ append_assoc (codes "Error:") (reason_text reason) (codes ", Last Line: " ++ decimal last))
+    ∙ append_assoc (codes "Error:") (reason_text reason) (codes ", Last Line: " ++ decimal last))
     ∙ ap is_talk (kind_of-error (reason_text reason ++ (codes ", Last Line: " ++ decimal last)))
 
 asked_fits : (last : ℕ) → asked_after last < 2 ^ 32

@@ -28,7 +28,7 @@ returns-in-Resend-clause-leads g c =
     let P : Reply → Type 0 = λ k. Grows (g.L.Link.places c.args.link.now) (g.L.Link.advanced c.args.link.now) (g.L.Link.past c.args.link.now) (g.L.Link.past c.hang_up.new.self) (Leads false (λ start w. IsHeardAs start lines c.args.n k w) (Ran lines)) in
     subst P kind
     (grows_closed _ _ _ _ _ (λ start w. IsHeardAs start lines c.args.n (reply.Resend c.in-Resend.number) w) (Ran lines) c.requires.open
-      (λ start v stopped. closed_ran start lines v (stopped_ran start lines c.args.n v within stopped)) c.hang_up.ensures.past)
+    (λ start v stopped. closed_ran start lines v (stopped_ran start lines c.args.n v within stopped)) c.hang_up.ensures.past)
 
 pub returns-in_default : goal.returns-in_default
 returns-in_default g c =
@@ -39,7 +39,7 @@ returns-in_default g c =
     let no_resend : is_resend kind ≡ false = ap is_resend (sym read) ∙ not_resend c.read_reply.result c.in_default.not-Resend in
     record {
       leads = became_same (g.L.Link.past c.args.link.now) (λ past added. Leads false (λ start w. IsHeardAs start lines c.args.n kind w) (Flying lines c.args.n) (world_of (g.L.Link.places c.args.link.now) (g.L.Link.advanced c.args.link.now) past) added)
-        (λ past. record { opens = refl; asking = refl; leads = λ start here. other_heard start lines c.args.n kind _ no_ok no_resend here });
+          (λ past. record { opens = refl; asking = refl; leads = λ start here. other_heard start lines c.args.n kind _ no_ok no_resend here });
       asked = sym no_resend;
       going = (omega (arith, line_there c.args.job.now c.args.n c.requires.there), c.requires.carried);
       up = c.requires.open;

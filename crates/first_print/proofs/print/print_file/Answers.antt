@@ -43,10 +43,10 @@ returns-in-Ok-clause-asked g c =
     (λ past added. asks (world_of places advanced past) added ≡ end_asked result)
     c.in-Ok.ensures.past led
     (λ past first second dial later.
-      asks-append (world_of places advanced past) first second
-      ∙ ap (λ (b : Bool). b || asks (world_from (world_of places advanced past) first) second) (dial_silent (world_of places advanced past) first dial)
-      ∙ ap (λ (w : WorldData). asks w second) (sym (world_of-append places advanced past first))
-      ∙ later.asking)
+    asks-append (world_of places advanced past) first second
+    ∙ ap (λ (b : Bool). b || asks (world_from (world_of places advanced past) first) second) (dial_silent (world_of places advanced past) first dial)
+    ∙ ap (λ (w : WorldData). asks w second) (sym (world_of-append places advanced past first))
+    ∙ later.asking)
 
 pub returns-in-Err-NoPort-clause-executed : goal.returns-in-Err-NoPort-clause-executed
 returns-in-Err-NoPort-clause-executed g c =

@@ -17,9 +17,9 @@ returns-clause-sent g c =
     let n = c.args.n in
     ok_so c.send.result c.send.ensures.past
     (λ grew. grows_so _ _ _ _ _ _ grew
-      (λ (w : WorldData) (added : List WorldEvent) (sends : IsSend c.write_line.new.into.items w added).
-        let As : List ℕ → Type 0 = λ l. IsSend l w added in
-        send_leads speech lines n c.write_line.ensures.carried (line_there c.args.job.now n c.requires.there) w added (subst As c.write_line.ensures.written sends)))
+    (λ (w : WorldData) (added : List WorldEvent) (sends : IsSend c.write_line.new.into.items w added).
+    let As : List ℕ → Type 0 = λ l. IsSend l w added in
+    send_leads speech lines n c.write_line.ensures.carried (line_there c.args.job.now n c.requires.there) w added (subst As c.write_line.ensures.written sends)))
 
 pub returns-clause-lost : goal.returns-clause-lost
 returns-clause-lost g c =

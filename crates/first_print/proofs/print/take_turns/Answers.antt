@@ -64,6 +64,6 @@ returns-clause-leads g c =
     let i = c.loop.invariant in
     let there = line_there c.args.job.now c.loop.line i.there in
     let closed = grows_closed (g.L.Link.places c.loop.link) (g.L.Link.advanced c.loop.link) (g.L.Link.up c.loop.link) _ _ (Flying lines c.loop.line) (Ran lines) i.up
-      (λ start v flying. closed_ran start lines v (flying_ran start lines c.loop.line v there flying)) c.hang_up.ensures.past in
+    (λ start v flying. closed_ran start lines v (flying_ran start lines c.loop.line v there flying)) c.hang_up.ensures.past in
     let second = grows_at (g.L.Link.places c.args.link.now) (g.L.Link.places c.loop.link) (g.L.Link.advanced c.args.link.now) (g.L.Link.advanced c.loop.link) _ _ (Leads false (Flying lines c.loop.line) (Ran lines)) i.places i.advanced closed in
     grows_then _ _ _ _ _ false false (Flying lines 0) (Flying lines c.loop.line) (Ran lines) i.leads second

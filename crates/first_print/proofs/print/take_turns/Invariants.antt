@@ -7,11 +7,11 @@ use Rattle.first_print.proofs.print.take_turns.Given as goal
 
 abbrev pub invariant-loop : goal.invariant-loop
 invariant-loop g l = record {
-    up : g.L.Link.up l.link ≡ true;
-    there : l.line ≤ length l.job.commands;
-    carried : IsCarried l.line (line_at (lines_of (texts_of l.job)) l.line);
-    leads : Grows (g.L.Link.places l.initial.link) (g.L.Link.advanced l.initial.link) (g.L.Link.past l.initial.link) (g.L.Link.past l.link) (Leads false (Flying (lines_of (texts_of l.job)) 0) (Flying (lines_of (texts_of l.job)) l.line));
-    places : g.L.Link.places l.link ≡ g.L.Link.places l.initial.link;
-    advanced : g.L.Link.advanced l.link ≡ g.L.Link.advanced l.initial.link;
-    counted : g.L.Link.faults l.initial.link ≤ g.L.Link.faults l.link
-  }
+  up : g.L.Link.up l.link ≡ true;
+  there : l.line ≤ length l.job.commands;
+  carried : IsCarried l.line (line_at (lines_of (texts_of l.job)) l.line);
+  leads : Grows (g.L.Link.places l.initial.link) (g.L.Link.advanced l.initial.link) (g.L.Link.past l.initial.link) (g.L.Link.past l.link) (Leads false (Flying (lines_of (texts_of l.job)) 0) (Flying (lines_of (texts_of l.job)) l.line));
+  places : g.L.Link.places l.link ≡ g.L.Link.places l.initial.link;
+  advanced : g.L.Link.advanced l.link ≡ g.L.Link.advanced l.initial.link;
+  counted : g.L.Link.faults l.initial.link ≤ g.L.Link.faults l.link;
+}
