@@ -8,6 +8,8 @@ mod lists;
 mod memory_source;
 mod sink;
 mod source;
+#[cfg(test)]
+mod tests;
 mod types;
 
 pub use blob::Blob;

@@ -1,0 +1,69 @@
+//! Each call that takes memory, and the forms in memory round their failing calls.
+use crate::{
+    Blob, CallList, Clock, Failed, MemoryClock, MemorySink, MemorySource, ReadAll, Sink, Source,
+    WordList, read_all, write_all,
+};
+use std::test::Fail;
+
+#[test]
+fn ample(rt: HostRuntime) -> Result<(), Fail> {
+    let alloc = rt.alloc();
+    let mut blob = Blob::from_slice(alloc, b"G28")?;
+    blob.append(b"\n")?;
+    assert_eq!(rt; blob.as_slice(), b"G28\n".as_slice());
+    let mut words = WordList::new(alloc);
+    words.push("check")?;
+    words.push("a.gcode")?;
+    assert_eq!(rt; words.count(), 2);
+    assert_eq!(rt; words.get(1), "a.gcode");
+    let mut files = MemorySource::new(alloc, CallList::new(alloc));
+    files.put("a.gcode", b"G28\n")?;
+    files.put("a.gcode", b"G1 X10\n")?;
+    let read = read_all(alloc, &mut files, "a.gcode", 7);
+    assert_eq!(rt; read.ok().map(|bytes| bytes.len()), Some(7));
+    let mut out = MemorySink::new(alloc, CallList::new(alloc));
+    assert_eq!(rt; write_all(&mut out, b"done\n"), Ok(()));
+    assert_eq!(rt; out.written(), Some(b"done\n".as_slice()));
+    Ok(())
+}
+
+#[test]
+fn failing_calls(rt: HostRuntime) -> Result<(), Fail> {
+    let alloc = rt.alloc();
+    let mut second = CallList::new(alloc);
+    second.push(2)?;
+    let mut files = MemorySource::new(alloc, second);
+    files.put("a.gcode", b"G28\n")?;
+    assert_eq!(rt;
+        read_all(alloc, &mut files, "a.gcode", 7).err(),
+        Some(ReadAll::Failed)
+    );
+    assert_eq!(rt;
+        read_all(alloc, &mut files, "a.gcode", 3).err(),
+        Some(ReadAll::TooLong)
+    );
+    assert_eq!(rt;
+        read_all(alloc, &mut files, "b.gcode", 7).err(),
+        Some(ReadAll::Failed)
+    );
+    assert_eq!(rt; files.choose("b.gcode"), Err(Failed));
+    let mut chunk = [0; 3];
+    assert_eq!(rt; files.read(&mut chunk), Ok(0));
+    let mut first = CallList::new(alloc);
+    first.push(1)?;
+    let mut out = MemorySink::new(alloc, first);
+    assert_eq!(rt; out.write(b"done\n"), Err(Failed));
+    assert_eq!(rt; out.write(b"done\n"), Ok(5));
+    assert_eq!(rt; out.written(), Some(b"done\n".as_slice()));
+    Ok(())
+}
+
+#[test]
+fn clock_rests(rt: HostRuntime) {
+    let mut clock = MemoryClock::new(5, 10);
+    clock.rest();
+    assert_eq!(rt; clock.now(), 15);
+    let mut last = MemoryClock::new(u64::MAX - 1, 10);
+    last.rest();
+    assert_eq!(rt; last.now(), u64::MAX);
+}
