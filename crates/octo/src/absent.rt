@@ -1,22 +1,22 @@
-//! What isn't there: an object of the outside that fails at every call.
+//! A link that isn't there: it fails at every call.
 ghost use Rattle.std.specs.Prelude.{◌≡◌, ◌≤◌, true, false, None};
 ghost use Rattle.octo_outside.specs.Told.{Rose};
 
-use octo_outside::{Failed, Line, ReplyLine, Source};
+use octo_outside::{Line, ReplyLine};
 use printer_model::{Heard, Link, LinkFault};
 
-/// Files or a link that the program doesn't have. Each call fails and counts.
+/// The link of a program that has none. Each call fails and counts.
 #[derive(Drop)]
-pub struct Absent {
+pub struct AbsentLink {
     faults: u64,
 }
 
-impl Absent {
+impl AbsentLink {
     /// Nothing was asked of it yet.
     pub fn new() -> Self
         ensures { result.faults ≡ 0 }
     {
-        Absent { faults: 0 }
+        AbsentLink { faults: 0 }
     }
 
     fn fail(&mut self)
@@ -27,25 +27,7 @@ impl Absent {
     }
 }
 
-impl Source for Absent {
-    ghost files = { λ _. None };
-
-    ghost left = { λ _. None };
-
-    ghost faults = { λ a. a.faults };
-
-    fn choose(&mut self, _name: &str) -> Result<(), Failed> {
-        self.fail();
-        Err(Failed)
-    }
-
-    fn read(&mut self, _into: &mut [u8]) -> Result<usize, Failed> {
-        self.fail();
-        Err(Failed)
-    }
-}
-
-impl Link for Absent {
+impl Link for AbsentLink {
     ghost past = { λ _. None };
 
     ghost places = { λ _. 4 };

@@ -9,8 +9,8 @@ mod run;
 #[cfg(test)]
 mod tests;
 
-use absent::Absent;
-use octo_outside::{MemoryClock, StdSink, WordList};
+use absent::AbsentLink;
+use octo_outside::{FileSource, MemoryClock, StdSink, WordList};
 use report::{Report, write_report};
 use run::octo;
 use std::env;
@@ -31,8 +31,8 @@ fn main(rt: HostRuntime) -> ExitCode {
         let _ = write_report(&mut out, &Report::NoMemory);
         return ExitCode::from(Report::NoMemory.code());
     };
-    let mut files = Absent::new();
-    let mut link = Absent::new();
+    let mut files = FileSource::new(rt);
+    let mut link = AbsentLink::new();
     let mut clock = MemoryClock::new(0, 1);
     let status = octo(
         &rt,

@@ -60,28 +60,30 @@ fn executed(alloc: Global, link: &MemoryLink) -> Result<Vec<u8>, AllocError> {
     Ok(lines)
 }
 
-// Carries out a command with the file a.gcode.
-fn command(
-    rt: &HostRuntime,
-    words: &[&str],
-    file: &[u8],
-    mut link: MemoryLink,
-    source_fails: &[u64],
-    sink_fails: &[u64],
-) -> Result<Outcome, Fail>
-    requires { (link_world link).linked ≡ false }
-{
-    let alloc = rt.alloc();
+fn word_list(alloc: Global, words: &[&str]) -> Result<WordList, AllocError> {
     let mut list = WordList::new(alloc);
     for word in words {
         list.push(word)?;
     }
-    let mut files = MemorySource::new(alloc, calls(alloc, source_fails)?);
-    files.put("a.gcode", file)?;
-    let mut out = MemorySink::new(alloc, calls(alloc, sink_fails)?);
+    Ok(list)
+}
+
+// Carries out a command with the file a.gcode.
+fn command(alloc: Global, row: &Row) -> Result<Outcome, Fail> {
+    let list = word_list(alloc, row.words)?;
+    let mut link = link(alloc, row.fates, row.link_fails)?;
+    let mut files = MemorySource::new(alloc, calls(alloc, row.source_fails)?);
+    files.put("a.gcode", row.file)?;
+    let mut out = MemorySink::new(alloc, calls(alloc, row.sink_fails)?);
     let mut clock = MemoryClock::new(0, 1);
     let status = octo(
-        rt, alloc, &list, &mut files, &mut link, &mut out, &mut clock,
+        &(),
+        alloc,
+        &list,
+        &mut files,
+        &mut link,
+        &mut out,
+        &mut clock,
     );
     Ok(Outcome {
         code: status.code,
@@ -93,128 +95,173 @@ fn command(
 
 const HOME_AND_MOVE: &[u8] = b"G28\nG1 X10\n";
 
-fn assert_outcome(rt: &impl Abort, outcome: &Outcome, code: u8, text: &[u8], executed: &[u8]) {
-    assert_eq!(rt; outcome.code, code);
-    assert_eq!(rt; outcome.text.as_slice(), text);
-    assert_eq!(rt; outcome.executed.as_slice(), executed);
+// A command with the calls that fail, and what it comes to.
+#[derive(Clone, Copy)]
+struct Row {
+    words: &'static [&'static str],
+    file: &'static [u8],
+    fates: &'static [Fate],
+    link_fails: &'static [u64],
+    source_fails: &'static [u64],
+    sink_fails: &'static [u64],
+    code: u8,
+    text: &'static [u8],
+    executed: &'static [u8],
+    sends: u64,
 }
 
-#[test]
-fn ample(rt: HostRuntime) -> Result<(), Fail> {
-    let printer = link(rt.alloc(), &[], &[])?;
-    let outcome = command(
-        &rt,
-        &["print", "p", "a.gcode"],
-        HOME_AND_MOVE,
-        printer,
-        &[],
-        &[],
-    )?;
-    assert_outcome(
-        &rt,
-        &outcome,
-        0,
-        b"done: 2 commands, 0 skipped\n",
-        HOME_AND_MOVE,
-    );
-    assert_eq!(rt; outcome.sends, 3);
+const PRINT: &[&str] = &["print", "p", "a.gcode"];
+
+const CHECK: &[&str] = &["check", "a.gcode"];
+
+// The print of two commands over a line without losses.
+const DONE: Row = Row {
+    words: PRINT,
+    file: HOME_AND_MOVE,
+    fates: &[],
+    link_fails: &[],
+    source_fails: &[],
+    sink_fails: &[],
+    code: 0,
+    text: b"done: 2 commands, 0 skipped\n",
+    executed: HOME_AND_MOVE,
+    sends: 3,
+};
+
+fn assert_row(rt: &(impl Abort + Alloc<A = Global>), row: &Row) -> Result<(), Fail> {
+    let outcome = command(rt.alloc(), row)?;
+    assert_eq!(rt; outcome.code, row.code);
+    assert_eq!(rt; outcome.text.as_slice(), row.text);
+    assert_eq!(rt; outcome.executed.as_slice(), row.executed);
+    assert_eq!(rt; outcome.sends, row.sends);
     Ok(())
 }
 
 #[test]
+fn ample(rt: HostRuntime) -> Result<(), Fail> {
+    assert_row(&rt, &DONE)
+}
+
+#[test]
 fn refused_words(rt: HostRuntime) -> Result<(), Fail> {
-    for words in [
-        &[][..],
-        &["print"],
+    let rows: [&[&str]; 5] = [
+        &[],
         &["print", "p"],
         &["print", "", "a.gcode"],
         &["check", "a.gcode", "b"],
         &["Check", "a.gcode"],
-    ] {
-        let printer = link(rt.alloc(), &[], &[])?;
-        let outcome = command(&rt, words, HOME_AND_MOVE, printer, &[], &[])?;
-        assert_outcome(&rt, &outcome, 2, b"octo: bad words\n", b"");
+    ];
+    for words in rows {
+        assert_row(
+            &rt,
+            &Row {
+                words,
+                code: 2,
+                text: b"octo: bad words\n",
+                executed: b"",
+                sends: 0,
+                ..DONE
+            },
+        )?;
     }
     Ok(())
 }
 
 #[test]
 fn faults_round_it(rt: HostRuntime) -> Result<(), Fail> {
-    let words: &[&str] = &["print", "p", "a.gcode"];
-    let source = command(
-        &rt,
-        words,
-        HOME_AND_MOVE,
-        link(rt.alloc(), &[], &[])?,
-        &[1],
-        &[],
-    )?;
-    assert_outcome(&rt, &source, 4, b"source failed\n", b"");
-    let sink = command(
-        &rt,
-        words,
-        HOME_AND_MOVE,
-        link(rt.alloc(), &[], &[])?,
-        &[],
-        &[1],
-    )?;
-    assert_outcome(&rt, &sink, 8, b"", HOME_AND_MOVE);
-    let elsewhere = command(
-        &rt,
-        &["print", "q", "a.gcode"],
-        HOME_AND_MOVE,
-        link(rt.alloc(), &[], &[])?,
-        &[],
-        &[],
-    )?;
-    assert_outcome(&rt, &elsewhere, 5, b"port q is not listed\n", b"");
-    let fourth = command(
-        &rt,
-        words,
-        HOME_AND_MOVE,
-        link(rt.alloc(), &[], &[4])?,
-        &[],
-        &[],
-    )?;
-    assert_outcome(&rt, &fourth, 5, b"link failed\n", b"");
-    let garbled = link(rt.alloc(), &[Fate::Whole, Fate::Garbled], &[])?;
-    let asked = command(&rt, words, HOME_AND_MOVE, garbled, &[], &[])?;
-    assert_outcome(&rt, &asked, 6, b"session ended: resend not built\n", b"");
+    let rows = [
+        Row {
+            source_fails: &[1],
+            code: 4,
+            text: b"source failed\n",
+            executed: b"",
+            sends: 0,
+            ..DONE
+        },
+        Row {
+            sink_fails: &[1],
+            code: 8,
+            text: b"",
+            ..DONE
+        },
+        Row {
+            words: &["print", "q", "a.gcode"],
+            code: 5,
+            text: b"port q is not listed\n",
+            executed: b"",
+            sends: 0,
+            ..DONE
+        },
+        Row {
+            fates: &[Fate::Whole, Fate::Garbled],
+            code: 6,
+            text: b"session ended: resend not built\n",
+            executed: b"",
+            sends: 2,
+            ..DONE
+        },
+    ];
+    for row in &rows {
+        assert_row(&rt, row)?;
+    }
     Ok(())
 }
 
 // The calls of a print of two commands are a dial, then a send and a receiving for the hello and each command.
 #[test]
 fn each_call_fails_once(rt: HostRuntime) -> Result<(), Fail> {
-    let executed: [&[u8]; 7] = [b"", b"", b"", b"", b"", b"G28\n", b"G28\n"];
-    for (before, lines) in executed.iter().enumerate() {
-        let printer = link(rt.alloc(), &[], &[before as u64 + 1])?;
-        let outcome = command(
-            &rt,
-            &["print", "p", "a.gcode"],
-            HOME_AND_MOVE,
-            printer,
-            &[],
-            &[],
-        )?;
-        assert_outcome(&rt, &outcome, 5, b"link failed\n", lines);
+    let failed = Row {
+        code: 5,
+        text: b"link failed\n",
+        executed: b"",
+        ..DONE
+    };
+    let rows = [
+        Row {
+            link_fails: &[1],
+            sends: 0,
+            ..failed
+        },
+        Row {
+            link_fails: &[2],
+            sends: 0,
+            ..failed
+        },
+        Row {
+            link_fails: &[3],
+            sends: 1,
+            ..failed
+        },
+        Row {
+            link_fails: &[4],
+            sends: 1,
+            ..failed
+        },
+        Row {
+            link_fails: &[5],
+            sends: 2,
+            ..failed
+        },
+        Row {
+            link_fails: &[6],
+            sends: 2,
+            executed: b"G28\n",
+            ..failed
+        },
+        Row {
+            link_fails: &[7],
+            sends: 3,
+            executed: b"G28\n",
+            ..failed
+        },
+        Row {
+            link_fails: &[8],
+            ..DONE
+        },
+    ];
+    for row in &rows {
+        assert_row(&rt, row)?;
     }
-    let printer = link(rt.alloc(), &[], &[8])?;
-    let outcome = command(
-        &rt,
-        &["print", "p", "a.gcode"],
-        HOME_AND_MOVE,
-        printer,
-        &[],
-        &[],
-    )?;
-    assert_outcome(
-        &rt,
-        &outcome,
-        0,
-        b"done: 2 commands, 0 skipped\n",
-        HOME_AND_MOVE,
-    );
     Ok(())
 }
 
@@ -222,34 +269,43 @@ fn each_call_fails_once(rt: HostRuntime) -> Result<(), Fail> {
 fn checked_files(rt: HostRuntime) -> Result<(), Fail> {
     let sliced =
         b"; generated by slicer\r\n; thumbnail begin 16x16 4\r\n; AAAA\r\n; thumbnail end\r\nM201 X500 Y500\r\nM109 S215\r\nG1 X10.5 E0.02 ; line\r\n\r\n";
-    let rows: [(&[u8], u8, &[u8]); 5] = [
-        (
-            sliced,
-            0,
-            b"commands 3\nskipped 5\nhottest tool 215\nhottest bed 0\n",
-        ),
-        (
-            b"M117 M110 N9\nG28\n",
-            0,
-            b"commands 1\nskipped 1\nhottest tool 0\nhottest bed 0\n",
-        ),
-        (b"G1\x07X\n", 3, b"file: line 1: control byte\n"),
-        (
-            b"G28\nM104 S200\nM109 R300.5\n",
-            3,
-            b"file: line 3: too hot: 301 over 300\n",
-        ),
-        (
-            b"",
-            0,
-            b"commands 0\nskipped 0\nhottest tool 0\nhottest bed 0\n",
-        ),
+    let check = Row {
+        words: CHECK,
+        executed: b"",
+        sends: 0,
+        ..DONE
+    };
+    let rows = [
+        Row {
+            file: sliced,
+            text: b"commands 3\nskipped 5\nhottest tool 215\nhottest bed 0\n",
+            ..check
+        },
+        Row {
+            file: b"M117 M110 N9\nG28\n",
+            text: b"commands 1\nskipped 1\nhottest tool 0\nhottest bed 0\n",
+            ..check
+        },
+        Row {
+            file: b"G1\x07X\n",
+            code: 3,
+            text: b"file: line 1: control byte\n",
+            ..check
+        },
+        Row {
+            file: b"G28\nM104 S200\nM109 R300.5\n",
+            code: 3,
+            text: b"file: line 3: too hot: 301 over 300\n",
+            ..check
+        },
+        Row {
+            file: b"",
+            text: b"commands 0\nskipped 0\nhottest tool 0\nhottest bed 0\n",
+            ..check
+        },
     ];
-    for (file, code, text) in rows {
-        let printer = link(rt.alloc(), &[], &[])?;
-        let outcome = command(&rt, &["check", "a.gcode"], file, printer, &[], &[])?;
-        assert_outcome(&rt, &outcome, code, text, b"");
-        assert_eq!(rt; outcome.sends, 0);
+    for row in &rows {
+        assert_row(&rt, row)?;
     }
     Ok(())
 }

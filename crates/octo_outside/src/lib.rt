@@ -4,6 +4,7 @@
 mod blob;
 mod clock;
 mod conn;
+mod files;
 mod lists;
 mod memory_source;
 mod sink;
@@ -15,6 +16,7 @@ mod types;
 pub use blob::Blob;
 pub use clock::{Clock, MemoryClock};
 pub use conn::{Conn, Got};
+pub use files::FileSource;
 pub use lists::{CallList, ItemList, NameList, WordList};
 pub use memory_source::{MemoryFile, MemorySource};
 pub use sink::{MemorySink, Sink, StdSink, write_all};
