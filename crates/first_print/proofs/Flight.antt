@@ -1,22 +1,21 @@
 -- What the line and the printer do by themselves leaves the line in flight where it may be.
-use Rattle.std.proofs.Common.{◌≡◌, ◌⊎◌, inl, inr, ℕ, ◌+◌, ◌≤◌, ◌<◌, suc, zero, Bool, true, false, List, [], ◌∷◌, ◌++◌, length, refl, sym, ◌∙◌, ap, subst, append_assoc, append-nil, arith, eq-eqb}
+use Rattle.std.proofs.Common.{◌≡◌, inl, inr, ℕ, ◌+◌, ◌≤◌, ◌<◌, suc, Bool, true, false, List, [], ◌∷◌, ◌++◌, length, refl, sym, ◌∙◌, ap, subst, append_assoc, append-nil, arith, eq-eqb}
 use Rattle.std.specs.Prelude.{◌-◌, ◌&&◌, ◌==◌, not, nat_lt, remove, slice_set, Some, Result, Ok, Err, if◌then◌else◌}
 use Rattle.std.proofs.lemmas.Bool.{and_parts, and_left, and_right, not-true, not-false, both_ways, ltb-true, cond_both}
 use Rattle.byte_text.specs.Marks.{has_m110}
 use Rattle.marlin_frame.specs.Frame.{frame_of, begins_with_n, has_checksum, checksum_matches, fails, lead_of, line_number_of, text_of}
 use Rattle.marlin_reply.specs.Kind.{kind_of, is_chatter}
-use Rattle.printer_model.specs.Printer.{PrinterData, Entry, Logged, is_full, is_out_of_turn, judged, take_judged, take_line, numbered_entry, last_after, run_front}
+use Rattle.printer_model.specs.Printer.{PrinterData, Entry, Logged, is_full, is_out_of_turn, judged, take_judged, take_line, last_after}
 use Rattle.printer_model.specs.Replies.{error_line, resend_line, ok_line, run_reply}
-use Rattle.printer_model.specs.World.{WorldData, is_free, fits_wire, can_happen, happen, apply, arrived, arrive_front}
+use Rattle.printer_model.specs.World.{WorldData, is_free, fits_wire, apply, arrived}
 use Rattle.printer_model.specs.declared.printer.Reason.{Reason}
 use Rattle.printer_model.specs.declared.printer.Reason.TheVariants.{WrongNumber, NoChecksum, Mismatch}
-use Rattle.printer_model.specs.declared.printer.Taken.{Taken}
-use Rattle.printer_model.specs.declared.printer.Taken.TheVariants.{Accepted, Full, Refused}
+use Rattle.printer_model.specs.declared.printer.Taken.TheVariants.{Full}
 use Rattle.printer_model.specs.declared.event.WorldEvent.{WorldEvent}
 use Rattle.printer_model.specs.declared.event.WorldEvent.TheVariants.{Opened, Send, Arrive, Lose, Garble, Run, Chatter, Recv, Closed}
 use Rattle.printer_model.proofs.Laws.{after_event}
 use Rattle.first_print.specs.Play.{IsCarried, IsNext, open_world, entry_of, line_at, log_of, is_calm, is_ok, is_resend, IsAnswered, IsRefused, IsReady, IsStopped, InFlight, sent, garbled, lost, refused, waiting, answered}
-use Rattle.first_print.proofs.Logs.{log_of-suc, calm-push, calm-front, calm-rest}
+use Rattle.first_print.proofs.Logs.{log_of-suc, calm-push}
 
 -- the printer's own lines are of these kinds
 pub record SpeaksMarlin : Type 0 where

@@ -1,5 +1,5 @@
 -- The file that a search by name finds.
-use Rattle.std.proofs.Common.{◌≡◌, ℕ, ◌+◌, ◌<◌, suc, zero, List, [], ◌∷◌, length, drop, get_or, Bool, true, false, Option, Some, refl, sym, ◌∙◌, ap, subst, arith, add-one, drop-cons, unwrap_or}
+use Rattle.std.proofs.Common.{◌≡◌, ℕ, ◌+◌, ◌<◌, suc, zero, List, [], ◌∷◌, length, drop, get_or, Bool, true, false, Some, sym, ◌∙◌, ap, subst, arith, add-one, drop-cons}
 use Rattle.std.specs.Prelude.{if◌then◌else◌}
 use Rattle.std.specs.Str.{bytes_eq}
 use Rattle.octo_outside.specs.declared.memory_source.MemoryFile.{MemoryFile}

@@ -1,5 +1,5 @@
 -- How additions to what is told join, and how counts of faults do.
-use Rattle.std.proofs.Common.{◌≡◌, ℕ, ◌<◌, ◌≤◌, ◌+◌, List, [], ◌++◌, Option, Some, refl, sym, ap, ◌∙◌, append_assoc, append-nil, subst, arith}
+use Rattle.std.proofs.Common.{◌≡◌, ℕ, ◌≤◌, List, [], ◌++◌, Option, refl, sym, ap, ◌∙◌, append_assoc, append-nil, subst, arith}
 use Rattle.octo_outside.specs.Told.{Became, Adds, Rose, Steady}
 
 -- two additions one behind the other

@@ -1,5 +1,5 @@
 -- What the memory forms of the outside hold.
-use Rattle.std.specs.Prelude.{◌≡◌, ℕ, ◌+◌, ◌-◌, length, Bool, if◌then◌else◌, List, [], ◌∷◌, Option, Some, None, ◌==◌, drop, min, slice_get, option_map, unwrap_or}
+use Rattle.std.specs.Prelude.{ℕ, ◌+◌, ◌-◌, length, Bool, if◌then◌else◌, List, [], ◌∷◌, Option, Some, None, ◌==◌, drop, min, slice_get, option_map, unwrap_or}
 use Rattle.std.specs.List.{list_any}
 use Rattle.std.specs.Str.{bytes_eq}
 use Rattle.octo_outside.specs.declared.memory_source.MemoryFile.{MemoryFile}

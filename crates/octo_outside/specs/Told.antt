@@ -1,5 +1,5 @@
 -- How an object of the outside tells what it holds or did, and how its count of faults moves.
-use Rattle.std.specs.Prelude.{◌≡◌, ℕ, ◌<◌, ◌≤◌, ◌+◌, List, ◌++◌, Option, Some, take}
+use Rattle.std.specs.Prelude.{◌≡◌, ℕ, ◌<◌, List, ◌++◌, Option, Some, take}
 
 -- told afterwards: it was told before, and grew by an addition of this kind
 abbrev pub Became : {A : Type 0} → Option (List A) → Option (List A) → (List A → List A → Type 0) → Type 0

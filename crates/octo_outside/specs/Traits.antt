@@ -1,5 +1,5 @@
 -- What the calls of the outside give and take.
-use Rattle.std.specs.Prelude.{◌≡◌, ℕ, ◌<◌, ◌≤◌, ◌↔◌, List, [], ◌++◌, Option, Some, None, IsSome, IfSome, length, take, drop}
+use Rattle.std.specs.Prelude.{◌≡◌, ℕ, ◌<◌, ◌≤◌, List, [], ◌++◌, Option, Some, None, IsSome, length, take, drop}
 use Rattle.octo_outside.specs.declared.conn.Got.{Got}
 use Rattle.octo_outside.specs.declared.conn.Got.TheVariants.{Bytes, Quiet, Ended}
 

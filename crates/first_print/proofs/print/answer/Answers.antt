@@ -1,10 +1,10 @@
-use Rattle.std.proofs.Common.{◌≡◌, ℕ, suc, ◌≤◌, length, false, List, refl, sym, ap, ◌∙◌, subst, arith}
+use Rattle.std.proofs.Common.{◌≡◌, ◌≤◌, length, false, refl, sym, ap, ◌∙◌, subst, arith}
 use Rattle.gcode_lines.specs.Job.{texts_of}
 use Rattle.marlin_reply.specs.Kind.{kind_of}
 use Rattle.marlin_reply.specs.declared.reply.Reply.{Reply}
 use Rattle.marlin_reply.specs.declared.reply.Reply.TheVariants as reply
 use Rattle.octo_outside.proofs.Told.{became_same}
-use Rattle.printer_model.specs.World.{WorldData, world_of}
+use Rattle.printer_model.specs.World.{world_of}
 use Rattle.printer_model.specs.Link.{Grows}
 use Rattle.first_print.specs.Play.{lines_of, is_ok, is_resend, IsHeardAs}
 use Rattle.first_print.specs.Leads.{Leads, Flying, Ran, AfterTurn}

@@ -1,9 +1,9 @@
-use Rattle.std.proofs.Common.{◌≡◌, ℕ, suc, false, ◌+◌, List, subst, arith, add-one, length}
+use Rattle.std.proofs.Common.{◌≡◌, ℕ, suc, false, ◌+◌, subst, arith, add-one, length}
 use Rattle.gcode_lines.specs.Job.{texts_of}
 use Rattle.printer_model.specs.Link.{Grows}
 use Rattle.first_print.specs.Play.{lines_of}
 use Rattle.first_print.specs.Leads.{Leads, Ready, Flying, Ran, HasRunAll}
-use Rattle.first_print.proofs.Carried.{line_there, lines_length}
+use Rattle.first_print.proofs.Carried.{lines_length}
 use Rattle.first_print.proofs.Steps.{ready_all}
 use Rattle.first_print.proofs.Grown.{grows_closed}
 use Rattle.first_print.proofs.print.next_line.Goals as goal

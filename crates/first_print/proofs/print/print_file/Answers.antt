@@ -1,11 +1,10 @@
-use Rattle.std.proofs.Common.{◌≡◌, ◌≤◌, ℕ, Bool, true, false, List, ◌++◌, Option, refl, subst, sym, ap, ◌∙◌, arith}
+use Rattle.std.proofs.Common.{◌≡◌, ◌≤◌, Bool, false, refl, sym, ap, ◌∙◌, arith}
 use Rattle.std.specs.Prelude.{◌||◌}
 use Rattle.std.specs.List.{list_all}
 use Rattle.octo_outside.proofs.Told.{became_then, became_so}
 use Rattle.gcode_lines.specs.Job.{texts_of}
 use Rattle.printer_model.specs.World.{WorldData, world_from, world_of}
-use Rattle.printer_model.specs.Link.{Grows, IsDial, IsNothing, IsRuns}
-use Rattle.printer_model.specs.declared.event.WorldEvent.{WorldEvent}
+use Rattle.printer_model.specs.Link.{IsDial, IsNothing, IsRuns}
 use Rattle.printer_model.proofs.Laws.{world_of-append}
 use Rattle.first_print.specs.Play.{lines_of}
 use Rattle.first_print.specs.Leads.{Leads, opens_none, asks, Ready, AtEnd, end_asked, is_done, IsPrintOf}

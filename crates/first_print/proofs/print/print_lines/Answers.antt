@@ -1,4 +1,4 @@
-use Rattle.std.proofs.Common.{◌≡◌, false, List}
+use Rattle.std.proofs.Common.{false}
 use Rattle.gcode_lines.specs.Job.{texts_of}
 use Rattle.first_print.specs.Play.{lines_of}
 use Rattle.first_print.specs.Leads.{Leads, Ready, Flying, AtEnd, end_asked}

@@ -1,10 +1,7 @@
-use Rattle.std.proofs.Common.{◌≡◌, ◌≤◌, ℕ, Bool, true, false, List, length, refl, subst, sym, ap, ◌∙◌, arith}
+use Rattle.std.proofs.Common.{true, false, refl, ◌∙◌, arith}
 use Rattle.gcode_lines.specs.Job.{texts_of}
-use Rattle.printer_model.specs.Link.{Grows}
-use Rattle.first_print.specs.declared.print.Turn.TheVariants as turn
-use Rattle.first_print.specs.declared.print.PrintEnd.TheVariants as end
 use Rattle.first_print.specs.Play.{lines_of}
-use Rattle.first_print.specs.Leads.{Leads, Flying, Ran, AfterTurn, AtEnd, HasRunAll}
+use Rattle.first_print.specs.Leads.{Leads, Flying, Ran, HasRunAll}
 use Rattle.first_print.proofs.Carried.{line_there, lines_length}
 use Rattle.first_print.proofs.Steps.{flying_ran, closed_ran}
 use Rattle.first_print.proofs.Grown.{grows_at, grows_then, grows_same, grows_closed}

@@ -1,6 +1,5 @@
-use Rattle.std.proofs.Common.{◌≡◌, ℕ, List, Bool, sym, subst, ap, ◌∙◌}
-use Rattle.std.specs.Prelude.{◌==◌, Some}
-use Rattle.octo.specs.Words.{print_file, command_of}
+use Rattle.std.proofs.Common.{◌≡◌, ℕ, Bool, sym, subst, ap, ◌∙◌}
+use Rattle.std.specs.Prelude.{◌==◌}
 use Rattle.octo.specs.Outcome.{is_printed, IsExecuted}
 use Rattle.octo.proofs.Reports.{done_is, executed_undone}
 use Rattle.octo.proofs.run.octo.Goals as goal

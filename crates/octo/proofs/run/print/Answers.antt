@@ -1,5 +1,5 @@
-use Rattle.std.proofs.Common.{◌≡◌, Bool, false, sym, subst}
-use Rattle.octo.specs.Outcome.{is_printed, IsExecuted}
+use Rattle.std.proofs.Common.{Bool, sym, subst}
+use Rattle.octo.specs.Outcome.{IsExecuted}
 use Rattle.octo.proofs.Reports.{executed_none, asked_none}
 use Rattle.octo.proofs.run.print.Goals as goal
 

@@ -1,4 +1,4 @@
-use Rattle.std.proofs.Common.{◌≡◌, ◌∙◌, ap, sym, ℕ, List, Bool, true, false}
+use Rattle.std.proofs.Common.{◌≡◌, ◌∙◌, true, false}
 use Rattle.std.specs.Str.{bytes_eq}
 use Rattle.octo_outside.proofs.Held.{held_here, held_next}
 use Rattle.octo_outside.proofs.memory_source.place_of.Goals as goal
