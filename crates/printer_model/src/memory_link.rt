@@ -249,6 +249,8 @@ impl Link for MemoryLink {
         ensures down { OnErr result ((link_world self.new).linked ≡ false) }
         ensures open { IsOpenAs self.new.story.places self.new.story.advanced (Some self.new.story.past) (link_world self.new).linked }
         ensures told { is_some (Some self.new.story.past) ≡ is_some (Some self.old.story.past) }
+        ensures some { 1 ≤ self.new.story.places }
+        ensures few { self.new.story.places ≤ 16 }
         ensures places { self.new.story.places ≡ self.old.story.places }
         ensures advanced { self.new.story.advanced ≡ self.old.story.advanced }
         ensures listed { lists_name self.new.names ≡ lists_name self.old.names }
