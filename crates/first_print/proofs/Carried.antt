@@ -1,7 +1,5 @@
 -- The lines of a print are read back by the printer.
-use Rattle.std.proofs.Common.{◌≡◌, ℕ, zero, suc, ◌+◌, ◌-◌, ◌≤◌, ◌<◌, true, List, [], ◌∷◌, length, get_or, refl, sym, ap, subst, arith}
-use Rattle.std.specs.Prelude.{codes}
-use Rattle.byte_text.specs.Marks.{has_m110}
+use Rattle.std.proofs.Common.{◌≡◌, ℕ, zero, suc, ◌-◌, ◌≤◌, ◌<◌, List, [], length, get_or, arith}
 use Rattle.marlin_frame.specs.Frame.{frame_of, lead_of, IsNumberedLine}
 use Rattle.marlin_frame.proofs.HelloLaws.{hello_line, hello_lead, hello_sets_number}
 use Rattle.std.proofs.lemmas.List.{length-map}

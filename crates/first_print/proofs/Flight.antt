@@ -1,22 +1,21 @@
 -- What the line and the printer do by themselves leaves the line in flight where it may be.
-use Rattle.std.proofs.Common.{◌≡◌, ◌⊎◌, inl, inr, ℕ, ◌+◌, ◌≤◌, ◌<◌, suc, zero, Bool, true, false, List, [], ◌∷◌, ◌++◌, length, refl, sym, ◌∙◌, ap, subst, append_assoc, append-nil, arith, eq-eqb}
+use Rattle.std.proofs.Common.{◌≡◌, inl, inr, ℕ, ◌+◌, ◌≤◌, ◌<◌, suc, Bool, true, false, List, [], ◌∷◌, ◌++◌, length, refl, sym, ◌∙◌, ap, subst, append_assoc, append-nil, arith, eq-eqb}
 use Rattle.std.specs.Prelude.{◌-◌, ◌&&◌, ◌==◌, not, nat_lt, remove, slice_set, Some, Result, Ok, Err, if◌then◌else◌}
 use Rattle.std.proofs.lemmas.Bool.{and_parts, and_left, and_right, not-true, not-false, both_ways, ltb-true, cond_both}
 use Rattle.byte_text.specs.Marks.{has_m110}
 use Rattle.marlin_frame.specs.Frame.{frame_of, begins_with_n, has_checksum, checksum_matches, fails, lead_of, line_number_of, text_of}
 use Rattle.marlin_reply.specs.Kind.{kind_of, is_chatter}
-use Rattle.printer_model.specs.Printer.{PrinterData, Entry, Logged, is_full, is_out_of_turn, judged, take_judged, take_line, numbered_entry, last_after, run_front}
+use Rattle.printer_model.specs.Printer.{PrinterData, Entry, Logged, is_full, is_out_of_turn, judged, take_judged, take_line, last_after}
 use Rattle.printer_model.specs.Replies.{error_line, resend_line, ok_line, run_reply}
-use Rattle.printer_model.specs.World.{WorldData, is_free, fits_wire, can_happen, happen, apply, arrived, arrive_front}
+use Rattle.printer_model.specs.World.{WorldData, is_free, fits_wire, apply, arrived}
 use Rattle.printer_model.specs.declared.printer.Reason.{Reason}
 use Rattle.printer_model.specs.declared.printer.Reason.TheVariants.{WrongNumber, NoChecksum, Mismatch}
-use Rattle.printer_model.specs.declared.printer.Taken.{Taken}
-use Rattle.printer_model.specs.declared.printer.Taken.TheVariants.{Accepted, Full, Refused}
+use Rattle.printer_model.specs.declared.printer.Taken.TheVariants.{Full}
 use Rattle.printer_model.specs.declared.event.WorldEvent.{WorldEvent}
 use Rattle.printer_model.specs.declared.event.WorldEvent.TheVariants.{Opened, Send, Arrive, Lose, Garble, Run, Chatter, Recv, Closed}
 use Rattle.printer_model.proofs.Laws.{after_event}
 use Rattle.first_print.specs.Play.{IsCarried, IsNext, open_world, entry_of, line_at, log_of, is_calm, is_ok, is_resend, IsAnswered, IsRefused, IsReady, IsStopped, InFlight, sent, garbled, lost, refused, waiting, answered}
-use Rattle.first_print.proofs.Logs.{log_of-suc, calm-push, calm-front, calm-rest}
+use Rattle.first_print.proofs.Logs.{log_of-suc, calm-push}
 
 -- the printer's own lines are of these kinds
 pub record SpeaksMarlin : Type 0 where
@@ -55,7 +54,7 @@ out_of_turn_no n last line number sets (inr next) =
     and_left (not (line_number_of line == last + 1)) (not (has_m110 line)) (ap not (eq-eqb (line_number_of line) (last + 1) (number ∙ next)))
 
 -- the printer accepts the next line
-judged_next : (n last : ℕ) (text : List ℕ) → IsCarried n text → IsNext n last → judged last (frame_of n text) ≡ Ok (record { number = Some n; lead = Some n; text = text })
+pub judged_next : (n last : ℕ) (text : List ℕ) → IsCarried n text → IsNext n last → judged last (frame_of n text) ≡ Ok (record { number = Some n; lead = Some n; text = text })
 unfolding judged
 judged_next n last text carried next =
     let line = frame_of n text in
@@ -79,7 +78,7 @@ judged_fails last line failing =
     (λ _. cond_both (fails line) _ _ P (λ _. (Mismatch, refl)) (λ e. absurd (both_ways (fails line) e failing)))))
 
 -- where the queue isn't full, a line is taken by what the printer makes of it
-took : (p : PrinterData) (line : List ℕ) (what : Result Entry Reason) → is_full p ≡ false → judged p.last line ≡ what → take_line p line ≡ take_judged p what
+pub took : (p : PrinterData) (line : List ℕ) (what : Result Entry Reason) → is_full p ≡ false → judged p.last line ≡ what → take_line p line ≡ take_judged p what
 took p line what room is =
     ap (λ (b : Bool). if b then (Full, p) else take_judged p (judged p.last line)) room ∙ ap (take_judged p) is
 
@@ -88,7 +87,7 @@ room_from : (p : PrinterData) → not (is_full p) ≡ true → is_full p ≡ fal
 room_from p can = not-true (is_full p) can
 
 -- a printer with nothing waiting
-abbrev idle : ℕ → Bool → ℕ → PrinterData
+abbrev pub idle : ℕ → Bool → ℕ → PrinterData
 idle places advanced last = record { last = last; places = places; advanced = advanced; queue = [] }
 
 -- the reply lines of a refusal hold a Resend behind chatter
@@ -218,7 +217,7 @@ quiet_event places advanced last log down P here more Recv free = absurd (cc)
 quiet_event places advanced last log down P here more Closed free = absurd (cc)
 
 -- a number that a line sets again is its own
-last_same : (n : ℕ) (text : List ℕ) → last_after n (record { number = Some n; lead = Some n; text = text }) ≡ n
+pub last_same : (n : ℕ) (text : List ℕ) → last_after n (record { number = Some n; lead = Some n; text = text }) ≡ n
 unfolding last_after
 last_same n text = cond_both (has_m110 text) n n (λ (l : ℕ). l ≡ n) (λ _. refl) (λ _. refl)
 

@@ -1,10 +1,9 @@
 -- How what a link tells grows, call by call.
-use Rattle.std.proofs.Common.{◌≡◌, ℕ, Bool, true, false, List, ◌++◌, Option, Result, Ok, Err, refl, sym, subst}
+use Rattle.std.proofs.Common.{◌≡◌, ℕ, Bool, true, false, List, Option, Result, Ok, Err, subst}
 use Rattle.std.specs.Prelude.{◌||◌, OnOk, OnErr}
-use Rattle.octo_outside.specs.Told.{Became}
 use Rattle.octo_outside.proofs.Told.{became_then, became_so, became_same}
 use Rattle.printer_model.specs.Printer.{Logged}
-use Rattle.printer_model.specs.World.{WorldData, apply, world_of, world_from}
+use Rattle.printer_model.specs.World.{WorldData, apply, world_of}
 use Rattle.printer_model.specs.Link.{Grows, IsHangUp}
 use Rattle.printer_model.specs.declared.event.WorldEvent.{WorldEvent}
 use Rattle.printer_model.specs.declared.event.WorldEvent.TheVariants.{Closed}

@@ -1,6 +1,6 @@
 -- How the additions of a print's calls join.
-use Rattle.std.proofs.Common.{◌≡◌, ◌⊎◌, inl, inr, ℕ, zero, suc, ◌+◌, ◌≤◌, ◌<◌, Bool, true, false, List, [], ◌∷◌, ◌++◌, length, refl, sym, ◌∙◌, ap, subst, append_assoc, arith}
-use Rattle.std.specs.Prelude.{◌||◌, ◌&&◌, not, if◌then◌else◌}
+use Rattle.std.proofs.Common.{◌≡◌, ◌⊎◌, inl, inr, ℕ, suc, ◌<◌, Bool, true, false, List, [], ◌∷◌, ◌++◌, length, refl, sym, ◌∙◌, ap, subst, append_assoc, arith}
+use Rattle.std.specs.Prelude.{◌||◌, if◌then◌else◌}
 use Rattle.std.specs.List.{list_all}
 use Rattle.std.proofs.lemmas.Bool.{and_parts, and_from}
 use Rattle.std.proofs.lemmas.List.Folds.{list_all-append}
@@ -9,16 +9,15 @@ use Rattle.marlin_reply.specs.Kind.{kind_of}
 use Rattle.marlin_reply.specs.declared.reply.Reply.{Reply}
 use Rattle.marlin_reply.specs.declared.reply.Reply.TheVariants as reply
 use Rattle.printer_model.specs.Printer.{Logged}
-use Rattle.printer_model.specs.World.{WorldData, is_free, can_happen, apply, world_from}
-use Rattle.printer_model.specs.Executed.{is_opened}
-use Rattle.printer_model.specs.Link.{is_run, IsRuns, IsDial, IsSend, IsSendOf, IsSendLoss, SendsFailing, MaySendFailing, IsHeard, IsSilence, IsLoss, IsHangUp}
+use Rattle.printer_model.specs.World.{WorldData, is_free, apply, world_from}
+use Rattle.printer_model.specs.Link.{is_run, IsSend, IsSendOf, IsSendLoss, SendsFailing, MaySendFailing, IsHeard, IsSilence, IsLoss, IsHangUp}
 use Rattle.printer_model.specs.declared.event.WorldEvent.{WorldEvent}
 use Rattle.printer_model.specs.declared.event.WorldEvent.TheVariants.{Opened, Send, Arrive, Lose, Garble, Run, Chatter, Recv, Closed}
 use Rattle.printer_model.proofs.Laws.{world_from-append}
-use Rattle.first_print.specs.Play.{IsCarried, is_resend, line_at, IsReady, IsStopped, InFlight, HasRun, IsHeardAs}
+use Rattle.first_print.specs.Play.{IsCarried, is_resend, line_at, HasRun, IsHeardAs}
 use Rattle.first_print.specs.Leads.{opens_none, front_asks, event_asks, asks, Leads, Ready, Flying, Ran}
 use Rattle.first_print.proofs.Flight.{SpeaksMarlin, flies, waits, rests}
-use Rattle.first_print.proofs.Steps.{keep, opened_ready, ready_sent, ready_failing, ready_ran, flying_ran, closed_ran, heard}
+use Rattle.first_print.proofs.Steps.{keep, ready_sent, ready_failing, ready_ran, flying_ran, closed_ran, heard}
 
 -- what is asked by events in two parts
 pub asks-append : (w : WorldData) (first next : List WorldEvent) → asks w (first ++ next) ≡ (asks w first || asks (world_from w first) next)

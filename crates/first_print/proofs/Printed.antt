@@ -1,21 +1,20 @@
 -- What was executed in a print, from the log that it left.
-use Rattle.std.proofs.Common.{◌≡◌, ℕ, zero, suc, pred, ◌+◌, ◌≤◌, ◌<◌, Bool, true, false, List, [], ◌∷◌, ◌++◌, length, take, drop, refl, sym, ◌∙◌, ap, subst, append_assoc, arith}
+use Rattle.std.proofs.Common.{◌≡◌, ℕ, zero, suc, pred, ◌≤◌, Bool, true, false, List, [], ◌∷◌, ◌++◌, length, take, drop, refl, sym, ◌∙◌, ap, subst, append_assoc, arith}
 use Rattle.std.specs.Prelude.{◌||◌, not, filter, Some, if◌then◌else◌}
 use Rattle.std.specs.List.{list_all}
 use Rattle.std.proofs.lemmas.Bool.{ne_eqb}
 use Rattle.std.proofs.Math.Seq.{drop-append_seam}
-use Rattle.gcode_lines.specs.Job.{JobData, texts_of}
 use Rattle.printer_model.specs.Printer.{Logged}
 use Rattle.printer_model.specs.World.{WorldData, new_world, apply, world_from, world_of}
-use Rattle.printer_model.specs.Executed.{is_opened, opens, open_on, till, is_zero, is_counted, executed}
-use Rattle.printer_model.specs.Link.{is_run, IsDial}
+use Rattle.printer_model.specs.Executed.{opens, till, is_counted, executed}
+use Rattle.printer_model.specs.Link.{IsDial}
 use Rattle.printer_model.specs.declared.event.WorldEvent.{WorldEvent}
 use Rattle.printer_model.specs.declared.event.WorldEvent.TheVariants.{Opened, Send, Arrive, Lose, Garble, Run, Chatter, Recv, Closed}
-use Rattle.printer_model.proofs.Laws.{world_from-append, world_from-push, world_of-append, world_from-IsSameKind}
+use Rattle.printer_model.proofs.Laws.{world_from-push, world_of-append, world_from-IsSameKind}
 use Rattle.printer_model.proofs.Sessions.{till-all, opens-append}
 use Rattle.first_print.specs.declared.print.PrintEnd.{PrintEnd}
 use Rattle.first_print.specs.declared.print.PrintEnd.TheVariants as end
-use Rattle.first_print.specs.Play.{numbered, lines_of, log_of, hello_text, HasRun}
+use Rattle.first_print.specs.Play.{numbered, lines_of, log_of, HasRun}
 use Rattle.first_print.specs.Leads.{opens_none, asks, Leads, Ready, AtEnd, is_done, end_asked, IsPrintOf}
 use Rattle.first_print.proofs.Steps.{opened_ready}
 use Rattle.first_print.proofs.Joins.{asks-append, all_none, all_silent, runs_free}

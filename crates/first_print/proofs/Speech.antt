@@ -1,5 +1,5 @@
 -- The printer's own lines are of the kinds that they should be.
-use Rattle.std.proofs.Common.{◌≡◌, ℕ, ◌≤◌, ◌<◌, ◌^◌, Bool, true, false, List, ◌++◌, refl, sym, ◌∙◌, ap, append_assoc, arith, Some}
+use Rattle.std.proofs.Common.{◌≡◌, ℕ, ◌≤◌, ◌<◌, ◌^◌, Bool, true, List, ◌++◌, ◌∙◌, ap, append_assoc, arith, Some}
 use Rattle.std.specs.Prelude.{codes, decimal, bytes_eq}
 use Rattle.std.proofs.lemmas.Bool.{cond_both}
 use Rattle.marlin_reply.specs.Kind.{kind_of, is_chatter, is_talk}

@@ -1,9 +1,9 @@
 -- What the host's own steps make of the line in flight.
-use Rattle.std.proofs.Common.{◌≡◌, ◌⊎◌, inl, inr, ℕ, ◌+◌, ◌≤◌, ◌<◌, suc, zero, Bool, true, false, List, [], ◌∷◌, ◌++◌, length, refl, sym, ◌∙◌, ap, subst, append-nil, drop, arith}
-use Rattle.std.specs.Prelude.{◌&&◌, not, Option, Some}
+use Rattle.std.proofs.Common.{◌≡◌, inl, inr, ℕ, ◌≤◌, ◌<◌, suc, Bool, true, false, List, [], ◌∷◌, ◌++◌, length, refl, sym, ◌∙◌, ap, subst, append-nil, drop, arith}
+use Rattle.std.specs.Prelude.{◌&&◌, not, Option}
 use Rattle.std.specs.List.{list_all}
-use Rattle.std.proofs.lemmas.Bool.{and_parts, both_ways}
-use Rattle.marlin_frame.specs.Frame.{frame_of, fails}
+use Rattle.std.proofs.lemmas.Bool.{and_parts}
+use Rattle.marlin_frame.specs.Frame.{frame_of}
 use Rattle.marlin_reply.specs.Kind.{kind_of, is_chatter, is_talk}
 use Rattle.marlin_reply.specs.declared.reply.Temps.{Temps}
 use Rattle.marlin_reply.specs.declared.reply.Reply.{Reply}
@@ -14,10 +14,9 @@ use Rattle.printer_model.specs.Link.{IsSendOf, SendsFailing}
 use Rattle.printer_model.specs.declared.event.WorldEvent.{WorldEvent}
 use Rattle.printer_model.specs.declared.event.WorldEvent.TheVariants.{Opened, Send, Arrive, Lose, Garble, Run, Chatter, Recv, Closed}
 use Rattle.printer_model.proofs.Laws.{happens, apply-log}
-use Rattle.first_print.specs.Play.{IsCarried, IsNext, open_world, entry_of, line_at, log_of, is_calm, is_ok, is_resend, IsAnswered, IsRefused, IsReady, InFlight, sent, garbled, lost, refused, waiting, answered, HasRun, IsStopped, IsHeardAs}
+use Rattle.first_print.specs.Play.{open_world, line_at, log_of, is_calm, is_ok, is_resend, IsReady, InFlight, sent, garbled, lost, refused, waiting, answered, HasRun, IsStopped, IsHeardAs}
 use Rattle.first_print.specs.Leads.{HasRunAll}
 use Rattle.first_print.proofs.Logs.{calm-front, calm-rest}
-use Rattle.first_print.proofs.Flight.{SpeaksMarlin, flies, waits}
 
 -- what each event of the line and the printer keeps, all of them keep
 pub keep : (P : WorldData → Type 0) → ((w : WorldData) (event : WorldEvent) → is_free event ≡ true → P w → P (apply w event)) → (w : WorldData) (events : List WorldEvent) → list_all is_free events ≡ true → P w → P (world_from w events)
@@ -27,7 +26,7 @@ keep P one w (event ∷ events) free here =
     keep P one (apply w event) events parts.1 (one w event parts.0 here)
 
 -- nothing is logged on an empty wait list
-empty_is : (queue : List Entry) → is_empty queue ≡ true → queue ≡ []
+pub empty_is : (queue : List Entry) → is_empty queue ≡ true → queue ≡ []
 empty_is [] e = refl
 empty_is (entry ∷ queue) e = absurd (cc)
 

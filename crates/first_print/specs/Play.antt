@@ -1,5 +1,5 @@
 -- Where the line in flight may be, while a file is printed one line at a time.
-use Rattle.std.specs.Prelude.{◌≡◌, ◌⊎◌, ℕ, ◌+◌, ◌≤◌, ◌<◌, suc, Bool, true, false, List, [], ◌∷◌, ◌++◌, length, take, slice_index_or, Option, Some, None, codes}
+use Rattle.std.specs.Prelude.{◌≡◌, ◌⊎◌, ℕ, ◌+◌, ◌≤◌, suc, Bool, true, false, List, [], ◌∷◌, ◌++◌, length, take, slice_index_or, Some, codes}
 use Rattle.std.specs.List.{list_all}
 use Rattle.byte_text.specs.Marks.{has_m110}
 use Rattle.marlin_frame.specs.Frame.{frame_of, begins_with_n, fails, lead_of, line_number_of, text_of}

@@ -1,10 +1,10 @@
-use Rattle.std.proofs.Common.{◌≡◌, ℕ, suc, ◌≤◌, length, false, List, refl, sym, ap, ◌∙◌, subst, arith}
+use Rattle.std.proofs.Common.{◌≡◌, ◌≤◌, length, true, false, refl, sym, ap, ◌∙◌, subst, arith}
 use Rattle.gcode_lines.specs.Job.{texts_of}
 use Rattle.marlin_reply.specs.Kind.{kind_of}
 use Rattle.marlin_reply.specs.declared.reply.Reply.{Reply}
 use Rattle.marlin_reply.specs.declared.reply.Reply.TheVariants as reply
 use Rattle.octo_outside.proofs.Told.{became_same}
-use Rattle.printer_model.specs.World.{WorldData, world_of}
+use Rattle.printer_model.specs.World.{world_of}
 use Rattle.printer_model.specs.Link.{Grows}
 use Rattle.first_print.specs.Play.{lines_of, is_ok, is_resend, IsHeardAs}
 use Rattle.first_print.specs.Leads.{Leads, Flying, Ran, AfterTurn}
@@ -47,4 +47,15 @@ returns-in_default g c =
       advanced = refl;
       counted = omega arith;
       failed = λ e. absurd (cc);
+      prompt = λ prompt ok at. (let no : false ≡ true = sym no_ok ∙ ok in absurd (cc));
+      kept = refl;
     }
+
+pub returns-in-Ok-clause-prompt : goal.returns-in-Ok-clause-prompt
+returns-in-Ok-clause-prompt g c prompt ok at = c.next_line.ensures.prompt prompt at
+
+pub returns-in-Resend-clause-prompt : goal.returns-in-Resend-clause-prompt
+returns-in-Resend-clause-prompt g c prompt ok at =
+    let kind = c.in-Resend.ensures ∙ ap kind_of c.as_slice.ensures.value in
+    let no : false ≡ true = ap is_ok kind ∙ ok in
+    absurd (cc)
