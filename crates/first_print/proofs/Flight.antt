@@ -54,7 +54,7 @@ out_of_turn_no n last line number sets (inr next) =
     and_left (not (line_number_of line == last + 1)) (not (has_m110 line)) (ap not (eq-eqb (line_number_of line) (last + 1) (number ∙ next)))
 
 -- the printer accepts the next line
-judged_next : (n last : ℕ) (text : List ℕ) → IsCarried n text → IsNext n last → judged last (frame_of n text) ≡ Ok (record { number = Some n; lead = Some n; text = text })
+pub judged_next : (n last : ℕ) (text : List ℕ) → IsCarried n text → IsNext n last → judged last (frame_of n text) ≡ Ok (record { number = Some n; lead = Some n; text = text })
 unfolding judged
 judged_next n last text carried next =
     let line = frame_of n text in
@@ -78,7 +78,7 @@ judged_fails last line failing =
     (λ _. cond_both (fails line) _ _ P (λ _. (Mismatch, refl)) (λ e. absurd (both_ways (fails line) e failing)))))
 
 -- where the queue isn't full, a line is taken by what the printer makes of it
-took : (p : PrinterData) (line : List ℕ) (what : Result Entry Reason) → is_full p ≡ false → judged p.last line ≡ what → take_line p line ≡ take_judged p what
+pub took : (p : PrinterData) (line : List ℕ) (what : Result Entry Reason) → is_full p ≡ false → judged p.last line ≡ what → take_line p line ≡ take_judged p what
 took p line what room is =
     ap (λ (b : Bool). if b then (Full, p) else take_judged p (judged p.last line)) room ∙ ap (take_judged p) is
 
@@ -87,7 +87,7 @@ room_from : (p : PrinterData) → not (is_full p) ≡ true → is_full p ≡ fal
 room_from p can = not-true (is_full p) can
 
 -- a printer with nothing waiting
-abbrev idle : ℕ → Bool → ℕ → PrinterData
+abbrev pub idle : ℕ → Bool → ℕ → PrinterData
 idle places advanced last = record { last = last; places = places; advanced = advanced; queue = [] }
 
 -- the reply lines of a refusal hold a Resend behind chatter
@@ -217,7 +217,7 @@ quiet_event places advanced last log down P here more Recv free = absurd (cc)
 quiet_event places advanced last log down P here more Closed free = absurd (cc)
 
 -- a number that a line sets again is its own
-last_same : (n : ℕ) (text : List ℕ) → last_after n (record { number = Some n; lead = Some n; text = text }) ≡ n
+pub last_same : (n : ℕ) (text : List ℕ) → last_after n (record { number = Some n; lead = Some n; text = text }) ≡ n
 unfolding last_after
 last_same n text = cond_both (has_m110 text) n n (λ (l : ℕ). l ≡ n) (λ _. refl) (λ _. refl)
 

@@ -6,3 +6,4 @@ pub mod Grown
 pub mod Carried
 pub mod Speech
 pub mod Printed
+pub mod Prompt

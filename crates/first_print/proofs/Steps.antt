@@ -26,7 +26,7 @@ keep P one w (event ∷ events) free here =
     keep P one (apply w event) events parts.1 (one w event parts.0 here)
 
 -- nothing is logged on an empty wait list
-empty_is : (queue : List Entry) → is_empty queue ≡ true → queue ≡ []
+pub empty_is : (queue : List Entry) → is_empty queue ≡ true → queue ≡ []
 empty_is [] e = refl
 empty_is (entry ∷ queue) e = absurd (cc)
 

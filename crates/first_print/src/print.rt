@@ -1,13 +1,14 @@
 //! The print itself: a dial, the hello, and turns that receive one reply each.
-ghost use Rattle.std.specs.Prelude.{◌≡◌, ◌≢◌, ◌≤◌, ◌↔◌, suc, true, false, length, OnOk, OnErr};
+ghost use Rattle.std.specs.Prelude.{◌≡◌, ◌≢◌, ◌<◌, ◌≤◌, ◌↔◌, ◌⊎◌, suc, true, false, length, OnOk, OnErr};
 ghost use Rattle.octo_outside.specs.Told.{Became, Rose};
 ghost use Rattle.gcode_lines.specs.Job.{texts_of};
 ghost use Rattle.marlin_reply.specs.Kind.{kind_of};
 ghost use Rattle.printer_model.specs.Link.{Grows};
 ghost use Rattle.first_print.specs.declared.print.Turn.TheVariants as turn;
 ghost use Rattle.first_print.specs.declared.print.PrintEnd.TheVariants as end;
-ghost use Rattle.first_print.specs.Play.{lines_of, line_at, is_resend, IsCarried, IsHeardAs};
+ghost use Rattle.first_print.specs.Play.{lines_of, line_at, is_ok, is_resend, IsCarried, IsHeardAs};
 ghost use Rattle.first_print.specs.Leads.{Leads, asks, Ready, Flying, Ran, AfterTurn, AtEnd, IsGoing, goes_on, turn_asked, end_asked, is_done, IsPrintOf};
+ghost use Rattle.first_print.specs.Prompt.{IsAt, IsPromptReady, IsPromptSent, GoesOn, IsSmooth};
 
 use crate::line::write_line;
 use gcode_lines::Job;
@@ -57,6 +58,8 @@ fn send_line<L: Link>(link: &mut L, job: &Job, n: u32) -> Result<(), LinkFault>
     ensures advanced { L.advanced link.new ≡ L.advanced link.old }
     ensures counted { L.faults link.old ≤ L.faults link.new }
     ensures failed { OnErr result (Rose (L.faults link.old) (L.faults link.new)) }
+    ensures prompt { L.prompt link.old ≡ true → IsAt (L.places link.old) (L.advanced link.old) (L.past link.old) (IsPromptReady n) → OnOk result (IsAt (L.places link.new) (L.advanced link.new) (L.past link.new) (IsPromptSent (lines_of (texts_of job.now)) n)) }
+    ensures kept { L.prompt link.new ≡ L.prompt link.old }
 {
     let mut line = Line::new();
     write_line(job, n, &mut line);
@@ -75,6 +78,8 @@ fn next_line<L: Link>(link: &mut L, job: &Job, n: u32) -> Turn
     ensures advanced { L.advanced link.new ≡ L.advanced link.old }
     ensures counted { L.faults link.old ≤ L.faults link.new }
     ensures failed { result ≡ turn.Failed → Rose (L.faults link.old) (L.faults link.new) }
+    ensures prompt { L.prompt link.old ≡ true → IsAt (L.places link.old) (L.advanced link.old) (L.past link.old) (IsPromptReady (suc n)) → GoesOn (lines_of (texts_of job.now)) n (L.places link.new) (L.advanced link.new) (L.past link.new) result }
+    ensures kept { L.prompt link.new ≡ L.prompt link.old }
 {
     if n as usize == job.count() {
         link.hang_up();
@@ -99,6 +104,8 @@ fn answer<L: Link>(link: &mut L, job: &Job, n: u32, line: &ReplyLine) -> Turn
     ensures advanced { L.advanced link.new ≡ L.advanced link.old }
     ensures counted { L.faults link.old ≤ L.faults link.new }
     ensures failed { result ≡ turn.Failed → Rose (L.faults link.old) (L.faults link.new) }
+    ensures prompt { L.prompt link.old ≡ true → is_ok (kind_of line.now.items) ≡ true → IsAt (L.places link.old) (L.advanced link.old) (L.past link.old) (IsPromptReady (suc n)) → GoesOn (lines_of (texts_of job.now)) n (L.places link.new) (L.advanced link.new) (L.past link.new) result }
+    ensures kept { L.prompt link.new ≡ L.prompt link.old }
 {
     match read_reply(line.as_slice()) {
         Reply::Ok { .. } => next_line(link, job, n),
@@ -122,6 +129,8 @@ fn take_turn<L: Link, T: Clock>(link: &mut L, clock: &mut T, job: &Job, n: u32) 
     ensures advanced { L.advanced link.new ≡ L.advanced link.old }
     ensures counted { L.faults link.old ≤ L.faults link.new }
     ensures failed { result ≡ turn.Failed → Rose (L.faults link.old) (L.faults link.new) }
+    ensures prompt { L.prompt link.old ≡ true → IsAt (L.places link.old) (L.advanced link.old) (L.past link.old) (IsPromptSent (lines_of (texts_of job.now)) n) → GoesOn (lines_of (texts_of job.now)) n (L.places link.new) (L.advanced link.new) (L.past link.new) result }
+    ensures kept { L.prompt link.new ≡ L.prompt link.old }
 {
     let mut reply = ReplyLine::new();
     match link.recv(&mut reply) {
@@ -145,6 +154,7 @@ fn take_turns<L: Link, T: Clock>(link: &mut L, clock: &mut T, job: &Job, turns: 
     ensures advanced { L.advanced link.new ≡ L.advanced link.old }
     ensures counted { L.faults link.old ≤ L.faults link.new }
     ensures failed { result ≡ end.LinkFailed → Rose (L.faults link.old) (L.faults link.new) }
+    ensures prompt { L.prompt link.old ≡ true → IsAt (L.places link.old) (L.advanced link.old) (L.past link.old) (IsPromptSent (lines_of (texts_of job.now)) 0) → length job.now.commands < turns → (result ≡ end.Done) ⊎ (result ≡ end.LinkFailed) }
 {
     let mut line = 0;
     for _ in 0..turns {
@@ -169,6 +179,7 @@ fn print_lines<L: Link, T: Clock>(link: &mut L, clock: &mut T, job: &Job, turns:
     ensures advanced { L.advanced link.new ≡ L.advanced link.old }
     ensures counted { L.faults link.old ≤ L.faults link.new }
     ensures failed { result ≡ end.LinkFailed → Rose (L.faults link.old) (L.faults link.new) }
+    ensures prompt { L.prompt link.old ≡ true → IsAt (L.places link.old) (L.advanced link.old) (L.past link.old) (IsPromptReady 0) → length job.now.commands < turns → (result ≡ end.Done) ⊎ (result ≡ end.LinkFailed) }
 {
     match send_line(link, job, 0) {
         Ok(()) => take_turns(link, clock, job, turns),
@@ -180,7 +191,8 @@ fn print_lines<L: Link, T: Clock>(link: &mut L, clock: &mut T, job: &Job, turns:
 /// once; where nothing has come it rests the clock. The link is down afterwards.
 ///
 /// Whatever the line loses, garbles or says: of each past that the link tells, the commands executed are the first
-/// ones of the job, each once and in order, and all of them where the print is done.
+/// ones of the job, each once and in order, and all of them where the print is done. Over a prompt link on which no call
+/// fails the print is done in one turn for each command and one for the hello.
 pub fn print_file<L: Link, T: Clock>(
     link: &mut L,
     clock: &mut T,
@@ -195,6 +207,7 @@ pub fn print_file<L: Link, T: Clock>(
     ensures down { L.up link.new ≡ false }
     ensures counted { L.faults link.old ≤ L.faults link.new }
     ensures failed { result ≡ end.LinkFailed → Rose (L.faults link.old) (L.faults link.new) }
+    ensures prompt { IsSmooth (L.prompt link.old) (L.past link.old) (L.listed link.old port.now) (L.faults link.old) (L.faults link.new) → length job.now.commands < turns → result ≡ end.Done }
 {
     match link.dial(port) {
         Ok(()) => print_lines(link, clock, job, turns),

@@ -1,4 +1,4 @@
-use Rattle.std.proofs.Common.{◌≡◌, ◌≤◌, length, false, refl, sym, ap, ◌∙◌, subst, arith}
+use Rattle.std.proofs.Common.{◌≡◌, ◌≤◌, length, true, false, refl, sym, ap, ◌∙◌, subst, arith}
 use Rattle.gcode_lines.specs.Job.{texts_of}
 use Rattle.marlin_reply.specs.Kind.{kind_of}
 use Rattle.marlin_reply.specs.declared.reply.Reply.{Reply}
@@ -47,4 +47,15 @@ returns-in_default g c =
       advanced = refl;
       counted = omega arith;
       failed = λ e. absurd (cc);
+      prompt = λ prompt ok at. (let no : false ≡ true = sym no_ok ∙ ok in absurd (cc));
+      kept = refl;
     }
+
+pub returns-in-Ok-clause-prompt : goal.returns-in-Ok-clause-prompt
+returns-in-Ok-clause-prompt g c prompt ok at = c.next_line.ensures.prompt prompt at
+
+pub returns-in-Resend-clause-prompt : goal.returns-in-Resend-clause-prompt
+returns-in-Resend-clause-prompt g c prompt ok at =
+    let kind = c.in-Resend.ensures ∙ ap kind_of c.as_slice.ensures.value in
+    let no : false ≡ true = ap is_ok kind ∙ ok in
+    absurd (cc)

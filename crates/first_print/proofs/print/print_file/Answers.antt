@@ -1,7 +1,7 @@
-use Rattle.std.proofs.Common.{◌≡◌, ◌≤◌, Bool, false, refl, sym, ap, ◌∙◌, arith}
+use Rattle.std.proofs.Common.{◌≡◌, ◌≤◌, Bool, true, false, refl, sym, ap, ◌∙◌, arith}
 use Rattle.std.specs.Prelude.{◌||◌}
 use Rattle.std.specs.List.{list_all}
-use Rattle.octo_outside.proofs.Told.{became_then, became_so}
+use Rattle.octo_outside.proofs.Told.{became_then, became_so, steady_not_rose}
 use Rattle.gcode_lines.specs.Job.{texts_of}
 use Rattle.printer_model.specs.World.{WorldData, world_from, world_of}
 use Rattle.printer_model.specs.Link.{IsDial, IsNothing, IsRuns}
@@ -9,6 +9,7 @@ use Rattle.printer_model.proofs.Laws.{world_of-append}
 use Rattle.first_print.specs.Play.{lines_of}
 use Rattle.first_print.specs.Leads.{Leads, opens_none, asks, Ready, AtEnd, end_asked, is_done, IsPrintOf}
 use Rattle.first_print.proofs.Joins.{asks-append, all_none, all_silent, runs_free}
+use Rattle.first_print.proofs.Prompt.{dial_at, end_done}
 use Rattle.first_print.proofs.Grown.{grows_at}
 use Rattle.first_print.proofs.Printed.{print_of, print_unopened, dial_silent}
 use Rattle.first_print.proofs.print.print_file.Goals as goal
@@ -82,3 +83,19 @@ returns-in-Err-Failed-clause-asked g c =
     became_so (g.L.Link.past c.args.link.now) (g.L.Link.past c.dial.new.self) (λ past added. IsRuns (world_of places advanced past) added)
     (λ past added. asks (world_of places advanced past) added ≡ false) (grew refl)
     (λ past added runs. all_silent (world_of places advanced past) added (runs_free added runs))
+
+pub returns-in-Ok-clause-prompt : goal.returns-in-Ok-clause-prompt
+returns-in-Ok-clause-prompt g c smooth enough =
+    let at = dial_at _ _ _ _ _ _ c.dial.ensures.some c.dial.ensures.few smooth.told c.dial.ensures.told c.dial.ensures.places c.dial.ensures.advanced c.in-Ok.ensures.past in
+    end_done c.print_lines.result _ _ _ (c.print_lines.ensures.prompt (c.dial.ensures.prompt ∙ smooth.prompt_is) at enough) smooth.steady c.dial.ensures.counted c.print_lines.ensures.counted c.print_lines.ensures.failed
+
+pub returns-in-Err-NoPort-clause-prompt : goal.returns-in-Err-NoPort-clause-prompt
+returns-in-Err-NoPort-clause-prompt g c smooth enough =
+    let means = rw c.in-Err-NoPort.field-0-is at c.in-Err-NoPort.ensures.no_port in
+    let no : false ≡ true = sym (means.0 refl) ∙ smooth.listed_is in
+    absurd (cc)
+
+pub returns-in-Err-Failed-clause-prompt : goal.returns-in-Err-Failed-clause-prompt
+returns-in-Err-Failed-clause-prompt g c smooth enough =
+    let rose = rw c.in-Err-Failed.field-0-is at c.in-Err-Failed.ensures.failed in
+    absurd (steady_not_rose _ _ smooth.steady (rose refl))

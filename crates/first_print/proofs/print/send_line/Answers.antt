@@ -7,6 +7,7 @@ use Rattle.first_print.specs.Play.{lines_of}
 use Rattle.first_print.proofs.Carried.{line_there}
 use Rattle.first_print.proofs.Speech.{speech}
 use Rattle.first_print.proofs.Joins.{send_leads, send_loss_leads}
+use Rattle.first_print.proofs.Prompt.{send_at}
 use Rattle.first_print.proofs.Grown.{grows_so, ok_so, err_so}
 use Rattle.first_print.proofs.print.send_line.Goals as goal
 
@@ -26,3 +27,10 @@ returns-clause-lost g c =
     let n = c.args.n in
     err_so c.send.result c.send.ensures.past_failed
     (λ grew. grows_so _ _ _ _ _ _ grew (λ w added loss. send_loss_leads speech lines n c.write_line.ensures.carried (line_there c.args.job.now n c.requires.there) w added loss))
+
+pub returns-clause-prompt : goal.returns-clause-prompt
+returns-clause-prompt g c prompt at =
+    let lines = lines_of (texts_of c.args.job.now) in
+    let n = c.args.n in
+    ok_so c.send.result (c.send.ensures.past_prompt prompt)
+    (λ grew. send_at _ _ _ _ _ _ lines n c.write_line.new.into.items c.write_line.ensures.carried c.write_line.ensures.written c.send.ensures.told c.send.ensures.places c.send.ensures.advanced grew at)

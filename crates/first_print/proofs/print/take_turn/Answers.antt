@@ -8,6 +8,7 @@ use Rattle.first_print.specs.Leads.{Leads, Flying, AfterTurn, turn_asked}
 use Rattle.first_print.proofs.Carried.{line_there}
 use Rattle.first_print.proofs.Speech.{speech}
 use Rattle.first_print.proofs.Joins.{or_false, heard_leads, silence_leads, loss_leads}
+use Rattle.first_print.proofs.Prompt.{recv_at, silent_at}
 use Rattle.first_print.proofs.Grown.{grows_so, grows_at, grows_then}
 use Rattle.first_print.proofs.print.take_turn.Goals as goal
 
@@ -31,3 +32,16 @@ returns-in-Ok-Nothing-clause-leads g c =
 pub returns-in-Err-clause-leads : goal.returns-in-Err-clause-leads
 returns-in-Err-clause-leads g c =
     grows_so _ _ _ _ _ _ c.in-Err.ensures.past_failed (λ w added loss. loss_leads speech (lines_of (texts_of c.args.job.now)) c.args.n c.requires.carried (line_there c.args.job.now c.args.n c.requires.there) w added loss)
+
+pub returns-in-Ok-Line-clause-prompt : goal.returns-in-Ok-Line-clause-prompt
+returns-in-Ok-Line-clause-prompt g c prompt at =
+    let lines = lines_of (texts_of c.args.job.now) in
+    let grew = rw c.in-Ok-Line.field-0-is at c.in-Ok-Line.ensures.past in
+    let answer = recv_at _ _ _ _ _ _ lines c.args.n c.recv.new.into.items c.requires.carried c.recv.ensures.told c.recv.ensures.places c.recv.ensures.advanced (grew refl) (c.in-Ok-Line.ensures.past_prompt prompt) at in
+    c.answer.ensures.prompt (c.recv.ensures.prompt ∙ prompt) answer.kind answer.at
+
+pub returns-in-Ok-Nothing-clause-prompt : goal.returns-in-Ok-Nothing-clause-prompt
+returns-in-Ok-Nothing-clause-prompt g c prompt at =
+    let lines = lines_of (texts_of c.args.job.now) in
+    let grew = rw c.in-Ok-Nothing.field-0-is at c.in-Ok-Nothing.ensures.past_nothing in
+    absurd (silent_at _ _ _ _ lines c.args.n c.requires.carried c.recv.ensures.told (grew refl) (c.in-Ok-Nothing.ensures.past_prompt prompt) at)

@@ -1,4 +1,4 @@
-use Rattle.std.proofs.Common.{true, false, refl, ◌∙◌, arith}
+use Rattle.std.proofs.Common.{inl, inr, true, false, refl, ◌∙◌, arith}
 use Rattle.gcode_lines.specs.Job.{texts_of}
 use Rattle.first_print.specs.Play.{lines_of}
 use Rattle.first_print.specs.Leads.{Leads, Flying, Ran, HasRunAll}
@@ -16,6 +16,8 @@ loop-init g c =
       leads = grows_same _ _ _ (Flying (lines_of (texts_of c.args.job.now)) 0);
       places = refl;
       advanced = refl;
+      prompt = λ prompt at. (refl, at);
+      kept = refl;
       counted = omega arith;
     }
 
@@ -31,6 +33,10 @@ loop-preserved g c =
       leads = grows_then _ _ _ _ _ false false (Flying lines 0) (Flying lines c.loop.line) (Flying lines c.in-Going.next) i.leads second;
       places = c.take_turn.ensures.places ∙ i.places;
       advanced = c.take_turn.ensures.advanced ∙ i.advanced;
+      prompt = λ prompt at. (let here = i.prompt prompt at in
+          let next = c.in-Going.ensures.prompt (i.kept ∙ prompt) here.1 in
+          (omega (arith, here.0, next.0), next.1));
+      kept = c.take_turn.ensures.kept ∙ i.kept;
       counted = omega (arith, i.counted, c.take_turn.ensures.counted);
     }
 
@@ -64,3 +70,19 @@ returns-clause-leads g c =
     (λ start v flying. closed_ran start lines v (flying_ran start lines c.loop.line v there flying)) c.hang_up.ensures.past in
     let second = grows_at (g.L.Link.places c.args.link.now) (g.L.Link.places c.loop.link) (g.L.Link.advanced c.args.link.now) (g.L.Link.advanced c.loop.link) _ _ (Leads false (Flying lines c.loop.line) (Ran lines)) i.places i.advanced closed in
     grows_then _ _ _ _ _ false false (Flying lines 0) (Flying lines c.loop.line) (Ran lines) i.leads second
+
+pub returns-in-Done-clause-prompt : goal.returns-in-Done-clause-prompt
+returns-in-Done-clause-prompt g c prompt at enough = inl refl
+
+pub returns-in-Resent-clause-prompt : goal.returns-in-Resent-clause-prompt
+returns-in-Resent-clause-prompt g c prompt at enough =
+    let i = c.loop.invariant in
+    absurd (c.in-Resent.ensures.prompt (i.kept ∙ prompt) (i.prompt prompt at).1)
+
+pub returns-in-Failed-clause-prompt : goal.returns-in-Failed-clause-prompt
+returns-in-Failed-clause-prompt g c prompt at enough = inr refl
+
+pub returns-clause-prompt : goal.returns-clause-prompt
+returns-clause-prompt g c prompt at enough =
+    let i = c.loop.invariant in
+    absurd (omega (arith, (i.prompt prompt at).0, i.there, enough, c.loop-test.false))

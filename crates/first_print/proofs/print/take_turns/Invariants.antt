@@ -3,6 +3,7 @@ use Rattle.gcode_lines.specs.Job.{texts_of}
 use Rattle.printer_model.specs.Link.{Grows}
 use Rattle.first_print.specs.Play.{lines_of, line_at, IsCarried}
 use Rattle.first_print.specs.Leads.{Leads, Flying}
+use Rattle.first_print.specs.Prompt.{IsAt, IsPromptSent}
 use Rattle.first_print.proofs.print.take_turns.Given as goal
 
 abbrev pub invariant-loop : goal.invariant-loop
@@ -13,5 +14,7 @@ invariant-loop g l = record {
   leads : Grows (g.L.Link.places l.initial.link) (g.L.Link.advanced l.initial.link) (g.L.Link.past l.initial.link) (g.L.Link.past l.link) (Leads false (Flying (lines_of (texts_of l.job)) 0) (Flying (lines_of (texts_of l.job)) l.line));
   places : g.L.Link.places l.link ≡ g.L.Link.places l.initial.link;
   advanced : g.L.Link.advanced l.link ≡ g.L.Link.advanced l.initial.link;
+  prompt : g.L.Link.prompt l.initial.link ≡ true → IsAt (g.L.Link.places l.initial.link) (g.L.Link.advanced l.initial.link) (g.L.Link.past l.initial.link) (IsPromptSent (lines_of (texts_of l.job)) 0) → (l.line ≡ l.counter) × IsAt (g.L.Link.places l.link) (g.L.Link.advanced l.link) (g.L.Link.past l.link) (IsPromptSent (lines_of (texts_of l.job)) l.line);
+  kept : g.L.Link.prompt l.link ≡ g.L.Link.prompt l.initial.link;
   counted : g.L.Link.faults l.initial.link ≤ g.L.Link.faults l.link;
 }
