@@ -1,11 +1,10 @@
 -- What reports say of a print.
-use Rattle.std.proofs.Common.{◌≡◌, ℕ, Bool, true, false, List, [], Option, None, Some, refl, sym, ◌++◌}
+use Rattle.std.proofs.Common.{◌≡◌, ℕ, Bool, false, List, [], Option, None, Some, refl, sym, ◌++◌}
 use Rattle.std.specs.Prelude.{◌==◌, IfSome}
 use Rattle.octo_outside.specs.Traits.{Files}
 use Rattle.octo_outside.proofs.Told.{became_same, became_so}
-use Rattle.gcode_lines.specs.declared.fault.FileFault.{FileFault}
 use Rattle.gcode_lines.specs.declared.fault.FileFault.TheVariants.{TooLong, ControlByte, TooLarge, NoMemory}
-use Rattle.printer_model.specs.World.{WorldData, world_of}
+use Rattle.printer_model.specs.World.{world_of}
 use Rattle.printer_model.specs.declared.event.WorldEvent.{WorldEvent}
 use Rattle.first_print.specs.Leads.{asks, IsPrintOf}
 use Rattle.first_print.proofs.Printed.{print_unopened}

@@ -1,11 +1,10 @@
-use Rattle.std.proofs.Common.{◌≡◌, ◌≤◌, ℕ, List, take, length, ap, ◌∙◌, arith}
+use Rattle.std.proofs.Common.{◌≡◌, ℕ, List, take, length, ap, ◌∙◌, arith}
 use Rattle.std.specs.Prelude.{fold}
 use Rattle.std.proofs.lemmas.List.{take_all, length-map}
 use Rattle.gcode_lines.specs.Job.{Command, texts_of}
 use Rattle.temp_rules.specs.Most.{TargetsData, hottest, no_targets, with_text}
 use Rattle.temp_rules.specs.declared.heater.Heater.TheVariants.{Tool, Bed}
 use Rattle.temp_rules.proofs.Greatest.{seen-all}
-use Rattle.octo.specs.declared.report.Report.TheVariants as report
 use Rattle.octo.proofs.run.check_job.Goals as goal
 
 pub returns : goal.returns
