@@ -45,6 +45,15 @@ texts_in bytes = texts_or_none (file_of bytes)
     texts_or_none (Ok job) = texts_of job
     texts_or_none (Err refusal) = []
 
+-- the source tells its files, and the one of this name gives a job
+pub record IsPrintable (files : Option Files) (file : List ℕ) : Type 0 where
+  pub all : Files
+  pub bytes : List ℕ
+  pub job : JobData
+  pub told : files ≡ Some all
+  pub held : all file ≡ Some bytes
+  pub gives : file_of bytes ≡ Ok job
+
 -- memory or the source failed
 abbrev pub IsTrouble : Report → Type 0
 IsTrouble r = (r ≡ report.NoMemory) ⊎ (r ≡ report.SourceFailed)

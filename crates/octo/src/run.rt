@@ -1,13 +1,14 @@
 //! The commands: to print a file and to check one.
 ghost use Rattle.std.specs.Prelude.{◌≡◌, ◌⊎◌, ◌≤◌, ◌≢◌, ◌==◌, ℕ, List, true, false, length, Some, IfSome, IsTrue};
-ghost use Rattle.octo_outside.specs.Told.{Became, Rose};
+ghost use Rattle.octo_outside.specs.Told.{Became, Rose, Steady};
 ghost use Rattle.gcode_lines.specs.Job.{texts_of};
 ghost use Rattle.printer_model.specs.Link.{Grows};
 ghost use Rattle.first_print.specs.Leads.{asks, IsPrintOf};
+ghost use Rattle.first_print.specs.Prompt.{IsSmooth};
 ghost use Rattle.octo.specs.declared.report.Report.{Report};
 ghost use Rattle.octo.specs.declared.report.Report.TheVariants as report;
 ghost use Rattle.octo.specs.Words.{CommandData, print_file, check_file, command_of, names_port};
-ghost use Rattle.octo.specs.Outcome.{file_of, check_report, file_name, used_link, is_printed, is_resent, is_checked, leaves_link, IsTrouble, IsReportOf, IsPrintReport, IsNoPort, IsExecuted, IsWritten, Ended};
+ghost use Rattle.octo.specs.Outcome.{file_of, check_report, file_name, used_link, is_printed, is_resent, is_checked, leaves_link, IsTrouble, IsReportOf, IsPrintReport, IsNoPort, IsExecuted, IsPrintable, IsWritten, Ended};
 
 use crate::files::read_job;
 use crate::report::{Report, write_report};
@@ -71,10 +72,12 @@ fn print_job<L: Link, T: Clock>(link: &mut L, clock: &mut T, port: &str, job: &J
     ensures unchecked { is_checked result ≡ false }
     ensures words { result ≢ report.BadWords }
     ensures source { result ≢ report.SourceFailed }
+    ensures prompt { IsSmooth (L.prompt link.old) (L.past link.old) (L.listed link.old port.now) (L.faults link.old) (L.faults link.new) → is_printed result ≡ true }
 {
+    let commands = job.count();
     match print_file(link, clock, port, job, TURNS) {
         PrintEnd::Done => Report::Printed {
-            commands: job.count() as u32,
+            commands: commands as u32,
             skipped: job.skipped(),
         },
         PrintEnd::NoPort => no_port(port),
@@ -116,6 +119,7 @@ fn print<F: Source, L: Link, T: Clock>(
     ensures source { result ≡ report.SourceFailed → Rose (F.faults files.old) (F.faults files.new) }
     ensures link_counted { L.faults link.old ≤ L.faults link.new }
     ensures link_failed { result ≡ report.LinkFailed → Rose (L.faults link.old) (L.faults link.new) }
+    ensures prompt { IsSmooth (L.prompt link.old) (L.past link.old) (L.listed link.old port.now) (L.faults link.old) (L.faults link.new) → IsPrintable (F.files files.old) file.now → (is_printed result ≡ true) ⊎ IsTrouble result }
 {
     match read_job(alloc, files, file) {
         Ok(job) => print_job(link, clock, port, &job),
@@ -147,6 +151,7 @@ fn run<F: Source, L: Link, T: Clock>(
     ensures asked { Grows (L.places link.old) (L.advanced link.old) (L.past link.old) (L.past link.new) (λ w added. asks w added ≡ is_resent result) }
     ensures counted { F.faults files.old ≤ F.faults files.new }
     ensures link_counted { L.faults link.old ≤ L.faults link.new }
+    ensures prompt { (port file : List ℕ) → command_of words.now ≡ Some (print_file port file) → IsSmooth (L.prompt link.old) (L.past link.old) (L.listed link.old port) (L.faults link.old) (L.faults link.new) → IsPrintable (F.files files.old) file → (is_printed result ≡ true) ⊎ IsTrouble result }
 {
     if words.count() == 2 && words.get(0) == "check" {
         return check(alloc, files, words.get(1));
@@ -159,6 +164,8 @@ fn run<F: Source, L: Link, T: Clock>(
 
 /// Carries out the command that the words are, without the program's name: `print PORT FILE` or `check FILE`. Its
 /// report is written to `out`.
+///
+/// Over a prompt link on which no call fails a file that gives a job is printed, unless memory, the source or the sink fails.
 pub fn octo<R, F: Source, L: Link, O: Sink, T: Clock>(
     _rt: &R,
     alloc: Global,
@@ -176,6 +183,7 @@ pub fn octo<R, F: Source, L: Link, O: Sink, T: Clock>(
     ensures source_counted { F.faults files.old ≤ F.faults files.new }
     ensures link_counted { L.faults link.old ≤ L.faults link.new }
     ensures sink_counted { O.faults out.old ≤ O.faults out.new }
+    ensures prompt { (port file : List ℕ) → command_of words.now ≡ Some (print_file port file) → IsSmooth (L.prompt link.old) (L.past link.old) (L.listed link.old port) (L.faults link.old) (L.faults link.new) → IsPrintable (F.files files.old) file → Steady (F.faults files.old) (F.faults files.new) → (result.code ≡ 0) ⊎ (result.code ≡ 8) ⊎ (result.code ≡ 11) }
 {
     let report = run(alloc, words, files, link, clock);
     match write_report(out, &report) {

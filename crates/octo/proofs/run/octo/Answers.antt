@@ -1,7 +1,8 @@
-use Rattle.std.proofs.Common.{◌≡◌, ℕ, Bool, sym, subst, ap, ◌∙◌}
+use Rattle.std.proofs.Common.{◌≡◌, ◌⊎◌, inl, inr, refl, ℕ, Bool, sym, subst, ap, ◌∙◌}
 use Rattle.std.specs.Prelude.{◌==◌}
 use Rattle.octo.specs.Outcome.{is_printed, IsExecuted}
 use Rattle.octo.proofs.Reports.{done_is, executed_undone}
+use Rattle.octo.proofs.Progress.{ends_well}
 use Rattle.octo.proofs.run.octo.Goals as goal
 
 pub returns-in-Ok-clause-executed : goal.returns-in-Ok-clause-executed
@@ -14,3 +15,13 @@ returns-in-Ok-clause-executed g c port file is =
 pub returns-in-Err-clause-executed : goal.returns-in-Err-clause-executed
 returns-in-Err-clause-executed g c port file is =
     executed_undone (g.L.Link.places c.args.link.now) (g.L.Link.advanced c.args.link.now) (g.F.Source.files c.args.files.now) file (is_printed c.run-report.result) (g.L.Link.past c.args.link.now) (g.L.Link.past c.run-report.new.link) (c.run-report.ensures.executed port file is)
+
+pub returns-in-Ok-clause-prompt : goal.returns-in-Ok-clause-prompt
+returns-in-Ok-clause-prompt g c port file is smooth printable steady =
+    let r = c.run-report.result in
+    let Well : ℕ → Type 0 = λ code. (code ≡ 0) ⊎ (code ≡ 8) ⊎ (code ≡ 11) in
+    subst Well (sym c.code.ensures)
+    (ends_well r _ _ (c.run-report.ensures.unchecked port file is) (c.run-report.ensures.prompt port file is smooth printable) steady c.run-report.ensures.ended.source_failed)
+
+pub returns-in-Err-clause-prompt : goal.returns-in-Err-clause-prompt
+returns-in-Err-clause-prompt g c port file is smooth printable steady = inr (inl refl)

@@ -1,6 +1,7 @@
-use Rattle.std.proofs.Common.{Bool, sym, subst}
+use Rattle.std.proofs.Common.{inr, Bool, sym, subst}
 use Rattle.octo.specs.Outcome.{IsExecuted}
 use Rattle.octo.proofs.Reports.{executed_none, asked_none}
+use Rattle.octo.proofs.Progress.{printable_trouble}
 use Rattle.octo.proofs.run.print.Goals as goal
 
 pub returns-in-Err-clause-executed : goal.returns-in-Err-clause-executed
@@ -10,3 +11,7 @@ returns-in-Err-clause-executed g c =
 
 pub returns-in-Err-clause-asked : goal.returns-in-Err-clause-asked
 returns-in-Err-clause-asked g c = asked_none (g.L.Link.places c.args.link.now) (g.L.Link.advanced c.args.link.now) (g.L.Link.past c.args.link.now) _ c.in-Err.ensures.refusal.resent
+
+pub returns-in-Err-clause-prompt : goal.returns-in-Err-clause-prompt
+returns-in-Err-clause-prompt g c smooth printable =
+    inr (printable_trouble (g.F.Source.files c.args.files.now) c.args.file.now _ printable c.in-Err.ensures.exact)
