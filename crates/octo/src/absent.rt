@@ -8,21 +8,28 @@ use printer_model::{Heard, Link, LinkFault};
 /// The link of a program that has none. Each call fails and counts.
 #[derive(Drop)]
 pub struct AbsentLink {
+    up: bool,
     faults: u64,
 }
 
 impl AbsentLink {
     /// Nothing was asked of it yet.
     pub fn new() -> Self
-        ensures { result.faults ≡ 0 }
+        ensures down { result.up ≡ false }
+        ensures faults { result.faults ≡ 0 }
     {
-        AbsentLink { faults: 0 }
+        AbsentLink {
+            up: false,
+            faults: 0,
+        }
     }
 
     fn fail(&mut self)
+        ensures down { self.new.up ≡ false }
         ensures counted { self.old.faults ≤ self.new.faults }
         ensures rose { Rose self.old.faults self.new.faults }
     {
+        self.up = false;
         self.faults = self.faults.saturating_add(1);
     }
 }
@@ -38,7 +45,7 @@ impl Link for AbsentLink {
 
     ghost listed = { λ _ _. true };
 
-    ghost up = { λ _. false };
+    ghost up = { λ a. a.up };
 
     ghost prompt = { λ _. false };
 
@@ -59,5 +66,7 @@ impl Link for AbsentLink {
         Err(LinkFault::Failed)
     }
 
-    fn hang_up(&mut self) {}
+    fn hang_up(&mut self) {
+        self.up = false;
+    }
 }
