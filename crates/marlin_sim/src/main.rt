@@ -1,0 +1,8 @@
+//! A modelled Marlin printer as a program: it serves one connection and prints what it executed.
+#![tactic(auto)]
+
+mod cuts;
+mod lines;
+mod plan;
+
+fn main() {}
