@@ -4,7 +4,7 @@ use Rattle.std.specs.Prelude.{◌||◌, OnOk, OnErr}
 use Rattle.octo_outside.proofs.Told.{became_then, became_so, became_same}
 use Rattle.printer_model.specs.Printer.{Logged}
 use Rattle.printer_model.specs.World.{WorldData, apply, world_of}
-use Rattle.printer_model.specs.Link.{Grows, IsHangUp}
+use Rattle.printer_link.specs.Link.{Grows, IsHangUp}
 use Rattle.printer_model.specs.declared.event.WorldEvent.{WorldEvent}
 use Rattle.printer_model.specs.declared.event.WorldEvent.TheVariants.{Closed}
 use Rattle.printer_model.proofs.Laws.{world_of-append}

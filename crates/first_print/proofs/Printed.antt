@@ -7,7 +7,7 @@ use Rattle.std.proofs.Math.Seq.{drop-append_seam}
 use Rattle.printer_model.specs.Printer.{Logged}
 use Rattle.printer_model.specs.World.{WorldData, new_world, apply, world_from, world_of}
 use Rattle.printer_model.specs.Executed.{opens, till, is_counted, executed}
-use Rattle.printer_model.specs.Link.{IsDial}
+use Rattle.printer_link.specs.Link.{IsDial}
 use Rattle.printer_model.specs.declared.event.WorldEvent.{WorldEvent}
 use Rattle.printer_model.specs.declared.event.WorldEvent.TheVariants.{Opened, Send, Arrive, Lose, Garble, Run, Chatter, Recv, Closed}
 use Rattle.printer_model.proofs.Laws.{world_from-push, world_of-append, world_from-IsSameKind}

@@ -12,7 +12,7 @@ use Rattle.marlin_reply.specs.Kind.{kind_of}
 use Rattle.printer_model.specs.Printer.{Entry, Logged, is_full}
 use Rattle.printer_model.specs.Replies.{run_reply}
 use Rattle.printer_model.specs.World.{WorldData, new_world, is_empty, is_free, fits_wire, can_happen, apply, arrived, world_from, world_of}
-use Rattle.printer_model.specs.Link.{Grows, IsDial, IsHeard, IsSilence, IsSendOf, due_run, due_recv, printer_events, recv_events}
+use Rattle.printer_link.specs.Link.{Grows, IsDial, IsHeard, IsSilence, IsSendOf, due_run, due_recv, printer_events, recv_events}
 use Rattle.printer_model.specs.declared.event.WorldEvent.{WorldEvent}
 use Rattle.printer_model.specs.declared.event.WorldEvent.TheVariants.{Opened, Send, Arrive, Lose, Garble, Run, Chatter, Recv, Closed}
 use Rattle.printer_model.proofs.Laws.{happens, world_from-push, world_of-append, world_from-IsSameKind}

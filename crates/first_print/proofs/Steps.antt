@@ -10,7 +10,7 @@ use Rattle.marlin_reply.specs.declared.reply.Reply.{Reply}
 use Rattle.marlin_reply.specs.declared.reply.Reply.TheVariants as reply
 use Rattle.printer_model.specs.Printer.{Entry, Logged}
 use Rattle.printer_model.specs.World.{WorldData, is_empty, is_free, can_happen, happen, apply, world_from}
-use Rattle.printer_model.specs.Link.{IsSendOf, SendsFailing}
+use Rattle.printer_link.specs.Link.{IsSendOf, SendsFailing}
 use Rattle.printer_model.specs.declared.event.WorldEvent.{WorldEvent}
 use Rattle.printer_model.specs.declared.event.WorldEvent.TheVariants.{Opened, Send, Arrive, Lose, Garble, Run, Chatter, Recv, Closed}
 use Rattle.printer_model.proofs.Laws.{happens, apply-log}

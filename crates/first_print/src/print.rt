@@ -3,7 +3,7 @@ ghost use Rattle.std.specs.Prelude.{◌≡◌, ◌≢◌, ◌<◌, ◌≤◌, �
 ghost use Rattle.octo_outside.specs.Told.{Became, Rose};
 ghost use Rattle.gcode_lines.specs.Job.{texts_of};
 ghost use Rattle.marlin_reply.specs.Kind.{kind_of};
-ghost use Rattle.printer_model.specs.Link.{Grows};
+ghost use Rattle.printer_link.specs.Link.{Grows};
 ghost use Rattle.first_print.specs.declared.print.Turn.TheVariants as turn;
 ghost use Rattle.first_print.specs.declared.print.PrintEnd.TheVariants as end;
 ghost use Rattle.first_print.specs.Play.{lines_of, line_at, is_ok, is_resend, IsCarried, IsHeardAs};
@@ -14,7 +14,7 @@ use crate::line::write_line;
 use gcode_lines::Job;
 use marlin_reply::{Reply, read_reply};
 use octo_outside::{Clock, Line, ReplyLine};
-use printer_model::{Heard, Link, LinkFault};
+use printer_link::{Heard, Link, LinkFault};
 
 /// How a print ended.
 #[derive(Clone, Copy, Debug, PartialEq, Eq)]

@@ -3,7 +3,7 @@ ghost use Rattle.std.specs.Prelude.{◌≡◌, ◌≤◌, true, false, None};
 ghost use Rattle.octo_outside.specs.Told.{Rose};
 
 use octo_outside::{Line, ReplyLine};
-use printer_model::{Heard, Link, LinkFault};
+use printer_link::{Heard, Link, LinkFault};
 
 /// The link of a program that has none. Each call fails and counts.
 #[derive(Drop)]

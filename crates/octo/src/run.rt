@@ -2,7 +2,7 @@
 ghost use Rattle.std.specs.Prelude.{◌≡◌, ◌⊎◌, ◌≤◌, ◌≢◌, ◌==◌, ℕ, List, true, false, length, Some, IfSome, IsTrue};
 ghost use Rattle.octo_outside.specs.Told.{Became, Rose, Steady};
 ghost use Rattle.gcode_lines.specs.Job.{texts_of};
-ghost use Rattle.printer_model.specs.Link.{Grows};
+ghost use Rattle.printer_link.specs.Link.{Grows};
 ghost use Rattle.first_print.specs.Leads.{asks, IsPrintOf};
 ghost use Rattle.first_print.specs.Prompt.{IsSmooth};
 ghost use Rattle.octo.specs.declared.report.Report.{Report};
@@ -15,7 +15,7 @@ use crate::report::{Report, write_report};
 use first_print::{PrintEnd, print_file};
 use gcode_lines::Job;
 use octo_outside::{Clock, Failed, Name, Sink, Source, WordList};
-use printer_model::Link;
+use printer_link::Link;
 use std::alloc::Global;
 use temp_rules::Targets;
 

@@ -1,10 +1,10 @@
 //! Whole commands over files, a link and an output in memory.
 ghost use Rattle.std.specs.Prelude.{◌≡◌, false, IfOk};
-ghost use Rattle.printer_model.specs.Memory.{link_world};
+ghost use Rattle.printer_link.specs.Memory.{link_world};
 
 use crate::run::octo;
 use octo_outside::{CallList, MemoryClock, MemorySink, MemorySource, Name, NameList, WordList};
-use printer_model::{Fate, FateList, MemoryLink, Schedule};
+use printer_link::{Fate, FateList, MemoryLink, Schedule};
 use std::alloc::{AllocError, Global};
 use std::process::Abort;
 use std::test::Fail;

@@ -6,7 +6,7 @@ use Rattle.std.specs.List.{list_all}
 use Rattle.std.proofs.lemmas.Bool.{cond_both}
 use Rattle.printer_model.specs.Printer.{IsSameKind, waiting_as, PrinterData, Entry, Logged, is_full, judged, take_judged, take_line, run_queue, ran_line}
 use Rattle.printer_model.specs.World.{WorldData, new_world, can_happen, is_empty, arrive_front, after_run, happen, apply, world_from, world_of, Grew, IsTidy, accepted_lines, moves_printer, moves_up, moves_down, is_free, fits_wire, arrived}
-use Rattle.printer_model.specs.Link.{is_run}
+use Rattle.printer_model.specs.World.{is_run}
 use Rattle.marlin_reply.specs.Kind.{is_chatter}
 use Rattle.printer_model.specs.declared.printer.Reason.{Reason}
 use Rattle.printer_model.specs.declared.printer.Taken.TheVariants.{Accepted, Full}

@@ -1,7 +1,5 @@
 pub mod Judging
 pub mod Laws
-pub mod Links
 mod Rows
 pub mod Sessions
-pub mod Stories
 pub mod Wires

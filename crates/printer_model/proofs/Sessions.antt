@@ -1,6 +1,6 @@
 -- A past by its sessions: what further events leave of what was executed.
 use Rattle.std.proofs.Common.{◌≡◌, ℕ, zero, suc, pred, ◌+◌, ◌-◌, ◌<◌, ◌≤◌, Bool, List, [], ◌∷◌, ◌++◌, length, drop, refl, sym, append-nil, length-append, ◌∙◌, ap, arith}
-use Rattle.std.specs.Prelude.{Some, None, filter}
+use Rattle.std.specs.Prelude.{Some, None, filter, Result, Ok, Err, IfOk}
 use Rattle.std.proofs.lemmas.List.{drop-append-le}
 use Rattle.std.proofs.lemmas.List.Elements.{filter-append}
 use Rattle.printer_model.specs.Printer.{Logged}
@@ -166,3 +166,8 @@ session_lines places advanced past s k before whole less b w =
     ap (λ (v : WorldData). filter is_counted (drop (length v.log) whole.log)) b
     ∙ ap (λ (v : WorldData). filter is_counted (drop (length (world_of places advanced (till k past)).log) v.log)) w
     ∙ ap (λ (n : ℕ). filter is_counted (drop (length (world_of places advanced (till n past)).log) (world_of places advanced (till s past)).log)) (less ∙ sym (pred_less_one s))
+
+-- what follows from a success
+pub if_ok_so : {T E : Type 0} {P Q : T → Type 0} (r : Result T E) → IfOk r P → ((x : T) → P x → Q x) → IfOk r Q
+if_ok_so (Ok x) fact so = so x fact
+if_ok_so (Err e) fact so = tt

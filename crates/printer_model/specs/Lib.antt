@@ -1,6 +1,5 @@
 pub mod Executed
-pub mod Link
-pub mod Memory
+pub mod Garble
 pub mod Printer
 pub mod Replies
 pub mod World

@@ -45,6 +45,11 @@ is_free Run = true
 is_free (Chatter reply) = true
 is_free _ = false
 
+-- the printer runs a line
+abbrev pub is_run : WorldEvent → Bool
+is_run Run = true
+is_run _ = false
+
 -- whether an event may change what the printer holds
 abbrev pub moves_printer : WorldEvent → Bool
 moves_printer (Opened last) = true
@@ -95,6 +100,11 @@ replied w reply = if w.linked then w.down ++ reply ∷ [] else w.down
 abbrev pub after_run : WorldData → Option RanLine × PrinterData → WorldData
 after_run w (None, p) = w
 after_run w (Some ran, p) = record w { printer = p; log = w.log ++ logged ran ∷ []; down = replied w ran.reply }
+
+-- a reply is at the front of the wire from the printer
+pub record IsFrontReply (reply : List ℕ) (down : List (List ℕ)) : Type 0 where
+  pub behind : List (List ℕ)
+  pub is : down ≡ reply ∷ behind
 
 -- what an event does where it can happen
 abbrev pub happen : WorldData → WorldEvent → WorldData

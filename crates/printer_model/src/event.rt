@@ -27,23 +27,25 @@ pub enum WorldEvent {
     Closed,
 }
 
-/// Whether an event opens a session.
-pub(crate) fn is_opened(event: &WorldEvent) -> bool
-    ensures { result ≡ is_opened event.now }
-{
-    matches!(event, WorldEvent::Opened { .. })
-}
+impl WorldEvent {
+    /// Whether it opens a session.
+    pub fn is_opened(&self) -> bool
+        ensures { result ≡ is_opened self.now }
+    {
+        matches!(self, WorldEvent::Opened { .. })
+    }
 
-/// Whether an event is a line that the host sent.
-pub(crate) fn is_send(event: &WorldEvent) -> bool
-    ensures { result ≡ is_send event.now }
-{
-    matches!(event, WorldEvent::Send(_))
-}
+    /// Whether it is a line that the host sent.
+    pub fn is_send(&self) -> bool
+        ensures { result ≡ is_send self.now }
+    {
+        matches!(self, WorldEvent::Send(_))
+    }
 
-/// Whether an event is a line lost or garbled on its way to the printer.
-pub(crate) fn is_loss(event: &WorldEvent) -> bool
-    ensures { result ≡ is_loss event.now }
-{
-    matches!(event, WorldEvent::Lose { .. } | WorldEvent::Garble { .. })
+    /// Whether it is a line lost or garbled on its way to the printer.
+    pub fn is_loss(&self) -> bool
+        ensures { result ≡ is_loss self.now }
+    {
+        matches!(self, WorldEvent::Lose { .. } | WorldEvent::Garble { .. })
+    }
 }

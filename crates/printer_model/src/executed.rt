@@ -3,7 +3,7 @@ ghost use Rattle.std.specs.Prelude.{◌≡◌, ◌≤◌, drop, filter, pred, If
 ghost use Rattle.printer_model.specs.Executed.{executed, is_counted, is_zero, left_behind, is_opened, till};
 ghost use Rattle.printer_model.specs.World.{world_of};
 
-use crate::event::{WorldEvent, is_opened};
+use crate::event::WorldEvent;
 use crate::printer::line_of;
 use crate::world::World;
 use octo_outside::Line;
@@ -42,7 +42,7 @@ impl Model for Executed {
 
 impl Executed {
     /// What was run in a session of a past, counted from 1, over a printer of 1 to 16 places.
-    pub(crate) fn of_session(
+    pub fn of_session(
         alloc: Global,
         places: u8,
         advanced: bool,
@@ -81,7 +81,7 @@ fn behind(lines: &[ExecutedLine], count: usize) -> &[ExecutedLine]
 fn left_behind(left: u32, event: &WorldEvent) -> Option<u32>
     ensures { result ≡ left_behind left (is_opened event.now) }
 {
-    if is_opened(event) {
+    if event.is_opened() {
         left.checked_sub(1)
     } else {
         Some(left)

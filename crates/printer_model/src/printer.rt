@@ -207,7 +207,7 @@ fn ran_line(advanced: bool, free: u8, entry: &Waiting) -> Ran
 }
 
 /// A line of the outside from bytes that fit one.
-pub(crate) fn line_of(bytes: &[u8]) -> Line
+pub fn line_of(bytes: &[u8]) -> Line
     requires { length bytes.now ≤ 96 }
     ensures { result.items ≡ bytes.now }
 {

@@ -10,7 +10,7 @@ ghost use Rattle.printer_model.specs.Replies.{asked_after, error_line, ok_line, 
 ghost use Rattle.printer_model.specs.declared.printer.Reason.{Reason};
 ghost use Rattle.printer_model.specs.declared.printer.Reason.TheVariants as reason;
 ghost use Rattle.printer_model.specs.Executed.{executed, is_counted, opens};
-ghost use Rattle.printer_model.specs.Link.{is_run};
+ghost use Rattle.printer_model.specs.World.{is_run};
 ghost use Rattle.printer_model.specs.Printer.{IsInTurn, IsRefusal, IsSameKind, Logged, PrinterData, judged, plain_entry, take_line};
 ghost use Rattle.printer_model.specs.World.{Grew, IsTidy, WorldData, accepted_lines, apply, is_free, moves_down, moves_printer, moves_up, world_from, world_of};
 ghost use Rattle.printer_model.specs.declared.event.WorldEvent.{WorldEvent};

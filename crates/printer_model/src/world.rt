@@ -1,7 +1,7 @@
 //! The world between host and printer: two wires, the printer, and what it ran.
 ghost use Rattle.std.specs.Prelude.{◌≡◌, ◌≤◌, ◌&&◌, true, false, [], ◌∷◌, ◌++◌, if◌then◌else◌, length, IfOk, OnOk, OnErr, MatchOption};
 ghost use Rattle.printer_model.specs.Printer.{is_full};
-ghost use Rattle.printer_model.specs.Memory.{IsFrontReply};
+ghost use Rattle.printer_model.specs.World.{IsFrontReply};
 ghost use Rattle.marlin_reply.specs.Kind.{is_chatter};
 ghost use Rattle.printer_model.specs.World.{new_world, can_happen, apply, IsStep, takes_memory};
 
@@ -51,42 +51,42 @@ impl World {
     }
 
     /// Whether a link is made.
-    pub(crate) fn is_linked(&self) -> bool
+    pub fn is_linked(&self) -> bool
         ensures { result ≡ self.now.linked }
     {
         self.linked
     }
 
     /// How many lines wait in the printer.
-    pub(crate) fn waiting(&self) -> usize
+    pub fn waiting(&self) -> usize
         ensures { result ≡ length self.now.printer.queue }
     {
         self.printer.waiting()
     }
 
     /// Whether the printer takes no line.
-    pub(crate) fn is_full(&self) -> bool
+    pub fn is_full(&self) -> bool
         ensures { result ≡ is_full self.now.printer }
     {
         self.printer.is_full()
     }
 
     /// The printer's last line number.
-    pub(crate) fn last(&self) -> u32
+    pub fn last(&self) -> u32
         ensures { result ≡ self.now.printer.last }
     {
         self.printer.last()
     }
 
     /// How many lines are on the wire to the printer.
-    pub(crate) fn coming(&self) -> usize
+    pub fn coming(&self) -> usize
         ensures { result ≡ length self.now.up }
     {
         self.up.len()
     }
 
     /// The line at the front of the wire from the printer.
-    pub(crate) fn front_reply(&self) -> Option<ReplyLine>
+    pub fn front_reply(&self) -> Option<ReplyLine>
         ensures { MatchOption result (self.now.down ≡ []) (λ reply. IsFrontReply reply.items self.now.down) }
     {
         match self.down.front() {
@@ -229,7 +229,7 @@ impl World {
     }
 
     /// The event Closed.
-    pub(crate) fn close(&mut self) -> bool
+    pub fn close(&mut self) -> bool
         ensures happened { result ≡ can_happen self.old WorldEvent.Closed }
         ensures after { self.new ≡ apply self.old WorldEvent.Closed }
     {

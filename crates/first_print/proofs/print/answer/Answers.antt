@@ -5,7 +5,7 @@ use Rattle.marlin_reply.specs.declared.reply.Reply.{Reply}
 use Rattle.marlin_reply.specs.declared.reply.Reply.TheVariants as reply
 use Rattle.octo_outside.proofs.Told.{became_same}
 use Rattle.printer_model.specs.World.{world_of}
-use Rattle.printer_model.specs.Link.{Grows}
+use Rattle.printer_link.specs.Link.{Grows}
 use Rattle.first_print.specs.Play.{lines_of, is_ok, is_resend, IsHeardAs}
 use Rattle.first_print.specs.Leads.{Leads, Flying, Ran, AfterTurn}
 use Rattle.first_print.proofs.Carried.{line_there}

@@ -1,6 +1,6 @@
 use Rattle.std.proofs.Common.{◌≡◌, ℕ, suc, false, ◌+◌, sym, subst, arith, add-one, length}
 use Rattle.gcode_lines.specs.Job.{texts_of}
-use Rattle.printer_model.specs.Link.{Grows}
+use Rattle.printer_link.specs.Link.{Grows}
 use Rattle.first_print.specs.Play.{lines_of}
 use Rattle.first_print.specs.Leads.{Leads, Ready, Flying, Ran, HasRunAll}
 use Rattle.first_print.specs.Prompt.{IsAt, IsPromptReady}

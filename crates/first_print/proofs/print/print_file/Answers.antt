@@ -4,7 +4,7 @@ use Rattle.std.specs.List.{list_all}
 use Rattle.octo_outside.proofs.Told.{became_then, became_so, steady_not_rose}
 use Rattle.gcode_lines.specs.Job.{texts_of}
 use Rattle.printer_model.specs.World.{WorldData, world_from, world_of}
-use Rattle.printer_model.specs.Link.{IsDial, IsNothing, IsRuns}
+use Rattle.printer_link.specs.Link.{IsDial, IsNothing, IsRuns}
 use Rattle.printer_model.proofs.Laws.{world_of-append}
 use Rattle.first_print.specs.Play.{lines_of}
 use Rattle.first_print.specs.Leads.{Leads, opens_none, asks, Ready, AtEnd, end_asked, is_done, IsPrintOf}

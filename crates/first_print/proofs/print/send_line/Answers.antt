@@ -1,7 +1,7 @@
 use Rattle.std.proofs.Common.{ℕ, List, subst}
 use Rattle.gcode_lines.specs.Job.{texts_of}
 use Rattle.printer_model.specs.World.{WorldData}
-use Rattle.printer_model.specs.Link.{IsSend}
+use Rattle.printer_link.specs.Link.{IsSend}
 use Rattle.printer_model.specs.declared.event.WorldEvent.{WorldEvent}
 use Rattle.first_print.specs.Play.{lines_of}
 use Rattle.first_print.proofs.Carried.{line_there}

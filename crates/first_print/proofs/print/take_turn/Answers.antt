@@ -2,7 +2,7 @@ use Rattle.std.proofs.Common.{◌≡◌, Bool, false, refl, subst, sym, ◌∙�
 use Rattle.std.specs.Prelude.{◌||◌}
 use Rattle.gcode_lines.specs.Job.{texts_of}
 use Rattle.marlin_reply.specs.Kind.{kind_of}
-use Rattle.printer_model.specs.Link.{Grows}
+use Rattle.printer_link.specs.Link.{Grows}
 use Rattle.first_print.specs.Play.{lines_of, is_resend, IsHeardAs}
 use Rattle.first_print.specs.Leads.{Leads, Flying, AfterTurn, turn_asked}
 use Rattle.first_print.proofs.Carried.{line_there}

@@ -1,6 +1,6 @@
 use Rattle.std.proofs.Common.{◌≡◌, ◌≤◌, true, false, length}
 use Rattle.gcode_lines.specs.Job.{texts_of}
-use Rattle.printer_model.specs.Link.{Grows}
+use Rattle.printer_link.specs.Link.{Grows}
 use Rattle.first_print.specs.Play.{lines_of, line_at, IsCarried}
 use Rattle.first_print.specs.Leads.{Leads, Flying}
 use Rattle.first_print.specs.Prompt.{IsAt, IsPromptSent}

@@ -1,0 +1,233 @@
+-- What each call of a link in memory adds to its past.
+use Rattle.std.proofs.Common.{◌≡◌, ℕ, ◌≤◌, Bool, true, false, List, [], ◌∷◌, ◌++◌, length, replicate, refl, ◌∙◌, ap, subst, append_assoc, append-nil, arith}
+use Rattle.std.specs.Prelude.{Some, ◌&&◌, not, if◌then◌else◌}
+use Rattle.std.specs.List.{list_all}
+use Rattle.std.proofs.lemmas.Bool.{cond_both}
+use Rattle.std.proofs.lemmas.Bool.Decides.{nat_tests}
+use Rattle.std.proofs.lemmas.List.Folds.{list_all-append}
+use Rattle.arrayvec.specs.ArrayVec.{ArrayVec}
+use Rattle.printer_model.specs.World.{WorldData, fits_wire, world_of, world_from, apply, can_happen, is_empty, is_free}
+use Rattle.printer_link.specs.Link.{Grows, IsDial, IsRuns, IsSend, IsSendLoss, IsHeard, IsSilence, IsLoss, arrivals, dial_events, due_run, printer_events}
+use Rattle.printer_link.specs.Memory.{MemoryLinkData, called, closing_events, failed, grown, harm_events, heard, link_world, send_events, LinkRan, LinkMoved, LinkHeard, LinkQuiet, LinkReceived}
+use Rattle.printer_link.specs.declared.schedule.Fate.{Fate}
+use Rattle.printer_link.specs.declared.schedule.Fate.TheVariants.{Whole, Lost, Garbled}
+use Rattle.printer_link.specs.declared.link.Heard.{Heard}
+use Rattle.printer_link.specs.declared.link.Heard.TheVariants.{Line, Nothing}
+use Rattle.printer_model.specs.declared.event.WorldEvent.{WorldEvent}
+use Rattle.printer_model.specs.declared.event.WorldEvent.TheVariants.{Opened, Send, Run, Recv, Closed}
+use Rattle.printer_model.proofs.Laws.{world_from-push, world_of-append, world_from-linked, happens, run_out, can_open, runs_only, runs_free}
+use Rattle.printer_link.proofs.Stories.{arrivals_free}
+
+-- a told past grew by these events
+pub grows_by : (places : ℕ) (advanced : Bool) (past added now : List WorldEvent) (Kind : WorldData → List WorldEvent → Type 0) → now ≡ past ++ added → Kind (world_of places advanced past) added → Grows places advanced (Some past) (Some now) Kind
+grows_by places advanced past added now Kind is kind list e =
+    let same : list ≡ now = cc in
+    (past, added, refl, same ∙ is, kind)
+
+-- the world behind further events of a link
+pub grown_world : (l : MemoryLinkData) (added : List WorldEvent) → link_world (grown l added) ≡ world_from (link_world l) added
+grown_world l added = world_of-append l.story.places l.story.advanced l.story.past added
+
+-- a link that is made is closed by one event, another by none
+pub closing_open : (w : WorldData) → w.linked ≡ true → closing_events w ≡ Closed ∷ []
+closing_open w open_now = ap (λ (b : Bool). if b then Closed ∷ [] else []) open_now
+
+pub closing_shut : (w : WorldData) → w.linked ≡ false → closing_events w ≡ []
+closing_shut w shut = ap (λ (b : Bool). if b then Closed ∷ [] else []) shut
+
+-- the runs of a dial let a link be made
+dial_opens : (w : WorldData) (last : ℕ) → w.linked ≡ false → can_happen (world_from w (replicate (length w.printer.queue) Run)) (Opened last) ≡ true
+dial_opens w last closed =
+    can_open (world_from w (replicate (length w.printer.queue) Run)) last (world_from-linked w (replicate (length w.printer.queue) Run) (runs_free (length w.printer.queue)) ∙ closed)
+    (run_out w w.printer.queue refl)
+
+dial_is : (w : WorldData) (last : ℕ) → w.linked ≡ false → IsDial w (dial_events w last)
+dial_is w last closed =
+    record {
+      runs = replicate (length w.printer.queue) Run;
+      last = last;
+      is = refl;
+      only_runs = runs_only (length w.printer.queue);
+      opens = dial_opens w last closed;
+    }
+
+dial_linked : (w : WorldData) (last : ℕ) → w.linked ≡ false → (world_from w (dial_events w last)).linked ≡ true
+dial_linked w last closed =
+    ap (λ (v : WorldData). v.linked) (world_from-push w (replicate (length w.printer.queue) Run) (Opened last))
+    ∙ ap (λ (v : WorldData). v.linked) (happens (world_from w (replicate (length w.printer.queue) Run)) (Opened last) (dial_opens w last closed))
+
+dial_grown : (l mid new : MemoryLinkData) (last : ℕ) → mid ≡ called l → new ≡ grown mid (dial_events (link_world mid) last) → new ≡ grown (called l) (dial_events (link_world l) last)
+dial_grown l mid new last mid_is new_is = new_is ∙ ap (λ (m : MemoryLinkData). grown m (dial_events (link_world m) last)) mid_is
+
+-- a dial that made a link
+pub dial_past : (l mid new : MemoryLinkData) (last : ℕ) → mid ≡ called l → new ≡ grown mid (dial_events (link_world mid) last) → (link_world l).linked ≡ false → Grows l.story.places l.story.advanced (Some l.story.past) (Some new.story.past) IsDial
+dial_past l mid new last mid_is new_is closed =
+    grows_by l.story.places l.story.advanced l.story.past (dial_events (link_world l) last) new.story.past IsDial
+    (ap (λ (n : MemoryLinkData). n.story.past) (dial_grown l mid new last mid_is new_is))
+    (dial_is (link_world l) last closed)
+
+pub dial_up : (l mid new : MemoryLinkData) (last : ℕ) → mid ≡ called l → new ≡ grown mid (dial_events (link_world mid) last) → (link_world l).linked ≡ false → (link_world new).linked ≡ true
+dial_up l mid new last mid_is new_is closed =
+    ap (λ (n : MemoryLinkData). (link_world n).linked) (dial_grown l mid new last mid_is new_is)
+    ∙ ap (λ (w : WorldData). w.linked) (grown_world l (dial_events (link_world l) last))
+    ∙ dial_linked (link_world l) last closed
+
+-- a dial that failed
+pub dial_failed : (l mid late new : MemoryLinkData) → mid ≡ called l → LinkRan mid late → new ≡ failed late → (link_world l).linked ≡ false → Grows l.story.places l.story.advanced (Some l.story.past) (Some new.story.past) IsRuns
+dial_failed l mid late new mid_is ran new_is closed =
+    let late_is : late ≡ grown (called l) (replicate ran.count Run) = ran.is ∙ ap (λ (m : MemoryLinkData). grown m (replicate ran.count Run)) mid_is in
+    let shut : (link_world late).linked ≡ false =
+    ap (λ (n : MemoryLinkData). (link_world n).linked) late_is
+    ∙ ap (λ (w : WorldData). w.linked) (grown_world l (replicate ran.count Run))
+    ∙ world_from-linked (link_world l) (replicate ran.count Run) (runs_free ran.count)
+    ∙ closed
+    in
+    grows_by l.story.places l.story.advanced l.story.past (replicate ran.count Run) new.story.past IsRuns
+    (ap (λ (n : MemoryLinkData). n.story.past) new_is
+    ∙ ap (λ (es : List WorldEvent). late.story.past ++ es) (closing_shut (link_world late) shut)
+    ∙ append-nil late.story.past
+    ∙ ap (λ (n : MemoryLinkData). n.story.past) late_is)
+    (runs_only ran.count)
+
+-- what becomes of a line is free
+harm_free : (fate : Fate) (at : ℕ) (line : ArrayVec ℕ) → list_all is_free (harm_events fate at line) ≡ true
+harm_free Whole at line = refl
+harm_free Lost at line = refl
+harm_free Garbled at line = refl
+
+is_le : (line : ArrayVec ℕ) → length line.items ≤ 95 → fits_wire line.items ≡ true
+is_le line short = grind (arith, nat_tests)
+
+can_send : (w : WorldData) (line : ArrayVec ℕ) → w.linked ≡ true → length line.items ≤ 95 → can_happen w (Send line) ≡ true
+can_send w line open_now short =
+    ap (λ (b : Bool). b && fits_wire line.items) open_now ∙ is_le line short
+
+-- a line that was sent
+pub send_past : (l mid new : MemoryLinkData) (line : ArrayVec ℕ) (fate : Fate) → mid ≡ called l → new ≡ grown mid (send_events (link_world mid) line fate) → (link_world l).linked ≡ true → length line.items ≤ 95 → Grows l.story.places l.story.advanced (Some l.story.past) (Some new.story.past) (IsSend line.items)
+send_past l mid new line fate mid_is new_is open_now short =
+    grows_by l.story.places l.story.advanced l.story.past (send_events (link_world l) line fate) new.story.past (IsSend line.items)
+    (ap (λ (n : MemoryLinkData). n.story.past) (new_is ∙ ap (λ (m : MemoryLinkData). grown m (send_events (link_world m) line fate)) mid_is))
+    (record {
+      before = [];
+      sent = Send line;
+      behind = harm_events fate (length (link_world l).up) line;
+      is = refl;
+      line_is = refl;
+      free_before = refl;
+      free_behind = harm_free fate (length (link_world l).up) line;
+      sends = can_send (link_world l) line open_now short;
+    })
+
+-- a sending that failed
+pub send_failed : (l mid late new : MemoryLinkData) → mid ≡ called l → late ≡ mid → new ≡ failed late → (link_world l).linked ≡ true → Grows l.story.places l.story.advanced (Some l.story.past) (Some new.story.past) IsSendLoss
+send_failed l mid late new mid_is late_is new_is open_now =
+    grows_by l.story.places l.story.advanced l.story.past (Closed ∷ []) new.story.past IsSendLoss
+    (ap (λ (n : MemoryLinkData). n.story.past) (new_is ∙ ap failed (late_is ∙ mid_is))
+    ∙ ap (λ (es : List WorldEvent). l.story.past ++ es) (closing_open (link_world l) open_now))
+    (record { before = []; failing = []; behind = []; is = refl; may_send = tt; free_before = refl; free_behind = refl; linked = open_now })
+
+due_run_free : (due : Bool) (w : WorldData) → list_all is_free (due_run due w) ≡ true
+due_run_free false w = refl
+due_run_free true w =
+    cond_both (is_empty w.printer.queue) [] (Run ∷ []) (λ (es : List WorldEvent). list_all is_free es ≡ true) (λ _. refl) (λ _. refl)
+
+-- what the printer does before a receiving is free
+pub printer_free : (due : Bool) (w : WorldData) → list_all is_free (printer_events due w) ≡ true
+printer_free due w =
+    list_all-append is_free (arrivals w w.up) (due_run due (world_from w (arrivals w w.up)))
+    ∙ ap (λ (b : Bool). b && list_all is_free (due_run due (world_from w (arrivals w w.up)))) (arrivals_free w w.up)
+    ∙ due_run_free due (world_from w (arrivals w w.up))
+
+printer_linked : (due : Bool) (w : WorldData) → w.linked ≡ true → (world_from w (printer_events due w)).linked ≡ true
+printer_linked due w open_now = world_from-linked w (printer_events due w) (printer_free due w) ∙ open_now
+
+recv_linked : (w : WorldData) (reply : List ℕ) (rest : List (List ℕ)) → w.down ≡ reply ∷ rest → w.linked ≡ true → (apply w Recv).linked ≡ true
+recv_linked w reply rest front open_now =
+    let can : can_happen w Recv ≡ true = ap (λ (b : Bool). b && not (is_empty w.down)) open_now ∙ ap (λ (d : List (List ℕ)). not (is_empty d)) front in
+    ap (λ (v : WorldData). v.linked) (happens w Recv can) ∙ open_now
+
+received_linked : (due : Bool) (w : WorldData) (rest : List (List ℕ)) (reply : List ℕ) → (world_from w (printer_events due w)).down ≡ reply ∷ rest → w.linked ≡ true → (world_from w (printer_events due w ++ Recv ∷ [])).linked ≡ true
+received_linked due w rest reply front open_now =
+    ap (λ (v : WorldData). v.linked) (world_from-push w (printer_events due w) Recv)
+    ∙ recv_linked (world_from w (printer_events due w)) reply rest front (printer_linked due w open_now)
+
+-- a receiving as it starts
+abbrev pub asked : MemoryLinkData → MemoryLinkData
+asked l = heard (called l)
+
+-- the states in which a receiving starts are one
+asked_is : (l first mid : MemoryLinkData) → first ≡ called l → mid ≡ heard first → mid ≡ asked l
+asked_is l first mid first_is mid_is = mid_is ∙ ap heard first_is
+
+from_asked : (l mid new : MemoryLinkData) (due : Bool) (into : List ℕ) (got : Heard) → mid ≡ asked l → LinkReceived due into got mid new → LinkReceived due into got (asked l) new
+from_asked l mid new due into got mid_is received =
+    let At : MemoryLinkData → Type 0 = λ m. LinkReceived due into got m new in subst At mid_is received
+
+heard_grows : (l new : MemoryLinkData) (due : Bool) (into : List ℕ) → LinkHeard due into (asked l) new → (link_world l).linked ≡ true → Grows l.story.places l.story.advanced (Some l.story.past) (Some new.story.past) (IsHeard into)
+heard_grows l new due into was open_now =
+    grows_by l.story.places l.story.advanced l.story.past (printer_events due (link_world l) ++ Recv ∷ []) new.story.past (IsHeard into)
+    (ap (λ (n : MemoryLinkData). n.story.past) was.is)
+    (record {
+      before = printer_events due (link_world l);
+      reply = into;
+      rest = was.front.behind;
+      behind = [];
+      is = refl;
+      front = was.front.is;
+      linked = printer_linked due (link_world l) open_now;
+      whole = refl;
+      free_before = printer_free due (link_world l);
+      free_behind = refl;
+    })
+
+-- a line that was received
+pub heard_past : (l first mid new : MemoryLinkData) (due : Bool) (into : List ℕ) (got : Heard) → first ≡ called l → mid ≡ heard first → LinkReceived due into got mid new → (link_world l).linked ≡ true → got ≡ Line → Grows l.story.places l.story.advanced (Some l.story.past) (Some new.story.past) (IsHeard into)
+heard_past l first mid new due into Line first_is mid_is received open_now line =
+    heard_grows l new due into (from_asked l mid new due into Line (asked_is l first mid first_is mid_is) received) open_now
+heard_past l first mid new due into Nothing first_is mid_is received open_now line = absurd (cc)
+
+quiet_grows : (l new : MemoryLinkData) (due : Bool) → LinkQuiet due (asked l) new → Grows l.story.places l.story.advanced (Some l.story.past) (Some new.story.past) IsSilence
+quiet_grows l new due was =
+    grows_by l.story.places l.story.advanced l.story.past (printer_events due (link_world l)) new.story.past IsSilence (ap (λ (n : MemoryLinkData). n.story.past) was.is)
+    (record { free = printer_free due (link_world l); empty = was.empty })
+
+-- nothing was received
+pub quiet_past : (l first mid new : MemoryLinkData) (due : Bool) (into : List ℕ) (got : Heard) → first ≡ called l → mid ≡ heard first → LinkReceived due into got mid new → got ≡ Nothing → Grows l.story.places l.story.advanced (Some l.story.past) (Some new.story.past) IsSilence
+quiet_past l first mid new due into Line first_is mid_is received nothing = absurd (cc)
+quiet_past l first mid new due into Nothing first_is mid_is received nothing =
+    quiet_grows l new due (from_asked l mid new due into Nothing (asked_is l first mid first_is mid_is) received)
+
+-- the link is up behind a receiving
+pub received_up : (l first mid new : MemoryLinkData) (due : Bool) (into : List ℕ) (got : Heard) → first ≡ called l → mid ≡ heard first → LinkReceived due into got mid new → (link_world l).linked ≡ true → (link_world new).linked ≡ true
+received_up l first mid new due into Line first_is mid_is received open_now =
+    let was : LinkHeard due into (asked l) new = from_asked l mid new due into Line (asked_is l first mid first_is mid_is) received in
+    ap (λ (n : MemoryLinkData). (link_world n).linked) was.is
+    ∙ ap (λ (w : WorldData). w.linked) (grown_world l (printer_events due (link_world l) ++ Recv ∷ []))
+    ∙ received_linked due (link_world l) was.front.behind into was.front.is open_now
+received_up l first mid new due into Nothing first_is mid_is received open_now =
+    let was : LinkQuiet due (asked l) new = from_asked l mid new due into Nothing (asked_is l first mid first_is mid_is) received in
+    ap (λ (n : MemoryLinkData). (link_world n).linked) was.is
+    ∙ ap (λ (w : WorldData). w.linked) (grown_world l (printer_events due (link_world l)))
+    ∙ printer_linked due (link_world l) open_now
+
+-- a receiving that failed
+pub recv_failed : (l first mid late new : MemoryLinkData) → first ≡ called l → mid ≡ heard first → LinkMoved mid late → new ≡ failed late → (link_world l).linked ≡ true → Grows l.story.places l.story.advanced (Some l.story.past) (Some new.story.past) IsLoss
+recv_failed l first mid late new first_is mid_is moved new_is open_now =
+    let late_is : late ≡ grown (asked l) moved.added = moved.is ∙ ap (λ (m : MemoryLinkData). grown m moved.added) (asked_is l first mid first_is mid_is) in
+    let still_open : (world_from (link_world l) moved.added).linked ≡ true = world_from-linked (link_world l) moved.added moved.free ∙ open_now in
+    let late_open : (link_world late).linked ≡ true =
+    ap (λ (n : MemoryLinkData). (link_world n).linked) late_is
+    ∙ ap (λ (w : WorldData). w.linked) (grown_world l moved.added)
+    ∙ still_open
+    in
+    grows_by l.story.places l.story.advanced l.story.past (moved.added ++ Closed ∷ []) new.story.past IsLoss
+    (ap (λ (n : MemoryLinkData). n.story.past) new_is
+    ∙ ap (λ (es : List WorldEvent). late.story.past ++ es) (closing_open (link_world late) late_open)
+    ∙ ap (λ (n : MemoryLinkData). n.story.past ++ Closed ∷ []) late_is
+    ∙ append_assoc l.story.past moved.added (Closed ∷ []))
+    (record { before = moved.added; is = refl; free = moved.free; linked = still_open })
+
+-- what the printer did before a receiving for which no place was found
+pub moved_by : (l mid new : MemoryLinkData) (due : Bool) → mid ≡ grown l (printer_events due (link_world l)) → new ≡ mid → LinkMoved l new
+moved_by l mid new due mid_is new_is =
+    record { added = printer_events due (link_world l); is = new_is ∙ mid_is; free = printer_free due (link_world l) }

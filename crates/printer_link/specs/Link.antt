@@ -1,0 +1,132 @@
+-- What the calls of a link add to its past.
+use Rattle.std.specs.Prelude.{◌≡◌, ℕ, ◌+◌, Bool, true, false, if◌then◌else◌, List, [], ◌∷◌, ◌++◌, length, replicate, Option, Some, None, min}
+use Rattle.std.specs.List.{list_all}
+use Rattle.octo_outside.specs.Told.{Became}
+use Rattle.marlin_frame.specs.Frame.{fails}
+use Rattle.printer_model.specs.Printer.{is_full}
+use Rattle.printer_model.specs.World.{WorldData, is_empty, is_free, is_run, can_happen, happen, world_from, world_of}
+use Rattle.printer_model.specs.declared.event.WorldEvent.{WorldEvent}
+use Rattle.printer_model.specs.declared.event.WorldEvent.TheVariants.{Opened, Send, Arrive, Run, Recv, Closed}
+
+-- the past grew by an addition of this kind
+abbrev pub Grows : ℕ → Bool → Option (List WorldEvent) → Option (List WorldEvent) → (WorldData → List WorldEvent → Type 0) → Type 0
+Grows places advanced old new Kind = Became old new (λ past added. Kind (world_of places advanced past) added)
+
+-- the link is up exactly where the world of its past is open
+abbrev pub IsOpenAs : ℕ → Bool → Option (List WorldEvent) → Bool → Type 0
+IsOpenAs places advanced None up = Unit {0}
+IsOpenAs places advanced (Some past) up = (world_of places advanced past).linked ≡ up
+
+-- nothing happens
+abbrev pub IsNothing : WorldData → List WorldEvent → Type 0
+IsNothing w added = added ≡ []
+
+-- only runs
+abbrev pub IsRuns : WorldData → List WorldEvent → Type 0
+IsRuns w added = list_all is_run added ≡ true
+
+-- runs, and then a link is made
+pub record IsDial (w : WorldData) (added : List WorldEvent) : Type 0 where
+  pub runs : List WorldEvent
+  pub last : ℕ
+  pub is : added ≡ runs ++ Opened last ∷ []
+  pub only_runs : list_all is_run runs ≡ true
+  pub opens : can_happen (world_from w runs) (Opened last) ≡ true
+
+-- the event sends these bytes
+abbrev pub IsSendOf : List ℕ → WorldEvent → Type 0
+IsSendOf bytes (Send line) = line.items ≡ bytes
+IsSendOf bytes _ = ⊥
+
+-- a line is sent, and round it only what the line and the printer do
+pub record IsSend (line : List ℕ) (w : WorldData) (added : List WorldEvent) : Type 0 where
+  pub before : List WorldEvent
+  pub sent : WorldEvent
+  pub behind : List WorldEvent
+  pub is : added ≡ before ++ sent ∷ behind
+  pub line_is : IsSendOf line sent
+  pub free_before : list_all is_free before ≡ true
+  pub free_behind : list_all is_free behind ≡ true
+  pub sends : can_happen (world_from w before) sent ≡ true
+
+-- a reply is received whole, and round it only what the line and the printer do
+pub record IsHeard (into : List ℕ) (w : WorldData) (added : List WorldEvent) : Type 0 where
+  pub before : List WorldEvent
+  pub reply : List ℕ
+  pub rest : List (List ℕ)
+  pub behind : List WorldEvent
+  pub is : added ≡ before ++ Recv ∷ behind
+  pub front : (world_from w before).down ≡ reply ∷ rest
+  pub linked : (world_from w before).linked ≡ true
+  pub whole : into ≡ reply
+  pub free_before : list_all is_free before ≡ true
+  pub free_behind : list_all is_free behind ≡ true
+
+-- nothing was there to receive, after what the line and the printer do
+pub record IsSilence (w : WorldData) (added : List WorldEvent) : Type 0 where
+  pub free : list_all is_free added ≡ true
+  pub empty : (world_from w added).down ≡ []
+
+-- the link is closed, after what the line and the printer do
+pub record IsLoss (w : WorldData) (added : List WorldEvent) : Type 0 where
+  pub before : List WorldEvent
+  pub is : added ≡ before ++ Closed ∷ []
+  pub free : list_all is_free before ≡ true
+  pub linked : (world_from w before).linked ≡ true
+
+-- a line that fails its checksum is sent
+abbrev pub SendsFailing : WorldData → WorldEvent → Type 0
+SendsFailing w (Send line) = (fails line.items ≡ true) × (can_happen w (Send line) ≡ true)
+SendsFailing w _ = ⊥
+
+-- at most one line is sent, and it fails its checksum
+abbrev pub MaySendFailing : WorldData → List WorldEvent → Type 0
+MaySendFailing w [] = Unit {0}
+MaySendFailing w (event ∷ []) = SendsFailing w event
+MaySendFailing w _ = ⊥
+
+-- the link is closed in a send, after what the line and the printer do and perhaps a line that fails
+pub record IsSendLoss (w : WorldData) (added : List WorldEvent) : Type 0 where
+  pub before : List WorldEvent
+  pub failing : List WorldEvent
+  pub behind : List WorldEvent
+  pub is : added ≡ before ++ failing ++ behind ++ Closed ∷ []
+  pub may_send : MaySendFailing (world_from w before) failing
+  pub free_before : list_all is_free before ≡ true
+  pub free_behind : list_all is_free behind ≡ true
+  pub linked : (world_from w (before ++ failing ++ behind)).linked ≡ true
+
+-- the link is closed where it was up, and nothing else
+abbrev pub IsHangUp : Bool → WorldData → List WorldEvent → Type 0
+IsHangUp true w added = (added ≡ Closed ∷ []) × (w.linked ≡ true)
+IsHangUp false w added = added ≡ []
+
+-- the count of calls after one more, at most its type's last value
+abbrev pub counted_one : Option ℕ → Option ℕ
+counted_one None = None
+counted_one (Some calls) = Some (min (calls + 1) 18446744073709551615)
+
+-- a dial: the printer runs all that waits, and then the link is made
+abbrev pub dial_events : WorldData → ℕ → List WorldEvent
+dial_events w last = replicate (length w.printer.queue) Run ++ Opened last ∷ []
+
+-- what arrives of a wire to the printer, in order, until the queue is full
+abbrev pub arrivals : WorldData → List (List ℕ) → List WorldEvent
+arrivals w [] = []
+arrivals w (line ∷ behind) = if is_full w.printer then [] else Arrive ∷ arrivals (happen w Arrive) behind
+
+-- one run, where it is due and something waits
+abbrev pub due_run : Bool → WorldData → List WorldEvent
+due_run due w = if due then (if is_empty w.printer.queue then [] else Run ∷ []) else []
+
+-- the front of the wire from the printer is received, where there is one
+abbrev pub due_recv : WorldData → List WorldEvent
+due_recv w = if is_empty w.down then [] else Recv ∷ []
+
+-- what arrives, and then a run where it is due
+abbrev pub printer_events : Bool → WorldData → List WorldEvent
+printer_events due w = arrivals w w.up ++ due_run due (world_from w (arrivals w w.up))
+
+-- a receiving: what arrives, a run where it is due, and the front of the wire from the printer
+abbrev pub recv_events : Bool → WorldData → List WorldEvent
+recv_events due w = printer_events due w ++ due_recv (world_from w (printer_events due w))

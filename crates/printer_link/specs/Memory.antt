@@ -1,0 +1,171 @@
+-- A link in memory: its schedule, its past, and the events that each call adds.
+use Rattle.std.specs.Prelude.{◌≡◌, ◌≤◌, ℕ, ◌+◌, ◌%◌, Bool, true, false, ◌==◌, ◌&&◌, if◌then◌else◌, List, [], ◌∷◌, ◌++◌, length, replicate, min, count_by, slice_index_or}
+use Rattle.std.specs.List.{list_all, list_any}
+use Rattle.std.specs.Str.{bytes_eq}
+use Rattle.arrayvec.specs.ArrayString.{ArrayString}
+use Rattle.arrayvec.specs.ArrayVec.{ArrayVec}
+use Rattle.octo_outside.specs.Memory.{one_more}
+use Rattle.printer_model.specs.Garble.{garbled}
+use Rattle.printer_model.specs.World.{WorldData, world_from, world_of, is_empty, is_free, IsFrontReply}
+use Rattle.printer_model.specs.Executed.{is_send, is_opened}
+use Rattle.printer_link.specs.Link.{printer_events}
+use Rattle.printer_model.specs.declared.event.WorldEvent.{WorldEvent}
+use Rattle.printer_model.specs.declared.event.WorldEvent.TheVariants.{Send, Lose, Garble, Run, Recv, Closed}
+use Rattle.printer_link.specs.declared.link.Heard.{Heard}
+use Rattle.printer_link.specs.declared.link.Heard.TheVariants.{Line, Nothing}
+use Rattle.printer_link.specs.declared.schedule.Schedule.{Schedule}
+use Rattle.printer_link.specs.declared.schedule.Fate.{Fate}
+use Rattle.printer_link.specs.declared.schedule.Fate.TheVariants.{Whole, Lost, Garbled}
+
+-- a past over a printer, with the fates of the lines that are sent in it
+pub record StoryData : Type 0 where
+  pub places : ℕ
+  pub advanced : Bool
+  pub fates : List Fate
+  pub past : List WorldEvent
+
+-- a link in memory; the last number is the printer's at the first session
+pub record MemoryLinkData : Type 0 where
+  pub story : StoryData
+  pub names : List ArrayString
+  pub last : ℕ
+  pub slow : ℕ
+  pub fail_at : List ℕ
+  pub calls : ℕ
+  pub recvs : ℕ
+  pub faults : ℕ
+
+-- the world at the end of a past
+abbrev pub story_world : StoryData → WorldData
+story_world s = world_of s.places s.advanced s.past
+
+-- a past with further events
+abbrev pub with_events : StoryData → List WorldEvent → StoryData
+with_events s events = record s { past = s.past ++ events }
+
+-- how many lines were sent
+abbrev pub sends : List WorldEvent → ℕ
+sends past = count_by is_send past
+
+-- the fate of the next line, by its number; behind the last fate all are whole
+abbrev pub next_fate : StoryData → Fate
+next_fate s = slice_index_or s.fates (sends s.past) Whole
+
+-- what becomes of the line at a place
+abbrev pub harm_events : Fate → ℕ → ArrayVec ℕ → List WorldEvent
+harm_events Whole at line = []
+harm_events Lost at line = Lose at ∷ []
+harm_events Garbled at line = Garble at (record { items = garbled line.items }) ∷ []
+
+-- a sending: the line, and what becomes of it
+abbrev pub send_events : WorldData → ArrayVec ℕ → Fate → List WorldEvent
+send_events w line fate = Send line ∷ harm_events fate (length w.up) line
+
+-- all that waits is run
+abbrev pub queue_runs : WorldData → List WorldEvent
+queue_runs w = replicate (length w.printer.queue) Run
+
+-- the number that the printer has where a link is made: the given one at the first, then its own
+abbrev pub opening_last : StoryData → ℕ → ℕ
+opening_last s first =
+    if list_any is_opened s.past then (world_from (story_world s) (queue_runs (story_world s))).printer.last else first
+
+-- a link that is made is closed
+abbrev pub closing_events : WorldData → List WorldEvent
+closing_events w = if w.linked then Closed ∷ [] else []
+
+-- only runs were added
+pub record RunsOnly (old new : StoryData) : Type 0 where
+  pub count : ℕ
+  pub is : new ≡ with_events old (replicate count Run)
+
+-- only events of the line and the printer were added
+pub record FreeOnly (old new : StoryData) : Type 0 where
+  pub added : List WorldEvent
+  pub is : new ≡ with_events old added
+  pub free : list_all is_free added ≡ true
+
+-- what is kept beside a past: its world, and the place of the next fate
+pub record IsKept (places : ℕ) (advanced : Bool) (fates : List Fate) (past : List WorldEvent) (world : WorldData) (next : ℕ) : Type 0 where
+  pub some : 1 ≤ places
+  pub few : places ≤ 16
+  pub world_is : world ≡ world_of places advanced past
+  pub next_is : next ≡ min (sends past) (length fates)
+
+-- the world of a link
+abbrev pub link_world : MemoryLinkData → WorldData
+link_world l = story_world l.story
+
+-- whether a name is listed
+abbrev pub lists_name : List ArrayString → List ℕ → Bool
+lists_name names name = list_any (λ (listed : ArrayString). bytes_eq listed.bytes name) names
+
+-- whether the receiving of this number lets the printer run a line
+abbrev pub is_due : ℕ → ℕ → Bool
+is_due slow recvs = recvs % (slow + 1) == 0
+
+-- a link that nothing was asked of
+abbrev pub new_link : Schedule → MemoryLinkData
+new_link schedule =
+    record {
+      story = record { places = schedule.places; advanced = schedule.advanced; fates = schedule.fates; past = [] };
+      names = schedule.names;
+      last = schedule.last;
+      slow = schedule.slow;
+      fail_at = schedule.fail_at;
+      calls = 0;
+      recvs = 0;
+      faults = 0;
+    }
+
+-- a call was counted
+abbrev pub called : MemoryLinkData → MemoryLinkData
+called l = record l { calls = one_more l.calls }
+
+-- events were added
+abbrev pub grown : MemoryLinkData → List WorldEvent → MemoryLinkData
+grown l events = record l { story = with_events l.story events }
+
+-- a failure was counted and the link is down
+abbrev pub failed : MemoryLinkData → MemoryLinkData
+failed l = record (grown l (closing_events (link_world l))) { faults = one_more l.faults }
+
+-- a receiving was counted
+abbrev pub heard : MemoryLinkData → MemoryLinkData
+heard l = record l { recvs = one_more l.recvs }
+
+-- whether a fate is to arrive whole
+abbrev pub is_whole : Fate → Bool
+is_whole Whole = true
+is_whole Lost = false
+is_whole Garbled = false
+
+-- whether each line arrives whole, is run at the next receiving, and no call fails
+abbrev pub is_prompt : MemoryLinkData → Bool
+is_prompt l = list_all is_whole l.story.fates && (l.slow == 0 && is_empty l.fail_at)
+
+-- a link that only let the printer run
+pub record LinkRan (old new : MemoryLinkData) : Type 0 where
+  pub count : ℕ
+  pub is : new ≡ grown old (replicate count Run)
+
+-- a link on which only the line and the printer did something
+pub record LinkMoved (old new : MemoryLinkData) : Type 0 where
+  pub added : List WorldEvent
+  pub is : new ≡ grown old added
+  pub free : list_all is_free added ≡ true
+
+-- a line was received behind what the printer did
+pub record LinkHeard (due : Bool) (into : List ℕ) (old new : MemoryLinkData) : Type 0 where
+  pub is : new ≡ grown old (printer_events due (link_world old) ++ Recv ∷ [])
+  pub front : IsFrontReply into (world_from (link_world old) (printer_events due (link_world old))).down
+
+-- nothing came behind what the printer did
+pub record LinkQuiet (due : Bool) (old new : MemoryLinkData) : Type 0 where
+  pub is : new ≡ grown old (printer_events due (link_world old))
+  pub empty : (world_from (link_world old) (printer_events due (link_world old))).down ≡ []
+
+-- a receiving that didn't fail
+abbrev pub LinkReceived : Bool → List ℕ → Heard → MemoryLinkData → MemoryLinkData → Type 0
+LinkReceived due into Line old new = LinkHeard due into old new
+LinkReceived due into Nothing old new = LinkQuiet due old new

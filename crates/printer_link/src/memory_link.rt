@@ -1,0 +1,344 @@
+//! A link to the printer in memory, which loses, garbles and fails by a schedule.
+ghost use Rattle.std.specs.Prelude.{◌≡◌, ◌≤◌, ◌∷◌, ◌++◌, [], true, false, IfOk, OnOk, OnErr, ◌↔◌, ℕ, IsErr, IsErrOf, Err, is_some, Some, length, count_by};
+ghost use Rattle.octo_outside.specs.Memory.{one_more, is_listed};
+ghost use Rattle.octo_outside.specs.Told.{Rose};
+ghost use Rattle.printer_model.specs.Executed.{executed, is_loss};
+ghost use Rattle.printer_model.specs.World.{IsFrontReply};
+ghost use Rattle.printer_link.specs.Memory.{called, closing_events, failed, grown, heard, is_due, is_prompt, lists_name, link_world, new_link, next_fate, opening_last, send_events, sends, LinkMoved, LinkRan, LinkReceived};
+ghost use Rattle.printer_link.specs.Link.{Grows, IsDial, IsHangUp, IsHeard, IsLoss, IsNothing, IsOpenAs, IsRuns, IsSend, IsSendLoss, IsSendOf, IsSilence, counted_one, dial_events, printer_events, recv_events};
+ghost use Rattle.printer_model.specs.declared.event.WorldEvent.{WorldEvent};
+ghost use Rattle.printer_model.specs.declared.event.WorldEvent.TheVariants as event;
+ghost use Rattle.printer_link.specs.declared.link.Heard.TheVariants as heard_as;
+ghost use Rattle.printer_link.specs.declared.link.LinkFault.TheVariants as fault;
+
+use crate::link::{Heard, Link, LinkFault};
+use crate::schedule::Schedule;
+use crate::story::Story;
+use octo_outside::{CallList, Line, NameList, ReplyLine};
+use printer_model::Executed;
+use std::alloc::{AllocError, Global};
+use std::marker::Model;
+
+/// A link to a printer in memory. It tells its past.
+#[derive(Drop)]
+pub struct MemoryLink {
+    alloc: Global,
+    story: Story,
+    names: NameList,
+    last: u32,
+    slow: u32,
+    fail_at: CallList,
+    calls: u64,
+    recvs: u64,
+    faults: u64,
+}
+
+impl Model for MemoryLink {
+    ghost use Rattle.std.specs.Prelude.{◌≤◌};
+    ghost use Rattle.printer_link.specs.Memory.{MemoryLinkData};
+
+    ghost Value = { MemoryLinkData };
+
+    ghost view = { λ l. record { story = l.story; names = l.names; last = l.last; slow = l.slow; fail_at = l.fail_at; calls = l.calls; recvs = l.recvs; faults = l.faults } };
+
+    ghost invariant = { λ l. (1 ≤ l.story.places) × (l.story.places ≤ 16) };
+}
+
+impl MemoryLink {
+    /// A link that does as the schedule says, to a printer of 1 to 16 places that has run nothing.
+    pub fn new(alloc: Global, schedule: Schedule) -> Result<Self, AllocError>
+        requires some { 1 ≤ schedule.places }
+        requires few { schedule.places ≤ 16 }
+        ensures { IfOk result (λ l. l ≡ new_link schedule) }
+    {
+        let Schedule {
+            names,
+            last,
+            places,
+            advanced,
+            fates,
+            slow,
+            fail_at,
+        } = schedule;
+        Ok(MemoryLink {
+            alloc,
+            story: Story::new(alloc, places, advanced, fates),
+            names,
+            last,
+            slow,
+            fail_at,
+            calls: 0,
+            recvs: 0,
+            faults: 0,
+        })
+    }
+
+    /// Whether a link is made.
+    pub fn is_up(&self) -> bool
+        ensures { result ≡ (link_world self.now).linked }
+    {
+        self.story.world().is_linked()
+    }
+
+    /// How many lines were sent.
+    pub fn sends(&self) -> u64
+        ensures { result ≡ sends self.now.story.past }
+    {
+        self.story
+            .past()
+            .iter()
+            .filter(|event| event.is_send())
+            .count() as u64
+    }
+
+    /// How many lines were lost or garbled.
+    pub fn losses(&self) -> u64
+        ensures { result ≡ count_by is_loss self.now.story.past }
+    {
+        self.story
+            .past()
+            .iter()
+            .filter(|event| event.is_loss())
+            .count() as u64
+    }
+
+    /// The lines that the printer ran in a session, counted from 1, without those of number 0.
+    pub fn executed(&self, session: u32) -> Result<Executed, AllocError>
+        ensures { IfOk result (λ e. e ≡ executed self.now.story.places self.now.story.advanced self.now.story.past session) }
+    {
+        Executed::of_session(
+            self.alloc,
+            self.story.places(),
+            self.story.advanced(),
+            self.story.past(),
+            session,
+        )
+    }
+
+    /// Counts a call, and says whether it is one of those that fail.
+    fn begin(&mut self) -> bool
+        ensures fails { result ≡ is_listed self.old.fail_at (one_more self.old.calls) }
+        ensures counts { self.new ≡ called self.old }
+    {
+        self.calls = self.calls.saturating_add(1);
+        let call = self.calls;
+        self.fail_at.as_slice().iter().any(|listed| *listed == call)
+    }
+
+    /// Counts a receiving, and says whether the printer runs a line at it.
+    fn begin_recv(&mut self) -> bool
+        ensures due { result ≡ is_due self.old.slow (one_more self.old.recvs) }
+        ensures counts { self.new ≡ heard self.old }
+    {
+        self.recvs = self.recvs.saturating_add(1);
+        self.recvs % (u64::from(self.slow) + 1) == 0
+    }
+
+    /// Counts a failure, and closes the link where one is made.
+    fn fail(&mut self) -> LinkFault
+        ensures fault { result ≡ fault.Failed }
+        ensures after { self.new ≡ failed self.old }
+        ensures counted { self.old.faults ≤ self.new.faults }
+        ensures rose { Rose self.old.faults self.new.faults }
+    {
+        self.story.close();
+        self.faults = self.faults.saturating_add(1);
+        LinkFault::Failed
+    }
+
+    /// Whether a name is listed.
+    fn lists(&self, name: &str) -> bool
+        ensures lists { result ≡ lists_name self.now.names name.now }
+        ensures some { 1 ≤ self.now.story.places }
+        ensures few { self.now.story.places ≤ 16 }
+    {
+        self.names
+            .as_slice()
+            .iter()
+            .any(|listed| listed.as_str() == name)
+    }
+
+    /// The printer runs all that waits, and a link is made; `fails` gives up at once.
+    fn make_link(&mut self, fails: bool) -> Result<(), AllocError>
+        ensures ok { OnOk result (self.new ≡ grown self.old (dial_events (link_world self.old) (opening_last self.old.story self.old.last))) }
+        ensures err { OnErr result (LinkRan self.old self.new) }
+        ensures fails { fails ≡ true → IsErr result × (self.new ≡ self.old) }
+    {
+        if fails {
+            return Err(AllocError);
+        }
+        self.story.dial(self.last)
+    }
+
+    /// A line is sent and meets its fate; `fails` gives up at once.
+    fn transmit(&mut self, fails: bool, line: &Line) -> Result<(), AllocError>
+        ensures ok { OnOk result (self.new ≡ grown self.old (send_events (link_world self.old) line.now (next_fate self.old.story))) }
+        ensures err { OnErr result (self.new ≡ self.old) }
+        ensures fails { fails ≡ true → IsErr result }
+    {
+        if fails {
+            return Err(AllocError);
+        }
+        self.story.send(line)
+    }
+
+    /// The printer does what it does before a receiving.
+    fn let_print(&mut self, due: bool) -> Result<(), AllocError>
+        ensures ok { OnOk result (self.new ≡ grown self.old (printer_events due (link_world self.old))) }
+        ensures err { OnErr result (LinkMoved self.old self.new) }
+    {
+        self.story.let_print(due)
+    }
+
+    /// Takes the front of the wire from the printer, where there is one.
+    fn take_front(&mut self, into: &mut ReplyLine) -> Result<Heard, AllocError>
+        ensures line { IfOk result (λ got. got ≡ heard_as.Line → (self.new ≡ grown self.old (event.Recv ∷ [])) × IsFrontReply into.new.items (link_world self.old).down) }
+        ensures nothing { IfOk result (λ got. got ≡ heard_as.Nothing → (self.new ≡ self.old) × ((link_world self.old).down ≡ [])) }
+        ensures err { OnErr result (self.new ≡ self.old) }
+    {
+        self.story.receive(into)
+    }
+
+    /// The printer does what is due, and its next reply is taken; `fails` gives up at once.
+    fn take_reply(
+        &mut self,
+        fails: bool,
+        due: bool,
+        into: &mut ReplyLine,
+    ) -> Result<Heard, AllocError>
+        ensures ok { IfOk result (λ got. LinkReceived due into.new.items got self.old self.new) }
+        ensures err { OnErr result (LinkMoved self.old self.new) }
+        ensures fails { fails ≡ true → IsErr result × (self.new ≡ self.old) }
+    {
+        if fails {
+            return Err(AllocError);
+        }
+        self.let_print(due)?;
+        self.take_front(into)
+    }
+}
+
+impl Link for MemoryLink {
+    ghost past = { λ l. Some l.story.past };
+
+    ghost places = { λ l. l.story.places };
+
+    ghost advanced = { λ l. l.story.advanced };
+
+    ghost calls = { λ l. Some l.calls };
+
+    ghost listed = { λ l. lists_name l.names };
+
+    ghost up = { λ l. (link_world l).linked };
+
+    ghost prompt = { is_prompt };
+
+    ghost faults = { λ l. l.faults };
+
+    fn dial(&mut self, name: &str) -> Result<(), LinkFault>
+        requires { (link_world self.old).linked ≡ false }
+        ensures adds { OnOk result (self.new ≡ grown (called self.old) (dial_events (link_world self.old) (opening_last self.old.story self.old.last))) }
+        ensures adds_nothing { IsErrOf result fault.NoPort → self.new ≡ called self.old }
+        ensures fails { is_listed self.old.fail_at (one_more self.old.calls) ≡ true → lists_name self.old.names name.now ≡ true → (result ≡ Err fault.Failed) × (self.new ≡ failed (called self.old)) }
+        ensures past { OnOk result (Grows self.old.story.places self.old.story.advanced (Some self.old.story.past) (Some self.new.story.past) IsDial) }
+        ensures past_no_port { IsErrOf result fault.NoPort → Grows self.old.story.places self.old.story.advanced (Some self.old.story.past) (Some self.new.story.past) IsNothing }
+        ensures past_failed { IsErrOf result fault.Failed → Grows self.old.story.places self.old.story.advanced (Some self.old.story.past) (Some self.new.story.past) IsRuns }
+        ensures past_prompt { is_prompt self.old ≡ true → OnOk result (Grows self.old.story.places self.old.story.advanced (Some self.old.story.past) (Some self.new.story.past) (λ w added. (last : ℕ) × (added ≡ dial_events w last))) }
+        ensures no_port { IsErrOf result fault.NoPort ↔ (lists_name self.old.names name.now ≡ false) }
+        ensures up { OnOk result ((link_world self.new).linked ≡ true) }
+        ensures down { OnErr result ((link_world self.new).linked ≡ false) }
+        ensures open { IsOpenAs self.new.story.places self.new.story.advanced (Some self.new.story.past) (link_world self.new).linked }
+        ensures told { is_some (Some self.new.story.past) ≡ is_some (Some self.old.story.past) }
+        ensures some { 1 ≤ self.new.story.places }
+        ensures few { self.new.story.places ≤ 16 }
+        ensures places { self.new.story.places ≡ self.old.story.places }
+        ensures advanced { self.new.story.advanced ≡ self.old.story.advanced }
+        ensures listed { lists_name self.new.names ≡ lists_name self.old.names }
+        ensures prompt { is_prompt self.new ≡ is_prompt self.old }
+        ensures calls { Some self.new.calls ≡ counted_one (Some self.old.calls) }
+        ensures counted { self.old.faults ≤ self.new.faults }
+        ensures failed { IsErrOf result fault.Failed → Rose self.old.faults self.new.faults }
+    {
+        let fails = self.begin();
+        if !self.lists(name) {
+            return Err(LinkFault::NoPort);
+        }
+        match self.make_link(fails) {
+            Ok(()) => Ok(()),
+            Err(AllocError) => Err(self.fail()),
+        }
+    }
+
+    fn send(&mut self, line: &Line) -> Result<(), LinkFault>
+        requires open { (link_world self.old).linked ≡ true }
+        requires short { length line.now.items ≤ 95 }
+        ensures adds { OnOk result (self.new ≡ grown (called self.old) (send_events (link_world self.old) line.now (next_fate self.old.story))) }
+        ensures adds_closed { OnErr result (self.new ≡ failed (called self.old)) }
+        ensures fails { is_listed self.old.fail_at (one_more self.old.calls) ≡ true → result ≡ Err fault.Failed }
+        ensures past { OnOk result (Grows self.old.story.places self.old.story.advanced (Some self.old.story.past) (Some self.new.story.past) (IsSend line.now.items)) }
+        ensures past_failed { OnErr result (Grows self.old.story.places self.old.story.advanced (Some self.old.story.past) (Some self.new.story.past) IsSendLoss) }
+        ensures past_prompt { is_prompt self.old ≡ true → OnOk result (Grows self.old.story.places self.old.story.advanced (Some self.old.story.past) (Some self.new.story.past) (λ w added. (sent : WorldEvent) × (added ≡ sent ∷ []) × IsSendOf line.now.items sent)) }
+        ensures no_port { IsErrOf result fault.NoPort → ⊥ }
+        ensures up { OnOk result ((link_world self.new).linked ≡ true) }
+        ensures down { OnErr result ((link_world self.new).linked ≡ false) }
+        ensures open { IsOpenAs self.new.story.places self.new.story.advanced (Some self.new.story.past) (link_world self.new).linked }
+        ensures told { is_some (Some self.new.story.past) ≡ is_some (Some self.old.story.past) }
+        ensures places { self.new.story.places ≡ self.old.story.places }
+        ensures advanced { self.new.story.advanced ≡ self.old.story.advanced }
+        ensures listed { lists_name self.new.names ≡ lists_name self.old.names }
+        ensures prompt { is_prompt self.new ≡ is_prompt self.old }
+        ensures calls { Some self.new.calls ≡ counted_one (Some self.old.calls) }
+        ensures counted { self.old.faults ≤ self.new.faults }
+        ensures failed { OnErr result (Rose self.old.faults self.new.faults) }
+    {
+        let fails = self.begin();
+        match self.transmit(fails, line) {
+            Ok(()) => Ok(()),
+            Err(AllocError) => Err(self.fail()),
+        }
+    }
+
+    fn recv(&mut self, into: &mut ReplyLine) -> Result<Heard, LinkFault>
+        requires { (link_world self.old).linked ≡ true }
+        ensures adds { IfOk result (λ got. LinkReceived (is_due self.old.slow (one_more self.old.recvs)) into.new.items got (heard (called self.old)) self.new) }
+        ensures fails { is_listed self.old.fail_at (one_more self.old.calls) ≡ true → (result ≡ Err fault.Failed) × (self.new ≡ failed (heard (called self.old))) }
+        ensures past { IfOk result (λ got. got ≡ heard_as.Line → Grows self.old.story.places self.old.story.advanced (Some self.old.story.past) (Some self.new.story.past) (IsHeard into.new.items)) }
+        ensures past_nothing { IfOk result (λ got. got ≡ heard_as.Nothing → Grows self.old.story.places self.old.story.advanced (Some self.old.story.past) (Some self.new.story.past) IsSilence) }
+        ensures past_failed { OnErr result (Grows self.old.story.places self.old.story.advanced (Some self.old.story.past) (Some self.new.story.past) IsLoss) }
+        ensures past_prompt { is_prompt self.old ≡ true → OnOk result (Grows self.old.story.places self.old.story.advanced (Some self.old.story.past) (Some self.new.story.past) (λ w added. added ≡ recv_events true w)) }
+        ensures no_port { IsErrOf result fault.NoPort → ⊥ }
+        ensures up { OnOk result ((link_world self.new).linked ≡ true) }
+        ensures down { OnErr result ((link_world self.new).linked ≡ false) }
+        ensures open { IsOpenAs self.new.story.places self.new.story.advanced (Some self.new.story.past) (link_world self.new).linked }
+        ensures told { is_some (Some self.new.story.past) ≡ is_some (Some self.old.story.past) }
+        ensures places { self.new.story.places ≡ self.old.story.places }
+        ensures advanced { self.new.story.advanced ≡ self.old.story.advanced }
+        ensures listed { lists_name self.new.names ≡ lists_name self.old.names }
+        ensures prompt { is_prompt self.new ≡ is_prompt self.old }
+        ensures calls { Some self.new.calls ≡ counted_one (Some self.old.calls) }
+        ensures counted { self.old.faults ≤ self.new.faults }
+        ensures failed { OnErr result (Rose self.old.faults self.new.faults) }
+    {
+        let fails = self.begin();
+        let due = self.begin_recv();
+        match self.take_reply(fails, due, into) {
+            Ok(got) => Ok(got),
+            Err(AllocError) => Err(self.fail()),
+        }
+    }
+
+    fn hang_up(&mut self)
+        ensures adds { self.new ≡ grown self.old (closing_events (link_world self.old)) }
+        ensures past { Grows self.old.story.places self.old.story.advanced (Some self.old.story.past) (Some self.new.story.past) (IsHangUp (link_world self.old).linked) }
+        ensures down { (link_world self.new).linked ≡ false }
+        ensures told { is_some (Some self.new.story.past) ≡ is_some (Some self.old.story.past) }
+        ensures places { self.new.story.places ≡ self.old.story.places }
+        ensures advanced { self.new.story.advanced ≡ self.old.story.advanced }
+        ensures listed { lists_name self.new.names ≡ lists_name self.old.names }
+        ensures prompt { is_prompt self.new ≡ is_prompt self.old }
+        ensures calls { self.new.calls ≡ self.old.calls }
+        ensures faults { self.new.faults ≡ self.old.faults }
+    {
+        self.story.close();
+    }
+}

@@ -1,0 +1,30 @@
+//! A line that was changed on its way.
+ghost use Rattle.std.specs.Prelude.{◌≡◌};
+ghost use Rattle.printer_model.specs.Garble.{next_digit, garbled};
+
+use crate::printer::line_of;
+use octo_outside::Line;
+
+/// The next digit, with 0 behind 9; another byte stays.
+#[tactic(auto, unfolding(crate::specs::Garble::next_digit))]
+fn next_digit(byte: u8) -> u8
+    ensures { result ≡ next_digit byte }
+{
+    if byte.is_ascii_digit() {
+        b'0' + (byte - b'0' + 1) % 10
+    } else {
+        byte
+    }
+}
+
+/// The line whose last byte became the next digit.
+#[tactic(auto, unfolding(crate::specs::Garble::garbled))]
+pub fn garbled(line: &Line) -> Line
+    ensures { result.items ≡ garbled line.now.items }
+{
+    let mut copy = line_of(line.as_slice());
+    if let Some(last) = copy.as_mut_slice().last_mut() {
+        *last = next_digit(*last);
+    }
+    copy
+}
