@@ -1,2 +1,4 @@
 pub mod Places
 pub mod Pieces
+pub mod Coming
+pub mod Steps

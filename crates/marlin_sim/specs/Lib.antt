@@ -1,4 +1,3 @@
-pub mod Garble
 pub mod Lines
 pub mod Plan
 pub mod Run

@@ -3,7 +3,7 @@ use Rattle.std.specs.Prelude.{ℕ, suc, ◌-◌, Bool, ◌==◌, if◌then◌els
 use Rattle.std.specs.Char.{is_ascii_digit}
 use Rattle.std.specs.List.{slice_split}
 use Rattle.octo_outside.specs.Memory.{is_listed}
-use Rattle.marlin_sim.specs.Garble.{garbled}
+use Rattle.printer_model.specs.Garble.{garbled}
 use Rattle.marlin_sim.specs.declared.plan.SimPlan.{SimPlan}
 
 -- whether a byte ends a line

@@ -1,7 +1,7 @@
 -- A run of the printer over the lines of an input, and what is written and printed of it.
 use Rattle.std.specs.Prelude.{◌≡◌, ℕ, Bool, true, false, List, [], ◌∷◌, ◌++◌, codes, decimal, Option, Some, None}
 use Rattle.std.specs.List.{list_all, flat_map}
-use Rattle.printer_model.specs.Printer.{Logged}
+use Rattle.printer_model.specs.Printer.{PrinterData, Logged}
 use Rattle.printer_model.specs.World.{WorldData, world_from}
 use Rattle.printer_model.specs.declared.event.WorldEvent.{WorldEvent}
 use Rattle.printer_model.specs.declared.event.WorldEvent.TheVariants.{Arrive, Run}
@@ -25,6 +25,10 @@ first_world plan input =
       down = [];
     }
 
+-- an open link to a printer, with these lines on the wires
+abbrev pub world_at : PrinterData → List Logged → List (List ℕ) → List (List ℕ) → WorldData
+world_at printer log up down = record { linked = true; printer = printer; log = log; up = up; down = down }
+
 -- steps of the printer over the input lead to this world
 pub record IsRunOf (plan : SimPlan) (input : List ℕ) (w : WorldData) : Type 0 where
   pub events : List WorldEvent
@@ -40,17 +44,22 @@ pub record IsOver (w : WorldData) : Type 0 where
 abbrev pub ended : List ℕ → List ℕ
 ended line = line ++ 10 ∷ []
 
+-- the number of an executed line as it is printed before it, where there is one
+abbrev pub number_text : Option ℕ → List ℕ
+number_text None = []
+number_text (Some n) = codes "N" ++ decimal n ++ codes " "
+
 -- an executed line as it is printed
 abbrev pub printed_line : Logged → List ℕ
 printed_line line = number_text line.number ++ ended line.text
-  where
-    number_text : Option ℕ → List ℕ
-    number_text None = []
-    number_text (Some n) = codes "N" ++ decimal n ++ codes " "
+
+-- what is written first
+abbrev pub start_text : List ℕ
+start_text = codes "start\n"
 
 -- what is written in a run: `start`, and then the replies
 abbrev pub written_text : WorldData → List ℕ
-written_text w = codes "start\n" ++ flat_map ended w.down
+written_text w = start_text ++ flat_map ended w.down
 
 -- what is printed of it: the executed lines
 abbrev pub printed_text : WorldData → List ℕ

@@ -4,5 +4,6 @@
 mod cuts;
 mod lines;
 mod plan;
+mod sim;
 
 fn main() {}
