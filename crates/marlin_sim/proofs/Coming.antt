@@ -1,11 +1,11 @@
 -- What is to arrive, before and after bytes were received.
-use Rattle.std.proofs.Common.{◌≡◌, ⊎_elim, ℕ, zero, suc, ◌+◌, ◌<◌, ◌≤◌, min, Bool, true, false, not, cond, List, [], ◌∷◌, ◌++◌, take, length, map, refl, sym, ◌∙◌, ap, append_assoc, arith}
+use Rattle.std.proofs.Common.{◌≡◌, ⊎_elim, ℕ, zero, suc, ◌+◌, ◌<◌, ◌≤◌, min, Bool, true, false, cond, List, [], ◌∷◌, ◌++◌, take, length, refl, sym, ◌∙◌, ap, append_assoc, arith}
 use Rattle.std.proofs.lemmas.Bool.{cases_lt, and_parts}
-use Rattle.std.proofs.lemmas.List.{take_all, take-append-le}
+use Rattle.std.proofs.lemmas.List.{take_all}
 use Rattle.std.proofs.Math.Seq.{take-append-add}
 use Rattle.std.specs.Prelude.{◌-◌, ◌||◌}
-use Rattle.std.specs.Prelude.{◌==◌, ◌&&◌, ◌⊎◌}
-use Rattle.std.specs.List.{All, slice_split, onto_first, list_all, list_any}
+use Rattle.std.specs.Prelude.{◌==◌}
+use Rattle.std.specs.List.{All, slice_split, onto_first, list_all}
 use Rattle.std.proofs.lemmas.List.Splits.{slice_split_at, slice_split-cons_no}
 use Rattle.std.proofs.lemmas.Bool.Decides.{nat_tests}
 use Rattle.octo_outside.specs.Memory.{one_more, is_listed}
@@ -19,7 +19,7 @@ split_some [] = ([], [], refl)
 split_some (byte ∷ bytes) =
     let more = split_some bytes in
     elim (ends_line byte) as (λ b. (first : List ℕ) × (pieces : List (List ℕ)) × (cond b ([] ∷ slice_split ends_line bytes) (onto_first byte (slice_split ends_line bytes)) ≡ first ∷ pieces)) [
-      true ↦ ([], slice_split ends_line bytes, refl)
+      | true ↦ ([], slice_split ends_line bytes, refl)
       | false ↦ (byte ∷ more.0, more.1, ap (onto_first byte) more.2)
     ]
 
@@ -50,7 +50,8 @@ behind-behind : (front more : List ℕ) (lines : List (List ℕ)) → behind fro
 behind-behind front more [] = refl
 behind-behind front more (line ∷ lines) = ap (λ (l : List ℕ). l ∷ lines) (sym (append_assoc front more line))
 
-behind-none : (lines : List (List ℕ)) → behind [] lines ≡ lines
+-- no bytes before lines
+pub behind-none : (lines : List (List ℕ)) → behind [] lines ≡ lines
 behind-none [] = refl
 behind-none (line ∷ lines) = refl
 

@@ -1,10 +1,10 @@
 -- Bytes cut at a mark, and their whole lines.
-use Rattle.std.proofs.Common.{◌≡◌, ℕ, ◌+◌, Bool, true, false, List, [], ◌∷◌, ◌++◌, refl, sym, ◌∙◌, ap, append_assoc}
+use Rattle.std.proofs.Common.{◌≡◌, ℕ, true, false, List, ◌∷◌, ◌++◌, ◌∙◌, ap}
 use Rattle.std.proofs.Common.{arith}
 use Rattle.std.proofs.lemmas.Bool.Decides.{nat_tests}
 use Rattle.std.specs.Prelude.{◌==◌}
-use Rattle.std.specs.List.{All, slice_split, onto_first}
-use Rattle.std.proofs.lemmas.List.Splits.{slice_split_at, slice_split_none}
+use Rattle.std.specs.List.{All, slice_split}
+use Rattle.std.proofs.lemmas.List.Splits.{slice_split_at}
 
 -- a mark is one
 pub same_mark : (mark : ℕ) → (mark == mark) ≡ true

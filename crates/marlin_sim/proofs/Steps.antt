@@ -1,22 +1,22 @@
 -- What the printer's steps leave of a run.
-use Rattle.std.proofs.Common.{◌≡◌, ◌≢◌, ⊎_elim, ℕ, zero, suc, ◌+◌, ◌*◌, ◌<◌, ◌≤◌, Bool, true, false, not, cond, List, [], ◌∷◌, ◌++◌, drop, length, length-append, refl, sym, ◌∙◌, ap, subst, append_assoc, append-nil, arith}
-use Rattle.std.specs.Prelude.{◌&&◌, Option, Some, None, Result, Ok, Err, if◌then◌else◌, nat_le, IfOk, OnOk}
+use Rattle.std.proofs.Common.{◌≡◌, ℕ, suc, ◌+◌, ◌<◌, ◌≤◌, Bool, true, false, not, List, [], ◌∷◌, ◌++◌, drop, length, length-append, refl, sym, ◌∙◌, ap, subst, append_assoc, append-nil, arith}
+use Rattle.std.specs.Prelude.{◌&&◌, Some, Result, Ok, Err, IfOk, OnOk}
 use Rattle.std.specs.List.{list_all, flat_map}
 use Rattle.std.proofs.lemmas.List.Concat.{flat_map-append}
 use Rattle.std.proofs.lemmas.Bool.{and_parts, and_from, cond_both}
 use Rattle.printer_model.specs.Printer.{PrinterData, Entry, RanLine, Logged, is_full, judged, take_judged, take_line, run_queue, run_front, logged, ran_line}
 use Rattle.printer_model.specs.Replies.{taken_replies}
-use Rattle.printer_model.specs.World.{WorldData, apply, happen, can_happen, world_from}
+use Rattle.printer_model.specs.World.{WorldData, apply}
 use Rattle.printer_model.specs.declared.event.WorldEvent.{WorldEvent}
 use Rattle.printer_model.specs.declared.event.WorldEvent.TheVariants.{Arrive, Run}
 use Rattle.printer_model.specs.declared.printer.Reason.{Reason}
 use Rattle.printer_model.specs.declared.printer.Taken.{Taken}
-use Rattle.printer_model.specs.declared.printer.Taken.TheVariants.{Accepted, Full, Refused}
+use Rattle.printer_model.specs.declared.printer.Taken.TheVariants.{Full}
 use Rattle.printer_model.proofs.Laws.{happens, world_from-push}
 use Rattle.marlin_sim.specs.declared.plan.SimPlan.{SimPlan}
 use Rattle.marlin_sim.specs.Lines.{LinesData, to_come, planned, behind, whole_lines}
 use Rattle.marlin_sim.specs.Run.{is_step, first_world, world_at, ended, start_text, printed_line}
-use Rattle.marlin_sim.specs.Sim.{SimData, Tells, Keeps, Arrived, HasRun, AfterRunning, IsStuck, work, IsIdle}
+use Rattle.marlin_sim.specs.Sim.{SimData, Tells, Keeps, Arrived, HasRun, AfterRunning, work}
 
 -- one more step
 steps_push : (events : List WorldEvent) (event : WorldEvent) → list_all is_step events ≡ true → is_step event ≡ true → list_all is_step (events ++ event ∷ []) ≡ true
@@ -59,16 +59,16 @@ arrived_tells plan input rest wrote printed old new a t =
     let up : to_come plan old.lines rest ≡ a.line ∷ (drop 1 old.lines.waiting ++ later) = ap (λ (l : List (List ℕ)). l ++ later) a.first in
     subst Told (sym a.is)
     (record {
-        events = t.events ++ Arrive ∷ [];
-        steps = steps_push t.events Arrive t.steps refl;
-        log = t.log;
-        down = t.down ++ taken_replies taken.0;
-        is = world_from-push (first_world plan input) t.events Arrive
-            ∙ ap (λ (w : WorldData). apply w Arrive) (t.is ∙ ap (λ (u : List (List ℕ)). world_at old.printer t.log u t.down) up)
-            ∙ arrive_world old.printer t.log a.line (drop 1 old.lines.waiting ++ later) t.down a.room;
-        wrote_is = added_text ended start_text t.down (taken_replies taken.0) wrote old.replies (flat_map ended (taken_replies taken.0)) t.wrote_is refl;
-        printed_is = t.printed_is;
-      })
+      events = t.events ++ Arrive ∷ [];
+      steps = steps_push t.events Arrive t.steps refl;
+      log = t.log;
+      down = t.down ++ taken_replies taken.0;
+      is = world_from-push (first_world plan input) t.events Arrive
+          ∙ ap (λ (w : WorldData). apply w Arrive) (t.is ∙ ap (λ (u : List (List ℕ)). world_at old.printer t.log u t.down) up)
+          ∙ arrive_world old.printer t.log a.line (drop 1 old.lines.waiting ++ later) t.down a.room;
+      wrote_is = added_text ended start_text t.down (taken_replies taken.0) wrote old.replies (flat_map ended (taken_replies taken.0)) t.wrote_is refl;
+      printed_is = t.printed_is;
+    })
 
 -- a line was run
 pub ran_tells : (plan : SimPlan) (input rest wrote printed : List ℕ) (old new : SimData) → HasRun old new → Tells plan input rest old wrote printed → Tells plan input rest new wrote printed
@@ -76,16 +76,16 @@ ran_tells plan input rest wrote printed old new r t =
     let Told : SimData → Type 0 = λ s. Tells plan input rest s wrote printed in
     subst Told (sym r.is)
     (record {
-        events = t.events ++ Run ∷ [];
-        steps = steps_push t.events Run t.steps refl;
-        log = t.log ++ logged r.ran ∷ [];
-        down = t.down ++ r.ran.reply ∷ [];
-        is = world_from-push (first_world plan input) t.events Run
-            ∙ ap (λ (w : WorldData). apply w Run) t.is
-            ∙ run_world old.printer t.log (to_come plan old.lines rest) t.down r.ran r.front;
-        wrote_is = added_text ended start_text t.down (r.ran.reply ∷ []) wrote old.replies (ended r.ran.reply) t.wrote_is (sym (append-nil (ended r.ran.reply)));
-        printed_is = added_text printed_line [] t.log (logged r.ran ∷ []) printed old.text (printed_line (logged r.ran)) t.printed_is (sym (append-nil (printed_line (logged r.ran))));
-      })
+      events = t.events ++ Run ∷ [];
+      steps = steps_push t.events Run t.steps refl;
+      log = t.log ++ logged r.ran ∷ [];
+      down = t.down ++ r.ran.reply ∷ [];
+      is = world_from-push (first_world plan input) t.events Run
+          ∙ ap (λ (w : WorldData). apply w Run) t.is
+          ∙ run_world old.printer t.log (to_come plan old.lines rest) t.down r.ran r.front;
+      wrote_is = added_text ended start_text t.down (r.ran.reply ∷ []) wrote old.replies (ended r.ran.reply) t.wrote_is (sym (append-nil (ended r.ran.reply)));
+      printed_is = added_text printed_line [] t.log (logged r.ran ∷ []) printed old.text (printed_line (logged r.ran)) t.printed_is (sym (append-nil (printed_line (logged r.ran))));
+    })
 
 -- what a taken line leaves of the queue and the places
 judged_queue : (p : PrinterData) (result : Result Entry Reason) → (length (take_judged p result).1.queue ≤ length p.queue + 1) × ((take_judged p result).1.places ≡ p.places)

@@ -1,5 +1,5 @@
 -- The simulator between two steps, and what a step leaves.
-use Rattle.std.specs.Prelude.{◌≡◌, ◌⊎◌, ℕ, ◌+◌, ◌*◌, ◌≤◌, Bool, true, false, List, [], ◌∷◌, ◌++◌, length, drop, Some}
+use Rattle.std.specs.Prelude.{◌≡◌, ◌⊎◌, ℕ, ◌+◌, ◌*◌, Bool, true, false, List, [], ◌∷◌, ◌++◌, length, drop, Some}
 use Rattle.std.specs.List.{list_all, flat_map}
 use Rattle.printer_model.specs.Printer.{PrinterData, RanLine, Logged, is_full, take_line, run_front, logged}
 use Rattle.printer_model.specs.Replies.{taken_replies}

@@ -2,8 +2,11 @@
 #![tactic(auto)]
 
 mod cuts;
+mod end;
 mod lines;
 mod plan;
+mod serve;
 mod sim;
+mod simulate;
 
 fn main() {}

@@ -1,9 +1,9 @@
 //! The plan of a simulation, as the words give it.
-ghost use Rattle.std.specs.Prelude.{◌≡◌, ◌≤◌, min, length, IfOk, IsTrue};
+ghost use Rattle.std.specs.Prelude.{◌≡◌, ◌≤◌, min, length, IfOk, IfSome, IsTrue};
 ghost use Rattle.std.specs.Char.{is_ascii_digit};
 ghost use Rattle.std.specs.List.{list_all, slice_split};
 ghost use Rattle.byte_text.specs.Number.{decimal_value};
-ghost use Rattle.marlin_sim.specs.Plan.{is_number, number_in, place_in, count_in, is_comma, places_above, places_in, is_address, plan_of};
+ghost use Rattle.marlin_sim.specs.Plan.{is_number, number_in, place_in, count_in, is_comma, places_above, places_in, is_address, plan_of, IsPlan};
 
 use crate::cuts::split_at_first;
 use octo_outside::{CallList, WordList};
@@ -118,8 +118,8 @@ fn read_count(word: &[u8]) -> Option<u8>
     }
 }
 
-/// The plan that the words are: `ADDRESS LAST PLACES DROP GARBLE`.
-pub fn read_plan(alloc: Global, words: &WordList) -> Result<Option<SimPlan>, AllocError>
+// The plan that the words are.
+fn plan_in(alloc: Global, words: &WordList) -> Result<Option<SimPlan>, AllocError>
     ensures { IfOk result (λ plan. plan ≡ plan_of words.now) }
 {
     if words.count() != 5 || !is_address(words.get(0)) {
@@ -151,4 +151,12 @@ fn is_address(word: &str) -> bool
     ensures { result ≡ is_address word.now }
 {
     word.len() >= 1 && word.len() <= 100
+}
+
+/// The plan that the words are: `ADDRESS LAST PLACES DROP GARBLE`.
+pub fn read_plan(alloc: Global, words: &WordList) -> Result<Option<SimPlan>, AllocError>
+    ensures value { IfOk result (λ plan. plan ≡ plan_of words.now) }
+    ensures plan { IfOk result (λ plan. IfSome plan IsPlan) }
+{
+    plan_in(alloc, words)
 }

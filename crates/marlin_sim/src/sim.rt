@@ -124,7 +124,8 @@ impl Sim {
     /// Receives bytes.
     pub fn receive(&mut self, plan: &SimPlan, bytes: &[u8]) -> Result<(), AllocError>
         requires { IsPlan plan.now }
-        ensures { OnOk result ((input rest wrote printed : List ℕ) → Tells plan.now input (bytes.now ++ rest) self.old wrote printed → Tells plan.now input rest self.new wrote printed) }
+        ensures told { OnOk result ((input rest wrote printed : List ℕ) → Tells plan.now input (bytes.now ++ rest) self.old wrote printed → Tells plan.now input rest self.new wrote printed) }
+        ensures printer { self.new.printer ≡ self.old.printer }
     {
         self.lines.receive(plan, bytes)
     }

@@ -1,5 +1,5 @@
-use Rattle.std.proofs.Common.{◌≡◌, ◌++◌, ◌∷◌, [], List, ℕ, sym, ap, ◌∙◌, append_assoc, refl}
-use Rattle.marlin_sim.specs.Lines.{to_come, LinesData, cut, arriving}
+use Rattle.std.proofs.Common.{◌≡◌, ◌++◌, ◌∷◌, List, ℕ, sym, ap, ◌∙◌, append_assoc}
+use Rattle.marlin_sim.specs.Lines.{to_come, LinesData}
 use Rattle.marlin_sim.proofs.Coming.{begun_comes, ended_comes}
 use Rattle.marlin_sim.proofs.lines.Lines.receive.Goals as goal
 

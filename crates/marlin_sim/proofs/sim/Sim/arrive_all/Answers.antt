@@ -1,5 +1,5 @@
-use Rattle.std.proofs.Common.{◌≡◌, ◌<◌, ◌≤◌, Bool, true, false, ◌∙◌, subst, arith}
-use Rattle.marlin_sim.specs.Sim.{SimData, Arrived, AfterArrival, Keeps}
+use Rattle.std.proofs.Common.{Bool, ◌∙◌, subst, arith}
+use Rattle.marlin_sim.specs.Sim.{Arrived, AfterArrival}
 use Rattle.marlin_sim.proofs.Steps.{arrived_tells, arrived_work, keeps_then}
 use Rattle.marlin_sim.proofs.sim.Sim.arrive_all.Goals as goal
 

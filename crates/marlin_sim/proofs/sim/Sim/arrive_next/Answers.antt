@@ -1,4 +1,4 @@
-use Rattle.std.proofs.Common.{◌≡◌, subst}
+use Rattle.std.proofs.Common.{subst}
 use Rattle.marlin_sim.specs.Sim.{SimData, Arrived}
 use Rattle.marlin_sim.proofs.Steps.{arrived_of, sim_of}
 use Rattle.marlin_sim.proofs.sim.Sim.arrive_next.Goals as goal
