@@ -8,6 +8,7 @@ mod report;
 mod run;
 #[cfg(test)]
 mod tests;
+mod words;
 
 use absent::AbsentLink;
 use octo_outside::{FileSource, MemoryClock, StdSink, WordList};
