@@ -1,7 +1,7 @@
 //! Each call that takes memory, and the forms in memory round their failing calls.
 use crate::{
-    Blob, CallList, Clock, Failed, MemoryClock, MemorySink, MemorySource, ReadAll, Sink, Source,
-    WordList, read_all, write_all,
+    Blob, CallList, Clock, Conn, Failed, Got, MemoryClock, MemoryConn, MemorySink, MemorySource,
+    ReadAll, Sink, Source, WordList, read_all, send_all, write_all,
 };
 use std::test::Fail;
 
@@ -24,6 +24,35 @@ fn ample(rt: HostRuntime) -> Result<(), Fail> {
     let mut out = MemorySink::new(alloc, CallList::new(alloc));
     assert_eq!(rt; write_all(&mut out, b"done\n"), Ok(()));
     assert_eq!(rt; out.written(), Some(b"done\n".as_slice()));
+    let mut conn = MemoryConn::new(alloc, b"", CallList::new(alloc), CallList::new(alloc))?;
+    assert_eq!(rt; send_all(&mut conn, b"ok\n"), Ok(()));
+    assert_eq!(rt; conn.written(), Some(b"ok\n".as_slice()));
+    Ok(())
+}
+
+// The first call fails, the third finds nothing yet, and the sixth would, were anything left.
+#[test]
+fn scheduled_reads(rt: HostRuntime) -> Result<(), Fail> {
+    let alloc = rt.alloc();
+    let mut fail_at = CallList::new(alloc);
+    fail_at.push(1)?;
+    let mut quiet_at = CallList::new(alloc);
+    quiet_at.push(3)?;
+    quiet_at.push(6)?;
+    let mut conn = MemoryConn::new(alloc, b"G28\n", quiet_at, fail_at)?;
+    let mut into = [0; 3];
+    let gots = [
+        (Err(Failed), [0, 0, 0]),
+        (Ok(Got::Bytes(3)), *b"G28"),
+        (Ok(Got::Quiet), *b"G28"),
+        (Ok(Got::Bytes(1)), *b"\n28"),
+        (Ok(Got::Ended), *b"\n28"),
+        (Ok(Got::Ended), *b"\n28"),
+    ];
+    for (got, bytes) in gots {
+        assert_eq!(rt; conn.read(&mut into), got);
+        assert_eq!(rt; into, bytes);
+    }
     Ok(())
 }
 
