@@ -24,6 +24,12 @@ fn ample(rt: HostRuntime) -> Result<(), Fail> {
     let mut out = MemorySink::new(alloc, CallList::new(alloc));
     assert_eq!(rt; write_all(&mut out, b"done\n"), Ok(()));
     assert_eq!(rt; out.written(), Some(b"done\n".as_slice()));
+    Ok(())
+}
+
+#[test]
+fn ample_conn(rt: HostRuntime) -> Result<(), Fail> {
+    let alloc = rt.alloc();
     let mut conn = MemoryConn::new(alloc, b"", CallList::new(alloc), CallList::new(alloc))?;
     assert_eq!(rt; send_all(&mut conn, b"ok\n"), Ok(()));
     assert_eq!(rt; conn.written(), Some(b"ok\n".as_slice()));
