@@ -26,7 +26,7 @@ pub use memory_conn::MemoryConn;
 pub use memory_source::{MemoryFile, MemorySource};
 pub use sink::{MemorySink, Sink, StdSink, write_all};
 pub use source::{ReadAll, Source, read_all};
-pub use streams::{linger, may_come_later, write_some};
+pub use streams::{linger, may_come_later, prepare, write_some};
 pub use system_clock::SystemClock;
 pub use tcp_conn::TcpConn;
 pub use types::{Failed, Line, Name, ReplyLine, Text};

@@ -7,6 +7,9 @@ use std::io::{ErrorKind, Read, Write};
 use std::net::{OpenStream, Shutdown};
 use std::time::{Clock, Duration, Instant};
 
+// How long one call of a stream waits, in milliseconds.
+const WAIT: u64 = 10;
+
 // How long a stream that is given back drops input, in milliseconds, and how many reads that takes at most.
 const LINGER: u64 = 50;
 
@@ -17,6 +20,14 @@ const CHUNK: usize = 4096;
 
 // How often a write that would block is tried.
 const TRIES: u32 = 1000;
+
+/// Readies a stream: what is written goes out at once, and a read or a write waits for about 10 milliseconds at most.
+pub fn prepare<S: OpenStream>(stream: &S) -> io::Result<()> {
+    let wait = Some(Duration::from_millis(WAIT));
+    stream.set_nodelay(true)?;
+    stream.set_read_timeout(wait)?;
+    stream.set_write_timeout(wait)
+}
 
 /// Whether the call of a stream may be made again: it would have waited for longer than is allowed, or a signal
 /// ended it.
@@ -57,7 +68,7 @@ fn drop_some<S: Read>(stream: &mut S) -> bool {
     }
 }
 
-/// Gives a stream back that has a read timeout: shuts its writing side, and drops input until the peer closes,
+/// Gives back a stream that was readied: shuts its writing side, and drops input until the peer closes,
 /// for about 50 milliseconds at most.
 ///
 /// The system answers input behind a close by a reset, and a peer that is reset may lose what it hasn't read yet.

@@ -3,14 +3,11 @@ ghost use Rattle.std.specs.Prelude.{◌≡◌, ◌≤◌, None, IfOk};
 ghost use Rattle.octo_outside.specs.Memory.{one_more};
 ghost use Rattle.octo_outside.specs.Told.{Rose};
 
-use crate::streams::{linger, may_come_later, write_some};
+use crate::streams::{linger, may_come_later, prepare, write_some};
 use crate::{Conn, Failed, Got};
 use std::io::Read;
-use std::net::{Net, OpenListener, OpenStream, TcpListener};
-use std::time::{Clock, Duration};
-
-// How long one call of the system waits, in milliseconds.
-const WAIT: u64 = 10;
+use std::net::{Net, OpenListener, TcpListener};
+use std::time::Clock;
 
 /// A connection over TCP. It tells neither what is left nor what was written.
 #[derive(Drop)]
@@ -47,18 +44,14 @@ impl<R: Net + Drop> TcpConn<R> {
     fn over(rt: R, stream: R::Stream) -> Result<Self, Failed>
         ensures { IfOk result (λ c. c.faults ≡ 0) }
     {
-        let wait = Some(Duration::from_millis(WAIT));
-        if stream.set_nodelay(true).is_ok()
-            && stream.set_read_timeout(wait).is_ok()
-            && stream.set_write_timeout(wait).is_ok()
-        {
-            return Ok(TcpConn {
+        match prepare(&stream) {
+            Ok(()) => Ok(TcpConn {
                 rt,
                 stream,
                 faults: 0,
-            });
+            }),
+            Err(_) => Err(Failed),
         }
-        Err(Failed)
     }
 
     fn fail(&mut self) -> Failed
