@@ -15,6 +15,7 @@ pub struct TcpConn<R: Net + Drop> {
     rt: R,
     stream: R::Stream,
     faults: u64,
+    quiets: u64,
 }
 
 impl<R: Net + Drop> TcpConn<R> {
@@ -22,7 +23,7 @@ impl<R: Net + Drop> TcpConn<R> {
     ///
     /// Fails where the address can't be bound, as one that is in use or isn't this machine's.
     pub fn accept_one(rt: R, address: &str) -> Result<Self, Failed>
-        ensures { IfOk result (λ c. c.faults ≡ 0) }
+        ensures { IfOk result (λ c. (c.faults ≡ 0) × (c.quiets ≡ 0)) }
     {
         match TcpListener::bind(&rt, address) {
             Ok(listener) => TcpConn::accept(rt, &listener),
@@ -32,7 +33,7 @@ impl<R: Net + Drop> TcpConn<R> {
 
     /// Waits for the next peer of a listener.
     pub fn accept(rt: R, listener: &R::Listener) -> Result<Self, Failed>
-        ensures { IfOk result (λ c. c.faults ≡ 0) }
+        ensures { IfOk result (λ c. (c.faults ≡ 0) × (c.quiets ≡ 0)) }
     {
         match listener.accept() {
             Ok((stream, _)) => TcpConn::over(rt, stream),
@@ -42,13 +43,14 @@ impl<R: Net + Drop> TcpConn<R> {
 
     // The connection over a stream, whose calls wait for a bounded time from here on.
     fn over(rt: R, stream: R::Stream) -> Result<Self, Failed>
-        ensures { IfOk result (λ c. c.faults ≡ 0) }
+        ensures { IfOk result (λ c. (c.faults ≡ 0) × (c.quiets ≡ 0)) }
     {
         match prepare(&stream) {
             Ok(()) => Ok(TcpConn {
                 rt,
                 stream,
                 faults: 0,
+                quiets: 0,
             }),
             Err(_) => Err(Failed),
         }
@@ -56,11 +58,21 @@ impl<R: Net + Drop> TcpConn<R> {
 
     fn fail(&mut self) -> Failed
         ensures counts { self.new.faults ≡ one_more self.old.faults }
+        ensures quiets { self.new.quiets ≡ self.old.quiets }
         ensures counted { self.old.faults ≤ self.new.faults }
         ensures rose { Rose self.old.faults self.new.faults }
     {
         self.faults = self.faults.saturating_add(1);
         Failed
+    }
+
+    // A read found nothing yet.
+    fn count_quiet(&mut self)
+        ensures counts { self.new.quiets ≡ one_more self.old.quiets }
+        ensures counted { self.old.quiets ≤ self.new.quiets }
+        ensures faults { self.new.faults ≡ self.old.faults }
+    {
+        self.quiets = self.quiets.saturating_add(1);
     }
 }
 
@@ -79,12 +91,15 @@ impl<R: Net + Drop> Conn for TcpConn<R> {
 
     ghost faults = { λ c. c.faults };
 
+    ghost quiets = { λ c. c.quiets };
+
     fn read(&mut self, into: &mut [u8]) -> Result<Got, Failed> {
         match self.stream.read(into) {
             Ok(0) => Ok(Got::Ended),
             Ok(n) => Ok(Got::Bytes(n)),
             Err(error) => {
                 if may_come_later(&error) {
+                    self.count_quiet();
                     return Ok(Got::Quiet);
                 }
                 Err(self.fail())

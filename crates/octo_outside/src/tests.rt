@@ -1,8 +1,8 @@
 //! Each call that takes memory, the forms in memory round their failing calls, and the adapters over the system.
 use crate::{
     Blob, CallList, Clock, Conn, Failed, FileSource, Got, MemoryClock, MemoryConn, MemorySink,
-    MemorySource, ReadAll, Sink, Source, StdSink, SystemClock, TcpConn, WordList, read_all, send_all,
-    write_all,
+    MemorySource, ReadAll, Sink, Source, StdSink, SystemClock, TcpConn, WordList, read_all,
+    send_all, write_all,
 };
 use std::io::{Read, Write};
 use std::net::{Shutdown, TcpListener, TcpStream};
