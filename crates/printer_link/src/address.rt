@@ -1,0 +1,33 @@
+//! Names of ports over TCP.
+ghost use Rattle.std.specs.Prelude.{◌≡◌};
+ghost use Rattle.std.specs.Char.{is_ascii_digit};
+ghost use Rattle.std.specs.List.{list_all};
+ghost use Rattle.printer_link.specs.Address.{is_port, names_address};
+
+use byte_text::{number, split_at_last};
+
+// Whether all bytes are digits.
+fn all_digits(bytes: &[u8]) -> bool
+    ensures { result ≡ list_all is_ascii_digit bytes.now }
+{
+    bytes.iter().all(|byte| byte.is_ascii_digit())
+}
+
+// Whether the bytes write a port: one to five digits, at most 65,535.
+fn is_port(bytes: &[u8]) -> bool
+    ensures { result ≡ is_port bytes.now }
+{
+    all_digits(bytes) && 1 <= bytes.len() && bytes.len() <= 5 && number(bytes) <= 65_535
+}
+
+/// Whether a name is `HOST:PORT`: a host, which isn't empty, and behind the last colon a port in one to five digits,
+/// at most 65,535. A name that begins with `unix:` isn't one.
+pub fn names_address(name: &str) -> bool
+    ensures { result ≡ names_address name.now }
+{
+    let name = name.as_bytes();
+    match split_at_last(name, b':') {
+        Some((host, port)) => !host.is_empty() && is_port(port) && !name.starts_with(b"unix:"),
+        None => false,
+    }
+}
