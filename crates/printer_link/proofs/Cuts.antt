@@ -33,8 +33,8 @@ pub any_at : (p : ℕ → Bool) (xs : List ℕ) → position_or_len p xs < lengt
 any_at p [] low = absurd (omega arith)
 any_at p (x ∷ xs) low =
     elim (p x) as (λ b. cond (not b) (1 + position_or_len p xs) 0 < suc (length xs) → (b || list_any p xs) ≡ true) [
-      true ↦ (λ _. refl)
-    | false ↦ (λ less. any_at p xs (omega arith))
+      | true ↦ (λ _. refl)
+      | false ↦ (λ less. any_at p xs (omega arith))
     ] low
 
 -- no place is before the end where the test passes nowhere
@@ -42,8 +42,8 @@ pub any_nowhere : (p : ℕ → Bool) (xs : List ℕ) → length xs ≤ position_
 any_nowhere p [] high = refl
 any_nowhere p (x ∷ xs) high =
     elim (p x) as (λ b. suc (length xs) ≤ cond (not b) (1 + position_or_len p xs) 0 → (b || list_any p xs) ≡ false) [
-      true ↦ (λ more. absurd (omega arith))
-    | false ↦ (λ more. any_nowhere p xs (omega arith))
+      | true ↦ (λ more. absurd (omega arith))
+      | false ↦ (λ more. any_nowhere p xs (omega arith))
     ] high
 
 -- what is left of a window behind its first elements

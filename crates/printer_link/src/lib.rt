@@ -18,4 +18,6 @@ pub use schedule::{Fate, FateList, Schedule};
 pub use socket_link::SocketLink;
 
 #[cfg(test)]
+mod socket_tests;
+#[cfg(test)]
 mod tests;

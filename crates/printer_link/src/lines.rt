@@ -4,10 +4,9 @@ ghost use Rattle.std.specs.List.{list_any, position_or_len, before_first, after_
 ghost use Rattle.printer_link.specs.Lines.{LinesData, cut, ends_line};
 
 use octo_outside::ReplyLine;
-use std::io;
 use std::io::Read;
 use std::marker::Model;
-use std::mem;
+use std::{io, mem};
 
 // How many bytes one read asks for.
 const SIZE: usize = 4096;

@@ -1,7 +1,10 @@
 //! A link to a printer over TCP.
-ghost use Rattle.std.specs.Prelude.{◌≡◌, ◌≤◌, [], true, false, None};
+ghost use Rattle.std.specs.Prelude.{◌≡◌, ◌≤◌, ◌⊎◌, ◌++◌, ◌∷◌, [], length, true, false, Some, None};
+ghost use Rattle.std.specs.List.{list_any, before_first, after_first};
 ghost use Rattle.octo_outside.specs.Told.{Rose};
 ghost use Rattle.printer_link.specs.Address.{names_address};
+ghost use Rattle.printer_link.specs.Lines.{cut, ends_line};
+ghost use Rattle.printer_link.specs.declared.link.Heard.TheVariants as heard;
 ghost use Rattle.printer_link.specs.declared.link.LinkFault.TheVariants as fault;
 
 use crate::address::names_address;
@@ -81,6 +84,13 @@ impl<R: Net + Copy> SocketLink<R> {
 }
 
 impl<R: Net + Drop> SocketLink<R> {
+    /// Whether a link is made.
+    pub fn is_up(&self) -> bool
+        ensures { result ≡ self.now.up }
+    {
+        self.up
+    }
+
     // Closes the link and counts the failure.
     fn fail(&mut self) -> LinkFault
         ensures fault { result ≡ fault.Failed }
@@ -112,6 +122,23 @@ impl<R: Net + Drop> SocketLink<R> {
         written
     }
 
+    // Has a line written at the next writing; where there is no room, what is unsent is written first. `false` where
+    // that fails.
+    fn gather(&mut self, line: &Line) -> bool
+        requires { length line.now.items ≤ 95 }
+        ensures joined { result ≡ true → (self.new.unsent ≡ self.old.unsent ++ line.now.items ++ 10 ∷ []) ⊎ (self.new.unsent ≡ line.now.items ++ 10 ∷ []) }
+        ensures up { self.new.up ≡ self.old.up }
+        ensures faults { self.new.faults ≡ self.old.faults }
+    {
+        if self.unsent.has_room(line) {
+            self.unsent.add(line);
+            return true;
+        }
+        let written = self.write_out();
+        self.unsent.add(line);
+        written
+    }
+
     // Reads what comes within about a millisecond; `false` where the stream failed or the peer has closed.
     fn read_in(&mut self) -> bool
         requires { self.old.lines.waiting ≡ [] }
@@ -131,6 +158,27 @@ impl<R: Net + Drop> SocketLink<R> {
             Ok(n) => n > 0,
             Err(error) => may_come_later(&error),
         }
+    }
+
+    // Takes the next reply that was read; where there is none, writes what is unsent and waits for more. `None` where
+    // the link failed.
+    fn hear(&mut self, into: &mut ReplyLine) -> Option<Heard>
+        ensures at_once { list_any ends_line self.old.lines.waiting ≡ true → result ≡ Some heard.Line }
+        ensures line { list_any ends_line self.old.lines.waiting ≡ true → into.new.items ≡ cut (self.old.lines.begun ++ before_first ends_line self.old.lines.waiting) }
+        ensures behind { list_any ends_line self.old.lines.waiting ≡ true → self.new.lines ≡ record { begun = []; waiting = after_first ends_line self.old.lines.waiting } }
+        ensures up { self.new.up ≡ self.old.up }
+        ensures faults { self.new.faults ≡ self.old.faults }
+    {
+        if self.lines.take(into) {
+            return Some(Heard::Line);
+        }
+        if !self.write_out() || !self.read_in() {
+            return None;
+        }
+        if self.lines.take(into) {
+            return Some(Heard::Line);
+        }
+        Some(Heard::Nothing)
     }
 }
 
@@ -166,24 +214,17 @@ impl<R: Net + Clock + Drop> Link for SocketLink<R> {
     }
 
     fn send(&mut self, line: &Line) -> Result<(), LinkFault> {
-        if !self.unsent.has_room(line) && !self.write_out() {
-            return Err(self.fail());
+        if self.gather(line) {
+            return Ok(());
         }
-        self.unsent.add(line);
-        Ok(())
+        Err(self.fail())
     }
 
     fn recv(&mut self, into: &mut ReplyLine) -> Result<Heard, LinkFault> {
-        if self.lines.take(into) {
-            return Ok(Heard::Line);
+        match self.hear(into) {
+            Some(got) => Ok(got),
+            None => Err(self.fail()),
         }
-        if !self.write_out() || !self.read_in() {
-            return Err(self.fail());
-        }
-        if self.lines.take(into) {
-            return Ok(Heard::Line);
-        }
-        Ok(Heard::Nothing)
     }
 
     /// Writes what is unsent and closes. Input that comes meanwhile is dropped, for about 50 milliseconds at most.
