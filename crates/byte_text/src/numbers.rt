@@ -37,8 +37,8 @@ pub fn number(bytes: &[u8]) -> u32
     value
 }
 
-// Whether all bytes are decimal digits.
-fn are_digits(bytes: &[u8]) -> bool
+/// Whether all bytes are decimal digits.
+pub fn are_digits(bytes: &[u8]) -> bool
     ensures { result ≡ list_all is_ascii_digit bytes.now }
 {
     bytes.iter().all(|byte| byte.is_ascii_digit())

@@ -1,23 +1,14 @@
 //! Names of ports over TCP.
 ghost use Rattle.std.specs.Prelude.{◌≡◌};
-ghost use Rattle.std.specs.Char.{is_ascii_digit};
-ghost use Rattle.std.specs.List.{list_all};
 ghost use Rattle.printer_link.specs.Address.{is_port, names_address};
 
-use byte_text::{number, split_at_last};
-
-// Whether all bytes are digits.
-fn all_digits(bytes: &[u8]) -> bool
-    ensures { result ≡ list_all is_ascii_digit bytes.now }
-{
-    bytes.iter().all(|byte| byte.is_ascii_digit())
-}
+use byte_text::{are_digits, number, split_at_last};
 
 // Whether the bytes write a port: one to five digits, at most 65,535.
 fn is_port(bytes: &[u8]) -> bool
     ensures { result ≡ is_port bytes.now }
 {
-    all_digits(bytes) && 1 <= bytes.len() && bytes.len() <= 5 && number(bytes) <= 65_535
+    are_digits(bytes) && 1 <= bytes.len() && bytes.len() <= 5 && number(bytes) <= 65_535
 }
 
 /// Whether a name is `HOST:PORT`: a host, which isn't empty, and behind the last colon a port in one to five digits,
