@@ -1,5 +1,6 @@
 //! What the adapters over TCP share.
-ghost use Rattle.std.specs.Prelude.{◌≡◌, ◌<◌, ◌≤◌, ◌↔◌, ◌⊎◌, length, IfSome, IsTrue};
+ghost use Rattle.std.specs.Prelude.{◌≡◌, ◌<◌, ◌≤◌, ◌↔◌, ◌⊎◌, length, take, IfSome, IsNone, IsTrue};
+ghost use Rattle.std.specs.Io.KnownBytes.{Appends, Keeps};
 ghost use Rattle.std.specs.IoError.{error_kind};
 
 use std::io;
@@ -42,9 +43,12 @@ pub fn may_come_later(error: &io::Error) -> bool
 
 /// Writes 1 to all of the bytes, a prefix. A write that would block is tried 1,000 times; nothing then, and where the
 /// stream failed.
+#[tactic(auto, using(crate::proofs::Written::keeps_self, crate::proofs::Written::keeps_then, crate::proofs::Written::keeps_appends, crate::proofs::Written::appends_none))]
 pub fn write_some<S: Write>(stream: &mut S, bytes: &[u8]) -> Option<usize>
     ensures some { IfSome result (λ n. 0 < n) }
     ensures bound { IfSome result (λ n. n ≤ length bytes.now) }
+    ensures written { IfSome result (λ n. Appends (S.Write.contents stream.old) (S.Write.contents stream.new) (take n bytes.now)) }
+    ensures none { IsNone result → Keeps (S.Write.contents stream.old) (S.Write.contents stream.new) }
 {
     for _ in 0..TRIES {
         match stream.write(bytes) {

@@ -1,9 +1,11 @@
 -- Lines of a buffer, and what is added to a line that is cut.
-use Rattle.std.proofs.Common.{◌≡◌, ℕ, suc, Bool, true, false, cond, ◌||◌, ◌+◌, ◌-◌, ◌<◌, ◌≤◌, List, [], ◌∷◌, ◌++◌, length, min, take, drop, ap, sym, refl, arith, ◌∙◌}
-use Rattle.std.specs.Prelude.{Result, Ok, Err, OnOk, IsOk, not}
+use Rattle.std.proofs.Common.{◌≡◌, subst, ℕ, suc, Bool, true, false, cond, ◌||◌, ◌+◌, ◌-◌, ◌<◌, ◌≤◌, List, [], ◌∷◌, ◌++◌, length, min, take, drop, ap, sym, refl, arith, ◌∙◌}
+use Rattle.std.specs.Prelude.{Option, Some, None, Result, Ok, Err, OnOk, IsOk, not}
 use Rattle.std.proofs.Math.Seq.{take-append-add}
 use Rattle.std.proofs.lemmas.Bool.{false≢true}
-use Rattle.std.proofs.lemmas.List.{take_min, drop-take, drop-drop, length-take}
+use Rattle.std.specs.Io.KnownBytes.{Appends}
+use Rattle.std.proofs.lemmas.List.{append-nil, take_rest, take_min, drop-take, drop-drop, length-take}
+use Rattle.octo_outside.proofs.Written.{appends_more}
 use Rattle.std.specs.List.{list_any, position_or_len}
 use Rattle.printer_link.specs.Lines.{cut}
 
@@ -54,3 +56,19 @@ window_behind xs start end n ordered short =
     ap (λ ys. take (end - (start + n)) ys) (sym (drop-drop n start xs))
     ∙ sym (drop-take n (end - (start + n)) (drop start xs))
     ∙ ap (λ k. drop n (take k (drop start xs))) (sym whole)
+
+-- of no bytes nothing was written
+pub appends_start : (a : Option (List ℕ)) (bytes : List ℕ) → Appends a a (take 0 bytes)
+appends_start None bytes = tt
+appends_start (Some xs) bytes = sym (append-nil xs)
+
+-- a part of what is left of a list is within the list
+pub next_fits : (bytes : List ℕ) (i n : ℕ) → i ≤ length bytes → n ≤ length (take (length bytes - i) (drop i bytes)) → i + n ≤ length bytes
+next_fits bytes i n within part =
+    let taken : length (take (length bytes - i) (drop i bytes)) ≡ min (length bytes - i) (length (drop i bytes)) = length-take (length bytes - i) (drop i bytes) in
+    omega arith
+
+-- the first bytes of a list were written, and then the next of what is left of it
+pub appends_next : (a b c : Option (List ℕ)) (bytes : List ℕ) (i n : ℕ) → Appends a b (take i bytes) → Appends b c (take n (take (length bytes - i) (drop i bytes))) → Appends a c (take (i + n) bytes)
+appends_next a b c bytes i n first next =
+    appends_more a b c bytes i n first (subst (λ rest. Appends b c (take n rest)) (take_rest bytes i) next)

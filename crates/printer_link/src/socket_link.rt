@@ -1,5 +1,5 @@
 //! A link to a printer over TCP.
-ghost use Rattle.std.specs.Prelude.{◌≡◌, ◌≤◌, ◌⊎◌, ◌++◌, ◌∷◌, [], length, true, false, Some, None};
+ghost use Rattle.std.specs.Prelude.{◌≡◌, ◌+◌, ◌≤◌, ◌⊎◌, ◌++◌, ◌∷◌, [], length, true, false, is_some, Some, None, Ok, OnOk, OnErr, IsOk, IsErrOf};
 ghost use Rattle.std.specs.List.{list_any, before_first, after_first};
 ghost use Rattle.octo_outside.specs.Told.{Rose};
 ghost use Rattle.printer_link.specs.Address.{names_address};
@@ -106,6 +106,7 @@ impl<R: Net + Drop> SocketLink<R> {
 
     // Writes what is unsent; `false` where that fails, and then there is no stream.
     fn write_out(&mut self) -> bool
+        ensures stream { result ≡ is_some self.new.stream }
         ensures emptied { self.new.unsent ≡ [] }
         ensures up { self.new.up ≡ self.old.up }
         ensures faults { self.new.faults ≡ self.old.faults }
@@ -126,6 +127,7 @@ impl<R: Net + Drop> SocketLink<R> {
     // that fails.
     fn gather(&mut self, line: &Line) -> bool
         requires { length line.now.items ≤ 95 }
+        ensures room { length self.old.unsent + length line.now.items + 1 ≤ 1552 → result ≡ true }
         ensures joined { result ≡ true → (self.new.unsent ≡ self.old.unsent ++ line.now.items ++ 10 ∷ []) ⊎ (self.new.unsent ≡ line.now.items ++ 10 ∷ []) }
         ensures up { self.new.up ≡ self.old.up }
         ensures faults { self.new.faults ≡ self.old.faults }
@@ -213,14 +215,36 @@ impl<R: Net + Clock + Drop> Link for SocketLink<R> {
         Ok(())
     }
 
-    fn send(&mut self, line: &Line) -> Result<(), LinkFault> {
+    fn send(&mut self, line: &Line) -> Result<(), LinkFault>
+        requires open { self.old.up ≡ true }
+        requires short { length line.now.items ≤ 95 }
+        ensures kept { OnOk result ((self.new.unsent ≡ self.old.unsent ++ line.now.items ++ 10 ∷ []) ⊎ (self.new.unsent ≡ line.now.items ++ 10 ∷ [])) }
+        ensures room { length self.old.unsent + length line.now.items + 1 ≤ 1552 → IsOk result }
+        ensures no_port { IsErrOf result fault.NoPort → ⊥ }
+        ensures up { OnOk result (self.new.up ≡ true) }
+        ensures down { OnErr result (self.new.up ≡ false) }
+        ensures counted { self.old.faults ≤ self.new.faults }
+        ensures steady { OnOk result (self.new.faults ≡ self.old.faults) }
+        ensures failed { OnErr result (Rose self.old.faults self.new.faults) }
+    {
         if self.gather(line) {
             return Ok(());
         }
         Err(self.fail())
     }
 
-    fn recv(&mut self, into: &mut ReplyLine) -> Result<Heard, LinkFault> {
+    fn recv(&mut self, into: &mut ReplyLine) -> Result<Heard, LinkFault>
+        requires { self.old.up ≡ true }
+        ensures at_once { list_any ends_line self.old.lines.waiting ≡ true → result ≡ Ok heard.Line }
+        ensures line { list_any ends_line self.old.lines.waiting ≡ true → into.new.items ≡ cut (self.old.lines.begun ++ before_first ends_line self.old.lines.waiting) }
+        ensures behind { list_any ends_line self.old.lines.waiting ≡ true → self.new.lines ≡ record { begun = []; waiting = after_first ends_line self.old.lines.waiting } }
+        ensures no_port { IsErrOf result fault.NoPort → ⊥ }
+        ensures up { OnOk result (self.new.up ≡ true) }
+        ensures down { OnErr result (self.new.up ≡ false) }
+        ensures counted { self.old.faults ≤ self.new.faults }
+        ensures steady { OnOk result (self.new.faults ≡ self.old.faults) }
+        ensures failed { OnErr result (Rose self.old.faults self.new.faults) }
+    {
         match self.hear(into) {
             Some(got) => Ok(got),
             None => Err(self.fail()),

@@ -1,5 +1,6 @@
 //! Lines on their way to a stream.
 ghost use Rattle.std.specs.Prelude.{◌≡◌, ◌+◌, ◌≤◌, ◌++◌, ◌∷◌, ◌↔◌, ℕ, List, [], true, length, IsTrue};
+ghost use Rattle.std.specs.Io.KnownBytes.{Appends};
 
 use arrayvec::ArrayVec;
 use octo_outside::{Line, write_some};
@@ -22,7 +23,10 @@ impl Model for Unsent {
 }
 
 // Writes all the bytes; `false` where the stream failed or blocked for too long.
-fn write_whole<S: Write>(stream: &mut S, bytes: &[u8]) -> bool {
+#[tactic(auto, using(crate::proofs::Cuts::appends_start))]
+fn write_whole<S: Write>(stream: &mut S, bytes: &[u8]) -> bool
+    ensures { result ≡ true → Appends (S.Write.contents stream.old) (S.Write.contents stream.new) bytes.now }
+{
     let mut done = 0;
     while done < bytes.len() {
         match write_some(stream, &bytes[done..]) {
@@ -61,7 +65,8 @@ impl Unsent {
 
     /// Writes what there is, and forgets it; `false` where the stream failed or blocked for too long.
     pub fn write<S: Write>(&mut self, stream: &mut S) -> bool
-        ensures { self.new ≡ [] }
+        ensures written { result ≡ true → Appends (S.Write.contents stream.old) (S.Write.contents stream.new) self.old }
+        ensures forgotten { self.new ≡ [] }
     {
         let written = write_whole(stream, self.bytes.as_slice());
         self.bytes.clear();
