@@ -7,6 +7,7 @@ use crate::{
 use std::io::{Read, Write};
 use std::net::{Shutdown, TcpListener, TcpStream};
 use std::test::Fail;
+use std::time::Duration;
 
 #[test]
 fn ample(rt: HostRuntime) -> Result<(), Fail> {
@@ -110,11 +111,11 @@ fn clock_rests(rt: HostRuntime) {
 fn system_clock(rt: HostRuntime) {
     let mut clock = SystemClock::new(rt);
     let first = clock.now();
-    for _ in 0..5 {
-        clock.rest();
-    }
-    // Five rests of a millisecond, less one for the rounding.
-    assert!(rt; clock.now() - first >= 4);
+    clock.rest();
+    clock.rest();
+    clock.rest();
+    // Three rests of a millisecond, less one for the rounding.
+    assert!(rt; clock.now() - first >= 2);
 }
 
 #[test]
@@ -163,6 +164,7 @@ fn next(conn: &mut TcpConn<HostRuntime>, into: &mut [u8; 8]) -> Result<Got, Fail
 fn tcp_connection(rt: HostRuntime) -> Result<(), Fail> {
     let listener = TcpListener::bind(&rt, "127.0.0.1:0")?;
     let mut peer = TcpStream::connect(&rt, listener.local_addr()?)?;
+    peer.set_read_timeout(Some(Duration::from_secs(10)))?;
     let mut conn = TcpConn::accept(rt, &listener)?;
     let mut into = [0; 8];
     assert_eq!(rt; conn.read(&mut into), Ok(Got::Quiet));
@@ -188,7 +190,7 @@ fn tcp_peer_that_closes(rt: HostRuntime) -> Result<(), Fail> {
     let mut into = [0; 8];
     assert_eq!(rt; next(&mut conn, &mut into), Ok(Got::Bytes(2)));
     assert_eq!(rt; next(&mut conn, &mut into), Ok(Got::Ended));
-    // An address that isn't one, and one that is in use.
+    // Neither is an address.
     assert_eq!(rt; TcpConn::accept_one(rt, "7100").err(), Some(Failed));
     assert_eq!(rt;
         TcpConn::accept_one(rt, "127.0.0.1:99999").err(),
