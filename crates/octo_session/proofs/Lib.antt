@@ -1,0 +1,5 @@
+pub mod Counts
+pub mod Desk
+pub mod Keeping
+pub mod Noting
+pub mod Stepping
