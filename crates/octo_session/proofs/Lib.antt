@@ -1,5 +1,4 @@
 pub mod Counts
 pub mod Desk
 pub mod Keeping
-pub mod Noting
 pub mod Stepping
