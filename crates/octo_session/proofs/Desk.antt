@@ -15,14 +15,14 @@ use Rattle.print_queue.specs.declared.ending.Ending.{Ending}
 use Rattle.send_window.specs.Data.{SenderData}
 use Rattle.octo_session.specs.Data.{IsJoined}
 use Rattle.octo_session.specs.DeskTurn.{Pulls, IsNoted, first_fact, last_noted}
-use Rattle.octo_session.specs.Steps.{Step, issues, after_steps, issuing}
+use Rattle.octo_session.specs.Steps.{Step, issues, after_steps, AreAllowed, Issues, issuing}
 use Rattle.job_desk.specs.Views.{line_of}
 use Rattle.job_desk.specs.declared.issued.Issued.{Issued}
 use Rattle.marlin_reply.specs.declared.session.SessionEnd.{SessionEnd}
 use Rattle.send_window.specs.Hearing.{answer_of}
 use Rattle.octo_session.specs.Found.{up_after}
 use Rattle.octo_session.specs.Turn.{drawn, texts_in, is_unbroken}
-use Rattle.octo_session.proofs.Stepping.{after_steps-append}
+use Rattle.octo_session.proofs.Stepping.{after_steps-append, allowed_then}
 use Rattle.octo_session.proofs.Counts.{Counts}
 
 -- one more pull with a line
@@ -78,11 +78,11 @@ pub record Pulled (moment : ℕ) (d : Data) (s t : SenderData) : Type 0 where
   pub drew : (pull_step moment d).0 ≡ Some line
   pub pushed : t ≡ push_step line.text s
 
-pulled_as : (moment : ℕ) (d : Data) (s t : SenderData) (got : Option Line) → (pull_step moment d).0 ≡ got → is_some got ≡ true → t ≡ after_steps moment (issuing (texts_in (drawn got))) s → Pulled moment d s t
+pulled_as : (moment : ℕ) (d : Data) (s t : SenderData) (got : Option Line) → (pull_step moment d).0 ≡ got → is_some got ≡ true → Issues moment (texts_in (drawn got)) s t → Pulled moment d s t
 pulled_as moment d s t None e some after = absurd (cc some)
-pulled_as moment d s t (Some line) e some after = record { line = line; drew = e; pushed = after }
+pulled_as moment d s t (Some line) e some after = record { line = line; drew = e; pushed = after.sender }
 
-pub pulled_by : (moment : ℕ) (d : Data) (s t : SenderData) → is_some (pull_step moment d).0 ≡ true → t ≡ after_steps moment (issuing (texts_in (drawn (pull_step moment d).0))) s → Pulled moment d s t
+pub pulled_by : (moment : ℕ) (d : Data) (s t : SenderData) → is_some (pull_step moment d).0 ≡ true → Issues moment (texts_in (drawn (pull_step moment d).0)) s t → Pulled moment d s t
 pulled_by moment d s t some after = pulled_as moment d s t (pull_step moment d).0 refl some after
 
 -- it joins those before it
@@ -94,15 +94,19 @@ pulls_next moment lines more old d e line pulls drew after joined =
     subst P (sym after) (subst Q (sym all) (pulls_push moment lines line old d pulls drew))
 
 -- the issuing of one line more
-pub issuing_next : (moment : ℕ) (lines more : List Line) (d : Data) (s t u : SenderData) → t ≡ after_steps moment (issuing (texts_in lines)) s → u ≡ after_steps moment (issuing (texts_in (drawn (pull_step moment d).0))) t → more ≡ lines ++ drawn (pull_step moment d).0 → u ≡ after_steps moment (issuing (texts_in more)) s
+pub issuing_next : (moment : ℕ) (lines more : List Line) (d : Data) (s t u : SenderData) → Issues moment (texts_in lines) s t → Issues moment (texts_in (drawn (pull_step moment d).0)) t u → more ≡ lines ++ drawn (pull_step moment d).0 → Issues moment (texts_in more) s u
 issuing_next moment lines more d s t u first second joined =
     let new = drawn (pull_step moment d).0 in
     let parts : issuing (texts_in (lines ++ new)) ≡ issuing (texts_in lines) ++ issuing (texts_in new) =
     ap issuing (map-append (λ (line : Line). line.text) lines new) ∙ map-append issues (texts_in lines) (texts_in new) in
-    second ∙ ap (after_steps moment (issuing (texts_in new))) first
-    ∙ sym (ap (λ (all : List Line). after_steps moment (issuing (texts_in all)) s) joined
-    ∙ ap (λ (steps : List Step). after_steps moment steps s) parts
-    ∙ after_steps-append moment (issuing (texts_in lines)) (issuing (texts_in new)) s)
+    let all : issuing (texts_in more) ≡ issuing (texts_in lines) ++ issuing (texts_in new) = ap (λ (ls : List Line). issuing (texts_in ls)) joined ∙ parts in
+    let Allowed : SenderData → Type 0 = λ v. AreAllowed moment (issuing (texts_in new)) v in
+    let Each : List Step → Type 0 = λ steps. AreAllowed moment steps s in
+    record {
+      sender = second.sender ∙ ap (after_steps moment (issuing (texts_in new))) first.sender
+          ∙ sym (ap (λ (steps : List Step). after_steps moment steps s) all ∙ after_steps-append moment (issuing (texts_in lines)) (issuing (texts_in new)) s);
+      allowed = subst Each (sym all) (allowed_then moment (issuing (texts_in lines)) (issuing (texts_in new)) s first.allowed (subst Allowed first.sender second.allowed));
+    }
 
 -- a pull without a line leaves the desk, and the next gives none either
 none_of : (got : Option Line) → is_some got ≡ false → got ≡ None

@@ -149,3 +149,7 @@ pub spent_after : (moment : ℕ) (d : Data) (p q : SenderData) → room_of q ≡
 spent_after moment d p q room spent sent =
     let P : ℕ → Type 0 = λ n. (n ≡ 0) ⊎ ((pull_step moment d).0 ≡ None) in
     record { issued = subst P (sym room) spent; sent = sent }
+
+-- with the hello's `ok` nothing is unsent
+pub ready_unsent : (s : SenderData) → IsSound s → s.ready ≡ true → s.issued ≡ 0 → next_of s ≡ None
+ready_unsent s sound ready fresh = grind (arith, common_steps)

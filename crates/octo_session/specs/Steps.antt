@@ -1,13 +1,14 @@
 -- A turn as a list of steps: each is one call on the sender, one on the link, or both.
-use Rattle.std.specs.Prelude.{◌≡◌, ℕ, Bool, true, false, List, [], ◌∷◌, ◌++◌, map, replicate, Option, None, Some}
+use Rattle.std.specs.Prelude.{◌≡◌, ℕ, ◌<◌, Bool, true, false, List, [], ◌∷◌, ◌++◌, map, replicate, Option, None, Some, is_some}
+use Rattle.byte_text.specs.Sendable.{IsSendable}
 use Rattle.marlin_reply.specs.Kind.{kind_of}
 use Rattle.marlin_reply.specs.declared.session.LinkFact.{LinkFact}
 use Rattle.marlin_reply.specs.declared.session.LinkFact.TheVariants as fact
 use Rattle.send_window.specs.Data.{SenderData, begun}
-use Rattle.send_window.specs.Sending.{Outgoing, bytes_of_outgoing, next_of, frame_step, push_step}
+use Rattle.send_window.specs.Sending.{Outgoing, bytes_of_outgoing, next_of, room_of, frame_step, push_step}
 use Rattle.send_window.specs.Hearing.{hear_step, tick_step}
 use Rattle.printer_model.specs.World.{WorldData, world_from}
-use Rattle.printer_link.specs.Link.{Grows, IsDial, IsRuns, IsSend, IsSendLoss, IsHeard, IsSilence, IsLoss, IsHangUp}
+use Rattle.printer_link.specs.Link.{Grows, IsDial, IsRuns, IsSend, IsSendOf, IsSendLoss, IsHeard, IsSilence, IsLoss, IsHangUp, dial_events, recv_events}
 use Rattle.printer_model.specs.declared.event.WorldEvent.{WorldEvent}
 use Rattle.octo_session.specs.declared.talk.Gave.{Gave}
 use Rattle.octo_session.specs.declared.talk.Gave.TheVariants as gave
@@ -56,35 +57,86 @@ abbrev pub after_steps : ℕ → List Step → SenderData → SenderData
 after_steps moment [] s = s
 after_steps moment (step ∷ steps) s = after_steps moment steps (after_step moment step s)
 
--- what is sent: the bytes of what is to be sent next
+-- what holds of the sender before a step: a line is issued only where there's room and it may be sent, and a frame is
+-- given out only where there is one
+abbrev pub IsAllowed : Step → SenderData → Type 0
+IsAllowed opens s = Unit {0}
+IsAllowed misses s = Unit {0}
+IsAllowed (hears bytes) s = Unit {0}
+IsAllowed listens s = Unit {0}
+IsAllowed loses s = Unit {0}
+IsAllowed ticks s = Unit {0}
+IsAllowed (issues text) s = (0 < room_of s) × IsSendable text
+IsAllowed gives s = is_some (next_of s) ≡ true
+IsAllowed drops s = is_some (next_of s) ≡ true
+IsAllowed (hangs_up was_up) s = Unit {0}
+
+-- before each of these steps it does
+abbrev pub AreAllowed : ℕ → List Step → SenderData → Type 0
+AreAllowed moment [] s = Unit {0}
+AreAllowed moment (step ∷ steps) s = IsAllowed step s × AreAllowed moment steps (after_step moment step s)
+
+-- what is to be sent next is sent
 abbrev pub IsGiven : Option Outgoing → WorldData → List WorldEvent → Type 0
 IsGiven None w added = ⊥
 IsGiven (Some next) w added = IsSend (bytes_of_outgoing next) w added
 
 -- what a step adds to the past of the link
-abbrev pub IsAdded : Step → SenderData → WorldData → List WorldEvent → Type 0
-IsAdded opens s w added = IsDial w added
-IsAdded misses s w added = IsRuns w added
-IsAdded (hears bytes) s w added = IsHeard bytes w added
-IsAdded listens s w added = IsSilence w added
-IsAdded loses s w added = IsLoss w added
-IsAdded ticks s w added = added ≡ []
-IsAdded (issues text) s w added = added ≡ []
-IsAdded gives s w added = IsGiven (next_of s) w added
-IsAdded drops s w added = IsSendLoss w added
-IsAdded (hangs_up was_up) s w added = IsHangUp was_up w added
+abbrev pub IsDone : Step → SenderData → WorldData → List WorldEvent → Type 0
+IsDone opens s w added = IsDial w added
+IsDone misses s w added = IsRuns w added
+IsDone (hears bytes) s w added = IsHeard bytes w added
+IsDone listens s w added = IsSilence w added
+IsDone loses s w added = IsLoss w added
+IsDone ticks s w added = added ≡ []
+IsDone (issues text) s w added = added ≡ []
+IsDone gives s w added = IsGiven (next_of s) w added
+IsDone drops s w added = IsSendLoss w added
+IsDone (hangs_up was_up) s w added = IsHangUp was_up w added
+
+-- what is to be sent next is sent, and nothing else happens
+abbrev pub IsGivenAlone : Option Outgoing → List WorldEvent → Type 0
+IsGivenAlone None added = ⊥
+IsGivenAlone (Some next) added = (sent : WorldEvent) × (added ≡ sent ∷ []) × IsSendOf (bytes_of_outgoing next) sent
+
+-- what a step adds over a prompt link, to the event
+abbrev pub IsDonePromptly : Step → SenderData → WorldData → List WorldEvent → Type 0
+IsDonePromptly opens s w added = (last : ℕ) × (added ≡ dial_events w last)
+IsDonePromptly misses s w added = Unit {0}
+IsDonePromptly (hears bytes) s w added = added ≡ recv_events true w
+IsDonePromptly listens s w added = added ≡ recv_events true w
+IsDonePromptly loses s w added = Unit {0}
+IsDonePromptly ticks s w added = Unit {0}
+IsDonePromptly (issues text) s w added = Unit {0}
+IsDonePromptly gives s w added = IsGivenAlone (next_of s) added
+IsDonePromptly drops s w added = Unit {0}
+IsDonePromptly (hangs_up was_up) s w added = Unit {0}
+
+-- the same over a link that is prompt or not
+abbrev pub IsAdded : Bool → Step → SenderData → WorldData → List WorldEvent → Type 0
+IsAdded is_prompt step s w added = IsDone step s w added × (is_prompt ≡ true → IsDonePromptly step s w added)
 
 -- what these steps add, one behind the other
-abbrev pub AreAdded : ℕ → List Step → SenderData → WorldData → List WorldEvent → Type 0
-AreAdded moment [] s w added = added ≡ []
-AreAdded moment (step ∷ steps) s w added =
+abbrev pub AreAdded : ℕ → Bool → List Step → SenderData → WorldData → List WorldEvent → Type 0
+AreAdded moment is_prompt [] s w added = added ≡ []
+AreAdded moment is_prompt (step ∷ steps) s w added =
     (first : List WorldEvent) × (rest : List WorldEvent) × (added ≡ first ++ rest)
-    × IsAdded step s w first × AreAdded moment steps (after_step moment step s) (world_from w first) rest
+    × IsAdded is_prompt step s w first × AreAdded moment is_prompt steps (after_step moment step s) (world_from w first) rest
 
--- the sender and the link take these steps
-pub record Takes (moment : ℕ) (places : ℕ) (advanced : Bool) (old_past new_past : Option (List WorldEvent)) (steps : List Step) (old new : SenderData) : Type 0 where
+-- texts are issued, each as it comes
+abbrev pub issuing : List (List ℕ) → List Step
+issuing texts = map issues texts
+
+-- a sender issues these texts
+pub record Issues (moment : ℕ) (texts : List (List ℕ)) (old new : SenderData) : Type 0 where
+  pub sender : new ≡ after_steps moment (issuing texts) old
+  pub allowed : AreAllowed moment (issuing texts) old
+
+-- a sender and a link take these steps
+pub record Takes (moment : ℕ) (places : ℕ) (advanced is_prompt : Bool) (old_past new_past : Option (List WorldEvent)) (steps : List Step) (old new : SenderData) : Type 0 where
   pub sender : new ≡ after_steps moment steps old
-  pub past : Grows places advanced old_past new_past (AreAdded moment steps old)
+  pub allowed : AreAllowed moment steps old
+  pub past : Grows places advanced old_past new_past (AreAdded moment is_prompt steps old)
 
 -- the step of a receiving
 abbrev pub received_by : Got → List Step
@@ -109,10 +161,6 @@ is_up_by gave.Failed = false
 abbrev pub sends : Bool → ℕ → List Step
 sends true count = replicate count gives
 sends false count = replicate count gives ++ drops ∷ []
-
--- texts are issued, each as it comes
-abbrev pub issuing : List (List ℕ) → List Step
-issuing texts = map issues texts
 
 -- texts are issued, and then frames sent
 abbrev pub speech : Bool → List (List ℕ) → ℕ → List Step
@@ -153,6 +201,6 @@ turn_steps Talking was_up got found texts count = talk_steps got found texts cou
 turn_steps Resting was_up got found texts count = []
 
 -- the sender and the link take these steps, with some count of frames
-pub record TakesSome (moment : ℕ) (places : ℕ) (advanced : Bool) (old_past new_past : Option (List WorldEvent)) (steps : ℕ → List Step) (old new : SenderData) : Type 0 where
+pub record TakesSome (moment : ℕ) (places : ℕ) (advanced is_prompt : Bool) (old_past new_past : Option (List WorldEvent)) (steps : ℕ → List Step) (old new : SenderData) : Type 0 where
   pub count : ℕ
-  pub takes : Takes moment places advanced old_past new_past (steps count) old new
+  pub takes : Takes moment places advanced is_prompt old_past new_past (steps count) old new

@@ -1,14 +1,15 @@
 //! The session: a desk and a sender, and the turns that join them with a link.
-ghost use Rattle.std.specs.Prelude.{◌≡◌, ◌≢◌, ◌↔◌, ◌≤◌, [], ◌∷◌, map, true, false, is_some, OnOk, OnErr, IsErrOf};
+ghost use Rattle.std.specs.Prelude.{◌≡◌, ◌≢◌, ◌↔◌, ◌≤◌, ℕ, [], ◌∷◌, map, true, false, is_some, OnOk, OnErr, IsErrOf};
 ghost use Rattle.octo_outside.specs.Told.{Rose};
 ghost use Rattle.desk_steps.specs.Data.{new_desk};
 ghost use Rattle.desk_steps.specs.Table.{is_closable_at};
 ghost use Rattle.job_desk.specs.Views.{line_of};
 ghost use Rattle.marlin_reply.specs.declared.session.LinkFact.TheVariants as fact;
 ghost use Rattle.marlin_reply.specs.declared.session.SessionEnd.{SessionEnd};
-ghost use Rattle.printer_link.specs.Link.{Grows, IsDial, IsNothing, IsRuns};
+ghost use Rattle.printer_link.specs.Link.{Grows, IsDial, IsNothing, IsRuns, dial_events};
 ghost use Rattle.printer_link.specs.declared.link.LinkFault.TheVariants as fault;
 ghost use Rattle.send_window.specs.Data.{new_sender, begun};
+ghost use Rattle.send_window.specs.Sending.{next_of};
 ghost use Rattle.octo_session.specs.Data.{IsSession, doing, port_of};
 ghost use Rattle.octo_session.specs.DeskTurn.{IsNoted};
 ghost use Rattle.octo_session.specs.Found.{got_of, temps_in, temps_kept, end_by, up_after, can_find, unasked};
@@ -53,6 +54,7 @@ fn dial_port<L: Link>(desk: &Desk, link: &mut L) -> Result<(), LinkFault>
     requires { L.up link.old ≡ false }
     ensures past { OnOk result (Grows (L.places link.old) (L.advanced link.old) (L.past link.old) (L.past link.new) IsDial) }
     ensures past_no_port { IsErrOf result fault.NoPort → Grows (L.places link.old) (L.advanced link.old) (L.past link.old) (L.past link.new) IsNothing }
+    ensures past_prompt { L.prompt link.old ≡ true → OnOk result (Grows (L.places link.old) (L.advanced link.old) (L.past link.old) (L.past link.new) (λ w added. (last : ℕ) × (added ≡ dial_events w last))) }
     ensures past_failed { IsErrOf result fault.Failed → Grows (L.places link.old) (L.advanced link.old) (L.past link.old) (L.past link.new) IsRuns }
     ensures no_port { IsErrOf result fault.NoPort ↔ (L.listed link.old (port_of desk.now) ≡ false) }
     ensures up { OnOk result (L.up link.new ≡ true) }
@@ -151,7 +153,7 @@ impl Session {
         ensures link { L.up link.new ≡ self.new.up }
         ensures no_port { (result.fact ≡ fact.NoPort) ↔ (L.listed link.old (port_of self.old.desk) ≡ false) }
         ensures ready { self.new.sender.ready ≡ true → self.old.sender.ready ≡ true }
-        ensures steps { Takes moment (L.places link.old) (L.advanced link.old) (L.past link.old) (L.past link.new) (dial_steps result.fact) self.old.sender self.new.sender }
+        ensures steps { Takes moment (L.places link.old) (L.advanced link.old) (L.prompt link.old) (L.past link.old) (L.past link.new) (dial_steps result.fact) self.old.sender self.new.sender }
         ensures told { is_some (L.past link.new) ≡ is_some (L.past link.old) }
         ensures places { L.places link.new ≡ L.places link.old }
         ensures advanced { L.advanced link.new ≡ L.advanced link.old }
@@ -186,7 +188,7 @@ impl Session {
         ensures up { self.new.up ≡ false }
         ensures link { L.up link.new ≡ false }
         ensures sender { self.new.sender ≡ self.old.sender }
-        ensures steps { Takes moment (L.places link.old) (L.advanced link.old) (L.past link.old) (L.past link.new) (hangs_up self.old.up ∷ []) self.old.sender self.new.sender }
+        ensures steps { Takes moment (L.places link.old) (L.advanced link.old) (L.prompt link.old) (L.past link.old) (L.past link.new) (hangs_up self.old.up ∷ []) self.old.sender self.new.sender }
         ensures told { is_some (L.past link.new) ≡ is_some (L.past link.old) }
         ensures places { L.places link.new ≡ L.places link.old }
         ensures advanced { L.advanced link.new ≡ L.advanced link.old }
@@ -213,11 +215,12 @@ impl Session {
         ensures ended { (end : SessionEnd) → (result.fact ≡ fact.Ended end) ↔ (end_by (got_of result.received line.new.items) moment self.old.sender ≡ Some end) }
         ensures ready { (result.fact ≡ fact.Ready) ↔ ((self.old.sender.ready ≡ false) × (self.new.sender.ready ≡ true)) }
         ensures silent { result.fact ≡ fact.Ready → result.issued.items ≡ [] }
+        ensures sent { result.fact ≡ fact.Ready → next_of self.new.sender ≡ None }
         ensures spent { result.fact ≡ fact.Quiet → IsSpent moment self.new.desk self.new.sender }
         ensures joined { IsSession self.new }
         ensures up { self.new.up ≡ up_after result.fact true }
         ensures link { L.up link.new ≡ self.new.up }
-        ensures steps { TakesSome moment (L.places link.old) (L.advanced link.old) (L.past link.old) (L.past link.new) (talk_steps (got_of result.received line.new.items) result.fact (texts_in (map line_of result.issued.items))) self.old.sender self.new.sender }
+        ensures steps { TakesSome moment (L.places link.old) (L.advanced link.old) (L.prompt link.old) (L.past link.old) (L.past link.new) (talk_steps (got_of result.received line.new.items) result.fact (texts_in (map line_of result.issued.items))) self.old.sender self.new.sender }
         ensures told { is_some (L.past link.new) ≡ is_some (L.past link.old) }
         ensures places { L.places link.new ≡ L.places link.old }
         ensures advanced { L.advanced link.new ≡ L.advanced link.old }
@@ -244,13 +247,14 @@ impl Session {
         ensures ended { (end : SessionEnd) → (result.fact ≡ fact.Ended end) ↔ (end_by (got_of result.received line.new.items) moment self.old.sender ≡ Some end) }
         ensures ready { (result.fact ≡ fact.Ready) ↔ ((self.old.sender.ready ≡ false) × (self.new.sender.ready ≡ true)) }
         ensures silent { result.fact ≡ fact.Ready → result.issued.items ≡ [] }
+        ensures sent { result.fact ≡ fact.Ready → next_of self.new.sender ≡ None }
         ensures spent { self.new.up ≡ true → result.fact ≡ fact.Quiet → IsSpent moment self.new.desk self.new.sender }
         ensures joined { IsSession self.new }
         ensures up { self.new.up ≡ up_after result.fact self.old.up }
         ensures link { L.up link.new ≡ self.new.up }
         ensures greatest { self.new.desk.greatest ≡ self.old.desk.greatest }
         ensures no_port { (result.fact ≡ fact.NoPort) ↔ ((doing self.old ≡ now_doing.Dialling) × (L.listed link.old (port_of self.old.desk) ≡ false)) }
-        ensures steps { TakesSome moment (L.places link.old) (L.advanced link.old) (L.past link.old) (L.past link.new) (turn_steps (doing self.old) self.old.up (got_of result.received line.new.items) result.fact (texts_in (map line_of result.issued.items))) self.old.sender self.new.sender }
+        ensures steps { TakesSome moment (L.places link.old) (L.advanced link.old) (L.prompt link.old) (L.past link.old) (L.past link.new) (turn_steps (doing self.old) self.old.up (got_of result.received line.new.items) result.fact (texts_in (map line_of result.issued.items))) self.old.sender self.new.sender }
         ensures told { is_some (L.past link.new) ≡ is_some (L.past link.old) }
         ensures places { L.places link.new ≡ L.places link.old }
         ensures advanced { L.advanced link.new ≡ L.advanced link.old }
@@ -279,13 +283,14 @@ impl Session {
     /// memory.
     pub fn turn<L: Link>(&mut self, link: &mut L, moment: u64) -> Turned
         requires { L.up link.old ≡ self.old.up }
-        ensures turn { IsTurn moment (L.places link.old) (L.advanced link.old) (L.past link.old) (L.past link.new) self.old self.new result }
+        ensures turn { IsTurn moment (L.places link.old) (L.advanced link.old) (L.prompt link.old) (L.past link.old) (L.past link.new) self.old self.new result }
         ensures finds { can_find (doing self.old) (fact_of result.note) ≡ true }
         ensures up { self.new.up ≡ up_after (fact_of result.note) self.old.up }
         ensures link { L.up link.new ≡ self.new.up }
         ensures no_port { (fact_of result.note ≡ fact.NoPort) ↔ ((doing self.old ≡ now_doing.Dialling) × (L.listed link.old (port_of self.old.desk) ≡ false)) }
         ensures ready { (fact_of result.note ≡ fact.Ready) ↔ ((self.old.sender.ready ≡ false) × (self.new.sender.ready ≡ true)) }
         ensures silent { fact_of result.note ≡ fact.Ready → lines_of result.note ≡ [] }
+        ensures sent { fact_of result.note ≡ fact.Ready → next_of self.new.sender ≡ None }
         ensures spent { self.new.up ≡ true → fact_of result.note ≡ fact.Quiet → IsSpent moment self.new.desk self.new.sender }
         ensures greatest { self.new.desk.greatest ≡ self.old.desk.greatest }
         ensures joined { IsSession self.new }

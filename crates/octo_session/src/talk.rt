@@ -11,7 +11,7 @@ ghost use Rattle.send_window.specs.Sending.{next_of, room_of};
 ghost use Rattle.octo_session.specs.Data.{IsJoined};
 ghost use Rattle.octo_session.specs.DeskTurn.{IsNoted, Pulls};
 ghost use Rattle.octo_session.specs.Found.{got_of, temps_kept, temps_in, temps_of_reply, is_got, end_by, up_after, can_find, unasked};
-ghost use Rattle.octo_session.specs.Steps.{Takes, TakesSome, after_steps, issuing, given_by, received_by, is_up_by, sends, speech, clock_steps, talk_steps};
+ghost use Rattle.octo_session.specs.Steps.{Takes, TakesSome, Issues, given_by, received_by, is_up_by, sends, speech, clock_steps, talk_steps};
 ghost use Rattle.octo_session.specs.Turn.{drawn, texts_in, is_unbroken, IsSpent};
 ghost use Rattle.octo_session.specs.declared.talk.Gave.TheVariants as gave;
 ghost use Rattle.octo_session.specs.declared.found.Doing.TheVariants as doing_now;
@@ -53,7 +53,7 @@ fn receive<L: Link>(
     line: &mut ReplyLine,
 ) -> Received
     requires { L.up link.old ≡ true }
-    ensures steps { Takes moment (L.places link.old) (L.advanced link.old) (L.past link.old) (L.past link.new) (received_by (got_of result line.new.items)) sender.old sender.new }
+    ensures steps { Takes moment (L.places link.old) (L.advanced link.old) (L.prompt link.old) (L.past link.old) (L.past link.new) (received_by (got_of result line.new.items)) sender.old sender.new }
     ensures asked { got_of result line.new.items ≢ unasked }
     ensures temps { temps_kept result ≡ temps_in (got_of result line.new.items) }
     ensures up { L.up link.new ≡ is_got (got_of result line.new.items) }
@@ -92,7 +92,7 @@ fn pull_one(
     ensures after { desk.new ≡ (pull_step moment desk.old).1 }
     ensures lines { map line_of lines.new.items ≡ map line_of lines.old.items ++ drawn (pull_step moment desk.old).0 }
     ensures count { result ≡ true → length lines.new.items ≡ length lines.old.items + 1 }
-    ensures steps { sender.new ≡ after_steps moment (issuing (texts_in (drawn (pull_step moment desk.old).0))) sender.old }
+    ensures steps { Issues moment (texts_in (drawn (pull_step moment desk.old).0)) sender.old sender.new }
     ensures sound { IsSound sender.new }
 {
     match desk.pull(moment) {
@@ -110,7 +110,7 @@ fn pull_all(desk: &mut Desk, sender: &mut Sender, moment: u64) -> ArrayVec<Issue
     requires counted { desk.old.issued ≡ sender.old.issued }
     requires settled { settled desk.old ≡ desk.old }
     ensures pulls { Pulls moment (map line_of result.items) desk.old desk.new }
-    ensures steps { sender.new ≡ after_steps moment (issuing (texts_in (map line_of result.items))) sender.old }
+    ensures steps { Issues moment (texts_in (map line_of result.items)) sender.old sender.new }
     ensures spent { (room_of sender.new ≡ 0) ⊎ ((pull_step moment desk.new).0 ≡ None) }
     ensures issued { desk.new.issued ≡ sender.new.issued }
     ensures acked { desk.new.acked ≡ desk.old.acked }
@@ -128,7 +128,7 @@ fn pull_all(desk: &mut Desk, sender: &mut Sender, moment: u64) -> ArrayVec<Issue
 // Sends the next frame, where there is one.
 fn send_one<L: Link>(sender: &mut Sender, link: &mut L, moment: u64) -> Gave
     requires { L.up link.old ≡ true }
-    ensures steps { Takes moment (L.places link.old) (L.advanced link.old) (L.past link.old) (L.past link.new) (given_by result) sender.old sender.new }
+    ensures steps { Takes moment (L.places link.old) (L.advanced link.old) (L.prompt link.old) (L.past link.old) (L.past link.new) (given_by result) sender.old sender.new }
     ensures nothing { (result ≡ gave.Nothing) ↔ (next_of sender.old ≡ None) }
     ensures up { L.up link.new ≡ is_up_by result }
     ensures told { is_some (L.past link.new) ≡ is_some (L.past link.old) }
@@ -152,7 +152,7 @@ fn send_one<L: Link>(sender: &mut Sender, link: &mut L, moment: u64) -> Gave
 // Sends every frame, and answers whether no sending failed.
 fn send_all<L: Link>(sender: &mut Sender, link: &mut L, moment: u64) -> bool
     requires { L.up link.old ≡ true }
-    ensures steps { TakesSome moment (L.places link.old) (L.advanced link.old) (L.past link.old) (L.past link.new) (sends result) sender.old sender.new }
+    ensures steps { TakesSome moment (L.places link.old) (L.advanced link.old) (L.prompt link.old) (L.past link.old) (L.past link.new) (sends result) sender.old sender.new }
     ensures sent { result ≡ true → next_of sender.new ≡ None }
     ensures up { L.up link.new ≡ result }
     ensures told { is_some (L.past link.new) ≡ is_some (L.past link.old) }
@@ -203,7 +203,7 @@ fn speak<L: Link>(
     ensures spent { result.fact ≡ fact.Quiet → IsSpent moment desk.new sender.new }
     ensures joined { IsJoined desk.new sender.new (up_after result.fact true) }
     ensures ready { sender.new.ready ≡ sender.old.ready }
-    ensures steps { TakesSome moment (L.places link.old) (L.advanced link.old) (L.past link.old) (L.past link.new) (speech (is_unbroken result.fact) (texts_in (map line_of result.issued.items))) sender.old sender.new }
+    ensures steps { TakesSome moment (L.places link.old) (L.advanced link.old) (L.prompt link.old) (L.past link.old) (L.past link.new) (speech (is_unbroken result.fact) (texts_in (map line_of result.issued.items))) sender.old sender.new }
     ensures up { L.up link.new ≡ up_after result.fact true }
     ensures told { is_some (L.past link.new) ≡ is_some (L.past link.old) }
     ensures places { L.places link.new ≡ L.places link.old }
@@ -247,15 +247,17 @@ fn proceed<L: Link>(
     requires not_fallen { desk.old.acked ≤ sender.old.acked }
     requires stays_ready { was_ready ≡ true → sender.old.ready ≡ true }
     requires goes_on { was_ready ≡ false → sender.old.ready ≡ true → (tick_step moment sender.old).ended ≡ None }
+    requires fresh { was_ready ≡ false → sender.old.issued ≡ 0 }
     ensures finds { can_find doing_now.Talking result.fact ≡ true }
     ensures noted { IsNoted moment sender.new.acked result.fact (map line_of result.issued.items) desk.old result.ending desk.new }
     ensures received { result.received ≡ received }
     ensures ended { (end : SessionEnd) → (result.fact ≡ fact.Ended end) ↔ ((tick_step moment sender.old).ended ≡ Some end) }
     ensures ready { (result.fact ≡ fact.Ready) ↔ ((was_ready ≡ false) × (sender.new.ready ≡ true)) }
     ensures silent { result.fact ≡ fact.Ready → result.issued.items ≡ [] }
+    ensures sent { result.fact ≡ fact.Ready → next_of sender.new ≡ None }
     ensures spent { result.fact ≡ fact.Quiet → IsSpent moment desk.new sender.new }
     ensures joined { IsJoined desk.new sender.new (up_after result.fact true) }
-    ensures steps { TakesSome moment (L.places link.old) (L.advanced link.old) (L.past link.old) (L.past link.new) (clock_steps result.fact (texts_in (map line_of result.issued.items))) sender.old sender.new }
+    ensures steps { TakesSome moment (L.places link.old) (L.advanced link.old) (L.prompt link.old) (L.past link.old) (L.past link.new) (clock_steps result.fact (texts_in (map line_of result.issued.items))) sender.old sender.new }
     ensures up { L.up link.new ≡ up_after result.fact true }
     ensures told { is_some (L.past link.new) ≡ is_some (L.past link.old) }
     ensures places { L.places link.new ≡ L.places link.old }
@@ -295,9 +297,10 @@ pub fn talk<L: Link>(
     ensures ended { (end : SessionEnd) → (result.fact ≡ fact.Ended end) ↔ (end_by (got_of result.received line.new.items) moment sender.old ≡ Some end) }
     ensures ready { (result.fact ≡ fact.Ready) ↔ ((sender.old.ready ≡ false) × (sender.new.ready ≡ true)) }
     ensures silent { result.fact ≡ fact.Ready → result.issued.items ≡ [] }
+    ensures sent { result.fact ≡ fact.Ready → next_of sender.new ≡ None }
     ensures spent { result.fact ≡ fact.Quiet → IsSpent moment desk.new sender.new }
     ensures joined { IsJoined desk.new sender.new (up_after result.fact true) }
-    ensures steps { TakesSome moment (L.places link.old) (L.advanced link.old) (L.past link.old) (L.past link.new) (talk_steps (got_of result.received line.new.items) result.fact (texts_in (map line_of result.issued.items))) sender.old sender.new }
+    ensures steps { TakesSome moment (L.places link.old) (L.advanced link.old) (L.prompt link.old) (L.past link.old) (L.past link.new) (talk_steps (got_of result.received line.new.items) result.fact (texts_in (map line_of result.issued.items))) sender.old sender.new }
     ensures up { L.up link.new ≡ up_after result.fact true }
     ensures told { is_some (L.past link.new) ≡ is_some (L.past link.old) }
     ensures places { L.places link.new ≡ L.places link.old }

@@ -3,7 +3,7 @@ use Rattle.marlin_reply.specs.declared.session.LinkFact.TheVariants as fact
 use Rattle.send_window.specs.Data.{SenderData}
 use Rattle.octo_session.proofs.Counts.{noted_issued, noted_acked}
 use Rattle.octo_session.proofs.Desk.{noted_once, answer_none, ended_down}
-use Rattle.octo_session.proofs.Keeping.{ticked_keeps}
+use Rattle.octo_session.proofs.Keeping.{ticked_keeps, ready_unsent}
 use Rattle.octo_session.proofs.talk.proceed.Goals as goal
 
 pub returns-in-Err-clause-noted : goal.returns-in-Err-clause-noted
@@ -31,3 +31,8 @@ returns-clause-joined g c =
       acked = noted_acked c.acked-2.result fact.Ready c.args.moment c.args.desk.now c.note-ending-2.new.self refl c.note-ending-2.ensures.after ∙ c.acked-2.ensures.acked;
       running = λ is_open. answer_none c.tick.new.self.ended c.in_default.field-0 (sym c.tick.ensures.answer ∙ c.in_default.is);
     }
+
+pub returns-clause-sent : goal.returns-clause-sent
+returns-clause-sent g c is_ready =
+    let same = ap (λ (s : SenderData). s.issued) c.tick.ensures.state ∙ (ticked_keeps c.args.moment c.args.sender.now).issued in
+    ready_unsent c.tick.new.self c.tick.ensures.sound (sym c.if-not-ready.ensures.ready) (same ∙ c.requires.fresh c.if-was_ready.false)

@@ -27,9 +27,10 @@ returns-in_default g c =
       ended = λ end. (λ is_end. ends_same ∙ (e.ended end).0 is_end, λ is_end. (e.ended end).1 (sym ends_same ∙ is_end));
       ready = (λ is_ready. (sym c.ready-was_ready.ensures.ready ∙ (e.ready.0 is_ready).0, (e.ready.0 is_ready).1), λ becomes. e.ready.1 (c.ready-was_ready.ensures.ready ∙ becomes.0, becomes.1));
       silent = e.silent;
+      sent = e.sent;
       spent = e.spent;
       joined = e.joined;
-      steps = let P : Got → Type 0 = λ x. TakesSome c.args.moment (g.L.Link.places c.args.link.now) (g.L.Link.advanced c.args.link.now) (g.L.Link.past c.args.link.now) (g.L.Link.past c.proceed.new.link) (talk_steps x c.proceed.result.fact (texts_in (map line_of c.proceed.result.issued.items))) c.args.sender.now c.proceed.new.sender in subst P (sym got_same) (takes_talk _ _ _ _ _ _ _ _ got c.proceed.result.fact (texts_in (map line_of c.proceed.result.issued.items)) c.args.sender.now c.receive.new.sender c.proceed.new.sender is r.places r.advanced r.steps e.steps);
+      steps = let P : Got → Type 0 = λ x. TakesSome c.args.moment (g.L.Link.places c.args.link.now) (g.L.Link.advanced c.args.link.now) (g.L.Link.prompt c.args.link.now) (g.L.Link.past c.args.link.now) (g.L.Link.past c.proceed.new.link) (talk_steps x c.proceed.result.fact (texts_in (map line_of c.proceed.result.issued.items))) c.args.sender.now c.proceed.new.sender in subst P (sym got_same) (takes_talk _ _ _ _ _ _ _ _ _ _ got c.proceed.result.fact (texts_in (map line_of c.proceed.result.issued.items)) c.args.sender.now c.receive.new.sender c.proceed.new.sender is r.places r.advanced r.prompt r.steps e.steps);
       up = e.up;
       told = e.told ∙ r.told;
       places = e.places ∙ r.places;
