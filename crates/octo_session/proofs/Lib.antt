@@ -1,0 +1,4 @@
+pub mod Counts
+pub mod Desk
+pub mod Keeping
+pub mod Stepping

@@ -1,0 +1,209 @@
+-- How the steps of a turn join.
+use Rattle.std.proofs.Common.{◌≡◌, ℕ, zero, suc, Bool, true, false, List, [], ◌∷◌, ◌++◌, Option, replicate, refl, sym, ◌∙◌, ap, subst, append_assoc, append-nil}
+use Rattle.std.specs.Prelude.{None, Some, IfSome, is_some}
+use Rattle.std.specs.Option.{option_map}
+use Rattle.send_window.specs.Sending.{Outgoing, number_of_outgoing, bytes_of_outgoing}
+use Rattle.std.proofs.lemmas.List.{append_cancel_left}
+use Rattle.octo_outside.proofs.Told.{became_then, became_so, became_same}
+use Rattle.printer_model.specs.World.{WorldData, world_from, world_of}
+use Rattle.printer_link.specs.Link.{Grows, IsSend, IsSendOf}
+use Rattle.printer_model.specs.declared.event.WorldEvent.{WorldEvent}
+use Rattle.printer_model.proofs.Laws.{world_from-append, world_of-append}
+use Rattle.send_window.specs.Data.{SenderData}
+use Rattle.send_window.specs.Hearing.{tick_step}
+use Rattle.marlin_reply.specs.declared.session.LinkFact.{LinkFact}
+use Rattle.octo_session.specs.Found.{Got, unasked, lost, nothing, whole, is_got, got_of, end_by}
+use Rattle.octo_session.specs.declared.found.Doing.{Doing}
+use Rattle.octo_session.specs.declared.found.Doing.TheVariants.{Resting}
+use Rattle.octo_session.specs.declared.found.Received.{Received}
+use Rattle.octo_session.specs.declared.found.Received.TheVariants as received
+use Rattle.octo_session.specs.Steps.{Step, hears, listens, issues, gives, drops, received_by, clock_steps, talk_steps, turn_steps, after_step, after_steps, IsAllowed, AreAllowed, IsDone, IsDonePromptly, IsGiven, IsGivenAlone, IsAdded, AreAdded, Issues, Takes, TakesSome, issuing, sends, speech}
+
+pub after_steps-append : (moment : ℕ) (xs ys : List Step) (s : SenderData) → after_steps moment (xs ++ ys) s ≡ after_steps moment ys (after_steps moment xs s)
+after_steps-append moment [] ys s = refl
+after_steps-append moment (x ∷ xs) ys s = after_steps-append moment xs ys (after_step moment x s)
+
+-- steps one behind the other are allowed one behind the other
+pub allowed_then : (moment : ℕ) (xs ys : List Step) (s : SenderData) → AreAllowed moment xs s → AreAllowed moment ys (after_steps moment xs s) → AreAllowed moment (xs ++ ys) s
+allowed_then moment [] ys s one more = more
+allowed_then moment (x ∷ xs) ys s one more = (one.0, allowed_then moment xs ys (after_step moment x s) one.1 more)
+
+-- and what they add stands one behind the other
+pub added_then : (moment : ℕ) (is_prompt : Bool) (xs ys : List Step) (s : SenderData) (w : WorldData) (a b : List WorldEvent) → AreAdded moment is_prompt xs s w a → AreAdded moment is_prompt ys (after_steps moment xs s) (world_from w a) b → AreAdded moment is_prompt (xs ++ ys) s w (a ++ b)
+added_then moment is_prompt [] ys s w a b none more =
+    let P : List WorldEvent → Type 0 = λ es. AreAdded moment is_prompt ys s (world_from w es) b in
+    let Q : List WorldEvent → Type 0 = λ es. AreAdded moment is_prompt ys s w (es ++ b) in
+    subst Q (sym none) (subst P none more)
+added_then moment is_prompt (x ∷ xs) ys s w a b one more =
+    let first = one.0 in
+    let rest = one.1 in
+    let P : WorldData → Type 0 = λ v. AreAdded moment is_prompt ys (after_steps moment xs (after_step moment x s)) v b in
+    let here : world_from w a ≡ world_from (world_from w first) rest = ap (world_from w) one.2 ∙ world_from-append w first rest in
+    (first, rest ++ b, ap (λ (es : List WorldEvent). es ++ b) one.2 ∙ append_assoc first rest b, one.3, added_then moment is_prompt xs ys (after_step moment x s) (world_from w first) rest b one.4 (subst P here more))
+
+-- one step alone
+added_one : (moment : ℕ) (is_prompt : Bool) (x : Step) (s : SenderData) (w : WorldData) (added : List WorldEvent) → IsAdded is_prompt x s w added → AreAdded moment is_prompt (x ∷ []) s w added
+added_one moment is_prompt x s w added is = (added, [], sym (append-nil added), is, refl)
+
+-- two words for one addition, the second of which holds under a premise
+pub grows_both : (places : ℕ) (advanced : Bool) (old new : Option (List WorldEvent)) (F : Type 0) (K J : WorldData → List WorldEvent → Type 0) → Grows places advanced old new K → (F → Grows places advanced old new J) → Grows places advanced old new (λ w added. K w added × (F → J w added))
+grows_both places advanced old new F K J first second now e =
+    let one = first now e in (
+      one.0,
+      one.1,
+      one.2,
+      one.3,
+      (
+        one.4,
+        λ f. (
+            let two = second f now e in
+            let was : old ≡ Some two.0 = two.2 in
+            let is : old ≡ Some one.0 = one.2 in
+            let same : two.0 ≡ one.0 = cc in
+            let lists : one.0 ++ one.1 ≡ one.0 ++ two.1 = sym one.3 ∙ two.3 ∙ ap (λ (l : List WorldEvent). l ++ two.1) same in
+            let added : two.1 ≡ one.1 = sym (append_cancel_left one.0 one.1 two.1 lists) in
+            let P : List WorldEvent → Type 0 = λ l. J (world_of places advanced l) two.1 in
+            let Q : List WorldEvent → Type 0 = λ l. J (world_of places advanced one.0) l in
+            subst Q added (subst P same two.4)),
+      ),
+    )
+
+module _ (moment : ℕ) (places : ℕ) (advanced is_prompt : Bool) where
+  pub takes_then : (old mid new : Option (List WorldEvent)) (xs ys : List Step) (s t u : SenderData) → Takes moment places advanced is_prompt old mid xs s t → Takes moment places advanced is_prompt mid new ys t u → Takes moment places advanced is_prompt old new (xs ++ ys) s u
+  takes_then old mid new xs ys s t u first second =
+      let Allowed : SenderData → Type 0 = λ v. AreAllowed moment ys v in
+      record {
+        sender = second.sender ∙ ap (after_steps moment ys) first.sender ∙ sym (after_steps-append moment xs ys s);
+        allowed = allowed_then moment xs ys s first.allowed (subst Allowed first.sender second.allowed);
+        past = became_then old mid new (λ past added. AreAdded moment is_prompt xs s (world_of places advanced past) added)
+            (λ past added. AreAdded moment is_prompt ys t (world_of places advanced past) added)
+            (λ past added. AreAdded moment is_prompt (xs ++ ys) s (world_of places advanced past) added)
+            first.past second.past
+            (λ past added more one two. (let At : WorldData → Type 0 = λ w. AreAdded moment is_prompt ys t w more in
+            let From : SenderData → Type 0 = λ v. AreAdded moment is_prompt ys v (world_from (world_of places advanced past) added) more in
+            added_then moment is_prompt xs ys s (world_of places advanced past) added more one
+            (subst From first.sender (subst At (world_of-append places advanced past added) two))));
+      }
+
+  -- no step
+  pub takes_none : (old : Option (List WorldEvent)) (s : SenderData) → Takes moment places advanced is_prompt old old [] s s
+  takes_none old s = record {
+    sender = refl;
+    allowed = tt;
+    past = became_same old (λ past added. AreAdded moment is_prompt [] s (world_of places advanced past) added) (λ past. refl);
+  }
+
+  -- one step
+  pub takes_one : (old new : Option (List WorldEvent)) (x : Step) (s t : SenderData) → t ≡ after_step moment x s → IsAllowed x s → Grows places advanced old new (IsAdded is_prompt x s) → Takes moment places advanced is_prompt old new (x ∷ []) s t
+  takes_one old new x s t after may grew = record {
+    sender = after;
+    allowed = (may, tt);
+    past = became_so old new (λ past added. IsAdded is_prompt x s (world_of places advanced past) added)
+        (λ past added. AreAdded moment is_prompt (x ∷ []) s (world_of places advanced past) added)
+        grew (λ past added is. added_one moment is_prompt x s (world_of places advanced past) added is);
+  }
+
+  -- one step by the two words of a link
+  pub takes_both : (old new : Option (List WorldEvent)) (x : Step) (s t : SenderData) → t ≡ after_step moment x s → IsAllowed x s → Grows places advanced old new (IsDone x s) → (is_prompt ≡ true → Grows places advanced old new (IsDonePromptly x s)) → Takes moment places advanced is_prompt old new (x ∷ []) s t
+  takes_both old new x s t after may grew promptly =
+      takes_one old new x s t after may (grows_both places advanced old new (is_prompt ≡ true) (IsDone x s) (IsDonePromptly x s) grew promptly)
+
+  -- the same steps under equal names
+  pub takes_as : (old new : Option (List WorldEvent)) (xs ys : List Step) (s t : SenderData) → xs ≡ ys → Takes moment places advanced is_prompt old new xs s t → Takes moment places advanced is_prompt old new ys s t
+  takes_as old new xs ys s t same takes =
+      let P : List Step → Type 0 = λ zs. Takes moment places advanced is_prompt old new zs s t in
+      subst P same takes
+
+-- issued texts add nothing
+added_issuing : (moment : ℕ) (is_prompt : Bool) (texts : List (List ℕ)) (s : SenderData) (w : WorldData) → AreAdded moment is_prompt (issuing texts) s w []
+added_issuing moment is_prompt [] s w = refl
+added_issuing moment is_prompt (text ∷ texts) s w = ([], [], refl, (refl, λ is. tt), added_issuing moment is_prompt texts (after_step moment (issues text) s) w)
+
+pub takes_issuing : (moment places : ℕ) (advanced is_prompt : Bool) (old : Option (List WorldEvent)) (texts : List (List ℕ)) (s t : SenderData) → Issues moment texts s t → Takes moment places advanced is_prompt old old (issuing texts) s t
+takes_issuing moment places advanced is_prompt old texts s t issued_all = record {
+  sender = issued_all.sender;
+  allowed = issued_all.allowed;
+  past = became_same old (λ past added. AreAdded moment is_prompt (issuing texts) s (world_of places advanced past) added)
+      (λ past. added_issuing moment is_prompt texts s (world_of places advanced past));
+}
+
+-- a printer of the same places
+pub takes_at : (moment places places' : ℕ) (advanced advanced' is_prompt is_prompt' : Bool) (old new : Option (List WorldEvent)) (xs : List Step) (s t : SenderData) → places' ≡ places → advanced' ≡ advanced → is_prompt' ≡ is_prompt → Takes moment places' advanced' is_prompt' old new xs s t → Takes moment places advanced is_prompt old new xs s t
+takes_at moment places places' advanced advanced' is_prompt is_prompt' old new xs s t same_places same_advanced same_prompt takes =
+    let P : ℕ → Type 0 = λ p. Takes moment p advanced' is_prompt' old new xs s t in
+    let Q : Bool → Type 0 = λ a. Takes moment places a is_prompt' old new xs s t in
+    let R : Bool → Type 0 = λ b. Takes moment places advanced b old new xs s t in
+    subst R same_prompt (subst Q same_advanced (subst P same_places takes))
+
+-- one more of the same
+pub replicate-push : (count : ℕ) → replicate count gives ++ gives ∷ [] ≡ replicate (suc count) gives
+replicate-push zero = refl
+replicate-push (suc count) = ap (λ (xs : List Step). gives ∷ xs) (replicate-push count)
+
+-- further frames behind some
+pub takes_more : (moment places : ℕ) (advanced is_prompt : Bool) (old mid new : Option (List WorldEvent)) (s t u : SenderData) → TakesSome moment places advanced is_prompt old mid (sends true) s t → Takes moment places advanced is_prompt mid new (gives ∷ []) t u → TakesSome moment places advanced is_prompt old new (sends true) s u
+takes_more moment places advanced is_prompt old mid new s t u some one = record {
+  count = suc some.count;
+  takes = takes_as moment places advanced is_prompt old new _ _ s u (replicate-push some.count) (takes_then moment places advanced is_prompt old mid new _ (gives ∷ []) s t u some.takes one);
+}
+
+-- the last one's sending fails
+pub takes_last : (moment places : ℕ) (advanced is_prompt : Bool) (old mid new : Option (List WorldEvent)) (s t u : SenderData) → TakesSome moment places advanced is_prompt old mid (sends true) s t → Takes moment places advanced is_prompt mid new (drops ∷ []) t u → TakesSome moment places advanced is_prompt old new (sends false) s u
+takes_last moment places advanced is_prompt old mid new s t u some one = record {
+  count = some.count;
+  takes = takes_then moment places advanced is_prompt old mid new _ (drops ∷ []) s t u some.takes one;
+}
+
+-- texts are issued, and then frames sent
+pub takes_said : (moment places : ℕ) (advanced is_prompt : Bool) (old new : Option (List WorldEvent)) (all : Bool) (texts : List (List ℕ)) (s t u : SenderData) → Issues moment texts s t → TakesSome moment places advanced is_prompt old new (sends all) t u → TakesSome moment places advanced is_prompt old new (speech all texts) s u
+takes_said moment places advanced is_prompt old new all texts s t u issued_all some = record {
+  count = some.count;
+  takes = takes_then moment places advanced is_prompt old old new (issuing texts) (sends all some.count) s t u
+      (takes_issuing moment places advanced is_prompt old texts s t issued_all) some.takes;
+}
+
+-- a receiving that didn't fail, and then the rest of the turn
+pub takes_talk : (moment places places' : ℕ) (advanced advanced' is_prompt is_prompt' : Bool) (old mid new : Option (List WorldEvent)) (got : Got) (found : LinkFact) (texts : List (List ℕ)) (s t u : SenderData) → is_got got ≡ true → places' ≡ places → advanced' ≡ advanced → is_prompt' ≡ is_prompt → Takes moment places advanced is_prompt old mid (received_by got) s t → TakesSome moment places' advanced' is_prompt' mid new (clock_steps found texts) t u → TakesSome moment places advanced is_prompt old new (talk_steps got found texts) s u
+takes_talk moment places places' advanced advanced' is_prompt is_prompt' old mid new unasked found texts s t u is p a q first some = absurd (cc is)
+takes_talk moment places places' advanced advanced' is_prompt is_prompt' old mid new lost found texts s t u is p a q first some = absurd (cc is)
+takes_talk moment places places' advanced advanced' is_prompt is_prompt' old mid new nothing found texts s t u is p a q first some = record {
+  count = some.count;
+  takes = takes_then moment places advanced is_prompt old mid new (listens ∷ []) (clock_steps found texts some.count) s t u first (takes_at moment places places' advanced advanced' is_prompt is_prompt' mid new _ t u p a q some.takes);
+}
+takes_talk moment places places' advanced advanced' is_prompt is_prompt' old mid new (whole bytes) found texts s t u is p a q first some = record {
+  count = some.count;
+  takes = takes_then moment places advanced is_prompt old mid new (hears bytes ∷ []) (clock_steps found texts some.count) s t u first (takes_at moment places places' advanced advanced' is_prompt is_prompt' mid new _ t u p a q some.takes);
+}
+
+-- how the session ends by what was received
+pub end_by_is : (got : Got) (moment : ℕ) (s t : SenderData) → is_got got ≡ true → t ≡ after_steps moment (received_by got) s → end_by got moment s ≡ (tick_step moment t).ended
+end_by_is unasked moment s t is after = absurd (cc is)
+end_by_is lost moment s t is after = absurd (cc is)
+end_by_is nothing moment s t is after = ap (λ (x : SenderData). (tick_step moment x).ended) (sym after)
+end_by_is (whole bytes) moment s t is after = ap (λ (x : SenderData). (tick_step moment x).ended) (sym after)
+
+-- what was received and isn't lost
+pub got_some : (r : Received) (bytes : List ℕ) → (got_of r bytes ≡ unasked → ⊥) → (r ≡ received.Lost → ⊥) → is_got (got_of r bytes) ≡ true
+got_some received.Unasked bytes asked not_lost = absurd (asked refl)
+got_some received.Lost bytes asked not_lost = absurd (not_lost refl)
+got_some received.Nothing bytes asked not_lost = refl
+got_some (received.Line temps) bytes asked not_lost = refl
+
+-- a turn that does nothing
+pub takes_rest : (moment places : ℕ) (advanced is_prompt : Bool) (old : Option (List WorldEvent)) (doing_now : Doing) (was_up : Bool) (got : Got) (found : LinkFact) (texts : List (List ℕ)) (s : SenderData) → doing_now ≡ Resting → TakesSome moment places advanced is_prompt old old (turn_steps doing_now was_up got found texts) s s
+takes_rest moment places advanced is_prompt old doing_now was_up got found texts s rests =
+    let P : Doing → Type 0 = λ d. TakesSome moment places advanced is_prompt old old (turn_steps d was_up got found texts) s s in
+    subst P (sym rests) (record { count = 0; takes = takes_none moment places advanced is_prompt old s })
+
+-- what was written is sent
+pub record Gives (places : ℕ) (advanced is_prompt : Bool) (old new : Option (List WorldEvent)) (next : Option Outgoing) : Type 0 where
+  pub there : is_some next ≡ true
+  pub grew : Grows places advanced old new (λ w added. IsGiven next w added)
+  pub promptly : is_prompt ≡ true → Grows places advanced old new (λ w added. IsGivenAlone next added)
+
+pub gives_written : (places : ℕ) (advanced is_prompt : Bool) (old new : Option (List WorldEvent)) (next : Option Outgoing) (number : ℕ) (bytes : List ℕ) → Some number ≡ option_map number_of_outgoing next → IfSome next (λ o. bytes ≡ bytes_of_outgoing o) → Grows places advanced old new (IsSend bytes) → (is_prompt ≡ true → Grows places advanced old new (λ w added. (sent : WorldEvent) × (added ≡ sent ∷ []) × IsSendOf bytes sent)) → Gives places advanced is_prompt old new next
+gives_written places advanced is_prompt old new None number bytes some written grew promptly = absurd (cc some)
+gives_written places advanced is_prompt old new (Some next) number bytes some written grew promptly =
+    let P : List ℕ → Type 0 = λ b. Grows places advanced old new (IsSend b) in
+    let Q : List ℕ → Type 0 = λ b. Grows places advanced old new (λ w added. (sent : WorldEvent) × (added ≡ sent ∷ []) × IsSendOf b sent) in
+    record { there = refl; grew = subst P written grew; promptly = λ is. subst Q written (promptly is) }

@@ -1,0 +1,15 @@
+use Rattle.std.proofs.Common.{map, sym, ◌∙◌}
+use Rattle.job_desk.specs.Views.{line_of}
+use Rattle.octo_session.specs.Data.{doing}
+use Rattle.octo_session.specs.Found.{got_of}
+use Rattle.octo_session.specs.Turn.{texts_in}
+use Rattle.octo_session.proofs.Desk.{noted_greatest}
+use Rattle.octo_session.proofs.Stepping.{takes_rest}
+use Rattle.octo_session.proofs.session.Session.act.Goals as goal
+
+pub returns-in-Talking-clause-greatest : goal.returns-in-Talking-clause-greatest
+returns-in-Talking-clause-greatest g c = noted_greatest _ _ _ _ _ _ _ c.exchange.ensures.noted
+
+pub returns-in-Resting-clause-steps : goal.returns-in-Resting-clause-steps
+returns-in-Resting-clause-steps g c =
+    takes_rest c.args.moment _ _ _ _ (doing c.args.self.now) c.args.self.now.up (got_of c.silent.result.received c.args.line.now.items) c.silent.result.fact (texts_in (map line_of c.silent.result.issued.items)) c.args.self.now.sender (sym c.doing.ensures.is ∙ c.in-Resting.is)

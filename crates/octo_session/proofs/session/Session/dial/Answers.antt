@@ -1,0 +1,13 @@
+use Rattle.std.proofs.Common.{◌≡◌, sym, subst}
+use Rattle.marlin_reply.specs.declared.session.LinkFact.{LinkFact}
+use Rattle.send_window.specs.Data.{begun}
+use Rattle.octo_session.specs.Steps.{Takes, opens, dial_steps}
+use Rattle.octo_session.proofs.Stepping.{takes_both}
+use Rattle.octo_session.proofs.session.Session.dial.Goals as goal
+
+pub returns-in-Ok-clause-steps : goal.returns-in-Ok-clause-steps
+returns-in-Ok-clause-steps g c =
+    let old = c.args.link.now in
+    let after : c.open.new.self.sender ≡ begun c.args.self.now.sender = c.open.ensures.sender in
+    let P : LinkFact → Type 0 = λ f. Takes c.args.moment (g.L.Link.places old) (g.L.Link.advanced old) (g.L.Link.prompt old) (g.L.Link.past old) (g.L.Link.past c.dial_port.new.link) (dial_steps f) c.args.self.now.sender c.open.new.self.sender in
+    subst P (sym c.open.ensures.finds) (takes_both c.args.moment (g.L.Link.places old) (g.L.Link.advanced old) (g.L.Link.prompt old) (g.L.Link.past old) (g.L.Link.past c.dial_port.new.link) opens c.args.self.now.sender c.open.new.self.sender after tt c.in-Ok.ensures.past c.in-Ok.ensures.past_prompt)

@@ -1,0 +1,12 @@
+use Rattle.std.proofs.Common.{◌≡◌, subst}
+use Rattle.std.specs.Prelude.{Some, ◌↔◌}
+use Rattle.marlin_reply.specs.declared.session.LinkFact.TheVariants as fact
+use Rattle.octo_session.specs.Data.{SessionData}
+use Rattle.octo_session.specs.Found.{got_of, end_by}
+use Rattle.octo_session.proofs.session.Session.exchange.Goals as goal
+
+pub returns-clause-ended : goal.returns-clause-ended
+returns-clause-ended g c end =
+    let found = c.talk-found.result in
+    let P : SessionData → Type 0 = λ s. (found.fact ≡ fact.Ended end) ↔ (end_by (got_of found.received c.talk-found.new.line.items) c.args.moment s.sender ≡ Some end) in
+    subst P c.self.view_is (c.talk-found.ensures.ended end)

@@ -1,0 +1,23 @@
+use Rattle.std.proofs.Common.{◌∙◌, arith}
+use Rattle.octo_session.proofs.Stepping.{takes_more, takes_last, takes_at}
+use Rattle.octo_session.proofs.talk.send_all.Goals as goal
+
+pub loop-preserved : goal.loop-preserved
+loop-preserved g c =
+    let i = c.loop.invariant in
+    let e = c.in-Sent.ensures in
+    record {
+      steps = takes_more _ _ _ _ _ _ _ _ _ _ i.steps (takes_at _ _ _ _ _ _ _ _ _ _ _ _ i.places i.advanced i.prompt e.steps);
+      up = e.up;
+      told = e.told ∙ i.told;
+      places = e.places ∙ i.places;
+      advanced = e.advanced ∙ i.advanced;
+      listed = e.listed ∙ i.listed;
+      prompt = e.prompt ∙ i.prompt;
+      counted = omega (arith, i.counted, e.counted);
+    }
+
+pub returns-in-Failed-clause-steps : goal.returns-in-Failed-clause-steps
+returns-in-Failed-clause-steps g c =
+    let i = c.loop.invariant in
+    takes_last _ _ _ _ _ _ _ _ _ _ i.steps (takes_at _ _ _ _ _ _ _ _ _ _ _ _ i.places i.advanced i.prompt c.in-Failed.ensures.steps)

@@ -1,0 +1,42 @@
+use Rattle.std.proofs.Common.{◌≡◌, true, map, sym, ap, subst, ◌∙◌, arith}
+use Rattle.octo_outside.proofs.Told.{rose_after}
+use Rattle.job_desk.specs.Views.{line_of}
+use Rattle.octo_session.specs.Found.{Got, got_of, temps_in, temps_kept, is_got, end_by}
+use Rattle.octo_session.specs.Steps.{TakesSome, talk_steps}
+use Rattle.octo_session.specs.Turn.{texts_in}
+use Rattle.octo_session.specs.declared.found.Received.{Received}
+use Rattle.octo_session.proofs.Stepping.{takes_talk, end_by_is, got_some}
+use Rattle.octo_session.proofs.talk.talk.Goals as goal
+
+pub returns-in_default : goal.returns-in_default
+returns-in_default g c =
+    let bytes = c.receive.new.line.items in
+    let e = c.proceed.ensures in
+    let r = c.receive.ensures in
+    let got : Got = got_of c.receive.result bytes in
+    let same : c.proceed.result.received ≡ c.receive.result = e.received in
+    let got_same : got_of c.proceed.result.received bytes ≡ got = ap (λ (x : Received). got_of x bytes) same in
+    let is : is_got got ≡ true = got_some c.receive.result bytes r.asked c.in_default.not-Lost in
+    let ends = end_by_is got c.args.moment c.args.sender.now c.receive.new.sender is r.steps.sender in
+    let ends_same = ap (λ (x : Got). end_by x c.args.moment c.args.sender.now) got_same ∙ ends in
+    record {
+      finds = e.finds;
+      asked = λ none. r.asked (sym got_same ∙ none);
+      temps = ap temps_kept same ∙ r.temps ∙ sym (ap temps_in got_same);
+      noted = e.noted;
+      ended = λ end. (λ is_end. ends_same ∙ (e.ended end).0 is_end, λ is_end. (e.ended end).1 (sym ends_same ∙ is_end));
+      ready = (λ is_ready. (sym c.ready-was_ready.ensures.ready ∙ (e.ready.0 is_ready).0, (e.ready.0 is_ready).1), λ becomes. e.ready.1 (c.ready-was_ready.ensures.ready ∙ becomes.0, becomes.1));
+      silent = e.silent;
+      sent = e.sent;
+      spent = e.spent;
+      joined = e.joined;
+      steps = let P : Got → Type 0 = λ x. TakesSome c.args.moment (g.L.Link.places c.args.link.now) (g.L.Link.advanced c.args.link.now) (g.L.Link.prompt c.args.link.now) (g.L.Link.past c.args.link.now) (g.L.Link.past c.proceed.new.link) (talk_steps x c.proceed.result.fact (texts_in (map line_of c.proceed.result.issued.items))) c.args.sender.now c.proceed.new.sender in subst P (sym got_same) (takes_talk _ _ _ _ _ _ _ _ _ _ got c.proceed.result.fact (texts_in (map line_of c.proceed.result.issued.items)) c.args.sender.now c.receive.new.sender c.proceed.new.sender is r.places r.advanced r.prompt r.steps e.steps);
+      up = e.up;
+      told = e.told ∙ r.told;
+      places = e.places ∙ r.places;
+      advanced = e.advanced ∙ r.advanced;
+      listed = e.listed ∙ r.listed;
+      prompt = e.prompt ∙ r.prompt;
+      counted = omega (arith, r.counted, e.counted);
+      failed = λ is_failed. rose_after _ _ _ r.counted e.counted (e.failed is_failed);
+    }

@@ -1,0 +1,6 @@
+pub mod Data
+pub mod DeskTurn
+pub mod Fields
+pub mod Found
+pub mod Steps
+pub mod Turn

@@ -1,0 +1,206 @@
+-- A turn as a list of steps: each is one call on the sender, one on the link, or both.
+use Rattle.std.specs.Prelude.{◌≡◌, ℕ, ◌<◌, Bool, true, false, List, [], ◌∷◌, ◌++◌, map, replicate, Option, None, Some, is_some}
+use Rattle.byte_text.specs.Sendable.{IsSendable}
+use Rattle.marlin_reply.specs.Kind.{kind_of}
+use Rattle.marlin_reply.specs.declared.session.LinkFact.{LinkFact}
+use Rattle.marlin_reply.specs.declared.session.LinkFact.TheVariants as fact
+use Rattle.send_window.specs.Data.{SenderData, begun}
+use Rattle.send_window.specs.Sending.{Outgoing, bytes_of_outgoing, next_of, room_of, frame_step, push_step}
+use Rattle.send_window.specs.Hearing.{hear_step, tick_step}
+use Rattle.printer_model.specs.World.{WorldData, world_from}
+use Rattle.printer_link.specs.Link.{Grows, IsDial, IsRuns, IsSend, IsSendOf, IsSendLoss, IsHeard, IsSilence, IsLoss, IsHangUp, dial_events, recv_events}
+use Rattle.printer_model.specs.declared.event.WorldEvent.{WorldEvent}
+use Rattle.octo_session.specs.declared.talk.Gave.{Gave}
+use Rattle.octo_session.specs.declared.talk.Gave.TheVariants as gave
+use Rattle.octo_session.specs.Found.{Got, unasked, lost, nothing, whole}
+use Rattle.octo_session.specs.declared.found.Doing.{Doing}
+use Rattle.octo_session.specs.declared.found.Doing.TheVariants.{Dialling, Hanging, Talking, Resting}
+
+-- a step of a turn
+pub data Step : Type 0 where
+  -- a link is made, and the hello is to be sent from then on
+  opens : Step
+  -- a dial fails
+  misses : Step
+  -- a reply line is received, and the sender hears it
+  hears : List ℕ → Step
+  -- nothing is there to receive
+  listens : Step
+  -- a receiving fails
+  loses : Step
+  -- the sender's clock ticks
+  ticks : Step
+  -- a text is issued
+  issues : List ℕ → Step
+  -- what is to be sent next is sent
+  gives : Step
+  -- what is to be sent next is given out, and the sending fails
+  drops : Step
+  -- the link is hung up, where it was up
+  hangs_up : Bool → Step
+
+-- the sender after a step at a moment
+abbrev pub after_step : ℕ → Step → SenderData → SenderData
+after_step moment opens s = begun s
+after_step moment misses s = s
+after_step moment (hears bytes) s = hear_step (kind_of bytes) moment s
+after_step moment listens s = s
+after_step moment loses s = s
+after_step moment ticks s = tick_step moment s
+after_step moment (issues text) s = push_step text s
+after_step moment gives s = frame_step moment s
+after_step moment drops s = frame_step moment s
+after_step moment (hangs_up was_up) s = s
+
+-- the sender after these steps
+abbrev pub after_steps : ℕ → List Step → SenderData → SenderData
+after_steps moment [] s = s
+after_steps moment (step ∷ steps) s = after_steps moment steps (after_step moment step s)
+
+-- what holds of the sender before a step: a line is issued only where there's room and it may be sent, and a frame is
+-- given out only where there is one
+abbrev pub IsAllowed : Step → SenderData → Type 0
+IsAllowed opens s = Unit {0}
+IsAllowed misses s = Unit {0}
+IsAllowed (hears bytes) s = Unit {0}
+IsAllowed listens s = Unit {0}
+IsAllowed loses s = Unit {0}
+IsAllowed ticks s = Unit {0}
+IsAllowed (issues text) s = (0 < room_of s) × IsSendable text
+IsAllowed gives s = is_some (next_of s) ≡ true
+IsAllowed drops s = is_some (next_of s) ≡ true
+IsAllowed (hangs_up was_up) s = Unit {0}
+
+-- before each of these steps it does
+abbrev pub AreAllowed : ℕ → List Step → SenderData → Type 0
+AreAllowed moment [] s = Unit {0}
+AreAllowed moment (step ∷ steps) s = IsAllowed step s × AreAllowed moment steps (after_step moment step s)
+
+-- what is to be sent next is sent
+abbrev pub IsGiven : Option Outgoing → WorldData → List WorldEvent → Type 0
+IsGiven None w added = ⊥
+IsGiven (Some next) w added = IsSend (bytes_of_outgoing next) w added
+
+-- what a step adds to the past of the link
+abbrev pub IsDone : Step → SenderData → WorldData → List WorldEvent → Type 0
+IsDone opens s w added = IsDial w added
+IsDone misses s w added = IsRuns w added
+IsDone (hears bytes) s w added = IsHeard bytes w added
+IsDone listens s w added = IsSilence w added
+IsDone loses s w added = IsLoss w added
+IsDone ticks s w added = added ≡ []
+IsDone (issues text) s w added = added ≡ []
+IsDone gives s w added = IsGiven (next_of s) w added
+IsDone drops s w added = IsSendLoss w added
+IsDone (hangs_up was_up) s w added = IsHangUp was_up w added
+
+-- what is to be sent next is sent, and nothing else happens
+abbrev pub IsGivenAlone : Option Outgoing → List WorldEvent → Type 0
+IsGivenAlone None added = ⊥
+IsGivenAlone (Some next) added = (sent : WorldEvent) × (added ≡ sent ∷ []) × IsSendOf (bytes_of_outgoing next) sent
+
+-- what a step adds over a prompt link, to the event
+abbrev pub IsDonePromptly : Step → SenderData → WorldData → List WorldEvent → Type 0
+IsDonePromptly opens s w added = (last : ℕ) × (added ≡ dial_events w last)
+IsDonePromptly misses s w added = Unit {0}
+IsDonePromptly (hears bytes) s w added = added ≡ recv_events true w
+IsDonePromptly listens s w added = added ≡ recv_events true w
+IsDonePromptly loses s w added = Unit {0}
+IsDonePromptly ticks s w added = Unit {0}
+IsDonePromptly (issues text) s w added = Unit {0}
+IsDonePromptly gives s w added = IsGivenAlone (next_of s) added
+IsDonePromptly drops s w added = Unit {0}
+IsDonePromptly (hangs_up was_up) s w added = Unit {0}
+
+-- the same over a link that is prompt or not
+abbrev pub IsAdded : Bool → Step → SenderData → WorldData → List WorldEvent → Type 0
+IsAdded is_prompt step s w added = IsDone step s w added × (is_prompt ≡ true → IsDonePromptly step s w added)
+
+-- what these steps add, one behind the other
+abbrev pub AreAdded : ℕ → Bool → List Step → SenderData → WorldData → List WorldEvent → Type 0
+AreAdded moment is_prompt [] s w added = added ≡ []
+AreAdded moment is_prompt (step ∷ steps) s w added =
+    (first : List WorldEvent) × (rest : List WorldEvent) × (added ≡ first ++ rest)
+    × IsAdded is_prompt step s w first × AreAdded moment is_prompt steps (after_step moment step s) (world_from w first) rest
+
+-- texts are issued, each as it comes
+abbrev pub issuing : List (List ℕ) → List Step
+issuing texts = map issues texts
+
+-- a sender issues these texts
+pub record Issues (moment : ℕ) (texts : List (List ℕ)) (old new : SenderData) : Type 0 where
+  pub sender : new ≡ after_steps moment (issuing texts) old
+  pub allowed : AreAllowed moment (issuing texts) old
+
+-- a sender and a link take these steps
+pub record Takes (moment : ℕ) (places : ℕ) (advanced is_prompt : Bool) (old_past new_past : Option (List WorldEvent)) (steps : List Step) (old new : SenderData) : Type 0 where
+  pub sender : new ≡ after_steps moment steps old
+  pub allowed : AreAllowed moment steps old
+  pub past : Grows places advanced old_past new_past (AreAdded moment is_prompt steps old)
+
+-- the step of a receiving
+abbrev pub received_by : Got → List Step
+received_by unasked = []
+received_by lost = loses ∷ []
+received_by nothing = listens ∷ []
+received_by (whole bytes) = hears bytes ∷ []
+
+-- the step of a sending
+abbrev pub given_by : Gave → List Step
+given_by gave.Sent = gives ∷ []
+given_by gave.Nothing = []
+given_by gave.Failed = drops ∷ []
+
+-- whether the link is up after a sending
+abbrev pub is_up_by : Gave → Bool
+is_up_by gave.Sent = true
+is_up_by gave.Nothing = true
+is_up_by gave.Failed = false
+
+-- so many frames are sent, and where not all is sent the sending of one more fails
+abbrev pub sends : Bool → ℕ → List Step
+sends true count = replicate count gives
+sends false count = replicate count gives ++ drops ∷ []
+
+-- texts are issued, and then frames sent
+abbrev pub speech : Bool → List (List ℕ) → ℕ → List Step
+speech all texts count = issuing texts ++ sends all count
+
+-- what a turn over an open link does behind its receiving, by what it finds
+abbrev pub clock_steps : LinkFact → List (List ℕ) → ℕ → List Step
+clock_steps fact.Quiet texts count = ticks ∷ speech true texts count
+clock_steps fact.Opened texts count = []
+clock_steps fact.Ready texts count = ticks ∷ []
+clock_steps fact.Closed texts count = []
+clock_steps fact.NoPort texts count = []
+clock_steps fact.Failed texts count = ticks ∷ speech false texts count
+clock_steps (fact.Ended end) texts count = ticks ∷ hangs_up true ∷ []
+
+-- a turn over an open link, by what it receives and finds
+abbrev pub talk_steps : Got → LinkFact → List (List ℕ) → ℕ → List Step
+talk_steps unasked found texts count = []
+talk_steps lost found texts count = loses ∷ []
+talk_steps nothing found texts count = listens ∷ clock_steps found texts count
+talk_steps (whole bytes) found texts count = hears bytes ∷ clock_steps found texts count
+
+-- a turn that dials, by what it finds
+abbrev pub dial_steps : LinkFact → List Step
+dial_steps fact.Quiet = []
+dial_steps fact.Opened = opens ∷ []
+dial_steps fact.Ready = []
+dial_steps fact.Closed = []
+dial_steps fact.NoPort = []
+dial_steps fact.Failed = misses ∷ []
+dial_steps (fact.Ended end) = []
+
+-- a turn, by what it does, receives, finds and issues, and how many frames it gives out
+abbrev pub turn_steps : Doing → Bool → Got → LinkFact → List (List ℕ) → ℕ → List Step
+turn_steps Dialling was_up got found texts count = dial_steps found
+turn_steps Hanging was_up got found texts count = hangs_up was_up ∷ []
+turn_steps Talking was_up got found texts count = talk_steps got found texts count
+turn_steps Resting was_up got found texts count = []
+
+-- the sender and the link take these steps, with some count of frames
+pub record TakesSome (moment : ℕ) (places : ℕ) (advanced is_prompt : Bool) (old_past new_past : Option (List WorldEvent)) (steps : ℕ → List Step) (old new : SenderData) : Type 0 where
+  pub count : ℕ
+  pub takes : Takes moment places advanced is_prompt old_past new_past (steps count) old new

@@ -1,0 +1,99 @@
+-- What a turn promises.
+use Rattle.std.specs.Prelude.{◌≡◌, ◌≢◌, ◌⊎◌, ◌↔◌, ℕ, Bool, true, false, List, [], ◌∷◌, map, Option, None, Some, IfSome}
+use Rattle.job_desk.specs.Views.{line_of}
+use Rattle.job_desk.specs.declared.issued.Note.{Note}
+use Rattle.desk_steps.specs.Data.{Data, Line}
+use Rattle.desk_steps.specs.Pull.{pull_step}
+use Rattle.marlin_reply.specs.declared.session.SessionEnd.{SessionEnd}
+use Rattle.marlin_reply.specs.declared.session.LinkFact.{LinkFact}
+use Rattle.marlin_reply.specs.declared.session.LinkFact.TheVariants as fact
+use Rattle.print_queue.specs.declared.ending.Ending.{Ending}
+use Rattle.printer_model.specs.declared.event.WorldEvent.{WorldEvent}
+use Rattle.send_window.specs.Data.{SenderData}
+use Rattle.send_window.specs.Sending.{next_of, room_of}
+use Rattle.octo_session.specs.Data.{SessionData, doing}
+use Rattle.octo_session.specs.DeskTurn.{IsNoted}
+use Rattle.octo_session.specs.Found.{Got, unasked, is_whole, temps_in, temps_kept, end_by}
+use Rattle.octo_session.specs.Steps.{TakesSome, turn_steps}
+use Rattle.octo_session.specs.declared.found.Doing.{Doing}
+use Rattle.octo_session.specs.declared.found.Doing.TheVariants.{Dialling, Hanging, Talking, Resting}
+use Rattle.octo_session.specs.declared.found.Found.{Found}
+use Rattle.octo_session.specs.declared.found.Turned.{Turned}
+
+-- the fact of a turn: where there's no note it's Quiet
+abbrev pub fact_of : Option Note → LinkFact
+fact_of None = fact.Quiet
+fact_of (Some note) = note.fact
+
+-- the lines that a turn issued: where there's no note none
+abbrev pub lines_of : Option Note → List Line
+lines_of None = []
+lines_of (Some note) = map line_of note.issued.items
+
+-- whether no call of the link failed
+abbrev pub is_unbroken : LinkFact → Bool
+is_unbroken fact.Failed = false
+is_unbroken _ = true
+
+-- the texts of lines
+abbrev pub texts_in : List Line → List (List ℕ)
+texts_in lines = map (λ line. line.text) lines
+
+-- the line that was drawn, if there is one
+abbrev pub drawn : Option Line → List Line
+drawn None = []
+drawn (Some line) = line ∷ []
+
+-- there's nothing more to say: no room for a line or no line there, and no frame unsent
+pub record IsSpent (moment : ℕ) (d : Data) (s : SenderData) : Type 0 where
+  pub issued : (room_of s ≡ 0) ⊎ ((pull_step moment d).0 ≡ None)
+  pub sent : next_of s ≡ None
+
+-- nothing happened that a note would tell
+pub record IsUneventful (lines : List Line) (before acked : ℕ) (got : Got) (found : LinkFact) : Type 0 where
+  pub no_line : lines ≡ []
+  pub same_acked : acked ≡ before
+  pub no_temps : temps_in got ≡ None
+  pub quiet : found ≡ fact.Quiet
+
+-- the note of a turn
+pub record IsNoteOf (moment acked : ℕ) (lines : List Line) (got : Got) (found : LinkFact) (note : Note) : Type 0 where
+  pub its_moment : note.moment ≡ moment
+  pub its_acked : note.acked ≡ acked
+  pub its_lines : map line_of note.issued.items ≡ lines
+  pub its_temps : note.temps ≡ temps_in got
+  pub its_fact : note.fact ≡ found
+
+-- the same two of what is known before a note is made
+pub record IsStill (found : Found) (before acked : ℕ) : Type 0 where
+  pub no_line : found.issued.items ≡ []
+  pub same_acked : acked ≡ before
+  pub no_temps : temps_kept found.received ≡ None
+  pub quiet : found.fact ≡ fact.Quiet
+
+abbrev pub IsKeptIn : Found → ℕ → ℕ → Note → Type 0
+IsKeptIn found moment acked note =
+    note ≡ record { moment = moment; acked = acked; issued = found.issued; temps = temps_kept found.received; fact = found.fact }
+
+-- what a turn makes of the desk; one that does nothing leaves it
+abbrev pub IsDeskTurn : Doing → ℕ → ℕ → LinkFact → List Line → Data → Option Ending → Data → Type 0
+IsDeskTurn Dialling moment acked found lines old ending new = IsNoted moment acked found lines old ending new
+IsDeskTurn Hanging moment acked found lines old ending new = IsNoted moment acked found lines old ending new
+IsDeskTurn Talking moment acked found lines old ending new = IsNoted moment acked found lines old ending new
+IsDeskTurn Resting moment acked found lines old ending new = (lines ≡ []) × (ending ≡ None) × (new ≡ old)
+
+-- what a turn received, found and issued, with all that hangs on it
+pub record IsTurn (moment : ℕ) (places : ℕ) (advanced is_prompt : Bool) (old_past new_past : Option (List WorldEvent)) (old new : SessionData) (turned : Turned) : Type 0 where
+  pub got : Got
+  pub found : LinkFact
+  pub lines : List Line
+  -- it receives exactly where it talks over the link
+  pub asked : (got ≡ unasked) ↔ (doing old ≢ Talking)
+  pub heard : turned.heard ≡ is_whole got
+  -- there's no note exactly where nothing happened, and else it tells what did
+  pub none : (turned.note ≡ None) ↔ IsUneventful lines old.sender.acked new.sender.acked got found
+  pub some : IfSome turned.note (λ note. IsNoteOf moment new.sender.acked lines got found note)
+  -- the session ends exactly where a receiving that didn't fail and the moment end it
+  pub ended : (end : SessionEnd) → (found ≡ fact.Ended end) ↔ (end_by got moment old.sender ≡ Some end)
+  pub desk : IsDeskTurn (doing old) moment new.sender.acked found lines old.desk turned.ending new.desk
+  pub steps : TakesSome moment places advanced is_prompt old_past new_past (turn_steps (doing old) old.up got found (texts_in lines)) old.sender new.sender

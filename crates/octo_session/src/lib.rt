@@ -1,0 +1,12 @@
+//! The session of a print host with its printer: desk, sender and link, joined turn by turn.
+#![tactic(auto)]
+
+mod found;
+mod session;
+mod talk;
+#[cfg(test)]
+mod tests;
+
+pub use found::Turned;
+pub use job_desk::{Ending, Issued, LinkFact, Note, SessionEnd};
+pub use session::Session;

@@ -1,0 +1,118 @@
+//! The calls of the desk, which a session hands on: they change the desk alone.
+ghost use Rattle.std.specs.Prelude.{◌≡◌, ◌<◌, Ok, Err, MatchResult, All};
+ghost use Rattle.byte_text.specs.Sendable.{IsSendable};
+ghost use Rattle.desk_steps.specs.Table.{cancel_at, connect_at, disconnect_at, drop_file_step, manual_at, pause_at, restart_at, resume_at, select_at, start_at, toggle_at};
+ghost use Rattle.job_desk.specs.DeskViews.{named_file};
+ghost use Rattle.job_desk.specs.Views.{bytes_of};
+ghost use Rattle.octo_session.specs.Data.{IsSession};
+
+use super::Session;
+use desk_steps::Refusal;
+use gcode_lines::Job;
+use job_desk::NotSelected;
+use octo_outside::{Name, Text};
+
+impl Session {
+    /// Begins to connect to a port.
+    pub fn connect(&mut self, port: &Name) -> Result<(), Refusal>
+        ensures answer { result ≡ (connect_at self.old.desk.state port.now.bytes self.old.desk).0 }
+        ensures after { self.new ≡ record self.old { desk = (connect_at self.old.desk.state port.now.bytes self.old.desk).1 } }
+        ensures joined { IsSession self.new }
+    {
+        self.desk.connect(port)
+    }
+
+    /// Ends the connection, after the script for it where there was one.
+    pub fn disconnect(&mut self)
+        ensures after { self.new ≡ record self.old { desk = (disconnect_at self.old.desk.state self.old.desk) } }
+        ensures joined { IsSession self.new }
+    {
+        self.desk.disconnect();
+    }
+
+    /// Selects a file. A refusal hands the job back.
+    pub fn select(&mut self, name: &Name, job: Job) -> Result<(), NotSelected>
+        ensures answer { let selected = select_at self.old.desk.state (named_file name.now.bytes job) self.old.desk in MatchResult result
+            (λ _. selected.0 ≡ Ok tt)
+            (λ refused. (selected.0 ≡ Err refused.refusal) × (refused.job ≡ job)) }
+        ensures after { self.new ≡ record self.old { desk = (select_at self.old.desk.state (named_file name.now.bytes job) self.old.desk).1 } }
+        ensures joined { IsSession self.new }
+    {
+        self.desk.select(name, job)
+    }
+
+    /// The file of this name is no longer selected, unless it is being printed.
+    pub fn drop_file(&mut self, name: &Name) -> Result<(), Refusal>
+        ensures answer { result ≡ (drop_file_step name.now.bytes self.old.desk).0 }
+        ensures after { self.new ≡ record self.old { desk = (drop_file_step name.now.bytes self.old.desk).1 } }
+        ensures joined { IsSession self.new }
+    {
+        self.desk.drop_file(name)
+    }
+
+    /// Starts a print of the selected file. The file may have no command that is too hot.
+    pub fn start(&mut self, print: u32) -> Result<(), Refusal>
+        requires { self.old.desk.greatest < print }
+        ensures answer { result ≡ (start_at self.old.desk.state print self.old.desk).0 }
+        ensures after { self.new ≡ record self.old { desk = (start_at self.old.desk.state print self.old.desk).1 } }
+        ensures joined { IsSession self.new }
+    {
+        self.desk.start(print)
+    }
+
+    /// Ends the paused print as cancelled and starts a new one. Answers the ended print.
+    pub fn restart(&mut self, print: u32) -> Result<u32, Refusal>
+        requires { self.old.desk.greatest < print }
+        ensures answer { result ≡ (restart_at self.old.desk.state print self.old.desk).0 }
+        ensures after { self.new ≡ record self.old { desk = (restart_at self.old.desk.state print self.old.desk).1 } }
+        ensures joined { IsSession self.new }
+    {
+        self.desk.restart(print)
+    }
+
+    /// Pauses the print, once the lines that are on their way are acknowledged.
+    pub fn pause(&mut self) -> Result<(), Refusal>
+        ensures answer { result ≡ (pause_at self.old.desk.state self.old.desk).0 }
+        ensures after { self.new ≡ record self.old { desk = (pause_at self.old.desk.state self.old.desk).1 } }
+        ensures joined { IsSession self.new }
+    {
+        self.desk.pause()
+    }
+
+    /// Goes on with a paused print.
+    pub fn resume(&mut self) -> Result<(), Refusal>
+        ensures answer { result ≡ (resume_at self.old.desk.state self.old.desk).0 }
+        ensures after { self.new ≡ record self.old { desk = (resume_at self.old.desk.state self.old.desk).1 } }
+        ensures joined { IsSession self.new }
+    {
+        self.desk.resume()
+    }
+
+    /// Pauses a print that goes on, and goes on with one that is paused.
+    pub fn toggle(&mut self) -> Result<(), Refusal>
+        ensures answer { result ≡ (toggle_at self.old.desk.state self.old.desk).0 }
+        ensures after { self.new ≡ record self.old { desk = (toggle_at self.old.desk.state self.old.desk).1 } }
+        ensures joined { IsSession self.new }
+    {
+        self.desk.toggle()
+    }
+
+    /// Cancels the print: no further file command is issued.
+    pub fn cancel(&mut self) -> Result<(), Refusal>
+        ensures answer { result ≡ (cancel_at self.old.desk.state self.old.desk).0 }
+        ensures after { self.new ≡ record self.old { desk = (cancel_at self.old.desk.state self.old.desk).1 } }
+        ensures joined { IsSession self.new }
+    {
+        self.desk.cancel()
+    }
+
+    /// Takes the lines of a user, all or none; at most 256 may wait.
+    pub fn manual(&mut self, lines: &[Text]) -> Result<(), Refusal>
+        requires { All IsSendable (bytes_of lines.now) }
+        ensures answer { result ≡ (manual_at self.old.desk.state (bytes_of lines.now) self.old.desk).0 }
+        ensures after { self.new ≡ record self.old { desk = (manual_at self.old.desk.state (bytes_of lines.now) self.old.desk).1 } }
+        ensures joined { IsSession self.new }
+    {
+        self.desk.manual(lines)
+    }
+}
