@@ -16,6 +16,7 @@ pub record Outside : Type 0 where
   pub wrote : Option (List ℕ)
   pub printed : Option (List ℕ)
 
+-- the same by its parts
 abbrev pub outside : Option (List ℕ) → Option (List ℕ) → Option (List ℕ) → Outside
 outside left wrote printed = record { left = left; wrote = wrote; printed = printed }
 

@@ -28,6 +28,10 @@ impl AbsentConn {
 }
 
 impl Conn for AbsentConn {
+    ghost use Rattle.std.specs.Prelude.{◌≡◌, ◌<◌, ◌≤◌, [], None, length, take, IfOk, OnErr, IsErr};
+    ghost use Rattle.octo_outside.specs.Told.{Adds, Rose};
+    ghost use Rattle.octo_outside.specs.Traits.{IsWithin};
+
     ghost left = { λ _. None };
 
     ghost written = { λ _. None };
@@ -36,11 +40,22 @@ impl Conn for AbsentConn {
 
     ghost quiets = { λ _. 0 };
 
-    fn read(&mut self, _into: &mut [u8]) -> Result<Got, Failed> {
+    fn read(&mut self, _into: &mut [u8]) -> Result<Got, Failed>
+        requires { 0 < length _into.old }
+        ensures absent { IsErr result }
+        ensures bound { IfOk result (λ got. IsWithin got (length _into.new)) }
+        ensures counted { self.old.faults ≤ self.new.faults }
+        ensures failed { OnErr result (Rose self.old.faults self.new.faults) }
+    {
         Err(self.fail())
     }
 
-    fn write(&mut self, _bytes: &[u8]) -> Result<usize, Failed> {
+    fn write(&mut self, _bytes: &[u8]) -> Result<usize, Failed>
+        requires { 0 < length _bytes.now }
+        ensures absent { IsErr result }
+        ensures counted { self.old.faults ≤ self.new.faults }
+        ensures failed { OnErr result (Rose self.old.faults self.new.faults) }
+    {
         Err(self.fail())
     }
 }
