@@ -17,11 +17,15 @@ use Rattle.octo_session.specs.declared.found.Doing.{Doing}
 use Rattle.octo_session.specs.declared.found.Doing.TheVariants.{Resting}
 use Rattle.octo_session.specs.declared.found.Received.{Received}
 use Rattle.octo_session.specs.declared.found.Received.TheVariants as received
-use Rattle.octo_session.specs.Steps.{Step, hears, listens, issues, gives, drops, received_by, clock_steps, talk_steps, turn_steps, after_step, after_steps, IsAllowed, AreAllowed, IsDone, IsDonePromptly, IsGiven, IsGivenAlone, IsAdded, AreAdded, Issues, Takes, TakesSome, issuing, sends, speech}
+use Rattle.octo_session.specs.Steps.{Step, hears, listens, issues, gives, drops, received_by, clock_steps, talk_steps, turn_steps, after_step, after_steps, IsAllowed, AreAllowed, IsDone, IsDonePromptly, IsGiven, IsGivenAlone, IsAdded, AreAdded, calls_by, calls_after, Issues, Takes, TakesSome, issuing, sends, speech}
 
 pub after_steps-append : (moment : ℕ) (xs ys : List Step) (s : SenderData) → after_steps moment (xs ++ ys) s ≡ after_steps moment ys (after_steps moment xs s)
 after_steps-append moment [] ys s = refl
 after_steps-append moment (x ∷ xs) ys s = after_steps-append moment xs ys (after_step moment x s)
+
+pub calls_after-append : (xs ys : List Step) (a : Option ℕ) → calls_after (xs ++ ys) a ≡ calls_after ys (calls_after xs a)
+calls_after-append [] ys a = refl
+calls_after-append (x ∷ xs) ys a = calls_after-append xs ys (calls_by x a)
 
 -- steps one behind the other are allowed one behind the other
 pub allowed_then : (moment : ℕ) (xs ys : List Step) (s : SenderData) → AreAllowed moment xs s → AreAllowed moment ys (after_steps moment xs s) → AreAllowed moment (xs ++ ys) s
@@ -69,8 +73,8 @@ grows_both places advanced old new F K J first second now e =
     )
 
 module _ (moment : ℕ) (places : ℕ) (advanced is_prompt : Bool) where
-  pub takes_then : (old mid new : Option (List WorldEvent)) (xs ys : List Step) (s t u : SenderData) → Takes moment places advanced is_prompt old mid xs s t → Takes moment places advanced is_prompt mid new ys t u → Takes moment places advanced is_prompt old new (xs ++ ys) s u
-  takes_then old mid new xs ys s t u first second =
+  pub takes_then : (old mid new : Option (List WorldEvent)) (a b c : Option ℕ) (xs ys : List Step) (s t u : SenderData) → Takes moment places advanced is_prompt old mid a b xs s t → Takes moment places advanced is_prompt mid new b c ys t u → Takes moment places advanced is_prompt old new a c (xs ++ ys) s u
+  takes_then old mid new a b c xs ys s t u first second =
       let Allowed : SenderData → Type 0 = λ v. AreAllowed moment ys v in
       record {
         sender = second.sender ∙ ap (after_steps moment ys) first.sender ∙ sym (after_steps-append moment xs ys s);
@@ -83,35 +87,38 @@ module _ (moment : ℕ) (places : ℕ) (advanced is_prompt : Bool) where
             let From : SenderData → Type 0 = λ v. AreAdded moment is_prompt ys v (world_from (world_of places advanced past) added) more in
             added_then moment is_prompt xs ys s (world_of places advanced past) added more one
             (subst From first.sender (subst At (world_of-append places advanced past added) two))));
+        calls = second.calls ∙ ap (calls_after ys) first.calls ∙ sym (calls_after-append xs ys a);
       }
 
   -- no step
-  pub takes_none : (old : Option (List WorldEvent)) (s : SenderData) → Takes moment places advanced is_prompt old old [] s s
-  takes_none old s = record {
+  pub takes_none : (old : Option (List WorldEvent)) (a : Option ℕ) (s : SenderData) → Takes moment places advanced is_prompt old old a a [] s s
+  takes_none old a s = record {
     sender = refl;
     allowed = tt;
     past = became_same old (λ past added. AreAdded moment is_prompt [] s (world_of places advanced past) added) (λ past. refl);
+    calls = refl;
   }
 
   -- one step
-  pub takes_one : (old new : Option (List WorldEvent)) (x : Step) (s t : SenderData) → t ≡ after_step moment x s → IsAllowed x s → Grows places advanced old new (IsAdded is_prompt x s) → Takes moment places advanced is_prompt old new (x ∷ []) s t
-  takes_one old new x s t after may grew = record {
+  pub takes_one : (old new : Option (List WorldEvent)) (a b : Option ℕ) (x : Step) (s t : SenderData) → t ≡ after_step moment x s → IsAllowed x s → b ≡ calls_by x a → Grows places advanced old new (IsAdded is_prompt x s) → Takes moment places advanced is_prompt old new a b (x ∷ []) s t
+  takes_one old new a b x s t after may called grew = record {
     sender = after;
     allowed = (may, tt);
     past = became_so old new (λ past added. IsAdded is_prompt x s (world_of places advanced past) added)
         (λ past added. AreAdded moment is_prompt (x ∷ []) s (world_of places advanced past) added)
         grew (λ past added is. added_one moment is_prompt x s (world_of places advanced past) added is);
+    calls = called;
   }
 
   -- one step by the two words of a link
-  pub takes_both : (old new : Option (List WorldEvent)) (x : Step) (s t : SenderData) → t ≡ after_step moment x s → IsAllowed x s → Grows places advanced old new (IsDone x s) → (is_prompt ≡ true → Grows places advanced old new (IsDonePromptly x s)) → Takes moment places advanced is_prompt old new (x ∷ []) s t
-  takes_both old new x s t after may grew promptly =
-      takes_one old new x s t after may (grows_both places advanced old new (is_prompt ≡ true) (IsDone x s) (IsDonePromptly x s) grew promptly)
+  pub takes_both : (old new : Option (List WorldEvent)) (a b : Option ℕ) (x : Step) (s t : SenderData) → t ≡ after_step moment x s → IsAllowed x s → b ≡ calls_by x a → Grows places advanced old new (IsDone x s) → (is_prompt ≡ true → Grows places advanced old new (IsDonePromptly x s)) → Takes moment places advanced is_prompt old new a b (x ∷ []) s t
+  takes_both old new a b x s t after may called grew promptly =
+      takes_one old new a b x s t after may called (grows_both places advanced old new (is_prompt ≡ true) (IsDone x s) (IsDonePromptly x s) grew promptly)
 
   -- the same steps under equal names
-  pub takes_as : (old new : Option (List WorldEvent)) (xs ys : List Step) (s t : SenderData) → xs ≡ ys → Takes moment places advanced is_prompt old new xs s t → Takes moment places advanced is_prompt old new ys s t
-  takes_as old new xs ys s t same takes =
-      let P : List Step → Type 0 = λ zs. Takes moment places advanced is_prompt old new zs s t in
+  pub takes_as : (old new : Option (List WorldEvent)) (a b : Option ℕ) (xs ys : List Step) (s t : SenderData) → xs ≡ ys → Takes moment places advanced is_prompt old new a b xs s t → Takes moment places advanced is_prompt old new a b ys s t
+  takes_as old new a b xs ys s t same takes =
+      let P : List Step → Type 0 = λ zs. Takes moment places advanced is_prompt old new a b zs s t in
       subst P same takes
 
 -- issued texts add nothing
@@ -119,20 +126,26 @@ added_issuing : (moment : ℕ) (is_prompt : Bool) (texts : List (List ℕ)) (s :
 added_issuing moment is_prompt [] s w = refl
 added_issuing moment is_prompt (text ∷ texts) s w = ([], [], refl, (refl, λ is. tt), added_issuing moment is_prompt texts (after_step moment (issues text) s) w)
 
-pub takes_issuing : (moment places : ℕ) (advanced is_prompt : Bool) (old : Option (List WorldEvent)) (texts : List (List ℕ)) (s t : SenderData) → Issues moment texts s t → Takes moment places advanced is_prompt old old (issuing texts) s t
-takes_issuing moment places advanced is_prompt old texts s t issued_all = record {
+-- nor are they calls of the link
+calls_issuing : (texts : List (List ℕ)) (a : Option ℕ) → calls_after (issuing texts) a ≡ a
+calls_issuing [] a = refl
+calls_issuing (text ∷ texts) a = calls_issuing texts a
+
+pub takes_issuing : (moment places : ℕ) (advanced is_prompt : Bool) (old : Option (List WorldEvent)) (a : Option ℕ) (texts : List (List ℕ)) (s t : SenderData) → Issues moment texts s t → Takes moment places advanced is_prompt old old a a (issuing texts) s t
+takes_issuing moment places advanced is_prompt old a texts s t issued_all = record {
   sender = issued_all.sender;
   allowed = issued_all.allowed;
   past = became_same old (λ past added. AreAdded moment is_prompt (issuing texts) s (world_of places advanced past) added)
       (λ past. added_issuing moment is_prompt texts s (world_of places advanced past));
+  calls = sym (calls_issuing texts a);
 }
 
 -- a printer of the same places
-pub takes_at : (moment places places' : ℕ) (advanced advanced' is_prompt is_prompt' : Bool) (old new : Option (List WorldEvent)) (xs : List Step) (s t : SenderData) → places' ≡ places → advanced' ≡ advanced → is_prompt' ≡ is_prompt → Takes moment places' advanced' is_prompt' old new xs s t → Takes moment places advanced is_prompt old new xs s t
-takes_at moment places places' advanced advanced' is_prompt is_prompt' old new xs s t same_places same_advanced same_prompt takes =
-    let P : ℕ → Type 0 = λ p. Takes moment p advanced' is_prompt' old new xs s t in
-    let Q : Bool → Type 0 = λ a. Takes moment places a is_prompt' old new xs s t in
-    let R : Bool → Type 0 = λ b. Takes moment places advanced b old new xs s t in
+pub takes_at : (moment places places' : ℕ) (advanced advanced' is_prompt is_prompt' : Bool) (old new : Option (List WorldEvent)) (a b : Option ℕ) (xs : List Step) (s t : SenderData) → places' ≡ places → advanced' ≡ advanced → is_prompt' ≡ is_prompt → Takes moment places' advanced' is_prompt' old new a b xs s t → Takes moment places advanced is_prompt old new a b xs s t
+takes_at moment places places' advanced advanced' is_prompt is_prompt' old new a b xs s t same_places same_advanced same_prompt takes =
+    let P : ℕ → Type 0 = λ p. Takes moment p advanced' is_prompt' old new a b xs s t in
+    let Q : Bool → Type 0 = λ x. Takes moment places x is_prompt' old new a b xs s t in
+    let R : Bool → Type 0 = λ x. Takes moment places advanced x old new a b xs s t in
     subst R same_prompt (subst Q same_advanced (subst P same_places takes))
 
 -- one more of the same
@@ -141,38 +154,38 @@ replicate-push zero = refl
 replicate-push (suc count) = ap (λ (xs : List Step). gives ∷ xs) (replicate-push count)
 
 -- further frames behind some
-pub takes_more : (moment places : ℕ) (advanced is_prompt : Bool) (old mid new : Option (List WorldEvent)) (s t u : SenderData) → TakesSome moment places advanced is_prompt old mid (sends true) s t → Takes moment places advanced is_prompt mid new (gives ∷ []) t u → TakesSome moment places advanced is_prompt old new (sends true) s u
-takes_more moment places advanced is_prompt old mid new s t u some one = record {
+pub takes_more : (moment places : ℕ) (advanced is_prompt : Bool) (old mid new : Option (List WorldEvent)) (a b c : Option ℕ) (s t u : SenderData) → TakesSome moment places advanced is_prompt old mid a b (sends true) s t → Takes moment places advanced is_prompt mid new b c (gives ∷ []) t u → TakesSome moment places advanced is_prompt old new a c (sends true) s u
+takes_more moment places advanced is_prompt old mid new a b c s t u some one = record {
   count = suc some.count;
-  takes = takes_as moment places advanced is_prompt old new _ _ s u (replicate-push some.count) (takes_then moment places advanced is_prompt old mid new _ (gives ∷ []) s t u some.takes one);
+  takes = takes_as moment places advanced is_prompt old new a c _ _ s u (replicate-push some.count) (takes_then moment places advanced is_prompt old mid new a b c _ (gives ∷ []) s t u some.takes one);
 }
 
 -- the last one's sending fails
-pub takes_last : (moment places : ℕ) (advanced is_prompt : Bool) (old mid new : Option (List WorldEvent)) (s t u : SenderData) → TakesSome moment places advanced is_prompt old mid (sends true) s t → Takes moment places advanced is_prompt mid new (drops ∷ []) t u → TakesSome moment places advanced is_prompt old new (sends false) s u
-takes_last moment places advanced is_prompt old mid new s t u some one = record {
+pub takes_last : (moment places : ℕ) (advanced is_prompt : Bool) (old mid new : Option (List WorldEvent)) (a b c : Option ℕ) (s t u : SenderData) → TakesSome moment places advanced is_prompt old mid a b (sends true) s t → Takes moment places advanced is_prompt mid new b c (drops ∷ []) t u → TakesSome moment places advanced is_prompt old new a c (sends false) s u
+takes_last moment places advanced is_prompt old mid new a b c s t u some one = record {
   count = some.count;
-  takes = takes_then moment places advanced is_prompt old mid new _ (drops ∷ []) s t u some.takes one;
+  takes = takes_then moment places advanced is_prompt old mid new a b c _ (drops ∷ []) s t u some.takes one;
 }
 
 -- texts are issued, and then frames sent
-pub takes_said : (moment places : ℕ) (advanced is_prompt : Bool) (old new : Option (List WorldEvent)) (all : Bool) (texts : List (List ℕ)) (s t u : SenderData) → Issues moment texts s t → TakesSome moment places advanced is_prompt old new (sends all) t u → TakesSome moment places advanced is_prompt old new (speech all texts) s u
-takes_said moment places advanced is_prompt old new all texts s t u issued_all some = record {
+pub takes_said : (moment places : ℕ) (advanced is_prompt : Bool) (old new : Option (List WorldEvent)) (a b : Option ℕ) (all : Bool) (texts : List (List ℕ)) (s t u : SenderData) → Issues moment texts s t → TakesSome moment places advanced is_prompt old new a b (sends all) t u → TakesSome moment places advanced is_prompt old new a b (speech all texts) s u
+takes_said moment places advanced is_prompt old new a b all texts s t u issued_all some = record {
   count = some.count;
-  takes = takes_then moment places advanced is_prompt old old new (issuing texts) (sends all some.count) s t u
-      (takes_issuing moment places advanced is_prompt old texts s t issued_all) some.takes;
+  takes = takes_then moment places advanced is_prompt old old new a a b (issuing texts) (sends all some.count) s t u
+      (takes_issuing moment places advanced is_prompt old a texts s t issued_all) some.takes;
 }
 
 -- a receiving that didn't fail, and then the rest of the turn
-pub takes_talk : (moment places places' : ℕ) (advanced advanced' is_prompt is_prompt' : Bool) (old mid new : Option (List WorldEvent)) (got : Got) (found : LinkFact) (texts : List (List ℕ)) (s t u : SenderData) → is_got got ≡ true → places' ≡ places → advanced' ≡ advanced → is_prompt' ≡ is_prompt → Takes moment places advanced is_prompt old mid (received_by got) s t → TakesSome moment places' advanced' is_prompt' mid new (clock_steps found texts) t u → TakesSome moment places advanced is_prompt old new (talk_steps got found texts) s u
-takes_talk moment places places' advanced advanced' is_prompt is_prompt' old mid new unasked found texts s t u is p a q first some = absurd (cc is)
-takes_talk moment places places' advanced advanced' is_prompt is_prompt' old mid new lost found texts s t u is p a q first some = absurd (cc is)
-takes_talk moment places places' advanced advanced' is_prompt is_prompt' old mid new nothing found texts s t u is p a q first some = record {
+pub takes_talk : (moment places places' : ℕ) (advanced advanced' is_prompt is_prompt' : Bool) (old mid new : Option (List WorldEvent)) (a b c : Option ℕ) (got : Got) (found : LinkFact) (texts : List (List ℕ)) (s t u : SenderData) → is_got got ≡ true → places' ≡ places → advanced' ≡ advanced → is_prompt' ≡ is_prompt → Takes moment places advanced is_prompt old mid a b (received_by got) s t → TakesSome moment places' advanced' is_prompt' mid new b c (clock_steps found texts) t u → TakesSome moment places advanced is_prompt old new a c (talk_steps got found texts) s u
+takes_talk moment places places' advanced advanced' is_prompt is_prompt' old mid new a b c unasked found texts s t u is p v q first some = absurd (cc is)
+takes_talk moment places places' advanced advanced' is_prompt is_prompt' old mid new a b c lost found texts s t u is p v q first some = absurd (cc is)
+takes_talk moment places places' advanced advanced' is_prompt is_prompt' old mid new a b c nothing found texts s t u is p v q first some = record {
   count = some.count;
-  takes = takes_then moment places advanced is_prompt old mid new (listens ∷ []) (clock_steps found texts some.count) s t u first (takes_at moment places places' advanced advanced' is_prompt is_prompt' mid new _ t u p a q some.takes);
+  takes = takes_then moment places advanced is_prompt old mid new a b c (listens ∷ []) (clock_steps found texts some.count) s t u first (takes_at moment places places' advanced advanced' is_prompt is_prompt' mid new b c _ t u p v q some.takes);
 }
-takes_talk moment places places' advanced advanced' is_prompt is_prompt' old mid new (whole bytes) found texts s t u is p a q first some = record {
+takes_talk moment places places' advanced advanced' is_prompt is_prompt' old mid new a b c (whole bytes) found texts s t u is p v q first some = record {
   count = some.count;
-  takes = takes_then moment places advanced is_prompt old mid new (hears bytes ∷ []) (clock_steps found texts some.count) s t u first (takes_at moment places places' advanced advanced' is_prompt is_prompt' mid new _ t u p a q some.takes);
+  takes = takes_then moment places advanced is_prompt old mid new a b c (hears bytes ∷ []) (clock_steps found texts some.count) s t u first (takes_at moment places places' advanced advanced' is_prompt is_prompt' mid new b c _ t u p v q some.takes);
 }
 
 -- how the session ends by what was received
@@ -190,10 +203,10 @@ got_some received.Nothing bytes asked not_lost = refl
 got_some (received.Line temps) bytes asked not_lost = refl
 
 -- a turn that does nothing
-pub takes_rest : (moment places : ℕ) (advanced is_prompt : Bool) (old : Option (List WorldEvent)) (doing_now : Doing) (was_up : Bool) (got : Got) (found : LinkFact) (texts : List (List ℕ)) (s : SenderData) → doing_now ≡ Resting → TakesSome moment places advanced is_prompt old old (turn_steps doing_now was_up got found texts) s s
-takes_rest moment places advanced is_prompt old doing_now was_up got found texts s rests =
-    let P : Doing → Type 0 = λ d. TakesSome moment places advanced is_prompt old old (turn_steps d was_up got found texts) s s in
-    subst P (sym rests) (record { count = 0; takes = takes_none moment places advanced is_prompt old s })
+pub takes_rest : (moment places : ℕ) (advanced is_prompt : Bool) (old : Option (List WorldEvent)) (a : Option ℕ) (doing_now : Doing) (was_up : Bool) (got : Got) (found : LinkFact) (texts : List (List ℕ)) (s : SenderData) → doing_now ≡ Resting → TakesSome moment places advanced is_prompt old old a a (turn_steps doing_now was_up got found texts) s s
+takes_rest moment places advanced is_prompt old a doing_now was_up got found texts s rests =
+    let P : Doing → Type 0 = λ d. TakesSome moment places advanced is_prompt old old a a (turn_steps d was_up got found texts) s s in
+    subst P (sym rests) (record { count = 0; takes = takes_none moment places advanced is_prompt old a s })
 
 -- what was written is sent
 pub record Gives (places : ℕ) (advanced is_prompt : Bool) (old new : Option (List WorldEvent)) (next : Option Outgoing) : Type 0 where
