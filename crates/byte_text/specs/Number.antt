@@ -1,6 +1,6 @@
-use Rattle.std.specs.Prelude.{ℕ, Bool, false, ◌+◌, ◌-◌, ◌*◌, List, [], ◌∷◌, fold, min}
+use Rattle.std.specs.Prelude.{ℕ, Bool, false, ◌&&◌, ◌+◌, ◌-◌, ◌*◌, nat_le, if◌then◌else◌, List, [], ◌∷◌, length, fold, min, Option, Some, None}
 use Rattle.std.specs.Char.{is_ascii_digit}
-use Rattle.std.specs.List.{take_while}
+use Rattle.std.specs.List.{list_all, take_while}
 
 -- the digits at the front
 unfoldable pub leading_digits : List ℕ → List ℕ
@@ -18,3 +18,11 @@ number_of bytes = min (decimal_value (leading_digits bytes)) 4294967295
 unfoldable pub begins_with_digit : List ℕ → Bool
 begins_with_digit [] = false
 begins_with_digit (byte ∷ bytes) = is_ascii_digit byte
+
+-- whether a text is 1 to so many digits
+abbrev pub is_whole_number : List ℕ → ℕ → Bool
+is_whole_number text most = list_all is_ascii_digit text && (nat_le 1 (length text) && nat_le (length text) most)
+
+-- the number that a text of 1 to so many digits writes, and no other text
+abbrev pub whole_number : List ℕ → ℕ → Option ℕ
+whole_number text most = if is_whole_number text most then Some (decimal_value text) else None

@@ -11,7 +11,7 @@ ghost use Rattle.byte_text.specs.Xor.{xor_of};
 
 pub use laws::{byte_law, m110_law, number_law, xor_law};
 pub use marks::{has_byte, has_m110, split_at_last};
-pub use numbers::{leading_digits, number};
+pub use numbers::{are_digits, leading_digits, number, whole_number};
 pub use sendable::is_sendable;
 
 /// The exclusive or of all bytes, which Marlin's serial protocol takes as a line's checksum.

@@ -1,8 +1,8 @@
 //! A number at the front of bytes.
-ghost use Rattle.std.specs.Prelude.{◌≡◌};
+ghost use Rattle.std.specs.Prelude.{◌≡◌, ◌≤◌};
 ghost use Rattle.std.specs.Char.{is_ascii_digit};
-ghost use Rattle.std.specs.List.{prefix_len};
-ghost use Rattle.byte_text.specs.Number.{leading_digits, number_of};
+ghost use Rattle.std.specs.List.{list_all, prefix_len};
+ghost use Rattle.byte_text.specs.Number.{leading_digits, number_of, whole_number};
 
 // How many digits stand at the front.
 fn digit_count(bytes: &[u8]) -> usize
@@ -35,4 +35,22 @@ pub fn number(bytes: &[u8]) -> u32
         value = value.saturating_mul(10).saturating_add(digit);
     }
     value
+}
+
+/// Whether all bytes are decimal digits.
+pub fn are_digits(bytes: &[u8]) -> bool
+    ensures { result ≡ list_all is_ascii_digit bytes.now }
+{
+    bytes.iter().all(|byte| byte.is_ascii_digit())
+}
+
+/// The number that a text of 1 to `most` decimal digits writes, none for any other text.
+pub fn whole_number(text: &str, most: usize) -> Option<u64>
+    requires { most ≤ 19 }
+    ensures { result ≡ whole_number text.now most }
+{
+    if text.is_empty() || text.len() > most || !are_digits(text.as_bytes()) {
+        return None;
+    }
+    text.parse().ok()
 }

@@ -20,6 +20,22 @@ fn numbers_at_the_front(rt: HostRuntime) {
 }
 
 #[test]
+fn whole_texts(rt: HostRuntime) {
+    for (text, want) in [
+        ("", None),
+        ("+5", None),
+        ("5x", None),
+        ("-1", None),
+        ("0", Some(0)),
+        ("0005", Some(5)),
+        ("9999999999999", Some(9_999_999_999_999)),
+        ("10000000000000", None),
+    ] {
+        assert!(rt; whole_number(text, 13) == want);
+    }
+}
+
+#[test]
 fn marks_in_a_line(rt: HostRuntime) {
     assert!(rt; has_m110(b"N0 M110 N0"));
     assert!(rt; has_m110(b"M1110M1101"));

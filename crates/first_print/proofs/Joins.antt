@@ -9,8 +9,8 @@ use Rattle.marlin_reply.specs.Kind.{kind_of}
 use Rattle.marlin_reply.specs.declared.reply.Reply.{Reply}
 use Rattle.marlin_reply.specs.declared.reply.Reply.TheVariants as reply
 use Rattle.printer_model.specs.Printer.{Logged}
-use Rattle.printer_model.specs.World.{WorldData, is_free, apply, world_from}
-use Rattle.printer_link.specs.Link.{is_run, IsSend, IsSendOf, IsSendLoss, SendsFailing, MaySendFailing, IsHeard, IsSilence, IsLoss, IsHangUp}
+use Rattle.printer_model.specs.World.{WorldData, is_free, apply, world_from, is_run}
+use Rattle.printer_link.specs.Link.{IsSend, IsSendOf, IsSendLoss, SendsFailing, MaySendFailing, IsHeard, IsSilence, IsLoss, IsHangUp}
 use Rattle.printer_model.specs.declared.event.WorldEvent.{WorldEvent}
 use Rattle.printer_model.specs.declared.event.WorldEvent.TheVariants.{Opened, Send, Arrive, Lose, Garble, Run, Chatter, Recv, Closed}
 use Rattle.printer_model.proofs.Laws.{world_from-append}

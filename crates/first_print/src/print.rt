@@ -3,7 +3,7 @@ ghost use Rattle.std.specs.Prelude.{◌≡◌, ◌≢◌, ◌<◌, ◌≤◌, �
 ghost use Rattle.octo_outside.specs.Told.{Became, Rose};
 ghost use Rattle.gcode_lines.specs.Job.{texts_of};
 ghost use Rattle.marlin_reply.specs.Kind.{kind_of};
-ghost use Rattle.printer_link.specs.Link.{Grows};
+ghost use Rattle.printer_link.specs.Link.{Grows, RoseBy, counted_one};
 ghost use Rattle.first_print.specs.declared.print.Turn.TheVariants as turn;
 ghost use Rattle.first_print.specs.declared.print.PrintEnd.TheVariants as end;
 ghost use Rattle.first_print.specs.Play.{lines_of, line_at, is_ok, is_resend, IsCarried, IsHeardAs};
@@ -56,6 +56,7 @@ fn send_line<L: Link>(link: &mut L, job: &Job, n: u32) -> Result<(), LinkFault>
     ensures down { OnErr result (L.up link.new ≡ false) }
     ensures places { L.places link.new ≡ L.places link.old }
     ensures advanced { L.advanced link.new ≡ L.advanced link.old }
+    ensures calls { L.calls link.new ≡ counted_one (L.calls link.old) }
     ensures counted { L.faults link.old ≤ L.faults link.new }
     ensures failed { OnErr result (Rose (L.faults link.old) (L.faults link.new)) }
     ensures prompt { L.prompt link.old ≡ true → IsAt (L.places link.old) (L.advanced link.old) (L.past link.old) (IsPromptReady n) → OnOk result (IsAt (L.places link.new) (L.advanced link.new) (L.past link.new) (IsPromptSent (lines_of (texts_of job.now)) n)) }
@@ -76,6 +77,7 @@ fn next_line<L: Link>(link: &mut L, job: &Job, n: u32) -> Turn
     ensures up { L.up link.new ≡ goes_on result }
     ensures places { L.places link.new ≡ L.places link.old }
     ensures advanced { L.advanced link.new ≡ L.advanced link.old }
+    ensures calls { RoseBy 0 (L.calls link.old) (L.calls link.new) }
     ensures counted { L.faults link.old ≤ L.faults link.new }
     ensures failed { result ≡ turn.Failed → Rose (L.faults link.old) (L.faults link.new) }
     ensures prompt { L.prompt link.old ≡ true → IsAt (L.places link.old) (L.advanced link.old) (L.past link.old) (IsPromptReady (suc n)) → GoesOn (lines_of (texts_of job.now)) n (L.places link.new) (L.advanced link.new) (L.past link.new) result }
@@ -102,6 +104,7 @@ fn answer<L: Link>(link: &mut L, job: &Job, n: u32, line: &ReplyLine) -> Turn
     ensures up { L.up link.new ≡ goes_on result }
     ensures places { L.places link.new ≡ L.places link.old }
     ensures advanced { L.advanced link.new ≡ L.advanced link.old }
+    ensures calls { RoseBy 0 (L.calls link.old) (L.calls link.new) }
     ensures counted { L.faults link.old ≤ L.faults link.new }
     ensures failed { result ≡ turn.Failed → Rose (L.faults link.old) (L.faults link.new) }
     ensures prompt { L.prompt link.old ≡ true → is_ok (kind_of line.now.items) ≡ true → IsAt (L.places link.old) (L.advanced link.old) (L.past link.old) (IsPromptReady (suc n)) → GoesOn (lines_of (texts_of job.now)) n (L.places link.new) (L.advanced link.new) (L.past link.new) result }
@@ -127,6 +130,7 @@ fn take_turn<L: Link, T: Clock>(link: &mut L, clock: &mut T, job: &Job, n: u32) 
     ensures up { L.up link.new ≡ goes_on result }
     ensures places { L.places link.new ≡ L.places link.old }
     ensures advanced { L.advanced link.new ≡ L.advanced link.old }
+    ensures calls { RoseBy 1 (L.calls link.old) (L.calls link.new) }
     ensures counted { L.faults link.old ≤ L.faults link.new }
     ensures failed { result ≡ turn.Failed → Rose (L.faults link.old) (L.faults link.new) }
     ensures prompt { L.prompt link.old ≡ true → IsAt (L.places link.old) (L.advanced link.old) (L.past link.old) (IsPromptSent (lines_of (texts_of job.now)) n) → GoesOn (lines_of (texts_of job.now)) n (L.places link.new) (L.advanced link.new) (L.past link.new) result }
@@ -152,6 +156,7 @@ fn take_turns<L: Link, T: Clock>(link: &mut L, clock: &mut T, job: &Job, turns: 
     ensures down { L.up link.new ≡ false }
     ensures places { L.places link.new ≡ L.places link.old }
     ensures advanced { L.advanced link.new ≡ L.advanced link.old }
+    ensures calls { result ≡ end.TurnsUsed → RoseBy turns (L.calls link.old) (L.calls link.new) }
     ensures counted { L.faults link.old ≤ L.faults link.new }
     ensures failed { result ≡ end.LinkFailed → Rose (L.faults link.old) (L.faults link.new) }
     ensures prompt { L.prompt link.old ≡ true → IsAt (L.places link.old) (L.advanced link.old) (L.past link.old) (IsPromptSent (lines_of (texts_of job.now)) 0) → length job.now.commands < turns → (result ≡ end.Done) ⊎ (result ≡ end.LinkFailed) }
@@ -177,6 +182,7 @@ fn print_lines<L: Link, T: Clock>(link: &mut L, clock: &mut T, job: &Job, turns:
     ensures down { L.up link.new ≡ false }
     ensures places { L.places link.new ≡ L.places link.old }
     ensures advanced { L.advanced link.new ≡ L.advanced link.old }
+    ensures calls { result ≡ end.TurnsUsed → RoseBy turns (L.calls link.old) (L.calls link.new) }
     ensures counted { L.faults link.old ≤ L.faults link.new }
     ensures failed { result ≡ end.LinkFailed → Rose (L.faults link.old) (L.faults link.new) }
     ensures prompt { L.prompt link.old ≡ true → IsAt (L.places link.old) (L.advanced link.old) (L.past link.old) (IsPromptReady 0) → length job.now.commands < turns → (result ≡ end.Done) ⊎ (result ≡ end.LinkFailed) }
@@ -192,7 +198,8 @@ fn print_lines<L: Link, T: Clock>(link: &mut L, clock: &mut T, job: &Job, turns:
 ///
 /// Whatever the line loses, garbles or says: of each past that the link tells, the commands executed are the first
 /// ones of the job, each once and in order, and all of them where the print is done. Over a prompt link on which no call
-/// fails the print is done in one turn for each command and one for the hello.
+/// fails the print is done in one turn for each command and one for the hello. All turns are used only where at least so
+/// many calls of the link were made.
 pub fn print_file<L: Link, T: Clock>(
     link: &mut L,
     clock: &mut T,
@@ -205,6 +212,7 @@ pub fn print_file<L: Link, T: Clock>(
     ensures asked { Grows (L.places link.old) (L.advanced link.old) (L.past link.old) (L.past link.new) (λ w added. asks w added ≡ end_asked result) }
     ensures no_port { (result ≡ end.NoPort) ↔ (L.listed link.old port.now ≡ false) }
     ensures down { L.up link.new ≡ false }
+    ensures calls { result ≡ end.TurnsUsed → RoseBy turns (L.calls link.old) (L.calls link.new) }
     ensures counted { L.faults link.old ≤ L.faults link.new }
     ensures failed { result ≡ end.LinkFailed → Rose (L.faults link.old) (L.faults link.new) }
     ensures prompt { IsSmooth (L.prompt link.old) (L.past link.old) (L.listed link.old port.now) (L.faults link.old) (L.faults link.new) → length job.now.commands < turns → result ≡ end.Done }

@@ -1,5 +1,5 @@
 -- What becomes of a print over a prompt link on which no call fails.
-use Rattle.std.proofs.Common.{◌≡◌, ◌⊎◌, inl, inr, ℕ, true, false, List, Option, Result, Ok, Err, ◌∙◌, ap, subst, arith}
+use Rattle.std.proofs.Common.{◌≡◌, ◌<◌, ◌≤◌, ◌⊎◌, inl, inr, ℕ, true, false, List, Option, Result, Ok, Err, ◌∙◌, ap, subst, arith}
 use Rattle.std.specs.Prelude.{◌==◌, IfSome}
 use Rattle.std.proofs.lemmas.Bool.Decides.{nat_tests}
 use Rattle.octo_outside.specs.Told.{Rose, Steady}
@@ -22,8 +22,8 @@ given_trouble r job bytes gives (inr is) =
     absurd (cc)
 
 -- where a file gives a job, only memory or the source can fail
-pub printable_trouble : (files : Option Files) (file : List ℕ) (r : Report) → IsPrintable files file → IfSome files (λ all. IfSome (all file) (λ bytes. IsTroubled (Err r) ⊎ (Err r ≡ file_of bytes))) → IsTrouble r
-printable_trouble files file r p exact =
+pub printable_trouble : (files : Option Files) (file : List ℕ) (turns : ℕ) (r : Report) → IsPrintable files file turns → IfSome files (λ all. IfSome (all file) (λ bytes. IsTroubled (Err r) ⊎ (Err r ≡ file_of bytes))) → IsTrouble r
+printable_trouble files file turns r p exact =
     let Held : Option (List ℕ) → Type 0 = λ held. IfSome held (λ bytes. IsTroubled (Err r) ⊎ (Err r ≡ file_of bytes)) in
     let Told : Option Files → Type 0 = λ told. IfSome told (λ all. Held (all file)) in
     given_trouble r p.job p.bytes p.gives (subst Held p.held (subst Told p.told exact))
@@ -39,3 +39,8 @@ pub ends_well : (r : Report) (before now : ℕ) → is_checked r ≡ false → (
 ends_well r before now unchecked (inl printed) steady failed = inl (printed_code r unchecked printed)
 ends_well r before now unchecked (inr (inl memory)) steady failed = inr (inr (ap code_of memory))
 ends_well r before now unchecked (inr (inr source)) steady failed = absurd (steady_not_rose before now steady (failed source))
+
+-- a file has fewer commands than the default of turns
+pub enough_turns : (count turns : ℕ) → count ≤ 67108864 → (turns ≡ 1000000000) ⊎ (count < turns) → count < turns
+enough_turns count turns few (inl is) = omega (arith, is)
+enough_turns count turns few (inr fewer) = fewer

@@ -1,8 +1,9 @@
 -- What a command comes to, by its words and its file.
-use Rattle.std.specs.Prelude.{◌≡◌, ◌≢◌, ◌⊎◌, ◌↔◌, ℕ, Bool, true, false, nat_lt, ◌==◌, ◌||◌, if◌then◌else◌, List, [], length, Option, Some, None, Result, Ok, Err, IfSome}
+use Rattle.std.specs.Prelude.{◌≡◌, ◌≢◌, ◌<◌, ◌⊎◌, ◌↔◌, ℕ, Bool, true, false, nat_lt, ◌==◌, ◌||◌, if◌then◌else◌, List, [], length, Option, Some, None, Result, Ok, Err, IfSome}
 use Rattle.octo_outside.specs.Told.{Became, Adds, AddsPrefix, Rose}
 use Rattle.octo_outside.specs.Traits.{Files}
 use Rattle.printer_model.specs.declared.event.WorldEvent.{WorldEvent}
+use Rattle.printer_link.specs.Link.{RoseBy}
 use Rattle.first_print.specs.Leads.{IsPrintOf}
 use Rattle.gcode_lines.specs.declared.fault.FileFault.{FileFault}
 use Rattle.gcode_lines.specs.declared.fault.FileFault.TheVariants.{TooLarge}
@@ -15,7 +16,7 @@ use Rattle.temp_rules.specs.declared.limits.Limits.{Limits}
 use Rattle.temp_rules.specs.declared.job.HotLine.{HotLine}
 use Rattle.octo.specs.declared.report.Report.{Report}
 use Rattle.octo.specs.declared.report.Report.TheVariants as report
-use Rattle.octo.specs.Words.{CommandData, print_file, check_file, command_of}
+use Rattle.octo.specs.Words.{CommandData, print_file, check_file, command_of, default_turns}
 use Rattle.octo.specs.Report.{code_of, text_of}
 
 -- the limits of a file in whole degrees
@@ -45,14 +46,15 @@ texts_in bytes = texts_or_none (file_of bytes)
     texts_or_none (Ok job) = texts_of job
     texts_or_none (Err refusal) = []
 
--- the source tells its files, and the one of this name gives a job
-pub record IsPrintable (files : Option Files) (file : List ℕ) : Type 0 where
+-- the source tells its files, and the one of this name gives a job of fewer commands than turns; the default is enough
+pub record IsPrintable (files : Option Files) (file : List ℕ) (turns : ℕ) : Type 0 where
   pub all : Files
   pub bytes : List ℕ
   pub job : JobData
   pub told : files ≡ Some all
   pub held : all file ≡ Some bytes
   pub gives : file_of bytes ≡ Ok job
+  pub enough : (turns ≡ default_turns) ⊎ (length job.commands < turns)
 
 -- memory or the source failed
 abbrev pub IsTrouble : Report → Type 0
@@ -63,14 +65,14 @@ abbrev pub IsTroubled : Result JobData Report → Type 0
 IsTroubled (Ok job) = ⊥
 IsTroubled (Err r) = IsTrouble r
 
--- what a print of a job over a port may report
-abbrev pub IsPrintReport : JobData → List ℕ → Bool → Report → Type 0
-IsPrintReport job port listed (report.Printed commands skipped) = (commands ≡ length job.commands) × (skipped ≡ job.skipped) × (listed ≡ true)
-IsPrintReport job port listed (report.NoPort name) = (name.bytes ≡ port) × (listed ≡ false)
-IsPrintReport job port listed report.LinkFailed = listed ≡ true
-IsPrintReport job port listed report.Resent = listed ≡ true
-IsPrintReport job port listed (report.TurnsUsed turns) = (turns ≡ 1000000000) × (listed ≡ true)
-IsPrintReport job port listed _ = ⊥
+-- what a print of a job over a port in so many turns may report
+abbrev pub IsPrintReport : JobData → List ℕ → ℕ → Bool → Report → Type 0
+IsPrintReport job port turns listed (report.Printed commands skipped) = (commands ≡ length job.commands) × (skipped ≡ job.skipped) × (listed ≡ true)
+IsPrintReport job port turns listed (report.NoPort name) = (name.bytes ≡ port) × (listed ≡ false)
+IsPrintReport job port turns listed report.LinkFailed = listed ≡ true
+IsPrintReport job port turns listed report.Resent = listed ≡ true
+IsPrintReport job port turns listed (report.TurnsUsed used) = (used ≡ turns) × (listed ≡ true)
+IsPrintReport job port turns listed _ = ⊥
 
 -- the report that this port is not listed
 abbrev pub IsNoPort : List ℕ → Report → Type 0
@@ -85,12 +87,12 @@ check_report job =
 -- what a command with a file that gives this may report, memory and the source aside
 abbrev pub IsReportOf : CommandData → (List ℕ → Bool) → Result JobData Report → Report → Type 0
 IsReportOf command listed (Err refusal) r = r ≡ refusal
-IsReportOf (print_file port file) listed (Ok job) r = IsPrintReport job port (listed port) r
+IsReportOf (print_file port file turns) listed (Ok job) r = IsPrintReport job port turns (listed port) r
 IsReportOf (check_file file) listed (Ok job) r = r ≡ check_report job
 
 -- the file of a command
 abbrev pub file_name : CommandData → List ℕ
-file_name (print_file port file) = file
+file_name (print_file port file turns) = file
 file_name (check_file file) = file
 
 -- whether all was printed
@@ -117,6 +119,11 @@ abbrev pub is_resent : Report → Bool
 is_resent report.Resent = true
 is_resent _ = false
 
+-- whether all turns were used
+abbrev pub is_out_of_turns : Report → Bool
+is_out_of_turns (report.TurnsUsed turns) = true
+is_out_of_turns _ = false
+
 -- a report that a file gives no job
 pub record IsRefusal (r : Report) : Type 0 where
   pub unused : used_link r ≡ false
@@ -125,6 +132,15 @@ pub record IsRefusal (r : Report) : Type 0 where
   pub printed : is_printed r ≡ false
   pub checked : is_checked r ≡ false
   pub resent : is_resent r ≡ false
+  pub turns : is_out_of_turns r ≡ false
+
+-- the words are a print, and the calls of its link reached its turns
+pub record HasUsedTurns (words : List (List ℕ)) (calls calls' : Option ℕ) : Type 0 where
+  pub port : List ℕ
+  pub file : List ℕ
+  pub turns : ℕ
+  pub command_is : command_of words ≡ Some (print_file port file turns)
+  pub reached : RoseBy turns calls calls'
 
 -- a report was written, or the sink failed
 abbrev pub IsWritten : Report → ℕ → Option (List ℕ) → Option (List ℕ) → Type 0

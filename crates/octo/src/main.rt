@@ -1,16 +1,16 @@
 //! A print host for one 3D printer: prints a file over a link to the printer, and checks files.
 #![tactic(auto)]
 
-mod absent;
 mod files;
 mod page;
 mod report;
 mod run;
 #[cfg(test)]
 mod tests;
+mod words;
 
-use absent::AbsentLink;
-use octo_outside::{FileSource, MemoryClock, StdSink, WordList};
+use octo_outside::{FileSource, StdSink, SystemClock, WordList};
+use printer_link::SocketLink;
 use report::{Report, write_report};
 use run::octo;
 use std::env;
@@ -32,8 +32,8 @@ fn main(rt: HostRuntime) -> ExitCode {
         return ExitCode::from(Report::NoMemory.code());
     };
     let mut files = FileSource::new(rt);
-    let mut link = AbsentLink::new();
-    let mut clock = MemoryClock::new(0, 1);
+    let mut link = SocketLink::new(&rt);
+    let mut clock = SystemClock::new(rt);
     let status = octo(
         &rt,
         rt.alloc(),

@@ -1,26 +1,24 @@
 //! The commands: to print a file and to check one.
-ghost use Rattle.std.specs.Prelude.{◌≡◌, ◌⊎◌, ◌≤◌, ◌≢◌, ◌==◌, ℕ, List, true, false, length, Some, IfSome, IsTrue};
+ghost use Rattle.std.specs.Prelude.{◌≡◌, ◌⊎◌, ◌<◌, ◌≤◌, ◌≢◌, ◌==◌, ℕ, List, true, false, length, Some, IfSome, IsTrue};
 ghost use Rattle.octo_outside.specs.Told.{Became, Rose, Steady};
 ghost use Rattle.gcode_lines.specs.Job.{texts_of};
-ghost use Rattle.printer_link.specs.Link.{Grows};
+ghost use Rattle.printer_link.specs.Link.{Grows, RoseBy};
 ghost use Rattle.first_print.specs.Leads.{asks, IsPrintOf};
 ghost use Rattle.first_print.specs.Prompt.{IsSmooth};
 ghost use Rattle.octo.specs.declared.report.Report.{Report};
 ghost use Rattle.octo.specs.declared.report.Report.TheVariants as report;
-ghost use Rattle.octo.specs.Words.{CommandData, print_file, check_file, command_of, names_port};
-ghost use Rattle.octo.specs.Outcome.{file_of, check_report, file_name, used_link, is_printed, is_resent, is_checked, leaves_link, IsTrouble, IsReportOf, IsPrintReport, IsNoPort, IsExecuted, IsPrintable, IsWritten, Ended};
+ghost use Rattle.octo.specs.Words.{CommandData, print_file, check_file, command_of, default_turns};
+ghost use Rattle.octo.specs.Outcome.{file_of, check_report, file_name, used_link, is_printed, is_resent, is_checked, is_out_of_turns, leaves_link, IsTrouble, IsReportOf, IsPrintReport, IsNoPort, IsExecuted, IsPrintable, IsWritten, HasUsedTurns, Ended};
 
 use crate::files::read_job;
 use crate::report::{Report, write_report};
+use crate::words::{is_port, read_turns};
 use first_print::{PrintEnd, print_file};
 use gcode_lines::Job;
 use octo_outside::{Clock, Failed, Name, Sink, Source, WordList};
 use printer_link::Link;
 use std::alloc::Global;
 use temp_rules::Targets;
-
-// How many turns a print has: about eleven days where nothing is heard.
-const TURNS: u64 = 1_000_000_000;
 
 /// How a command ended.
 #[derive(Clone, Copy, Debug, PartialEq, Eq)]
@@ -49,6 +47,7 @@ fn check_job(job: &Job) -> Report
 fn check<F: Source>(alloc: Global, files: &mut F, file: &str) -> Report
     ensures by_file { IfSome (F.files files.old) (λ all. IfSome (all file.now) (λ bytes. IsTrouble result ⊎ IsReportOf (check_file file.now) (λ _. false) (file_of bytes) result)) }
     ensures unused { used_link result ≡ false }
+    ensures turns { is_out_of_turns result ≡ false }
     ensures words { result ≢ report.BadWords }
     ensures counted { F.faults files.old ≤ F.faults files.new }
     ensures source { result ≡ report.SourceFailed → Rose (F.faults files.old) (F.faults files.new) }
@@ -59,11 +58,17 @@ fn check<F: Source>(alloc: Global, files: &mut F, file: &str) -> Report
     }
 }
 
-// Prints a job over a port.
-fn print_job<L: Link, T: Clock>(link: &mut L, clock: &mut T, port: &str, job: &Job) -> Report
+// Prints a job over a port in so many turns.
+fn print_job<L: Link, T: Clock>(
+    link: &mut L,
+    clock: &mut T,
+    port: &str,
+    job: &Job,
+    turns: u64,
+) -> Report
     requires down { L.up link.old ≡ false }
     requires short { length port.now ≤ 100 }
-    ensures report { IsPrintReport job.now port.now (L.listed link.old port.now) result }
+    ensures report { IsPrintReport job.now port.now turns (L.listed link.old port.now) result }
     ensures executed { Became (L.past link.old) (L.past link.new) (IsPrintOf (L.places link.old) (L.advanced link.old) (texts_of job.now) (is_printed result)) }
     ensures asked { Grows (L.places link.old) (L.advanced link.old) (L.past link.old) (L.past link.new) (λ w added. asks w added ≡ is_resent result) }
     ensures counted { L.faults link.old ≤ L.faults link.new }
@@ -72,10 +77,11 @@ fn print_job<L: Link, T: Clock>(link: &mut L, clock: &mut T, port: &str, job: &J
     ensures unchecked { is_checked result ≡ false }
     ensures words { result ≢ report.BadWords }
     ensures source { result ≢ report.SourceFailed }
-    ensures prompt { IsSmooth (L.prompt link.old) (L.past link.old) (L.listed link.old port.now) (L.faults link.old) (L.faults link.new) → is_printed result ≡ true }
+    ensures prompt { IsSmooth (L.prompt link.old) (L.past link.old) (L.listed link.old port.now) (L.faults link.old) (L.faults link.new) → (turns ≡ default_turns) ⊎ (length job.now.commands < turns) → is_printed result ≡ true }
+    ensures calls { is_out_of_turns result ≡ true → RoseBy turns (L.calls link.old) (L.calls link.new) }
 {
     let commands = job.count();
-    match print_file(link, clock, port, job, TURNS) {
+    match print_file(link, clock, port, job, turns) {
         PrintEnd::Done => Report::Printed {
             commands: commands as u32,
             skipped: job.skipped(),
@@ -83,7 +89,7 @@ fn print_job<L: Link, T: Clock>(link: &mut L, clock: &mut T, port: &str, job: &J
         PrintEnd::NoPort => no_port(port),
         PrintEnd::LinkFailed => Report::LinkFailed,
         PrintEnd::Resent => Report::Resent,
-        PrintEnd::TurnsUsed => Report::TurnsUsed { turns: TURNS },
+        PrintEnd::TurnsUsed => Report::TurnsUsed { turns },
     }
 }
 
@@ -106,10 +112,11 @@ fn print<F: Source, L: Link, T: Clock>(
     clock: &mut T,
     port: &str,
     file: &str,
+    turns: u64,
 ) -> Report
     requires down { L.up link.old ≡ false }
     requires short { length port.now ≤ 100 }
-    ensures by_file { IfSome (F.files files.old) (λ all. IfSome (all file.now) (λ bytes. IsTrouble result ⊎ IsReportOf (print_file port.now file.now) (L.listed link.old) (file_of bytes) result)) }
+    ensures by_file { IfSome (F.files files.old) (λ all. IfSome (all file.now) (λ bytes. IsTrouble result ⊎ IsReportOf (print_file port.now file.now turns) (L.listed link.old) (file_of bytes) result)) }
     ensures executed { IsExecuted (L.places link.old) (L.advanced link.old) (F.files files.old) file.now (is_printed result) (L.past link.old) (L.past link.new) }
     ensures unused { used_link result ≡ false → L.past link.new ≡ L.past link.old }
     ensures asked { Grows (L.places link.old) (L.advanced link.old) (L.past link.old) (L.past link.new) (λ w added. asks w added ≡ is_resent result) }
@@ -119,20 +126,13 @@ fn print<F: Source, L: Link, T: Clock>(
     ensures source { result ≡ report.SourceFailed → Rose (F.faults files.old) (F.faults files.new) }
     ensures link_counted { L.faults link.old ≤ L.faults link.new }
     ensures link_failed { result ≡ report.LinkFailed → Rose (L.faults link.old) (L.faults link.new) }
-    ensures prompt { IsSmooth (L.prompt link.old) (L.past link.old) (L.listed link.old port.now) (L.faults link.old) (L.faults link.new) → IsPrintable (F.files files.old) file.now → (is_printed result ≡ true) ⊎ IsTrouble result }
+    ensures prompt { IsSmooth (L.prompt link.old) (L.past link.old) (L.listed link.old port.now) (L.faults link.old) (L.faults link.new) → IsPrintable (F.files files.old) file.now turns → (is_printed result ≡ true) ⊎ IsTrouble result }
+    ensures calls { is_out_of_turns result ≡ true → RoseBy turns (L.calls link.old) (L.calls link.new) }
 {
     match read_job(alloc, files, file) {
-        Ok(job) => print_job(link, clock, port, &job),
+        Ok(job) => print_job(link, clock, port, &job, turns),
         Err(report) => report,
     }
-}
-
-// Whether a word may name a port.
-fn is_port(port: &str) -> bool
-    ensures value { result ≡ names_port port.now }
-    ensures short { IsTrue result → length port.now ≤ 100 }
-{
-    port.len() >= 1 && port.len() <= 100
 }
 
 // Carries out the command that the words are.
@@ -145,27 +145,32 @@ fn run<F: Source, L: Link, T: Clock>(
 ) -> Report
     requires { L.up link.old ≡ false }
     ensures ended { Ended words.now (F.files files.old) (L.listed link.old) (F.faults files.old) (F.faults files.new) (L.faults link.old) (L.faults link.new) result }
-    ensures executed { (port file : List ℕ) → command_of words.now ≡ Some (print_file port file) → IsExecuted (L.places link.old) (L.advanced link.old) (F.files files.old) file (is_printed result) (L.past link.old) (L.past link.new) }
-    ensures unchecked { (port file : List ℕ) → command_of words.now ≡ Some (print_file port file) → is_checked result ≡ false }
+    ensures executed { (port file : List ℕ) (turns : ℕ) → command_of words.now ≡ Some (print_file port file turns) → IsExecuted (L.places link.old) (L.advanced link.old) (F.files files.old) file (is_printed result) (L.past link.old) (L.past link.new) }
+    ensures unchecked { (port file : List ℕ) (turns : ℕ) → command_of words.now ≡ Some (print_file port file turns) → is_checked result ≡ false }
     ensures unused { used_link result ≡ false → L.past link.new ≡ L.past link.old }
     ensures asked { Grows (L.places link.old) (L.advanced link.old) (L.past link.old) (L.past link.new) (λ w added. asks w added ≡ is_resent result) }
     ensures counted { F.faults files.old ≤ F.faults files.new }
     ensures link_counted { L.faults link.old ≤ L.faults link.new }
-    ensures prompt { (port file : List ℕ) → command_of words.now ≡ Some (print_file port file) → IsSmooth (L.prompt link.old) (L.past link.old) (L.listed link.old port) (L.faults link.old) (L.faults link.new) → IsPrintable (F.files files.old) file → (is_printed result ≡ true) ⊎ IsTrouble result }
+    ensures turns { is_out_of_turns result ≡ true → HasUsedTurns words.now (L.calls link.old) (L.calls link.new) }
+    ensures prompt { (port file : List ℕ) (turns : ℕ) → command_of words.now ≡ Some (print_file port file turns) → IsSmooth (L.prompt link.old) (L.past link.old) (L.listed link.old port) (L.faults link.old) (L.faults link.new) → IsPrintable (F.files files.old) file turns → (is_printed result ≡ true) ⊎ IsTrouble result }
 {
     if words.count() == 2 && words.get(0) == "check" {
         return check(alloc, files, words.get(1));
     }
-    if words.count() == 3 && words.get(0) == "print" && is_port(words.get(1)) {
-        return print(alloc, files, link, clock, words.get(1), words.get(2));
+    if words.count() < 3 || words.get(0) != "print" || !is_port(words.get(1)) {
+        return Report::BadWords;
     }
-    Report::BadWords
+    match read_turns(words) {
+        Some(turns) => print(alloc, files, link, clock, words.get(1), words.get(2), turns),
+        None => Report::BadWords,
+    }
 }
 
-/// Carries out the command that the words are, without the program's name: `print PORT FILE` or `check FILE`. Its
-/// report is written to `out`.
+/// Carries out the command that the words are, without the program's name: `print PORT FILE`, with `--turns N` behind it
+/// for at most N turns, or `check FILE`. Its report is written to `out`.
 ///
-/// Over a prompt link on which no call fails a file that gives a job is printed, unless memory, the source or the sink fails.
+/// Over a prompt link on which no call fails a file that gives a job is printed in one turn more than it has commands,
+/// unless memory, the source or the sink fails.
 pub fn octo<R, F: Source, L: Link, O: Sink, T: Clock>(
     _rt: &R,
     alloc: Global,
@@ -177,13 +182,14 @@ pub fn octo<R, F: Source, L: Link, O: Sink, T: Clock>(
 ) -> Status
     requires { L.up link.old ≡ false }
     ensures ended { (r : Report) × Ended words.now (F.files files.old) (L.listed link.old) (F.faults files.old) (F.faults files.new) (L.faults link.old) (L.faults link.new) r × IsWritten r result.code (O.written out.old) (O.written out.new) × Grows (L.places link.old) (L.advanced link.old) (L.past link.old) (L.past link.new) (λ w added. asks w added ≡ is_resent r) }
-    ensures executed { (port file : List ℕ) → command_of words.now ≡ Some (print_file port file) → IsExecuted (L.places link.old) (L.advanced link.old) (F.files files.old) file (result.code == 0) (L.past link.old) (L.past link.new) }
+    ensures executed { (port file : List ℕ) (turns : ℕ) → command_of words.now ≡ Some (print_file port file turns) → IsExecuted (L.places link.old) (L.advanced link.old) (F.files files.old) file (result.code == 0) (L.past link.old) (L.past link.new) }
     ensures unused { leaves_link result.code ≡ true → L.past link.new ≡ L.past link.old }
+    ensures turns { result.code ≡ 10 → HasUsedTurns words.now (L.calls link.old) (L.calls link.new) }
     ensures sink { result.code ≡ 8 → Rose (O.faults out.old) (O.faults out.new) }
     ensures source_counted { F.faults files.old ≤ F.faults files.new }
     ensures link_counted { L.faults link.old ≤ L.faults link.new }
     ensures sink_counted { O.faults out.old ≤ O.faults out.new }
-    ensures prompt { (port file : List ℕ) → command_of words.now ≡ Some (print_file port file) → IsSmooth (L.prompt link.old) (L.past link.old) (L.listed link.old port) (L.faults link.old) (L.faults link.new) → IsPrintable (F.files files.old) file → Steady (F.faults files.old) (F.faults files.new) → (result.code ≡ 0) ⊎ (result.code ≡ 8) ⊎ (result.code ≡ 11) }
+    ensures prompt { (port file : List ℕ) (turns : ℕ) → command_of words.now ≡ Some (print_file port file turns) → IsSmooth (L.prompt link.old) (L.past link.old) (L.listed link.old port) (L.faults link.old) (L.faults link.new) → IsPrintable (F.files files.old) file turns → Steady (F.faults files.old) (F.faults files.new) → (result.code ≡ 0) ⊎ (result.code ≡ 8) ⊎ (result.code ≡ 11) }
 {
     let report = run(alloc, words, files, link, clock);
     match write_report(out, &report) {

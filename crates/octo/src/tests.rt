@@ -144,12 +144,19 @@ fn ample(rt: HostRuntime) -> Result<(), Fail> {
 
 #[test]
 fn refused_words(rt: HostRuntime) -> Result<(), Fail> {
-    let rows: [&[&str]; 5] = [
+    let rows: [&[&str]; 12] = [
         &[],
         &["print", "p"],
         &["print", "", "a.gcode"],
         &["check", "a.gcode", "b"],
         &["Check", "a.gcode"],
+        &["print", "p", "a.gcode", "--turns"],
+        &["print", "p", "a.gcode", "--turn", "3"],
+        &["print", "p", "a.gcode", "--turns", "0"],
+        &["print", "p", "a.gcode", "--turns", "+3"],
+        &["print", "p", "a.gcode", "--turns", "4000000000001"],
+        &["print", "p", "a.gcode", "--turns", "00000000000003"],
+        &["print", "p", "a.gcode", "--turns", "3", "4"],
     ];
     for words in rows {
         assert_row(
@@ -198,6 +205,32 @@ fn faults_round_it(rt: HostRuntime) -> Result<(), Fail> {
             text: b"session ended: resend not built\n",
             executed: b"",
             sends: 2,
+            ..DONE
+        },
+    ];
+    for row in &rows {
+        assert_row(&rt, row)?;
+    }
+    Ok(())
+}
+
+// A print of two commands takes a turn for the hello and one for each command.
+#[test]
+fn allowed_turns(rt: HostRuntime) -> Result<(), Fail> {
+    let rows = [
+        Row {
+            words: &["print", "p", "a.gcode", "--turns", "3"],
+            ..DONE
+        },
+        Row {
+            words: &["print", "p", "a.gcode", "--turns", "2"],
+            code: 10,
+            text: b"turns used: 2\n",
+            executed: b"G28\n",
+            ..DONE
+        },
+        Row {
+            words: &["print", "p", "a.gcode", "--turns", "4000000000000"],
             ..DONE
         },
     ];

@@ -1,5 +1,6 @@
 -- What the calls of the outside give and take.
 use Rattle.std.specs.Prelude.{◌≡◌, ℕ, ◌<◌, ◌≤◌, List, [], ◌++◌, Option, Some, None, IsSome, length, take, drop}
+use Rattle.octo_outside.specs.Memory.{one_more}
 use Rattle.octo_outside.specs.declared.conn.Got.{Got}
 use Rattle.octo_outside.specs.declared.conn.Got.TheVariants.{Bytes, Quiet, Ended}
 
@@ -28,6 +29,18 @@ abbrev pub Receives : List ℕ → Got → List ℕ → Option (List ℕ) → Ty
 Receives before (Bytes n) into after = ReadsNext before n into after
 Receives before Quiet into after = after ≡ Some before
 Receives before Ended into after = (before ≡ []) × (after ≡ Some before)
+
+-- bytes that were got are at least one, and not more than there was room for
+abbrev pub IsWithin : Got → ℕ → Type 0
+IsWithin (Bytes n) room = (0 < n) × (n ≤ room)
+IsWithin Quiet room = Unit {0}
+IsWithin Ended room = Unit {0}
+
+-- how many reads found nothing yet, after one that got this
+abbrev pub quiets_after : ℕ → Got → ℕ
+quiets_after quiets (Bytes n) = quiets
+quiets_after quiets Quiet = one_more quiets
+quiets_after quiets Ended = quiets
 
 -- a moment that isn't before another, where both are told
 abbrev pub NotBefore : Option ℕ → Option ℕ → Type 0

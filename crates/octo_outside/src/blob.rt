@@ -43,6 +43,13 @@ impl Blob {
         self.bytes.extend_from_slice(bytes)
     }
 
+    /// Drops the bytes, and keeps their memory.
+    pub fn clear(&mut self)
+        ensures { self.new ≡ [] }
+    {
+        self.bytes.clear();
+    }
+
     /// The bytes.
     pub fn as_slice(&self) -> &[u8]
         ensures { result.now ≡ self.now }

@@ -1,9 +1,13 @@
-//! Each call that takes memory, and the forms in memory round their failing calls.
+//! Each call that takes memory, the forms in memory round their failing calls, and the adapters over the system.
 use crate::{
-    Blob, CallList, Clock, Failed, MemoryClock, MemorySink, MemorySource, ReadAll, Sink, Source,
-    WordList, read_all, write_all,
+    Blob, CallList, Clock, Conn, Failed, FileSource, Got, MemoryClock, MemoryConn, MemorySink,
+    MemorySource, ReadAll, Sink, Source, StdSink, SystemClock, TcpConn, WordList, read_all,
+    send_all, write_all,
 };
+use std::io::{Read, Write};
+use std::net::{Shutdown, TcpListener, TcpStream};
 use std::test::Fail;
+use std::time::Duration;
 
 #[test]
 fn ample(rt: HostRuntime) -> Result<(), Fail> {
@@ -24,6 +28,41 @@ fn ample(rt: HostRuntime) -> Result<(), Fail> {
     let mut out = MemorySink::new(alloc, CallList::new(alloc));
     assert_eq!(rt; write_all(&mut out, b"done\n"), Ok(()));
     assert_eq!(rt; out.written(), Some(b"done\n".as_slice()));
+    Ok(())
+}
+
+#[test]
+fn ample_conn(rt: HostRuntime) -> Result<(), Fail> {
+    let alloc = rt.alloc();
+    let mut conn = MemoryConn::new(alloc, b"", CallList::new(alloc), CallList::new(alloc))?;
+    assert_eq!(rt; send_all(&mut conn, b"ok\n"), Ok(()));
+    assert_eq!(rt; conn.written(), Some(b"ok\n".as_slice()));
+    Ok(())
+}
+
+// The first call fails, the third finds nothing yet, and the sixth would, were anything left.
+#[test]
+fn scheduled_reads(rt: HostRuntime) -> Result<(), Fail> {
+    let alloc = rt.alloc();
+    let mut fail_at = CallList::new(alloc);
+    fail_at.push(1)?;
+    let mut quiet_at = CallList::new(alloc);
+    quiet_at.push(3)?;
+    quiet_at.push(6)?;
+    let mut conn = MemoryConn::new(alloc, b"G28\n", quiet_at, fail_at)?;
+    let mut into = [0; 3];
+    let gots = [
+        (Err(Failed), [0, 0, 0]),
+        (Ok(Got::Bytes(3)), *b"G28"),
+        (Ok(Got::Quiet), *b"G28"),
+        (Ok(Got::Bytes(1)), *b"\n28"),
+        (Ok(Got::Ended), *b"\n28"),
+        (Ok(Got::Ended), *b"\n28"),
+    ];
+    for (got, bytes) in gots {
+        assert_eq!(rt; conn.read(&mut into), got);
+        assert_eq!(rt; into, bytes);
+    }
     Ok(())
 }
 
@@ -66,4 +105,96 @@ fn clock_rests(rt: HostRuntime) {
     let mut last = MemoryClock::new(u64::MAX - 1, 10);
     last.rest();
     assert_eq!(rt; last.now(), u64::MAX);
+}
+
+#[test]
+fn system_clock(rt: HostRuntime) {
+    let mut clock = SystemClock::new(rt);
+    let first = clock.now();
+    clock.rest();
+    clock.rest();
+    clock.rest();
+    // Three rests of a millisecond, less one for the rounding.
+    assert!(rt; clock.now() - first >= 2);
+}
+
+#[test]
+fn standard_output(rt: HostRuntime) {
+    let mut out = StdSink::new(rt);
+    assert_eq!(rt; write_all(&mut out, b"a line of the test\n"), Ok(()));
+}
+
+// The first bytes of a file of the system, or the call that failed.
+fn first_bytes(rt: HostRuntime, name: &str) -> Result<usize, &'static str> {
+    let mut files = FileSource::new(rt);
+    let mut into = [1; 4];
+    let Ok(()) = files.choose(name) else {
+        return Err("choose");
+    };
+    let Ok(n) = files.read(&mut into) else {
+        return Err("read");
+    };
+    Ok(n)
+}
+
+#[test]
+fn files_of_the_system(rt: HostRuntime) {
+    for (name, want) in [
+        ("/dev/zero", Ok(4)),
+        ("/dev/null", Ok(0)),
+        ("/", Err("read")),
+        ("/absent/a.gcode", Err("choose")),
+    ] {
+        assert_eq!(rt; first_bytes(rt, name), want, "at {name}");
+    }
+}
+
+// The first answer that isn't Quiet, where one comes soon.
+fn next(conn: &mut TcpConn<HostRuntime>, into: &mut [u8; 8]) -> Result<Got, Failed> {
+    for _ in 0..100 {
+        match conn.read(into) {
+            Ok(Got::Quiet) => {}
+            other => return other,
+        }
+    }
+    Ok(Got::Quiet)
+}
+
+#[test]
+fn tcp_connection(rt: HostRuntime) -> Result<(), Fail> {
+    let listener = TcpListener::bind(&rt, "127.0.0.1:0")?;
+    let mut peer = TcpStream::connect(&rt, listener.local_addr()?)?;
+    peer.set_read_timeout(Some(Duration::from_secs(10)))?;
+    let mut conn = TcpConn::accept(rt, &listener)?;
+    let mut into = [0; 8];
+    assert_eq!(rt; conn.read(&mut into), Ok(Got::Quiet));
+    peer.write_all(b"N0\nN1")?;
+    assert_eq!(rt; next(&mut conn, &mut into), Ok(Got::Bytes(5)));
+    assert_eq!(rt; into, *b"N0\nN1\0\0\0");
+    // The peer still reads what was written before its own input was read.
+    peer.write_all(b"unread")?;
+    assert_eq!(rt; conn.write(b"ok\n"), Ok(3));
+    conn.finish();
+    assert_eq!(rt; peer.read(&mut into)?, 3);
+    assert_eq!(rt; peer.read(&mut into)?, 0);
+    Ok(())
+}
+
+#[test]
+fn tcp_peer_that_closes(rt: HostRuntime) -> Result<(), Fail> {
+    let listener = TcpListener::bind(&rt, "127.0.0.1:0")?;
+    let mut peer = TcpStream::connect(&rt, listener.local_addr()?)?;
+    let mut conn = TcpConn::accept(rt, &listener)?;
+    peer.write_all(b"N0")?;
+    peer.shutdown(Shutdown::Write)?;
+    let mut into = [0; 8];
+    assert_eq!(rt; next(&mut conn, &mut into), Ok(Got::Bytes(2)));
+    assert_eq!(rt; next(&mut conn, &mut into), Ok(Got::Ended));
+    // Neither is an address.
+    assert_eq!(rt; TcpConn::accept_one(rt, "7100").err(), Some(Failed));
+    assert_eq!(rt;
+        TcpConn::accept_one(rt, "127.0.0.1:99999").err(),
+        Some(Failed)
+    );
+    Ok(())
 }

@@ -1,2 +1,4 @@
+pub mod Calls
+pub mod Cuts
 pub mod Links
 pub mod Stories

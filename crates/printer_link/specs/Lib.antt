@@ -1,2 +1,4 @@
+pub mod Address
+pub mod Lines
 pub mod Link
 pub mod Memory

@@ -1,5 +1,5 @@
 -- What the calls of a link add to its past.
-use Rattle.std.specs.Prelude.{◌≡◌, ℕ, ◌+◌, Bool, true, false, if◌then◌else◌, List, [], ◌∷◌, ◌++◌, length, replicate, Option, Some, None, min}
+use Rattle.std.specs.Prelude.{◌≡◌, ◌<◌, ◌≤◌, ℕ, ◌+◌, Bool, true, false, if◌then◌else◌, List, [], ◌∷◌, ◌++◌, length, replicate, Option, Some, None, min}
 use Rattle.std.specs.List.{list_all}
 use Rattle.octo_outside.specs.Told.{Became}
 use Rattle.marlin_frame.specs.Frame.{fails}
@@ -105,6 +105,12 @@ IsHangUp false w added = added ≡ []
 abbrev pub counted_one : Option ℕ → Option ℕ
 counted_one None = None
 counted_one (Some calls) = Some (min (calls + 1) 18446744073709551615)
+
+-- the count of calls, where told, rose by at least so many, unless it stands at its type's last value
+abbrev pub RoseBy : ℕ → Option ℕ → Option ℕ → Type 0
+RoseBy n None None = Unit {0}
+RoseBy n (Some before) (Some now) = now < 18446744073709551615 → before + n ≤ now
+RoseBy n _ _ = ⊥
 
 -- a dial: the printer runs all that waits, and then the link is made
 abbrev pub dial_events : WorldData → ℕ → List WorldEvent

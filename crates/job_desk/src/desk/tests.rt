@@ -210,44 +210,29 @@ fn take_all(rt: &impl Abort, alloc: Global, desk: &mut Desk, steps: &[Step]) -> 
     Ok(())
 }
 
+const CONNECT: Step = Step::Does(Call::Connect);
+
+const START: Step = Step::Does(Call::Start);
+
+const PAUSE: Step = Step::Does(Call::Pause);
+
+const CANCEL: Step = Step::Does(Call::Cancel);
+
+const DISCONNECT: Step = Step::Does(Call::Disconnect);
+
 /// The steps from a new desk without scripts, but with a file selected, to a state.
 fn way_to(state: State) -> &'static [Step] {
     match state {
         State::Offline => &[],
-        State::Connecting => &[Step::Does(Call::Connect)],
-        State::Operational => &[Step::Does(Call::Connect), Step::Opens],
-        State::Printing => &[
-            Step::Does(Call::Connect),
-            Step::Opens,
-            Step::Does(Call::Start),
-        ],
-        State::Pausing => &[
-            Step::Does(Call::Connect),
-            Step::Opens,
-            Step::Does(Call::Start),
-            Step::Does(Call::Pause),
-        ],
-        State::Paused => &[
-            Step::Does(Call::Connect),
-            Step::Opens,
-            Step::Does(Call::Start),
-            Step::Does(Call::Pause),
-            Step::Acknowledges(0),
-        ],
-        State::Cancelling => &[
-            Step::Does(Call::Connect),
-            Step::Opens,
-            Step::Does(Call::Start),
-            Step::Does(Call::Cancel),
-        ],
-        State::Finishing => &[
-            Step::Does(Call::Connect),
-            Step::Opens,
-            Step::Does(Call::Start),
-            G28,
-        ],
-        State::Closing => &[Step::Does(Call::Connect), Step::Does(Call::Disconnect)],
-        State::Fault => &[Step::Does(Call::Connect), Step::Fails],
+        State::Connecting => &[CONNECT],
+        State::Operational => &[CONNECT, Step::Opens],
+        State::Printing => &[CONNECT, Step::Opens, START],
+        State::Pausing => &[CONNECT, Step::Opens, START, PAUSE],
+        State::Paused => &[CONNECT, Step::Opens, START, PAUSE, Step::Acknowledges(0)],
+        State::Cancelling => &[CONNECT, Step::Opens, START, CANCEL],
+        State::Finishing => &[CONNECT, Step::Opens, START, G28],
+        State::Closing => &[CONNECT, DISCONNECT],
+        State::Fault => &[CONNECT, Step::Fails],
     }
 }
 

@@ -6,6 +6,7 @@ use Rattle.marlin_reply.specs.declared.reply.Reply.TheVariants as reply
 use Rattle.octo_outside.proofs.Told.{became_same}
 use Rattle.printer_model.specs.World.{world_of}
 use Rattle.printer_link.specs.Link.{Grows}
+use Rattle.printer_link.proofs.Calls.{rose_none}
 use Rattle.first_print.specs.Play.{lines_of, is_ok, is_resend, IsHeardAs}
 use Rattle.first_print.specs.Leads.{Leads, Flying, Ran, AfterTurn}
 use Rattle.first_print.proofs.Carried.{line_there}
@@ -45,6 +46,7 @@ returns-in_default g c =
       up = c.requires.open;
       places = refl;
       advanced = refl;
+      calls = rose_none (g.L.Link.calls c.args.link.now);
       counted = omega arith;
       failed = λ e. absurd (cc);
       prompt = λ prompt ok at. (let no : false ≡ true = sym no_ok ∙ ok in absurd (cc));

@@ -1,5 +1,7 @@
-use Rattle.std.proofs.Common.{inl, inr, true, false, refl, ◌∙◌, arith}
+use Rattle.std.proofs.Common.{ℕ, ◌≡◌, Option, subst, sym, inl, inr, true, false, refl, ◌∙◌, arith}
 use Rattle.gcode_lines.specs.Job.{texts_of}
+use Rattle.printer_link.specs.Link.{RoseBy}
+use Rattle.printer_link.proofs.Calls.{rose_none, rose_then}
 use Rattle.first_print.specs.Play.{lines_of}
 use Rattle.first_print.specs.Leads.{Leads, Flying, Ran, HasRunAll}
 use Rattle.first_print.proofs.Carried.{line_there, lines_length}
@@ -18,6 +20,7 @@ loop-init g c =
       advanced = refl;
       prompt = λ prompt at. (refl, at);
       kept = refl;
+      calls = rose_none (g.L.Link.calls c.args.link.now);
       counted = omega arith;
     }
 
@@ -37,6 +40,7 @@ loop-preserved g c =
           let next = c.in-Going.ensures.prompt (i.kept ∙ prompt) here.1 in
           (omega (arith, here.0, next.0), next.1));
       kept = c.take_turn.ensures.kept ∙ i.kept;
+      calls = rose_then c.loop.counter 1 (g.L.Link.calls c.args.link.now) (g.L.Link.calls c.loop.link) _ i.calls c.take_turn.ensures.calls;
       counted = omega (arith, i.counted, c.take_turn.ensures.counted);
     }
 
@@ -86,3 +90,11 @@ pub returns-clause-prompt : goal.returns-clause-prompt
 returns-clause-prompt g c prompt at enough =
     let i = c.loop.invariant in
     absurd (omega (arith, (i.prompt prompt at).0, i.there, enough, c.loop-test.false))
+
+pub returns-clause-calls : goal.returns-clause-calls
+returns-clause-calls g c used =
+    let i = c.loop.invariant in
+    let all : c.loop.counter ≡ c.args.turns = omega (arith, c.loop-test.false) in
+    let P : ℕ → Type 0 = λ n. RoseBy n (g.L.Link.calls c.args.link.now) (g.L.Link.calls c.hang_up.new.self) in
+    let Q : Option ℕ → Type 0 = λ calls. RoseBy c.loop.counter (g.L.Link.calls c.args.link.now) calls in
+    subst P all (subst Q (sym c.hang_up.ensures.calls) i.calls)

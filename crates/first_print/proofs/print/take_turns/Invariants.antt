@@ -1,6 +1,6 @@
 use Rattle.std.proofs.Common.{◌≡◌, ◌≤◌, true, false, length}
 use Rattle.gcode_lines.specs.Job.{texts_of}
-use Rattle.printer_link.specs.Link.{Grows}
+use Rattle.printer_link.specs.Link.{Grows, RoseBy}
 use Rattle.first_print.specs.Play.{lines_of, line_at, IsCarried}
 use Rattle.first_print.specs.Leads.{Leads, Flying}
 use Rattle.first_print.specs.Prompt.{IsAt, IsPromptSent}
@@ -16,5 +16,6 @@ invariant-loop g l = record {
   advanced : g.L.Link.advanced l.link ≡ g.L.Link.advanced l.initial.link;
   prompt : g.L.Link.prompt l.initial.link ≡ true → IsAt (g.L.Link.places l.initial.link) (g.L.Link.advanced l.initial.link) (g.L.Link.past l.initial.link) (IsPromptSent (lines_of (texts_of l.job)) 0) → (l.line ≡ l.counter) × IsAt (g.L.Link.places l.link) (g.L.Link.advanced l.link) (g.L.Link.past l.link) (IsPromptSent (lines_of (texts_of l.job)) l.line);
   kept : g.L.Link.prompt l.link ≡ g.L.Link.prompt l.initial.link;
+  calls : RoseBy l.counter (g.L.Link.calls l.initial.link) (g.L.Link.calls l.link);
   counted : g.L.Link.faults l.initial.link ≤ g.L.Link.faults l.link;
 }

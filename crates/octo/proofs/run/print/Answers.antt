@@ -14,4 +14,4 @@ returns-in-Err-clause-asked g c = asked_none (g.L.Link.places c.args.link.now) (
 
 pub returns-in-Err-clause-prompt : goal.returns-in-Err-clause-prompt
 returns-in-Err-clause-prompt g c smooth printable =
-    inr (printable_trouble (g.F.Source.files c.args.files.now) c.args.file.now _ printable c.in-Err.ensures.exact)
+    inr (printable_trouble (g.F.Source.files c.args.files.now) c.args.file.now c.args.turns _ printable c.in-Err.ensures.exact)

@@ -1,0 +1,66 @@
+/* A plain print host, to measure octo beside: the same exchange with one line in flight, without rules on files. */
+#include <netdb.h>
+#include <netinet/in.h>
+#include <netinet/tcp.h>
+#include <stdio.h>
+#include <stdlib.h>
+#include <string.h>
+#include <sys/socket.h>
+#include <unistd.h>
+
+static int dial(const char *host, const char *port)
+{
+    struct addrinfo hints = {.ai_socktype = SOCK_STREAM}, *found;
+    int one = 1, fd;
+    if (getaddrinfo(host, port, &hints, &found) != 0) return -1;
+    fd = socket(found->ai_family, SOCK_STREAM, 0);
+    for (int tries = 0; connect(fd, found->ai_addr, found->ai_addrlen) != 0; tries++) {
+        if (tries == 1000) return -1;
+        close(fd);
+        usleep(10000);
+        fd = socket(found->ai_family, SOCK_STREAM, 0);
+    }
+    setsockopt(fd, IPPROTO_TCP, TCP_NODELAY, &one, sizeof one);
+    freeaddrinfo(found);
+    return fd;
+}
+
+/* Sends a line and waits for its `ok`. */
+static int exchange(int fd, const char *line, int length)
+{
+    static char held[4096];
+    static int count;
+    if (write(fd, line, length) != length) return -1;
+    for (;;) {
+        char *end = memchr(held, '\n', count);
+        if (end == NULL) {
+            int got = read(fd, held + count, sizeof held - count);
+            if (got <= 0) return -1;
+            count += got;
+            continue;
+        }
+        int done = strncmp(held, "ok", 2) == 0;
+        count -= end + 1 - held;
+        memmove(held, end + 1, count);
+        if (done) return 0;
+    }
+}
+
+int main(int argc, char **argv)
+{
+    char text[256], line[300];
+    long number = 0;
+    FILE *file = argc == 4 ? fopen(argv[3], "r") : NULL;
+    int fd = file ? dial(argv[1], argv[2]) : -1;
+    if (fd < 0 || exchange(fd, "N0 M110 N0*125\n", 15) != 0) return 1;
+    while (fgets(text, sizeof text, file)) {
+        text[strcspn(text, "\r\n")] = 0;
+        int length = sprintf(line, "N%ld %s", ++number, text);
+        unsigned char sum = 0;
+        for (int i = 0; i < length; i++) sum ^= line[i];
+        length += sprintf(line + length, "*%d\n", sum);
+        if (exchange(fd, line, length) != 0) return 1;
+    }
+    printf("done: %ld commands\n", number);
+    return 0;
+}

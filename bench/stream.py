@@ -1,0 +1,100 @@
+"""Measures `octo print` over marlin_sim beside a plain C host over the same printer.
+
+For files of about 1 and 5 MB: acknowledged lines per second, processor microseconds a line and the greatest resident
+memory of each host; medians of the runs, which alternate, with all processes pinned to one core. The programs are those
+that scripts/build leaves; the C host is compiled into a folder of its own.
+"""
+
+import os
+import socket
+import statistics
+import subprocess
+import sys
+import tempfile
+import time
+
+OCTO = "crates/octo/out/octo"
+SIM = "crates/marlin_sim/out/marlin_sim"
+RUNS = int(sys.argv[1]) if len(sys.argv) > 1 else 5
+CORE = {0}
+
+
+def write_moves(path, size):
+    count = 0
+    with open(path, "w") as file:
+        while file.tell() < size:
+            file.write("G1 X%d.%03d Y%d.%03d E0.%05d\n" % (count % 200, count % 1000, count % 180, count % 997, count % 99991))
+            count += 1
+    return count
+
+
+def free_port():
+    with socket.socket() as listener:
+        listener.bind(("127.0.0.1", 0))
+        return listener.getsockname()[1]
+
+
+def listening(port):
+    # The state of a listening socket in /proc/net/tcp is 0A.
+    want = "0100007F:%04X" % port
+    with open("/proc/net/tcp") as table:
+        return any(row.split()[1] == want and row.split()[3] == "0A" for row in table.readlines()[1:])
+
+
+def peak(pid):
+    with open("/proc/%d/status" % pid) as status:
+        return next((int(row.split()[1]) for row in status if row.startswith("VmHWM")), 0)
+
+
+def measure(host, port, lines):
+    sim = subprocess.Popen([SIM, "127.0.0.1:%d" % port, "0", "4", "-", "-"], stdout=subprocess.DEVNULL)
+    while not listening(port):
+        time.sleep(0.01)
+    began = time.monotonic()
+    run = subprocess.Popen(host(port), stdout=subprocess.PIPE)
+    memory = 0
+    while True:
+        # The peak is read until the process has ended, every 20 ms.
+        pid, status, used = os.wait4(run.pid, os.WNOHANG)
+        if pid:
+            break
+        try:
+            memory = max(memory, peak(run.pid))
+        except OSError:
+            pass
+        time.sleep(0.02)
+    taken = time.monotonic() - began
+    text = run.stdout.read()
+    _, sim_status, sim_used = os.wait4(sim.pid, 0)
+    if status or sim_status or not text.startswith(b"done: %d commands" % lines):
+        sys.exit("a run failed: %r, %d, %d" % (text, status, sim_status))
+    cpu = (used.ru_utime + used.ru_stime) * 1e6 / lines
+    sim_cpu = (sim_used.ru_utime + sim_used.ru_stime) * 1e6 / lines
+    return lines / taken, cpu, memory, sim_cpu
+
+
+def main():
+    os.sched_setaffinity(0, CORE)
+    with tempfile.TemporaryDirectory() as folder:
+        plain = os.path.join(folder, "plain_host")
+        subprocess.run(["cc", "-O2", "-o", plain, "bench/plain_host.c"], check=True)
+        for megabytes in (1, 5):
+            path = os.path.join(folder, "moves.gcode")
+            lines = write_moves(path, megabytes * 1_000_000)
+            hosts = {
+                "octo": lambda port: [OCTO, "print", "127.0.0.1:%d" % port, path],
+                "plain C": lambda port: [plain, "127.0.0.1", str(port), path],
+            }
+            rows = {name: [] for name in hosts}
+            for _ in range(RUNS):
+                for name, host in hosts.items():
+                    rows[name].append(measure(host, free_port(), lines))
+            middle = {name: [statistics.median(column) for column in zip(*rows[name])] for name in hosts}
+            for name, (rate, cpu, memory, sim_cpu) in middle.items():
+                print("%d MB, %d lines, %s: %.0f lines/s, %.2f us CPU a line (printer %.2f), peak %d KiB"
+                      % (megabytes, lines, name, rate, cpu, sim_cpu, memory))
+            print("%d MB, octo to plain C: %.2f of the lines/s, %.2f of the CPU a line"
+                  % (megabytes, middle["octo"][0] / middle["plain C"][0], middle["octo"][1] / middle["plain C"][1]))
+
+
+main()

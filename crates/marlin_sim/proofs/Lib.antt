@@ -1,0 +1,5 @@
+pub mod Places
+pub mod Pieces
+pub mod Coming
+pub mod Steps
+pub mod Serving

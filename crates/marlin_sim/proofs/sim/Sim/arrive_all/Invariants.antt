@@ -1,0 +1,13 @@
+use Rattle.std.proofs.Common.{◌≡◌, ◌≤◌}
+use Rattle.marlin_sim.specs.Sim.{Keeps, work}
+use Rattle.marlin_sim.proofs.sim.Sim.arrive_all.Given as goal
+
+abbrev pub invariant-loop : goal.invariant-loop
+invariant-loop l = record {
+  kept : Keeps l.initial.self l.self;
+  work : work l.self ≤ work l.initial.self;
+  places : l.self.printer.places ≡ l.initial.self.printer.places;
+}
+
+abbrev pub decreases-loop : goal.decreases-loop
+decreases-loop l = work l.self

@@ -1,0 +1,74 @@
+-- The words of the printer as a program, and the plan that they give.
+use Rattle.std.specs.Prelude.{◌≡◌, ℕ, ◌≤◌, Bool, true, ◌==◌, ◌&&◌, nat_le, nat_lt, if◌then◌else◌, List, [], ◌∷◌, length, codes, Option, Some, None, option_map}
+use Rattle.std.specs.Char.{is_ascii_digit}
+use Rattle.std.specs.List.{list_all, slice_split}
+use Rattle.std.specs.Str.{bytes_eq}
+use Rattle.byte_text.specs.Number.{decimal_value}
+use Rattle.marlin_sim.specs.declared.plan.SimPlan.{SimPlan}
+
+-- whether a word is a number: 1 to 10 digits, at most 4,294,967,295
+abbrev pub is_number : List ℕ → Bool
+is_number word =
+    list_all is_ascii_digit word && (nat_le 1 (length word) && (nat_le (length word) 10 && nat_le (decimal_value word) 4294967295))
+
+-- the number that a word is
+abbrev pub number_in : List ℕ → Option ℕ
+number_in word = if is_number word then Some (decimal_value word) else None
+
+-- the place that a text is, where it is above this one
+abbrev pub place_in : ℕ → List ℕ → Option ℕ
+place_in least word = if is_number word && nat_lt least (decimal_value word) then Some (decimal_value word) else None
+
+-- a place, and later ones that depend on it
+abbrev pub with_place : Option ℕ → (ℕ → Option (List ℕ)) → Option (List ℕ)
+with_place None later = None
+with_place (Some n) later = option_map (λ places. n ∷ places) (later n)
+
+-- the places that texts are, each above the one before
+abbrev pub places_above : ℕ → List (List ℕ) → Option (List ℕ)
+places_above least [] = Some []
+places_above least (piece ∷ pieces) = with_place (place_in least piece) (λ n. places_above n pieces)
+
+-- whether a byte stands between two places
+abbrev pub is_comma : ℕ → Bool
+is_comma byte = byte == 44
+
+-- the places that a word lists, none for a dash
+abbrev pub places_in : List ℕ → Option (List ℕ)
+places_in word = if bytes_eq word (codes "-") then Some [] else places_above 0 (slice_split is_comma word)
+
+-- whether a number may be that of the printer's places
+abbrev pub is_places : ℕ → Bool
+is_places n = nat_le 1 n && nat_le n 16
+
+-- how many lines the printer keeps waiting: 1 to 16
+abbrev pub count_in : List ℕ → Option ℕ
+count_in word = if is_number word && is_places (decimal_value word) then Some (decimal_value word) else None
+
+-- a plan of these parts, where all are there; a connection is served for 4,000,000,000,000 turns
+abbrev pub plan_with : Option ℕ → Option ℕ → Option (List ℕ) → Option (List ℕ) → Option SimPlan
+plan_with (Some last) (Some places) (Some dropped) (Some garbled) =
+    Some (record { last = last; places = places; drop = dropped; garble = garbled; turns = 4000000000000 })
+plan_with _ _ _ _ = None
+
+-- whether a word may be an address: 1 to 100 bytes
+abbrev pub is_address : List ℕ → Bool
+is_address word = nat_le 1 (length word) && nat_le (length word) 100
+
+-- the plan that the words are: the address, the last number, the places, and the lines to drop and to garble
+abbrev pub plan_of : List (List ℕ) → Option SimPlan
+plan_of (address ∷ last ∷ places ∷ dropped ∷ garbled ∷ []) =
+    if is_address address then plan_with (number_in last) (count_in places) (places_in dropped) (places_in garbled) else None
+plan_of _ = None
+
+-- whether a number may be that of a received line
+abbrev pub is_place : ℕ → Bool
+is_place n = nat_le n 4294967295
+
+-- a plan as words can give it
+pub record IsPlan (plan : SimPlan) : Type 0 where
+  pub some : 1 ≤ plan.places
+  pub few : plan.places ≤ 16
+  pub dropped : list_all is_place plan.drop ≡ true
+  pub garbled : list_all is_place plan.garble ≡ true
+  pub turns : 1 ≤ plan.turns

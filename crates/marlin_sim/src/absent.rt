@@ -1,0 +1,46 @@
+//! A connection that isn't there: it fails at every call.
+ghost use Rattle.std.specs.Prelude.{◌≡◌, ◌≤◌, None};
+ghost use Rattle.octo_outside.specs.Told.{Rose};
+
+use octo_outside::{Conn, Failed, Got};
+
+/// The connection of a program that has none. Each call fails and counts.
+#[derive(Drop)]
+pub struct AbsentConn {
+    faults: u64,
+}
+
+impl AbsentConn {
+    /// Nothing was asked of it yet.
+    pub fn new() -> Self
+        ensures { result.faults ≡ 0 }
+    {
+        AbsentConn { faults: 0 }
+    }
+
+    fn fail(&mut self) -> Failed
+        ensures counted { self.old.faults ≤ self.new.faults }
+        ensures rose { Rose self.old.faults self.new.faults }
+    {
+        self.faults = self.faults.saturating_add(1);
+        Failed
+    }
+}
+
+impl Conn for AbsentConn {
+    ghost left = { λ _. None };
+
+    ghost written = { λ _. None };
+
+    ghost faults = { λ c. c.faults };
+
+    ghost quiets = { λ _. 0 };
+
+    fn read(&mut self, _into: &mut [u8]) -> Result<Got, Failed> {
+        Err(self.fail())
+    }
+
+    fn write(&mut self, _bytes: &[u8]) -> Result<usize, Failed> {
+        Err(self.fail())
+    }
+}

@@ -1,0 +1,193 @@
+//! Lines on their way to the printer.
+ghost use Rattle.std.specs.Prelude.{◌≡◌, ◌≤◌, ◌+◌, ◌∷◌, ◌++◌, [], length, MatchOption};
+ghost use Rattle.octo_outside.specs.Memory.{is_listed};
+ghost use Rattle.printer_model.specs.Garble.{garbled};
+ghost use Rattle.marlin_sim.specs.Lines.{cut, ends_with_digit, arriving};
+
+use crate::cuts::split_at_first;
+use crate::plan::SimPlan;
+use arrayvec::ArrayVec;
+use octo_outside::CallList;
+use printer_model::{garbled, line_of};
+use std::alloc::{AllocError, Global};
+use std::collections::VecDeque;
+use std::marker::Model;
+
+/// The bytes of a line that count.
+pub type CutLine = ArrayVec<u8, 95>;
+
+// How many these are at most.
+const MOST_BYTES: usize = 95;
+
+// Adds bytes to a line that has room for them.
+fn put(line: &mut CutLine, bytes: &[u8])
+    requires { length line.old.items + length bytes.now ≤ 95 }
+    ensures { line.new.items ≡ line.old.items ++ bytes.now }
+{
+    match line.try_extend_from_slice(bytes) {
+        Ok(()) => {}
+        Err(_) => unreachable!(),
+    }
+}
+
+// Adds bytes to a line as far as they count.
+fn put_cut(line: &mut CutLine, bytes: &[u8])
+    ensures { line.new.items ≡ cut (line.old.items ++ bytes.now) }
+{
+    let room = MOST_BYTES - line.len();
+    put(line, &bytes[..room.min(bytes.len())]);
+}
+
+// A line of these bytes.
+fn cut_line(bytes: &[u8]) -> CutLine
+    requires { length bytes.now ≤ 95 }
+    ensures { result.items ≡ bytes.now }
+{
+    let mut line = CutLine::new();
+    put(&mut line, bytes);
+    line
+}
+
+// Whether a received line is listed.
+fn is_listed(lines: &CallList, number: u64) -> bool
+    ensures { result ≡ is_listed lines.now number }
+{
+    lines.as_slice().iter().any(|line| *line == number)
+}
+
+// Whether a line's last byte is a digit.
+fn ends_with_digit(line: &CutLine) -> bool
+    ensures { result ≡ ends_with_digit line.now.items }
+{
+    match line.as_slice().last() {
+        Some(byte) => byte.is_ascii_digit(),
+        None => false,
+    }
+}
+
+// The line with another last digit.
+#[tactic(auto, unfolding(printer_model::specs::Garble::garbled))]
+fn garbled_line(line: &CutLine) -> CutLine
+    ensures { result.items ≡ garbled line.now.items }
+{
+    let line = garbled(&line_of(line.as_slice()));
+    cut_line(line.as_slice())
+}
+
+// What arrives of the received line of that number, if it does.
+#[tactic(auto, unfolding(crate::specs::Lines::arriving))]
+fn arriving(plan: &SimPlan, number: u64, line: CutLine) -> Option<CutLine>
+    ensures { MatchOption result (arriving plan.now number line.items ≡ []) (λ l. arriving plan.now number line.items ≡ l.items ∷ []) }
+{
+    if is_listed(&plan.drop, number) {
+        return None;
+    }
+    if !is_listed(&plan.garble, number) {
+        return Some(line);
+    }
+    if ends_with_digit(&line) {
+        return Some(garbled_line(&line));
+    }
+    None
+}
+
+/// The lines that wait to arrive, the beginning of the next one, and how many were received.
+#[derive(Drop)]
+pub struct Lines {
+    waiting: VecDeque<CutLine>,
+    begun: CutLine,
+    received: u64,
+}
+
+impl Model for Lines {
+    ghost use Rattle.std.specs.Prelude.{map};
+    ghost use Rattle.marlin_sim.specs.Lines.{LinesData};
+
+    ghost Value = { LinesData };
+
+    ghost view = { λ l. record { waiting = map (λ w. w.items) l.waiting.items; begun = l.begun.items; received = l.received } };
+}
+
+impl Lines {
+    ghost use Rattle.std.specs.Prelude.{◌≡◌, ◌≤◌, ◌∷◌, ◌++◌, ℕ, List, [], length, take, drop, MatchOption, OnOk};
+    ghost use Rattle.octo_outside.specs.Memory.{one_more};
+    ghost use Rattle.marlin_sim.specs.Plan.{IsPlan};
+    ghost use Rattle.marlin_sim.specs.Lines.{LinesData, cut, arriving, to_come};
+
+    /// Nothing was received yet; takes no memory.
+    pub fn new(alloc: Global) -> Self
+        ensures { result ≡ record { waiting = []; begun = []; received = 0 } }
+    {
+        Lines {
+            waiting: VecDeque::new(alloc),
+            begun: CutLine::new(),
+            received: 0,
+        }
+    }
+
+    /// The next line to arrive, if one waits.
+    pub fn next(&self) -> Option<&[u8]>
+        ensures { MatchOption result (self.now.waiting ≡ []) (λ line. (self.now.waiting ≡ line.now ∷ drop 1 self.now.waiting) × (length line.now ≤ 95)) }
+    {
+        match self.waiting.front() {
+            Some(line) => Some(line.as_slice()),
+            None => None,
+        }
+    }
+
+    /// The next line has arrived.
+    pub fn drop_next(&mut self)
+        ensures { self.new ≡ record self.old { waiting = drop 1 self.old.waiting } }
+    {
+        let _ = self.waiting.pop_front();
+    }
+
+    // Adds bytes to the beginning of the next line.
+    fn begin(&mut self, bytes: &[u8])
+        ensures { self.new ≡ record self.old { begun = cut (self.old.begun ++ bytes.now) } }
+    {
+        put_cut(&mut self.begun, bytes);
+    }
+
+    // The line that was begun is whole.
+    fn finish(&mut self) -> CutLine
+        ensures line { result.items ≡ self.old.begun }
+        ensures after { self.new ≡ record self.old { begun = []; received = one_more self.old.received } }
+    {
+        self.received = self.received.saturating_add(1);
+        self.begun.take()
+    }
+
+    fn push(&mut self, line: CutLine) -> Result<(), AllocError>
+        ensures { OnOk result (self.new ≡ record self.old { waiting = self.old.waiting ++ line.items ∷ [] }) }
+    {
+        self.waiting.push_back(line)?;
+        Ok(())
+    }
+
+    // Receives the end of a line; what is to arrive of it waits.
+    fn end_line(&mut self, plan: &SimPlan, bytes: &[u8]) -> Result<(), AllocError>
+        ensures { OnOk result (self.new ≡ record { waiting = self.old.waiting ++ arriving plan.now (one_more self.old.received) (cut (self.old.begun ++ bytes.now)); begun = []; received = one_more self.old.received }) }
+    {
+        self.begin(bytes);
+        let line = self.finish();
+        match arriving(plan, self.received, line) {
+            Some(line) => self.push(line),
+            None => Ok(()),
+        }
+    }
+
+    /// Receives bytes.
+    pub fn receive(&mut self, plan: &SimPlan, bytes: &[u8]) -> Result<(), AllocError>
+        requires { IsPlan plan.now }
+        ensures { OnOk result ((more : List ℕ) → to_come plan.now self.new more ≡ to_come plan.now self.old (bytes.now ++ more)) }
+    {
+        let mut rest = bytes;
+        while let Some((piece, behind)) = split_at_first(rest, b'\n') {
+            self.end_line(plan, piece)?;
+            rest = behind;
+        }
+        self.begin(rest);
+        Ok(())
+    }
+}

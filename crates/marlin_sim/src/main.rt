@@ -1,0 +1,60 @@
+//! A modelled Marlin printer as a program: it serves one connection and prints what it executed.
+#![tactic(auto)]
+
+mod absent;
+mod cuts;
+mod end;
+mod lines;
+mod plan;
+mod serve;
+mod sim;
+mod simulate;
+#[cfg(test)]
+mod tests;
+
+use absent::AbsentConn;
+use end::SimEnd;
+use octo_outside::{StdSink, TcpConn, WordList};
+use plan::read_plan;
+use simulate::sim;
+use std::env;
+use std::process::ExitCode;
+
+// The words behind the program's name; none where memory ran out.
+fn words_of(rt: &HostRuntime) -> Option<WordList> {
+    let mut words = WordList::new(rt.alloc());
+    for word in env::args(rt).ok()?.skip(1) {
+        words.push(word.as_str()).ok()?;
+    }
+    Some(words)
+}
+
+// The first connection at the address of a plan, where the words are one and the address can be listened at.
+fn connection(rt: HostRuntime, words: &WordList) -> Option<TcpConn<HostRuntime>> {
+    read_plan(rt.alloc(), words).ok()??;
+    if words.count() == 0 {
+        return None;
+    }
+    TcpConn::accept_one(rt, words.get(0)).ok()
+}
+
+// Serves the connection at the address that the words name, and gives it back.
+fn serve_words(rt: HostRuntime, words: &WordList) -> SimEnd {
+    let mut out = StdSink::new(rt);
+    match connection(rt, words) {
+        Some(mut conn) => {
+            let end = sim(rt.alloc(), words, &mut conn, &mut out);
+            conn.finish();
+            end
+        }
+        None => sim(rt.alloc(), words, &mut AbsentConn::new(), &mut out),
+    }
+}
+
+fn main(rt: HostRuntime) -> ExitCode {
+    let end = match words_of(&rt) {
+        Some(words) => serve_words(rt, &words),
+        None => SimEnd::NoMemory,
+    };
+    ExitCode::from(end.code())
+}

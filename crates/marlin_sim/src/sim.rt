@@ -1,0 +1,186 @@
+//! The simulator without its outside: bytes come in, replies and printed lines gather.
+ghost use Rattle.std.specs.Prelude.{◌≡◌, ◌++◌, codes, decimal, OnOk};
+ghost use Rattle.std.specs.List.{flat_map};
+ghost use Rattle.printer_model.specs.Printer.{logged};
+ghost use Rattle.printer_model.specs.Replies.{taken_replies};
+ghost use Rattle.marlin_sim.specs.Run.{ended, number_text, printed_line};
+
+use crate::lines::Lines;
+use crate::plan::SimPlan;
+use itoa::Buffer;
+use octo_outside::Blob;
+use printer_model::{Printer, Ran, Taken, error_line, ok_line, resend_line};
+use std::alloc::{AllocError, Global};
+use std::marker::Model;
+
+/// A printer with the lines on their way to it, and what is still to be written and printed.
+#[derive(Drop)]
+pub struct Sim {
+    printer: Printer,
+    lines: Lines,
+    replies: Blob,
+    text: Blob,
+}
+
+impl Model for Sim {
+    ghost use Rattle.marlin_sim.specs.Sim.{SimData};
+
+    ghost Value = { SimData };
+
+    ghost view = { λ s. record { printer = s.printer; lines = s.lines; replies = s.replies; text = s.text } };
+}
+
+// Adds a line with its line feed.
+fn put_line(text: &mut Blob, line: &[u8]) -> Result<(), AllocError>
+    ensures { OnOk result (text.new ≡ text.old ++ ended line.now) }
+{
+    text.append(line)?;
+    text.append(b"\n")
+}
+
+// Adds the number of a line, where it has one, as it is printed before the line.
+fn put_number(text: &mut Blob, number: Option<u32>) -> Result<(), AllocError>
+    ensures { OnOk result (text.new ≡ text.old ++ number_text number) }
+{
+    match number {
+        None => Ok(()),
+        Some(number) => {
+            let mut buffer = Buffer::new();
+            text.append(b"N")?;
+            text.append(buffer.format(number).as_bytes())?;
+            text.append(b" ")
+        }
+    }
+}
+
+// Adds a line that was run.
+fn put_ran(text: &mut Blob, ran: &Ran) -> Result<(), AllocError>
+    ensures { OnOk result (text.new ≡ text.old ++ printed_line (logged ran.now)) }
+{
+    put_number(text, ran.number)?;
+    put_line(text, ran.text.as_slice())
+}
+
+// Adds the replies to a line that was taken.
+fn put_taken(replies: &mut Blob, taken: &Taken) -> Result<(), AllocError>
+    ensures { OnOk result (replies.new ≡ replies.old ++ flat_map ended (taken_replies taken.now)) }
+{
+    match taken {
+        Taken::Accepted | Taken::Full => Ok(()),
+        Taken::Refused { reason, last } => {
+            put_line(replies, error_line(*reason, *last).as_slice())?;
+            put_line(replies, resend_line(*last).as_slice())?;
+            put_line(replies, ok_line().as_slice())
+        }
+    }
+}
+
+impl Sim {
+    ghost use Rattle.std.specs.Prelude.{◌≡◌, ◌≤◌, ◌<◌, ◌++◌, ℕ, List, [], true, false, length, IfOk, OnOk};
+    ghost use Rattle.marlin_sim.specs.Plan.{IsPlan};
+    ghost use Rattle.marlin_sim.specs.Sim.{SimData, new_sim, Tells, Keeps, IsStuck, AfterArrival, AfterRunning, work, IsIdle};
+
+    /// A new printer before anything was received; `start` is to be written.
+    pub fn new(alloc: Global, plan: &SimPlan) -> Result<Self, AllocError>
+        requires { IsPlan plan.now }
+        ensures { IfOk result (λ s. s ≡ new_sim plan.now) }
+    {
+        Ok(Sim {
+            printer: Printer::new(plan.last, plan.places, false),
+            lines: Lines::new(alloc),
+            replies: Blob::from_slice(alloc, b"start\n")?,
+            text: Blob::new(alloc),
+        })
+    }
+
+    /// What is to be written.
+    pub fn replies(&self) -> &[u8]
+        ensures { result.now ≡ self.now.replies }
+    {
+        self.replies.as_slice()
+    }
+
+    /// What was to be written is.
+    pub fn clear_replies(&mut self)
+        ensures { self.new ≡ record self.old { replies = [] } }
+    {
+        self.replies.clear();
+    }
+
+    /// What is to be printed.
+    pub fn text(&self) -> &[u8]
+        ensures { result.now ≡ self.now.text }
+    {
+        self.text.as_slice()
+    }
+
+    /// What was to be printed is.
+    pub fn clear_text(&mut self)
+        ensures { self.new ≡ record self.old { text = [] } }
+    {
+        self.text.clear();
+    }
+
+    /// Receives bytes.
+    pub fn receive(&mut self, plan: &SimPlan, bytes: &[u8]) -> Result<(), AllocError>
+        requires { IsPlan plan.now }
+        ensures told { OnOk result ((input rest wrote printed : List ℕ) → Tells plan.now input (bytes.now ++ rest) self.old wrote printed → Tells plan.now input rest self.new wrote printed) }
+        ensures printer { self.new.printer ≡ self.old.printer }
+    {
+        self.lines.receive(plan, bytes)
+    }
+
+    // Lets the next line arrive, and says whether it did.
+    fn arrive_next(&mut self) -> Result<bool, AllocError>
+        ensures { IfOk result (λ did. AfterArrival did self.old self.new) }
+    {
+        let taken = match self.lines.next() {
+            Some(line) => self.printer.arrive(line),
+            None => return Ok(false),
+        };
+        match &taken {
+            Taken::Full => Ok(false),
+            _ => {
+                self.lines.drop_next();
+                put_taken(&mut self.replies, &taken)?;
+                Ok(true)
+            }
+        }
+    }
+
+    // Lets lines arrive until none waits or the queue is full.
+    fn arrive_all(&mut self) -> Result<(), AllocError>
+        ensures kept { OnOk result (Keeps self.old self.new) }
+        ensures all { OnOk result (IsStuck self.new) }
+        ensures work { OnOk result (work self.new ≤ work self.old) }
+        ensures places { OnOk result (self.new.printer.places ≡ self.old.printer.places) }
+    {
+        while self.arrive_next()? {}
+        Ok(())
+    }
+
+    // Runs the front of the queue, and says whether there was one.
+    fn run_next(&mut self) -> Result<bool, AllocError>
+        ensures { IfOk result (λ did. AfterRunning did self.old self.new) }
+    {
+        match self.printer.run_one() {
+            None => Ok(false),
+            Some(ran) => {
+                put_line(&mut self.replies, ran.reply.as_slice())?;
+                put_ran(&mut self.text, &ran)?;
+                Ok(true)
+            }
+        }
+    }
+
+    /// Lets lines arrive until none waits or the queue is full, runs a line, and says whether there was one.
+    pub fn step(&mut self) -> Result<bool, AllocError>
+        ensures kept { OnOk result (Keeps self.old self.new) }
+        ensures idle { IfOk result (λ ran. ran ≡ false → 1 ≤ self.old.printer.places → IsIdle self.new) }
+        ensures work { IfOk result (λ ran. ran ≡ true → work self.new < work self.old) }
+        ensures places { OnOk result (self.new.printer.places ≡ self.old.printer.places) }
+    {
+        self.arrive_all()?;
+        self.run_next()
+    }
+}

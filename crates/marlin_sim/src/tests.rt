@@ -1,0 +1,246 @@
+//! Simulations over a connection and an output in memory.
+ghost use Rattle.std.specs.Prelude.{◌≤◌};
+
+use crate::end::SimEnd;
+use crate::plan::SimPlan;
+use crate::simulate::{sim, simulate};
+use octo_outside::{CallList, MemoryConn, MemorySink, WordList};
+use std::alloc::{AllocError, Global};
+use std::process::Abort;
+use std::test::Fail;
+
+// What a simulation gave: its end, what it wrote, and what it printed.
+#[derive(Drop)]
+struct Outcome {
+    end: SimEnd,
+    written: Vec<u8>,
+    printed: Vec<u8>,
+}
+
+// A simulation by words, with the calls that are quiet or fail, and what it comes to.
+#[derive(Clone, Copy)]
+struct Row {
+    words: &'static [&'static str],
+    input: &'static [u8],
+    quiet_at: &'static [u64],
+    conn_fails: &'static [u64],
+    sink_fails: &'static [u64],
+    end: SimEnd,
+    written: &'static [u8],
+    printed: &'static [u8],
+}
+
+fn calls(alloc: Global, numbers: &[u64]) -> Result<CallList, AllocError> {
+    let mut list = CallList::new(alloc);
+    for number in numbers {
+        list.push(*number)?;
+    }
+    Ok(list)
+}
+
+fn word_list(alloc: Global, words: &[&str]) -> Result<WordList, AllocError> {
+    let mut list = WordList::new(alloc);
+    for word in words {
+        list.push(word)?;
+    }
+    Ok(list)
+}
+
+fn simulation(alloc: Global, row: &Row) -> Result<Outcome, AllocError> {
+    let words = word_list(alloc, row.words)?;
+    let mut conn = MemoryConn::new(
+        alloc,
+        row.input,
+        calls(alloc, row.quiet_at)?,
+        calls(alloc, row.conn_fails)?,
+    )?;
+    let mut out = MemorySink::new(alloc, calls(alloc, row.sink_fails)?);
+    let end = sim(alloc, &words, &mut conn, &mut out);
+    Ok(Outcome {
+        end,
+        written: conn.written().unwrap_or(&[]).to_vec(alloc)?,
+        printed: out.written().unwrap_or(&[]).to_vec(alloc)?,
+    })
+}
+
+fn assert_row(rt: &(impl Abort + Alloc<A = Global>), row: &Row) -> Result<(), Fail> {
+    let outcome = simulation(rt.alloc(), row)?;
+    assert_eq!(rt; outcome.end, row.end);
+    assert_eq!(rt; outcome.written.as_slice(), row.written);
+    assert_eq!(rt; outcome.printed.as_slice(), row.printed);
+    Ok(())
+}
+
+// A print of G28 whose first sending is garbled, so that the printer asks for it again.
+const GARBLED: Row = Row {
+    words: &["127.0.0.1:7100", "4", "4", "-", "2"],
+    input: b"N0 M110 N0*125\nN1 G28*18\nN1 G28*18\n",
+    quiet_at: &[],
+    conn_fails: &[],
+    sink_fails: &[],
+    end: SimEnd::Done,
+    written: b"start\nError:checksum mismatch, Last Line: 0\nResend: 1\nok\nok\nok\n",
+    printed: b"N0 M110 N0\nN1 G28\n",
+};
+
+#[test]
+fn ample(rt: HostRuntime) -> Result<(), Fail> {
+    assert_row(&rt, &GARBLED)
+}
+
+#[test]
+fn planned_lines(rt: HostRuntime) -> Result<(), Fail> {
+    let rows = [
+        Row {
+            words: &["p", "4", "4", "2", "-"],
+            printed: b"N0 M110 N0\nN1 G28\n",
+            written: b"start\nok\nok\n",
+            ..GARBLED
+        },
+        Row {
+            words: &["p", "0", "1", "-", "-"],
+            input: b"N1 G28*18\nM105\nno end",
+            written: b"start\nok\nok T:21.30 /0.00 B:21.22 /0.00 @:0 B@:0\n",
+            printed: b"N1 G28\nM105\n",
+            ..GARBLED
+        },
+        Row {
+            words: &["p", "0", "4", "-", "1,2,3"],
+            input: b"G28\nG1 X9\nM84 S\n",
+            written: b"start\nok\nok\n",
+            printed: b"G29\nG1 X0\n",
+            ..GARBLED
+        },
+        Row {
+            words: &["p", "0", "4", "1,3", "4294967295"],
+            input: b"G28\n\nM84\n",
+            written: b"start\nok\n",
+            printed: b"\n",
+            ..GARBLED
+        },
+        Row {
+            input: b"",
+            written: b"start\n",
+            printed: b"",
+            ..GARBLED
+        },
+    ];
+    for row in &rows {
+        assert_row(&rt, row)?;
+    }
+    Ok(())
+}
+
+// Call 1 writes `start`, call 2 reads the input, call 3 writes the replies, and call 4 reads its end.
+#[test]
+fn failing_calls(rt: HostRuntime) -> Result<(), Fail> {
+    let rows = [
+        Row {
+            conn_fails: &[1],
+            end: SimEnd::ConnFailed,
+            written: b"",
+            printed: b"",
+            ..GARBLED
+        },
+        Row {
+            conn_fails: &[2],
+            end: SimEnd::ConnFailed,
+            written: b"start\n",
+            printed: b"",
+            ..GARBLED
+        },
+        Row {
+            conn_fails: &[3],
+            end: SimEnd::ConnFailed,
+            written: b"start\n",
+            printed: b"N0 M110 N0\n",
+            ..GARBLED
+        },
+        Row {
+            sink_fails: &[1],
+            end: SimEnd::SinkFailed,
+            printed: b"",
+            ..GARBLED
+        },
+        Row {
+            quiet_at: &[2, 3],
+            ..GARBLED
+        },
+    ];
+    for row in &rows {
+        assert_row(&rt, row)?;
+    }
+    Ok(())
+}
+
+// Two reads find nothing yet, and the third finds the input, of which one line is run in that turn.
+#[test]
+fn turns_used(rt: HostRuntime) -> Result<(), Fail> {
+    let alloc = rt.alloc();
+    for (turns, printed) in [(1, b"".as_slice()), (3, b"N0 M110 N0\n".as_slice())] {
+        let plan = SimPlan {
+            last: 4,
+            places: 4,
+            drop: CallList::new(alloc),
+            garble: CallList::new(alloc),
+            turns,
+        };
+        let quiet_at = calls(alloc, &[2, 3])?;
+        let mut conn = MemoryConn::new(alloc, GARBLED.input, quiet_at, CallList::new(alloc))?;
+        let mut out = MemorySink::new(alloc, CallList::new(alloc));
+        let end = simulate(alloc, &mut conn, &mut out, &plan);
+        assert_eq!(rt; end, SimEnd::TurnsUsed { turns });
+        assert_eq!(rt; out.written().unwrap_or(&[]), printed);
+    }
+    Ok(())
+}
+
+#[test]
+fn bad_plans(rt: HostRuntime) -> Result<(), Fail> {
+    let rows: [&[&str]; 16] = [
+        &[],
+        &["p", "4", "4", "-"],
+        &["p", "4", "4", "-", "-", "-"],
+        &["", "4", "4", "-", "-"],
+        &["p", "", "4", "-", "-"],
+        &["p", "4294967296", "4", "-", "-"],
+        &["p", "00000000004", "4", "-", "-"],
+        &["p", "+4", "4", "-", "-"],
+        &["p", "4", "0", "-", "-"],
+        &["p", "4", "17", "-", "-"],
+        &["p", "4", "4", "", "-"],
+        &["p", "4", "4", "0", "-"],
+        &["p", "4", "4", "2,1", "-"],
+        &["p", "4", "4", "-", "2,2"],
+        &["p", "4", "4", "-", "1,"],
+        &["p", "4", "4", "-", "4294967296"],
+    ];
+    for words in rows {
+        assert_row(
+            &rt,
+            &Row {
+                words,
+                end: SimEnd::BadPlan,
+                written: b"",
+                printed: b"",
+                ..GARBLED
+            },
+        )?;
+    }
+    Ok(())
+}
+
+#[test]
+fn codes(rt: HostRuntime) {
+    let rows = [
+        (SimEnd::Done, 0),
+        (SimEnd::BadPlan, 2),
+        (SimEnd::SinkFailed, 8),
+        (SimEnd::TurnsUsed { turns: 1 }, 10),
+        (SimEnd::NoMemory, 11),
+        (SimEnd::ConnFailed, 12),
+    ];
+    for (end, code) in rows {
+        assert_eq!(rt; end.code(), code);
+    }
+}

@@ -1,0 +1,116 @@
+//! Connections over TCP.
+ghost use Rattle.std.specs.Prelude.{◌≡◌, ◌≤◌, None, IfOk};
+ghost use Rattle.octo_outside.specs.Memory.{one_more};
+ghost use Rattle.octo_outside.specs.Told.{Rose};
+
+use crate::streams::{linger, may_come_later, prepare, write_some};
+use crate::{Conn, Failed, Got};
+use std::io::Read;
+use std::net::{Net, OpenListener, TcpListener};
+use std::time::Clock;
+
+/// A connection over TCP. It tells neither what is left nor what was written.
+#[derive(Drop)]
+pub struct TcpConn<R: Net + Drop> {
+    rt: R,
+    stream: R::Stream,
+    faults: u64,
+    quiets: u64,
+}
+
+impl<R: Net + Drop> TcpConn<R> {
+    /// Listens at `HOST:PORT`, waits for the first peer, and listens no longer.
+    ///
+    /// Fails where the address can't be bound, as one that is in use or isn't this machine's.
+    pub fn accept_one(rt: R, address: &str) -> Result<Self, Failed>
+        ensures { IfOk result (λ c. (c.faults ≡ 0) × (c.quiets ≡ 0)) }
+    {
+        match TcpListener::bind(&rt, address) {
+            Ok(listener) => TcpConn::accept(rt, &listener),
+            Err(_) => Err(Failed),
+        }
+    }
+
+    /// Waits for the next peer of a listener.
+    pub fn accept(rt: R, listener: &R::Listener) -> Result<Self, Failed>
+        ensures { IfOk result (λ c. (c.faults ≡ 0) × (c.quiets ≡ 0)) }
+    {
+        match listener.accept() {
+            Ok((stream, _)) => TcpConn::over(rt, stream),
+            Err(_) => Err(Failed),
+        }
+    }
+
+    // The connection over a stream, whose calls wait for a bounded time from here on.
+    fn over(rt: R, stream: R::Stream) -> Result<Self, Failed>
+        ensures { IfOk result (λ c. (c.faults ≡ 0) × (c.quiets ≡ 0)) }
+    {
+        match prepare(&stream) {
+            Ok(()) => Ok(TcpConn {
+                rt,
+                stream,
+                faults: 0,
+                quiets: 0,
+            }),
+            Err(_) => Err(Failed),
+        }
+    }
+
+    fn fail(&mut self) -> Failed
+        ensures counts { self.new.faults ≡ one_more self.old.faults }
+        ensures quiets { self.new.quiets ≡ self.old.quiets }
+        ensures counted { self.old.faults ≤ self.new.faults }
+        ensures rose { Rose self.old.faults self.new.faults }
+    {
+        self.faults = self.faults.saturating_add(1);
+        Failed
+    }
+
+    // A read found nothing yet.
+    fn count_quiet(&mut self)
+        ensures counts { self.new.quiets ≡ one_more self.old.quiets }
+        ensures counted { self.old.quiets ≤ self.new.quiets }
+        ensures faults { self.new.faults ≡ self.old.faults }
+    {
+        self.quiets = self.quiets.saturating_add(1);
+    }
+}
+
+impl<R: Net + Clock + Drop> TcpConn<R> {
+    /// Gives the connection back. The peer can still read what was written: input that it sends meanwhile is
+    /// dropped until it closes, for about 50 milliseconds at most.
+    pub fn finish(mut self) {
+        linger(&self.rt, &mut self.stream);
+    }
+}
+
+impl<R: Net + Drop> Conn for TcpConn<R> {
+    ghost left = { λ _. None };
+
+    ghost written = { λ _. None };
+
+    ghost faults = { λ c. c.faults };
+
+    ghost quiets = { λ c. c.quiets };
+
+    fn read(&mut self, into: &mut [u8]) -> Result<Got, Failed> {
+        match self.stream.read(into) {
+            Ok(0) => Ok(Got::Ended),
+            Ok(n) => Ok(Got::Bytes(n)),
+            Err(error) => {
+                if may_come_later(&error) {
+                    self.count_quiet();
+                    return Ok(Got::Quiet);
+                }
+                Err(self.fail())
+            }
+        }
+    }
+
+    fn write(&mut self, bytes: &[u8]) -> Result<usize, Failed> {
+        match write_some(&mut self.stream, bytes) {
+            Some(n) => Ok(n),
+            None => Err(self.fail()),
+        }
+    }
+}

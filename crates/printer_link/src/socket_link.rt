@@ -1,0 +1,262 @@
+//! A link to a printer over TCP.
+ghost use Rattle.std.specs.Prelude.{◌≡◌, ◌+◌, ◌≤◌, ◌⊎◌, ◌++◌, ◌∷◌, [], length, true, false, is_some, Some, None, Ok, OnOk, OnErr, IsOk, IsErrOf};
+ghost use Rattle.std.specs.List.{list_any, before_first, after_first};
+ghost use Rattle.octo_outside.specs.Told.{Rose};
+ghost use Rattle.printer_link.specs.Address.{names_address};
+ghost use Rattle.printer_link.specs.Lines.{cut, ends_line};
+ghost use Rattle.printer_link.specs.declared.link.Heard.TheVariants as heard;
+ghost use Rattle.printer_link.specs.declared.link.LinkFault.TheVariants as fault;
+
+use crate::address::names_address;
+use crate::lines::Lines;
+use crate::link::{Heard, Link, LinkFault};
+use crate::unsent::Unsent;
+use libc::net::{POLLIN, poll};
+use libc::types::pollfd;
+use octo_outside::{Line, ReplyLine, linger, may_come_later, prepare};
+use std::net::{Net, TcpStream, ToSocketAddrs};
+use std::os::fd::AsRawFd;
+use std::time::{Clock, Duration};
+
+// How long a receiving waits for input, in milliseconds.
+const WAIT: i32 = 1;
+
+// How long one address is tried, in milliseconds, and how many addresses of a host are.
+const CONNECT: u64 = 2000;
+
+const ADDRESSES: usize = 4;
+
+/// A link over TCP to the ports named `HOST:PORT`. It does not tell its past.
+///
+/// A receiving waits for about a millisecond, and a reply that comes in ends the wait at once. Lines that are sent
+/// are written when a receiving finds no reply that has been read, so that those of one turn go out together; a
+/// write that fails then is that receiving's failure. So is the end of the peer's output, also within a line.
+#[derive(Drop)]
+pub struct SocketLink<R: Net + Drop> {
+    rt: R,
+    stream: Option<R::Stream>,
+    unsent: Unsent,
+    lines: Lines,
+    up: bool,
+    faults: u64,
+}
+
+// A stream to an address, none where nobody answers there in time.
+fn connect<R: Net>(rt: &R, name: &str) -> Option<R::Stream> {
+    let timeout = Duration::from_millis(CONNECT);
+    for address in name.to_socket_addrs(rt).ok()?.take(ADDRESSES) {
+        if let Ok(stream) = TcpStream::connect_timeout(rt, &address, timeout) {
+            return match prepare(&stream) {
+                Ok(()) => Some(stream),
+                Err(_) => None,
+            };
+        }
+    }
+    None
+}
+
+// Whether a read of the stream has something to give, now or within about a millisecond. A poll that fails tells
+// nothing, and the read then has a limit of its own.
+fn may_read<S: AsRawFd>(stream: &S) -> bool {
+    let mut asked = [pollfd {
+        fd: stream.as_raw_fd(),
+        events: POLLIN,
+        revents: 0,
+    }];
+    poll(&mut asked, WAIT) != 0
+}
+
+impl<R: Net + Copy> SocketLink<R> {
+    /// No link is made yet.
+    pub fn new(rt: &R) -> Self
+        ensures down { result.up ≡ false }
+        ensures faults { result.faults ≡ 0 }
+    {
+        SocketLink {
+            rt: *rt,
+            stream: None,
+            unsent: Unsent::new(),
+            lines: Lines::new(),
+            up: false,
+            faults: 0,
+        }
+    }
+}
+
+impl<R: Net + Drop> SocketLink<R> {
+    /// Whether a link is made.
+    pub fn is_up(&self) -> bool
+        ensures { result ≡ self.now.up }
+    {
+        self.up
+    }
+
+    // Closes the link and counts the failure.
+    fn fail(&mut self) -> LinkFault
+        ensures fault { result ≡ fault.Failed }
+        ensures down { self.new.up ≡ false }
+        ensures counted { self.old.faults ≤ self.new.faults }
+        ensures rose { Rose self.old.faults self.new.faults }
+    {
+        self.stream = None;
+        self.up = false;
+        self.faults = self.faults.saturating_add(1);
+        LinkFault::Failed
+    }
+
+    // Writes what is unsent; `false` where that fails, and then there is no stream.
+    fn write_out(&mut self) -> bool
+        ensures stream { result ≡ is_some self.new.stream }
+        ensures emptied { self.new.unsent ≡ [] }
+        ensures up { self.new.up ≡ self.old.up }
+        ensures faults { self.new.faults ≡ self.old.faults }
+        ensures lines { self.new.lines ≡ self.old.lines }
+    {
+        let Some(mut stream) = self.stream.take() else {
+            self.unsent = Unsent::new();
+            return false;
+        };
+        let written = self.unsent.write(&mut stream);
+        if written {
+            self.stream = Some(stream);
+        }
+        written
+    }
+
+    // Has a line written at the next writing; where there is no room, what is unsent is written first. `false` where
+    // that fails.
+    fn gather(&mut self, line: &Line) -> bool
+        requires { length line.now.items ≤ 95 }
+        ensures room { length self.old.unsent + length line.now.items + 1 ≤ 1552 → result ≡ true }
+        ensures joined { result ≡ true → (self.new.unsent ≡ self.old.unsent ++ line.now.items ++ 10 ∷ []) ⊎ (self.new.unsent ≡ line.now.items ++ 10 ∷ []) }
+        ensures up { self.new.up ≡ self.old.up }
+        ensures faults { self.new.faults ≡ self.old.faults }
+    {
+        if self.unsent.has_room(line) {
+            self.unsent.add(line);
+            return true;
+        }
+        let written = self.write_out();
+        self.unsent.add(line);
+        written
+    }
+
+    // Reads what comes within about a millisecond; `false` where the stream failed or the peer has closed.
+    fn read_in(&mut self) -> bool
+        requires { self.old.lines.waiting ≡ [] }
+        ensures up { self.new.up ≡ self.old.up }
+        ensures faults { self.new.faults ≡ self.old.faults }
+    {
+        let Some(mut stream) = self.stream.take() else {
+            return false;
+        };
+        if !may_read(&stream) {
+            self.stream = Some(stream);
+            return true;
+        }
+        let read = self.lines.fill(&mut stream);
+        self.stream = Some(stream);
+        match read {
+            Ok(n) => n > 0,
+            Err(error) => may_come_later(&error),
+        }
+    }
+
+    // Takes the next reply that was read; where there is none, writes what is unsent and waits for more. `None` where
+    // the link failed.
+    fn hear(&mut self, into: &mut ReplyLine) -> Option<Heard>
+        ensures at_once { list_any ends_line self.old.lines.waiting ≡ true → result ≡ Some heard.Line }
+        ensures line { list_any ends_line self.old.lines.waiting ≡ true → into.new.items ≡ cut (self.old.lines.begun ++ before_first ends_line self.old.lines.waiting) }
+        ensures behind { list_any ends_line self.old.lines.waiting ≡ true → self.new.lines ≡ record { begun = []; waiting = after_first ends_line self.old.lines.waiting } }
+        ensures up { self.new.up ≡ self.old.up }
+        ensures faults { self.new.faults ≡ self.old.faults }
+    {
+        if self.lines.take(into) {
+            return Some(Heard::Line);
+        }
+        if !self.write_out() || !self.read_in() {
+            return None;
+        }
+        if self.lines.take(into) {
+            return Some(Heard::Line);
+        }
+        Some(Heard::Nothing)
+    }
+}
+
+impl<R: Net + Clock + Drop> Link for SocketLink<R> {
+    ghost past = { λ _. None };
+
+    ghost places = { λ _. 4 };
+
+    ghost advanced = { λ _. false };
+
+    ghost calls = { λ _. None };
+
+    ghost listed = { λ _ name. names_address name };
+
+    ghost up = { λ l. l.up };
+
+    ghost prompt = { λ _. false };
+
+    ghost faults = { λ l. l.faults };
+
+    fn dial(&mut self, name: &str) -> Result<(), LinkFault> {
+        if !names_address(name) {
+            return Err(LinkFault::NoPort);
+        }
+        let Some(stream) = connect(&self.rt, name) else {
+            return Err(self.fail());
+        };
+        self.stream = Some(stream);
+        self.unsent = Unsent::new();
+        self.lines = Lines::new();
+        self.up = true;
+        Ok(())
+    }
+
+    fn send(&mut self, line: &Line) -> Result<(), LinkFault>
+        requires open { self.old.up ≡ true }
+        requires short { length line.now.items ≤ 95 }
+        ensures kept { OnOk result ((self.new.unsent ≡ self.old.unsent ++ line.now.items ++ 10 ∷ []) ⊎ (self.new.unsent ≡ line.now.items ++ 10 ∷ [])) }
+        ensures room { length self.old.unsent + length line.now.items + 1 ≤ 1552 → IsOk result }
+        ensures no_port { IsErrOf result fault.NoPort → ⊥ }
+        ensures up { OnOk result (self.new.up ≡ true) }
+        ensures down { OnErr result (self.new.up ≡ false) }
+        ensures counted { self.old.faults ≤ self.new.faults }
+        ensures steady { OnOk result (self.new.faults ≡ self.old.faults) }
+        ensures failed { OnErr result (Rose self.old.faults self.new.faults) }
+    {
+        if self.gather(line) {
+            return Ok(());
+        }
+        Err(self.fail())
+    }
+
+    fn recv(&mut self, into: &mut ReplyLine) -> Result<Heard, LinkFault>
+        requires { self.old.up ≡ true }
+        ensures at_once { list_any ends_line self.old.lines.waiting ≡ true → result ≡ Ok heard.Line }
+        ensures line { list_any ends_line self.old.lines.waiting ≡ true → into.new.items ≡ cut (self.old.lines.begun ++ before_first ends_line self.old.lines.waiting) }
+        ensures behind { list_any ends_line self.old.lines.waiting ≡ true → self.new.lines ≡ record { begun = []; waiting = after_first ends_line self.old.lines.waiting } }
+        ensures no_port { IsErrOf result fault.NoPort → ⊥ }
+        ensures up { OnOk result (self.new.up ≡ true) }
+        ensures down { OnErr result (self.new.up ≡ false) }
+        ensures counted { self.old.faults ≤ self.new.faults }
+        ensures steady { OnOk result (self.new.faults ≡ self.old.faults) }
+        ensures failed { OnErr result (Rose self.old.faults self.new.faults) }
+    {
+        match self.hear(into) {
+            Some(got) => Ok(got),
+            None => Err(self.fail()),
+        }
+    }
+
+    /// Writes what is unsent and closes. Input that comes meanwhile is dropped, for about 50 milliseconds at most.
+    fn hang_up(&mut self) {
+        self.up = false;
+        if let Some(mut stream) = self.stream.take() {
+            let _ = self.unsent.write(&mut stream);
+            linger(&self.rt, &mut stream);
+        }
+    }
+}

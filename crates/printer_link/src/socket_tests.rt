@@ -1,0 +1,181 @@
+//! The link over TCP against a peer on this machine, and the names that it lists.
+use crate::{Heard, Link, LinkFault, SocketLink, names_address};
+use octo_outside::{Line, ReplyLine};
+use std::io::{Read, Write};
+use std::net::{Shutdown, TcpListener, TcpStream};
+use std::process::Abort;
+use std::test::Fail;
+use std::time::Duration;
+
+#[test]
+fn names(rt: HostRuntime) {
+    for (name, want) in [
+        ("127.0.0.1:7100", true),
+        ("printer:0", true),
+        ("printer:65535", true),
+        ("printer:00080", true),
+        ("a:b:7100", true),
+        ("[::1]:7100", true),
+        ("printer:65536", false),
+        ("printer:99999", false),
+        ("printer:000080", false),
+        ("printer:", false),
+        ("printer:+80", false),
+        ("printer:80a", false),
+        ("printer:80 ", false),
+        ("printer", false),
+        (":7100", false),
+        (":", false),
+        ("", false),
+        ("unix:/run/printer", false),
+        ("unix:/run/printer:7100", false),
+        ("unix:80", false),
+    ] {
+        assert_eq!(rt; names_address(name), want, "at {name}");
+    }
+}
+
+// What the peer or the link does, and what is to come of it.
+#[derive(Clone, Copy)]
+enum Step {
+    // The peer writes this; so many bytes without a line end; closes its writing side.
+    Says(&'static str),
+    SaysMany(usize),
+    Closes,
+    // The link sends a line; the peer reads these bytes.
+    Send(&'static str),
+    Reads(&'static str),
+    // The link receives this line; a line cut to 256 bytes; nothing; fails and is down.
+    Hear(&'static str),
+    HearCut,
+    Quiet,
+    Fails,
+}
+
+fn send(rt: &impl Abort, link: &mut SocketLink<HostRuntime>, text: &str) {
+    let mut line = Line::new();
+    line.try_extend_from_slice(text.as_bytes())
+        .expect(rt, "a short line");
+    assert!(rt; link.is_up() && line.len() <= 95);
+    assert!(rt; link.send(&line) == Ok(()));
+}
+
+// What the link receives when it has received long enough for something to come.
+fn hear(
+    rt: &impl Abort,
+    link: &mut SocketLink<HostRuntime>,
+    into: &mut ReplyLine,
+) -> Result<Heard, LinkFault> {
+    for _ in 0..1000 {
+        assert!(rt; link.is_up());
+        match link.recv(into) {
+            Ok(Heard::Nothing) => {}
+            other => return other,
+        }
+    }
+    Ok(Heard::Nothing)
+}
+
+fn check_line(rt: &impl Abort, link: &mut SocketLink<HostRuntime>, want: &[u8]) {
+    let mut reply = ReplyLine::new();
+    assert!(rt; hear(rt, link, &mut reply) == Ok(Heard::Line));
+    assert_eq!(rt; reply.as_slice(), want);
+}
+
+fn check_read(rt: &impl Abort, peer: &mut TcpStream, want: &[u8]) {
+    let mut read = [0; 64];
+    assert!(rt; want.len() <= 64);
+    peer.read_exact(&mut read[..want.len()])
+        .expect(rt, "what the link sent");
+    assert_eq!(rt; &read[..want.len()], want);
+}
+
+fn take_step(
+    rt: &impl Abort,
+    link: &mut SocketLink<HostRuntime>,
+    peer: &mut TcpStream,
+    step: Step,
+) {
+    let mut reply = ReplyLine::new();
+    match step {
+        Step::Says(text) => peer.write_all(text.as_bytes()).expect(rt, "written"),
+        Step::SaysMany(count) => {
+            for _ in 0..count {
+                peer.write_all(b"x").expect(rt, "written");
+            }
+        }
+        Step::Closes => peer.shutdown(Shutdown::Write).expect(rt, "shut"),
+        Step::Send(text) => send(rt, link, text),
+        Step::Reads(text) => check_read(rt, peer, text.as_bytes()),
+        Step::Hear(text) => check_line(rt, link, text.as_bytes()),
+        Step::HearCut => check_line(rt, link, &[b'x'; 256]),
+        Step::Quiet => {
+            assert!(rt; link.is_up());
+            assert!(rt; link.recv(&mut reply) == Ok(Heard::Nothing));
+        }
+        Step::Fails => {
+            assert!(rt; hear(rt, link, &mut reply) == Err(LinkFault::Failed));
+            assert!(rt; !link.is_up());
+        }
+    }
+}
+
+const STEPS: [Step; 17] = [
+    Step::Quiet,
+    Step::Send("N0 M110 N0*125"),
+    Step::Send("N1 G28*18"),
+    Step::Quiet,
+    Step::Reads("N0 M110 N0*125\nN1 G28*18\n"),
+    // A carriage return belongs to the line, and lines that came together are given one by one.
+    Step::Says("ok\nok T:20 /0\r\n\nstar"),
+    Step::Hear("ok"),
+    Step::Hear("ok T:20 /0\r"),
+    Step::Hear(""),
+    Step::Quiet,
+    Step::Says("t\n"),
+    Step::Hear("start"),
+    // A line that is cut, and the line behind it.
+    Step::SaysMany(5000),
+    Step::Says("\nok\n"),
+    Step::HearCut,
+    Step::Hear("ok"),
+    Step::Says("not a whole li"),
+];
+
+#[test]
+fn socket_link(rt: HostRuntime) -> Result<(), Fail> {
+    let listener = TcpListener::bind(&rt, "127.0.0.1:0")?;
+    let name = format!(in rt.alloc(); "{}", listener.local_addr()?)?;
+    let mut link = SocketLink::new(&rt);
+    assert!(rt; link.dial("printer") == Err(LinkFault::NoPort));
+    assert!(rt; !link.is_up());
+    assert!(rt; link.dial(name.as_str()) == Ok(()));
+    let (mut peer, _) = listener.accept()?;
+    peer.set_read_timeout(Some(Duration::from_secs(10)))?;
+    for step in STEPS {
+        take_step(&rt, &mut link, &mut peer, step);
+    }
+    take_step(&rt, &mut link, &mut peer, Step::Closes);
+    take_step(&rt, &mut link, &mut peer, Step::Fails);
+    Ok(())
+}
+
+// A port at which nobody listens, and what was sent before a link is given up.
+#[test]
+fn socket_link_ends(rt: HostRuntime) -> Result<(), Fail> {
+    let listener = TcpListener::bind(&rt, "127.0.0.1:0")?;
+    let name = format!(in rt.alloc(); "{}", listener.local_addr()?)?;
+    let mut link = SocketLink::new(&rt);
+    assert!(rt; link.dial(name.as_str()) == Ok(()));
+    let (mut peer, _) = listener.accept()?;
+    peer.set_read_timeout(Some(Duration::from_secs(10)))?;
+    take_step(&rt, &mut link, &mut peer, Step::Says("ok\n"));
+    take_step(&rt, &mut link, &mut peer, Step::Send("M104 S0"));
+    link.hang_up();
+    assert!(rt; !link.is_up());
+    take_step(&rt, &mut link, &mut peer, Step::Reads("M104 S0\n"));
+    drop(listener);
+    assert!(rt; !link.is_up());
+    assert!(rt; link.dial(name.as_str()) == Err(LinkFault::Failed));
+    Ok(())
+}

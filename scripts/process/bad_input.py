@@ -1,0 +1,107 @@
+"""Bad files, names and peers for `octo print`: its text and status, with its memory bounded by the system."""
+
+import os
+import random
+import resource
+import socket
+import subprocess
+import sys
+import tempfile
+import threading
+
+OCTO = "crates/octo/out/octo"
+# The least that the program needs is a few MiB; none of these cases may make it keep what a peer sends.
+MEMORY = 12 * 1024 * 1024
+SECONDS = 60
+
+
+def bound_memory():
+    resource.setrlimit(resource.RLIMIT_AS, (MEMORY, MEMORY))
+
+
+def octo(port, file):
+    words = [OCTO, "print", port, file, "--turns", "2000"]
+    run = subprocess.run(words, capture_output=True, timeout=SECONDS, preexec_fn=bound_memory)
+    return run.returncode, run.stdout, run.stderr
+
+
+class Peer:
+    """One peer on the loopback address, which does `act` with the connection that it accepts, and then closes it."""
+
+    def __init__(self, act):
+        self.listener = socket.create_server(("127.0.0.1", 0))
+        self.port = "127.0.0.1:%d" % self.listener.getsockname()[1]
+        self.thread = threading.Thread(target=self.serve, args=(act,), daemon=True)
+        self.thread.start()
+
+    def serve(self, act):
+        conn, _ = self.listener.accept()
+        try:
+            act(conn)
+        except OSError:
+            pass  # octo has closed
+        conn.close()
+        self.listener.close()
+
+
+def until_closed(conn):
+    while conn.recv(4096):
+        pass
+
+
+def silence(conn):
+    until_closed(conn)
+
+
+def noise(conn):
+    conn.sendall(random.Random(7).randbytes(200_000))
+    until_closed(conn)
+
+
+def half_a_line(conn):
+    conn.sendall(b"o")
+    conn.shutdown(socket.SHUT_WR)
+    until_closed(conn)
+
+
+def endless_line(conn):
+    for _ in range(160):
+        conn.sendall(b"x" * 65_536)
+    until_closed(conn)
+
+
+def nobody():
+    with socket.socket() as free:
+        free.bind(("127.0.0.1", 0))
+        return "127.0.0.1:%d" % free.getsockname()[1]
+
+
+def main():
+    failed = False
+    with tempfile.TemporaryDirectory() as folder:
+        good = os.path.join(folder, "a.gcode")
+        with open(good, "wb") as file:
+            file.write(b"G28\n")
+        used = b"turns used: 2000\n"
+        rows = [
+            ("no such file", lambda: octo(nobody(), os.path.join(folder, "b.gcode")), 4, b"source failed\n"),
+            ("a folder as the file", lambda: octo(nobody(), folder), 4, b"source failed\n"),
+            ("a name that is no port", lambda: octo("printer", good), 5, b"port printer is not listed\n"),
+            ("a port that is too large", lambda: octo("printer:65536", good), 5, b"port printer:65536 is not listed\n"),
+            ("nobody listens", lambda: octo(nobody(), good), 5, b"link failed\n"),
+            ("binary noise", lambda: octo(Peer(noise).port, good), 10, used),
+            ("a peer that closes in mid-line", lambda: octo(Peer(half_a_line).port, good), 5, b"link failed\n"),
+            ("10 MB without a line end", lambda: octo(Peer(endless_line).port, good), 10, used),
+            ("a peer that never answers", lambda: octo(Peer(silence).port, good), 10, used),
+        ]
+        for name, run, code, text in rows:
+            got = run()
+            if got == (code, text, b""):
+                print("ok: %s" % name)
+            else:
+                print("failed: %s: %r" % (name, got))
+                failed = True
+    return 1 if failed else 0
+
+
+sys.exit(main())

@@ -1,0 +1,47 @@
+#!/bin/sh
+# Prints of small files over TCP to marlin_sim: both outputs and both statuses.
+set -u
+cd "$(dirname "$0")/../.." || exit 2
+scripts/build octo marlin_sim || exit 1
+work=$(mktemp -d) || exit 2
+printer=
+finish() {
+    status=$?
+    trap - EXIT INT TERM HUP
+    [ -z "$printer" ] || kill "$printer" 2>/dev/null
+    rm -rf "$work"
+    exit "$status"
+}
+trap finish EXIT
+trap 'exit 130' INT TERM HUP
+failed=0
+
+# name, the file's text, the printer's last number, its places, what octo prints, octo's status, what the printer prints
+print_row() {
+    port=$(scripts/free_port) || exit 1
+    printf "$2" >"$work/a.gcode"
+    crates/marlin_sim/out/marlin_sim "127.0.0.1:$port" "$3" "$4" - - >"$work/executed" &
+    printer=$!
+    scripts/octo_when_up print "127.0.0.1:$port" "$work/a.gcode" >"$work/octo"
+    octo=$?
+    wait "$printer"
+    sim=$?
+    printer=
+    printf "$5" >"$work/octo_wanted"
+    printf "$7" >"$work/executed_wanted"
+    if [ "$octo" -eq "$6" ] && [ "$sim" -eq 0 ] && cmp "$work/octo" "$work/octo_wanted" &&
+        cmp "$work/executed" "$work/executed_wanted"; then
+        echo "ok: $1"
+    else
+        echo "failed: $1: octo $octo, marlin_sim $sim"
+        cat "$work/octo" "$work/executed"
+        failed=1
+    fi
+}
+
+print_row "two commands" 'G28\nG1 X10\n' 4 4 \
+    'done: 2 commands, 0 skipped\n' 0 'N0 M110 N0\nN1 G28\nN2 G1 X10\n'
+print_row "comments and CR LF" '; a\r\nG28 ; home\r\n\r\nM105\r\n' 4294967295 1 \
+    'done: 2 commands, 2 skipped\n' 0 'N0 M110 N0\nN1 G28\nN2 M105\n'
+print_row "an empty file" '' 0 16 'done: 0 commands, 0 skipped\n' 0 'N0 M110 N0\n'
+exit "$failed"
