@@ -1,23 +1,24 @@
 -- How the steps of a turn join.
-use Rattle.std.proofs.Common.{◌≡◌, ℕ, zero, suc, Bool, true, false, List, [], ◌∷◌, ◌++◌, Option, replicate, refl, sym, ◌∙◌, ap, subst, append_assoc, append-nil}
-use Rattle.std.specs.Prelude.{None, Some, IfSome, is_some}
+use Rattle.std.proofs.Common.{◌≡◌, ℕ, zero, suc, Bool, true, false, List, [], ◌∷◌, ◌++◌, Option, replicate, refl, sym, ◌∙◌, ap, subst, append_assoc, append-nil, arith}
+use Rattle.std.specs.Prelude.{None, Some, IfSome, is_some, ◌+◌, ◌≤◌}
 use Rattle.std.specs.Option.{option_map}
 use Rattle.send_window.specs.Sending.{Outgoing, number_of_outgoing, bytes_of_outgoing}
 use Rattle.std.proofs.lemmas.List.{append_cancel_left}
 use Rattle.octo_outside.proofs.Told.{became_then, became_so, became_same}
 use Rattle.printer_model.specs.World.{WorldData, world_from, world_of}
-use Rattle.printer_link.specs.Link.{Grows, IsSend, IsSendOf}
+use Rattle.printer_link.specs.Link.{Grows, IsSend, IsSendOf, RoseBy, counted_one}
 use Rattle.printer_model.specs.declared.event.WorldEvent.{WorldEvent}
 use Rattle.printer_model.proofs.Laws.{world_from-append, world_of-append}
 use Rattle.send_window.specs.Data.{SenderData}
 use Rattle.send_window.specs.Hearing.{tick_step}
 use Rattle.marlin_reply.specs.declared.session.LinkFact.{LinkFact}
-use Rattle.octo_session.specs.Found.{Got, unasked, lost, nothing, whole, is_got, got_of, end_by}
+use Rattle.marlin_reply.specs.declared.session.LinkFact.TheVariants as fact
+use Rattle.octo_session.specs.Found.{Got, unasked, lost, nothing, whole, is_got, got_of, end_by, can_find}
 use Rattle.octo_session.specs.declared.found.Doing.{Doing}
-use Rattle.octo_session.specs.declared.found.Doing.TheVariants.{Resting}
+use Rattle.octo_session.specs.declared.found.Doing.TheVariants.{Dialling, Resting}
 use Rattle.octo_session.specs.declared.found.Received.{Received}
 use Rattle.octo_session.specs.declared.found.Received.TheVariants as received
-use Rattle.octo_session.specs.Steps.{Step, hears, listens, issues, gives, drops, received_by, clock_steps, talk_steps, turn_steps, after_step, after_steps, IsAllowed, AreAllowed, IsDone, IsDonePromptly, IsGiven, IsGivenAlone, IsAdded, AreAdded, calls_by, calls_after, Issues, Takes, TakesSome, issuing, sends, speech}
+use Rattle.octo_session.specs.Steps.{Step, opens, asks, misses, loses, ticks, hangs_up, hears, listens, issues, gives, drops, received_by, clock_steps, dial_steps, talk_steps, turn_steps, after_step, after_steps, IsAllowed, AreAllowed, IsDone, IsDonePromptly, IsGiven, IsGivenAlone, IsAdded, AreAdded, calls_by, calls_after, Issues, Takes, TakesSome, issuing, sends, speech}
 
 pub after_steps-append : (moment : ℕ) (xs ys : List Step) (s : SenderData) → after_steps moment (xs ++ ys) s ≡ after_steps moment ys (after_steps moment xs s)
 after_steps-append moment [] ys s = refl
@@ -220,3 +221,69 @@ gives_written places advanced is_prompt old new (Some next) number bytes some wr
     let P : List ℕ → Type 0 = λ b. Grows places advanced old new (IsSend b) in
     let Q : List ℕ → Type 0 = λ b. Grows places advanced old new (λ w added. (sent : WorldEvent) × (added ≡ sent ∷ []) × IsSendOf b sent) in
     record { there = refl; grew = subst P written grew; promptly = λ is. subst Q written (promptly is) }
+
+-- how the count of calls rises
+same_stays : (a : Option ℕ) → RoseBy 0 a a
+same_stays None = tt
+same_stays (Some n) = λ below. omega arith
+
+counted_rises : (a : Option ℕ) → RoseBy 1 a (counted_one a)
+counted_rises None = tt
+counted_rises (Some n) = λ below. omega arith
+
+rose_then : (m n : ℕ) (a b c : Option ℕ) → RoseBy m a b → RoseBy n b c → RoseBy (m + n) a c
+rose_then m n None None None one two = tt
+rose_then m n None None (Some z) one two = two
+rose_then m n None (Some y) c one two = absurd one
+rose_then m n (Some x) None c one two = absurd one
+rose_then m n (Some x) (Some y) None one two = two
+rose_then m n (Some x) (Some y) (Some z) one two = λ below. (
+    let second : y + n ≤ z = two below in
+    let first : x + m ≤ y = one (omega arith) in
+    omega arith)
+
+counted_stays : (a : Option ℕ) → RoseBy 0 a (counted_one a)
+counted_stays None = tt
+counted_stays (Some n) = λ below. omega arith
+
+-- a step lowers no count of calls
+stays_by : (x : Step) (a : Option ℕ) → RoseBy 0 a (calls_by x a)
+stays_by opens a = counted_stays a
+stays_by asks a = counted_stays a
+stays_by misses a = counted_stays a
+stays_by (hears bytes) a = counted_stays a
+stays_by listens a = counted_stays a
+stays_by loses a = counted_stays a
+stays_by ticks a = same_stays a
+stays_by (issues text) a = same_stays a
+stays_by gives a = counted_stays a
+stays_by drops a = counted_stays a
+stays_by (hangs_up was_up) a = same_stays a
+
+-- nor do steps
+stays_after : (steps : List Step) (a : Option ℕ) → RoseBy 0 a (calls_after steps a)
+stays_after [] a = same_stays a
+stays_after (x ∷ steps) a = rose_then 0 0 a (calls_by x a) (calls_after steps (calls_by x a)) (stays_by x a) (stays_after steps (calls_by x a))
+
+-- steps that begin with a call raise it
+begins_calling : (steps : List Step) (a b : Option ℕ) → b ≡ calls_after steps (counted_one a) → RoseBy 1 a b
+begins_calling steps a b is =
+    let P : Option ℕ → Type 0 = λ n. RoseBy 1 a n in
+    subst P (sym is) (rose_then 1 0 a (counted_one a) (calls_after steps (counted_one a)) (counted_rises a) (stays_after steps (counted_one a)))
+
+-- as a turn does that dials
+pub dial_calls : (found : LinkFact) (a b : Option ℕ) → can_find Dialling found ≡ true → b ≡ calls_after (dial_steps found) a → RoseBy 1 a b
+dial_calls fact.Quiet a b can is = absurd (cc can)
+dial_calls fact.Opened a b can is = begins_calling [] a b is
+dial_calls fact.Ready a b can is = absurd (cc can)
+dial_calls fact.Closed a b can is = absurd (cc can)
+dial_calls fact.NoPort a b can is = begins_calling [] a b is
+dial_calls fact.Failed a b can is = begins_calling [] a b is
+dial_calls (fact.Ended end) a b can is = absurd (cc can)
+
+-- and one that talks
+pub talk_calls : (got : Got) (found : LinkFact) (texts : List (List ℕ)) (count : ℕ) (a b : Option ℕ) → (got ≡ unasked → ⊥) → b ≡ calls_after (talk_steps got found texts count) a → RoseBy 1 a b
+talk_calls unasked found texts count a b asked is = absurd (asked refl)
+talk_calls lost found texts count a b asked is = begins_calling [] a b is
+talk_calls nothing found texts count a b asked is = begins_calling (clock_steps found texts count) a b is
+talk_calls (whole bytes) found texts count a b asked is = begins_calling (clock_steps found texts count) a b is

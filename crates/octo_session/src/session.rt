@@ -6,11 +6,11 @@ ghost use Rattle.desk_steps.specs.Table.{is_closable_at};
 ghost use Rattle.job_desk.specs.Views.{line_of};
 ghost use Rattle.marlin_reply.specs.declared.session.LinkFact.TheVariants as fact;
 ghost use Rattle.marlin_reply.specs.declared.session.SessionEnd.{SessionEnd};
-ghost use Rattle.printer_link.specs.Link.{Grows, IsDial, IsNothing, IsRuns, counted_one, dial_events};
+ghost use Rattle.printer_link.specs.Link.{Grows, IsDial, IsNothing, IsRuns, RoseBy, counted_one, dial_events};
 ghost use Rattle.printer_link.specs.declared.link.LinkFault.TheVariants as fault;
 ghost use Rattle.send_window.specs.Data.{new_sender, begun};
 ghost use Rattle.send_window.specs.Sending.{next_of};
-ghost use Rattle.octo_session.specs.Data.{IsSession, doing, port_of};
+ghost use Rattle.octo_session.specs.Data.{IsSession, doing, is_calling, port_of};
 ghost use Rattle.octo_session.specs.DeskTurn.{IsNoted};
 ghost use Rattle.octo_session.specs.Found.{got_of, temps_in, temps_kept, end_by, up_after, can_find, unasked};
 ghost use Rattle.octo_session.specs.Steps.{Takes, TakesSome, hangs_up, dial_steps, talk_steps, turn_steps};
@@ -262,6 +262,7 @@ impl Session {
         ensures listed { L.listed link.new ≡ L.listed link.old }
         ensures prompt { L.prompt link.new ≡ L.prompt link.old }
         ensures counted { L.faults link.old ≤ L.faults link.new }
+        ensures calls { is_calling (doing self.old) ≡ true → RoseBy 1 (L.calls link.old) (L.calls link.new) }
         ensures failed { result.fact ≡ fact.Failed → Rose (L.faults link.old) (L.faults link.new) }
     {
         match self.doing() {
@@ -301,6 +302,7 @@ impl Session {
         ensures listed { L.listed link.new ≡ L.listed link.old }
         ensures prompt { L.prompt link.new ≡ L.prompt link.old }
         ensures counted { L.faults link.old ≤ L.faults link.new }
+        ensures calls { is_calling (doing self.old) ≡ true → RoseBy 1 (L.calls link.old) (L.calls link.new) }
         ensures failed { fact_of result.note ≡ fact.Failed → Rose (L.faults link.old) (L.faults link.new) }
     {
         let before = self.sender.acked();
