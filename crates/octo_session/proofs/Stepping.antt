@@ -1,27 +1,32 @@
 -- How the steps of a turn join.
-use Rattle.std.proofs.Common.{◌≡◌, ℕ, zero, suc, Bool, true, false, List, [], ◌∷◌, ◌++◌, Option, replicate, refl, sym, ◌∙◌, ap, subst, append_assoc, append-nil}
-use Rattle.std.specs.Prelude.{None, Some, IfSome, is_some}
+use Rattle.std.proofs.Common.{◌≡◌, ℕ, zero, suc, Bool, true, false, List, [], ◌∷◌, ◌++◌, Option, replicate, refl, sym, ◌∙◌, ap, subst, append_assoc, append-nil, arith}
+use Rattle.std.specs.Prelude.{None, Some, IfSome, is_some, ◌+◌, ◌≤◌}
 use Rattle.std.specs.Option.{option_map}
 use Rattle.send_window.specs.Sending.{Outgoing, number_of_outgoing, bytes_of_outgoing}
 use Rattle.std.proofs.lemmas.List.{append_cancel_left}
 use Rattle.octo_outside.proofs.Told.{became_then, became_so, became_same}
 use Rattle.printer_model.specs.World.{WorldData, world_from, world_of}
-use Rattle.printer_link.specs.Link.{Grows, IsSend, IsSendOf}
+use Rattle.printer_link.specs.Link.{Grows, IsSend, IsSendOf, RoseBy, counted_one}
 use Rattle.printer_model.specs.declared.event.WorldEvent.{WorldEvent}
 use Rattle.printer_model.proofs.Laws.{world_from-append, world_of-append}
 use Rattle.send_window.specs.Data.{SenderData}
 use Rattle.send_window.specs.Hearing.{tick_step}
 use Rattle.marlin_reply.specs.declared.session.LinkFact.{LinkFact}
-use Rattle.octo_session.specs.Found.{Got, unasked, lost, nothing, whole, is_got, got_of, end_by}
+use Rattle.marlin_reply.specs.declared.session.LinkFact.TheVariants as fact
+use Rattle.octo_session.specs.Found.{Got, unasked, lost, nothing, whole, is_got, got_of, end_by, can_find}
 use Rattle.octo_session.specs.declared.found.Doing.{Doing}
-use Rattle.octo_session.specs.declared.found.Doing.TheVariants.{Resting}
+use Rattle.octo_session.specs.declared.found.Doing.TheVariants.{Dialling, Resting}
 use Rattle.octo_session.specs.declared.found.Received.{Received}
 use Rattle.octo_session.specs.declared.found.Received.TheVariants as received
-use Rattle.octo_session.specs.Steps.{Step, hears, listens, issues, gives, drops, received_by, clock_steps, talk_steps, turn_steps, after_step, after_steps, IsAllowed, AreAllowed, IsDone, IsDonePromptly, IsGiven, IsGivenAlone, IsAdded, AreAdded, Issues, Takes, TakesSome, issuing, sends, speech}
+use Rattle.octo_session.specs.Steps.{Step, opens, asks, misses, loses, ticks, hangs_up, hears, listens, issues, gives, drops, received_by, clock_steps, dial_steps, talk_steps, turn_steps, after_step, after_steps, IsAllowed, AreAllowed, IsDone, IsDonePromptly, IsGiven, IsGivenAlone, IsAdded, AreAdded, calls_by, calls_after, Issues, Takes, TakesSome, issuing, sends, speech}
 
 pub after_steps-append : (moment : ℕ) (xs ys : List Step) (s : SenderData) → after_steps moment (xs ++ ys) s ≡ after_steps moment ys (after_steps moment xs s)
 after_steps-append moment [] ys s = refl
 after_steps-append moment (x ∷ xs) ys s = after_steps-append moment xs ys (after_step moment x s)
+
+pub calls_after-append : (xs ys : List Step) (a : Option ℕ) → calls_after (xs ++ ys) a ≡ calls_after ys (calls_after xs a)
+calls_after-append [] ys a = refl
+calls_after-append (x ∷ xs) ys a = calls_after-append xs ys (calls_by x a)
 
 -- steps one behind the other are allowed one behind the other
 pub allowed_then : (moment : ℕ) (xs ys : List Step) (s : SenderData) → AreAllowed moment xs s → AreAllowed moment ys (after_steps moment xs s) → AreAllowed moment (xs ++ ys) s
@@ -69,8 +74,8 @@ grows_both places advanced old new F K J first second now e =
     )
 
 module _ (moment : ℕ) (places : ℕ) (advanced is_prompt : Bool) where
-  pub takes_then : (old mid new : Option (List WorldEvent)) (xs ys : List Step) (s t u : SenderData) → Takes moment places advanced is_prompt old mid xs s t → Takes moment places advanced is_prompt mid new ys t u → Takes moment places advanced is_prompt old new (xs ++ ys) s u
-  takes_then old mid new xs ys s t u first second =
+  pub takes_then : (old mid new : Option (List WorldEvent)) (a b c : Option ℕ) (xs ys : List Step) (s t u : SenderData) → Takes moment places advanced is_prompt old mid a b xs s t → Takes moment places advanced is_prompt mid new b c ys t u → Takes moment places advanced is_prompt old new a c (xs ++ ys) s u
+  takes_then old mid new a b c xs ys s t u first second =
       let Allowed : SenderData → Type 0 = λ v. AreAllowed moment ys v in
       record {
         sender = second.sender ∙ ap (after_steps moment ys) first.sender ∙ sym (after_steps-append moment xs ys s);
@@ -83,35 +88,38 @@ module _ (moment : ℕ) (places : ℕ) (advanced is_prompt : Bool) where
             let From : SenderData → Type 0 = λ v. AreAdded moment is_prompt ys v (world_from (world_of places advanced past) added) more in
             added_then moment is_prompt xs ys s (world_of places advanced past) added more one
             (subst From first.sender (subst At (world_of-append places advanced past added) two))));
+        calls = second.calls ∙ ap (calls_after ys) first.calls ∙ sym (calls_after-append xs ys a);
       }
 
   -- no step
-  pub takes_none : (old : Option (List WorldEvent)) (s : SenderData) → Takes moment places advanced is_prompt old old [] s s
-  takes_none old s = record {
+  pub takes_none : (old : Option (List WorldEvent)) (a : Option ℕ) (s : SenderData) → Takes moment places advanced is_prompt old old a a [] s s
+  takes_none old a s = record {
     sender = refl;
     allowed = tt;
     past = became_same old (λ past added. AreAdded moment is_prompt [] s (world_of places advanced past) added) (λ past. refl);
+    calls = refl;
   }
 
   -- one step
-  pub takes_one : (old new : Option (List WorldEvent)) (x : Step) (s t : SenderData) → t ≡ after_step moment x s → IsAllowed x s → Grows places advanced old new (IsAdded is_prompt x s) → Takes moment places advanced is_prompt old new (x ∷ []) s t
-  takes_one old new x s t after may grew = record {
+  pub takes_one : (old new : Option (List WorldEvent)) (a b : Option ℕ) (x : Step) (s t : SenderData) → t ≡ after_step moment x s → IsAllowed x s → b ≡ calls_by x a → Grows places advanced old new (IsAdded is_prompt x s) → Takes moment places advanced is_prompt old new a b (x ∷ []) s t
+  takes_one old new a b x s t after may called grew = record {
     sender = after;
     allowed = (may, tt);
     past = became_so old new (λ past added. IsAdded is_prompt x s (world_of places advanced past) added)
         (λ past added. AreAdded moment is_prompt (x ∷ []) s (world_of places advanced past) added)
         grew (λ past added is. added_one moment is_prompt x s (world_of places advanced past) added is);
+    calls = called;
   }
 
   -- one step by the two words of a link
-  pub takes_both : (old new : Option (List WorldEvent)) (x : Step) (s t : SenderData) → t ≡ after_step moment x s → IsAllowed x s → Grows places advanced old new (IsDone x s) → (is_prompt ≡ true → Grows places advanced old new (IsDonePromptly x s)) → Takes moment places advanced is_prompt old new (x ∷ []) s t
-  takes_both old new x s t after may grew promptly =
-      takes_one old new x s t after may (grows_both places advanced old new (is_prompt ≡ true) (IsDone x s) (IsDonePromptly x s) grew promptly)
+  pub takes_both : (old new : Option (List WorldEvent)) (a b : Option ℕ) (x : Step) (s t : SenderData) → t ≡ after_step moment x s → IsAllowed x s → b ≡ calls_by x a → Grows places advanced old new (IsDone x s) → (is_prompt ≡ true → Grows places advanced old new (IsDonePromptly x s)) → Takes moment places advanced is_prompt old new a b (x ∷ []) s t
+  takes_both old new a b x s t after may called grew promptly =
+      takes_one old new a b x s t after may called (grows_both places advanced old new (is_prompt ≡ true) (IsDone x s) (IsDonePromptly x s) grew promptly)
 
   -- the same steps under equal names
-  pub takes_as : (old new : Option (List WorldEvent)) (xs ys : List Step) (s t : SenderData) → xs ≡ ys → Takes moment places advanced is_prompt old new xs s t → Takes moment places advanced is_prompt old new ys s t
-  takes_as old new xs ys s t same takes =
-      let P : List Step → Type 0 = λ zs. Takes moment places advanced is_prompt old new zs s t in
+  pub takes_as : (old new : Option (List WorldEvent)) (a b : Option ℕ) (xs ys : List Step) (s t : SenderData) → xs ≡ ys → Takes moment places advanced is_prompt old new a b xs s t → Takes moment places advanced is_prompt old new a b ys s t
+  takes_as old new a b xs ys s t same takes =
+      let P : List Step → Type 0 = λ zs. Takes moment places advanced is_prompt old new a b zs s t in
       subst P same takes
 
 -- issued texts add nothing
@@ -119,20 +127,26 @@ added_issuing : (moment : ℕ) (is_prompt : Bool) (texts : List (List ℕ)) (s :
 added_issuing moment is_prompt [] s w = refl
 added_issuing moment is_prompt (text ∷ texts) s w = ([], [], refl, (refl, λ is. tt), added_issuing moment is_prompt texts (after_step moment (issues text) s) w)
 
-pub takes_issuing : (moment places : ℕ) (advanced is_prompt : Bool) (old : Option (List WorldEvent)) (texts : List (List ℕ)) (s t : SenderData) → Issues moment texts s t → Takes moment places advanced is_prompt old old (issuing texts) s t
-takes_issuing moment places advanced is_prompt old texts s t issued_all = record {
+-- nor are they calls of the link
+calls_issuing : (texts : List (List ℕ)) (a : Option ℕ) → calls_after (issuing texts) a ≡ a
+calls_issuing [] a = refl
+calls_issuing (text ∷ texts) a = calls_issuing texts a
+
+pub takes_issuing : (moment places : ℕ) (advanced is_prompt : Bool) (old : Option (List WorldEvent)) (a : Option ℕ) (texts : List (List ℕ)) (s t : SenderData) → Issues moment texts s t → Takes moment places advanced is_prompt old old a a (issuing texts) s t
+takes_issuing moment places advanced is_prompt old a texts s t issued_all = record {
   sender = issued_all.sender;
   allowed = issued_all.allowed;
   past = became_same old (λ past added. AreAdded moment is_prompt (issuing texts) s (world_of places advanced past) added)
       (λ past. added_issuing moment is_prompt texts s (world_of places advanced past));
+  calls = sym (calls_issuing texts a);
 }
 
 -- a printer of the same places
-pub takes_at : (moment places places' : ℕ) (advanced advanced' is_prompt is_prompt' : Bool) (old new : Option (List WorldEvent)) (xs : List Step) (s t : SenderData) → places' ≡ places → advanced' ≡ advanced → is_prompt' ≡ is_prompt → Takes moment places' advanced' is_prompt' old new xs s t → Takes moment places advanced is_prompt old new xs s t
-takes_at moment places places' advanced advanced' is_prompt is_prompt' old new xs s t same_places same_advanced same_prompt takes =
-    let P : ℕ → Type 0 = λ p. Takes moment p advanced' is_prompt' old new xs s t in
-    let Q : Bool → Type 0 = λ a. Takes moment places a is_prompt' old new xs s t in
-    let R : Bool → Type 0 = λ b. Takes moment places advanced b old new xs s t in
+pub takes_at : (moment places places' : ℕ) (advanced advanced' is_prompt is_prompt' : Bool) (old new : Option (List WorldEvent)) (a b : Option ℕ) (xs : List Step) (s t : SenderData) → places' ≡ places → advanced' ≡ advanced → is_prompt' ≡ is_prompt → Takes moment places' advanced' is_prompt' old new a b xs s t → Takes moment places advanced is_prompt old new a b xs s t
+takes_at moment places places' advanced advanced' is_prompt is_prompt' old new a b xs s t same_places same_advanced same_prompt takes =
+    let P : ℕ → Type 0 = λ p. Takes moment p advanced' is_prompt' old new a b xs s t in
+    let Q : Bool → Type 0 = λ x. Takes moment places x is_prompt' old new a b xs s t in
+    let R : Bool → Type 0 = λ x. Takes moment places advanced x old new a b xs s t in
     subst R same_prompt (subst Q same_advanced (subst P same_places takes))
 
 -- one more of the same
@@ -141,38 +155,38 @@ replicate-push zero = refl
 replicate-push (suc count) = ap (λ (xs : List Step). gives ∷ xs) (replicate-push count)
 
 -- further frames behind some
-pub takes_more : (moment places : ℕ) (advanced is_prompt : Bool) (old mid new : Option (List WorldEvent)) (s t u : SenderData) → TakesSome moment places advanced is_prompt old mid (sends true) s t → Takes moment places advanced is_prompt mid new (gives ∷ []) t u → TakesSome moment places advanced is_prompt old new (sends true) s u
-takes_more moment places advanced is_prompt old mid new s t u some one = record {
+pub takes_more : (moment places : ℕ) (advanced is_prompt : Bool) (old mid new : Option (List WorldEvent)) (a b c : Option ℕ) (s t u : SenderData) → TakesSome moment places advanced is_prompt old mid a b (sends true) s t → Takes moment places advanced is_prompt mid new b c (gives ∷ []) t u → TakesSome moment places advanced is_prompt old new a c (sends true) s u
+takes_more moment places advanced is_prompt old mid new a b c s t u some one = record {
   count = suc some.count;
-  takes = takes_as moment places advanced is_prompt old new _ _ s u (replicate-push some.count) (takes_then moment places advanced is_prompt old mid new _ (gives ∷ []) s t u some.takes one);
+  takes = takes_as moment places advanced is_prompt old new a c _ _ s u (replicate-push some.count) (takes_then moment places advanced is_prompt old mid new a b c _ (gives ∷ []) s t u some.takes one);
 }
 
 -- the last one's sending fails
-pub takes_last : (moment places : ℕ) (advanced is_prompt : Bool) (old mid new : Option (List WorldEvent)) (s t u : SenderData) → TakesSome moment places advanced is_prompt old mid (sends true) s t → Takes moment places advanced is_prompt mid new (drops ∷ []) t u → TakesSome moment places advanced is_prompt old new (sends false) s u
-takes_last moment places advanced is_prompt old mid new s t u some one = record {
+pub takes_last : (moment places : ℕ) (advanced is_prompt : Bool) (old mid new : Option (List WorldEvent)) (a b c : Option ℕ) (s t u : SenderData) → TakesSome moment places advanced is_prompt old mid a b (sends true) s t → Takes moment places advanced is_prompt mid new b c (drops ∷ []) t u → TakesSome moment places advanced is_prompt old new a c (sends false) s u
+takes_last moment places advanced is_prompt old mid new a b c s t u some one = record {
   count = some.count;
-  takes = takes_then moment places advanced is_prompt old mid new _ (drops ∷ []) s t u some.takes one;
+  takes = takes_then moment places advanced is_prompt old mid new a b c _ (drops ∷ []) s t u some.takes one;
 }
 
 -- texts are issued, and then frames sent
-pub takes_said : (moment places : ℕ) (advanced is_prompt : Bool) (old new : Option (List WorldEvent)) (all : Bool) (texts : List (List ℕ)) (s t u : SenderData) → Issues moment texts s t → TakesSome moment places advanced is_prompt old new (sends all) t u → TakesSome moment places advanced is_prompt old new (speech all texts) s u
-takes_said moment places advanced is_prompt old new all texts s t u issued_all some = record {
+pub takes_said : (moment places : ℕ) (advanced is_prompt : Bool) (old new : Option (List WorldEvent)) (a b : Option ℕ) (all : Bool) (texts : List (List ℕ)) (s t u : SenderData) → Issues moment texts s t → TakesSome moment places advanced is_prompt old new a b (sends all) t u → TakesSome moment places advanced is_prompt old new a b (speech all texts) s u
+takes_said moment places advanced is_prompt old new a b all texts s t u issued_all some = record {
   count = some.count;
-  takes = takes_then moment places advanced is_prompt old old new (issuing texts) (sends all some.count) s t u
-      (takes_issuing moment places advanced is_prompt old texts s t issued_all) some.takes;
+  takes = takes_then moment places advanced is_prompt old old new a a b (issuing texts) (sends all some.count) s t u
+      (takes_issuing moment places advanced is_prompt old a texts s t issued_all) some.takes;
 }
 
 -- a receiving that didn't fail, and then the rest of the turn
-pub takes_talk : (moment places places' : ℕ) (advanced advanced' is_prompt is_prompt' : Bool) (old mid new : Option (List WorldEvent)) (got : Got) (found : LinkFact) (texts : List (List ℕ)) (s t u : SenderData) → is_got got ≡ true → places' ≡ places → advanced' ≡ advanced → is_prompt' ≡ is_prompt → Takes moment places advanced is_prompt old mid (received_by got) s t → TakesSome moment places' advanced' is_prompt' mid new (clock_steps found texts) t u → TakesSome moment places advanced is_prompt old new (talk_steps got found texts) s u
-takes_talk moment places places' advanced advanced' is_prompt is_prompt' old mid new unasked found texts s t u is p a q first some = absurd (cc is)
-takes_talk moment places places' advanced advanced' is_prompt is_prompt' old mid new lost found texts s t u is p a q first some = absurd (cc is)
-takes_talk moment places places' advanced advanced' is_prompt is_prompt' old mid new nothing found texts s t u is p a q first some = record {
+pub takes_talk : (moment places places' : ℕ) (advanced advanced' is_prompt is_prompt' : Bool) (old mid new : Option (List WorldEvent)) (a b c : Option ℕ) (got : Got) (found : LinkFact) (texts : List (List ℕ)) (s t u : SenderData) → is_got got ≡ true → places' ≡ places → advanced' ≡ advanced → is_prompt' ≡ is_prompt → Takes moment places advanced is_prompt old mid a b (received_by got) s t → TakesSome moment places' advanced' is_prompt' mid new b c (clock_steps found texts) t u → TakesSome moment places advanced is_prompt old new a c (talk_steps got found texts) s u
+takes_talk moment places places' advanced advanced' is_prompt is_prompt' old mid new a b c unasked found texts s t u is p v q first some = absurd (cc is)
+takes_talk moment places places' advanced advanced' is_prompt is_prompt' old mid new a b c lost found texts s t u is p v q first some = absurd (cc is)
+takes_talk moment places places' advanced advanced' is_prompt is_prompt' old mid new a b c nothing found texts s t u is p v q first some = record {
   count = some.count;
-  takes = takes_then moment places advanced is_prompt old mid new (listens ∷ []) (clock_steps found texts some.count) s t u first (takes_at moment places places' advanced advanced' is_prompt is_prompt' mid new _ t u p a q some.takes);
+  takes = takes_then moment places advanced is_prompt old mid new a b c (listens ∷ []) (clock_steps found texts some.count) s t u first (takes_at moment places places' advanced advanced' is_prompt is_prompt' mid new b c _ t u p v q some.takes);
 }
-takes_talk moment places places' advanced advanced' is_prompt is_prompt' old mid new (whole bytes) found texts s t u is p a q first some = record {
+takes_talk moment places places' advanced advanced' is_prompt is_prompt' old mid new a b c (whole bytes) found texts s t u is p v q first some = record {
   count = some.count;
-  takes = takes_then moment places advanced is_prompt old mid new (hears bytes ∷ []) (clock_steps found texts some.count) s t u first (takes_at moment places places' advanced advanced' is_prompt is_prompt' mid new _ t u p a q some.takes);
+  takes = takes_then moment places advanced is_prompt old mid new a b c (hears bytes ∷ []) (clock_steps found texts some.count) s t u first (takes_at moment places places' advanced advanced' is_prompt is_prompt' mid new b c _ t u p v q some.takes);
 }
 
 -- how the session ends by what was received
@@ -190,10 +204,10 @@ got_some received.Nothing bytes asked not_lost = refl
 got_some (received.Line temps) bytes asked not_lost = refl
 
 -- a turn that does nothing
-pub takes_rest : (moment places : ℕ) (advanced is_prompt : Bool) (old : Option (List WorldEvent)) (doing_now : Doing) (was_up : Bool) (got : Got) (found : LinkFact) (texts : List (List ℕ)) (s : SenderData) → doing_now ≡ Resting → TakesSome moment places advanced is_prompt old old (turn_steps doing_now was_up got found texts) s s
-takes_rest moment places advanced is_prompt old doing_now was_up got found texts s rests =
-    let P : Doing → Type 0 = λ d. TakesSome moment places advanced is_prompt old old (turn_steps d was_up got found texts) s s in
-    subst P (sym rests) (record { count = 0; takes = takes_none moment places advanced is_prompt old s })
+pub takes_rest : (moment places : ℕ) (advanced is_prompt : Bool) (old : Option (List WorldEvent)) (a : Option ℕ) (doing_now : Doing) (was_up : Bool) (got : Got) (found : LinkFact) (texts : List (List ℕ)) (s : SenderData) → doing_now ≡ Resting → TakesSome moment places advanced is_prompt old old a a (turn_steps doing_now was_up got found texts) s s
+takes_rest moment places advanced is_prompt old a doing_now was_up got found texts s rests =
+    let P : Doing → Type 0 = λ d. TakesSome moment places advanced is_prompt old old a a (turn_steps d was_up got found texts) s s in
+    subst P (sym rests) (record { count = 0; takes = takes_none moment places advanced is_prompt old a s })
 
 -- what was written is sent
 pub record Gives (places : ℕ) (advanced is_prompt : Bool) (old new : Option (List WorldEvent)) (next : Option Outgoing) : Type 0 where
@@ -207,3 +221,69 @@ gives_written places advanced is_prompt old new (Some next) number bytes some wr
     let P : List ℕ → Type 0 = λ b. Grows places advanced old new (IsSend b) in
     let Q : List ℕ → Type 0 = λ b. Grows places advanced old new (λ w added. (sent : WorldEvent) × (added ≡ sent ∷ []) × IsSendOf b sent) in
     record { there = refl; grew = subst P written grew; promptly = λ is. subst Q written (promptly is) }
+
+-- how the count of calls rises
+same_stays : (a : Option ℕ) → RoseBy 0 a a
+same_stays None = tt
+same_stays (Some n) = λ below. omega arith
+
+counted_rises : (a : Option ℕ) → RoseBy 1 a (counted_one a)
+counted_rises None = tt
+counted_rises (Some n) = λ below. omega arith
+
+rose_then : (m n : ℕ) (a b c : Option ℕ) → RoseBy m a b → RoseBy n b c → RoseBy (m + n) a c
+rose_then m n None None None one two = tt
+rose_then m n None None (Some z) one two = two
+rose_then m n None (Some y) c one two = absurd one
+rose_then m n (Some x) None c one two = absurd one
+rose_then m n (Some x) (Some y) None one two = two
+rose_then m n (Some x) (Some y) (Some z) one two = λ below. (
+    let second : y + n ≤ z = two below in
+    let first : x + m ≤ y = one (omega arith) in
+    omega arith)
+
+counted_stays : (a : Option ℕ) → RoseBy 0 a (counted_one a)
+counted_stays None = tt
+counted_stays (Some n) = λ below. omega arith
+
+-- a step lowers no count of calls
+stays_by : (x : Step) (a : Option ℕ) → RoseBy 0 a (calls_by x a)
+stays_by opens a = counted_stays a
+stays_by asks a = counted_stays a
+stays_by misses a = counted_stays a
+stays_by (hears bytes) a = counted_stays a
+stays_by listens a = counted_stays a
+stays_by loses a = counted_stays a
+stays_by ticks a = same_stays a
+stays_by (issues text) a = same_stays a
+stays_by gives a = counted_stays a
+stays_by drops a = counted_stays a
+stays_by (hangs_up was_up) a = same_stays a
+
+-- nor do steps
+stays_after : (steps : List Step) (a : Option ℕ) → RoseBy 0 a (calls_after steps a)
+stays_after [] a = same_stays a
+stays_after (x ∷ steps) a = rose_then 0 0 a (calls_by x a) (calls_after steps (calls_by x a)) (stays_by x a) (stays_after steps (calls_by x a))
+
+-- steps that begin with a call raise it
+begins_calling : (steps : List Step) (a b : Option ℕ) → b ≡ calls_after steps (counted_one a) → RoseBy 1 a b
+begins_calling steps a b is =
+    let P : Option ℕ → Type 0 = λ n. RoseBy 1 a n in
+    subst P (sym is) (rose_then 1 0 a (counted_one a) (calls_after steps (counted_one a)) (counted_rises a) (stays_after steps (counted_one a)))
+
+-- as a turn does that dials
+pub dial_calls : (found : LinkFact) (a b : Option ℕ) → can_find Dialling found ≡ true → b ≡ calls_after (dial_steps found) a → RoseBy 1 a b
+dial_calls fact.Quiet a b can is = absurd (cc can)
+dial_calls fact.Opened a b can is = begins_calling [] a b is
+dial_calls fact.Ready a b can is = absurd (cc can)
+dial_calls fact.Closed a b can is = absurd (cc can)
+dial_calls fact.NoPort a b can is = begins_calling [] a b is
+dial_calls fact.Failed a b can is = begins_calling [] a b is
+dial_calls (fact.Ended end) a b can is = absurd (cc can)
+
+-- and one that talks
+pub talk_calls : (got : Got) (found : LinkFact) (texts : List (List ℕ)) (count : ℕ) (a b : Option ℕ) → (got ≡ unasked → ⊥) → b ≡ calls_after (talk_steps got found texts count) a → RoseBy 1 a b
+talk_calls unasked found texts count a b asked is = absurd (asked refl)
+talk_calls lost found texts count a b asked is = begins_calling [] a b is
+talk_calls nothing found texts count a b asked is = begins_calling (clock_steps found texts count) a b is
+talk_calls (whole bytes) found texts count a b asked is = begins_calling (clock_steps found texts count) a b is

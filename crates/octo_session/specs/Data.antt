@@ -47,3 +47,10 @@ doing s =
 -- the port that a desk connects to, the empty name where it has none
 abbrev pub port_of : Data → List ℕ
 port_of d = unwrap_or d.port []
+
+-- whether a turn dials or receives
+abbrev pub is_calling : Doing → Bool
+is_calling Dialling = true
+is_calling Hanging = false
+is_calling Talking = true
+is_calling Resting = false

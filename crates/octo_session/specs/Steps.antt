@@ -8,7 +8,7 @@ use Rattle.send_window.specs.Data.{SenderData, begun}
 use Rattle.send_window.specs.Sending.{Outgoing, bytes_of_outgoing, next_of, room_of, frame_step, push_step}
 use Rattle.send_window.specs.Hearing.{hear_step, tick_step}
 use Rattle.printer_model.specs.World.{WorldData, world_from}
-use Rattle.printer_link.specs.Link.{Grows, IsDial, IsRuns, IsSend, IsSendOf, IsSendLoss, IsHeard, IsSilence, IsLoss, IsHangUp, dial_events, recv_events}
+use Rattle.printer_link.specs.Link.{Grows, IsDial, IsRuns, IsSend, IsSendOf, IsSendLoss, IsHeard, IsSilence, IsLoss, IsHangUp, counted_one, dial_events, recv_events}
 use Rattle.printer_model.specs.declared.event.WorldEvent.{WorldEvent}
 use Rattle.octo_session.specs.declared.talk.Gave.{Gave}
 use Rattle.octo_session.specs.declared.talk.Gave.TheVariants as gave
@@ -20,6 +20,8 @@ use Rattle.octo_session.specs.declared.found.Doing.TheVariants.{Dialling, Hangin
 pub data Step : Type 0 where
   -- a link is made, and the hello is to be sent from then on
   opens : Step
+  -- a dial finds that its port isn't listed
+  asks : Step
   -- a dial fails
   misses : Step
   -- a reply line is received, and the sender hears it
@@ -42,6 +44,7 @@ pub data Step : Type 0 where
 -- the sender after a step at a moment
 abbrev pub after_step : ℕ → Step → SenderData → SenderData
 after_step moment opens s = begun s
+after_step moment asks s = s
 after_step moment misses s = s
 after_step moment (hears bytes) s = hear_step (kind_of bytes) moment s
 after_step moment listens s = s
@@ -61,6 +64,7 @@ after_steps moment (step ∷ steps) s = after_steps moment steps (after_step mom
 -- given out only where there is one
 abbrev pub IsAllowed : Step → SenderData → Type 0
 IsAllowed opens s = Unit {0}
+IsAllowed asks s = Unit {0}
 IsAllowed misses s = Unit {0}
 IsAllowed (hears bytes) s = Unit {0}
 IsAllowed listens s = Unit {0}
@@ -84,6 +88,7 @@ IsGiven (Some next) w added = IsSend (bytes_of_outgoing next) w added
 -- what a step adds to the past of the link
 abbrev pub IsDone : Step → SenderData → WorldData → List WorldEvent → Type 0
 IsDone opens s w added = IsDial w added
+IsDone asks s w added = added ≡ []
 IsDone misses s w added = IsRuns w added
 IsDone (hears bytes) s w added = IsHeard bytes w added
 IsDone listens s w added = IsSilence w added
@@ -102,6 +107,7 @@ IsGivenAlone (Some next) added = (sent : WorldEvent) × (added ≡ sent ∷ []) 
 -- what a step adds over a prompt link, to the event
 abbrev pub IsDonePromptly : Step → SenderData → WorldData → List WorldEvent → Type 0
 IsDonePromptly opens s w added = (last : ℕ) × (added ≡ dial_events w last)
+IsDonePromptly asks s w added = Unit {0}
 IsDonePromptly misses s w added = Unit {0}
 IsDonePromptly (hears bytes) s w added = added ≡ recv_events true w
 IsDonePromptly listens s w added = added ≡ recv_events true w
@@ -123,6 +129,25 @@ AreAdded moment is_prompt (step ∷ steps) s w added =
     (first : List WorldEvent) × (rest : List WorldEvent) × (added ≡ first ++ rest)
     × IsAdded is_prompt step s w first × AreAdded moment is_prompt steps (after_step moment step s) (world_from w first) rest
 
+-- the count of the link's calls after a step
+abbrev pub calls_by : Step → Option ℕ → Option ℕ
+calls_by opens calls = counted_one calls
+calls_by asks calls = counted_one calls
+calls_by misses calls = counted_one calls
+calls_by (hears bytes) calls = counted_one calls
+calls_by listens calls = counted_one calls
+calls_by loses calls = counted_one calls
+calls_by ticks calls = calls
+calls_by (issues text) calls = calls
+calls_by gives calls = counted_one calls
+calls_by drops calls = counted_one calls
+calls_by (hangs_up was_up) calls = calls
+
+-- after these steps
+abbrev pub calls_after : List Step → Option ℕ → Option ℕ
+calls_after [] calls = calls
+calls_after (step ∷ steps) calls = calls_after steps (calls_by step calls)
+
 -- texts are issued, each as it comes
 abbrev pub issuing : List (List ℕ) → List Step
 issuing texts = map issues texts
@@ -133,10 +158,11 @@ pub record Issues (moment : ℕ) (texts : List (List ℕ)) (old new : SenderData
   pub allowed : AreAllowed moment (issuing texts) old
 
 -- a sender and a link take these steps
-pub record Takes (moment : ℕ) (places : ℕ) (advanced is_prompt : Bool) (old_past new_past : Option (List WorldEvent)) (steps : List Step) (old new : SenderData) : Type 0 where
+pub record Takes (moment : ℕ) (places : ℕ) (advanced is_prompt : Bool) (old_past new_past : Option (List WorldEvent)) (old_calls new_calls : Option ℕ) (steps : List Step) (old new : SenderData) : Type 0 where
   pub sender : new ≡ after_steps moment steps old
   pub allowed : AreAllowed moment steps old
   pub past : Grows places advanced old_past new_past (AreAdded moment is_prompt steps old)
+  pub calls : new_calls ≡ calls_after steps old_calls
 
 -- the step of a receiving
 abbrev pub received_by : Got → List Step
@@ -189,7 +215,7 @@ dial_steps fact.Quiet = []
 dial_steps fact.Opened = opens ∷ []
 dial_steps fact.Ready = []
 dial_steps fact.Closed = []
-dial_steps fact.NoPort = []
+dial_steps fact.NoPort = asks ∷ []
 dial_steps fact.Failed = misses ∷ []
 dial_steps (fact.Ended end) = []
 
@@ -201,6 +227,6 @@ turn_steps Talking was_up got found texts count = talk_steps got found texts cou
 turn_steps Resting was_up got found texts count = []
 
 -- the sender and the link take these steps, with some count of frames
-pub record TakesSome (moment : ℕ) (places : ℕ) (advanced is_prompt : Bool) (old_past new_past : Option (List WorldEvent)) (steps : ℕ → List Step) (old new : SenderData) : Type 0 where
+pub record TakesSome (moment : ℕ) (places : ℕ) (advanced is_prompt : Bool) (old_past new_past : Option (List WorldEvent)) (old_calls new_calls : Option ℕ) (steps : ℕ → List Step) (old new : SenderData) : Type 0 where
   pub count : ℕ
-  pub takes : Takes moment places advanced is_prompt old_past new_past (steps count) old new
+  pub takes : Takes moment places advanced is_prompt old_past new_past old_calls new_calls (steps count) old new

@@ -6,11 +6,11 @@ ghost use Rattle.desk_steps.specs.Table.{is_closable_at};
 ghost use Rattle.job_desk.specs.Views.{line_of};
 ghost use Rattle.marlin_reply.specs.declared.session.LinkFact.TheVariants as fact;
 ghost use Rattle.marlin_reply.specs.declared.session.SessionEnd.{SessionEnd};
-ghost use Rattle.printer_link.specs.Link.{Grows, IsDial, IsNothing, IsRuns, dial_events};
+ghost use Rattle.printer_link.specs.Link.{Grows, IsDial, IsNothing, IsRuns, RoseBy, counted_one, dial_events};
 ghost use Rattle.printer_link.specs.declared.link.LinkFault.TheVariants as fault;
 ghost use Rattle.send_window.specs.Data.{new_sender, begun};
 ghost use Rattle.send_window.specs.Sending.{next_of};
-ghost use Rattle.octo_session.specs.Data.{IsSession, doing, port_of};
+ghost use Rattle.octo_session.specs.Data.{IsSession, doing, is_calling, port_of};
 ghost use Rattle.octo_session.specs.DeskTurn.{IsNoted};
 ghost use Rattle.octo_session.specs.Found.{got_of, temps_in, temps_kept, end_by, up_after, can_find, unasked};
 ghost use Rattle.octo_session.specs.Steps.{Takes, TakesSome, hangs_up, dial_steps, talk_steps, turn_steps};
@@ -57,6 +57,7 @@ fn dial_port<L: Link>(desk: &Desk, link: &mut L) -> Result<(), LinkFault>
     ensures past_prompt { L.prompt link.old ≡ true → OnOk result (Grows (L.places link.old) (L.advanced link.old) (L.past link.old) (L.past link.new) (λ w added. (last : ℕ) × (added ≡ dial_events w last))) }
     ensures past_failed { IsErrOf result fault.Failed → Grows (L.places link.old) (L.advanced link.old) (L.past link.old) (L.past link.new) IsRuns }
     ensures no_port { IsErrOf result fault.NoPort ↔ (L.listed link.old (port_of desk.now) ≡ false) }
+    ensures calls { L.calls link.new ≡ counted_one (L.calls link.old) }
     ensures up { OnOk result (L.up link.new ≡ true) }
     ensures down { OnErr result (L.up link.new ≡ false) }
     ensures told { is_some (L.past link.new) ≡ is_some (L.past link.old) }
@@ -153,7 +154,7 @@ impl Session {
         ensures link { L.up link.new ≡ self.new.up }
         ensures no_port { (result.fact ≡ fact.NoPort) ↔ (L.listed link.old (port_of self.old.desk) ≡ false) }
         ensures ready { self.new.sender.ready ≡ true → self.old.sender.ready ≡ true }
-        ensures steps { Takes moment (L.places link.old) (L.advanced link.old) (L.prompt link.old) (L.past link.old) (L.past link.new) (dial_steps result.fact) self.old.sender self.new.sender }
+        ensures steps { Takes moment (L.places link.old) (L.advanced link.old) (L.prompt link.old) (L.past link.old) (L.past link.new) (L.calls link.old) (L.calls link.new) (dial_steps result.fact) self.old.sender self.new.sender }
         ensures told { is_some (L.past link.new) ≡ is_some (L.past link.old) }
         ensures places { L.places link.new ≡ L.places link.old }
         ensures advanced { L.advanced link.new ≡ L.advanced link.old }
@@ -188,7 +189,7 @@ impl Session {
         ensures up { self.new.up ≡ false }
         ensures link { L.up link.new ≡ false }
         ensures sender { self.new.sender ≡ self.old.sender }
-        ensures steps { Takes moment (L.places link.old) (L.advanced link.old) (L.prompt link.old) (L.past link.old) (L.past link.new) (hangs_up self.old.up ∷ []) self.old.sender self.new.sender }
+        ensures steps { Takes moment (L.places link.old) (L.advanced link.old) (L.prompt link.old) (L.past link.old) (L.past link.new) (L.calls link.old) (L.calls link.new) (hangs_up self.old.up ∷ []) self.old.sender self.new.sender }
         ensures told { is_some (L.past link.new) ≡ is_some (L.past link.old) }
         ensures places { L.places link.new ≡ L.places link.old }
         ensures advanced { L.advanced link.new ≡ L.advanced link.old }
@@ -220,7 +221,7 @@ impl Session {
         ensures joined { IsSession self.new }
         ensures up { self.new.up ≡ up_after result.fact true }
         ensures link { L.up link.new ≡ self.new.up }
-        ensures steps { TakesSome moment (L.places link.old) (L.advanced link.old) (L.prompt link.old) (L.past link.old) (L.past link.new) (talk_steps (got_of result.received line.new.items) result.fact (texts_in (map line_of result.issued.items))) self.old.sender self.new.sender }
+        ensures steps { TakesSome moment (L.places link.old) (L.advanced link.old) (L.prompt link.old) (L.past link.old) (L.past link.new) (L.calls link.old) (L.calls link.new) (talk_steps (got_of result.received line.new.items) result.fact (texts_in (map line_of result.issued.items))) self.old.sender self.new.sender }
         ensures told { is_some (L.past link.new) ≡ is_some (L.past link.old) }
         ensures places { L.places link.new ≡ L.places link.old }
         ensures advanced { L.advanced link.new ≡ L.advanced link.old }
@@ -254,13 +255,14 @@ impl Session {
         ensures link { L.up link.new ≡ self.new.up }
         ensures greatest { self.new.desk.greatest ≡ self.old.desk.greatest }
         ensures no_port { (result.fact ≡ fact.NoPort) ↔ ((doing self.old ≡ now_doing.Dialling) × (L.listed link.old (port_of self.old.desk) ≡ false)) }
-        ensures steps { TakesSome moment (L.places link.old) (L.advanced link.old) (L.prompt link.old) (L.past link.old) (L.past link.new) (turn_steps (doing self.old) self.old.up (got_of result.received line.new.items) result.fact (texts_in (map line_of result.issued.items))) self.old.sender self.new.sender }
+        ensures steps { TakesSome moment (L.places link.old) (L.advanced link.old) (L.prompt link.old) (L.past link.old) (L.past link.new) (L.calls link.old) (L.calls link.new) (turn_steps (doing self.old) self.old.up (got_of result.received line.new.items) result.fact (texts_in (map line_of result.issued.items))) self.old.sender self.new.sender }
         ensures told { is_some (L.past link.new) ≡ is_some (L.past link.old) }
         ensures places { L.places link.new ≡ L.places link.old }
         ensures advanced { L.advanced link.new ≡ L.advanced link.old }
         ensures listed { L.listed link.new ≡ L.listed link.old }
         ensures prompt { L.prompt link.new ≡ L.prompt link.old }
         ensures counted { L.faults link.old ≤ L.faults link.new }
+        ensures calls { is_calling (doing self.old) ≡ true → RoseBy 1 (L.calls link.old) (L.calls link.new) }
         ensures failed { result.fact ≡ fact.Failed → Rose (L.faults link.old) (L.faults link.new) }
     {
         match self.doing() {
@@ -283,7 +285,7 @@ impl Session {
     /// memory.
     pub fn turn<L: Link>(&mut self, link: &mut L, moment: u64) -> Turned
         requires { L.up link.old ≡ self.old.up }
-        ensures turn { IsTurn moment (L.places link.old) (L.advanced link.old) (L.prompt link.old) (L.past link.old) (L.past link.new) self.old self.new result }
+        ensures turn { IsTurn moment (L.places link.old) (L.advanced link.old) (L.prompt link.old) (L.past link.old) (L.past link.new) (L.calls link.old) (L.calls link.new) self.old self.new result }
         ensures finds { can_find (doing self.old) (fact_of result.note) ≡ true }
         ensures up { self.new.up ≡ up_after (fact_of result.note) self.old.up }
         ensures link { L.up link.new ≡ self.new.up }
@@ -300,6 +302,7 @@ impl Session {
         ensures listed { L.listed link.new ≡ L.listed link.old }
         ensures prompt { L.prompt link.new ≡ L.prompt link.old }
         ensures counted { L.faults link.old ≤ L.faults link.new }
+        ensures calls { is_calling (doing self.old) ≡ true → RoseBy 1 (L.calls link.old) (L.calls link.new) }
         ensures failed { fact_of result.note ≡ fact.Failed → Rose (L.faults link.old) (L.faults link.new) }
     {
         let before = self.sender.acked();

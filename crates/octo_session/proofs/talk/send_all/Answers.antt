@@ -7,7 +7,7 @@ loop-preserved g c =
     let i = c.loop.invariant in
     let e = c.in-Sent.ensures in
     record {
-      steps = takes_more _ _ _ _ _ _ _ _ _ _ i.steps (takes_at _ _ _ _ _ _ _ _ _ _ _ _ i.places i.advanced i.prompt e.steps);
+      steps = takes_more _ _ _ _ _ _ _ _ _ _ _ _ _ i.steps (takes_at _ _ _ _ _ _ _ _ _ _ _ _ _ _ i.places i.advanced i.prompt e.steps);
       up = e.up;
       told = e.told ∙ i.told;
       places = e.places ∙ i.places;
@@ -20,4 +20,4 @@ loop-preserved g c =
 pub returns-in-Failed-clause-steps : goal.returns-in-Failed-clause-steps
 returns-in-Failed-clause-steps g c =
     let i = c.loop.invariant in
-    takes_last _ _ _ _ _ _ _ _ _ _ i.steps (takes_at _ _ _ _ _ _ _ _ _ _ _ _ i.places i.advanced i.prompt c.in-Failed.ensures.steps)
+    takes_last _ _ _ _ _ _ _ _ _ _ _ _ _ i.steps (takes_at _ _ _ _ _ _ _ _ _ _ _ _ _ _ i.places i.advanced i.prompt c.in-Failed.ensures.steps)

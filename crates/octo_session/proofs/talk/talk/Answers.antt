@@ -30,7 +30,7 @@ returns-in_default g c =
       sent = e.sent;
       spent = e.spent;
       joined = e.joined;
-      steps = let P : Got → Type 0 = λ x. TakesSome c.args.moment (g.L.Link.places c.args.link.now) (g.L.Link.advanced c.args.link.now) (g.L.Link.prompt c.args.link.now) (g.L.Link.past c.args.link.now) (g.L.Link.past c.proceed.new.link) (talk_steps x c.proceed.result.fact (texts_in (map line_of c.proceed.result.issued.items))) c.args.sender.now c.proceed.new.sender in subst P (sym got_same) (takes_talk _ _ _ _ _ _ _ _ _ _ got c.proceed.result.fact (texts_in (map line_of c.proceed.result.issued.items)) c.args.sender.now c.receive.new.sender c.proceed.new.sender is r.places r.advanced r.prompt r.steps e.steps);
+      steps = let P : Got → Type 0 = λ x. TakesSome c.args.moment (g.L.Link.places c.args.link.now) (g.L.Link.advanced c.args.link.now) (g.L.Link.prompt c.args.link.now) (g.L.Link.past c.args.link.now) (g.L.Link.past c.proceed.new.link) (g.L.Link.calls c.args.link.now) (g.L.Link.calls c.proceed.new.link) (talk_steps x c.proceed.result.fact (texts_in (map line_of c.proceed.result.issued.items))) c.args.sender.now c.proceed.new.sender in subst P (sym got_same) (takes_talk _ _ _ _ _ _ _ _ _ _ _ _ _ got c.proceed.result.fact (texts_in (map line_of c.proceed.result.issued.items)) c.args.sender.now c.receive.new.sender c.proceed.new.sender is r.places r.advanced r.prompt r.steps e.steps);
       up = e.up;
       told = e.told ∙ r.told;
       places = e.places ∙ r.places;
