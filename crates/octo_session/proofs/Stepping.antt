@@ -18,7 +18,7 @@ use Rattle.octo_session.specs.declared.found.Doing.{Doing}
 use Rattle.octo_session.specs.declared.found.Doing.TheVariants.{Dialling, Resting}
 use Rattle.octo_session.specs.declared.found.Received.{Received}
 use Rattle.octo_session.specs.declared.found.Received.TheVariants as received
-use Rattle.octo_session.specs.Steps.{Step, opens, asks, misses, loses, ticks, hangs_up, hears, listens, issues, gives, drops, received_by, clock_steps, dial_steps, talk_steps, turn_steps, after_step, after_steps, IsAllowed, AreAllowed, IsDone, IsDonePromptly, IsGiven, IsGivenAlone, IsAdded, AreAdded, calls_by, calls_after, Issues, Takes, TakesSome, issuing, sends, speech}
+use Rattle.octo_session.specs.Steps.{Step, opens, finds_no_port, fails_to_dial, fails_to_receive, ticks, hangs_up, hears, listens, issues, gives, fails_to_send, received_by, clock_steps, dial_steps, talk_steps, turn_steps, after_step, after_steps, IsAllowed, AreAllowed, IsDone, IsDonePromptly, IsGiven, IsGivenAlone, IsAdded, AreAdded, calls_by, calls_after, Issues, Takes, TakesSome, issuing, sends, speech}
 
 pub after_steps-append : (moment : ℕ) (xs ys : List Step) (s : SenderData) → after_steps moment (xs ++ ys) s ≡ after_steps moment ys (after_steps moment xs s)
 after_steps-append moment [] ys s = refl
@@ -162,10 +162,10 @@ takes_more moment places advanced is_prompt old mid new a b c s t u some one = r
 }
 
 -- the last one's sending fails
-pub takes_last : (moment places : ℕ) (advanced is_prompt : Bool) (old mid new : Option (List WorldEvent)) (a b c : Option ℕ) (s t u : SenderData) → TakesSome moment places advanced is_prompt old mid a b (sends true) s t → Takes moment places advanced is_prompt mid new b c (drops ∷ []) t u → TakesSome moment places advanced is_prompt old new a c (sends false) s u
+pub takes_last : (moment places : ℕ) (advanced is_prompt : Bool) (old mid new : Option (List WorldEvent)) (a b c : Option ℕ) (s t u : SenderData) → TakesSome moment places advanced is_prompt old mid a b (sends true) s t → Takes moment places advanced is_prompt mid new b c (fails_to_send ∷ []) t u → TakesSome moment places advanced is_prompt old new a c (sends false) s u
 takes_last moment places advanced is_prompt old mid new a b c s t u some one = record {
   count = some.count;
-  takes = takes_then moment places advanced is_prompt old mid new a b c _ (drops ∷ []) s t u some.takes one;
+  takes = takes_then moment places advanced is_prompt old mid new a b c _ (fails_to_send ∷ []) s t u some.takes one;
 }
 
 -- texts are issued, and then frames sent
@@ -249,15 +249,15 @@ counted_stays (Some n) = λ below. omega arith
 -- a step lowers no count of calls
 stays_by : (x : Step) (a : Option ℕ) → RoseBy 0 a (calls_by x a)
 stays_by opens a = counted_stays a
-stays_by asks a = counted_stays a
-stays_by misses a = counted_stays a
+stays_by finds_no_port a = counted_stays a
+stays_by fails_to_dial a = counted_stays a
 stays_by (hears bytes) a = counted_stays a
 stays_by listens a = counted_stays a
-stays_by loses a = counted_stays a
+stays_by fails_to_receive a = counted_stays a
 stays_by ticks a = same_stays a
 stays_by (issues text) a = same_stays a
 stays_by gives a = counted_stays a
-stays_by drops a = counted_stays a
+stays_by fails_to_send a = counted_stays a
 stays_by (hangs_up was_up) a = same_stays a
 
 -- nor do steps

@@ -6,7 +6,7 @@ use Rattle.desk_steps.specs.declared.state.State.{State}
 use Rattle.desk_steps.specs.declared.state.State.TheVariants.{Offline, Connecting, Operational, Printing, Pausing, Paused, Cancelling, Finishing, Closing, Fault}
 use Rattle.send_window.specs.Data.{SenderData}
 use Rattle.octo_session.specs.declared.found.Doing.{Doing}
-use Rattle.octo_session.specs.declared.found.Doing.TheVariants.{Dialling, Hanging, Talking, Resting}
+use Rattle.octo_session.specs.declared.found.Doing.TheVariants.{Dialling, HangingUp, Talking, Resting}
 
 pub record SessionData : Type 0 where
   pub desk : Data
@@ -41,7 +41,7 @@ is_connecting Fault = false
 abbrev pub doing : SessionData → Doing
 doing s =
     if not s.up && is_connecting s.desk.state then Dialling
-    else (if is_closable_at s.desk.state s.desk then Hanging
+    else (if is_closable_at s.desk.state s.desk then HangingUp
     else (if s.up then Talking else Resting))
 
 -- the port that a desk connects to, the empty name where it has none
@@ -51,6 +51,6 @@ port_of d = unwrap_or d.port []
 -- whether a turn dials or receives
 abbrev pub is_calling : Doing → Bool
 is_calling Dialling = true
-is_calling Hanging = false
+is_calling HangingUp = false
 is_calling Talking = true
 is_calling Resting = false

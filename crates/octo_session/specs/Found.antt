@@ -10,7 +10,7 @@ use Rattle.marlin_reply.specs.declared.session.LinkFact.TheVariants as fact
 use Rattle.send_window.specs.Data.{SenderData}
 use Rattle.send_window.specs.Hearing.{hear_step, tick_step}
 use Rattle.octo_session.specs.declared.found.Doing.{Doing}
-use Rattle.octo_session.specs.declared.found.Doing.TheVariants.{Dialling, Hanging, Talking, Resting}
+use Rattle.octo_session.specs.declared.found.Doing.TheVariants.{Dialling, HangingUp, Talking, Resting}
 use Rattle.octo_session.specs.declared.found.Received.{Received}
 use Rattle.octo_session.specs.declared.found.Received.TheVariants as received
 
@@ -89,7 +89,7 @@ abbrev pub can_find : Doing → LinkFact → Bool
 can_find Dialling fact.Opened = true
 can_find Dialling fact.NoPort = true
 can_find Dialling fact.Failed = true
-can_find Hanging fact.Closed = true
+can_find HangingUp fact.Closed = true
 can_find Talking fact.Quiet = true
 can_find Talking fact.Ready = true
 can_find Talking fact.Failed = true

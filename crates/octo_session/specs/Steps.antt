@@ -14,22 +14,22 @@ use Rattle.octo_session.specs.declared.talk.Gave.{Gave}
 use Rattle.octo_session.specs.declared.talk.Gave.TheVariants as gave
 use Rattle.octo_session.specs.Found.{Got, unasked, lost, nothing, whole}
 use Rattle.octo_session.specs.declared.found.Doing.{Doing}
-use Rattle.octo_session.specs.declared.found.Doing.TheVariants.{Dialling, Hanging, Talking, Resting}
+use Rattle.octo_session.specs.declared.found.Doing.TheVariants.{Dialling, HangingUp, Talking, Resting}
 
 -- a step of a turn
 pub data Step : Type 0 where
   -- a link is made, and the hello is to be sent from then on
   opens : Step
   -- a dial finds that its port isn't listed
-  asks : Step
+  finds_no_port : Step
   -- a dial fails
-  misses : Step
+  fails_to_dial : Step
   -- a reply line is received, and the sender hears it
   hears : List ℕ → Step
   -- nothing is there to receive
   listens : Step
   -- a receiving fails
-  loses : Step
+  fails_to_receive : Step
   -- the sender's clock ticks
   ticks : Step
   -- a text is issued
@@ -37,22 +37,22 @@ pub data Step : Type 0 where
   -- what is to be sent next is sent
   gives : Step
   -- what is to be sent next is given out, and the sending fails
-  drops : Step
+  fails_to_send : Step
   -- the link is hung up, where it was up
   hangs_up : Bool → Step
 
 -- the sender after a step at a moment
 abbrev pub after_step : ℕ → Step → SenderData → SenderData
 after_step moment opens s = begun s
-after_step moment asks s = s
-after_step moment misses s = s
+after_step moment finds_no_port s = s
+after_step moment fails_to_dial s = s
 after_step moment (hears bytes) s = hear_step (kind_of bytes) moment s
 after_step moment listens s = s
-after_step moment loses s = s
+after_step moment fails_to_receive s = s
 after_step moment ticks s = tick_step moment s
 after_step moment (issues text) s = push_step text s
 after_step moment gives s = frame_step moment s
-after_step moment drops s = frame_step moment s
+after_step moment fails_to_send s = frame_step moment s
 after_step moment (hangs_up was_up) s = s
 
 -- the sender after these steps
@@ -64,15 +64,15 @@ after_steps moment (step ∷ steps) s = after_steps moment steps (after_step mom
 -- given out only where there is one
 abbrev pub IsAllowed : Step → SenderData → Type 0
 IsAllowed opens s = Unit {0}
-IsAllowed asks s = Unit {0}
-IsAllowed misses s = Unit {0}
+IsAllowed finds_no_port s = Unit {0}
+IsAllowed fails_to_dial s = Unit {0}
 IsAllowed (hears bytes) s = Unit {0}
 IsAllowed listens s = Unit {0}
-IsAllowed loses s = Unit {0}
+IsAllowed fails_to_receive s = Unit {0}
 IsAllowed ticks s = Unit {0}
 IsAllowed (issues text) s = (0 < room_of s) × IsSendable text
 IsAllowed gives s = is_some (next_of s) ≡ true
-IsAllowed drops s = is_some (next_of s) ≡ true
+IsAllowed fails_to_send s = is_some (next_of s) ≡ true
 IsAllowed (hangs_up was_up) s = Unit {0}
 
 -- before each of these steps it does
@@ -88,15 +88,15 @@ IsGiven (Some next) w added = IsSend (bytes_of_outgoing next) w added
 -- what a step adds to the past of the link
 abbrev pub IsDone : Step → SenderData → WorldData → List WorldEvent → Type 0
 IsDone opens s w added = IsDial w added
-IsDone asks s w added = added ≡ []
-IsDone misses s w added = IsRuns w added
+IsDone finds_no_port s w added = added ≡ []
+IsDone fails_to_dial s w added = IsRuns w added
 IsDone (hears bytes) s w added = IsHeard bytes w added
 IsDone listens s w added = IsSilence w added
-IsDone loses s w added = IsLoss w added
+IsDone fails_to_receive s w added = IsLoss w added
 IsDone ticks s w added = added ≡ []
 IsDone (issues text) s w added = added ≡ []
 IsDone gives s w added = IsGiven (next_of s) w added
-IsDone drops s w added = IsSendLoss w added
+IsDone fails_to_send s w added = IsSendLoss w added
 IsDone (hangs_up was_up) s w added = IsHangUp was_up w added
 
 -- what is to be sent next is sent, and nothing else happens
@@ -107,15 +107,15 @@ IsGivenAlone (Some next) added = (sent : WorldEvent) × (added ≡ sent ∷ []) 
 -- what a step adds over a prompt link, to the event
 abbrev pub IsDonePromptly : Step → SenderData → WorldData → List WorldEvent → Type 0
 IsDonePromptly opens s w added = (last : ℕ) × (added ≡ dial_events w last)
-IsDonePromptly asks s w added = Unit {0}
-IsDonePromptly misses s w added = Unit {0}
+IsDonePromptly finds_no_port s w added = Unit {0}
+IsDonePromptly fails_to_dial s w added = Unit {0}
 IsDonePromptly (hears bytes) s w added = added ≡ recv_events true w
 IsDonePromptly listens s w added = added ≡ recv_events true w
-IsDonePromptly loses s w added = Unit {0}
+IsDonePromptly fails_to_receive s w added = Unit {0}
 IsDonePromptly ticks s w added = Unit {0}
 IsDonePromptly (issues text) s w added = Unit {0}
 IsDonePromptly gives s w added = IsGivenAlone (next_of s) added
-IsDonePromptly drops s w added = Unit {0}
+IsDonePromptly fails_to_send s w added = Unit {0}
 IsDonePromptly (hangs_up was_up) s w added = Unit {0}
 
 -- the same over a link that is prompt or not
@@ -132,15 +132,15 @@ AreAdded moment is_prompt (step ∷ steps) s w added =
 -- the count of the link's calls after a step
 abbrev pub calls_by : Step → Option ℕ → Option ℕ
 calls_by opens calls = counted_one calls
-calls_by asks calls = counted_one calls
-calls_by misses calls = counted_one calls
+calls_by finds_no_port calls = counted_one calls
+calls_by fails_to_dial calls = counted_one calls
 calls_by (hears bytes) calls = counted_one calls
 calls_by listens calls = counted_one calls
-calls_by loses calls = counted_one calls
+calls_by fails_to_receive calls = counted_one calls
 calls_by ticks calls = calls
 calls_by (issues text) calls = calls
 calls_by gives calls = counted_one calls
-calls_by drops calls = counted_one calls
+calls_by fails_to_send calls = counted_one calls
 calls_by (hangs_up was_up) calls = calls
 
 -- after these steps
@@ -167,7 +167,7 @@ pub record Takes (moment : ℕ) (places : ℕ) (advanced is_prompt : Bool) (old_
 -- the step of a receiving
 abbrev pub received_by : Got → List Step
 received_by unasked = []
-received_by lost = loses ∷ []
+received_by lost = fails_to_receive ∷ []
 received_by nothing = listens ∷ []
 received_by (whole bytes) = hears bytes ∷ []
 
@@ -175,7 +175,7 @@ received_by (whole bytes) = hears bytes ∷ []
 abbrev pub given_by : Gave → List Step
 given_by gave.Sent = gives ∷ []
 given_by gave.Nothing = []
-given_by gave.Failed = drops ∷ []
+given_by gave.Failed = fails_to_send ∷ []
 
 -- whether the link is up after a sending
 abbrev pub is_up_by : Gave → Bool
@@ -186,7 +186,7 @@ is_up_by gave.Failed = false
 -- so many frames are sent, and where not all is sent the sending of one more fails
 abbrev pub sends : Bool → ℕ → List Step
 sends true count = replicate count gives
-sends false count = replicate count gives ++ drops ∷ []
+sends false count = replicate count gives ++ fails_to_send ∷ []
 
 -- texts are issued, and then frames sent
 abbrev pub speech : Bool → List (List ℕ) → ℕ → List Step
@@ -205,7 +205,7 @@ clock_steps (fact.Ended end) texts count = ticks ∷ hangs_up true ∷ []
 -- a turn over an open link, by what it receives and finds
 abbrev pub talk_steps : Got → LinkFact → List (List ℕ) → ℕ → List Step
 talk_steps unasked found texts count = []
-talk_steps lost found texts count = loses ∷ []
+talk_steps lost found texts count = fails_to_receive ∷ []
 talk_steps nothing found texts count = listens ∷ clock_steps found texts count
 talk_steps (whole bytes) found texts count = hears bytes ∷ clock_steps found texts count
 
@@ -215,14 +215,14 @@ dial_steps fact.Quiet = []
 dial_steps fact.Opened = opens ∷ []
 dial_steps fact.Ready = []
 dial_steps fact.Closed = []
-dial_steps fact.NoPort = asks ∷ []
-dial_steps fact.Failed = misses ∷ []
+dial_steps fact.NoPort = finds_no_port ∷ []
+dial_steps fact.Failed = fails_to_dial ∷ []
 dial_steps (fact.Ended end) = []
 
 -- a turn, by what it does, receives, finds and issues, and how many frames it gives out
 abbrev pub turn_steps : Doing → Bool → Got → LinkFact → List (List ℕ) → ℕ → List Step
 turn_steps Dialling was_up got found texts count = dial_steps found
-turn_steps Hanging was_up got found texts count = hangs_up was_up ∷ []
+turn_steps HangingUp was_up got found texts count = hangs_up was_up ∷ []
 turn_steps Talking was_up got found texts count = talk_steps got found texts count
 turn_steps Resting was_up got found texts count = []
 

@@ -16,7 +16,7 @@ use Rattle.octo_session.specs.DeskTurn.{IsNoted}
 use Rattle.octo_session.specs.Found.{Got, unasked, is_whole, temps_in, temps_kept, end_by}
 use Rattle.octo_session.specs.Steps.{TakesSome, turn_steps}
 use Rattle.octo_session.specs.declared.found.Doing.{Doing}
-use Rattle.octo_session.specs.declared.found.Doing.TheVariants.{Dialling, Hanging, Talking, Resting}
+use Rattle.octo_session.specs.declared.found.Doing.TheVariants.{Dialling, HangingUp, Talking, Resting}
 use Rattle.octo_session.specs.declared.found.Found.{Found}
 use Rattle.octo_session.specs.declared.found.Turned.{Turned}
 
@@ -78,7 +78,7 @@ IsKeptIn found moment acked note =
 -- what a turn makes of the desk; one that does nothing leaves it
 abbrev pub IsDeskTurn : Doing → ℕ → ℕ → LinkFact → List Line → Data → Option Ending → Data → Type 0
 IsDeskTurn Dialling moment acked found lines old ending new = IsNoted moment acked found lines old ending new
-IsDeskTurn Hanging moment acked found lines old ending new = IsNoted moment acked found lines old ending new
+IsDeskTurn HangingUp moment acked found lines old ending new = IsNoted moment acked found lines old ending new
 IsDeskTurn Talking moment acked found lines old ending new = IsNoted moment acked found lines old ending new
 IsDeskTurn Resting moment acked found lines old ending new = (lines ≡ []) × (ending ≡ None) × (new ≡ old)
 

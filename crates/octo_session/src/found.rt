@@ -14,7 +14,7 @@ pub enum Doing {
     /// It dials the desk's port.
     Dialling,
     /// It hangs up.
-    Hanging,
+    HangingUp,
     /// It receives, and then sends.
     Talking,
     /// Nothing.

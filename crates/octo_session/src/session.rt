@@ -116,7 +116,7 @@ impl Session {
             return Doing::Dialling;
         }
         if self.desk.closable() {
-            return Doing::Hanging;
+            return Doing::HangingUp;
         }
         if self.up {
             return Doing::Talking;
@@ -267,7 +267,7 @@ impl Session {
     {
         match self.doing() {
             Doing::Dialling => self.dial(link, moment),
-            Doing::Hanging => self.hang_up(link, moment),
+            Doing::HangingUp => self.hang_up(link, moment),
             Doing::Talking => self.exchange(link, moment, line),
             Doing::Resting => Found::silent(LinkFact::Quiet, Received::Unasked, None),
         }
