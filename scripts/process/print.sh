@@ -16,20 +16,21 @@ trap finish EXIT
 trap 'exit 130' INT TERM HUP
 failed=0
 
-# name, the file's text, the printer's last number, its places, what octo prints, octo's status, what the printer prints
+# name, the file's text, the words of marlin_sim behind its address, what octo prints, octo's status, what the printer prints
 print_row() {
     port=$(scripts/free_port) || exit 1
     printf "$2" >"$work/a.gcode"
-    crates/marlin_sim/out/marlin_sim "127.0.0.1:$port" "$3" "$4" - - >"$work/executed" &
+    # shellcheck disable=SC2086
+    crates/marlin_sim/out/marlin_sim "127.0.0.1:$port" $3 >"$work/executed" &
     printer=$!
-    scripts/octo_when_up print "127.0.0.1:$port" "$work/a.gcode" >"$work/octo"
+    scripts/octo_when_up print "127.0.0.1:$port" "$work/a.gcode" --turns 500 >"$work/octo"
     octo=$?
     wait "$printer"
     sim=$?
     printer=
-    printf "$5" >"$work/octo_wanted"
-    printf "$7" >"$work/executed_wanted"
-    if [ "$octo" -eq "$6" ] && [ "$sim" -eq 0 ] && cmp "$work/octo" "$work/octo_wanted" &&
+    printf "$4" >"$work/octo_wanted"
+    printf "$6" >"$work/executed_wanted"
+    if [ "$octo" -eq "$5" ] && [ "$sim" -eq 0 ] && cmp "$work/octo" "$work/octo_wanted" &&
         cmp "$work/executed" "$work/executed_wanted"; then
         echo "ok: $1"
     else
@@ -39,9 +40,12 @@ print_row() {
     fi
 }
 
-print_row "two commands" 'G28\nG1 X10\n' 4 4 \
+print_row "two commands" 'G28\nG1 X10\n' '4 4 - -' \
     'done: 2 commands, 0 skipped\n' 0 'N0 M110 N0\nN1 G28\nN2 G1 X10\n'
-print_row "comments and CR LF" '; a\r\nG28 ; home\r\n\r\nM105\r\n' 4294967295 1 \
+print_row "comments and CR LF" '; a\r\nG28 ; home\r\n\r\nM105\r\n' '4294967295 1 - -' \
     'done: 2 commands, 2 skipped\n' 0 'N0 M110 N0\nN1 G28\nN2 M105\n'
-print_row "an empty file" '' 0 16 'done: 0 commands, 0 skipped\n' 0 'N0 M110 N0\n'
+print_row "an empty file" '' '0 16 - -' 'done: 0 commands, 0 skipped\n' 0 'N0 M110 N0\n'
+print_row "the third line garbled" 'G28\nG1 X10\n' '4 4 - 3' \
+    'session ended: resend not built\n' 6 'N0 M110 N0\nN1 G28\n'
+print_row "the third line lost" 'G28\nG1 X10\n' '4 4 3 -' 'turns used: 500\n' 10 'N0 M110 N0\nN1 G28\n'
 exit "$failed"
