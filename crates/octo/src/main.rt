@@ -10,9 +10,9 @@ mod tests;
 mod words;
 
 use octo_outside::{FileSource, StdSink, SystemClock, WordList};
-use printer_link::SocketLink;
 use report::{Report, write_report};
 use run::octo;
+use socket_link::SocketLink;
 use std::env;
 use std::process::ExitCode;
 

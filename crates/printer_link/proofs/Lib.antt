@@ -1,4 +1,3 @@
 pub mod Calls
-pub mod Cuts
 pub mod Links
 pub mod Stories

@@ -1,4 +1,2 @@
-pub mod Address
-pub mod Lines
 pub mod Link
 pub mod Memory

@@ -1,5 +1,5 @@
-use Rattle.printer_link.proofs.Cuts.{next_fits, appends_next}
-use Rattle.printer_link.proofs.unsent.write_whole.Goals as goal
+use Rattle.socket_link.proofs.Cuts.{next_fits, appends_next}
+use Rattle.socket_link.proofs.unsent.write_whole.Goals as goal
 
 pub loop-done-preserved : goal.loop-done-preserved
 loop-done-preserved g c = (

@@ -7,7 +7,7 @@ use Rattle.std.specs.Io.KnownBytes.{Appends}
 use Rattle.std.proofs.lemmas.List.{append-nil, take_rest, take_min, drop-take, drop-drop, length-take}
 use Rattle.octo_outside.proofs.Written.{appends_more}
 use Rattle.std.specs.List.{list_any, position_or_len}
-use Rattle.printer_link.specs.Lines.{cut}
+use Rattle.socket_link.specs.Lines.{cut}
 
 -- what holds where a call is well holds where it was well
 pub of_ok : {T E P : Type 0} (r : Result T E) → IsOk r → OnOk r P → P

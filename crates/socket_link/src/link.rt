@@ -2,18 +2,18 @@
 ghost use Rattle.std.specs.Prelude.{◌≡◌, ◌+◌, ◌≤◌, ◌⊎◌, ◌++◌, ◌∷◌, [], length, true, false, is_some, Some, None, Ok, OnOk, OnErr, IsOk, IsErrOf};
 ghost use Rattle.std.specs.List.{list_any, before_first, after_first};
 ghost use Rattle.octo_outside.specs.Told.{Rose};
-ghost use Rattle.printer_link.specs.Address.{names_address};
-ghost use Rattle.printer_link.specs.Lines.{cut, ends_line};
+ghost use Rattle.socket_link.specs.Address.{names_address};
+ghost use Rattle.socket_link.specs.Lines.{cut, ends_line};
 ghost use Rattle.printer_link.specs.declared.link.Heard.TheVariants as heard;
 ghost use Rattle.printer_link.specs.declared.link.LinkFault.TheVariants as fault;
 
 use crate::address::names_address;
 use crate::lines::Lines;
-use crate::link::{Heard, Link, LinkFault};
 use crate::unsent::Unsent;
 use libc::net::{POLLIN, poll};
 use libc::types::pollfd;
 use octo_outside::{Line, ReplyLine, linger, may_come_later, prepare};
+use printer_link::{Heard, Link, LinkFault};
 use std::net::{Net, TcpStream, ToSocketAddrs};
 use std::os::fd::AsRawFd;
 use std::time::{Clock, Duration};

@@ -1,7 +1,7 @@
 //! Reply lines out of a stream's bytes.
 ghost use Rattle.std.specs.Prelude.{◌≡◌, ◌++◌, ◌-◌, ◌≤◌, ℕ, List, [], true, false, length, take, drop, IfOk, OnErr};
 ghost use Rattle.std.specs.List.{list_any, position_or_len, before_first, after_first};
-ghost use Rattle.printer_link.specs.Lines.{LinesData, cut, ends_line};
+ghost use Rattle.socket_link.specs.Lines.{LinesData, cut, ends_line};
 
 use octo_outside::ReplyLine;
 use std::io::Read;

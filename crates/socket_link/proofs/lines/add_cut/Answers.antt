@@ -1,6 +1,6 @@
 use Rattle.std.proofs.Common.{◌∙◌}
-use Rattle.printer_link.proofs.Cuts.{of_ok, fits_cut, adds_cut}
-use Rattle.printer_link.proofs.lines.add_cut.Goals as goal
+use Rattle.socket_link.proofs.Cuts.{of_ok, fits_cut, adds_cut}
+use Rattle.socket_link.proofs.lines.add_cut.Goals as goal
 
 pub returns : goal.returns
 returns c =

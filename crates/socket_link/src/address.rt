@@ -1,6 +1,6 @@
 //! Names of ports over TCP.
 ghost use Rattle.std.specs.Prelude.{◌≡◌};
-ghost use Rattle.printer_link.specs.Address.{is_port, names_address};
+ghost use Rattle.socket_link.specs.Address.{is_port, names_address};
 
 use byte_text::{are_digits, number, split_at_last};
 
