@@ -64,13 +64,14 @@ pub record IsNoteOf (moment acked : ℕ) (lines : List Line) (got : Got) (found 
   pub its_temps : note.temps ≡ temps_in got
   pub its_fact : note.fact ≡ found
 
--- the same two of what is known before a note is made
+-- nothing happened, by what is known before a note is made
 pub record IsStill (found : Found) (before acked : ℕ) : Type 0 where
   pub no_line : found.issued.items ≡ []
   pub same_acked : acked ≡ before
   pub no_temps : temps_kept found.received ≡ None
   pub quiet : found.fact ≡ fact.Quiet
 
+-- the note made of it
 abbrev pub IsKeptIn : Found → ℕ → ℕ → Note → Type 0
 IsKeptIn found moment acked note =
     note ≡ record { moment = moment; acked = acked; issued = found.issued; temps = temps_kept found.received; fact = found.fact }
