@@ -3,16 +3,20 @@
 
 mod laws;
 mod marks;
+mod name;
 mod numbers;
 mod sendable;
+mod texts;
 
 ghost use Rattle.std.specs.Prelude.{◌≡◌};
 ghost use Rattle.byte_text.specs.Xor.{xor_of};
 
 pub use laws::{byte_law, m110_law, number_law, xor_law};
 pub use marks::{has_byte, has_m110, split_at_last};
+pub use name::Name;
 pub use numbers::{are_digits, leading_digits, number, whole_number};
 pub use sendable::is_sendable;
+pub use texts::{Line, ReplyLine, Text, append, append_decimal, bounded_text};
 
 /// The exclusive or of all bytes, which Marlin's serial protocol takes as a line's checksum.
 #[tactic(auto, unfolding(crate::specs::Xor::xor_of))]

@@ -4,9 +4,9 @@ ghost use Rattle.gcode_lines.specs.Job.{texts_of};
 ghost use Rattle.marlin_frame.specs.Frame.{frame_of};
 ghost use Rattle.first_print.specs.Play.{lines_of, line_at, hello_text, IsCarried};
 
+use byte_text::Line;
 use gcode_lines::Job;
 use marlin_frame::frame;
-use octo_outside::Line;
 
 // Writes the line that sets the printer's number to 0.
 fn write_hello(into: &mut Line)

@@ -10,10 +10,11 @@ ghost use Rattle.first_print.specs.Play.{lines_of, line_at, is_ok, is_resend, Is
 ghost use Rattle.first_print.specs.Leads.{Leads, asks, Ready, Flying, Ran, AfterTurn, AtEnd, IsGoing, goes_on, turn_asked, end_asked, is_done, IsPrintOf};
 ghost use Rattle.first_print.specs.Prompt.{IsAt, IsPromptReady, IsPromptSent, GoesOn, IsSmooth};
 
+use byte_text::{Line, ReplyLine};
 use crate::line::write_line;
 use gcode_lines::Job;
 use marlin_reply::{Reply, read_reply};
-use octo_outside::{Clock, Line, ReplyLine};
+use octo_outside::Clock;
 use printer_link::{Heard, Link, LinkFault};
 
 /// How a print ended.

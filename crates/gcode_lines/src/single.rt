@@ -5,8 +5,7 @@ ghost use Rattle.gcode_lines.specs.Single.{single_of};
 
 use crate::fault::NotOne;
 use crate::text::{has_control, is_too_long, text_from, text_of};
-use byte_text::{has_byte, has_m110};
-use octo_outside::Text;
+use byte_text::{Text, has_byte, has_m110};
 
 /// The one command of a line, read as a line of a file is. It takes no memory.
 #[tactic(auto, unfolding(crate::specs::Single::single_of), using(crate::proofs::Sendable::sendable_text))]

@@ -7,8 +7,7 @@ ghost use Rattle.std.specs.List.{before_first, position_or_len, prefix_len, suff
 ghost use Rattle.gcode_lines.specs.Text.{is_mark, is_space, is_blank, is_control, is_numbered, is_skipped, is_too_long, has_control, trimmed, without_number, text_of};
 ghost use Rattle.std.specs.Char.{is_ascii_digit};
 
-use byte_text::has_m110;
-use octo_outside::Text;
+use byte_text::{Text, has_m110};
 
 /// The most bytes of a command, so that its frame fits a line of Marlin's buffer.
 const MOST_TEXT: usize = 79;

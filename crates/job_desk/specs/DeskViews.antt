@@ -13,7 +13,7 @@ use Rattle.job_desk.specs.declared.desk.Selected.{Selected}
 use Rattle.job_desk.specs.declared.desk.Desk.TheInside.{Inside}
 
 abbrev pub file_of : Selected → File
-file_of file = record { name = file.name.bytes; job = file.job }
+file_of file = record { name = file.name; job = file.job }
 
 abbrev pub desk_data : Inside → Data
 desk_data desk = record {
@@ -21,7 +21,7 @@ desk_data desk = record {
   limits = desk.limits;
   poll_ms = desk.poll_ms;
   state = desk.state;
-  port = option_map (λ name. name.bytes) desk.port;
+  port = desk.port;
   file = option_map file_of desk.file;
   greatest = desk.prints.greatest;
   active = desk.prints.active;

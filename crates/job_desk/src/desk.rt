@@ -10,12 +10,12 @@ mod pull;
 #[cfg(test)]
 mod tests;
 
+use byte_text::{Name, Text};
 use crate::scripts::Scripts;
 use crate::waiting::Waiting;
 use circular_buffer::HeapCircularBuffer;
 use desk_steps::{Limits, Refusal, State};
 use gcode_lines::Job;
-use octo_outside::{Name, Text};
 use std::alloc::{AllocError, Global};
 use std::marker::Model;
 
@@ -134,14 +134,14 @@ impl Desk {
 
     /// The port of the last connect.
     pub fn port(&self) -> Option<&Name>
-        ensures { option_map (λ name. name.bytes) (option_copied result) ≡ self.now.port }
+        ensures { option_copied result ≡ self.now.port }
     {
         self.port.as_ref()
     }
 
     /// The name of the selected file.
     pub fn selected(&self) -> Option<&Name>
-        ensures { option_map (λ name. name.bytes) (option_copied result) ≡ option_map (λ f. f.name) self.now.file }
+        ensures { option_copied result ≡ option_map (λ f. f.name) self.now.file }
     {
         match &self.file {
             Some(file) => Some(&file.name),

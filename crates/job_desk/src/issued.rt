@@ -1,10 +1,10 @@
 //! Issued lines, and what one turn of the link did.
 ghost use Rattle.std.specs.Prelude.{◌≡◌, ◌≤◌, length};
 
+use byte_text::Text;
 use arrayvec::ArrayVec;
 use desk_steps::{LinkFact, Tag};
 use marlin_reply::Temps;
-use octo_outside::Text;
 
 /// A line that was issued, and where it comes from.
 #[derive(Debug, PartialEq, Eq, Default, Drop)]

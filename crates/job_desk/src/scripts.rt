@@ -5,9 +5,9 @@ ghost use Rattle.byte_text.specs.Sendable.{IsSendable};
 ghost use Rattle.desk_steps.specs.Data.{texts_at};
 ghost use Rattle.job_desk.specs.Scripts.{most_lines, no_scripts, with_text};
 
+use byte_text::Text;
 use crate::issued::text_of;
 use desk_steps::Point;
-use octo_outside::Text;
 use std::alloc::Global;
 use std::marker::Model;
 use thiserror::Error;

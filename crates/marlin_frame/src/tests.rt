@@ -1,6 +1,5 @@
 use super::*;
-use byte_text::has_byte;
-use octo_outside::Line;
+use byte_text::{Line, has_byte};
 use std::process::Abort;
 
 // Number, command and line, computed by a program of its own from the rule of the protocol.

@@ -3,9 +3,8 @@ ghost use Rattle.std.specs.Prelude.{◌≡◌, ◌≤◌, ◌+◌, ◌++◌, fal
 ghost use Rattle.byte_text.specs.Marks.{has_byte, has_m110};
 ghost use Rattle.marlin_frame.specs.Frame.{head_of, frame_of, begins_with_n, fails, lead_of, IsNumberedLine};
 
-use byte_text::xor;
+use byte_text::{Line, xor};
 use itoa::Buffer;
-use octo_outside::Line;
 
 // Adds the bytes to the line.
 fn append(line: &mut Line, bytes: &[u8])

@@ -68,7 +68,7 @@ IsTroubled (Err r) = IsTrouble r
 -- what a print of a job over a port in so many turns may report
 abbrev pub IsPrintReport : JobData → List ℕ → ℕ → Bool → Report → Type 0
 IsPrintReport job port turns listed (report.Printed commands skipped) = (commands ≡ length job.commands) × (skipped ≡ job.skipped) × (listed ≡ true)
-IsPrintReport job port turns listed (report.NoPort name) = (name.bytes ≡ port) × (listed ≡ false)
+IsPrintReport job port turns listed (report.NoPort name) = (name ≡ port) × (listed ≡ false)
 IsPrintReport job port turns listed report.LinkFailed = listed ≡ true
 IsPrintReport job port turns listed report.Resent = listed ≡ true
 IsPrintReport job port turns listed (report.TurnsUsed used) = (used ≡ turns) × (listed ≡ true)
@@ -76,7 +76,7 @@ IsPrintReport job port turns listed _ = ⊥
 
 -- the report that this port is not listed
 abbrev pub IsNoPort : List ℕ → Report → Type 0
-IsNoPort port (report.NoPort name) = name.bytes ≡ port
+IsNoPort port (report.NoPort name) = name ≡ port
 IsNoPort port _ = ⊥
 
 -- the report of a check

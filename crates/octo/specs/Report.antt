@@ -43,7 +43,7 @@ text_of (report.TooHot hot) =
     codes "file: line " ++ decimal hot.line ++ codes ": too hot: " ++ decimal hot.asked ++ codes " over " ++ decimal hot.limit ++ codes "\n"
 text_of report.SourceFailed = codes "source failed\n"
 text_of report.LinkFailed = codes "link failed\n"
-text_of (report.NoPort port) = codes "port " ++ port.bytes ++ codes " is not listed\n"
+text_of (report.NoPort port) = codes "port " ++ port ++ codes " is not listed\n"
 text_of report.Resent = codes "session ended: resend not built\n"
 text_of (report.TurnsUsed turns) = codes "turns used: " ++ decimal turns ++ codes "\n"
 text_of report.NoMemory = codes "no memory\n"

@@ -3,13 +3,14 @@ ghost use Rattle.std.specs.Prelude.{◌≡◌, ◌≤◌, ◌++◌, [], length, 
 ghost use Rattle.octo_outside.specs.Told.{Adds, AddsPrefix, Rose};
 ghost use Rattle.octo.specs.Report.{code_of, text_of, fault_code, fault_text};
 
+use byte_text::Name;
 use crate::page::{Page, put, put_number};
 use gcode_lines::FileFault;
-use octo_outside::{Failed, Name, Sink, write_all};
+use octo_outside::{Failed, Sink, write_all};
 use temp_rules::HotLine;
 
 /// What a command came to.
-#[derive(Clone, Copy, Debug)]
+#[derive(Debug, Drop)]
 pub enum Report {
     /// All commands were printed; lines without a command were skipped.
     Printed {
@@ -114,7 +115,7 @@ fn put_hot(page: &mut Page, hot: HotLine)
 
 fn put_port(page: &mut Page, port: &Name)
     requires { page.old.items ≡ [] }
-    ensures { page.new.items ≡ codes "port " ++ port.now.bytes ++ codes " is not listed\n" }
+    ensures { page.new.items ≡ codes "port " ++ port.now ++ codes " is not listed\n" }
 {
     put(page, b"port ");
     put(page, port.as_bytes());

@@ -10,12 +10,13 @@ ghost use Rattle.octo.specs.declared.report.Report.TheVariants as report;
 ghost use Rattle.octo.specs.Words.{CommandData, print_file, check_file, command_of, default_turns};
 ghost use Rattle.octo.specs.Outcome.{file_of, check_report, file_name, used_link, is_printed, is_resent, is_checked, is_out_of_turns, leaves_link, IsTrouble, IsReportOf, IsPrintReport, IsNoPort, IsExecuted, IsPrintable, IsWritten, HasUsedTurns, Ended};
 
+use byte_text::Name;
 use crate::files::read_job;
 use crate::report::{Report, write_report};
 use crate::words::{is_port, read_turns};
 use first_print::{PrintEnd, print_file};
 use gcode_lines::Job;
-use octo_outside::{Clock, Failed, Name, Sink, Source, WordList};
+use octo_outside::{Clock, Failed, Sink, Source, WordList};
 use printer_link::Link;
 use std::alloc::Global;
 use temp_rules::Targets;
@@ -98,9 +99,9 @@ fn no_port(port: &str) -> Report
     requires { length port.now ≤ 100 }
     ensures { IsNoPort port.now result }
 {
-    match Name::from(port) {
-        Ok(port) => Report::NoPort { port },
-        Err(_) => unreachable!(),
+    match Name::from_text(port) {
+        Some(port) => Report::NoPort { port },
+        None => unreachable!(),
     }
 }
 

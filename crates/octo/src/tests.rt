@@ -2,8 +2,9 @@
 ghost use Rattle.std.specs.Prelude.{◌≡◌, false, IfOk};
 ghost use Rattle.printer_link.specs.Memory.{link_world};
 
+use byte_text::Name;
 use crate::run::octo;
-use octo_outside::{CallList, MemoryClock, MemorySink, MemorySource, Name, NameList, WordList};
+use octo_outside::{CallList, MemoryClock, MemorySink, MemorySource, NameList, WordList};
 use printer_link::{Fate, FateList, MemoryLink, Schedule};
 use std::alloc::{AllocError, Global};
 use std::process::Abort;

@@ -19,6 +19,12 @@ bytes_at files place = unwrap_or (option_map (λ (file : MemoryFile). file.bytes
 abbrev pub last_of : ℕ → List ℕ → List ℕ
 last_of n bytes = drop (length bytes - n) bytes
 
+-- the calls of a form in memory: how many were made, how many failed, and which are to fail
+pub record CallsData : Type 0 where
+  pub made : ℕ
+  pub faults : ℕ
+  pub fail_at : List ℕ
+
 -- a source in memory
 pub record SourceData : Type 0 where
   pub files : List MemoryFile

@@ -2,7 +2,9 @@
 #![tactic(auto)]
 
 mod blob;
+mod calls;
 mod clock;
+mod command_line;
 mod conn;
 mod files;
 mod lists;
@@ -18,7 +20,9 @@ mod tests;
 mod types;
 
 pub use blob::Blob;
+pub use calls::Calls;
 pub use clock::{Clock, MemoryClock};
+pub use command_line::{ArgumentsFault, arguments};
 pub use conn::{Conn, Got, send_all};
 pub use files::FileSource;
 pub use lists::{CallList, ItemList, NameList, WordList};
@@ -29,4 +33,4 @@ pub use source::{ReadAll, Source, read_all};
 pub use streams::{linger, may_come_later, prepare, write_some};
 pub use system_clock::SystemClock;
 pub use tcp_conn::TcpConn;
-pub use types::{Failed, Line, Name, ReplyLine, Text};
+pub use types::Failed;

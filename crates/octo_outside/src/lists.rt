@@ -1,7 +1,7 @@
 //! Lists of names, of calls and of words.
 ghost use Rattle.std.specs.Prelude.{◌≡◌, ℕ, ◌<◌, List, [], ◌∷◌, ◌++◌, length, slice_get, Some, OnOk, OnErr};
 
-use crate::Name;
+use byte_text::Name;
 use std::alloc::{AllocError, Global};
 use std::marker::Model;
 
@@ -40,6 +40,20 @@ impl<T: Drop> ItemList<T> {
     {
         self.items.push(item)?;
         Ok(())
+    }
+
+    /// A list of these items; takes no memory.
+    pub fn from_items(items: Vec<T>) -> Self
+        ensures { result ≡ items.items }
+    {
+        ItemList { items }
+    }
+
+    /// The items; takes no memory.
+    pub fn into_items(self) -> Vec<T>
+        ensures { result.items ≡ self }
+    {
+        self.items
     }
 
     /// The items in order.

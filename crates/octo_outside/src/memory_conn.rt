@@ -1,5 +1,5 @@
 //! A connection in memory, some of whose calls fail or find nothing yet.
-use crate::{Blob, CallList, Conn, Failed, Got};
+use crate::{Blob, CallList, Calls, Conn, Failed, Got};
 use std::alloc::{AllocError, Global};
 use std::marker::Model;
 
@@ -10,11 +10,9 @@ pub struct MemoryConn {
     // How many bytes of the input are left.
     unread: usize,
     written: Blob,
-    calls: u64,
-    faults: u64,
+    calls: Calls,
     quiets: u64,
     quiet_at: CallList,
-    fail_at: CallList,
 }
 
 impl Model for MemoryConn {
@@ -23,7 +21,7 @@ impl Model for MemoryConn {
 
     ghost Value = { ConnData };
 
-    ghost view = { λ c. record { left = last_of c.unread c.input; written = c.written; calls = c.calls; faults = c.faults; quiets = c.quiets; quiet_at = c.quiet_at; fail_at = c.fail_at } };
+    ghost view = { λ c. record { left = last_of c.unread c.input; written = c.written; calls = c.calls.made; faults = c.calls.faults; quiets = c.quiets; quiet_at = c.quiet_at; fail_at = c.calls.fail_at } };
 
     ghost invariant = { λ c. c.unread ≤ length c.input };
 }
@@ -49,11 +47,9 @@ impl MemoryConn {
             input,
             unread,
             written: Blob::new(alloc),
-            calls: 0,
-            faults: 0,
+            calls: Calls::new(fail_at),
             quiets: 0,
             quiet_at,
-            fail_at,
         })
     }
 
@@ -88,29 +84,11 @@ impl MemoryConn {
         self.quiets = self.quiets.saturating_add(1);
     }
 
-    fn count_fault(&mut self)
-        ensures counts { self.new ≡ record self.old { faults = one_more self.old.faults } }
-        ensures counted { self.old.faults ≤ self.new.faults }
-        ensures rose { Rose self.old.faults self.new.faults }
-    {
-        self.faults = self.faults.saturating_add(1);
-    }
-
-    // Counts this call, and says whether it is one of those that fail.
-    fn begin(&mut self) -> bool
-        ensures fails { result ≡ is_listed self.old.fail_at (one_more self.old.calls) }
-        ensures counts { self.new ≡ record self.old { calls = one_more self.old.calls } }
-    {
-        self.calls = self.calls.saturating_add(1);
-        let call = self.calls;
-        self.fail_at.as_slice().iter().any(|listed| *listed == call)
-    }
-
     // Whether this call is one of those that find nothing yet.
     fn is_quiet(&self) -> bool
         ensures { result ≡ is_listed self.now.quiet_at self.now.calls }
     {
-        let call = self.calls;
+        let call = self.calls.made();
         self.quiet_at
             .as_slice()
             .iter()
@@ -163,8 +141,8 @@ impl Conn for MemoryConn {
         ensures counted { self.old.faults ≤ self.new.faults }
         ensures failed { OnErr result (Rose self.old.faults self.new.faults) }
     {
-        if self.begin() {
-            self.count_fault();
+        if self.calls.begin() {
+            self.calls.fail();
             return Err(Failed);
         }
         if self.unread == 0 {
@@ -190,8 +168,8 @@ impl Conn for MemoryConn {
         ensures counted { self.old.faults ≤ self.new.faults }
         ensures failed { OnErr result (Rose self.old.faults self.new.faults) }
     {
-        if self.begin() || self.written.append(bytes).is_err() {
-            self.count_fault();
+        if self.calls.begin() || self.written.append(bytes).is_err() {
+            self.calls.fail();
             return Err(Failed);
         }
         Ok(bytes.len())

@@ -2,7 +2,7 @@
 ghost use Rattle.std.specs.Prelude.{◌≡◌, Some, None, MatchOption};
 ghost use Rattle.octo_outside.specs.Memory.{held, bytes_at};
 
-use crate::{Blob, CallList, Failed, Source};
+use crate::{Blob, CallList, Calls, Failed, Source};
 use std::alloc::{AllocError, Global};
 use std::marker::Model;
 
@@ -21,9 +21,7 @@ pub struct MemorySource {
     // The place of the chosen file, past the end where there is none, and how many of its bytes are left.
     chosen: usize,
     unread: usize,
-    calls: u64,
-    faults: u64,
-    fail_at: CallList,
+    calls: Calls,
 }
 
 impl Model for MemorySource {
@@ -32,7 +30,7 @@ impl Model for MemorySource {
 
     ghost Value = { SourceData };
 
-    ghost view = { λ s. record { files = s.files.items; left = last_of s.unread (bytes_at s.files.items s.chosen); calls = s.calls; faults = s.faults; fail_at = s.fail_at } };
+    ghost view = { λ s. record { files = s.files.items; left = last_of s.unread (bytes_at s.files.items s.chosen); calls = s.calls.made; faults = s.calls.faults; fail_at = s.calls.fail_at } };
 
     ghost invariant = { λ s. s.unread ≤ length (bytes_at s.files.items s.chosen) };
 }
@@ -63,9 +61,7 @@ impl MemorySource {
             files: Vec::new(alloc),
             chosen: 0,
             unread: 0,
-            calls: 0,
-            faults: 0,
-            fail_at,
+            calls: Calls::new(fail_at),
         }
     }
 
@@ -121,24 +117,6 @@ impl MemorySource {
     {
         self.unread -= n;
     }
-
-    fn count_fault(&mut self)
-        ensures counts { self.new ≡ record self.old { faults = one_more self.old.faults } }
-        ensures counted { self.old.faults ≤ self.new.faults }
-        ensures rose { Rose self.old.faults self.new.faults }
-    {
-        self.faults = self.faults.saturating_add(1);
-    }
-
-    // Counts this call, and says whether it is one of those that fail.
-    fn begin(&mut self) -> bool
-        ensures fails { result ≡ is_listed self.old.fail_at (one_more self.old.calls) }
-        ensures counts { self.new ≡ record self.old { calls = one_more self.old.calls } }
-    {
-        self.calls = self.calls.saturating_add(1);
-        let call = self.calls;
-        self.fail_at.as_slice().iter().any(|listed| *listed == call)
-    }
 }
 
 impl Source for MemorySource {
@@ -163,14 +141,14 @@ impl Source for MemorySource {
         ensures counted { self.old.faults ≤ self.new.faults }
         ensures failed { OnErr result (Rose self.old.faults self.new.faults) }
     {
-        if !self.begin()
+        if !self.calls.begin()
             && let Some(place) = place_of(&self.files, name)
         {
             self.choose_place(place);
             return Ok(());
         }
         self.drop_choice();
-        self.count_fault();
+        self.calls.fail();
         Err(Failed)
     }
 
@@ -185,8 +163,8 @@ impl Source for MemorySource {
         ensures counted { self.old.faults ≤ self.new.faults }
         ensures failed { OnErr result (Rose self.old.faults self.new.faults) }
     {
-        if self.begin() {
-            self.count_fault();
+        if self.calls.begin() {
+            self.calls.fail();
             return Err(Failed);
         }
         let rest = self.rest();

@@ -3,7 +3,7 @@ ghost use Rattle.std.specs.Prelude.{◌≡◌, ℕ, ◌+◌, ◌<◌, ◌≤◌,
 ghost use Rattle.octo_outside.specs.Told.{Became, Adds, AddsPrefix, Rose};
 ghost use Rattle.octo_outside.specs.Memory.{SinkData, one_more, is_listed};
 
-use crate::{Blob, CallList, Failed};
+use crate::{Blob, CallList, Calls, Failed};
 use std::alloc::Global;
 use std::io::Print;
 use std::marker::Model;
@@ -44,15 +44,13 @@ pub fn write_all<S: Sink>(sink: &mut S, bytes: &[u8]) -> Result<(), Failed>
 #[derive(Drop)]
 pub struct MemorySink {
     written: Blob,
-    calls: u64,
-    faults: u64,
-    fail_at: CallList,
+    calls: Calls,
 }
 
 impl Model for MemorySink {
     ghost Value = { SinkData };
 
-    ghost view = { λ s. record { written = s.written; calls = s.calls; faults = s.faults; fail_at = s.fail_at } };
+    ghost view = { λ s. record { written = s.written; calls = s.calls.made; faults = s.calls.faults; fail_at = s.calls.fail_at } };
 }
 
 impl MemorySink {
@@ -62,9 +60,7 @@ impl MemorySink {
     {
         MemorySink {
             written: Blob::new(alloc),
-            calls: 0,
-            faults: 0,
-            fail_at,
+            calls: Calls::new(fail_at),
         }
     }
 
@@ -73,16 +69,6 @@ impl MemorySink {
         ensures { (bytes : _) × (result ≡ Some bytes) × (bytes.now ≡ self.now.written) }
     {
         Some(self.written.as_slice())
-    }
-
-    // Counts this call, and says whether it is one of those that fail.
-    fn begin(&mut self) -> bool
-        ensures fails { result ≡ is_listed self.old.fail_at (one_more self.old.calls) }
-        ensures counts { self.new ≡ record self.old { calls = one_more self.old.calls } }
-    {
-        self.calls = self.calls.saturating_add(1);
-        let call = self.calls;
-        self.fail_at.as_slice().iter().any(|listed| *listed == call)
     }
 }
 
@@ -103,8 +89,8 @@ impl Sink for MemorySink {
         ensures counted { self.old.faults ≤ self.new.faults }
         ensures failed { OnErr result (Rose self.old.faults self.new.faults) }
     {
-        if self.begin() || self.written.append(bytes).is_err() {
-            self.faults = self.faults.saturating_add(1);
+        if self.calls.begin() || self.written.append(bytes).is_err() {
+            self.calls.fail();
             return Err(Failed);
         }
         Ok(bytes.len())

@@ -20,10 +20,10 @@ ghost use Rattle.octo_session.specs.declared.found.Received.TheVariants as recei
 
 mod calls;
 
+use byte_text::ReplyLine;
 use crate::found::{Doing, Found, Received, Turned, tell};
 use crate::talk::{fail, talk};
 use job_desk::{Desk, LinkFact, State};
-use octo_outside::ReplyLine;
 use printer_link::{Link, LinkFault};
 use send_window::Sender;
 use std::marker::Model;

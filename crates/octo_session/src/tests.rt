@@ -1,11 +1,12 @@
 //! Worked turns over a link in memory.
 ghost use Rattle.std.specs.Prelude.{◌≡◌, IfOk};
 
+use byte_text::Name;
 use super::*;
 use desk_steps::{Limits, Outcome, Point, State};
 use gcode_lines::{one_command, read_commands};
 use job_desk::{Desk, Scripts};
-use octo_outside::{CallList, Name, NameList};
+use octo_outside::{CallList, NameList};
 use printer_link::{FateList, MemoryLink, Schedule};
 use send_window::Sender;
 use std::alloc::Global;
@@ -121,9 +122,10 @@ impl Gives {
 }
 
 fn name(rt: &impl Abort, text: &str) -> Name {
-    let mut name = Name::new();
-    assert!(rt; name.try_push_str(text).is_ok());
-    name
+    match Name::from_text(text) {
+        Some(name) => name,
+        None => panic!(rt; "a name of over 100 bytes"),
+    }
 }
 
 fn add(rt: &impl Abort, scripts: &mut Scripts, point: Point, text: &str) {

@@ -2,7 +2,6 @@
 use Rattle.std.specs.Prelude.{◌≡◌, ◌≤◌, ℕ, ◌+◌, ◌%◌, Bool, true, false, ◌==◌, ◌&&◌, if◌then◌else◌, List, [], ◌∷◌, ◌++◌, length, replicate, min, count_by, slice_index_or}
 use Rattle.std.specs.List.{list_all, list_any}
 use Rattle.std.specs.Str.{bytes_eq}
-use Rattle.arrayvec.specs.ArrayString.{ArrayString}
 use Rattle.arrayvec.specs.ArrayVec.{ArrayVec}
 use Rattle.octo_outside.specs.Memory.{one_more}
 use Rattle.printer_model.specs.Garble.{garbled}
@@ -27,7 +26,7 @@ pub record StoryData : Type 0 where
 -- a link in memory; the last number is the printer's at the first session
 pub record MemoryLinkData : Type 0 where
   pub story : StoryData
-  pub names : List ArrayString
+  pub names : List (List ℕ)
   pub last : ℕ
   pub slow : ℕ
   pub fail_at : List ℕ
@@ -97,8 +96,8 @@ abbrev pub link_world : MemoryLinkData → WorldData
 link_world l = story_world l.story
 
 -- whether a name is listed
-abbrev pub lists_name : List ArrayString → List ℕ → Bool
-lists_name names name = list_any (λ (listed : ArrayString). bytes_eq listed.bytes name) names
+abbrev pub lists_name : List (List ℕ) → List ℕ → Bool
+lists_name names name = list_any (λ listed. bytes_eq listed name) names
 
 -- whether the receiving of this number lets the printer run a line
 abbrev pub is_due : ℕ → ℕ → Bool

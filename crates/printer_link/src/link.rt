@@ -7,7 +7,7 @@ ghost use Rattle.printer_model.specs.declared.event.WorldEvent.TheVariants as ev
 ghost use Rattle.printer_link.specs.declared.link.Heard.TheVariants as heard;
 ghost use Rattle.printer_link.specs.declared.link.LinkFault.TheVariants as fault;
 
-use octo_outside::{Line, ReplyLine};
+use byte_text::{Line, ReplyLine};
 
 /// What a receiving found.
 #[derive(Clone, Copy, Debug, PartialEq, Eq)]

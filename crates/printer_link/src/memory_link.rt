@@ -11,10 +11,11 @@ ghost use Rattle.printer_model.specs.declared.event.WorldEvent.TheVariants as ev
 ghost use Rattle.printer_link.specs.declared.link.Heard.TheVariants as heard_as;
 ghost use Rattle.printer_link.specs.declared.link.LinkFault.TheVariants as fault;
 
+use byte_text::{Line, ReplyLine};
 use crate::link::{Heard, Link, LinkFault};
 use crate::schedule::Schedule;
 use crate::story::Story;
-use octo_outside::{CallList, Line, NameList, ReplyLine};
+use octo_outside::{CallList, NameList};
 use printer_model::Executed;
 use std::alloc::{AllocError, Global};
 use std::marker::Model;

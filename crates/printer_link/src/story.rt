@@ -9,9 +9,9 @@ ghost use Rattle.printer_model.specs.declared.event.WorldEvent.TheVariants as ev
 ghost use Rattle.printer_link.specs.declared.link.Heard.TheVariants as heard;
 ghost use Rattle.printer_link.specs.declared.schedule.Fate.TheVariants.{Whole};
 
+use byte_text::{Line, ReplyLine};
 use crate::link::Heard;
 use crate::schedule::{Fate, FateList};
-use octo_outside::{Line, ReplyLine};
 use printer_model::{World, WorldEvent, garbled, line_of};
 use std::alloc::{AllocError, Global};
 use std::marker::Model;

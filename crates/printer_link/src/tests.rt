@@ -1,5 +1,6 @@
+use byte_text::{Line, Name, ReplyLine};
 use super::*;
-use octo_outside::{CallList, Line, Name, NameList, ReplyLine};
+use octo_outside::{CallList, NameList};
 use std::alloc::{AllocError, Global};
 use std::process::Abort;
 
@@ -56,8 +57,7 @@ fn memory_link(rt: &impl Abort, alloc: Global, fates: &[Fate], fail_at: &[u64]) 
         calls.push(*call).expect(rt, "memory");
     }
     let mut names = NameList::new(alloc);
-    let mut name = Name::new();
-    name.try_push_str("p").expect(rt, "a short name");
+    let name = Name::from_text("p").expect(rt, "a short name");
     names.push(name).expect(rt, "memory");
     let schedule = Schedule {
         names,

@@ -2,7 +2,7 @@
 ghost use Rattle.std.specs.Prelude.{◌≡◌};
 ghost use Rattle.printer_model.specs.Executed.{is_opened, is_send, is_loss};
 
-use octo_outside::{Line, ReplyLine};
+use byte_text::{Line, ReplyLine};
 
 /// One event of the world between host and printer. An event that can't happen changes nothing.
 #[derive(Drop)]

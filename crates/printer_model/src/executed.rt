@@ -3,10 +3,10 @@ ghost use Rattle.std.specs.Prelude.{◌≡◌, ◌≤◌, drop, filter, pred, If
 ghost use Rattle.printer_model.specs.Executed.{executed, is_counted, is_zero, left_behind, is_opened, till};
 ghost use Rattle.printer_model.specs.World.{world_of};
 
+use byte_text::Line;
 use crate::event::WorldEvent;
 use crate::printer::line_of;
 use crate::world::World;
-use octo_outside::Line;
 use std::alloc::{AllocError, Global};
 use std::marker::Model;
 

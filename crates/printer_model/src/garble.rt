@@ -2,8 +2,8 @@
 ghost use Rattle.std.specs.Prelude.{◌≡◌};
 ghost use Rattle.printer_model.specs.Garble.{next_digit, garbled};
 
+use byte_text::Line;
 use crate::printer::line_of;
-use octo_outside::Line;
 
 /// The next digit, with 0 behind 9; another byte stays.
 #[tactic(auto, unfolding(crate::specs::Garble::next_digit))]

@@ -5,9 +5,8 @@ ghost use Rattle.printer_model.specs.Printer.{is_full, judged, is_out_of_turn, l
 
 use crate::replies::run_reply;
 use arrayvec::ArrayVec;
-use byte_text::has_m110;
+use byte_text::{Line, ReplyLine, has_m110};
 use marlin_frame::{begins_with_n, fails, has_checksum, lead, line_number, text};
-use octo_outside::{Line, ReplyLine};
 use std::marker::Model;
 
 /// Why the printer refuses a line that begins with `N`.

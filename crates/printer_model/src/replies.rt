@@ -3,9 +3,9 @@ ghost use Rattle.std.specs.Prelude.{◌≡◌, ◌+◌, ◌≤◌, ◌++◌, len
 ghost use Rattle.arrayvec.specs.ArrayVec.{array_vec_len};
 ghost use Rattle.printer_model.specs.Replies.{reason_text, asked_after, error_line, resend_line, ok_line, temperatures_line, lead_text, numbered_ok, run_reply};
 
+use byte_text::ReplyLine;
 use crate::printer::Reason;
 use itoa::Buffer;
-use octo_outside::ReplyLine;
 
 /// Adds bytes to a reply that has room for them.
 fn put(line: &mut ReplyLine, bytes: &[u8])

@@ -1,5 +1,5 @@
+use byte_text::{Line, ReplyLine};
 use super::*;
-use octo_outside::{Line, ReplyLine};
 use std::process::Abort;
 
 // A line of the outside.

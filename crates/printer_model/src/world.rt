@@ -5,6 +5,7 @@ ghost use Rattle.printer_model.specs.World.{IsFrontReply};
 ghost use Rattle.marlin_reply.specs.Kind.{is_chatter};
 ghost use Rattle.printer_model.specs.World.{new_world, can_happen, apply, IsStep, takes_memory};
 
+use byte_text::{Line, ReplyLine};
 use crate::event::WorldEvent;
 use crate::executed::ExecutedLine;
 use crate::printer::{Printer, Ran, Taken, line_of};
@@ -12,7 +13,6 @@ use crate::replies::{error_line, ok_line, resend_line};
 use crate::wire::Wire;
 use marlin_frame::fails;
 use marlin_reply::{Reply, read_reply};
-use octo_outside::{Line, ReplyLine};
 use std::alloc::{AllocError, Global};
 use std::marker::Model;
 

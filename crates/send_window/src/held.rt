@@ -4,9 +4,9 @@ ghost use Rattle.byte_text.specs.Marks.{has_byte};
 ghost use Rattle.marlin_frame.specs.Frame.{frame_of};
 ghost use Rattle.send_window.specs.Sending.{IsFramable};
 
+use byte_text::{Line, Text};
 use circular_buffer::HeapCircularBuffer;
 use marlin_frame::frame;
-use octo_outside::{Line, Text};
 use std::alloc::{AllocError, Global};
 use std::marker::Model;
 

@@ -3,7 +3,7 @@ ghost use Rattle.std.specs.Prelude.{◌≡◌, ◌++◌, ◌-◌, ◌≤◌, ℕ
 ghost use Rattle.std.specs.List.{list_any, position_or_len, before_first, after_first};
 ghost use Rattle.socket_link.specs.Lines.{LinesData, cut, ends_line};
 
-use octo_outside::ReplyLine;
+use byte_text::ReplyLine;
 use std::io::Read;
 use std::marker::Model;
 use std::{io, mem};

@@ -2,8 +2,9 @@
 ghost use Rattle.std.specs.Prelude.{◌≡◌, ◌+◌, ◌≤◌, ◌++◌, ◌∷◌, ◌↔◌, ℕ, List, [], true, length, IsTrue};
 ghost use Rattle.std.specs.Io.KnownBytes.{Appends};
 
+use byte_text::Line;
 use arrayvec::ArrayVec;
-use octo_outside::{Line, write_some};
+use octo_outside::write_some;
 use std::io::Write;
 use std::marker::Model;
 

@@ -5,12 +5,12 @@ ghost use Rattle.desk_steps.specs.Table.{add_manual, cancel_at, connect_at, disc
 ghost use Rattle.job_desk.specs.DeskViews.{named_file};
 ghost use Rattle.job_desk.specs.Views.{bytes_of};
 
+use byte_text::{Name, Text};
 use super::{Desk, MOST_MANUAL, NotSelected, Prints, Selected};
 use crate::issued::text_of;
 use circular_buffer::HeapCircularBuffer;
 use desk_steps::{Point, Refusal, State};
 use gcode_lines::Job;
-use octo_outside::{Name, Text};
 use temp_rules::first_hot;
 
 impl Desk {
@@ -23,13 +23,13 @@ impl Desk {
 
     /// Begins to connect to a port.
     pub fn connect(&mut self, port: &Name) -> Result<(), Refusal>
-        ensures answer { result ≡ (connect_at self.old.state port.now.bytes self.old).0 }
-        ensures after { self.new ≡ (connect_at self.old.state port.now.bytes self.old).1 }
+        ensures answer { result ≡ (connect_at self.old.state port.now self.old).0 }
+        ensures after { self.new ≡ (connect_at self.old.state port.now self.old).1 }
     {
         match self.state {
             State::Offline | State::Fault => {
                 self.state = State::Connecting;
-                self.port = Some(*port);
+                self.port = Some(port.copy());
                 self.ready = false;
                 Ok(())
             }
@@ -55,14 +55,14 @@ impl Desk {
 
     /// Selects a file. A refusal hands the job back.
     pub fn select(&mut self, name: &Name, job: Job) -> Result<(), NotSelected>
-        ensures answer { let selected = select_at self.old.state (named_file name.now.bytes job) self.old in MatchResult result
+        ensures answer { let selected = select_at self.old.state (named_file name.now job) self.old in MatchResult result
             (λ _. selected.0 ≡ Ok tt)
             (λ refused. (selected.0 ≡ Err refused.refusal) × (refused.job ≡ job)) }
-        ensures after { self.new ≡ (select_at self.old.state (named_file name.now.bytes job) self.old).1 }
+        ensures after { self.new ≡ (select_at self.old.state (named_file name.now job) self.old).1 }
     {
         match self.state {
             State::Offline | State::Connecting | State::Operational | State::Fault => {
-                self.file = Some(Selected { name: *name, job });
+                self.file = Some(Selected { name: name.copy(), job });
                 Ok(())
             }
             _ => Err(NotSelected {
@@ -74,11 +74,11 @@ impl Desk {
 
     /// The file of this name is no longer selected, unless it is being printed.
     pub fn drop_file(&mut self, name: &Name) -> Result<(), Refusal>
-        ensures answer { result ≡ (drop_file_step name.now.bytes self.old).0 }
-        ensures after { self.new ≡ (drop_file_step name.now.bytes self.old).1 }
+        ensures answer { result ≡ (drop_file_step name.now self.old).0 }
+        ensures after { self.new ≡ (drop_file_step name.now self.old).1 }
     {
         let is_selected = match &self.file {
-            Some(file) => file.name == *name,
+            Some(file) => file.name.is(name),
             None => false,
         };
         if !is_selected {

@@ -84,9 +84,10 @@ fn letter(state: State) -> u8 {
 }
 
 fn name(rt: &impl Abort, text: &str) -> Name {
-    let mut name = Name::new();
-    assert!(rt; name.try_push_str(text).is_ok());
-    name
+    match Name::from_text(text) {
+        Some(name) => name,
+        None => panic!(rt; "a name of over 100 bytes"),
+    }
 }
 
 fn add(rt: &impl Abort, scripts: &mut Scripts, point: Point, text: &str) {

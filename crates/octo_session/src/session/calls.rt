@@ -6,17 +6,17 @@ ghost use Rattle.job_desk.specs.DeskViews.{named_file};
 ghost use Rattle.job_desk.specs.Views.{bytes_of};
 ghost use Rattle.octo_session.specs.Data.{IsSession};
 
+use byte_text::{Name, Text};
 use super::Session;
 use desk_steps::Refusal;
 use gcode_lines::Job;
 use job_desk::NotSelected;
-use octo_outside::{Name, Text};
 
 impl Session {
     /// Begins to connect to a port.
     pub fn connect(&mut self, port: &Name) -> Result<(), Refusal>
-        ensures answer { result ≡ (connect_at self.old.desk.state port.now.bytes self.old.desk).0 }
-        ensures after { self.new ≡ record self.old { desk = (connect_at self.old.desk.state port.now.bytes self.old.desk).1 } }
+        ensures answer { result ≡ (connect_at self.old.desk.state port.now self.old.desk).0 }
+        ensures after { self.new ≡ record self.old { desk = (connect_at self.old.desk.state port.now self.old.desk).1 } }
         ensures joined { IsSession self.new }
     {
         self.desk.connect(port)
@@ -32,10 +32,10 @@ impl Session {
 
     /// Selects a file. A refusal hands the job back.
     pub fn select(&mut self, name: &Name, job: Job) -> Result<(), NotSelected>
-        ensures answer { let selected = select_at self.old.desk.state (named_file name.now.bytes job) self.old.desk in MatchResult result
+        ensures answer { let selected = select_at self.old.desk.state (named_file name.now job) self.old.desk in MatchResult result
             (λ _. selected.0 ≡ Ok tt)
             (λ refused. (selected.0 ≡ Err refused.refusal) × (refused.job ≡ job)) }
-        ensures after { self.new ≡ record self.old { desk = (select_at self.old.desk.state (named_file name.now.bytes job) self.old.desk).1 } }
+        ensures after { self.new ≡ record self.old { desk = (select_at self.old.desk.state (named_file name.now job) self.old.desk).1 } }
         ensures joined { IsSession self.new }
     {
         self.desk.select(name, job)
@@ -43,8 +43,8 @@ impl Session {
 
     /// The file of this name is no longer selected, unless it is being printed.
     pub fn drop_file(&mut self, name: &Name) -> Result<(), Refusal>
-        ensures answer { result ≡ (drop_file_step name.now.bytes self.old.desk).0 }
-        ensures after { self.new ≡ record self.old { desk = (drop_file_step name.now.bytes self.old.desk).1 } }
+        ensures answer { result ≡ (drop_file_step name.now self.old.desk).0 }
+        ensures after { self.new ≡ record self.old { desk = (drop_file_step name.now self.old.desk).1 } }
         ensures joined { IsSession self.new }
     {
         self.desk.drop_file(name)

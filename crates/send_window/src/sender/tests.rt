@@ -2,9 +2,8 @@ ghost use Rattle.std.specs.Prelude.{◌≡◌, [], ◌∷◌, None};
 ghost use Rattle.send_window.specs.Counting.{acked_of};
 
 use crate::Sender;
-use byte_text::has_byte;
+use byte_text::{Line, has_byte};
 use marlin_reply::{Reply, SessionEnd};
-use octo_outside::Line;
 use std::process::Abort;
 use std::test::*;
 

@@ -1,0 +1,71 @@
+//! Names: of a port, a file, a user, a group, a material or a queue entry.
+ghost use Rattle.std.specs.Prelude.{◌≡◌, ◌<◌, ◌≤◌, ◌↔◌, ◌^◌, ℕ, List, [], length, IsTrue, MatchOption};
+ghost use Rattle.std.specs.List.{All};
+
+use arrayvec::ArrayString;
+use std::marker::Model;
+
+/// A name of at most 100 bytes of UTF-8, seen as its bytes.
+#[derive(Debug, Drop)]
+pub struct Name {
+    text: ArrayString<100>,
+}
+
+impl Model for Name {
+    ghost use Rattle.std.specs.Prelude.{List, ℕ};
+
+    ghost Value = { List ℕ };
+
+    ghost view = { λ n. n.text.bytes };
+}
+
+impl Name {
+    /// The empty name.
+    pub fn new() -> Name
+        ensures { result ≡ [] }
+    {
+        Name {
+            text: ArrayString::new(),
+        }
+    }
+
+    /// The name of this text, or `None` if it has over 100 bytes.
+    pub fn from_text(text: &str) -> Option<Name>
+        ensures { MatchOption result (100 < length text.now) (λ name. (name ≡ text.now) × (length text.now ≤ 100)) }
+    {
+        match ArrayString::from(text) {
+            Ok(text) => Some(Name { text }),
+            Err(_) => None,
+        }
+    }
+
+    /// The same name again; takes no memory.
+    pub fn copy(&self) -> Name
+        ensures { result ≡ self.now }
+    {
+        Name { text: self.text }
+    }
+
+    /// Whether both names have the same bytes.
+    pub fn is(&self, other: &Name) -> bool
+        ensures { IsTrue result ↔ (self.now ≡ other.now) }
+    {
+        self.text == other.text
+    }
+
+    /// The name as a text of at most 100 bytes.
+    pub fn as_str(&self) -> &str
+        ensures bytes { result.now ≡ self.now }
+        ensures short { length result.now ≤ 100 }
+    {
+        self.text.as_str()
+    }
+
+    /// The bytes of the name.
+    pub fn as_bytes(&self) -> &[u8]
+        ensures bytes { result.now ≡ self.now }
+        ensures short { length result.now ≤ 100 }
+    {
+        self.text.as_str().as_bytes()
+    }
+}

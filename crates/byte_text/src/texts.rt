@@ -1,0 +1,47 @@
+//! The bounded texts that all crates share, and how they are put together without memory.
+ghost use Rattle.std.specs.Prelude.{◌≡◌, ◌≤◌, ◌+◌, ◌++◌, length, decimal};
+ghost use Rattle.arrayvec.specs.ArrayVec.{array_vec_len};
+
+use arrayvec::ArrayVec;
+use itoa::Buffer;
+
+/// A command, 1 to 79 bytes if it may be sent.
+pub type Text = ArrayVec<u8, 79>;
+
+/// A line to the printer without its line end, at most 95 bytes if it may be sent. Source: Marlin's `MAX_CMD_SIZE`, 96.
+pub type Line = ArrayVec<u8, 96>;
+
+/// A line from the printer without its line end, cut to 256 bytes.
+pub type ReplyLine = ArrayVec<u8, 256>;
+
+/// Adds bytes to a text that has room for them.
+pub fn append<const N: usize>(text: &mut ArrayVec<u8, N>, bytes: &[u8])
+    requires { array_vec_len text.old + length bytes.now ≤ N }
+    ensures items { text.new.items ≡ text.old.items ++ bytes.now }
+    ensures len { array_vec_len text.new ≡ array_vec_len text.old + length bytes.now }
+{
+    match text.try_extend_from_slice(bytes) {
+        Ok(()) => {}
+        Err(_) => unreachable!(),
+    }
+}
+
+/// Adds a number in decimal to a text that has room for its digits.
+pub fn append_decimal<const N: usize>(text: &mut ArrayVec<u8, N>, number: u64)
+    requires { array_vec_len text.old + length (decimal number) ≤ N }
+    ensures items { text.new.items ≡ text.old.items ++ decimal number }
+    ensures len { array_vec_len text.new ≡ array_vec_len text.old + length (decimal number) }
+{
+    let mut buffer = Buffer::new();
+    append(text, buffer.format(number).as_bytes());
+}
+
+/// A text of these bytes, for which it has room.
+pub fn bounded_text<const N: usize>(bytes: &[u8]) -> ArrayVec<u8, N>
+    requires { length bytes.now ≤ N }
+    ensures { result.items ≡ bytes.now }
+{
+    let mut text = ArrayVec::new();
+    append(&mut text, bytes);
+    text
+}
