@@ -19,6 +19,14 @@ impl Model for Name {
     ghost view = { λ n. n.text.bytes };
 }
 
+impl Default for Name {
+    ghost is_default = { λ n. n ≡ [] };
+
+    fn default() -> Self {
+        Name::new()
+    }
+}
+
 impl Name {
     /// The empty name.
     pub fn new() -> Name

@@ -12,7 +12,7 @@ use Rattle.marlin_reply.specs.Kind.{kind_of}
 use Rattle.printer_model.specs.Printer.{Entry, Logged, is_full}
 use Rattle.printer_model.specs.Replies.{run_reply}
 use Rattle.printer_model.specs.World.{WorldData, new_world, is_empty, is_free, fits_wire, can_happen, apply, arrived, world_from, world_of}
-use Rattle.printer_link.specs.Link.{Grows, IsDial, IsHeard, IsSilence, IsSendOf, due_run, due_recv, printer_events, recv_events}
+use Rattle.printer_link.specs.Link.{LinkKind, HasSlots, Grows, world_in, IsDial, IsHeard, IsSilence, IsSendOf, due_run, due_recv, printer_events, recv_events}
 use Rattle.printer_model.specs.declared.event.WorldEvent.{WorldEvent}
 use Rattle.printer_model.specs.declared.event.WorldEvent.TheVariants.{Opened, Send, Arrive, Lose, Garble, Run, Chatter, Recv, Closed}
 use Rattle.printer_model.proofs.Laws.{happens, world_from-push, world_of-append, world_from-IsSameKind}
@@ -192,87 +192,86 @@ dialled_clear places advanced past added some few d =
     subst Here (sym is) (opened_clear w1 d.last (omega (arith, same)) (omega (arith, same)) d.opens)
 
 -- a past that is told before and after, and grew
-pub record Grown (places : ℕ) (advanced : Bool) (new : Option (List WorldEvent)) (past : List WorldEvent) (K : WorldData → List WorldEvent → Type 0) : Type 0 where
+pub record Grown (kind : LinkKind) (new : Option (List WorldEvent)) (past : List WorldEvent) (K : WorldData → List WorldEvent → Type 0) : Type 0 where
   pub added : List WorldEvent
   pub told : new ≡ Some (past ++ added)
-  pub is : K (world_of places advanced past) added
+  pub is : K (world_in kind past) added
 
-told_grown : (places : ℕ) (advanced : Bool) (old new : Option (List WorldEvent)) (past now : List WorldEvent) (K : WorldData → List WorldEvent → Type 0) → old ≡ Some past → new ≡ Some now → Grows places advanced old new K → Grown places advanced new past K
-told_grown places advanced old new past now K told later grew =
-    let g = grew now later in
+told_grown : (kind : LinkKind) (old new : Option (List WorldEvent)) (past now : List WorldEvent) (K : WorldData → List WorldEvent → Type 0) → old ≡ Some past → new ≡ Some now → Grows kind old new K → Grown kind new past K
+told_grown kind old new past now K told later grew =
+    let g = grew.grew now later in
     let was : old ≡ Some g.0 = g.2 in
     let same : g.0 ≡ past = cc in
-    let At : List WorldEvent → Type 0 = λ l. K (world_of places advanced l) g.1 in
+    let At : List WorldEvent → Type 0 = λ l. K (world_in kind l) g.1 in
     record {
       added = g.1;
       told = later ∙ ap Some (g.3 ∙ ap (λ (l : List WorldEvent). l ++ g.1) same);
       is = subst At same g.4;
     }
 
-pub grown : (places : ℕ) (advanced : Bool) (old new : Option (List WorldEvent)) (past : List WorldEvent) (K : WorldData → List WorldEvent → Type 0) → old ≡ Some past → is_some new ≡ is_some old → Grows places advanced old new K → Grown places advanced new past K
-grown places advanced old None past K told kept grew =
-    let no : false ≡ true = kept ∙ ap is_some told in
+pub grown : (kind : LinkKind) (old new : Option (List WorldEvent)) (past : List WorldEvent) (K : WorldData → List WorldEvent → Type 0) → old ≡ Some past → Grows kind old new K → Grown kind new past K
+grown kind old None past K told grew =
+    let no : false ≡ true = grew.stays ∙ ap is_some told in
     absurd (cc)
-grown places advanced old (Some now) past K told kept grew = told_grown places advanced old (Some now) past now K told refl grew
+grown kind old (Some now) past K told grew = told_grown kind old (Some now) past now K told refl grew
 
 -- two words for one addition
-pub grown_both : (places : ℕ) (advanced : Bool) (new : Option (List WorldEvent)) (past : List WorldEvent) (K J : WorldData → List WorldEvent → Type 0) → Grown places advanced new past K → Grown places advanced new past J → Grown places advanced new past (λ w added. K w added × J w added)
-grown_both places advanced new past K J one two =
+pub grown_both : (kind : LinkKind) (new : Option (List WorldEvent)) (past : List WorldEvent) (K J : WorldData → List WorldEvent → Type 0) → Grown kind new past K → Grown kind new past J → Grown kind new past (λ w added. K w added × J w added)
+grown_both kind new past K J one two =
     let lists : past ++ one.added ≡ past ++ two.added = cc in
     let same : two.added ≡ one.added = sym (append_cancel_left past one.added two.added lists) in
-    let At : List WorldEvent → Type 0 = λ l. J (world_of places advanced past) l in
+    let At : List WorldEvent → Type 0 = λ l. J (world_in kind past) l in
     record { added = one.added; told = one.told; is = (one.is, subst At same two.is) }
 
 -- where it leads
-pub at_grown : (places : ℕ) (advanced : Bool) (new : Option (List WorldEvent)) (past : List WorldEvent) (K : WorldData → List WorldEvent → Type 0) (R : WorldData → Type 0) (g : Grown places advanced new past K) → R (world_from (world_of places advanced past) g.added) → IsAt places advanced new R
-at_grown places advanced new past K R g here =
-    record { now = past ++ g.added; told = g.told; is = subst R (sym (world_of-append places advanced past g.added)) here }
+pub at_grown : (kind : LinkKind) (new : Option (List WorldEvent)) (past : List WorldEvent) (K : WorldData → List WorldEvent → Type 0) (R : WorldData → Type 0) (g : Grown kind new past K) → R (world_from (world_in kind past) g.added) → IsAt kind new R
+at_grown kind new past K R g here =
+    record { now = past ++ g.added; told = g.told; is = subst R (sym (world_of-append kind.slots kind.numbered past g.added)) here }
 
 -- the same printer under other names
-pub at_as : (places places' : ℕ) (advanced advanced' : Bool) (past : Option (List WorldEvent)) (R : WorldData → Type 0) → places' ≡ places → advanced' ≡ advanced → IsAt places advanced past R → IsAt places' advanced' past R
-at_as places places' advanced advanced' past R same_places same_advanced at =
-    let P : ℕ → Type 0 = λ p. IsAt p advanced past R in
-    let Q : Bool → Type 0 = λ a. IsAt places' a past R in
-    subst Q (sym same_advanced) (subst P (sym same_places) at)
+pub at_as : (kind kind' : LinkKind) (past : Option (List WorldEvent)) (R : WorldData → Type 0) → kind' ≡ kind → IsAt kind past R → IsAt kind' past R
+at_as kind kind' past R same at =
+    let P : LinkKind → Type 0 = λ k. IsAt k past R in
+    subst P (sym same) at
 
 -- a sending over a prompt link
-pub send_at : (places places' : ℕ) (advanced advanced' : Bool) (old new : Option (List WorldEvent)) (lines : List (List ℕ)) (n : ℕ) (line : List ℕ) → IsCarried n (line_at lines n) → line ≡ frame_of n (line_at lines n) → is_some new ≡ is_some old → places' ≡ places → advanced' ≡ advanced → Grows places advanced old new (λ w added. (sent : WorldEvent) × (added ≡ sent ∷ []) × IsSendOf line sent) → IsAt places advanced old (IsPromptReady n) → IsAt places' advanced' new (IsPromptSent lines n)
-send_at places places' advanced advanced' old new lines n line carried line_is kept same_places same_advanced grew at =
+pub send_at : (kind kind' : LinkKind) (old new : Option (List WorldEvent)) (lines : List (List ℕ)) (n : ℕ) (line : List ℕ) → IsCarried n (line_at lines n) → line ≡ frame_of n (line_at lines n) → kind' ≡ kind → Grows kind old new (λ w added. (sent : WorldEvent) × (added ≡ sent ∷ []) × IsSendOf line sent) → IsAt kind old (IsPromptReady n) → IsAt kind' new (IsPromptSent lines n)
+send_at kind kind' old new lines n line carried line_is same grew at =
     let K : WorldData → List WorldEvent → Type 0 = λ w added. (sent : WorldEvent) × (added ≡ sent ∷ []) × IsSendOf line sent in
-    let g = grown places advanced old new at.now K at.told kept grew in
-    let w = world_of places advanced at.now in
+    let g = grown kind old new at.now K at.told grew in
+    let w = world_in kind at.now in
     let event = g.is.0 in
     let Sends : List ℕ → Type 0 = λ l. IsSendOf l event in
     let After : List WorldEvent → Type 0 = λ es. IsPromptSent lines n (world_from w es) in
     let here : After g.added = subst After (sym g.is.1) (sent_is lines n w event carried (subst Sends line_is g.is.2) at.is) in
-    at_as places places' advanced advanced' new (IsPromptSent lines n) same_places same_advanced (at_grown places advanced new at.now K (IsPromptSent lines n) g here)
+    at_as kind kind' new (IsPromptSent lines n) same (at_grown kind new at.now K (IsPromptSent lines n) g here)
 
 -- a receiving over a prompt link, as it grew by what comes and by what is due
-received_both : (places : ℕ) (advanced : Bool) (old new : Option (List WorldEvent)) (past : List WorldEvent) (K : WorldData → List WorldEvent → Type 0) → old ≡ Some past → is_some new ≡ is_some old → Grows places advanced old new K → Grows places advanced old new (λ w added. added ≡ recv_events true w) → Grown places advanced new past (λ w added. K w added × (added ≡ recv_events true w))
-received_both places advanced old new past K told kept one two =
+received_both : (kind : LinkKind) (old new : Option (List WorldEvent)) (past : List WorldEvent) (K : WorldData → List WorldEvent → Type 0) → old ≡ Some past → Grows kind old new K → Grows kind old new (λ w added. added ≡ recv_events true w) → Grown kind new past (λ w added. K w added × (added ≡ recv_events true w))
+received_both kind old new past K told one two =
     let J : WorldData → List WorldEvent → Type 0 = λ w added. added ≡ recv_events true w in
-    grown_both places advanced new past K J (grown places advanced old new past K told kept one) (grown places advanced old new past J told kept two)
+    grown_both kind new past K J (grown kind old new past K told one) (grown kind old new past J told two)
 
 -- a line was received
-pub record AnswerAt (places : ℕ) (advanced : Bool) (new : Option (List WorldEvent)) (n : ℕ) (into : List ℕ) : Type 0 where
-  pub kind : is_ok (kind_of into) ≡ true
-  pub at : IsAt places advanced new (IsPromptReady (suc n))
+pub record AnswerAt (kind : LinkKind) (new : Option (List WorldEvent)) (n : ℕ) (into : List ℕ) : Type 0 where
+  pub says_ok : is_ok (kind_of into) ≡ true
+  pub at : IsAt kind new (IsPromptReady (suc n))
 
-pub recv_at : (places places' : ℕ) (advanced advanced' : Bool) (old new : Option (List WorldEvent)) (lines : List (List ℕ)) (n : ℕ) (into : List ℕ) → IsCarried n (line_at lines n) → is_some new ≡ is_some old → places' ≡ places → advanced' ≡ advanced → Grows places advanced old new (IsHeard into) → Grows places advanced old new (λ w added. added ≡ recv_events true w) → IsAt places advanced old (IsPromptSent lines n) → AnswerAt places' advanced' new n into
-recv_at places places' advanced advanced' old new lines n into carried kept same_places same_advanced one two at =
+pub recv_at : (kind kind' : LinkKind) (old new : Option (List WorldEvent)) (lines : List (List ℕ)) (n : ℕ) (into : List ℕ) → IsCarried n (line_at lines n) → kind' ≡ kind → Grows kind old new (IsHeard into) → Grows kind old new (λ w added. added ≡ recv_events true w) → IsAt kind old (IsPromptSent lines n) → AnswerAt kind' new n into
+recv_at kind kind' old new lines n into carried same one two at =
     let K : WorldData → List WorldEvent → Type 0 = λ w added. IsHeard into w added × (added ≡ recv_events true w) in
-    let g = received_both places advanced old new at.now (IsHeard into) at.told kept one two in
-    let answer = answer_is lines n into (world_of places advanced at.now) g.added carried at.is g.is.1 g.is.0 in
+    let g = received_both kind old new at.now (IsHeard into) at.told one two in
+    let answer = answer_is lines n into (world_in kind at.now) g.added carried at.is g.is.1 g.is.0 in
     record {
-      kind = answer.kind;
-      at = at_as places places' advanced advanced' new (IsPromptReady (suc n)) same_places same_advanced (at_grown places advanced new at.now K (IsPromptReady (suc n)) g answer.ready);
+      says_ok = answer.kind;
+      at = at_as kind kind' new (IsPromptReady (suc n)) same (at_grown kind new at.now K (IsPromptReady (suc n)) g answer.ready);
     }
 
 -- it can't be that nothing was received
-pub silent_at : (places : ℕ) (advanced : Bool) (old new : Option (List WorldEvent)) (lines : List (List ℕ)) (n : ℕ) → IsCarried n (line_at lines n) → is_some new ≡ is_some old → Grows places advanced old new IsSilence → Grows places advanced old new (λ w added. added ≡ recv_events true w) → IsAt places advanced old (IsPromptSent lines n) → ⊥
-silent_at places advanced old new lines n carried kept one two at =
-    let g = received_both places advanced old new at.now IsSilence at.told kept one two in
-    never_silent lines n (world_of places advanced at.now) g.added carried at.is g.is.1 g.is.0
+pub silent_at : (kind : LinkKind) (old new : Option (List WorldEvent)) (lines : List (List ℕ)) (n : ℕ) → IsCarried n (line_at lines n) → Grows kind old new IsSilence → Grows kind old new (λ w added. added ≡ recv_events true w) → IsAt kind old (IsPromptSent lines n) → ⊥
+silent_at kind old new lines n carried one two at =
+    let g = received_both kind old new at.now IsSilence at.told one two in
+    never_silent lines n (world_in kind at.now) g.added carried at.is g.is.1 g.is.0
 
 -- a past that is told
 told_past : (old : Option (List WorldEvent)) → is_some old ≡ true → (past : List WorldEvent) × (old ≡ Some past)
@@ -280,12 +279,13 @@ told_past None told = absurd (cc)
 told_past (Some past) told = (past, refl)
 
 -- a link was made
-pub dial_at : (places places' : ℕ) (advanced advanced' : Bool) (old new : Option (List WorldEvent)) → 1 ≤ places' → places' ≤ 16 → is_some old ≡ true → is_some new ≡ is_some old → places' ≡ places → advanced' ≡ advanced → Grows places advanced old new IsDial → IsAt places' advanced' new (IsPromptReady 0)
-dial_at places places' advanced advanced' old new some few told kept same_places same_advanced grew =
+pub dial_at : (kind kind' : LinkKind) (old new : Option (List WorldEvent)) → HasSlots kind' → is_some old ≡ true → kind' ≡ kind → Grows kind old new IsDial → IsAt kind' new (IsPromptReady 0)
+dial_at kind kind' old new slots told same grew =
     let t = told_past old told in
-    let g = grown places advanced old new t.0 IsDial t.1 kept grew in
-    at_as places places' advanced advanced' new (IsPromptReady 0) same_places same_advanced
-    (record { now = t.0 ++ g.added; told = g.told; is = dialled_clear places advanced t.0 g.added (omega (arith, some, same_places)) (omega (arith, few, same_places)) g.is })
+    let g = grown kind old new t.0 IsDial t.1 grew in
+    let here : HasSlots kind = subst HasSlots same slots in
+    at_as kind kind' new (IsPromptReady 0) same
+    (record { now = t.0 ++ g.added; told = g.told; is = dialled_clear kind.slots kind.numbered t.0 g.added here.some here.few g.is })
 
 -- without a failure it is done
 pub end_done : (r : PrintEnd) (before mid after : ℕ) → (r ≡ end.Done) ⊎ (r ≡ end.LinkFailed) → Steady before after → before ≤ mid → mid ≤ after → (r ≡ end.LinkFailed → Rose mid after) → r ≡ end.Done

@@ -3,17 +3,18 @@ use Rattle.std.specs.Prelude.{◌≡◌, ℕ, ◌≤◌, suc, Bool, true, List, 
 use Rattle.octo_outside.specs.Told.{Steady}
 use Rattle.marlin_frame.specs.Frame.{frame_of}
 use Rattle.printer_model.specs.Printer.{Logged}
-use Rattle.printer_model.specs.World.{WorldData, world_of}
+use Rattle.printer_model.specs.World.{WorldData}
+use Rattle.printer_link.specs.Link.{LinkKind, world_in}
 use Rattle.printer_model.specs.declared.event.WorldEvent.{WorldEvent}
 use Rattle.first_print.specs.declared.print.Turn.{Turn}
 use Rattle.first_print.specs.declared.print.Turn.TheVariants as turn
 use Rattle.first_print.specs.Play.{line_at, IsNext, open_world}
 
 -- the past is told, and its world is one of these
-pub record IsAt (places : ℕ) (advanced : Bool) (past : Option (List WorldEvent)) (P : WorldData → Type 0) : Type 0 where
+pub record IsAt (kind : LinkKind) (past : Option (List WorldEvent)) (P : WorldData → Type 0) : Type 0 where
   pub now : List WorldEvent
   pub told : past ≡ Some now
-  pub is : P (world_of places advanced now)
+  pub is : P (world_in kind now)
 
 -- an open link, the line n next, these lines on the wire to the printer, none on the wire from it, and none waiting
 pub record IsClear (n : ℕ) (up : List (List ℕ)) (w : WorldData) : Type 0 where
@@ -35,11 +36,11 @@ abbrev pub IsPromptSent : List (List ℕ) → ℕ → WorldData → Type 0
 IsPromptSent lines n w = IsClear n (frame_of n (line_at lines n) ∷ []) w
 
 -- a turn over a prompt link sends the next line, or all is done, unless the link fails
-abbrev pub GoesOn : List (List ℕ) → ℕ → ℕ → Bool → Option (List WorldEvent) → Turn → Type 0
-GoesOn lines n places advanced past (turn.Going line) = (line ≡ suc n) × IsAt places advanced past (IsPromptSent lines line)
-GoesOn lines n places advanced past turn.Done = length lines ≡ suc n
-GoesOn lines n places advanced past turn.Resent = ⊥
-GoesOn lines n places advanced past turn.Failed = Unit {0}
+abbrev pub GoesOn : List (List ℕ) → ℕ → LinkKind → Option (List WorldEvent) → Turn → Type 0
+GoesOn lines n kind past (turn.Going line) = (line ≡ suc n) × IsAt kind past (IsPromptSent lines line)
+GoesOn lines n kind past turn.Done = length lines ≡ suc n
+GoesOn lines n kind past turn.Resent = ⊥
+GoesOn lines n kind past turn.Failed = Unit {0}
 
 -- a prompt link that tells its past and lists the port, and whose count of faults doesn't rise
 pub record IsSmooth (prompt : Bool) (past : Option (List WorldEvent)) (listed : Bool) (before now : ℕ) : Type 0 where

@@ -1,9 +1,9 @@
 //! The print itself: a dial, the hello, and turns that receive one reply each.
 ghost use Rattle.std.specs.Prelude.{◌≡◌, ◌≢◌, ◌<◌, ◌≤◌, ◌↔◌, ◌⊎◌, suc, true, false, length, OnOk, OnErr};
-ghost use Rattle.octo_outside.specs.Told.{Became, Rose};
+ghost use Rattle.octo_outside.specs.Told.{Rose};
 ghost use Rattle.gcode_lines.specs.Job.{texts_of};
 ghost use Rattle.marlin_reply.specs.Kind.{kind_of};
-ghost use Rattle.printer_link.specs.Link.{Grows, RoseBy, counted_one};
+ghost use Rattle.printer_link.specs.Link.{Grows, Recorded, RoseBy, counted_one};
 ghost use Rattle.first_print.specs.declared.print.Turn.TheVariants as turn;
 ghost use Rattle.first_print.specs.declared.print.PrintEnd.TheVariants as end;
 ghost use Rattle.first_print.specs.Play.{lines_of, line_at, is_ok, is_resend, IsCarried, IsHeardAs};
@@ -51,17 +51,15 @@ fn send_line<L: Link>(link: &mut L, job: &Job, n: u32) -> Result<(), LinkFault>
     requires there { n ≤ length job.now.commands }
     requires small { n ≤ 2000000000 }
     ensures carried { IsCarried n (line_at (lines_of (texts_of job.now)) n) }
-    ensures sent { OnOk result (Grows (L.places link.old) (L.advanced link.old) (L.past link.old) (L.past link.new) (Leads false (Ready (lines_of (texts_of job.now)) n) (Flying (lines_of (texts_of job.now)) n))) }
-    ensures lost { OnErr result (Grows (L.places link.old) (L.advanced link.old) (L.past link.old) (L.past link.new) (Leads false (Ready (lines_of (texts_of job.now)) n) (Ran (lines_of (texts_of job.now))))) }
+    ensures sent { OnOk result (Grows (L.kind link.old) (L.past link.old) (L.past link.new) (Leads false (Ready (lines_of (texts_of job.now)) n) (Flying (lines_of (texts_of job.now)) n))) }
+    ensures lost { OnErr result (Grows (L.kind link.old) (L.past link.old) (L.past link.new) (Leads false (Ready (lines_of (texts_of job.now)) n) (Ran (lines_of (texts_of job.now))))) }
     ensures up { OnOk result (L.up link.new ≡ true) }
     ensures down { OnErr result (L.up link.new ≡ false) }
-    ensures places { L.places link.new ≡ L.places link.old }
-    ensures advanced { L.advanced link.new ≡ L.advanced link.old }
+    ensures kind { L.kind link.new ≡ L.kind link.old }
     ensures calls { L.calls link.new ≡ counted_one (L.calls link.old) }
     ensures counted { L.faults link.old ≤ L.faults link.new }
     ensures failed { OnErr result (Rose (L.faults link.old) (L.faults link.new)) }
-    ensures prompt { L.prompt link.old ≡ true → IsAt (L.places link.old) (L.advanced link.old) (L.past link.old) (IsPromptReady n) → OnOk result (IsAt (L.places link.new) (L.advanced link.new) (L.past link.new) (IsPromptSent (lines_of (texts_of job.now)) n)) }
-    ensures kept { L.prompt link.new ≡ L.prompt link.old }
+    ensures prompt { (L.kind link.old).prompt ≡ true → IsAt (L.kind link.old) (L.past link.old) (IsPromptReady n) → OnOk result (IsAt (L.kind link.new) (L.past link.new) (IsPromptSent (lines_of (texts_of job.now)) n)) }
 {
     let mut line = Line::new();
     write_line(job, n, &mut line);
@@ -72,17 +70,15 @@ fn send_line<L: Link>(link: &mut L, job: &Job, n: u32) -> Result<(), LinkFault>
 fn next_line<L: Link>(link: &mut L, job: &Job, n: u32) -> Turn
     requires open { L.up link.old ≡ true }
     requires there { n ≤ length job.now.commands }
-    ensures leads { Grows (L.places link.old) (L.advanced link.old) (L.past link.old) (L.past link.new) (Leads false (Ready (lines_of (texts_of job.now)) (suc n)) (AfterTurn (lines_of (texts_of job.now)) result)) }
+    ensures leads { Grows (L.kind link.old) (L.past link.old) (L.past link.new) (Leads false (Ready (lines_of (texts_of job.now)) (suc n)) (AfterTurn (lines_of (texts_of job.now)) result)) }
     ensures going { IsGoing (lines_of (texts_of job.now)) result }
     ensures silent { turn_asked result ≡ false }
     ensures up { L.up link.new ≡ goes_on result }
-    ensures places { L.places link.new ≡ L.places link.old }
-    ensures advanced { L.advanced link.new ≡ L.advanced link.old }
+    ensures kind { L.kind link.new ≡ L.kind link.old }
     ensures calls { RoseBy 0 (L.calls link.old) (L.calls link.new) }
     ensures counted { L.faults link.old ≤ L.faults link.new }
     ensures failed { result ≡ turn.Failed → Rose (L.faults link.old) (L.faults link.new) }
-    ensures prompt { L.prompt link.old ≡ true → IsAt (L.places link.old) (L.advanced link.old) (L.past link.old) (IsPromptReady (suc n)) → GoesOn (lines_of (texts_of job.now)) n (L.places link.new) (L.advanced link.new) (L.past link.new) result }
-    ensures kept { L.prompt link.new ≡ L.prompt link.old }
+    ensures prompt { (L.kind link.old).prompt ≡ true → IsAt (L.kind link.old) (L.past link.old) (IsPromptReady (suc n)) → GoesOn (lines_of (texts_of job.now)) n (L.kind link.new) (L.past link.new) result }
 {
     if n as usize == job.count() {
         link.hang_up();
@@ -99,17 +95,15 @@ fn answer<L: Link>(link: &mut L, job: &Job, n: u32, line: &ReplyLine) -> Turn
     requires open { L.up link.old ≡ true }
     requires there { n ≤ length job.now.commands }
     requires carried { IsCarried n (line_at (lines_of (texts_of job.now)) n) }
-    ensures leads { Grows (L.places link.old) (L.advanced link.old) (L.past link.old) (L.past link.new) (Leads false (λ start w. IsHeardAs start (lines_of (texts_of job.now)) n (kind_of line.now.items) w) (AfterTurn (lines_of (texts_of job.now)) result)) }
+    ensures leads { Grows (L.kind link.old) (L.past link.old) (L.past link.new) (Leads false (λ start w. IsHeardAs start (lines_of (texts_of job.now)) n (kind_of line.now.items) w) (AfterTurn (lines_of (texts_of job.now)) result)) }
     ensures asked { turn_asked result ≡ is_resend (kind_of line.now.items) }
     ensures going { IsGoing (lines_of (texts_of job.now)) result }
     ensures up { L.up link.new ≡ goes_on result }
-    ensures places { L.places link.new ≡ L.places link.old }
-    ensures advanced { L.advanced link.new ≡ L.advanced link.old }
+    ensures kind { L.kind link.new ≡ L.kind link.old }
     ensures calls { RoseBy 0 (L.calls link.old) (L.calls link.new) }
     ensures counted { L.faults link.old ≤ L.faults link.new }
     ensures failed { result ≡ turn.Failed → Rose (L.faults link.old) (L.faults link.new) }
-    ensures prompt { L.prompt link.old ≡ true → is_ok (kind_of line.now.items) ≡ true → IsAt (L.places link.old) (L.advanced link.old) (L.past link.old) (IsPromptReady (suc n)) → GoesOn (lines_of (texts_of job.now)) n (L.places link.new) (L.advanced link.new) (L.past link.new) result }
-    ensures kept { L.prompt link.new ≡ L.prompt link.old }
+    ensures prompt { (L.kind link.old).prompt ≡ true → is_ok (kind_of line.now.items) ≡ true → IsAt (L.kind link.old) (L.past link.old) (IsPromptReady (suc n)) → GoesOn (lines_of (texts_of job.now)) n (L.kind link.new) (L.past link.new) result }
 {
     match read_reply(line.as_slice()) {
         Reply::Ok { .. } => next_line(link, job, n),
@@ -126,16 +120,14 @@ fn take_turn<L: Link, T: Clock>(link: &mut L, clock: &mut T, job: &Job, n: u32) 
     requires open { L.up link.old ≡ true }
     requires there { n ≤ length job.now.commands }
     requires carried { IsCarried n (line_at (lines_of (texts_of job.now)) n) }
-    ensures leads { Grows (L.places link.old) (L.advanced link.old) (L.past link.old) (L.past link.new) (Leads (turn_asked result) (Flying (lines_of (texts_of job.now)) n) (AfterTurn (lines_of (texts_of job.now)) result)) }
+    ensures leads { Grows (L.kind link.old) (L.past link.old) (L.past link.new) (Leads (turn_asked result) (Flying (lines_of (texts_of job.now)) n) (AfterTurn (lines_of (texts_of job.now)) result)) }
     ensures going { IsGoing (lines_of (texts_of job.now)) result }
     ensures up { L.up link.new ≡ goes_on result }
-    ensures places { L.places link.new ≡ L.places link.old }
-    ensures advanced { L.advanced link.new ≡ L.advanced link.old }
+    ensures kind { L.kind link.new ≡ L.kind link.old }
     ensures calls { RoseBy 1 (L.calls link.old) (L.calls link.new) }
     ensures counted { L.faults link.old ≤ L.faults link.new }
     ensures failed { result ≡ turn.Failed → Rose (L.faults link.old) (L.faults link.new) }
-    ensures prompt { L.prompt link.old ≡ true → IsAt (L.places link.old) (L.advanced link.old) (L.past link.old) (IsPromptSent (lines_of (texts_of job.now)) n) → GoesOn (lines_of (texts_of job.now)) n (L.places link.new) (L.advanced link.new) (L.past link.new) result }
-    ensures kept { L.prompt link.new ≡ L.prompt link.old }
+    ensures prompt { (L.kind link.old).prompt ≡ true → IsAt (L.kind link.old) (L.past link.old) (IsPromptSent (lines_of (texts_of job.now)) n) → GoesOn (lines_of (texts_of job.now)) n (L.kind link.new) (L.past link.new) result }
 {
     let mut reply = ReplyLine::new();
     match link.recv(&mut reply) {
@@ -152,15 +144,14 @@ fn take_turn<L: Link, T: Clock>(link: &mut L, clock: &mut T, job: &Job, n: u32) 
 fn take_turns<L: Link, T: Clock>(link: &mut L, clock: &mut T, job: &Job, turns: u64) -> PrintEnd
     requires open { L.up link.old ≡ true }
     requires carried { IsCarried 0 (line_at (lines_of (texts_of job.now)) 0) }
-    ensures leads { Grows (L.places link.old) (L.advanced link.old) (L.past link.old) (L.past link.new) (Leads (end_asked result) (Flying (lines_of (texts_of job.now)) 0) (AtEnd (lines_of (texts_of job.now)) result)) }
+    ensures leads { Grows (L.kind link.old) (L.past link.old) (L.past link.new) (Leads (end_asked result) (Flying (lines_of (texts_of job.now)) 0) (AtEnd (lines_of (texts_of job.now)) result)) }
     ensures listed { result ≢ end.NoPort }
     ensures down { L.up link.new ≡ false }
-    ensures places { L.places link.new ≡ L.places link.old }
-    ensures advanced { L.advanced link.new ≡ L.advanced link.old }
+    ensures kind { L.kind link.new ≡ L.kind link.old }
     ensures calls { result ≡ end.TurnsUsed → RoseBy turns (L.calls link.old) (L.calls link.new) }
     ensures counted { L.faults link.old ≤ L.faults link.new }
     ensures failed { result ≡ end.LinkFailed → Rose (L.faults link.old) (L.faults link.new) }
-    ensures prompt { L.prompt link.old ≡ true → IsAt (L.places link.old) (L.advanced link.old) (L.past link.old) (IsPromptSent (lines_of (texts_of job.now)) 0) → length job.now.commands < turns → (result ≡ end.Done) ⊎ (result ≡ end.LinkFailed) }
+    ensures prompt { (L.kind link.old).prompt ≡ true → IsAt (L.kind link.old) (L.past link.old) (IsPromptSent (lines_of (texts_of job.now)) 0) → length job.now.commands < turns → (result ≡ end.Done) ⊎ (result ≡ end.LinkFailed) }
 {
     let mut line = 0;
     for _ in 0..turns {
@@ -178,15 +169,14 @@ fn take_turns<L: Link, T: Clock>(link: &mut L, clock: &mut T, job: &Job, turns: 
 // Prints over a link that was just made.
 fn print_lines<L: Link, T: Clock>(link: &mut L, clock: &mut T, job: &Job, turns: u64) -> PrintEnd
     requires { L.up link.old ≡ true }
-    ensures leads { Grows (L.places link.old) (L.advanced link.old) (L.past link.old) (L.past link.new) (Leads (end_asked result) (Ready (lines_of (texts_of job.now)) 0) (AtEnd (lines_of (texts_of job.now)) result)) }
+    ensures leads { Grows (L.kind link.old) (L.past link.old) (L.past link.new) (Leads (end_asked result) (Ready (lines_of (texts_of job.now)) 0) (AtEnd (lines_of (texts_of job.now)) result)) }
     ensures listed { result ≢ end.NoPort }
     ensures down { L.up link.new ≡ false }
-    ensures places { L.places link.new ≡ L.places link.old }
-    ensures advanced { L.advanced link.new ≡ L.advanced link.old }
+    ensures kind { L.kind link.new ≡ L.kind link.old }
     ensures calls { result ≡ end.TurnsUsed → RoseBy turns (L.calls link.old) (L.calls link.new) }
     ensures counted { L.faults link.old ≤ L.faults link.new }
     ensures failed { result ≡ end.LinkFailed → Rose (L.faults link.old) (L.faults link.new) }
-    ensures prompt { L.prompt link.old ≡ true → IsAt (L.places link.old) (L.advanced link.old) (L.past link.old) (IsPromptReady 0) → length job.now.commands < turns → (result ≡ end.Done) ⊎ (result ≡ end.LinkFailed) }
+    ensures prompt { (L.kind link.old).prompt ≡ true → IsAt (L.kind link.old) (L.past link.old) (IsPromptReady 0) → length job.now.commands < turns → (result ≡ end.Done) ⊎ (result ≡ end.LinkFailed) }
 {
     match send_line(link, job, 0) {
         Ok(()) => take_turns(link, clock, job, turns),
@@ -209,14 +199,14 @@ pub fn print_file<L: Link, T: Clock>(
     turns: u64,
 ) -> PrintEnd
     requires { L.up link.old ≡ false }
-    ensures executed { Became (L.past link.old) (L.past link.new) (IsPrintOf (L.places link.old) (L.advanced link.old) (texts_of job.now) (is_done result)) }
-    ensures asked { Grows (L.places link.old) (L.advanced link.old) (L.past link.old) (L.past link.new) (λ w added. asks w added ≡ end_asked result) }
-    ensures no_port { (result ≡ end.NoPort) ↔ (L.listed link.old port.now ≡ false) }
+    ensures executed { Recorded (L.past link.old) (L.past link.new) (IsPrintOf (L.kind link.old).slots (L.kind link.old).numbered (texts_of job.now) (is_done result)) }
+    ensures asked { Grows (L.kind link.old) (L.past link.old) (L.past link.new) (λ w added. asks w added ≡ end_asked result) }
+    ensures no_port { (result ≡ end.NoPort) ↔ ((L.kind link.old).listed port.now ≡ false) }
     ensures down { L.up link.new ≡ false }
     ensures calls { result ≡ end.TurnsUsed → RoseBy turns (L.calls link.old) (L.calls link.new) }
     ensures counted { L.faults link.old ≤ L.faults link.new }
     ensures failed { result ≡ end.LinkFailed → Rose (L.faults link.old) (L.faults link.new) }
-    ensures prompt { IsSmooth (L.prompt link.old) (L.past link.old) (L.listed link.old port.now) (L.faults link.old) (L.faults link.new) → length job.now.commands < turns → result ≡ end.Done }
+    ensures prompt { IsSmooth (L.kind link.old).prompt (L.past link.old) ((L.kind link.old).listed port.now) (L.faults link.old) (L.faults link.new) → length job.now.commands < turns → result ≡ end.Done }
 {
     match link.dial(port) {
         Ok(()) => print_lines(link, clock, job, turns),

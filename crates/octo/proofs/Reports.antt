@@ -2,9 +2,9 @@
 use Rattle.std.proofs.Common.{◌≡◌, ℕ, Bool, false, List, [], Option, None, Some, refl, sym, ◌++◌}
 use Rattle.std.specs.Prelude.{◌==◌, IfSome}
 use Rattle.octo_outside.specs.Traits.{Files}
-use Rattle.octo_outside.proofs.Told.{became_same, became_so}
+use Rattle.printer_link.specs.Link.{LinkKind, Grows, Recorded, world_in}
+use Rattle.printer_link.proofs.Grown.{recorded_same, recorded_so}
 use Rattle.gcode_lines.specs.declared.fault.FileFault.TheVariants.{TooLong, ControlByte, TooLarge, NoMemory}
-use Rattle.printer_model.specs.World.{world_of}
 use Rattle.printer_model.specs.declared.event.WorldEvent.{WorldEvent}
 use Rattle.first_print.specs.Leads.{asks, IsPrintOf}
 use Rattle.first_print.proofs.Printed.{print_unopened}
@@ -34,27 +34,27 @@ done_is report.NoMemory unchecked = refl
 pub not_done : (places : ℕ) (advanced : Bool) (texts : List (List ℕ)) (done : Bool) (past added : List WorldEvent) → IsPrintOf places advanced texts done past added → IsPrintOf places advanced texts false past added
 not_done places advanced texts done past added p = record { count = p.count; within = p.within; is = p.is; whole = λ e. absurd (cc) }
 
-executed_nothing : (places : ℕ) (advanced : Bool) (held : Option (List ℕ)) (old : Option (List WorldEvent)) → IfSome held (λ bytes. (now : List WorldEvent) → old ≡ Some now → (past : List WorldEvent) × (added : List WorldEvent) × (old ≡ Some past) × (now ≡ past ++ added) × IsPrintOf places advanced (texts_in bytes) false past added)
-executed_nothing places advanced None old = tt
-executed_nothing places advanced (Some bytes) old =
-    became_same old (IsPrintOf places advanced (texts_in bytes) false) (λ past. print_unopened places advanced (texts_in bytes) past [] refl)
+executed_nothing : (kind : LinkKind) (held : Option (List ℕ)) (old : Option (List WorldEvent)) → IfSome held (λ bytes. Recorded old old (IsPrintOf kind.slots kind.numbered (texts_in bytes) false))
+executed_nothing kind None old = tt
+executed_nothing kind (Some bytes) old =
+    recorded_same old (IsPrintOf kind.slots kind.numbered (texts_in bytes) false) (λ past. print_unopened kind.slots kind.numbered (texts_in bytes) past [] refl)
 
 -- where the link wasn't used, nothing was executed
-pub executed_none : (places : ℕ) (advanced : Bool) (files : Option Files) (file : List ℕ) (old : Option (List WorldEvent)) → IsExecuted places advanced files file false old old
-executed_none places advanced None file old = tt
-executed_none places advanced (Some all) file old = executed_nothing places advanced (all file) old
+pub executed_none : (kind : LinkKind) (files : Option Files) (file : List ℕ) (old : Option (List WorldEvent)) → IsExecuted kind files file false old old
+executed_none kind None file old = tt
+executed_none kind (Some all) file old = executed_nothing kind (all file) old
 
-executed_held : (places : ℕ) (advanced : Bool) (held : Option (List ℕ)) (done : Bool) (old new : Option (List WorldEvent)) → IfSome held (λ bytes. (now : List WorldEvent) → new ≡ Some now → (past : List WorldEvent) × (added : List WorldEvent) × (old ≡ Some past) × (now ≡ past ++ added) × IsPrintOf places advanced (texts_in bytes) done past added) → IfSome held (λ bytes. (now : List WorldEvent) → new ≡ Some now → (past : List WorldEvent) × (added : List WorldEvent) × (old ≡ Some past) × (now ≡ past ++ added) × IsPrintOf places advanced (texts_in bytes) false past added)
-executed_held places advanced None done old new h = tt
-executed_held places advanced (Some bytes) done old new h =
-    became_so old new (IsPrintOf places advanced (texts_in bytes) done) (IsPrintOf places advanced (texts_in bytes) false) h (not_done places advanced (texts_in bytes) done)
+executed_held : (kind : LinkKind) (held : Option (List ℕ)) (done : Bool) (old new : Option (List WorldEvent)) → IfSome held (λ bytes. Recorded old new (IsPrintOf kind.slots kind.numbered (texts_in bytes) done)) → IfSome held (λ bytes. Recorded old new (IsPrintOf kind.slots kind.numbered (texts_in bytes) false))
+executed_held kind None done old new h = tt
+executed_held kind (Some bytes) done old new h =
+    recorded_so old new (IsPrintOf kind.slots kind.numbered (texts_in bytes) done) (IsPrintOf kind.slots kind.numbered (texts_in bytes) false) h (not_done kind.slots kind.numbered (texts_in bytes) done)
 
 -- where the report couldn't be written
-pub executed_undone : (places : ℕ) (advanced : Bool) (files : Option Files) (file : List ℕ) (done : Bool) (old new : Option (List WorldEvent)) → IsExecuted places advanced files file done old new → IsExecuted places advanced files file false old new
-executed_undone places advanced None file done old new h = tt
-executed_undone places advanced (Some all) file done old new h = executed_held places advanced (all file) done old new h
+pub executed_undone : (kind : LinkKind) (files : Option Files) (file : List ℕ) (done : Bool) (old new : Option (List WorldEvent)) → IsExecuted kind files file done old new → IsExecuted kind files file false old new
+executed_undone kind None file done old new h = tt
+executed_undone kind (Some all) file done old new h = executed_held kind (all file) done old new h
 
 -- a link that wasn't used received nothing
-pub asked_none : (places : ℕ) (advanced : Bool) (old : Option (List WorldEvent)) (b : Bool) → b ≡ false → (now : List WorldEvent) → old ≡ Some now → (past : List WorldEvent) × (added : List WorldEvent) × (old ≡ Some past) × (now ≡ past ++ added) × (asks (world_of places advanced past) added ≡ b)
-asked_none places advanced old b silent =
-    became_same old (λ past added. asks (world_of places advanced past) added ≡ b) (λ past. sym silent)
+pub asked_none : (kind : LinkKind) (old : Option (List WorldEvent)) (b : Bool) → b ≡ false → Grows kind old old (λ w added. asks w added ≡ b)
+asked_none kind old b silent =
+    recorded_same old (λ past added. asks (world_in kind past) added ≡ b) (λ past. sym silent)

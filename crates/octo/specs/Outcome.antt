@@ -3,7 +3,7 @@ use Rattle.std.specs.Prelude.{◌≡◌, ◌≢◌, ◌<◌, ◌⊎◌, ◌↔�
 use Rattle.octo_outside.specs.Told.{Became, Adds, AddsPrefix, Rose}
 use Rattle.octo_outside.specs.Traits.{Files}
 use Rattle.printer_model.specs.declared.event.WorldEvent.{WorldEvent}
-use Rattle.printer_link.specs.Link.{RoseBy}
+use Rattle.printer_link.specs.Link.{LinkKind, Recorded, RoseBy}
 use Rattle.first_print.specs.Leads.{IsPrintOf}
 use Rattle.gcode_lines.specs.declared.fault.FileFault.{FileFault}
 use Rattle.gcode_lines.specs.declared.fault.FileFault.TheVariants.{TooLarge}
@@ -155,9 +155,9 @@ pub record Ended (words : List (List ℕ)) (files : Option Files) (listed : List
   pub link_failed : r ≡ report.LinkFailed → Rose link link'
 
 -- a print of this file's commands is what was executed
-abbrev pub IsExecuted : ℕ → Bool → Option Files → List ℕ → Bool → Option (List WorldEvent) → Option (List WorldEvent) → Type 0
-IsExecuted places advanced files file done old new =
-    IfSome files (λ all. IfSome (all file) (λ bytes. Became old new (IsPrintOf places advanced (texts_in bytes) done)))
+abbrev pub IsExecuted : LinkKind → Option Files → List ℕ → Bool → Option (List WorldEvent) → Option (List WorldEvent) → Type 0
+IsExecuted kind files file done old new =
+    IfSome files (λ all. IfSome (all file) (λ bytes. Recorded old new (IsPrintOf kind.slots kind.numbered (texts_in bytes) done)))
 
 -- the statuses with which the link wasn't used
 abbrev pub leaves_link : ℕ → Bool

@@ -1,8 +1,8 @@
 //! The commands: to print a file and to check one.
 ghost use Rattle.std.specs.Prelude.{◌≡◌, ◌⊎◌, ◌<◌, ◌≤◌, ◌≢◌, ◌==◌, ℕ, List, true, false, length, Some, IfSome, IsTrue};
-ghost use Rattle.octo_outside.specs.Told.{Became, Rose, Steady};
+ghost use Rattle.octo_outside.specs.Told.{Rose, Steady};
 ghost use Rattle.gcode_lines.specs.Job.{texts_of};
-ghost use Rattle.printer_link.specs.Link.{Grows, RoseBy};
+ghost use Rattle.printer_link.specs.Link.{Grows, Recorded, RoseBy};
 ghost use Rattle.first_print.specs.Leads.{asks, IsPrintOf};
 ghost use Rattle.first_print.specs.Prompt.{IsSmooth};
 ghost use Rattle.octo.specs.declared.report.Report.{Report};
@@ -69,16 +69,16 @@ fn print_job<L: Link, T: Clock>(
 ) -> Report
     requires down { L.up link.old ≡ false }
     requires short { length port.now ≤ 100 }
-    ensures report { IsPrintReport job.now port.now turns (L.listed link.old port.now) result }
-    ensures executed { Became (L.past link.old) (L.past link.new) (IsPrintOf (L.places link.old) (L.advanced link.old) (texts_of job.now) (is_printed result)) }
-    ensures asked { Grows (L.places link.old) (L.advanced link.old) (L.past link.old) (L.past link.new) (λ w added. asks w added ≡ is_resent result) }
+    ensures report { IsPrintReport job.now port.now turns ((L.kind link.old).listed port.now) result }
+    ensures executed { Recorded (L.past link.old) (L.past link.new) (IsPrintOf (L.kind link.old).slots (L.kind link.old).numbered (texts_of job.now) (is_printed result)) }
+    ensures asked { Grows (L.kind link.old) (L.past link.old) (L.past link.new) (λ w added. asks w added ≡ is_resent result) }
     ensures counted { L.faults link.old ≤ L.faults link.new }
     ensures failed { result ≡ report.LinkFailed → Rose (L.faults link.old) (L.faults link.new) }
     ensures used { used_link result ≡ true }
     ensures unchecked { is_checked result ≡ false }
     ensures words { result ≢ report.BadWords }
     ensures source { result ≢ report.SourceFailed }
-    ensures prompt { IsSmooth (L.prompt link.old) (L.past link.old) (L.listed link.old port.now) (L.faults link.old) (L.faults link.new) → (turns ≡ default_turns) ⊎ (length job.now.commands < turns) → is_printed result ≡ true }
+    ensures prompt { IsSmooth (L.kind link.old).prompt (L.past link.old) ((L.kind link.old).listed port.now) (L.faults link.old) (L.faults link.new) → (turns ≡ default_turns) ⊎ (length job.now.commands < turns) → is_printed result ≡ true }
     ensures calls { is_out_of_turns result ≡ true → RoseBy turns (L.calls link.old) (L.calls link.new) }
 {
     let commands = job.count();
@@ -117,17 +117,17 @@ fn print<F: Source, L: Link, T: Clock>(
 ) -> Report
     requires down { L.up link.old ≡ false }
     requires short { length port.now ≤ 100 }
-    ensures by_file { IfSome (F.files files.old) (λ all. IfSome (all file.now) (λ bytes. IsTrouble result ⊎ IsReportOf (print_file port.now file.now turns) (L.listed link.old) (file_of bytes) result)) }
-    ensures executed { IsExecuted (L.places link.old) (L.advanced link.old) (F.files files.old) file.now (is_printed result) (L.past link.old) (L.past link.new) }
+    ensures by_file { IfSome (F.files files.old) (λ all. IfSome (all file.now) (λ bytes. IsTrouble result ⊎ IsReportOf (print_file port.now file.now turns) (L.kind link.old).listed (file_of bytes) result)) }
+    ensures executed { IsExecuted (L.kind link.old) (F.files files.old) file.now (is_printed result) (L.past link.old) (L.past link.new) }
     ensures unused { used_link result ≡ false → L.past link.new ≡ L.past link.old }
-    ensures asked { Grows (L.places link.old) (L.advanced link.old) (L.past link.old) (L.past link.new) (λ w added. asks w added ≡ is_resent result) }
+    ensures asked { Grows (L.kind link.old) (L.past link.old) (L.past link.new) (λ w added. asks w added ≡ is_resent result) }
     ensures words { result ≢ report.BadWords }
     ensures unchecked { is_checked result ≡ false }
     ensures counted { F.faults files.old ≤ F.faults files.new }
     ensures source { result ≡ report.SourceFailed → Rose (F.faults files.old) (F.faults files.new) }
     ensures link_counted { L.faults link.old ≤ L.faults link.new }
     ensures link_failed { result ≡ report.LinkFailed → Rose (L.faults link.old) (L.faults link.new) }
-    ensures prompt { IsSmooth (L.prompt link.old) (L.past link.old) (L.listed link.old port.now) (L.faults link.old) (L.faults link.new) → IsPrintable (F.files files.old) file.now turns → (is_printed result ≡ true) ⊎ IsTrouble result }
+    ensures prompt { IsSmooth (L.kind link.old).prompt (L.past link.old) ((L.kind link.old).listed port.now) (L.faults link.old) (L.faults link.new) → IsPrintable (F.files files.old) file.now turns → (is_printed result ≡ true) ⊎ IsTrouble result }
     ensures calls { is_out_of_turns result ≡ true → RoseBy turns (L.calls link.old) (L.calls link.new) }
 {
     match read_job(alloc, files, file) {
@@ -145,15 +145,15 @@ fn run<F: Source, L: Link, T: Clock>(
     clock: &mut T,
 ) -> Report
     requires { L.up link.old ≡ false }
-    ensures ended { Ended words.now (F.files files.old) (L.listed link.old) (F.faults files.old) (F.faults files.new) (L.faults link.old) (L.faults link.new) result }
-    ensures executed { (port file : List ℕ) (turns : ℕ) → command_of words.now ≡ Some (print_file port file turns) → IsExecuted (L.places link.old) (L.advanced link.old) (F.files files.old) file (is_printed result) (L.past link.old) (L.past link.new) }
+    ensures ended { Ended words.now (F.files files.old) (L.kind link.old).listed (F.faults files.old) (F.faults files.new) (L.faults link.old) (L.faults link.new) result }
+    ensures executed { (port file : List ℕ) (turns : ℕ) → command_of words.now ≡ Some (print_file port file turns) → IsExecuted (L.kind link.old) (F.files files.old) file (is_printed result) (L.past link.old) (L.past link.new) }
     ensures unchecked { (port file : List ℕ) (turns : ℕ) → command_of words.now ≡ Some (print_file port file turns) → is_checked result ≡ false }
     ensures unused { used_link result ≡ false → L.past link.new ≡ L.past link.old }
-    ensures asked { Grows (L.places link.old) (L.advanced link.old) (L.past link.old) (L.past link.new) (λ w added. asks w added ≡ is_resent result) }
+    ensures asked { Grows (L.kind link.old) (L.past link.old) (L.past link.new) (λ w added. asks w added ≡ is_resent result) }
     ensures counted { F.faults files.old ≤ F.faults files.new }
     ensures link_counted { L.faults link.old ≤ L.faults link.new }
     ensures turns { is_out_of_turns result ≡ true → HasUsedTurns words.now (L.calls link.old) (L.calls link.new) }
-    ensures prompt { (port file : List ℕ) (turns : ℕ) → command_of words.now ≡ Some (print_file port file turns) → IsSmooth (L.prompt link.old) (L.past link.old) (L.listed link.old port) (L.faults link.old) (L.faults link.new) → IsPrintable (F.files files.old) file turns → (is_printed result ≡ true) ⊎ IsTrouble result }
+    ensures prompt { (port file : List ℕ) (turns : ℕ) → command_of words.now ≡ Some (print_file port file turns) → IsSmooth (L.kind link.old).prompt (L.past link.old) ((L.kind link.old).listed port) (L.faults link.old) (L.faults link.new) → IsPrintable (F.files files.old) file turns → (is_printed result ≡ true) ⊎ IsTrouble result }
 {
     if words.count() == 2 && words.get(0) == "check" {
         return check(alloc, files, words.get(1));
@@ -182,15 +182,15 @@ pub fn octo<R, F: Source, L: Link, O: Sink, T: Clock>(
     clock: &mut T,
 ) -> Status
     requires { L.up link.old ≡ false }
-    ensures ended { (r : Report) × Ended words.now (F.files files.old) (L.listed link.old) (F.faults files.old) (F.faults files.new) (L.faults link.old) (L.faults link.new) r × IsWritten r result.code (O.written out.old) (O.written out.new) × Grows (L.places link.old) (L.advanced link.old) (L.past link.old) (L.past link.new) (λ w added. asks w added ≡ is_resent r) }
-    ensures executed { (port file : List ℕ) (turns : ℕ) → command_of words.now ≡ Some (print_file port file turns) → IsExecuted (L.places link.old) (L.advanced link.old) (F.files files.old) file (result.code == 0) (L.past link.old) (L.past link.new) }
+    ensures ended { (r : Report) × Ended words.now (F.files files.old) (L.kind link.old).listed (F.faults files.old) (F.faults files.new) (L.faults link.old) (L.faults link.new) r × IsWritten r result.code (O.written out.old) (O.written out.new) × Grows (L.kind link.old) (L.past link.old) (L.past link.new) (λ w added. asks w added ≡ is_resent r) }
+    ensures executed { (port file : List ℕ) (turns : ℕ) → command_of words.now ≡ Some (print_file port file turns) → IsExecuted (L.kind link.old) (F.files files.old) file (result.code == 0) (L.past link.old) (L.past link.new) }
     ensures unused { leaves_link result.code ≡ true → L.past link.new ≡ L.past link.old }
     ensures turns { result.code ≡ 10 → HasUsedTurns words.now (L.calls link.old) (L.calls link.new) }
     ensures sink { result.code ≡ 8 → Rose (O.faults out.old) (O.faults out.new) }
     ensures source_counted { F.faults files.old ≤ F.faults files.new }
     ensures link_counted { L.faults link.old ≤ L.faults link.new }
     ensures sink_counted { O.faults out.old ≤ O.faults out.new }
-    ensures prompt { (port file : List ℕ) (turns : ℕ) → command_of words.now ≡ Some (print_file port file turns) → IsSmooth (L.prompt link.old) (L.past link.old) (L.listed link.old port) (L.faults link.old) (L.faults link.new) → IsPrintable (F.files files.old) file turns → Steady (F.faults files.old) (F.faults files.new) → (result.code ≡ 0) ⊎ (result.code ≡ 8) ⊎ (result.code ≡ 11) }
+    ensures prompt { (port file : List ℕ) (turns : ℕ) → command_of words.now ≡ Some (print_file port file turns) → IsSmooth (L.kind link.old).prompt (L.past link.old) ((L.kind link.old).listed port) (L.faults link.old) (L.faults link.new) → IsPrintable (F.files files.old) file turns → Steady (F.faults files.old) (F.faults files.new) → (result.code ≡ 0) ⊎ (result.code ≡ 8) ⊎ (result.code ≡ 11) }
 {
     let report = run(alloc, words, files, link, clock);
     match write_report(out, &report) {

@@ -4,9 +4,9 @@ use Rattle.std.specs.Prelude.{None, Some, IfSome, is_some, ◌+◌, ◌≤◌}
 use Rattle.std.specs.Option.{option_map}
 use Rattle.send_window.specs.Sending.{Outgoing, number_of_outgoing, bytes_of_outgoing}
 use Rattle.std.proofs.lemmas.List.{append_cancel_left}
-use Rattle.octo_outside.proofs.Told.{became_then, became_so, became_same}
-use Rattle.printer_model.specs.World.{WorldData, world_from, world_of}
-use Rattle.printer_link.specs.Link.{Grows, IsSend, IsSendOf, RoseBy, counted_one}
+use Rattle.printer_link.proofs.Grown.{recorded_then, recorded_so, recorded_same}
+use Rattle.printer_model.specs.World.{WorldData, world_from}
+use Rattle.printer_link.specs.Link.{LinkKind, Grows, world_in, IsSend, IsSendOf, RoseBy, counted_one}
 use Rattle.printer_model.specs.declared.event.WorldEvent.{WorldEvent}
 use Rattle.printer_model.proofs.Laws.{world_from-append, world_of-append}
 use Rattle.send_window.specs.Data.{SenderData}
@@ -51,75 +51,78 @@ added_one : (moment : ℕ) (is_prompt : Bool) (x : Step) (s : SenderData) (w : W
 added_one moment is_prompt x s w added is = (added, [], sym (append-nil added), is, refl)
 
 -- two words for one addition, the second of which holds under a premise
-pub grows_both : (places : ℕ) (advanced : Bool) (old new : Option (List WorldEvent)) (F : Type 0) (K J : WorldData → List WorldEvent → Type 0) → Grows places advanced old new K → (F → Grows places advanced old new J) → Grows places advanced old new (λ w added. K w added × (F → J w added))
-grows_both places advanced old new F K J first second now e =
-    let one = first now e in (
-      one.0,
-      one.1,
-      one.2,
-      one.3,
-      (
-        one.4,
-        λ f. (
-            let two = second f now e in
-            let was : old ≡ Some two.0 = two.2 in
-            let is : old ≡ Some one.0 = one.2 in
-            let same : two.0 ≡ one.0 = cc in
-            let lists : one.0 ++ one.1 ≡ one.0 ++ two.1 = sym one.3 ∙ two.3 ∙ ap (λ (l : List WorldEvent). l ++ two.1) same in
-            let added : two.1 ≡ one.1 = sym (append_cancel_left one.0 one.1 two.1 lists) in
-            let P : List WorldEvent → Type 0 = λ l. J (world_of places advanced l) two.1 in
-            let Q : List WorldEvent → Type 0 = λ l. J (world_of places advanced one.0) l in
-            subst Q added (subst P same two.4)),
-      ),
-    )
+pub grows_both : (kind : LinkKind) (old new : Option (List WorldEvent)) (F : Type 0) (K J : WorldData → List WorldEvent → Type 0) → Grows kind old new K → (F → Grows kind old new J) → Grows kind old new (λ w added. K w added × (F → J w added))
+grows_both kind old new F K J first second = record {
+    stays = first.stays;
+    grew = λ now e. (
+        let one = first.grew now e in (
+          one.0,
+          one.1,
+          one.2,
+          one.3,
+          (
+            one.4,
+            λ f. (
+                let two = (second f).grew now e in
+                let was : old ≡ Some two.0 = two.2 in
+                let is : old ≡ Some one.0 = one.2 in
+                let same : two.0 ≡ one.0 = cc in
+                let lists : one.0 ++ one.1 ≡ one.0 ++ two.1 = sym one.3 ∙ two.3 ∙ ap (λ (l : List WorldEvent). l ++ two.1) same in
+                let added : two.1 ≡ one.1 = sym (append_cancel_left one.0 one.1 two.1 lists) in
+                let P : List WorldEvent → Type 0 = λ l. J (world_in kind l) two.1 in
+                let Q : List WorldEvent → Type 0 = λ l. J (world_in kind one.0) l in
+                subst Q added (subst P same two.4)),
+          ),
+        ));
+  }
 
-module _ (moment : ℕ) (places : ℕ) (advanced is_prompt : Bool) where
-  pub takes_then : (old mid new : Option (List WorldEvent)) (a b c : Option ℕ) (xs ys : List Step) (s t u : SenderData) → Takes moment places advanced is_prompt old mid a b xs s t → Takes moment places advanced is_prompt mid new b c ys t u → Takes moment places advanced is_prompt old new a c (xs ++ ys) s u
+module _ (moment : ℕ) (kind : LinkKind) where
+  pub takes_then : (old mid new : Option (List WorldEvent)) (a b c : Option ℕ) (xs ys : List Step) (s t u : SenderData) → Takes moment kind old mid a b xs s t → Takes moment kind mid new b c ys t u → Takes moment kind old new a c (xs ++ ys) s u
   takes_then old mid new a b c xs ys s t u first second =
       let Allowed : SenderData → Type 0 = λ v. AreAllowed moment ys v in
       record {
         sender = second.sender ∙ ap (after_steps moment ys) first.sender ∙ sym (after_steps-append moment xs ys s);
         allowed = allowed_then moment xs ys s first.allowed (subst Allowed first.sender second.allowed);
-        past = became_then old mid new (λ past added. AreAdded moment is_prompt xs s (world_of places advanced past) added)
-            (λ past added. AreAdded moment is_prompt ys t (world_of places advanced past) added)
-            (λ past added. AreAdded moment is_prompt (xs ++ ys) s (world_of places advanced past) added)
+        past = recorded_then old mid new (λ past added. AreAdded moment kind.prompt xs s (world_in kind past) added)
+            (λ past added. AreAdded moment kind.prompt ys t (world_in kind past) added)
+            (λ past added. AreAdded moment kind.prompt (xs ++ ys) s (world_in kind past) added)
             first.past second.past
-            (λ past added more one two. (let At : WorldData → Type 0 = λ w. AreAdded moment is_prompt ys t w more in
-            let From : SenderData → Type 0 = λ v. AreAdded moment is_prompt ys v (world_from (world_of places advanced past) added) more in
-            added_then moment is_prompt xs ys s (world_of places advanced past) added more one
-            (subst From first.sender (subst At (world_of-append places advanced past added) two))));
+            (λ past added more one two. (let At : WorldData → Type 0 = λ w. AreAdded moment kind.prompt ys t w more in
+            let From : SenderData → Type 0 = λ v. AreAdded moment kind.prompt ys v (world_from (world_in kind past) added) more in
+            added_then moment kind.prompt xs ys s (world_in kind past) added more one
+            (subst From first.sender (subst At (world_of-append kind.slots kind.numbered past added) two))));
         calls = second.calls ∙ ap (calls_after ys) first.calls ∙ sym (calls_after-append xs ys a);
       }
 
   -- no step
-  pub takes_none : (old : Option (List WorldEvent)) (a : Option ℕ) (s : SenderData) → Takes moment places advanced is_prompt old old a a [] s s
+  pub takes_none : (old : Option (List WorldEvent)) (a : Option ℕ) (s : SenderData) → Takes moment kind old old a a [] s s
   takes_none old a s = record {
     sender = refl;
     allowed = tt;
-    past = became_same old (λ past added. AreAdded moment is_prompt [] s (world_of places advanced past) added) (λ past. refl);
+    past = recorded_same old (λ past added. AreAdded moment kind.prompt [] s (world_in kind past) added) (λ past. refl);
     calls = refl;
   }
 
   -- one step
-  pub takes_one : (old new : Option (List WorldEvent)) (a b : Option ℕ) (x : Step) (s t : SenderData) → t ≡ after_step moment x s → IsAllowed x s → b ≡ calls_by x a → Grows places advanced old new (IsAdded is_prompt x s) → Takes moment places advanced is_prompt old new a b (x ∷ []) s t
+  pub takes_one : (old new : Option (List WorldEvent)) (a b : Option ℕ) (x : Step) (s t : SenderData) → t ≡ after_step moment x s → IsAllowed x s → b ≡ calls_by x a → Grows kind old new (IsAdded kind.prompt x s) → Takes moment kind old new a b (x ∷ []) s t
   takes_one old new a b x s t after may called grew = record {
     sender = after;
     allowed = (may, tt);
-    past = became_so old new (λ past added. IsAdded is_prompt x s (world_of places advanced past) added)
-        (λ past added. AreAdded moment is_prompt (x ∷ []) s (world_of places advanced past) added)
-        grew (λ past added is. added_one moment is_prompt x s (world_of places advanced past) added is);
+    past = recorded_so old new (λ past added. IsAdded kind.prompt x s (world_in kind past) added)
+        (λ past added. AreAdded moment kind.prompt (x ∷ []) s (world_in kind past) added)
+        grew (λ past added is. added_one moment kind.prompt x s (world_in kind past) added is);
     calls = called;
   }
 
   -- one step by the two words of a link
-  pub takes_both : (old new : Option (List WorldEvent)) (a b : Option ℕ) (x : Step) (s t : SenderData) → t ≡ after_step moment x s → IsAllowed x s → b ≡ calls_by x a → Grows places advanced old new (IsDone x s) → (is_prompt ≡ true → Grows places advanced old new (IsDonePromptly x s)) → Takes moment places advanced is_prompt old new a b (x ∷ []) s t
+  pub takes_both : (old new : Option (List WorldEvent)) (a b : Option ℕ) (x : Step) (s t : SenderData) → t ≡ after_step moment x s → IsAllowed x s → b ≡ calls_by x a → Grows kind old new (IsDone x s) → (kind.prompt ≡ true → Grows kind old new (IsDonePromptly x s)) → Takes moment kind old new a b (x ∷ []) s t
   takes_both old new a b x s t after may called grew promptly =
-      takes_one old new a b x s t after may called (grows_both places advanced old new (is_prompt ≡ true) (IsDone x s) (IsDonePromptly x s) grew promptly)
+      takes_one old new a b x s t after may called (grows_both kind old new (kind.prompt ≡ true) (IsDone x s) (IsDonePromptly x s) grew promptly)
 
   -- the same steps under equal names
-  pub takes_as : (old new : Option (List WorldEvent)) (a b : Option ℕ) (xs ys : List Step) (s t : SenderData) → xs ≡ ys → Takes moment places advanced is_prompt old new a b xs s t → Takes moment places advanced is_prompt old new a b ys s t
+  pub takes_as : (old new : Option (List WorldEvent)) (a b : Option ℕ) (xs ys : List Step) (s t : SenderData) → xs ≡ ys → Takes moment kind old new a b xs s t → Takes moment kind old new a b ys s t
   takes_as old new a b xs ys s t same takes =
-      let P : List Step → Type 0 = λ zs. Takes moment places advanced is_prompt old new a b zs s t in
+      let P : List Step → Type 0 = λ zs. Takes moment kind old new a b zs s t in
       subst P same takes
 
 -- issued texts add nothing
@@ -132,22 +135,20 @@ calls_issuing : (texts : List (List ℕ)) (a : Option ℕ) → calls_after (issu
 calls_issuing [] a = refl
 calls_issuing (text ∷ texts) a = calls_issuing texts a
 
-pub takes_issuing : (moment places : ℕ) (advanced is_prompt : Bool) (old : Option (List WorldEvent)) (a : Option ℕ) (texts : List (List ℕ)) (s t : SenderData) → Issues moment texts s t → Takes moment places advanced is_prompt old old a a (issuing texts) s t
-takes_issuing moment places advanced is_prompt old a texts s t issued_all = record {
+pub takes_issuing : (moment : ℕ) (kind : LinkKind) (old : Option (List WorldEvent)) (a : Option ℕ) (texts : List (List ℕ)) (s t : SenderData) → Issues moment texts s t → Takes moment kind old old a a (issuing texts) s t
+takes_issuing moment kind old a texts s t issued_all = record {
   sender = issued_all.sender;
   allowed = issued_all.allowed;
-  past = became_same old (λ past added. AreAdded moment is_prompt (issuing texts) s (world_of places advanced past) added)
-      (λ past. added_issuing moment is_prompt texts s (world_of places advanced past));
+  past = recorded_same old (λ past added. AreAdded moment kind.prompt (issuing texts) s (world_in kind past) added)
+      (λ past. added_issuing moment kind.prompt texts s (world_in kind past));
   calls = sym (calls_issuing texts a);
 }
 
 -- a printer of the same places
-pub takes_at : (moment places places' : ℕ) (advanced advanced' is_prompt is_prompt' : Bool) (old new : Option (List WorldEvent)) (a b : Option ℕ) (xs : List Step) (s t : SenderData) → places' ≡ places → advanced' ≡ advanced → is_prompt' ≡ is_prompt → Takes moment places' advanced' is_prompt' old new a b xs s t → Takes moment places advanced is_prompt old new a b xs s t
-takes_at moment places places' advanced advanced' is_prompt is_prompt' old new a b xs s t same_places same_advanced same_prompt takes =
-    let P : ℕ → Type 0 = λ p. Takes moment p advanced' is_prompt' old new a b xs s t in
-    let Q : Bool → Type 0 = λ x. Takes moment places x is_prompt' old new a b xs s t in
-    let R : Bool → Type 0 = λ x. Takes moment places advanced x old new a b xs s t in
-    subst R same_prompt (subst Q same_advanced (subst P same_places takes))
+pub takes_at : (moment : ℕ) (kind kind' : LinkKind) (old new : Option (List WorldEvent)) (a b : Option ℕ) (xs : List Step) (s t : SenderData) → kind' ≡ kind → Takes moment kind' old new a b xs s t → Takes moment kind old new a b xs s t
+takes_at moment kind kind' old new a b xs s t same takes =
+    let P : LinkKind → Type 0 = λ k. Takes moment k old new a b xs s t in
+    subst P same takes
 
 -- one more of the same
 pub replicate-push : (count : ℕ) → replicate count gives ++ gives ∷ [] ≡ replicate (suc count) gives
@@ -155,38 +156,38 @@ replicate-push zero = refl
 replicate-push (suc count) = ap (λ (xs : List Step). gives ∷ xs) (replicate-push count)
 
 -- further frames behind some
-pub takes_more : (moment places : ℕ) (advanced is_prompt : Bool) (old mid new : Option (List WorldEvent)) (a b c : Option ℕ) (s t u : SenderData) → TakesSome moment places advanced is_prompt old mid a b (sends true) s t → Takes moment places advanced is_prompt mid new b c (gives ∷ []) t u → TakesSome moment places advanced is_prompt old new a c (sends true) s u
-takes_more moment places advanced is_prompt old mid new a b c s t u some one = record {
+pub takes_more : (moment : ℕ) (kind : LinkKind) (old mid new : Option (List WorldEvent)) (a b c : Option ℕ) (s t u : SenderData) → TakesSome moment kind old mid a b (sends true) s t → Takes moment kind mid new b c (gives ∷ []) t u → TakesSome moment kind old new a c (sends true) s u
+takes_more moment kind old mid new a b c s t u some one = record {
   count = suc some.count;
-  takes = takes_as moment places advanced is_prompt old new a c _ _ s u (replicate-push some.count) (takes_then moment places advanced is_prompt old mid new a b c _ (gives ∷ []) s t u some.takes one);
+  takes = takes_as moment kind old new a c _ _ s u (replicate-push some.count) (takes_then moment kind old mid new a b c _ (gives ∷ []) s t u some.takes one);
 }
 
 -- the last one's sending fails
-pub takes_last : (moment places : ℕ) (advanced is_prompt : Bool) (old mid new : Option (List WorldEvent)) (a b c : Option ℕ) (s t u : SenderData) → TakesSome moment places advanced is_prompt old mid a b (sends true) s t → Takes moment places advanced is_prompt mid new b c (fails_to_send ∷ []) t u → TakesSome moment places advanced is_prompt old new a c (sends false) s u
-takes_last moment places advanced is_prompt old mid new a b c s t u some one = record {
+pub takes_last : (moment : ℕ) (kind : LinkKind) (old mid new : Option (List WorldEvent)) (a b c : Option ℕ) (s t u : SenderData) → TakesSome moment kind old mid a b (sends true) s t → Takes moment kind mid new b c (fails_to_send ∷ []) t u → TakesSome moment kind old new a c (sends false) s u
+takes_last moment kind old mid new a b c s t u some one = record {
   count = some.count;
-  takes = takes_then moment places advanced is_prompt old mid new a b c _ (fails_to_send ∷ []) s t u some.takes one;
+  takes = takes_then moment kind old mid new a b c _ (fails_to_send ∷ []) s t u some.takes one;
 }
 
 -- texts are issued, and then frames sent
-pub takes_said : (moment places : ℕ) (advanced is_prompt : Bool) (old new : Option (List WorldEvent)) (a b : Option ℕ) (all : Bool) (texts : List (List ℕ)) (s t u : SenderData) → Issues moment texts s t → TakesSome moment places advanced is_prompt old new a b (sends all) t u → TakesSome moment places advanced is_prompt old new a b (speech all texts) s u
-takes_said moment places advanced is_prompt old new a b all texts s t u issued_all some = record {
+pub takes_said : (moment : ℕ) (kind : LinkKind) (old new : Option (List WorldEvent)) (a b : Option ℕ) (all : Bool) (texts : List (List ℕ)) (s t u : SenderData) → Issues moment texts s t → TakesSome moment kind old new a b (sends all) t u → TakesSome moment kind old new a b (speech all texts) s u
+takes_said moment kind old new a b all texts s t u issued_all some = record {
   count = some.count;
-  takes = takes_then moment places advanced is_prompt old old new a a b (issuing texts) (sends all some.count) s t u
-      (takes_issuing moment places advanced is_prompt old a texts s t issued_all) some.takes;
+  takes = takes_then moment kind old old new a a b (issuing texts) (sends all some.count) s t u
+      (takes_issuing moment kind old a texts s t issued_all) some.takes;
 }
 
 -- a receiving that didn't fail, and then the rest of the turn
-pub takes_talk : (moment places places' : ℕ) (advanced advanced' is_prompt is_prompt' : Bool) (old mid new : Option (List WorldEvent)) (a b c : Option ℕ) (got : Got) (found : LinkFact) (texts : List (List ℕ)) (s t u : SenderData) → is_got got ≡ true → places' ≡ places → advanced' ≡ advanced → is_prompt' ≡ is_prompt → Takes moment places advanced is_prompt old mid a b (received_by got) s t → TakesSome moment places' advanced' is_prompt' mid new b c (clock_steps found texts) t u → TakesSome moment places advanced is_prompt old new a c (talk_steps got found texts) s u
-takes_talk moment places places' advanced advanced' is_prompt is_prompt' old mid new a b c unasked found texts s t u is p v q first some = absurd (cc is)
-takes_talk moment places places' advanced advanced' is_prompt is_prompt' old mid new a b c lost found texts s t u is p v q first some = absurd (cc is)
-takes_talk moment places places' advanced advanced' is_prompt is_prompt' old mid new a b c nothing found texts s t u is p v q first some = record {
+pub takes_talk : (moment : ℕ) (kind kind' : LinkKind) (old mid new : Option (List WorldEvent)) (a b c : Option ℕ) (got : Got) (found : LinkFact) (texts : List (List ℕ)) (s t u : SenderData) → is_got got ≡ true → kind' ≡ kind → Takes moment kind old mid a b (received_by got) s t → TakesSome moment kind' mid new b c (clock_steps found texts) t u → TakesSome moment kind old new a c (talk_steps got found texts) s u
+takes_talk moment kind kind' old mid new a b c unasked found texts s t u is same first some = absurd (cc is)
+takes_talk moment kind kind' old mid new a b c lost found texts s t u is same first some = absurd (cc is)
+takes_talk moment kind kind' old mid new a b c nothing found texts s t u is same first some = record {
   count = some.count;
-  takes = takes_then moment places advanced is_prompt old mid new a b c (listens ∷ []) (clock_steps found texts some.count) s t u first (takes_at moment places places' advanced advanced' is_prompt is_prompt' mid new b c _ t u p v q some.takes);
+  takes = takes_then moment kind old mid new a b c (listens ∷ []) (clock_steps found texts some.count) s t u first (takes_at moment kind kind' mid new b c _ t u same some.takes);
 }
-takes_talk moment places places' advanced advanced' is_prompt is_prompt' old mid new a b c (whole bytes) found texts s t u is p v q first some = record {
+takes_talk moment kind kind' old mid new a b c (whole bytes) found texts s t u is same first some = record {
   count = some.count;
-  takes = takes_then moment places advanced is_prompt old mid new a b c (hears bytes ∷ []) (clock_steps found texts some.count) s t u first (takes_at moment places places' advanced advanced' is_prompt is_prompt' mid new b c _ t u p v q some.takes);
+  takes = takes_then moment kind old mid new a b c (hears bytes ∷ []) (clock_steps found texts some.count) s t u first (takes_at moment kind kind' mid new b c _ t u same some.takes);
 }
 
 -- how the session ends by what was received
@@ -204,22 +205,22 @@ got_some received.Nothing bytes asked not_lost = refl
 got_some (received.Line temps) bytes asked not_lost = refl
 
 -- a turn that does nothing
-pub takes_rest : (moment places : ℕ) (advanced is_prompt : Bool) (old : Option (List WorldEvent)) (a : Option ℕ) (doing_now : Doing) (was_up : Bool) (got : Got) (found : LinkFact) (texts : List (List ℕ)) (s : SenderData) → doing_now ≡ Resting → TakesSome moment places advanced is_prompt old old a a (turn_steps doing_now was_up got found texts) s s
-takes_rest moment places advanced is_prompt old a doing_now was_up got found texts s rests =
-    let P : Doing → Type 0 = λ d. TakesSome moment places advanced is_prompt old old a a (turn_steps d was_up got found texts) s s in
-    subst P (sym rests) (record { count = 0; takes = takes_none moment places advanced is_prompt old a s })
+pub takes_rest : (moment : ℕ) (kind : LinkKind) (old : Option (List WorldEvent)) (a : Option ℕ) (doing_now : Doing) (was_up : Bool) (got : Got) (found : LinkFact) (texts : List (List ℕ)) (s : SenderData) → doing_now ≡ Resting → TakesSome moment kind old old a a (turn_steps doing_now was_up got found texts) s s
+takes_rest moment kind old a doing_now was_up got found texts s rests =
+    let P : Doing → Type 0 = λ d. TakesSome moment kind old old a a (turn_steps d was_up got found texts) s s in
+    subst P (sym rests) (record { count = 0; takes = takes_none moment kind old a s })
 
 -- what was written is sent
-pub record Gives (places : ℕ) (advanced is_prompt : Bool) (old new : Option (List WorldEvent)) (next : Option Outgoing) : Type 0 where
+pub record Gives (kind : LinkKind) (old new : Option (List WorldEvent)) (next : Option Outgoing) : Type 0 where
   pub there : is_some next ≡ true
-  pub grew : Grows places advanced old new (λ w added. IsGiven next w added)
-  pub promptly : is_prompt ≡ true → Grows places advanced old new (λ w added. IsGivenAlone next added)
+  pub grew : Grows kind old new (λ w added. IsGiven next w added)
+  pub promptly : kind.prompt ≡ true → Grows kind old new (λ w added. IsGivenAlone next added)
 
-pub gives_written : (places : ℕ) (advanced is_prompt : Bool) (old new : Option (List WorldEvent)) (next : Option Outgoing) (number : ℕ) (bytes : List ℕ) → Some number ≡ option_map number_of_outgoing next → IfSome next (λ o. bytes ≡ bytes_of_outgoing o) → Grows places advanced old new (IsSend bytes) → (is_prompt ≡ true → Grows places advanced old new (λ w added. (sent : WorldEvent) × (added ≡ sent ∷ []) × IsSendOf bytes sent)) → Gives places advanced is_prompt old new next
-gives_written places advanced is_prompt old new None number bytes some written grew promptly = absurd (cc some)
-gives_written places advanced is_prompt old new (Some next) number bytes some written grew promptly =
-    let P : List ℕ → Type 0 = λ b. Grows places advanced old new (IsSend b) in
-    let Q : List ℕ → Type 0 = λ b. Grows places advanced old new (λ w added. (sent : WorldEvent) × (added ≡ sent ∷ []) × IsSendOf b sent) in
+pub gives_written : (kind : LinkKind) (old new : Option (List WorldEvent)) (next : Option Outgoing) (number : ℕ) (bytes : List ℕ) → Some number ≡ option_map number_of_outgoing next → IfSome next (λ o. bytes ≡ bytes_of_outgoing o) → Grows kind old new (IsSend bytes) → (kind.prompt ≡ true → Grows kind old new (λ w added. (sent : WorldEvent) × (added ≡ sent ∷ []) × IsSendOf bytes sent)) → Gives kind old new next
+gives_written kind old new None number bytes some written grew promptly = absurd (cc some)
+gives_written kind old new (Some next) number bytes some written grew promptly =
+    let P : List ℕ → Type 0 = λ b. Grows kind old new (IsSend b) in
+    let Q : List ℕ → Type 0 = λ b. Grows kind old new (λ w added. (sent : WorldEvent) × (added ≡ sent ∷ []) × IsSendOf b sent) in
     record { there = refl; grew = subst P written grew; promptly = λ is. subst Q written (promptly is) }
 
 -- how the count of calls rises

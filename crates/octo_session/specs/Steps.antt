@@ -8,7 +8,7 @@ use Rattle.send_window.specs.Data.{SenderData, begun}
 use Rattle.send_window.specs.Sending.{Outgoing, bytes_of_outgoing, next_of, room_of, frame_step, push_step}
 use Rattle.send_window.specs.Hearing.{hear_step, tick_step}
 use Rattle.printer_model.specs.World.{WorldData, world_from}
-use Rattle.printer_link.specs.Link.{Grows, IsDial, IsRuns, IsSend, IsSendOf, IsSendLoss, IsHeard, IsSilence, IsLoss, IsHangUp, counted_one, dial_events, recv_events}
+use Rattle.printer_link.specs.Link.{LinkKind, Grows, IsDial, IsRuns, IsSend, IsSendOf, IsSendLoss, IsHeard, IsSilence, IsLoss, IsHangUp, counted_one, dial_events, recv_events}
 use Rattle.printer_model.specs.declared.event.WorldEvent.{WorldEvent}
 use Rattle.octo_session.specs.declared.talk.Gave.{Gave}
 use Rattle.octo_session.specs.declared.talk.Gave.TheVariants as gave
@@ -158,10 +158,10 @@ pub record Issues (moment : ℕ) (texts : List (List ℕ)) (old new : SenderData
   pub allowed : AreAllowed moment (issuing texts) old
 
 -- a sender and a link take these steps
-pub record Takes (moment : ℕ) (places : ℕ) (advanced is_prompt : Bool) (old_past new_past : Option (List WorldEvent)) (old_calls new_calls : Option ℕ) (steps : List Step) (old new : SenderData) : Type 0 where
+pub record Takes (moment : ℕ) (kind : LinkKind) (old_past new_past : Option (List WorldEvent)) (old_calls new_calls : Option ℕ) (steps : List Step) (old new : SenderData) : Type 0 where
   pub sender : new ≡ after_steps moment steps old
   pub allowed : AreAllowed moment steps old
-  pub past : Grows places advanced old_past new_past (AreAdded moment is_prompt steps old)
+  pub past : Grows kind old_past new_past (AreAdded moment kind.prompt steps old)
   pub calls : new_calls ≡ calls_after steps old_calls
 
 -- the step of a receiving
@@ -227,6 +227,6 @@ turn_steps Talking was_up got found texts count = talk_steps got found texts cou
 turn_steps Resting was_up got found texts count = []
 
 -- the sender and the link take these steps, with some count of frames
-pub record TakesSome (moment : ℕ) (places : ℕ) (advanced is_prompt : Bool) (old_past new_past : Option (List WorldEvent)) (old_calls new_calls : Option ℕ) (steps : ℕ → List Step) (old new : SenderData) : Type 0 where
+pub record TakesSome (moment : ℕ) (kind : LinkKind) (old_past new_past : Option (List WorldEvent)) (old_calls new_calls : Option ℕ) (steps : ℕ → List Step) (old new : SenderData) : Type 0 where
   pub count : ℕ
-  pub takes : Takes moment places advanced is_prompt old_past new_past old_calls new_calls (steps count) old new
+  pub takes : Takes moment kind old_past new_past old_calls new_calls (steps count) old new

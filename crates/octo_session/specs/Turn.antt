@@ -13,6 +13,7 @@ use Rattle.send_window.specs.Data.{SenderData}
 use Rattle.send_window.specs.Sending.{next_of, room_of}
 use Rattle.octo_session.specs.Data.{SessionData, doing}
 use Rattle.octo_session.specs.DeskTurn.{IsNoted}
+use Rattle.printer_link.specs.Link.{LinkKind}
 use Rattle.octo_session.specs.Found.{Got, unasked, is_whole, temps_in, temps_kept, end_by}
 use Rattle.octo_session.specs.Steps.{TakesSome, turn_steps}
 use Rattle.octo_session.specs.declared.found.Doing.{Doing}
@@ -84,7 +85,7 @@ IsDeskTurn Talking moment acked found lines old ending new = IsNoted moment acke
 IsDeskTurn Resting moment acked found lines old ending new = (lines ≡ []) × (ending ≡ None) × (new ≡ old)
 
 -- what a turn received, found and issued, with all that hangs on it
-pub record IsTurn (moment : ℕ) (places : ℕ) (advanced is_prompt : Bool) (old_past new_past : Option (List WorldEvent)) (old_calls new_calls : Option ℕ) (old new : SessionData) (turned : Turned) : Type 0 where
+pub record IsTurn (moment : ℕ) (kind : LinkKind) (old_past new_past : Option (List WorldEvent)) (old_calls new_calls : Option ℕ) (old new : SessionData) (turned : Turned) : Type 0 where
   pub got : Got
   pub found : LinkFact
   pub lines : List Line
@@ -97,4 +98,4 @@ pub record IsTurn (moment : ℕ) (places : ℕ) (advanced is_prompt : Bool) (old
   -- the session ends exactly where a receiving that didn't fail and the moment end it
   pub ended : (end : SessionEnd) → (found ≡ fact.Ended end) ↔ (end_by got moment old.sender ≡ Some end)
   pub desk : IsDeskTurn (doing old) moment new.sender.acked found lines old.desk turned.ending new.desk
-  pub steps : TakesSome moment places advanced is_prompt old_past new_past old_calls new_calls (turn_steps (doing old) old.up got found (texts_in lines)) old.sender new.sender
+  pub steps : TakesSome moment kind old_past new_past old_calls new_calls (turn_steps (doing old) old.up got found (texts_in lines)) old.sender new.sender

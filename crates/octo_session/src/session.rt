@@ -52,19 +52,15 @@ impl Model for Session {
 // Dials the port of the desk.
 fn dial_port<L: Link>(desk: &Desk, link: &mut L) -> Result<(), LinkFault>
     requires { L.up link.old ≡ false }
-    ensures past { OnOk result (Grows (L.places link.old) (L.advanced link.old) (L.past link.old) (L.past link.new) IsDial) }
-    ensures past_no_port { IsErrOf result fault.NoPort → Grows (L.places link.old) (L.advanced link.old) (L.past link.old) (L.past link.new) IsNothing }
-    ensures past_prompt { L.prompt link.old ≡ true → OnOk result (Grows (L.places link.old) (L.advanced link.old) (L.past link.old) (L.past link.new) (λ w added. (last : ℕ) × (added ≡ dial_events w last))) }
-    ensures past_failed { IsErrOf result fault.Failed → Grows (L.places link.old) (L.advanced link.old) (L.past link.old) (L.past link.new) IsRuns }
-    ensures no_port { IsErrOf result fault.NoPort ↔ (L.listed link.old (port_of desk.now) ≡ false) }
+    ensures past { OnOk result (Grows (L.kind link.old) (L.past link.old) (L.past link.new) IsDial) }
+    ensures past_no_port { IsErrOf result fault.NoPort → Grows (L.kind link.old) (L.past link.old) (L.past link.new) IsNothing }
+    ensures past_prompt { (L.kind link.old).prompt ≡ true → OnOk result (Grows (L.kind link.old) (L.past link.old) (L.past link.new) (λ w added. (last : ℕ) × (added ≡ dial_events w last))) }
+    ensures past_failed { IsErrOf result fault.Failed → Grows (L.kind link.old) (L.past link.old) (L.past link.new) IsRuns }
+    ensures no_port { IsErrOf result fault.NoPort ↔ ((L.kind link.old).listed (port_of desk.now) ≡ false) }
     ensures calls { L.calls link.new ≡ counted_one (L.calls link.old) }
     ensures up { OnOk result (L.up link.new ≡ true) }
     ensures down { OnErr result (L.up link.new ≡ false) }
-    ensures told { is_some (L.past link.new) ≡ is_some (L.past link.old) }
-    ensures places { L.places link.new ≡ L.places link.old }
-    ensures advanced { L.advanced link.new ≡ L.advanced link.old }
-    ensures listed { L.listed link.new ≡ L.listed link.old }
-    ensures prompt { L.prompt link.new ≡ L.prompt link.old }
+    ensures kind { L.kind link.new ≡ L.kind link.old }
     ensures counted { L.faults link.old ≤ L.faults link.new }
     ensures failed { IsErrOf result fault.Failed → Rose (L.faults link.old) (L.faults link.new) }
 {
@@ -152,14 +148,10 @@ impl Session {
         ensures joined { IsSession self.new }
         ensures up { self.new.up ≡ up_after result.fact false }
         ensures link { L.up link.new ≡ self.new.up }
-        ensures no_port { (result.fact ≡ fact.NoPort) ↔ (L.listed link.old (port_of self.old.desk) ≡ false) }
+        ensures no_port { (result.fact ≡ fact.NoPort) ↔ ((L.kind link.old).listed (port_of self.old.desk) ≡ false) }
         ensures ready { self.new.sender.ready ≡ true → self.old.sender.ready ≡ true }
-        ensures steps { Takes moment (L.places link.old) (L.advanced link.old) (L.prompt link.old) (L.past link.old) (L.past link.new) (L.calls link.old) (L.calls link.new) (dial_steps result.fact) self.old.sender self.new.sender }
-        ensures told { is_some (L.past link.new) ≡ is_some (L.past link.old) }
-        ensures places { L.places link.new ≡ L.places link.old }
-        ensures advanced { L.advanced link.new ≡ L.advanced link.old }
-        ensures listed { L.listed link.new ≡ L.listed link.old }
-        ensures prompt { L.prompt link.new ≡ L.prompt link.old }
+        ensures steps { Takes moment (L.kind link.old) (L.past link.old) (L.past link.new) (L.calls link.old) (L.calls link.new) (dial_steps result.fact) self.old.sender self.new.sender }
+        ensures kind { L.kind link.new ≡ L.kind link.old }
         ensures counted { L.faults link.old ≤ L.faults link.new }
         ensures failed { result.fact ≡ fact.Failed → Rose (L.faults link.old) (L.faults link.new) }
     {
@@ -189,12 +181,8 @@ impl Session {
         ensures up { self.new.up ≡ false }
         ensures link { L.up link.new ≡ false }
         ensures sender { self.new.sender ≡ self.old.sender }
-        ensures steps { Takes moment (L.places link.old) (L.advanced link.old) (L.prompt link.old) (L.past link.old) (L.past link.new) (L.calls link.old) (L.calls link.new) (hangs_up self.old.up ∷ []) self.old.sender self.new.sender }
-        ensures told { is_some (L.past link.new) ≡ is_some (L.past link.old) }
-        ensures places { L.places link.new ≡ L.places link.old }
-        ensures advanced { L.advanced link.new ≡ L.advanced link.old }
-        ensures listed { L.listed link.new ≡ L.listed link.old }
-        ensures prompt { L.prompt link.new ≡ L.prompt link.old }
+        ensures steps { Takes moment (L.kind link.old) (L.past link.old) (L.past link.new) (L.calls link.old) (L.calls link.new) (hangs_up self.old.up ∷ []) self.old.sender self.new.sender }
+        ensures kind { L.kind link.new ≡ L.kind link.old }
         ensures counted { L.faults link.old ≤ L.faults link.new }
     {
         link.hang_up();
@@ -221,12 +209,8 @@ impl Session {
         ensures joined { IsSession self.new }
         ensures up { self.new.up ≡ up_after result.fact true }
         ensures link { L.up link.new ≡ self.new.up }
-        ensures steps { TakesSome moment (L.places link.old) (L.advanced link.old) (L.prompt link.old) (L.past link.old) (L.past link.new) (L.calls link.old) (L.calls link.new) (talk_steps (got_of result.received line.new.items) result.fact (texts_in (map line_of result.issued.items))) self.old.sender self.new.sender }
-        ensures told { is_some (L.past link.new) ≡ is_some (L.past link.old) }
-        ensures places { L.places link.new ≡ L.places link.old }
-        ensures advanced { L.advanced link.new ≡ L.advanced link.old }
-        ensures listed { L.listed link.new ≡ L.listed link.old }
-        ensures prompt { L.prompt link.new ≡ L.prompt link.old }
+        ensures steps { TakesSome moment (L.kind link.old) (L.past link.old) (L.past link.new) (L.calls link.old) (L.calls link.new) (talk_steps (got_of result.received line.new.items) result.fact (texts_in (map line_of result.issued.items))) self.old.sender self.new.sender }
+        ensures kind { L.kind link.new ≡ L.kind link.old }
         ensures counted { L.faults link.old ≤ L.faults link.new }
         ensures failed { result.fact ≡ fact.Failed → Rose (L.faults link.old) (L.faults link.new) }
     {
@@ -254,13 +238,9 @@ impl Session {
         ensures up { self.new.up ≡ up_after result.fact self.old.up }
         ensures link { L.up link.new ≡ self.new.up }
         ensures greatest { self.new.desk.greatest ≡ self.old.desk.greatest }
-        ensures no_port { (result.fact ≡ fact.NoPort) ↔ ((doing self.old ≡ now_doing.Dialling) × (L.listed link.old (port_of self.old.desk) ≡ false)) }
-        ensures steps { TakesSome moment (L.places link.old) (L.advanced link.old) (L.prompt link.old) (L.past link.old) (L.past link.new) (L.calls link.old) (L.calls link.new) (turn_steps (doing self.old) self.old.up (got_of result.received line.new.items) result.fact (texts_in (map line_of result.issued.items))) self.old.sender self.new.sender }
-        ensures told { is_some (L.past link.new) ≡ is_some (L.past link.old) }
-        ensures places { L.places link.new ≡ L.places link.old }
-        ensures advanced { L.advanced link.new ≡ L.advanced link.old }
-        ensures listed { L.listed link.new ≡ L.listed link.old }
-        ensures prompt { L.prompt link.new ≡ L.prompt link.old }
+        ensures no_port { (result.fact ≡ fact.NoPort) ↔ ((doing self.old ≡ now_doing.Dialling) × ((L.kind link.old).listed (port_of self.old.desk) ≡ false)) }
+        ensures steps { TakesSome moment (L.kind link.old) (L.past link.old) (L.past link.new) (L.calls link.old) (L.calls link.new) (turn_steps (doing self.old) self.old.up (got_of result.received line.new.items) result.fact (texts_in (map line_of result.issued.items))) self.old.sender self.new.sender }
+        ensures kind { L.kind link.new ≡ L.kind link.old }
         ensures counted { L.faults link.old ≤ L.faults link.new }
         ensures calls { is_calling (doing self.old) ≡ true → RoseBy 1 (L.calls link.old) (L.calls link.new) }
         ensures failed { result.fact ≡ fact.Failed → Rose (L.faults link.old) (L.faults link.new) }
@@ -285,22 +265,18 @@ impl Session {
     /// memory.
     pub fn turn<L: Link>(&mut self, link: &mut L, moment: u64) -> Turned
         requires { L.up link.old ≡ self.old.up }
-        ensures turn { IsTurn moment (L.places link.old) (L.advanced link.old) (L.prompt link.old) (L.past link.old) (L.past link.new) (L.calls link.old) (L.calls link.new) self.old self.new result }
+        ensures turn { IsTurn moment (L.kind link.old) (L.past link.old) (L.past link.new) (L.calls link.old) (L.calls link.new) self.old self.new result }
         ensures finds { can_find (doing self.old) (fact_of result.note) ≡ true }
         ensures up { self.new.up ≡ up_after (fact_of result.note) self.old.up }
         ensures link { L.up link.new ≡ self.new.up }
-        ensures no_port { (fact_of result.note ≡ fact.NoPort) ↔ ((doing self.old ≡ now_doing.Dialling) × (L.listed link.old (port_of self.old.desk) ≡ false)) }
+        ensures no_port { (fact_of result.note ≡ fact.NoPort) ↔ ((doing self.old ≡ now_doing.Dialling) × ((L.kind link.old).listed (port_of self.old.desk) ≡ false)) }
         ensures ready { (fact_of result.note ≡ fact.Ready) ↔ ((self.old.sender.ready ≡ false) × (self.new.sender.ready ≡ true)) }
         ensures silent { fact_of result.note ≡ fact.Ready → lines_of result.note ≡ [] }
         ensures sent { fact_of result.note ≡ fact.Ready → next_of self.new.sender ≡ None }
         ensures spent { self.new.up ≡ true → fact_of result.note ≡ fact.Quiet → IsSpent moment self.new.desk self.new.sender }
         ensures greatest { self.new.desk.greatest ≡ self.old.desk.greatest }
         ensures joined { IsSession self.new }
-        ensures told { is_some (L.past link.new) ≡ is_some (L.past link.old) }
-        ensures places { L.places link.new ≡ L.places link.old }
-        ensures advanced { L.advanced link.new ≡ L.advanced link.old }
-        ensures listed { L.listed link.new ≡ L.listed link.old }
-        ensures prompt { L.prompt link.new ≡ L.prompt link.old }
+        ensures kind { L.kind link.new ≡ L.kind link.old }
         ensures counted { L.faults link.old ≤ L.faults link.new }
         ensures calls { is_calling (doing self.old) ≡ true → RoseBy 1 (L.calls link.old) (L.calls link.new) }
         ensures failed { fact_of result.note ≡ fact.Failed → Rose (L.faults link.old) (L.faults link.new) }

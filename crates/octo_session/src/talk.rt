@@ -53,15 +53,11 @@ fn receive<L: Link>(
     line: &mut ReplyLine,
 ) -> Received
     requires { L.up link.old ≡ true }
-    ensures steps { Takes moment (L.places link.old) (L.advanced link.old) (L.prompt link.old) (L.past link.old) (L.past link.new) (L.calls link.old) (L.calls link.new) (received_by (got_of result line.new.items)) sender.old sender.new }
+    ensures steps { Takes moment (L.kind link.old) (L.past link.old) (L.past link.new) (L.calls link.old) (L.calls link.new) (received_by (got_of result line.new.items)) sender.old sender.new }
     ensures asked { got_of result line.new.items ≢ unasked }
     ensures temps { temps_kept result ≡ temps_in (got_of result line.new.items) }
     ensures up { L.up link.new ≡ is_got (got_of result line.new.items) }
-    ensures told { is_some (L.past link.new) ≡ is_some (L.past link.old) }
-    ensures places { L.places link.new ≡ L.places link.old }
-    ensures advanced { L.advanced link.new ≡ L.advanced link.old }
-    ensures listed { L.listed link.new ≡ L.listed link.old }
-    ensures prompt { L.prompt link.new ≡ L.prompt link.old }
+    ensures kind { L.kind link.new ≡ L.kind link.old }
     ensures counted { L.faults link.old ≤ L.faults link.new }
     ensures failed { is_got (got_of result line.new.items) ≡ false → Rose (L.faults link.old) (L.faults link.new) }
 {
@@ -128,14 +124,10 @@ fn pull_all(desk: &mut Desk, sender: &mut Sender, moment: u64) -> ArrayVec<Issue
 // Sends the next frame, where there is one.
 fn send_one<L: Link>(sender: &mut Sender, link: &mut L, moment: u64) -> Gave
     requires { L.up link.old ≡ true }
-    ensures steps { Takes moment (L.places link.old) (L.advanced link.old) (L.prompt link.old) (L.past link.old) (L.past link.new) (L.calls link.old) (L.calls link.new) (given_by result) sender.old sender.new }
+    ensures steps { Takes moment (L.kind link.old) (L.past link.old) (L.past link.new) (L.calls link.old) (L.calls link.new) (given_by result) sender.old sender.new }
     ensures nothing { (result ≡ gave.Nothing) ↔ (next_of sender.old ≡ None) }
     ensures up { L.up link.new ≡ is_up_by result }
-    ensures told { is_some (L.past link.new) ≡ is_some (L.past link.old) }
-    ensures places { L.places link.new ≡ L.places link.old }
-    ensures advanced { L.advanced link.new ≡ L.advanced link.old }
-    ensures listed { L.listed link.new ≡ L.listed link.old }
-    ensures prompt { L.prompt link.new ≡ L.prompt link.old }
+    ensures kind { L.kind link.new ≡ L.kind link.old }
     ensures counted { L.faults link.old ≤ L.faults link.new }
     ensures failed { is_up_by result ≡ false → Rose (L.faults link.old) (L.faults link.new) }
 {
@@ -152,14 +144,10 @@ fn send_one<L: Link>(sender: &mut Sender, link: &mut L, moment: u64) -> Gave
 // Sends every frame, and answers whether no sending failed.
 fn send_all<L: Link>(sender: &mut Sender, link: &mut L, moment: u64) -> bool
     requires { L.up link.old ≡ true }
-    ensures steps { TakesSome moment (L.places link.old) (L.advanced link.old) (L.prompt link.old) (L.past link.old) (L.past link.new) (L.calls link.old) (L.calls link.new) (sends result) sender.old sender.new }
+    ensures steps { TakesSome moment (L.kind link.old) (L.past link.old) (L.past link.new) (L.calls link.old) (L.calls link.new) (sends result) sender.old sender.new }
     ensures sent { result ≡ true → next_of sender.new ≡ None }
     ensures up { L.up link.new ≡ result }
-    ensures told { is_some (L.past link.new) ≡ is_some (L.past link.old) }
-    ensures places { L.places link.new ≡ L.places link.old }
-    ensures advanced { L.advanced link.new ≡ L.advanced link.old }
-    ensures listed { L.listed link.new ≡ L.listed link.old }
-    ensures prompt { L.prompt link.new ≡ L.prompt link.old }
+    ensures kind { L.kind link.new ≡ L.kind link.old }
     ensures counted { L.faults link.old ≤ L.faults link.new }
     ensures failed { result ≡ false → Rose (L.faults link.old) (L.faults link.new) }
 {
@@ -203,13 +191,9 @@ fn speak<L: Link>(
     ensures spent { result.fact ≡ fact.Quiet → IsSpent moment desk.new sender.new }
     ensures joined { IsJoined desk.new sender.new (up_after result.fact true) }
     ensures ready { sender.new.ready ≡ sender.old.ready }
-    ensures steps { TakesSome moment (L.places link.old) (L.advanced link.old) (L.prompt link.old) (L.past link.old) (L.past link.new) (L.calls link.old) (L.calls link.new) (speech (is_unbroken result.fact) (texts_in (map line_of result.issued.items))) sender.old sender.new }
+    ensures steps { TakesSome moment (L.kind link.old) (L.past link.old) (L.past link.new) (L.calls link.old) (L.calls link.new) (speech (is_unbroken result.fact) (texts_in (map line_of result.issued.items))) sender.old sender.new }
     ensures up { L.up link.new ≡ up_after result.fact true }
-    ensures told { is_some (L.past link.new) ≡ is_some (L.past link.old) }
-    ensures places { L.places link.new ≡ L.places link.old }
-    ensures advanced { L.advanced link.new ≡ L.advanced link.old }
-    ensures listed { L.listed link.new ≡ L.listed link.old }
-    ensures prompt { L.prompt link.new ≡ L.prompt link.old }
+    ensures kind { L.kind link.new ≡ L.kind link.old }
     ensures counted { L.faults link.old ≤ L.faults link.new }
     ensures failed { result.fact ≡ fact.Failed → Rose (L.faults link.old) (L.faults link.new) }
 {
@@ -257,13 +241,9 @@ fn proceed<L: Link>(
     ensures sent { result.fact ≡ fact.Ready → next_of sender.new ≡ None }
     ensures spent { result.fact ≡ fact.Quiet → IsSpent moment desk.new sender.new }
     ensures joined { IsJoined desk.new sender.new (up_after result.fact true) }
-    ensures steps { TakesSome moment (L.places link.old) (L.advanced link.old) (L.prompt link.old) (L.past link.old) (L.past link.new) (L.calls link.old) (L.calls link.new) (clock_steps result.fact (texts_in (map line_of result.issued.items))) sender.old sender.new }
+    ensures steps { TakesSome moment (L.kind link.old) (L.past link.old) (L.past link.new) (L.calls link.old) (L.calls link.new) (clock_steps result.fact (texts_in (map line_of result.issued.items))) sender.old sender.new }
     ensures up { L.up link.new ≡ up_after result.fact true }
-    ensures told { is_some (L.past link.new) ≡ is_some (L.past link.old) }
-    ensures places { L.places link.new ≡ L.places link.old }
-    ensures advanced { L.advanced link.new ≡ L.advanced link.old }
-    ensures listed { L.listed link.new ≡ L.listed link.old }
-    ensures prompt { L.prompt link.new ≡ L.prompt link.old }
+    ensures kind { L.kind link.new ≡ L.kind link.old }
     ensures counted { L.faults link.old ≤ L.faults link.new }
     ensures failed { result.fact ≡ fact.Failed → Rose (L.faults link.old) (L.faults link.new) }
 {
@@ -300,13 +280,9 @@ pub fn talk<L: Link>(
     ensures sent { result.fact ≡ fact.Ready → next_of sender.new ≡ None }
     ensures spent { result.fact ≡ fact.Quiet → IsSpent moment desk.new sender.new }
     ensures joined { IsJoined desk.new sender.new (up_after result.fact true) }
-    ensures steps { TakesSome moment (L.places link.old) (L.advanced link.old) (L.prompt link.old) (L.past link.old) (L.past link.new) (L.calls link.old) (L.calls link.new) (talk_steps (got_of result.received line.new.items) result.fact (texts_in (map line_of result.issued.items))) sender.old sender.new }
+    ensures steps { TakesSome moment (L.kind link.old) (L.past link.old) (L.past link.new) (L.calls link.old) (L.calls link.new) (talk_steps (got_of result.received line.new.items) result.fact (texts_in (map line_of result.issued.items))) sender.old sender.new }
     ensures up { L.up link.new ≡ up_after result.fact true }
-    ensures told { is_some (L.past link.new) ≡ is_some (L.past link.old) }
-    ensures places { L.places link.new ≡ L.places link.old }
-    ensures advanced { L.advanced link.new ≡ L.advanced link.old }
-    ensures listed { L.listed link.new ≡ L.listed link.old }
-    ensures prompt { L.prompt link.new ≡ L.prompt link.old }
+    ensures kind { L.kind link.new ≡ L.kind link.old }
     ensures counted { L.faults link.old ≤ L.faults link.new }
     ensures failed { result.fact ≡ fact.Failed → Rose (L.faults link.old) (L.faults link.new) }
 {

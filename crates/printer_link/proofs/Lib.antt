@@ -1,3 +1,4 @@
 pub mod Calls
+pub mod Grown
 pub mod Links
 pub mod Stories

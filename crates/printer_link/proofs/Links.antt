@@ -8,7 +8,7 @@ use Rattle.std.proofs.lemmas.List.Folds.{list_all-append}
 use Rattle.arrayvec.specs.ArrayVec.{ArrayVec}
 use Rattle.printer_model.specs.World.{WorldData, fits_wire, world_of, world_from, apply, can_happen, is_empty, is_free}
 use Rattle.printer_link.specs.Link.{Grows, IsDial, IsRuns, IsSend, IsSendLoss, IsHeard, IsSilence, IsLoss, arrivals, dial_events, due_run, printer_events}
-use Rattle.printer_link.specs.Memory.{MemoryLinkData, called, closing_events, failed, grown, harm_events, heard, link_world, send_events, LinkRan, LinkMoved, LinkHeard, LinkQuiet, LinkReceived}
+use Rattle.printer_link.specs.Memory.{MemoryLinkData, called, closing_events, failed, grown, harm_events, heard, link_kind, link_world, send_events, LinkRan, LinkMoved, LinkHeard, LinkQuiet, LinkReceived}
 use Rattle.printer_link.specs.declared.schedule.Fate.{Fate}
 use Rattle.printer_link.specs.declared.schedule.Fate.TheVariants.{Whole, Lost, Garbled}
 use Rattle.printer_link.specs.declared.link.Heard.{Heard}
@@ -18,11 +18,12 @@ use Rattle.printer_model.specs.declared.event.WorldEvent.TheVariants.{Opened, Se
 use Rattle.printer_model.proofs.Laws.{world_from-push, world_of-append, world_from-linked, happens, run_out, can_open, runs_only, runs_free}
 use Rattle.printer_link.proofs.Stories.{arrivals_free}
 
--- a told past grew by these events
-pub grows_by : (places : ℕ) (advanced : Bool) (past added now : List WorldEvent) (Kind : WorldData → List WorldEvent → Type 0) → now ≡ past ++ added → Kind (world_of places advanced past) added → Grows places advanced (Some past) (Some now) Kind
-grows_by places advanced past added now Kind is kind list e =
-    let same : list ≡ now = cc in
-    (past, added, refl, same ∙ is, kind)
+-- a recorded history grew by these events
+pub grows_by : (l : MemoryLinkData) (added now : List WorldEvent) (Kind : WorldData → List WorldEvent → Type 0) → now ≡ l.story.past ++ added → Kind (link_world l) added → Grows (link_kind l) (Some l.story.past) (Some now) Kind
+grows_by l added now Kind is kind = record {
+    stays = refl;
+    grew = λ list e. (let same : list ≡ now = cc in (l.story.past, added, refl, same ∙ is, kind));
+  }
 
 -- the world behind further events of a link
 pub grown_world : (l : MemoryLinkData) (added : List WorldEvent) → link_world (grown l added) ≡ world_from (link_world l) added
@@ -60,9 +61,9 @@ dial_grown : (l mid new : MemoryLinkData) (last : ℕ) → mid ≡ called l → 
 dial_grown l mid new last mid_is new_is = new_is ∙ ap (λ (m : MemoryLinkData). grown m (dial_events (link_world m) last)) mid_is
 
 -- a dial that made a link
-pub dial_past : (l mid new : MemoryLinkData) (last : ℕ) → mid ≡ called l → new ≡ grown mid (dial_events (link_world mid) last) → (link_world l).linked ≡ false → Grows l.story.places l.story.advanced (Some l.story.past) (Some new.story.past) IsDial
+pub dial_past : (l mid new : MemoryLinkData) (last : ℕ) → mid ≡ called l → new ≡ grown mid (dial_events (link_world mid) last) → (link_world l).linked ≡ false → Grows (link_kind l) (Some l.story.past) (Some new.story.past) IsDial
 dial_past l mid new last mid_is new_is closed =
-    grows_by l.story.places l.story.advanced l.story.past (dial_events (link_world l) last) new.story.past IsDial
+    grows_by l (dial_events (link_world l) last) new.story.past IsDial
     (ap (λ (n : MemoryLinkData). n.story.past) (dial_grown l mid new last mid_is new_is))
     (dial_is (link_world l) last closed)
 
@@ -73,7 +74,7 @@ dial_up l mid new last mid_is new_is closed =
     ∙ dial_linked (link_world l) last closed
 
 -- a dial that failed
-pub dial_failed : (l mid late new : MemoryLinkData) → mid ≡ called l → LinkRan mid late → new ≡ failed late → (link_world l).linked ≡ false → Grows l.story.places l.story.advanced (Some l.story.past) (Some new.story.past) IsRuns
+pub dial_failed : (l mid late new : MemoryLinkData) → mid ≡ called l → LinkRan mid late → new ≡ failed late → (link_world l).linked ≡ false → Grows (link_kind l) (Some l.story.past) (Some new.story.past) IsRuns
 dial_failed l mid late new mid_is ran new_is closed =
     let late_is : late ≡ grown (called l) (replicate ran.count Run) = ran.is ∙ ap (λ (m : MemoryLinkData). grown m (replicate ran.count Run)) mid_is in
     let shut : (link_world late).linked ≡ false =
@@ -82,7 +83,7 @@ dial_failed l mid late new mid_is ran new_is closed =
     ∙ world_from-linked (link_world l) (replicate ran.count Run) (runs_free ran.count)
     ∙ closed
     in
-    grows_by l.story.places l.story.advanced l.story.past (replicate ran.count Run) new.story.past IsRuns
+    grows_by l (replicate ran.count Run) new.story.past IsRuns
     (ap (λ (n : MemoryLinkData). n.story.past) new_is
     ∙ ap (λ (es : List WorldEvent). late.story.past ++ es) (closing_shut (link_world late) shut)
     ∙ append-nil late.story.past
@@ -103,9 +104,9 @@ can_send w line open_now short =
     ap (λ (b : Bool). b && fits_wire line.items) open_now ∙ is_le line short
 
 -- a line that was sent
-pub send_past : (l mid new : MemoryLinkData) (line : ArrayVec ℕ) (fate : Fate) → mid ≡ called l → new ≡ grown mid (send_events (link_world mid) line fate) → (link_world l).linked ≡ true → length line.items ≤ 95 → Grows l.story.places l.story.advanced (Some l.story.past) (Some new.story.past) (IsSend line.items)
+pub send_past : (l mid new : MemoryLinkData) (line : ArrayVec ℕ) (fate : Fate) → mid ≡ called l → new ≡ grown mid (send_events (link_world mid) line fate) → (link_world l).linked ≡ true → length line.items ≤ 95 → Grows (link_kind l) (Some l.story.past) (Some new.story.past) (IsSend line.items)
 send_past l mid new line fate mid_is new_is open_now short =
-    grows_by l.story.places l.story.advanced l.story.past (send_events (link_world l) line fate) new.story.past (IsSend line.items)
+    grows_by l (send_events (link_world l) line fate) new.story.past (IsSend line.items)
     (ap (λ (n : MemoryLinkData). n.story.past) (new_is ∙ ap (λ (m : MemoryLinkData). grown m (send_events (link_world m) line fate)) mid_is))
     (record {
       before = [];
@@ -119,9 +120,9 @@ send_past l mid new line fate mid_is new_is open_now short =
     })
 
 -- a sending that failed
-pub send_failed : (l mid late new : MemoryLinkData) → mid ≡ called l → late ≡ mid → new ≡ failed late → (link_world l).linked ≡ true → Grows l.story.places l.story.advanced (Some l.story.past) (Some new.story.past) IsSendLoss
+pub send_failed : (l mid late new : MemoryLinkData) → mid ≡ called l → late ≡ mid → new ≡ failed late → (link_world l).linked ≡ true → Grows (link_kind l) (Some l.story.past) (Some new.story.past) IsSendLoss
 send_failed l mid late new mid_is late_is new_is open_now =
-    grows_by l.story.places l.story.advanced l.story.past (Closed ∷ []) new.story.past IsSendLoss
+    grows_by l (Closed ∷ []) new.story.past IsSendLoss
     (ap (λ (n : MemoryLinkData). n.story.past) (new_is ∙ ap failed (late_is ∙ mid_is))
     ∙ ap (λ (es : List WorldEvent). l.story.past ++ es) (closing_open (link_world l) open_now))
     (record { before = []; failing = []; behind = []; is = refl; may_send = tt; free_before = refl; free_behind = refl; linked = open_now })
@@ -163,9 +164,9 @@ from_asked : (l mid new : MemoryLinkData) (due : Bool) (into : List ℕ) (got : 
 from_asked l mid new due into got mid_is received =
     let At : MemoryLinkData → Type 0 = λ m. LinkReceived due into got m new in subst At mid_is received
 
-heard_grows : (l new : MemoryLinkData) (due : Bool) (into : List ℕ) → LinkHeard due into (asked l) new → (link_world l).linked ≡ true → Grows l.story.places l.story.advanced (Some l.story.past) (Some new.story.past) (IsHeard into)
+heard_grows : (l new : MemoryLinkData) (due : Bool) (into : List ℕ) → LinkHeard due into (asked l) new → (link_world l).linked ≡ true → Grows (link_kind l) (Some l.story.past) (Some new.story.past) (IsHeard into)
 heard_grows l new due into was open_now =
-    grows_by l.story.places l.story.advanced l.story.past (printer_events due (link_world l) ++ Recv ∷ []) new.story.past (IsHeard into)
+    grows_by l (printer_events due (link_world l) ++ Recv ∷ []) new.story.past (IsHeard into)
     (ap (λ (n : MemoryLinkData). n.story.past) was.is)
     (record {
       before = printer_events due (link_world l);
@@ -181,18 +182,18 @@ heard_grows l new due into was open_now =
     })
 
 -- a line that was received
-pub heard_past : (l first mid new : MemoryLinkData) (due : Bool) (into : List ℕ) (got : Heard) → first ≡ called l → mid ≡ heard first → LinkReceived due into got mid new → (link_world l).linked ≡ true → got ≡ Line → Grows l.story.places l.story.advanced (Some l.story.past) (Some new.story.past) (IsHeard into)
+pub heard_past : (l first mid new : MemoryLinkData) (due : Bool) (into : List ℕ) (got : Heard) → first ≡ called l → mid ≡ heard first → LinkReceived due into got mid new → (link_world l).linked ≡ true → got ≡ Line → Grows (link_kind l) (Some l.story.past) (Some new.story.past) (IsHeard into)
 heard_past l first mid new due into Line first_is mid_is received open_now line =
     heard_grows l new due into (from_asked l mid new due into Line (asked_is l first mid first_is mid_is) received) open_now
 heard_past l first mid new due into Nothing first_is mid_is received open_now line = absurd (cc)
 
-quiet_grows : (l new : MemoryLinkData) (due : Bool) → LinkQuiet due (asked l) new → Grows l.story.places l.story.advanced (Some l.story.past) (Some new.story.past) IsSilence
+quiet_grows : (l new : MemoryLinkData) (due : Bool) → LinkQuiet due (asked l) new → Grows (link_kind l) (Some l.story.past) (Some new.story.past) IsSilence
 quiet_grows l new due was =
-    grows_by l.story.places l.story.advanced l.story.past (printer_events due (link_world l)) new.story.past IsSilence (ap (λ (n : MemoryLinkData). n.story.past) was.is)
+    grows_by l (printer_events due (link_world l)) new.story.past IsSilence (ap (λ (n : MemoryLinkData). n.story.past) was.is)
     (record { free = printer_free due (link_world l); empty = was.empty })
 
 -- nothing was received
-pub quiet_past : (l first mid new : MemoryLinkData) (due : Bool) (into : List ℕ) (got : Heard) → first ≡ called l → mid ≡ heard first → LinkReceived due into got mid new → got ≡ Nothing → Grows l.story.places l.story.advanced (Some l.story.past) (Some new.story.past) IsSilence
+pub quiet_past : (l first mid new : MemoryLinkData) (due : Bool) (into : List ℕ) (got : Heard) → first ≡ called l → mid ≡ heard first → LinkReceived due into got mid new → got ≡ Nothing → Grows (link_kind l) (Some l.story.past) (Some new.story.past) IsSilence
 quiet_past l first mid new due into Line first_is mid_is received nothing = absurd (cc)
 quiet_past l first mid new due into Nothing first_is mid_is received nothing =
     quiet_grows l new due (from_asked l mid new due into Nothing (asked_is l first mid first_is mid_is) received)
@@ -211,7 +212,7 @@ received_up l first mid new due into Nothing first_is mid_is received open_now =
     ∙ printer_linked due (link_world l) open_now
 
 -- a receiving that failed
-pub recv_failed : (l first mid late new : MemoryLinkData) → first ≡ called l → mid ≡ heard first → LinkMoved mid late → new ≡ failed late → (link_world l).linked ≡ true → Grows l.story.places l.story.advanced (Some l.story.past) (Some new.story.past) IsLoss
+pub recv_failed : (l first mid late new : MemoryLinkData) → first ≡ called l → mid ≡ heard first → LinkMoved mid late → new ≡ failed late → (link_world l).linked ≡ true → Grows (link_kind l) (Some l.story.past) (Some new.story.past) IsLoss
 recv_failed l first mid late new first_is mid_is moved new_is open_now =
     let late_is : late ≡ grown (asked l) moved.added = moved.is ∙ ap (λ (m : MemoryLinkData). grown m moved.added) (asked_is l first mid first_is mid_is) in
     let still_open : (world_from (link_world l) moved.added).linked ≡ true = world_from-linked (link_world l) moved.added moved.free ∙ open_now in
@@ -220,7 +221,7 @@ recv_failed l first mid late new first_is mid_is moved new_is open_now =
     ∙ ap (λ (w : WorldData). w.linked) (grown_world l moved.added)
     ∙ still_open
     in
-    grows_by l.story.places l.story.advanced l.story.past (moved.added ++ Closed ∷ []) new.story.past IsLoss
+    grows_by l (moved.added ++ Closed ∷ []) new.story.past IsLoss
     (ap (λ (n : MemoryLinkData). n.story.past) new_is
     ∙ ap (λ (es : List WorldEvent). late.story.past ++ es) (closing_open (link_world late) late_open)
     ∙ ap (λ (n : MemoryLinkData). n.story.past ++ Closed ∷ []) late_is

@@ -1,5 +1,5 @@
 -- What the calls of a link add to its past.
-use Rattle.std.specs.Prelude.{◌≡◌, ◌<◌, ◌≤◌, ℕ, ◌+◌, Bool, true, false, if◌then◌else◌, List, [], ◌∷◌, ◌++◌, length, replicate, Option, Some, None, min}
+use Rattle.std.specs.Prelude.{◌≡◌, ◌<◌, ◌≤◌, ℕ, ◌+◌, Bool, true, false, if◌then◌else◌, List, [], ◌∷◌, ◌++◌, length, replicate, Option, Some, None, is_some, min}
 use Rattle.std.specs.List.{list_all}
 use Rattle.octo_outside.specs.Told.{Became}
 use Rattle.marlin_frame.specs.Frame.{fails}
@@ -8,14 +8,36 @@ use Rattle.printer_model.specs.World.{WorldData, is_empty, is_free, is_run, can_
 use Rattle.printer_model.specs.declared.event.WorldEvent.{WorldEvent}
 use Rattle.printer_model.specs.declared.event.WorldEvent.TheVariants.{Opened, Send, Arrive, Run, Recv, Closed}
 
--- the past grew by an addition of this kind
-abbrev pub Grows : ℕ → Bool → Option (List WorldEvent) → Option (List WorldEvent) → (WorldData → List WorldEvent → Type 0) → Type 0
-Grows places advanced old new Kind = Became old new (λ past added. Kind (world_of places advanced past) added)
+-- what no call of a link changes: how many lines the printer's queue holds, whether its acknowledgements are numbered,
+-- whether each line arrives whole and is answered at once, and which names are listed
+pub record LinkKind : Type 0 where
+  pub slots : ℕ
+  pub numbered : Bool
+  pub prompt : Bool
+  pub listed : List ℕ → Bool
 
--- the link is up exactly where the world of its past is open
-abbrev pub IsOpenAs : ℕ → Bool → Option (List WorldEvent) → Bool → Type 0
-IsOpenAs places advanced None up = Unit {0}
-IsOpenAs places advanced (Some past) up = (world_of places advanced past).linked ≡ up
+-- 1 to 16 lines are held
+pub record HasSlots (kind : LinkKind) : Type 0 where
+  pub some : 1 ≤ kind.slots
+  pub few : kind.slots ≤ 16
+
+-- the world that a history leads to
+abbrev pub world_in : LinkKind → List WorldEvent → WorldData
+world_in kind past = world_of kind.slots kind.numbered past
+
+-- a recorded history stays recorded and grew by such an addition; one that isn't recorded stays so
+pub record Recorded (old new : Option (List WorldEvent)) (Addition : List WorldEvent → List WorldEvent → Type 0) : Type 0 where
+  pub stays : is_some new ≡ is_some old
+  pub grew : Became old new Addition
+
+-- the same for an addition that is told by the world before it
+abbrev pub Grows : LinkKind → Option (List WorldEvent) → Option (List WorldEvent) → (WorldData → List WorldEvent → Type 0) → Type 0
+Grows kind old new Addition = Recorded old new (λ past added. Addition (world_in kind past) added)
+
+-- the link is up exactly if the world of its history is open
+abbrev pub IsOpenAs : LinkKind → Option (List WorldEvent) → Bool → Type 0
+IsOpenAs kind None up = Unit {0}
+IsOpenAs kind (Some past) up = (world_in kind past).linked ≡ up
 
 -- nothing happens
 abbrev pub IsNothing : WorldData → List WorldEvent → Type 0

@@ -7,7 +7,7 @@ use Rattle.octo_outside.specs.Memory.{one_more}
 use Rattle.printer_model.specs.Garble.{garbled}
 use Rattle.printer_model.specs.World.{WorldData, world_from, world_of, is_empty, is_free, IsFrontReply}
 use Rattle.printer_model.specs.Executed.{is_send, is_opened}
-use Rattle.printer_link.specs.Link.{printer_events}
+use Rattle.printer_link.specs.Link.{LinkKind, printer_events}
 use Rattle.printer_model.specs.declared.event.WorldEvent.{WorldEvent}
 use Rattle.printer_model.specs.declared.event.WorldEvent.TheVariants.{Send, Lose, Garble, Run, Recv, Closed}
 use Rattle.printer_link.specs.declared.link.Heard.{Heard}
@@ -142,6 +142,10 @@ is_whole Garbled = false
 -- whether each line arrives whole, is run at the next receiving, and no call fails
 abbrev pub is_prompt : MemoryLinkData → Bool
 is_prompt l = list_all is_whole l.story.fates && (l.slow == 0 && is_empty l.fail_at)
+
+-- what no call of a link in memory changes
+abbrev pub link_kind : MemoryLinkData → LinkKind
+link_kind l = record { slots = l.story.places; numbered = l.story.advanced; prompt = is_prompt l; listed = lists_name l.names }
 
 -- a link that only let the printer run
 pub record LinkRan (old new : MemoryLinkData) : Type 0 where

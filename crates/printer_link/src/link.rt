@@ -1,7 +1,7 @@
 //! A link to a printer: lines go out, reply lines come in, and what happened between is its past.
 ghost use Rattle.std.specs.Prelude.{◌≡◌, ◌≤◌, ◌↔◌, ℕ, Bool, true, false, List, [], ◌∷◌, Option, Some, None, length, is_some, IfOk, OnOk, OnErr, IsErrOf};
 ghost use Rattle.octo_outside.specs.Told.{Rose};
-ghost use Rattle.printer_link.specs.Link.{Grows, IsOpenAs, IsNothing, IsRuns, IsDial, IsSend, IsSendLoss, IsHeard, IsSilence, IsLoss, IsHangUp, IsSendOf, counted_one, dial_events, recv_events};
+ghost use Rattle.printer_link.specs.Link.{LinkKind, HasSlots, Grows, IsOpenAs, IsNothing, IsRuns, IsDial, IsSend, IsSendLoss, IsHeard, IsSilence, IsLoss, IsHangUp, IsSendOf, counted_one, dial_events, recv_events};
 ghost use Rattle.printer_model.specs.declared.event.WorldEvent.{WorldEvent};
 ghost use Rattle.printer_model.specs.declared.event.WorldEvent.TheVariants as event;
 ghost use Rattle.printer_link.specs.declared.link.Heard.TheVariants as heard;
@@ -32,23 +32,15 @@ pub trait Link {
     /// The events of its past, where told.
     ghost past: { Self → Option (List WorldEvent) };
 
-    /// How many lines the printer keeps waiting, 1 to 16.
-    ghost places: { Self → ℕ };
-
-    /// Whether the printer's replies name the line.
-    ghost advanced: { Self → Bool };
+    /// What no call changes: the printer's buffer slots, whether its acknowledgements are numbered, whether the link is
+    /// prompt, and which names are listed.
+    ghost kind: { Self → LinkKind };
 
     /// How many calls of `dial`, `send` and `recv` were made, where told.
     ghost calls: { Self → Option ℕ };
 
-    /// Whether a name is listed.
-    ghost listed: { Self → List ℕ → Bool };
-
     /// Whether a link is made.
     ghost up: { Self → Bool };
-
-    /// Whether each line arrives whole and is answered at once.
-    ghost prompt: { Self → Bool };
 
     /// How many calls failed.
     ghost faults: { Self → ℕ };
@@ -56,21 +48,16 @@ pub trait Link {
     /// Makes a link to the port of that name.
     fn dial(&mut self, name: &str) -> Result<(), LinkFault>
         requires { up self.old ≡ false }
-        ensures past { OnOk result (Grows (places self.old) (advanced self.old) (past self.old) (past self.new) IsDial) }
-        ensures past_no_port { IsErrOf result fault.NoPort → Grows (places self.old) (advanced self.old) (past self.old) (past self.new) IsNothing }
-        ensures past_failed { IsErrOf result fault.Failed → Grows (places self.old) (advanced self.old) (past self.old) (past self.new) IsRuns }
-        ensures past_prompt { prompt self.old ≡ true → OnOk result (Grows (places self.old) (advanced self.old) (past self.old) (past self.new) (λ w added. (last : ℕ) × (added ≡ dial_events w last))) }
-        ensures no_port { IsErrOf result fault.NoPort ↔ (listed self.old name.now ≡ false) }
+        ensures past { OnOk result (Grows (kind self.old) (past self.old) (past self.new) IsDial) }
+        ensures past_no_port { IsErrOf result fault.NoPort → Grows (kind self.old) (past self.old) (past self.new) IsNothing }
+        ensures past_failed { IsErrOf result fault.Failed → Grows (kind self.old) (past self.old) (past self.new) IsRuns }
+        ensures past_prompt { (kind self.old).prompt ≡ true → OnOk result (Grows (kind self.old) (past self.old) (past self.new) (λ w added. (last : ℕ) × (added ≡ dial_events w last))) }
+        ensures no_port { IsErrOf result fault.NoPort ↔ ((kind self.old).listed name.now ≡ false) }
         ensures up { OnOk result (up self.new ≡ true) }
         ensures down { OnErr result (up self.new ≡ false) }
-        ensures open { IsOpenAs (places self.new) (advanced self.new) (past self.new) (up self.new) }
-        ensures told { is_some (past self.new) ≡ is_some (past self.old) }
-        ensures some { 1 ≤ places self.new }
-        ensures few { places self.new ≤ 16 }
-        ensures places { places self.new ≡ places self.old }
-        ensures advanced { advanced self.new ≡ advanced self.old }
-        ensures listed { listed self.new ≡ listed self.old }
-        ensures prompt { prompt self.new ≡ prompt self.old }
+        ensures open { IsOpenAs (kind self.new) (past self.new) (up self.new) }
+        ensures slots { HasSlots (kind self.new) }
+        ensures kind { kind self.new ≡ kind self.old }
         ensures calls { calls self.new ≡ counted_one (calls self.old) }
         ensures counted { faults self.old ≤ faults self.new }
         ensures failed { IsErrOf result fault.Failed → Rose (faults self.old) (faults self.new) };
@@ -79,18 +66,14 @@ pub trait Link {
     fn send(&mut self, line: &Line) -> Result<(), LinkFault>
         requires open { up self.old ≡ true }
         requires short { length line.now.items ≤ 95 }
-        ensures past { OnOk result (Grows (places self.old) (advanced self.old) (past self.old) (past self.new) (IsSend line.now.items)) }
-        ensures past_failed { OnErr result (Grows (places self.old) (advanced self.old) (past self.old) (past self.new) IsSendLoss) }
-        ensures past_prompt { prompt self.old ≡ true → OnOk result (Grows (places self.old) (advanced self.old) (past self.old) (past self.new) (λ w added. (sent : WorldEvent) × (added ≡ sent ∷ []) × IsSendOf line.now.items sent)) }
+        ensures past { OnOk result (Grows (kind self.old) (past self.old) (past self.new) (IsSend line.now.items)) }
+        ensures past_failed { OnErr result (Grows (kind self.old) (past self.old) (past self.new) IsSendLoss) }
+        ensures past_prompt { (kind self.old).prompt ≡ true → OnOk result (Grows (kind self.old) (past self.old) (past self.new) (λ w added. (sent : WorldEvent) × (added ≡ sent ∷ []) × IsSendOf line.now.items sent)) }
         ensures no_port { IsErrOf result fault.NoPort → ⊥ }
         ensures up { OnOk result (up self.new ≡ true) }
         ensures down { OnErr result (up self.new ≡ false) }
-        ensures open { IsOpenAs (places self.new) (advanced self.new) (past self.new) (up self.new) }
-        ensures told { is_some (past self.new) ≡ is_some (past self.old) }
-        ensures places { places self.new ≡ places self.old }
-        ensures advanced { advanced self.new ≡ advanced self.old }
-        ensures listed { listed self.new ≡ listed self.old }
-        ensures prompt { prompt self.new ≡ prompt self.old }
+        ensures open { IsOpenAs (kind self.new) (past self.new) (up self.new) }
+        ensures kind { kind self.new ≡ kind self.old }
         ensures calls { calls self.new ≡ counted_one (calls self.old) }
         ensures counted { faults self.old ≤ faults self.new }
         ensures failed { OnErr result (Rose (faults self.old) (faults self.new)) };
@@ -98,32 +81,24 @@ pub trait Link {
     /// Receives a reply line without its line end, cut to 256 bytes, or finds that nothing has come.
     fn recv(&mut self, into: &mut ReplyLine) -> Result<Heard, LinkFault>
         requires { up self.old ≡ true }
-        ensures past { IfOk result (λ got. got ≡ heard.Line → Grows (places self.old) (advanced self.old) (past self.old) (past self.new) (IsHeard into.new.items)) }
-        ensures past_nothing { IfOk result (λ got. got ≡ heard.Nothing → Grows (places self.old) (advanced self.old) (past self.old) (past self.new) IsSilence) }
-        ensures past_failed { OnErr result (Grows (places self.old) (advanced self.old) (past self.old) (past self.new) IsLoss) }
-        ensures past_prompt { prompt self.old ≡ true → OnOk result (Grows (places self.old) (advanced self.old) (past self.old) (past self.new) (λ w added. added ≡ recv_events true w)) }
+        ensures past { IfOk result (λ got. got ≡ heard.Line → Grows (kind self.old) (past self.old) (past self.new) (IsHeard into.new.items)) }
+        ensures past_nothing { IfOk result (λ got. got ≡ heard.Nothing → Grows (kind self.old) (past self.old) (past self.new) IsSilence) }
+        ensures past_failed { OnErr result (Grows (kind self.old) (past self.old) (past self.new) IsLoss) }
+        ensures past_prompt { (kind self.old).prompt ≡ true → OnOk result (Grows (kind self.old) (past self.old) (past self.new) (λ w added. added ≡ recv_events true w)) }
         ensures no_port { IsErrOf result fault.NoPort → ⊥ }
         ensures up { OnOk result (up self.new ≡ true) }
         ensures down { OnErr result (up self.new ≡ false) }
-        ensures open { IsOpenAs (places self.new) (advanced self.new) (past self.new) (up self.new) }
-        ensures told { is_some (past self.new) ≡ is_some (past self.old) }
-        ensures places { places self.new ≡ places self.old }
-        ensures advanced { advanced self.new ≡ advanced self.old }
-        ensures listed { listed self.new ≡ listed self.old }
-        ensures prompt { prompt self.new ≡ prompt self.old }
+        ensures open { IsOpenAs (kind self.new) (past self.new) (up self.new) }
+        ensures kind { kind self.new ≡ kind self.old }
         ensures calls { calls self.new ≡ counted_one (calls self.old) }
         ensures counted { faults self.old ≤ faults self.new }
         ensures failed { OnErr result (Rose (faults self.old) (faults self.new)) };
 
     /// Closes the link where it is up.
     fn hang_up(&mut self)
-        ensures past { Grows (places self.old) (advanced self.old) (past self.old) (past self.new) (IsHangUp (up self.old)) }
+        ensures past { Grows (kind self.old) (past self.old) (past self.new) (IsHangUp (up self.old)) }
         ensures down { up self.new ≡ false }
-        ensures told { is_some (past self.new) ≡ is_some (past self.old) }
-        ensures places { places self.new ≡ places self.old }
-        ensures advanced { advanced self.new ≡ advanced self.old }
-        ensures listed { listed self.new ≡ listed self.old }
-        ensures prompt { prompt self.new ≡ prompt self.old }
+        ensures kind { kind self.new ≡ kind self.old }
         ensures calls { calls self.new ≡ calls self.old }
         ensures faults { faults self.new ≡ faults self.old };
 }

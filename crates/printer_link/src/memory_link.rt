@@ -4,8 +4,8 @@ ghost use Rattle.octo_outside.specs.Memory.{one_more, is_listed};
 ghost use Rattle.octo_outside.specs.Told.{Rose};
 ghost use Rattle.printer_model.specs.Executed.{executed, is_loss};
 ghost use Rattle.printer_model.specs.World.{IsFrontReply};
-ghost use Rattle.printer_link.specs.Memory.{called, closing_events, failed, grown, heard, is_due, is_prompt, lists_name, link_world, new_link, next_fate, opening_last, send_events, sends, LinkMoved, LinkRan, LinkReceived};
-ghost use Rattle.printer_link.specs.Link.{Grows, IsDial, IsHangUp, IsHeard, IsLoss, IsNothing, IsOpenAs, IsRuns, IsSend, IsSendLoss, IsSendOf, IsSilence, counted_one, dial_events, printer_events, recv_events};
+ghost use Rattle.printer_link.specs.Memory.{called, closing_events, failed, grown, heard, is_due, is_prompt, link_kind, lists_name, link_world, new_link, next_fate, opening_last, send_events, sends, LinkMoved, LinkRan, LinkReceived};
+ghost use Rattle.printer_link.specs.Link.{HasSlots, Grows, IsDial, IsHangUp, IsHeard, IsLoss, IsNothing, IsOpenAs, IsRuns, IsSend, IsSendLoss, IsSendOf, IsSilence, counted_one, dial_events, printer_events, recv_events};
 ghost use Rattle.printer_model.specs.declared.event.WorldEvent.{WorldEvent};
 ghost use Rattle.printer_model.specs.declared.event.WorldEvent.TheVariants as event;
 ghost use Rattle.printer_link.specs.declared.link.Heard.TheVariants as heard_as;
@@ -222,17 +222,11 @@ impl MemoryLink {
 impl Link for MemoryLink {
     ghost past = { λ l. Some l.story.past };
 
-    ghost places = { λ l. l.story.places };
-
-    ghost advanced = { λ l. l.story.advanced };
+    ghost kind = { link_kind };
 
     ghost calls = { λ l. Some l.calls };
 
-    ghost listed = { λ l. lists_name l.names };
-
     ghost up = { λ l. (link_world l).linked };
-
-    ghost prompt = { is_prompt };
 
     ghost faults = { λ l. l.faults };
 
@@ -241,21 +235,16 @@ impl Link for MemoryLink {
         ensures adds { OnOk result (self.new ≡ grown (called self.old) (dial_events (link_world self.old) (opening_last self.old.story self.old.last))) }
         ensures adds_nothing { IsErrOf result fault.NoPort → self.new ≡ called self.old }
         ensures fails { is_listed self.old.fail_at (one_more self.old.calls) ≡ true → lists_name self.old.names name.now ≡ true → (result ≡ Err fault.Failed) × (self.new ≡ failed (called self.old)) }
-        ensures past { OnOk result (Grows self.old.story.places self.old.story.advanced (Some self.old.story.past) (Some self.new.story.past) IsDial) }
-        ensures past_no_port { IsErrOf result fault.NoPort → Grows self.old.story.places self.old.story.advanced (Some self.old.story.past) (Some self.new.story.past) IsNothing }
-        ensures past_failed { IsErrOf result fault.Failed → Grows self.old.story.places self.old.story.advanced (Some self.old.story.past) (Some self.new.story.past) IsRuns }
-        ensures past_prompt { is_prompt self.old ≡ true → OnOk result (Grows self.old.story.places self.old.story.advanced (Some self.old.story.past) (Some self.new.story.past) (λ w added. (last : ℕ) × (added ≡ dial_events w last))) }
+        ensures past { OnOk result (Grows (link_kind self.old) (Some self.old.story.past) (Some self.new.story.past) IsDial) }
+        ensures past_no_port { IsErrOf result fault.NoPort → Grows (link_kind self.old) (Some self.old.story.past) (Some self.new.story.past) IsNothing }
+        ensures past_failed { IsErrOf result fault.Failed → Grows (link_kind self.old) (Some self.old.story.past) (Some self.new.story.past) IsRuns }
+        ensures past_prompt { is_prompt self.old ≡ true → OnOk result (Grows (link_kind self.old) (Some self.old.story.past) (Some self.new.story.past) (λ w added. (last : ℕ) × (added ≡ dial_events w last))) }
         ensures no_port { IsErrOf result fault.NoPort ↔ (lists_name self.old.names name.now ≡ false) }
         ensures up { OnOk result ((link_world self.new).linked ≡ true) }
         ensures down { OnErr result ((link_world self.new).linked ≡ false) }
-        ensures open { IsOpenAs self.new.story.places self.new.story.advanced (Some self.new.story.past) (link_world self.new).linked }
-        ensures told { is_some (Some self.new.story.past) ≡ is_some (Some self.old.story.past) }
-        ensures some { 1 ≤ self.new.story.places }
-        ensures few { self.new.story.places ≤ 16 }
-        ensures places { self.new.story.places ≡ self.old.story.places }
-        ensures advanced { self.new.story.advanced ≡ self.old.story.advanced }
-        ensures listed { lists_name self.new.names ≡ lists_name self.old.names }
-        ensures prompt { is_prompt self.new ≡ is_prompt self.old }
+        ensures open { IsOpenAs (link_kind self.new) (Some self.new.story.past) (link_world self.new).linked }
+        ensures slots { HasSlots (link_kind self.new) }
+        ensures kind { link_kind self.new ≡ link_kind self.old }
         ensures calls { Some self.new.calls ≡ counted_one (Some self.old.calls) }
         ensures counted { self.old.faults ≤ self.new.faults }
         ensures failed { IsErrOf result fault.Failed → Rose self.old.faults self.new.faults }
@@ -276,18 +265,14 @@ impl Link for MemoryLink {
         ensures adds { OnOk result (self.new ≡ grown (called self.old) (send_events (link_world self.old) line.now (next_fate self.old.story))) }
         ensures adds_closed { OnErr result (self.new ≡ failed (called self.old)) }
         ensures fails { is_listed self.old.fail_at (one_more self.old.calls) ≡ true → result ≡ Err fault.Failed }
-        ensures past { OnOk result (Grows self.old.story.places self.old.story.advanced (Some self.old.story.past) (Some self.new.story.past) (IsSend line.now.items)) }
-        ensures past_failed { OnErr result (Grows self.old.story.places self.old.story.advanced (Some self.old.story.past) (Some self.new.story.past) IsSendLoss) }
-        ensures past_prompt { is_prompt self.old ≡ true → OnOk result (Grows self.old.story.places self.old.story.advanced (Some self.old.story.past) (Some self.new.story.past) (λ w added. (sent : WorldEvent) × (added ≡ sent ∷ []) × IsSendOf line.now.items sent)) }
+        ensures past { OnOk result (Grows (link_kind self.old) (Some self.old.story.past) (Some self.new.story.past) (IsSend line.now.items)) }
+        ensures past_failed { OnErr result (Grows (link_kind self.old) (Some self.old.story.past) (Some self.new.story.past) IsSendLoss) }
+        ensures past_prompt { is_prompt self.old ≡ true → OnOk result (Grows (link_kind self.old) (Some self.old.story.past) (Some self.new.story.past) (λ w added. (sent : WorldEvent) × (added ≡ sent ∷ []) × IsSendOf line.now.items sent)) }
         ensures no_port { IsErrOf result fault.NoPort → ⊥ }
         ensures up { OnOk result ((link_world self.new).linked ≡ true) }
         ensures down { OnErr result ((link_world self.new).linked ≡ false) }
-        ensures open { IsOpenAs self.new.story.places self.new.story.advanced (Some self.new.story.past) (link_world self.new).linked }
-        ensures told { is_some (Some self.new.story.past) ≡ is_some (Some self.old.story.past) }
-        ensures places { self.new.story.places ≡ self.old.story.places }
-        ensures advanced { self.new.story.advanced ≡ self.old.story.advanced }
-        ensures listed { lists_name self.new.names ≡ lists_name self.old.names }
-        ensures prompt { is_prompt self.new ≡ is_prompt self.old }
+        ensures open { IsOpenAs (link_kind self.new) (Some self.new.story.past) (link_world self.new).linked }
+        ensures kind { link_kind self.new ≡ link_kind self.old }
         ensures calls { Some self.new.calls ≡ counted_one (Some self.old.calls) }
         ensures counted { self.old.faults ≤ self.new.faults }
         ensures failed { OnErr result (Rose self.old.faults self.new.faults) }
@@ -303,19 +288,15 @@ impl Link for MemoryLink {
         requires { (link_world self.old).linked ≡ true }
         ensures adds { IfOk result (λ got. LinkReceived (is_due self.old.slow (one_more self.old.recvs)) into.new.items got (heard (called self.old)) self.new) }
         ensures fails { is_listed self.old.fail_at (one_more self.old.calls) ≡ true → (result ≡ Err fault.Failed) × (self.new ≡ failed (heard (called self.old))) }
-        ensures past { IfOk result (λ got. got ≡ heard_as.Line → Grows self.old.story.places self.old.story.advanced (Some self.old.story.past) (Some self.new.story.past) (IsHeard into.new.items)) }
-        ensures past_nothing { IfOk result (λ got. got ≡ heard_as.Nothing → Grows self.old.story.places self.old.story.advanced (Some self.old.story.past) (Some self.new.story.past) IsSilence) }
-        ensures past_failed { OnErr result (Grows self.old.story.places self.old.story.advanced (Some self.old.story.past) (Some self.new.story.past) IsLoss) }
-        ensures past_prompt { is_prompt self.old ≡ true → OnOk result (Grows self.old.story.places self.old.story.advanced (Some self.old.story.past) (Some self.new.story.past) (λ w added. added ≡ recv_events true w)) }
+        ensures past { IfOk result (λ got. got ≡ heard_as.Line → Grows (link_kind self.old) (Some self.old.story.past) (Some self.new.story.past) (IsHeard into.new.items)) }
+        ensures past_nothing { IfOk result (λ got. got ≡ heard_as.Nothing → Grows (link_kind self.old) (Some self.old.story.past) (Some self.new.story.past) IsSilence) }
+        ensures past_failed { OnErr result (Grows (link_kind self.old) (Some self.old.story.past) (Some self.new.story.past) IsLoss) }
+        ensures past_prompt { is_prompt self.old ≡ true → OnOk result (Grows (link_kind self.old) (Some self.old.story.past) (Some self.new.story.past) (λ w added. added ≡ recv_events true w)) }
         ensures no_port { IsErrOf result fault.NoPort → ⊥ }
         ensures up { OnOk result ((link_world self.new).linked ≡ true) }
         ensures down { OnErr result ((link_world self.new).linked ≡ false) }
-        ensures open { IsOpenAs self.new.story.places self.new.story.advanced (Some self.new.story.past) (link_world self.new).linked }
-        ensures told { is_some (Some self.new.story.past) ≡ is_some (Some self.old.story.past) }
-        ensures places { self.new.story.places ≡ self.old.story.places }
-        ensures advanced { self.new.story.advanced ≡ self.old.story.advanced }
-        ensures listed { lists_name self.new.names ≡ lists_name self.old.names }
-        ensures prompt { is_prompt self.new ≡ is_prompt self.old }
+        ensures open { IsOpenAs (link_kind self.new) (Some self.new.story.past) (link_world self.new).linked }
+        ensures kind { link_kind self.new ≡ link_kind self.old }
         ensures calls { Some self.new.calls ≡ counted_one (Some self.old.calls) }
         ensures counted { self.old.faults ≤ self.new.faults }
         ensures failed { OnErr result (Rose self.old.faults self.new.faults) }
@@ -330,13 +311,9 @@ impl Link for MemoryLink {
 
     fn hang_up(&mut self)
         ensures adds { self.new ≡ grown self.old (closing_events (link_world self.old)) }
-        ensures past { Grows self.old.story.places self.old.story.advanced (Some self.old.story.past) (Some self.new.story.past) (IsHangUp (link_world self.old).linked) }
+        ensures past { Grows (link_kind self.old) (Some self.old.story.past) (Some self.new.story.past) (IsHangUp (link_world self.old).linked) }
         ensures down { (link_world self.new).linked ≡ false }
-        ensures told { is_some (Some self.new.story.past) ≡ is_some (Some self.old.story.past) }
-        ensures places { self.new.story.places ≡ self.old.story.places }
-        ensures advanced { self.new.story.advanced ≡ self.old.story.advanced }
-        ensures listed { lists_name self.new.names ≡ lists_name self.old.names }
-        ensures prompt { is_prompt self.new ≡ is_prompt self.old }
+        ensures kind { link_kind self.new ≡ link_kind self.old }
         ensures calls { self.new.calls ≡ self.old.calls }
         ensures faults { self.new.faults ≡ self.old.faults }
     {

@@ -188,17 +188,11 @@ impl<R: Net + Drop> SocketLink<R> {
 impl<R: Net + Clock + Drop> Link for SocketLink<R> {
     ghost past = { λ _. None };
 
-    ghost places = { λ _. 4 };
-
-    ghost advanced = { λ _. false };
+    ghost kind = { λ _. record { slots = 4; numbered = false; prompt = false; listed = names_address } };
 
     ghost calls = { λ _. None };
 
-    ghost listed = { λ _ name. names_address name };
-
     ghost up = { λ l. l.up };
-
-    ghost prompt = { λ _. false };
 
     ghost faults = { λ l. l.faults };
 

@@ -6,7 +6,7 @@ use Rattle.first_print.specs.Play.{lines_of}
 use Rattle.first_print.specs.Leads.{Leads, Flying, Ran, HasRunAll}
 use Rattle.first_print.proofs.Carried.{line_there, lines_length}
 use Rattle.first_print.proofs.Steps.{flying_ran, closed_ran}
-use Rattle.first_print.proofs.Grown.{grows_at, grows_then, grows_same, grows_closed}
+use Rattle.first_print.proofs.Grown.{grows_at, grows_then, grows_same, grows_closed, prompt_kept}
 use Rattle.first_print.proofs.print.take_turns.Goals as goal
 
 pub loop-init : goal.loop-init
@@ -15,11 +15,9 @@ loop-init g c =
       up = c.requires.«open»;
       there = omega arith;
       carried = c.requires.carried;
-      leads = grows_same _ _ _ (Flying (lines_of (texts_of c.args.job.now)) 0);
-      places = refl;
-      advanced = refl;
+      leads = grows_same _ _ (Flying (lines_of (texts_of c.args.job.now)) 0);
+      kind = refl;
       prompt = λ prompt at. (refl, at);
-      kept = refl;
       calls = rose_none (g.L.Link.calls c.args.link.now);
       counted = omega arith;
     }
@@ -28,18 +26,16 @@ pub loop-preserved : goal.loop-preserved
 loop-preserved g c =
     let lines = lines_of (texts_of c.args.job.now) in
     let i = c.loop.invariant in
-    let second = grows_at (g.L.Link.places c.args.link.now) (g.L.Link.places c.loop.link) (g.L.Link.advanced c.args.link.now) (g.L.Link.advanced c.loop.link) _ _ (Leads false (Flying lines c.loop.line) (Flying lines c.in-Going.next)) i.places i.advanced c.in-Going.ensures.leads in
+    let second = grows_at (g.L.Link.kind c.args.link.now) (g.L.Link.kind c.loop.link) _ _ (Leads false (Flying lines c.loop.line) (Flying lines c.in-Going.next)) i.kind c.in-Going.ensures.leads in
     record {
       up = c.in-Going.ensures.up;
       there = omega (arith, c.in-Going.ensures.going.0, lines_length c.args.job.now);
       carried = c.in-Going.ensures.going.1;
-      leads = grows_then _ _ _ _ _ false false (Flying lines 0) (Flying lines c.loop.line) (Flying lines c.in-Going.next) i.leads second;
-      places = c.take_turn.ensures.places ∙ i.places;
-      advanced = c.take_turn.ensures.advanced ∙ i.advanced;
+      leads = grows_then _ _ _ _ false false (Flying lines 0) (Flying lines c.loop.line) (Flying lines c.in-Going.next) i.leads second;
+      kind = c.take_turn.ensures.kind ∙ i.kind;
       prompt = λ prompt at. (let here = i.prompt prompt at in
-          let next = c.in-Going.ensures.prompt (i.kept ∙ prompt) here.1 in
+          let next = c.in-Going.ensures.prompt (prompt_kept i.kind prompt) here.1 in
           (omega (arith, here.0, next.0), next.1));
-      kept = c.take_turn.ensures.kept ∙ i.kept;
       calls = rose_then c.loop.counter 1 (g.L.Link.calls c.args.link.now) (g.L.Link.calls c.loop.link) _ i.calls c.take_turn.ensures.calls;
       counted = omega (arith, i.counted, c.take_turn.ensures.counted);
     }
@@ -48,32 +44,32 @@ pub returns-in-Done-clause-leads : goal.returns-in-Done-clause-leads
 returns-in-Done-clause-leads g c =
     let lines = lines_of (texts_of c.args.job.now) in
     let i = c.loop.invariant in
-    let second = grows_at (g.L.Link.places c.args.link.now) (g.L.Link.places c.loop.link) (g.L.Link.advanced c.args.link.now) (g.L.Link.advanced c.loop.link) _ _ (Leads false (Flying lines c.loop.line) (HasRunAll lines)) i.places i.advanced c.in-Done.ensures.leads in
-    grows_then _ _ _ _ _ false false (Flying lines 0) (Flying lines c.loop.line) (HasRunAll lines) i.leads second
+    let second = grows_at (g.L.Link.kind c.args.link.now) (g.L.Link.kind c.loop.link) _ _ (Leads false (Flying lines c.loop.line) (HasRunAll lines)) i.kind c.in-Done.ensures.leads in
+    grows_then _ _ _ _ false false (Flying lines 0) (Flying lines c.loop.line) (HasRunAll lines) i.leads second
 
 pub returns-in-Resent-clause-leads : goal.returns-in-Resent-clause-leads
 returns-in-Resent-clause-leads g c =
     let lines = lines_of (texts_of c.args.job.now) in
     let i = c.loop.invariant in
-    let second = grows_at (g.L.Link.places c.args.link.now) (g.L.Link.places c.loop.link) (g.L.Link.advanced c.args.link.now) (g.L.Link.advanced c.loop.link) _ _ (Leads true (Flying lines c.loop.line) (Ran lines)) i.places i.advanced c.in-Resent.ensures.leads in
-    grows_then _ _ _ _ _ false true (Flying lines 0) (Flying lines c.loop.line) (Ran lines) i.leads second
+    let second = grows_at (g.L.Link.kind c.args.link.now) (g.L.Link.kind c.loop.link) _ _ (Leads true (Flying lines c.loop.line) (Ran lines)) i.kind c.in-Resent.ensures.leads in
+    grows_then _ _ _ _ false true (Flying lines 0) (Flying lines c.loop.line) (Ran lines) i.leads second
 
 pub returns-in-Failed-clause-leads : goal.returns-in-Failed-clause-leads
 returns-in-Failed-clause-leads g c =
     let lines = lines_of (texts_of c.args.job.now) in
     let i = c.loop.invariant in
-    let second = grows_at (g.L.Link.places c.args.link.now) (g.L.Link.places c.loop.link) (g.L.Link.advanced c.args.link.now) (g.L.Link.advanced c.loop.link) _ _ (Leads false (Flying lines c.loop.line) (Ran lines)) i.places i.advanced c.in-Failed.ensures.leads in
-    grows_then _ _ _ _ _ false false (Flying lines 0) (Flying lines c.loop.line) (Ran lines) i.leads second
+    let second = grows_at (g.L.Link.kind c.args.link.now) (g.L.Link.kind c.loop.link) _ _ (Leads false (Flying lines c.loop.line) (Ran lines)) i.kind c.in-Failed.ensures.leads in
+    grows_then _ _ _ _ false false (Flying lines 0) (Flying lines c.loop.line) (Ran lines) i.leads second
 
 pub returns-clause-leads : goal.returns-clause-leads
 returns-clause-leads g c =
     let lines = lines_of (texts_of c.args.job.now) in
     let i = c.loop.invariant in
     let there = line_there c.args.job.now c.loop.line i.there in
-    let closed = grows_closed (g.L.Link.places c.loop.link) (g.L.Link.advanced c.loop.link) (g.L.Link.up c.loop.link) _ _ (Flying lines c.loop.line) (Ran lines) i.up
+    let closed = grows_closed (g.L.Link.kind c.loop.link) (g.L.Link.up c.loop.link) _ _ (Flying lines c.loop.line) (Ran lines) i.up
     (λ start v flying. closed_ran start lines v (flying_ran start lines c.loop.line v there flying)) c.hang_up.ensures.past in
-    let second = grows_at (g.L.Link.places c.args.link.now) (g.L.Link.places c.loop.link) (g.L.Link.advanced c.args.link.now) (g.L.Link.advanced c.loop.link) _ _ (Leads false (Flying lines c.loop.line) (Ran lines)) i.places i.advanced closed in
-    grows_then _ _ _ _ _ false false (Flying lines 0) (Flying lines c.loop.line) (Ran lines) i.leads second
+    let second = grows_at (g.L.Link.kind c.args.link.now) (g.L.Link.kind c.loop.link) _ _ (Leads false (Flying lines c.loop.line) (Ran lines)) i.kind closed in
+    grows_then _ _ _ _ false false (Flying lines 0) (Flying lines c.loop.line) (Ran lines) i.leads second
 
 pub returns-in-Done-clause-prompt : goal.returns-in-Done-clause-prompt
 returns-in-Done-clause-prompt g c prompt at enough = inl refl
@@ -81,7 +77,7 @@ returns-in-Done-clause-prompt g c prompt at enough = inl refl
 pub returns-in-Resent-clause-prompt : goal.returns-in-Resent-clause-prompt
 returns-in-Resent-clause-prompt g c prompt at enough =
     let i = c.loop.invariant in
-    absurd (c.in-Resent.ensures.prompt (i.kept ∙ prompt) (i.prompt prompt at).1)
+    absurd (c.in-Resent.ensures.prompt (prompt_kept i.kind prompt) (i.prompt prompt at).1)
 
 pub returns-in-Failed-clause-prompt : goal.returns-in-Failed-clause-prompt
 returns-in-Failed-clause-prompt g c prompt at enough = inr refl

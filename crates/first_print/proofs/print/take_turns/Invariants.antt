@@ -11,11 +11,9 @@ invariant-loop g l = record {
   up : g.L.Link.up l.link ≡ true;
   there : l.line ≤ length l.job.commands;
   carried : IsCarried l.line (line_at (lines_of (texts_of l.job)) l.line);
-  leads : Grows (g.L.Link.places l.initial.link) (g.L.Link.advanced l.initial.link) (g.L.Link.past l.initial.link) (g.L.Link.past l.link) (Leads false (Flying (lines_of (texts_of l.job)) 0) (Flying (lines_of (texts_of l.job)) l.line));
-  places : g.L.Link.places l.link ≡ g.L.Link.places l.initial.link;
-  advanced : g.L.Link.advanced l.link ≡ g.L.Link.advanced l.initial.link;
-  prompt : g.L.Link.prompt l.initial.link ≡ true → IsAt (g.L.Link.places l.initial.link) (g.L.Link.advanced l.initial.link) (g.L.Link.past l.initial.link) (IsPromptSent (lines_of (texts_of l.job)) 0) → (l.line ≡ l.counter) × IsAt (g.L.Link.places l.link) (g.L.Link.advanced l.link) (g.L.Link.past l.link) (IsPromptSent (lines_of (texts_of l.job)) l.line);
-  kept : g.L.Link.prompt l.link ≡ g.L.Link.prompt l.initial.link;
+  leads : Grows (g.L.Link.kind l.initial.link) (g.L.Link.past l.initial.link) (g.L.Link.past l.link) (Leads false (Flying (lines_of (texts_of l.job)) 0) (Flying (lines_of (texts_of l.job)) l.line));
+  kind : g.L.Link.kind l.link ≡ g.L.Link.kind l.initial.link;
+  prompt : (g.L.Link.kind l.initial.link).prompt ≡ true → IsAt (g.L.Link.kind l.initial.link) (g.L.Link.past l.initial.link) (IsPromptSent (lines_of (texts_of l.job)) 0) → (l.line ≡ l.counter) × IsAt (g.L.Link.kind l.link) (g.L.Link.past l.link) (IsPromptSent (lines_of (texts_of l.job)) l.line);
   calls : RoseBy l.counter (g.L.Link.calls l.initial.link) (g.L.Link.calls l.link);
   counted : g.L.Link.faults l.initial.link ≤ g.L.Link.faults l.link;
 }

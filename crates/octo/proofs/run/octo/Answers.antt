@@ -9,12 +9,12 @@ pub returns-in-Ok-clause-executed : goal.returns-in-Ok-clause-executed
 returns-in-Ok-clause-executed g c port file turns is =
     let r = c.run-report.result in
     let done : (c.code.result == 0) ≡ is_printed r = ap (λ (n : ℕ). n == 0) c.code.ensures ∙ done_is r (c.run-report.ensures.unchecked port file turns is) in
-    let P : Bool → Type 0 = λ b. IsExecuted (g.L.Link.places c.args.link.now) (g.L.Link.advanced c.args.link.now) (g.F.Source.files c.args.files.now) file b (g.L.Link.past c.args.link.now) (g.L.Link.past c.run-report.new.link) in
+    let P : Bool → Type 0 = λ b. IsExecuted (g.L.Link.kind c.args.link.now) (g.F.Source.files c.args.files.now) file b (g.L.Link.past c.args.link.now) (g.L.Link.past c.run-report.new.link) in
     subst P (sym done) (c.run-report.ensures.executed port file turns is)
 
 pub returns-in-Err-clause-executed : goal.returns-in-Err-clause-executed
 returns-in-Err-clause-executed g c port file turns is =
-    executed_undone (g.L.Link.places c.args.link.now) (g.L.Link.advanced c.args.link.now) (g.F.Source.files c.args.files.now) file (is_printed c.run-report.result) (g.L.Link.past c.args.link.now) (g.L.Link.past c.run-report.new.link) (c.run-report.ensures.executed port file turns is)
+    executed_undone (g.L.Link.kind c.args.link.now) (g.F.Source.files c.args.files.now) file (is_printed c.run-report.result) (g.L.Link.past c.args.link.now) (g.L.Link.past c.run-report.new.link) (c.run-report.ensures.executed port file turns is)
 
 pub returns-in-Ok-clause-prompt : goal.returns-in-Ok-clause-prompt
 returns-in-Ok-clause-prompt g c port file turns is smooth printable steady =

@@ -29,5 +29,5 @@ returns-in-Some-clause-prompt g c port' file' turns' is smooth printable =
     let is_port : names_port port ≡ true = cc in
     let is_turns : turns_behind (drop 3 words) ≡ Some c.in-Some.turns = cc in
     let command = is_print_of words verb port file c.in-Some.turns c.get-else-count-lt3.ensures c.get-in-Some.ensures c.get-in-Some-2.ensures is_print is_port is_turns in
-    let Ends : List ℕ → List ℕ → ℕ → Type 0 = λ p f t. IsSmooth (g.L.Link.prompt c.args.link.now) (g.L.Link.past c.args.link.now) (g.L.Link.listed c.args.link.now p) (g.L.Link.faults c.args.link.now) (g.L.Link.faults c.print.new.link) → IsPrintable (g.F.Source.files c.args.files.now) f t → (is_printed c.print.result ≡ true) ⊎ IsTrouble c.print.result in
+    let Ends : List ℕ → List ℕ → ℕ → Type 0 = λ p f t. IsSmooth (g.L.Link.kind c.args.link.now).prompt (g.L.Link.past c.args.link.now) ((g.L.Link.kind c.args.link.now).listed p) (g.L.Link.faults c.args.link.now) (g.L.Link.faults c.print.new.link) → IsPrintable (g.F.Source.files c.args.files.now) f t → (is_printed c.print.result ≡ true) ⊎ IsTrouble c.print.result in
     same_print (command_of words) port port' file file' c.in-Some.turns turns' Ends command is c.print.ensures.prompt smooth printable

@@ -7,17 +7,13 @@ loop-preserved g c =
     let i = c.loop.invariant in
     let e = c.in-Sent.ensures in
     record {
-      steps = takes_more _ _ _ _ _ _ _ _ _ _ _ _ _ i.steps (takes_at _ _ _ _ _ _ _ _ _ _ _ _ _ _ i.places i.advanced i.prompt e.steps);
+      steps = takes_more _ _ _ _ _ _ _ _ _ _ _ i.steps (takes_at _ _ _ _ _ _ _ _ _ _ i.kind e.steps);
       up = e.up;
-      told = e.told ∙ i.told;
-      places = e.places ∙ i.places;
-      advanced = e.advanced ∙ i.advanced;
-      listed = e.listed ∙ i.listed;
-      prompt = e.prompt ∙ i.prompt;
+      kind = e.kind ∙ i.kind;
       counted = omega (arith, i.counted, e.counted);
     }
 
 pub returns-in-Failed-clause-steps : goal.returns-in-Failed-clause-steps
 returns-in-Failed-clause-steps g c =
     let i = c.loop.invariant in
-    takes_last _ _ _ _ _ _ _ _ _ _ _ _ _ i.steps (takes_at _ _ _ _ _ _ _ _ _ _ _ _ _ _ i.places i.advanced i.prompt c.in-Failed.ensures.steps)
+    takes_last _ _ _ _ _ _ _ _ _ _ _ i.steps (takes_at _ _ _ _ _ _ _ _ _ _ i.kind c.in-Failed.ensures.steps)

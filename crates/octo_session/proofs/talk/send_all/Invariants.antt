@@ -1,18 +1,13 @@
 use Rattle.std.proofs.Common.{◌≡◌, ◌≤◌, true}
-use Rattle.std.specs.Prelude.{is_some}
 use Rattle.octo_session.specs.Steps.{TakesSome, sends}
 use Rattle.octo_session.proofs.Keeping.{unsent}
 use Rattle.octo_session.proofs.talk.send_all.Given as goal
 
 abbrev pub invariant-loop : goal.invariant-loop
 invariant-loop g l = record {
-  steps : TakesSome l.moment (g.L.Link.places l.initial.link) (g.L.Link.advanced l.initial.link) (g.L.Link.prompt l.initial.link) (g.L.Link.past l.initial.link) (g.L.Link.past l.link) (g.L.Link.calls l.initial.link) (g.L.Link.calls l.link) (sends true) l.initial.sender l.sender;
+  steps : TakesSome l.moment (g.L.Link.kind l.initial.link) (g.L.Link.past l.initial.link) (g.L.Link.past l.link) (g.L.Link.calls l.initial.link) (g.L.Link.calls l.link) (sends true) l.initial.sender l.sender;
   up : g.L.Link.up l.link ≡ true;
-  told : is_some (g.L.Link.past l.link) ≡ is_some (g.L.Link.past l.initial.link);
-  places : g.L.Link.places l.link ≡ g.L.Link.places l.initial.link;
-  advanced : g.L.Link.advanced l.link ≡ g.L.Link.advanced l.initial.link;
-  listed : g.L.Link.listed l.link ≡ g.L.Link.listed l.initial.link;
-  prompt : g.L.Link.prompt l.link ≡ g.L.Link.prompt l.initial.link;
+  kind : g.L.Link.kind l.link ≡ g.L.Link.kind l.initial.link;
   counted : g.L.Link.faults l.initial.link ≤ g.L.Link.faults l.link;
 }
 

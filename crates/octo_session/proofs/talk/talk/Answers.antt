@@ -30,13 +30,9 @@ returns-in_default g c =
       sent = e.sent;
       spent = e.spent;
       joined = e.joined;
-      steps = let P : Got → Type 0 = λ x. TakesSome c.args.moment (g.L.Link.places c.args.link.now) (g.L.Link.advanced c.args.link.now) (g.L.Link.prompt c.args.link.now) (g.L.Link.past c.args.link.now) (g.L.Link.past c.proceed.new.link) (g.L.Link.calls c.args.link.now) (g.L.Link.calls c.proceed.new.link) (talk_steps x c.proceed.result.fact (texts_in (map line_of c.proceed.result.issued.items))) c.args.sender.now c.proceed.new.sender in subst P (sym got_same) (takes_talk _ _ _ _ _ _ _ _ _ _ _ _ _ got c.proceed.result.fact (texts_in (map line_of c.proceed.result.issued.items)) c.args.sender.now c.receive.new.sender c.proceed.new.sender is r.places r.advanced r.prompt r.steps e.steps);
+      steps = let P : Got → Type 0 = λ x. TakesSome c.args.moment (g.L.Link.kind c.args.link.now) (g.L.Link.past c.args.link.now) (g.L.Link.past c.proceed.new.link) (g.L.Link.calls c.args.link.now) (g.L.Link.calls c.proceed.new.link) (talk_steps x c.proceed.result.fact (texts_in (map line_of c.proceed.result.issued.items))) c.args.sender.now c.proceed.new.sender in subst P (sym got_same) (takes_talk _ _ _ _ _ _ _ _ _ got c.proceed.result.fact (texts_in (map line_of c.proceed.result.issued.items)) c.args.sender.now c.receive.new.sender c.proceed.new.sender is r.kind r.steps e.steps);
       up = e.up;
-      told = e.told ∙ r.told;
-      places = e.places ∙ r.places;
-      advanced = e.advanced ∙ r.advanced;
-      listed = e.listed ∙ r.listed;
-      prompt = e.prompt ∙ r.prompt;
+      kind = e.kind ∙ r.kind;
       counted = omega (arith, r.counted, e.counted);
       failed = λ is_failed. rose_after _ _ _ r.counted e.counted (e.failed is_failed);
     }

@@ -9,5 +9,5 @@ pub returns-in-Ok-clause-steps : goal.returns-in-Ok-clause-steps
 returns-in-Ok-clause-steps g c =
     let old = c.args.link.now in
     let after : c.open.new.self.sender ≡ begun c.args.self.now.sender = c.open.ensures.sender in
-    let P : LinkFact → Type 0 = λ f. Takes c.args.moment (g.L.Link.places old) (g.L.Link.advanced old) (g.L.Link.prompt old) (g.L.Link.past old) (g.L.Link.past c.dial_port.new.link) (g.L.Link.calls old) (g.L.Link.calls c.dial_port.new.link) (dial_steps f) c.args.self.now.sender c.open.new.self.sender in
-    subst P (sym c.open.ensures.finds) (takes_both c.args.moment (g.L.Link.places old) (g.L.Link.advanced old) (g.L.Link.prompt old) (g.L.Link.past old) (g.L.Link.past c.dial_port.new.link) (g.L.Link.calls old) (g.L.Link.calls c.dial_port.new.link) opens c.args.self.now.sender c.open.new.self.sender after tt c.in-Ok.ensures.calls c.in-Ok.ensures.past c.in-Ok.ensures.past_prompt)
+    let P : LinkFact → Type 0 = λ f. Takes c.args.moment (g.L.Link.kind old) (g.L.Link.past old) (g.L.Link.past c.dial_port.new.link) (g.L.Link.calls old) (g.L.Link.calls c.dial_port.new.link) (dial_steps f) c.args.self.now.sender c.open.new.self.sender in
+    subst P (sym c.open.ensures.finds) (takes_both c.args.moment (g.L.Link.kind old) (g.L.Link.past old) (g.L.Link.past c.dial_port.new.link) (g.L.Link.calls old) (g.L.Link.calls c.dial_port.new.link) opens c.args.self.now.sender c.open.new.self.sender after tt c.in-Ok.ensures.calls c.in-Ok.ensures.past c.in-Ok.ensures.past_prompt)
