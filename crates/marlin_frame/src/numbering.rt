@@ -7,7 +7,7 @@ ghost use Rattle.byte_text.specs.Marks.{has_byte};
 ghost use Rattle.marlin_frame.specs.Numbering.{hello_number, wire_number, hello_frame};
 
 use crate::written::frame;
-use octo_outside::Line;
+use byte_text::Line;
 
 /// The number that the hello gives the printer. No line of a session carries it.
 ///
