@@ -1,38 +1,39 @@
--- The line with which a connection begins, computed.
+-- The line with which a session begins, computed.
 use Rattle.std.proofs.Common.{◌≡◌, ◌<◌, ◌^◌, true, codes, ap, ◌∙◌, refl, arith}
 use Rattle.std.specs.Fmt.{digits}
 use Rattle.byte_text.specs.Marks.{has_byte, has_m110}
 use Rattle.byte_text.specs.Number.{leading_digits, decimal_value, number_of}
 use Rattle.byte_text.specs.Xor.{xor_of}
 use Rattle.marlin_frame.specs.Frame.{head_of, frame_of, lead_of, has_second_n, line_number_of, IsNumberedLine}
+use Rattle.marlin_frame.specs.Numbering.{hello_number, hello_text, hello_frame}
 use Rattle.marlin_frame.proofs.FrameLaws.{sum_of, begins_with_n-frame, fails-frame, lead_of-frame, text_of-frame}
 
-pub hello_bytes : frame_of 0 (codes "M110 N0") ≡ codes "N0 M110 N0*125"
+pub hello_bytes : hello_frame ≡ codes "N0 M110 N1*124"
 unfolding frame_of head_of xor_of digits
 hello_bytes = refl
 
-hello_sum : sum_of 0 (codes "M110 N0") ≡ 125
+hello_sum : sum_of 0 hello_text ≡ 124
 unfolding head_of xor_of digits
 hello_sum = refl
 
-hello_fits : sum_of 0 (codes "M110 N0") < 2 ^ 8
+hello_fits : sum_of 0 hello_text < 2 ^ 8
 hello_fits = omega (arith, hello_sum)
 
-pub hello_lead : lead_of (frame_of 0 (codes "M110 N0")) ≡ 0
-hello_lead = lead_of-frame 0 (codes "M110 N0") (omega arith)
+pub hello_lead : lead_of hello_frame ≡ 0
+hello_lead = lead_of-frame 0 hello_text (omega arith)
 
-pub hello_sets_number : has_m110 (frame_of 0 (codes "M110 N0")) ≡ true
+pub hello_sets_number : has_m110 hello_frame ≡ true
 unfolding has_m110
 hello_sets_number = ap has_m110 hello_bytes
 
-hello_number : line_number_of (codes "N0 M110 N0*125") ≡ 0
+its_number : line_number_of (codes "N0 M110 N1*124") ≡ hello_number
 unfolding line_number_of has_second_n has_m110 has_byte number_of leading_digits decimal_value
-hello_number = refl
+its_number = refl
 
-pub hello_line : IsNumberedLine 0 (codes "M110 N0") (frame_of 0 (codes "M110 N0"))
+pub hello_line : IsNumberedLine hello_number hello_text hello_frame
 hello_line = record {
-  numbered = begins_with_n-frame 0 (codes "M110 N0");
-  whole = fails-frame 0 (codes "M110 N0") hello_fits;
-  number = ap line_number_of hello_bytes ∙ hello_number;
-  command = text_of-frame 0 (codes "M110 N0") (omega arith) hello_fits;
+  numbered = begins_with_n-frame 0 hello_text;
+  whole = fails-frame 0 hello_text hello_fits;
+  number = ap line_number_of hello_bytes ∙ its_number;
+  command = text_of-frame 0 hello_text (omega arith) hello_fits;
 }

@@ -6,6 +6,7 @@ ghost use Rattle.byte_text.specs.Marks.{has_byte, has_m110};
 ghost use Rattle.byte_text.specs.Sendable.{IsSendable};
 ghost use Rattle.marlin_frame.specs.declared.read.Read.{Read};
 ghost use Rattle.marlin_frame.specs.Frame.{frame_of, begins_with_n, fails, lead_of, text_of, IsNumberedLine};
+ghost use Rattle.marlin_frame.specs.Numbering.{hello_number, hello_text, hello_frame};
 ghost use Rattle.marlin_frame.specs.Reading.{IsReading, IsNumbered};
 
 /// What stands on the line of a sendable command: the command under its number, and nothing else.
@@ -18,12 +19,12 @@ pub fn frame_law()
     ensures at_most_95 { (n : ℕ) (text : List ℕ) → n ≤ 2000000000 → IsSendable text → All (λ b. b < 2 ^ 8) text → length (frame_of n text) ≤ 95 }
 {}
 
-/// The line with which a connection begins: `M110 N0` under the number 0, which makes the printer's number 0.
+/// The hello, with which a session begins: a whole line with `M110`, which gives the printer the hello's number.
 pub fn hello_law()
-    ensures bytes { frame_of 0 (codes "M110 N0") ≡ codes "N0 M110 N0*125" }
-    ensures reads_back { IsNumberedLine 0 (codes "M110 N0") (frame_of 0 (codes "M110 N0")) }
-    ensures lead { lead_of (frame_of 0 (codes "M110 N0")) ≡ 0 }
-    ensures sets_number { has_m110 (frame_of 0 (codes "M110 N0")) ≡ true }
+    ensures bytes { hello_frame ≡ codes "N0 M110 N1*124" }
+    ensures reads_back { IsNumberedLine hello_number hello_text hello_frame }
+    ensures lead { lead_of hello_frame ≡ 0 }
+    ensures sets_number { has_m110 hello_frame ≡ true }
 {}
 
 /// A line that fails is numbered, and a command is no longer than its line.

@@ -5,6 +5,7 @@
 #![tactic(auto)]
 
 mod laws;
+mod numbering;
 mod parts;
 mod read;
 #[cfg(test)]
@@ -13,6 +14,7 @@ mod written;
 
 pub use byte_text::xor;
 pub use laws::{frame_law, hello_law, line_law};
+pub use numbering::{HELLO_NUMBER, hello_frame, wire_number};
 pub use parts::{
     begins_with_n, checksum_matches, fails, has_checksum, has_second_n, lead, line_number, text,
 };

@@ -268,9 +268,12 @@ fn lines_are_written_and_read_back(rt: HostRuntime) {
 
 #[test]
 fn lines_of_a_small_print(rt: HostRuntime) {
-    assert!(rt; framed(&rt, 0, b"M110 N0").as_slice() == b"N0 M110 N0*125".as_slice());
-    assert!(rt; framed(&rt, 1, b"G28").as_slice() == b"N1 G28*18".as_slice());
-    assert!(rt; framed(&rt, 2, b"G1 X10").as_slice() == b"N2 G1 X10*83".as_slice());
+    let mut hello = Line::new();
+    hello_frame(&mut hello);
+    assert!(rt; hello.as_slice() == b"N0 M110 N1*124".as_slice());
+    assert!(rt; line_number(&hello) == HELLO_NUMBER && lead(&hello) == 0);
+    assert!(rt; framed(&rt, wire_number(1), b"G28").as_slice() == b"N2 G28*17".as_slice());
+    assert!(rt; framed(&rt, wire_number(2), b"G1 X10").as_slice() == b"N3 G1 X10*82".as_slice());
 }
 
 #[test]

@@ -7,9 +7,9 @@ use Rattle.marlin_frame.proofs.PartLaws.{begins_with_n-fails}
 use Rattle.std.proofs.lemmas.Bool.Decides.{nat_tests}
 use Rattle.marlin_reply.specs.Kind.{kind_of}
 use Rattle.marlin_reply.specs.declared.reply.Reply.TheVariants as reply
-use Rattle.marlin_reply.proofs.Lines.{kind_of-error, kind_of-numbered_ok, kind_of-ok, kind_of-plain_ok, kind_of-resend, kind_of-temps_ok}
+use Rattle.marlin_reply.proofs.Lines.{kind_of-error, kind_of-numbered_ok, kind_of-ok, kind_of-plain_ok, kind_of-resend, kind_of-start, kind_of-temps_ok}
 use Rattle.printer_model.specs.Printer.{IsInTurn, IsRefusal, judged, is_out_of_turn, plain_entry}
-use Rattle.printer_model.specs.Replies.{asked_after, error_line, numbered_ok, ok_line, reason_text, resend_line, run_reply, temperatures_line}
+use Rattle.printer_model.specs.Replies.{asked_after, error_line, numbered_ok, ok_line, reason_text, resend_line, run_reply, start_line, temperatures_line}
 use Rattle.printer_model.specs.declared.printer.Reason.{Reason}
 use Rattle.printer_model.specs.declared.printer.Reason.TheVariants.{WrongNumber, NoChecksum, Mismatch}
 
@@ -102,6 +102,10 @@ kind_of-resend_line last = kind_of-resend (min (last + 1) 4294967295) (omega ari
 pub kind_of-ok_line : kind_of ok_line ≡ reply.Ok None None None None
 unfolding ok_line
 kind_of-ok_line = kind_of-ok
+
+pub kind_of-start_line : kind_of start_line ≡ reply.Start
+unfolding start_line
+kind_of-start_line = kind_of-start
 
 -- the replies to a run
 pub kind_of-temperatures_line : kind_of temperatures_line ≡ reply.Ok None None None (Some (record { tool = Some (record { actual = pos 21300000; target = pos 0 }); bed = Some (record { actual = pos 21220000; target = pos 0 }) }))

@@ -11,7 +11,7 @@ use Rattle.marlin_reply.specs.Kind.{is_chatter}
 use Rattle.printer_model.specs.declared.printer.Reason.{Reason}
 use Rattle.printer_model.specs.declared.printer.Taken.TheVariants.{Accepted, Full}
 use Rattle.printer_model.specs.declared.event.WorldEvent.{WorldEvent}
-use Rattle.printer_model.specs.declared.event.WorldEvent.TheVariants.{Opened, Send, Arrive, Lose, Garble, Run, Chatter, Recv, Closed}
+use Rattle.printer_model.specs.declared.event.WorldEvent.TheVariants.{Opened, Send, Arrive, Lose, Garble, Run, Restart, Chatter, Recv, Closed}
 
 -- events in two parts
 pub world_from-append : (w : WorldData) (first more : List WorldEvent) → world_from w (first ++ more) ≡ world_from (world_from w first) more
@@ -68,6 +68,7 @@ happen-Grew w Arrive = record { added = []; is = arrived_log w w.up ∙ sym (app
 happen-Grew w (Lose at) = Grew-refl w.log
 happen-Grew w (Garble at line) = Grew-refl w.log
 happen-Grew w Run = ran_log w w.printer.queue
+happen-Grew w Restart = Grew-refl w.log
 happen-Grew w (Chatter reply) = Grew-refl w.log
 happen-Grew w Recv = Grew-refl w.log
 happen-Grew w Closed = Grew-refl w.log
@@ -88,6 +89,7 @@ happen-log w Arrive _ = arrived_log w w.up
 happen-log w (Lose at) _ = refl
 happen-log w (Garble at line) _ = refl
 happen-log w Run no_run = absurd (cc)
+happen-log w Restart _ = refl
 happen-log w (Chatter reply) _ = refl
 happen-log w Recv _ = refl
 happen-log w Closed _ = refl
@@ -124,6 +126,7 @@ happen-IsSameKind w Arrive = arrived-IsSameKind w w.up
 happen-IsSameKind w (Lose at) = IsSameKind-refl w.printer
 happen-IsSameKind w (Garble at line) = IsSameKind-refl w.printer
 happen-IsSameKind w Run = ran-IsSameKind w w.printer.queue
+happen-IsSameKind w Restart = record { places = refl; advanced = refl }
 happen-IsSameKind w (Chatter reply) = IsSameKind-refl w.printer
 happen-IsSameKind w Recv = IsSameKind-refl w.printer
 happen-IsSameKind w Closed = IsSameKind-refl w.printer
@@ -164,6 +167,7 @@ happen-linked w Arrive free = arrived_linked w w.up
 happen-linked w (Lose at) free = refl
 happen-linked w (Garble at line) free = refl
 happen-linked w Run free = ran_linked w w.printer.queue
+happen-linked w Restart free = refl
 happen-linked w (Chatter reply) free = refl
 happen-linked w Recv free = absurd (cc)
 happen-linked w Closed free = absurd (cc)
@@ -219,11 +223,12 @@ happen-printer w Arrive idle = absurd (cc)
 happen-printer w (Lose at) idle = refl
 happen-printer w (Garble at line) idle = refl
 happen-printer w Run idle = absurd (cc)
+happen-printer w Restart idle = absurd (cc)
 happen-printer w (Chatter reply) idle = refl
 happen-printer w Recv idle = refl
 happen-printer w Closed idle = refl
 
--- all events but Opened, Arrive and Run leave the printer
+-- all events but Opened, Arrive, Run and Restart leave the printer
 pub apply-printer : (w : WorldData) (event : WorldEvent) → moves_printer event ≡ false → (apply w event).printer ≡ w.printer
 apply-printer w event idle = after_event (λ (v : WorldData). v.printer ≡ w.printer) w event refl (λ _. happen-printer w event idle)
 
@@ -238,11 +243,12 @@ happen-up w Arrive idle = absurd (cc)
 happen-up w (Lose at) idle = absurd (cc)
 happen-up w (Garble at line) idle = absurd (cc)
 happen-up w Run idle = ran_up w w.printer.queue
+happen-up w Restart idle = refl
 happen-up w (Chatter reply) idle = refl
 happen-up w Recv idle = refl
 happen-up w Closed idle = absurd (cc)
 
--- Run, Chatter and Recv leave the wire to the printer
+-- Run, Restart, Chatter and Recv leave the wire to the printer
 pub apply-up : (w : WorldData) (event : WorldEvent) → moves_up event ≡ false → (apply w event).up ≡ w.up
 apply-up w event idle = after_event (λ (v : WorldData). v.up ≡ w.up) w event refl (λ _. happen-up w event idle)
 
@@ -253,6 +259,7 @@ happen-down w Arrive idle = absurd (cc)
 happen-down w (Lose at) idle = refl
 happen-down w (Garble at line) idle = refl
 happen-down w Run idle = absurd (cc)
+happen-down w Restart idle = absurd (cc)
 happen-down w (Chatter reply) idle = absurd (cc)
 happen-down w Recv idle = absurd (cc)
 happen-down w Closed idle = absurd (cc)
@@ -293,6 +300,7 @@ happen-tidy w Arrive can tidy = arrived_tidy w w.up refl tidy
 happen-tidy w (Lose at) can tidy = λ shut. let idle = tidy shut in record { up = ap (λ (up : List (List ℕ)). remove up at) idle.up ∙ nothing_out at; down = idle.down }
 happen-tidy w (Garble at line) can tidy = λ shut. let idle = tidy shut in record { up = ap (λ (up : List (List ℕ)). slice_set up at line.items) idle.up; down = idle.down }
 happen-tidy w Run can tidy = ran_tidy w w.printer.queue tidy
+happen-tidy w Restart can tidy = λ shut. absurd (cc)
 happen-tidy w (Chatter reply) can tidy = open_only w (happen w (Chatter reply)) (is_chatter reply.items) can refl
 happen-tidy w Recv can tidy = open_only w (happen w Recv) (not (is_empty w.down)) can refl
 happen-tidy w Closed can tidy = λ shut. record { up = refl; down = refl }

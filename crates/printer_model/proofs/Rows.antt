@@ -5,7 +5,7 @@ use Rattle.byte_text.specs.Marks.{has_m110, has_byte}
 use Rattle.byte_text.specs.Number.{number_of, decimal_value, leading_digits}
 use Rattle.byte_text.specs.Xor.{xor_of}
 use Rattle.marlin_frame.specs.Frame.{begins_with_n, checked_part, has_checksum, checksum_matches, fails, lead_of, has_second_n, line_number_of, behind_digits, behind_space, text_of}
-use Rattle.printer_model.specs.Printer.{PrinterData, judged, is_out_of_turn, take_line}
+use Rattle.printer_model.specs.Printer.{PrinterData, judged, is_out_of_turn, take_line, restarted}
 use Rattle.printer_model.specs.declared.printer.Reason.TheVariants.{WrongNumber, NoChecksum, Mismatch}
 use Rattle.printer_model.specs.declared.printer.Taken.TheVariants.{Accepted, Refused}
 
@@ -19,14 +19,19 @@ unfolding judged is_out_of_turn begins_with_n has_checksum fails line_number_of 
 wrong_number = refl
 
 -- the hello of any printer
-hello : (take_line (at 4) (codes "N0 M110 N0*125")) ≡ (Accepted, record { last = 0; places = 4; advanced = false; queue = record { number = Some 0; lead = Some 0; text = codes "M110 N0" } ∷ [] })
+hello : (take_line (at 4) (codes "N0 M110 N1*124")) ≡ (Accepted, record { last = 1; places = 4; advanced = false; queue = record { number = Some 1; lead = Some 0; text = codes "M110 N1" } ∷ [] })
 unfolding judged is_out_of_turn begins_with_n checked_part has_checksum checksum_matches fails line_number_of lead_of has_second_n has_m110 has_byte number_of leading_digits decimal_value xor_of text_of behind_digits behind_space
 hello = refl
 
 -- a garbled hello
-garbled : (take_line (at 4) (codes "N0 M110 N0*126")) ≡ (Refused Mismatch 4, at 4)
+garbled : (take_line (at 4) (codes "N0 M110 N1*125")) ≡ (Refused Mismatch 4, at 4)
 unfolding judged is_out_of_turn begins_with_n checked_part has_checksum checksum_matches fails line_number_of lead_of has_second_n has_m110 has_byte number_of leading_digits decimal_value xor_of text_of behind_digits behind_space
 garbled = refl
+
+-- a printer that restarted takes none of the lines of a session, whose numbers are 2 and more
+after_restart : (take_line (restarted (at 1)) (codes "N2 G28*17")) ≡ (Refused WrongNumber 0, at 0)
+unfolding judged is_out_of_turn begins_with_n has_checksum fails line_number_of lead_of has_second_n has_m110 has_byte number_of leading_digits decimal_value
+after_restart = refl
 
 -- no checksum at all, for a line in turn
 bare : (take_line (at 4) (codes "N5 G28")) ≡ (Refused NoChecksum 4, at 4)

@@ -8,7 +8,7 @@ use Rattle.printer_model.specs.World.{WorldData, world_of, world_from, Grew}
 use Rattle.printer_model.proofs.Laws.{world_of-append, world_from-Grew}
 use Rattle.printer_model.specs.Executed.{left_behind, is_opened, opens, till, is_counted, executed}
 use Rattle.printer_model.specs.declared.event.WorldEvent.{WorldEvent}
-use Rattle.printer_model.specs.declared.event.WorldEvent.TheVariants.{Opened, Send, Arrive, Lose, Garble, Run, Chatter, Recv, Closed}
+use Rattle.printer_model.specs.declared.event.WorldEvent.TheVariants.{Opened, Send, Arrive, Lose, Garble, Run, Restart, Chatter, Recv, Closed}
 
 -- the counted lines run from one past to a longer one
 abbrev lines_between : ℕ → Bool → List WorldEvent → List WorldEvent → List Logged
@@ -25,6 +25,7 @@ till-append s (Arrive ∷ past) added later = ap (λ (es : List WorldEvent). Arr
 till-append s (Lose at ∷ past) added later = ap (λ (es : List WorldEvent). Lose at ∷ es) (till-append s past added later)
 till-append s (Garble at line ∷ past) added later = ap (λ (es : List WorldEvent). Garble at line ∷ es) (till-append s past added later)
 till-append s (Run ∷ past) added later = ap (λ (es : List WorldEvent). Run ∷ es) (till-append s past added later)
+till-append s (Restart ∷ past) added later = ap (λ (es : List WorldEvent). Restart ∷ es) (till-append s past added later)
 till-append s (Chatter reply ∷ past) added later = ap (λ (es : List WorldEvent). Chatter reply ∷ es) (till-append s past added later)
 till-append s (Recv ∷ past) added later = ap (λ (es : List WorldEvent). Recv ∷ es) (till-append s past added later)
 till-append s (Closed ∷ past) added later = ap (λ (es : List WorldEvent). Closed ∷ es) (till-append s past added later)
@@ -39,6 +40,7 @@ till-all s (Arrive ∷ past) few = ap (λ (es : List WorldEvent). Arrive ∷ es)
 till-all s (Lose at ∷ past) few = ap (λ (es : List WorldEvent). Lose at ∷ es) (till-all s past few)
 till-all s (Garble at line ∷ past) few = ap (λ (es : List WorldEvent). Garble at line ∷ es) (till-all s past few)
 till-all s (Run ∷ past) few = ap (λ (es : List WorldEvent). Run ∷ es) (till-all s past few)
+till-all s (Restart ∷ past) few = ap (λ (es : List WorldEvent). Restart ∷ es) (till-all s past few)
 till-all s (Chatter reply ∷ past) few = ap (λ (es : List WorldEvent). Chatter reply ∷ es) (till-all s past few)
 till-all s (Recv ∷ past) few = ap (λ (es : List WorldEvent). Recv ∷ es) (till-all s past few)
 till-all s (Closed ∷ past) few = ap (λ (es : List WorldEvent). Closed ∷ es) (till-all s past few)
@@ -52,6 +54,7 @@ opens-append (Arrive ∷ past) added = opens-append past added
 opens-append (Lose at ∷ past) added = opens-append past added
 opens-append (Garble at line ∷ past) added = opens-append past added
 opens-append (Run ∷ past) added = opens-append past added
+opens-append (Restart ∷ past) added = opens-append past added
 opens-append (Chatter reply ∷ past) added = opens-append past added
 opens-append (Recv ∷ past) added = opens-append past added
 opens-append (Closed ∷ past) added = opens-append past added
@@ -85,6 +88,7 @@ till-IsFront s (Arrive ∷ past) = more_front Arrive (till-IsFront s past)
 till-IsFront s (Lose at ∷ past) = more_front (Lose at) (till-IsFront s past)
 till-IsFront s (Garble at line ∷ past) = more_front (Garble at line) (till-IsFront s past)
 till-IsFront s (Run ∷ past) = more_front Run (till-IsFront s past)
+till-IsFront s (Restart ∷ past) = more_front Restart (till-IsFront s past)
 till-IsFront s (Chatter reply ∷ past) = more_front (Chatter reply) (till-IsFront s past)
 till-IsFront s (Recv ∷ past) = more_front Recv (till-IsFront s past)
 till-IsFront s (Closed ∷ past) = more_front Closed (till-IsFront s past)
@@ -139,6 +143,7 @@ till-over s Arrive past over = absurd (cc)
 till-over s (Lose at) past over = absurd (cc)
 till-over s (Garble at line) past over = absurd (cc)
 till-over s Run past over = absurd (cc)
+till-over s Restart past over = absurd (cc)
 till-over s (Chatter reply) past over = absurd (cc)
 till-over s Recv past over = absurd (cc)
 till-over s Closed past over = absurd (cc)
@@ -152,6 +157,7 @@ till-on s Arrive past n on = let same : s ≡ n = cc in ap (λ (k : ℕ). Arrive
 till-on s (Lose at) past n on = let same : s ≡ n = cc in ap (λ (k : ℕ). Lose at ∷ till k past) same
 till-on s (Garble at line) past n on = let same : s ≡ n = cc in ap (λ (k : ℕ). Garble at line ∷ till k past) same
 till-on s Run past n on = let same : s ≡ n = cc in ap (λ (k : ℕ). Run ∷ till k past) same
+till-on s Restart past n on = let same : s ≡ n = cc in ap (λ (k : ℕ). Restart ∷ till k past) same
 till-on s (Chatter reply) past n on = let same : s ≡ n = cc in ap (λ (k : ℕ). Chatter reply ∷ till k past) same
 till-on s Recv past n on = let same : s ≡ n = cc in ap (λ (k : ℕ). Recv ∷ till k past) same
 till-on s Closed past n on = let same : s ≡ n = cc in ap (λ (k : ℕ). Closed ∷ till k past) same

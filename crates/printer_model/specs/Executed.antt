@@ -1,5 +1,6 @@
 -- What was executed in a session of a past.
 use Rattle.std.specs.Prelude.{ℕ, zero, suc, pred, Bool, true, false, not, ◌==◌, if◌then◌else◌, List, [], ◌∷◌, length, drop, filter, Option, Some, None}
+use Rattle.marlin_frame.specs.Numbering.{hello_number}
 use Rattle.printer_model.specs.Printer.{Logged}
 use Rattle.printer_model.specs.World.{world_of}
 use Rattle.printer_model.specs.declared.event.WorldEvent.{WorldEvent}
@@ -43,14 +44,14 @@ till s [] = []
 till s (event ∷ past) =
     if is_opened event then open_on s (event ∷ till (pred s) past) else event ∷ till s past
 
--- whether a number is 0
-abbrev pub is_zero : Option ℕ → Bool
-is_zero None = false
-is_zero (Some number) = number == 0
+-- whether a number is the hello's
+abbrev pub is_hello : Option ℕ → Bool
+is_hello None = false
+is_hello (Some number) = number == hello_number
 
--- whether a line that was run has another number than 0, the hello's
+-- whether a line that was run has another number than the hello
 abbrev pub is_counted : Logged → Bool
-is_counted line = not (is_zero line.number)
+is_counted line = not (is_hello line.number)
 
 -- what the printer had run by the end of session s
 abbrev pub log_till : ℕ → Bool → ℕ → List WorldEvent → List Logged

@@ -1,3 +1,4 @@
+pub mod Exchanged
 pub mod Executed
 pub mod Garble
 pub mod Printer

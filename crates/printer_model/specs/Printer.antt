@@ -94,6 +94,10 @@ run_queue p (entry ∷ behind) = (Some (ran_line p entry), record p { last = las
 abbrev pub run_front : PrinterData → Option RanLine × PrinterData
 run_front p = run_queue p p.queue
 
+-- the printer restarts: it expects number 1, and what waited is gone
+abbrev pub restarted : PrinterData → PrinterData
+restarted p = record p { last = 0; queue = [] }
+
 -- what of it the log keeps
 abbrev pub logged : RanLine → Logged
 logged ran = record { number = ran.number; text = ran.text }

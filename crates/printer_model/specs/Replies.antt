@@ -33,6 +33,10 @@ taken_replies Accepted = []
 taken_replies Full = []
 taken_replies (Refused reason last) = error_line reason last ∷ resend_line last ∷ ok_line ∷ []
 
+-- what the printer says as it starts
+unfoldable pub start_line : List ℕ
+start_line = codes "start"
+
 -- the reply to a question for temperatures
 unfoldable pub temperatures_line : List ℕ
 temperatures_line = codes "ok T:21.30 /0.00 B:21.22 /0.00 @:0 B@:0"

@@ -2,11 +2,11 @@
 use Rattle.std.specs.Prelude.{◌≡◌, ℕ, Bool, true, false, ◌&&◌, not, nat_le, nat_lt, if◌then◌else◌, List, [], ◌∷◌, ◌++◌, length, drop, map, remove, slice_set, fold, Option, Some, None, Result, Ok, Err}
 use Rattle.marlin_frame.specs.Frame.{fails}
 use Rattle.marlin_reply.specs.Kind.{is_chatter}
-use Rattle.printer_model.specs.Printer.{PrinterData, Logged, RanLine, is_full, take_line, run_front, logged, waiting_as}
-use Rattle.printer_model.specs.Replies.{taken_replies}
+use Rattle.printer_model.specs.Printer.{PrinterData, Logged, RanLine, is_full, take_line, run_front, restarted, logged, waiting_as}
+use Rattle.printer_model.specs.Replies.{taken_replies, start_line}
 use Rattle.printer_model.specs.declared.printer.Taken.{Taken}
 use Rattle.printer_model.specs.declared.event.WorldEvent.{WorldEvent}
-use Rattle.printer_model.specs.declared.event.WorldEvent.TheVariants.{Opened, Send, Arrive, Lose, Garble, Run, Chatter, Recv, Closed}
+use Rattle.printer_model.specs.declared.event.WorldEvent.TheVariants.{Opened, Send, Arrive, Lose, Garble, Run, Restart, Chatter, Recv, Closed}
 
 -- whether a link is made, the printer, what it ran, and the lines on the wires to the printer and from it
 pub record WorldData : Type 0 where
@@ -42,6 +42,7 @@ is_free Arrive = true
 is_free (Lose at) = true
 is_free (Garble at line) = true
 is_free Run = true
+is_free Restart = true
 is_free (Chatter reply) = true
 is_free _ = false
 
@@ -55,11 +56,13 @@ abbrev pub moves_printer : WorldEvent → Bool
 moves_printer (Opened last) = true
 moves_printer Arrive = true
 moves_printer Run = true
+moves_printer Restart = true
 moves_printer _ = false
 
 -- whether an event may change the wire to the printer
 abbrev pub moves_up : WorldEvent → Bool
 moves_up Run = false
+moves_up Restart = false
 moves_up (Chatter reply) = false
 moves_up Recv = false
 moves_up _ = true
@@ -79,6 +82,7 @@ can_happen w Arrive = not (is_empty w.up) && not (is_full w.printer)
 can_happen w (Lose at) = nat_lt at (length w.up)
 can_happen w (Garble at line) = nat_lt at (length w.up) && (fails line.items && fits_wire line.items)
 can_happen w Run = not (is_empty w.printer.queue)
+can_happen w Restart = w.linked
 can_happen w (Chatter reply) = w.linked && is_chatter reply.items
 can_happen w Recv = w.linked && not (is_empty w.down)
 can_happen w Closed = w.linked
@@ -101,6 +105,10 @@ abbrev pub after_run : WorldData → Option RanLine × PrinterData → WorldData
 after_run w (None, p) = w
 after_run w (Some ran, p) = record w { printer = p; log = w.log ++ logged ran ∷ []; down = replied w ran.reply }
 
+-- the printer restarted; what it ran stays run
+abbrev pub after_restart : WorldData → WorldData
+after_restart w = record w { printer = restarted w.printer; down = w.down ++ start_line ∷ [] }
+
 -- a reply is at the front of the wire from the printer
 pub record IsFrontReply (reply : List ℕ) (down : List (List ℕ)) : Type 0 where
   pub behind : List (List ℕ)
@@ -114,6 +122,7 @@ happen w Arrive = arrive_front w w.up
 happen w (Lose at) = record w { up = remove w.up at }
 happen w (Garble at line) = record w { up = slice_set w.up at line.items }
 happen w Run = after_run w (run_front w.printer)
+happen w Restart = after_restart w
 happen w (Chatter reply) = record w { down = w.down ++ reply.items ∷ [] }
 happen w Recv = record w { down = drop 1 w.down }
 happen w Closed = record w { linked = false; up = []; down = [] }
@@ -132,6 +141,7 @@ abbrev pub takes_memory : WorldEvent → Bool
 takes_memory (Send line) = true
 takes_memory Arrive = true
 takes_memory Run = true
+takes_memory Restart = true
 takes_memory (Chatter reply) = true
 takes_memory _ = false
 

@@ -19,6 +19,9 @@ pub enum WorldEvent {
     Garble { at: u32, line: Line },
     /// The printer runs the front of its queue.
     Run,
+    /// The printer restarts over an open link: its last line number is 0, its queue is empty, and it says `start`. What it
+    /// executed stays executed.
+    Restart,
     /// The printer says something that is neither `ok`, `Resend:` nor `start`, over an open link.
     Chatter(ReplyLine),
     /// The host takes the front of the wire from the printer, over an open link.

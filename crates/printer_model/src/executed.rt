@@ -1,12 +1,13 @@
 //! What the printer ran, in order.
 ghost use Rattle.std.specs.Prelude.{◌≡◌, ◌≤◌, drop, filter, pred, IfOk};
-ghost use Rattle.printer_model.specs.Executed.{executed, is_counted, is_zero, left_behind, is_opened, till};
+ghost use Rattle.printer_model.specs.Executed.{executed, is_counted, left_behind, is_opened, till};
 ghost use Rattle.printer_model.specs.World.{world_of};
 
 use byte_text::Line;
 use crate::event::WorldEvent;
 use crate::printer::line_of;
 use crate::world::World;
+use marlin_frame::HELLO_NUMBER;
 use std::alloc::{AllocError, Global};
 use std::marker::Model;
 
@@ -25,7 +26,7 @@ impl Model for ExecutedLine {
     ghost view = { λ l. record { number = l.number; text = l.text.items } };
 }
 
-/// The lines that the printer ran in a session, without those of number 0.
+/// The lines that the printer ran in a session, without those of the hello's number.
 #[derive(Drop)]
 pub struct Executed {
     lines: Vec<ExecutedLine>,
@@ -112,14 +113,14 @@ fn replay(
     Ok(world)
 }
 
-/// Whether a line has another number than 0, the hello's.
+/// Whether a line has another number than the hello.
 fn is_counted(line: &ExecutedLine) -> bool
     ensures { result ≡ is_counted line.now }
 {
-    line.number != Some(0)
+    line.number != Some(HELLO_NUMBER)
 }
 
-/// Copies of the lines that have another number than 0.
+/// Copies of the lines that have another number than the hello.
 fn counted_lines(alloc: Global, lines: &[ExecutedLine]) -> Result<Executed, AllocError>
     ensures { IfOk result (λ e. e ≡ filter is_counted lines.now) }
 {

@@ -1,7 +1,7 @@
 //! The printer: it takes numbered lines into a short queue and runs them in order, as Marlin's command queue does.
 ghost use Rattle.std.specs.Prelude.{◌≡◌, ◌≤◌, ◌+◌, ◌-◌, List, [], ◌∷◌, length, Option, drop};
 ghost use Rattle.printer_model.specs.Replies.{run_reply};
-ghost use Rattle.printer_model.specs.Printer.{is_full, judged, is_out_of_turn, last_behind, last_after, numbered_entry, plain_entry, run_front, take_line};
+ghost use Rattle.printer_model.specs.Printer.{is_full, judged, is_out_of_turn, last_behind, last_after, numbered_entry, plain_entry, restarted, run_front, take_line};
 
 use crate::replies::run_reply;
 use arrayvec::ArrayVec;
@@ -163,6 +163,16 @@ impl Printer {
             let entry = self.queue.remove(0);
             self.last = next_last(self.last, &entry);
         }
+    }
+
+    /// The printer restarts: its last line number is 0, and nothing waits.
+    ///
+    /// Source: Marlin's queue.cpp, whose line number and ring buffer are in memory that a reset clears.
+    pub(crate) fn restart(&mut self)
+        ensures { self.new ≡ restarted self.old }
+    {
+        self.last = 0;
+        self.queue.clear();
     }
 
     /// How many entries wait.

@@ -1,7 +1,7 @@
 //! The lines that the printer replies, by Marlin's serial protocol.
 ghost use Rattle.std.specs.Prelude.{◌≡◌, ◌+◌, ◌≤◌, ◌++◌, length, decimal, codes, min};
 ghost use Rattle.arrayvec.specs.ArrayVec.{array_vec_len};
-ghost use Rattle.printer_model.specs.Replies.{reason_text, asked_after, error_line, resend_line, ok_line, temperatures_line, lead_text, numbered_ok, run_reply};
+ghost use Rattle.printer_model.specs.Replies.{reason_text, asked_after, error_line, resend_line, ok_line, start_line, temperatures_line, lead_text, numbered_ok, run_reply};
 
 use byte_text::ReplyLine;
 use crate::printer::Reason;
@@ -71,6 +71,16 @@ pub fn ok_line() -> ReplyLine
 {
     let mut line = ReplyLine::new();
     put(&mut line, b"ok");
+    line
+}
+
+/// What the printer says as it starts: `start`.
+#[tactic(auto, unfolding(crate::specs::Replies::start_line))]
+pub fn start_line() -> ReplyLine
+    ensures { result.items ≡ start_line }
+{
+    let mut line = ReplyLine::new();
+    put(&mut line, b"start");
     line
 }
 

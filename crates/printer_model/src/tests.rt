@@ -27,6 +27,7 @@ enum Step {
     Lose(u32),
     Garble(&'static str),
     Run,
+    Restart,
     Chat(&'static str),
     // The reply at the front is this one, and is received.
     Hear(&'static str),
@@ -46,6 +47,7 @@ fn event(rt: &impl Abort, step: Step) -> WorldEvent {
             line: line(rt, text),
         },
         Step::Run => WorldEvent::Run,
+        Step::Restart => WorldEvent::Restart,
         Step::Chat(text) => WorldEvent::Chatter(reply(rt, text)),
         Step::Hear(_) | Step::Quiet => WorldEvent::Recv,
         Step::Close => WorldEvent::Closed,
@@ -77,28 +79,28 @@ const STEPS: [(Step, bool); 44] = [
     (Step::Hear("Resend: 5"), true),
     (Step::Hear("ok"), true),
     (Step::Quiet, false),
-    (Step::Send("N0 M110 N0*126"), true),
+    (Step::Send("N0 M110 N1*125"), true),
     (Step::Arrive, true),
     (Step::Hear("Error:checksum mismatch, Last Line: 4"), true),
     (Step::Hear("Resend: 5"), true),
     (Step::Hear("ok"), true),
-    (Step::Send("N0 M110 N0*125"), true),
-    (Step::Send("N1 G28*18"), true),
+    (Step::Send("N0 M110 N1*124"), true),
+    (Step::Send("N2 G28*17"), true),
     (Step::Arrive, true),
-    (Step::Garble("N1 G28*18"), false),
+    (Step::Garble("N2 G28*17"), false),
     (Step::Garble("G28"), false),
-    (Step::Garble("N1 G28*19"), true),
+    (Step::Garble("N2 G28*18"), true),
     (Step::Arrive, true),
     (Step::Run, true),
-    (Step::Hear("Error:checksum mismatch, Last Line: 0"), true),
-    (Step::Hear("Resend: 1"), true),
+    (Step::Hear("Error:checksum mismatch, Last Line: 1"), true),
+    (Step::Hear("Resend: 2"), true),
     (Step::Hear("ok"), true),
     (Step::Hear("ok"), true),
     (Step::Send("M105"), true),
     (Step::Send("M114"), true),
     (Step::Send("M115"), true),
-    (Step::Send("N1 G28*18"), true),
     (Step::Send("N2 G28*17"), true),
+    (Step::Send("N3 G28*16"), true),
     (Step::Arrive, true),
     (Step::Arrive, true),
     (Step::Arrive, true),
@@ -116,10 +118,11 @@ const STEPS: [(Step, bool); 44] = [
 ];
 
 // The greatest number, and events that can't happen.
-const REFUSALS: [(Step, bool); 23] = [
+const REFUSALS: [(Step, bool); 24] = [
     (Step::Send("M105"), false),
     (Step::Quiet, false),
     (Step::Close, false),
+    (Step::Restart, false),
     (Step::Chat("echo:busy: processing"), false),
     (Step::Open(4_294_967_295), true),
     (Step::Open(0), false),
@@ -128,8 +131,8 @@ const REFUSALS: [(Step, bool); 23] = [
     (Step::Chat("start"), false),
     (Step::Chat("echo:busy: processing"), true),
     (Step::Hear("echo:busy: processing"), true),
-    (Step::Send("N0 M110 N0*126"), true),
-    (Step::Send("N1 G28"), true),
+    (Step::Send("N0 M110 N1*125"), true),
+    (Step::Send("N2 G28"), true),
     (Step::Lose(2), false),
     (Step::Arrive, true),
     (Step::Arrive, true),
@@ -146,6 +149,32 @@ const REFUSALS: [(Step, bool); 23] = [
     (Step::Hear("Resend: 4294967295"), true),
     (Step::Hear("ok"), true),
     (Step::Quiet, false),
+];
+
+// A line that was run, is sent again, and comes to a printer that has restarted.
+const RESTART: [(Step, bool); 19] = [
+    (Step::Open(0), true),
+    (Step::Send("N0 M110 N1*124"), true),
+    (Step::Arrive, true),
+    (Step::Run, true),
+    (Step::Hear("ok"), true),
+    (Step::Send("N2 G28*17"), true),
+    (Step::Arrive, true),
+    (Step::Run, true),
+    (Step::Send("M105"), true),
+    (Step::Arrive, true),
+    (Step::Send("N2 G28*17"), true),
+    (Step::Restart, true),
+    (Step::Run, false),
+    (Step::Arrive, true),
+    (Step::Hear("ok"), true),
+    (Step::Hear("start"), true),
+    (
+        Step::Hear("Error:Line Number is not Last Line Number+1, Last Line: 0"),
+        true,
+    ),
+    (Step::Hear("Resend: 1"), true),
+    (Step::Hear("ok"), true),
 ];
 
 #[test]
@@ -167,6 +196,15 @@ fn world_refuses_events(rt: HostRuntime) {
 }
 
 #[test]
+fn printer_restarts(rt: HostRuntime) {
+    let mut world = World::new(rt.alloc(), 4, false);
+    for (step, happens) in RESTART {
+        perform(&rt, &mut world, step, happens);
+    }
+    assert_eq!(&rt; world.log().len(), 2);
+}
+
+#[test]
 fn printer_answers(rt: HostRuntime) {
     let mut printer = Printer::new(4, 2, true);
     let full = Taken::Refused {
@@ -176,28 +214,28 @@ fn printer_answers(rt: HostRuntime) {
     for (text, want) in [
         ("N5 G28", full),
         (
-            "N0 M110 N0*126",
+            "N0 M110 N1*125",
             Taken::Refused {
                 reason: Reason::Mismatch,
                 last: 4,
             },
         ),
-        ("N0 M110 N0*125", Taken::Accepted),
+        ("N0 M110 N1*124", Taken::Accepted),
         (
-            "N2 G28*17",
+            "N3 G28*16",
             Taken::Refused {
                 reason: Reason::WrongNumber,
-                last: 0,
+                last: 1,
             },
         ),
-        ("N1 G28*18", Taken::Accepted),
-        ("N2 G28*17", Taken::Full),
+        ("N2 G28*17", Taken::Accepted),
+        ("N3 G28*16", Taken::Full),
     ] {
         let bytes = text.as_bytes();
         assert!(&rt; bytes.len() <= 95);
         assert_eq!(&rt; printer.arrive(bytes), want);
     }
-    for (number, reply) in [(0, "ok N0 P15 B0"), (1, "ok N1 P15 B1")] {
+    for (number, reply) in [(1, "ok N0 P15 B0"), (2, "ok N2 P15 B1")] {
         let ran = printer.run_one().expect(&rt, "a line that waits");
         assert_eq!(&rt; ran.number, Some(number));
         assert_eq!(&rt; ran.reply.as_slice(), reply.as_bytes());
@@ -213,6 +251,7 @@ fn ample(rt: HostRuntime) {
         Step::Send("M105"),
         Step::Arrive,
         Step::Run,
+        Step::Restart,
         Step::Chat("wait"),
     ] {
         let happened = world.apply(&event(&rt, step));

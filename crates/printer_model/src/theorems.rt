@@ -1,14 +1,15 @@
 //! Laws of the printer and of the world, on which proofs about hosts rest. A law's function does nothing: its contract
 //! is the law.
-ghost use Rattle.std.specs.Prelude.{◌≡◌, ◌≢◌, ℕ, ◌<◌, ◌+◌, ◌^◌, ◌++◌, Bool, true, false, [], List, Option, Some, None, Ok, Err, bytes_eq, codes, pos, filter};
+ghost use Rattle.std.specs.Prelude.{◌≡◌, ◌≢◌, ℕ, suc, ◌<◌, ◌≤◌, ◌+◌, ◌^◌, ◌++◌, ◌∷◌, Bool, true, false, [], List, Option, Some, None, Ok, Err, bytes_eq, codes, pos, filter};
 ghost use Rattle.std.specs.List.{list_all};
 ghost use Rattle.byte_text.specs.Marks.{has_m110};
 ghost use Rattle.marlin_frame.specs.Frame.{IsNumberedLine, begins_with_n, fails, has_checksum, lead_of, line_number_of};
 ghost use Rattle.marlin_reply.specs.Kind.{kind_of};
 ghost use Rattle.marlin_reply.specs.declared.reply.Reply.TheVariants as reply;
-ghost use Rattle.printer_model.specs.Replies.{asked_after, error_line, ok_line, resend_line, run_reply};
+ghost use Rattle.printer_model.specs.Replies.{asked_after, error_line, ok_line, resend_line, run_reply, start_line};
 ghost use Rattle.printer_model.specs.declared.printer.Reason.{Reason};
 ghost use Rattle.printer_model.specs.declared.printer.Reason.TheVariants as reason;
+ghost use Rattle.printer_model.specs.Exchanged.{session_of};
 ghost use Rattle.printer_model.specs.Executed.{executed, is_counted, opens};
 ghost use Rattle.printer_model.specs.World.{is_run};
 ghost use Rattle.printer_model.specs.Printer.{IsInTurn, IsRefusal, IsSameKind, Logged, PrinterData, judged, plain_entry, take_line};
@@ -40,11 +41,12 @@ pub fn line_law()
     ensures failing { (last : ℕ) (line : List ℕ) → fails line ≡ true → IsRefusal last line }
 {}
 
-/// What the printer's replies are, to a refusal and to a line that was run.
+/// What the printer's replies are: to a refusal, to a line that was run, and after a restart.
 pub fn reply_law()
     ensures error { (why : Reason) (last : ℕ) → kind_of (error_line why last) ≡ reply.Error }
     ensures resend { (last : ℕ) → kind_of (resend_line last) ≡ reply.Resend (asked_after last) }
     ensures ok { kind_of ok_line ≡ reply.Ok None None None None }
+    ensures start { kind_of start_line ≡ reply.Start }
     ensures temperatures { (advanced : Bool) (lead : Option ℕ) (text : List ℕ) (free : ℕ) → bytes_eq text (codes "M105") ≡ true
         → kind_of (run_reply advanced lead text free) ≡ reply.Ok None None None (Some (record {
           tool = Some (record { actual = pos 21300000; target = pos 0 });
@@ -63,8 +65,28 @@ pub fn refusal_law()
     ensures { (p : PrinterData) (line : List ℕ) → (take_line p line).0 ≢ taken.Accepted → (take_line p line).1 ≡ p }
 {}
 
-/// What further events leave of, and add to, what a session executed.
+/// What further events leave of what a session executed and add to it, and the last session by itself.
 pub fn session_law()
     ensures over { (places : ℕ) (advanced : Bool) (past added : List WorldEvent) (s : ℕ) → s < opens past → executed places advanced (past ++ added) s ≡ executed places advanced past s }
     ensures grows { (places : ℕ) (advanced : Bool) (past added : List WorldEvent) (s : ℕ) (lines : List Logged) → 0 < s → opens past ≡ s → opens added ≡ 0 → (world_of places advanced (past ++ added)).log ≡ (world_of places advanced past).log ++ lines → executed places advanced (past ++ added) s ≡ executed places advanced past s ++ filter is_counted lines }
+
+    // A further session leaves those before it. What it executes is what the log gains from its Opened on.
+    ensures before { (places : ℕ) (advanced : Bool) (past rest : List WorldEvent) (last s : ℕ)
+        → s ≤ opens past
+        → executed places advanced (past ++ event.Opened last ∷ rest) s
+          ≡ executed places advanced past s }
+    ensures begun { (places : ℕ) (advanced : Bool) (front rest : List WorldEvent) (last : ℕ)
+        (lines : List Logged) → opens rest ≡ 0
+        → (world_of places advanced (front ++ event.Opened last ∷ rest)).log
+          ≡ (world_of places advanced front).log ++ lines
+        → executed places advanced (front ++ event.Opened last ∷ rest) (suc (opens front))
+          ≡ filter is_counted lines }
+    ensures events { (front rest : List WorldEvent) (last : ℕ) → opens rest ≡ 0
+        → session_of (suc (opens front)) (front ++ event.Opened last ∷ rest)
+          ≡ event.Opened last ∷ rest }
+
+    // What the line and the printer do by themselves opens no session, runs among it.
+    ensures free { (events : List WorldEvent) → list_all is_free events ≡ true → opens events ≡ 0 }
+    ensures runs { (events : List WorldEvent) → list_all is_run events ≡ true
+        → list_all is_free events ≡ true }
 {}

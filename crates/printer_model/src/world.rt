@@ -9,7 +9,7 @@ use byte_text::{Line, ReplyLine};
 use crate::event::WorldEvent;
 use crate::executed::ExecutedLine;
 use crate::printer::{Printer, Ran, Taken, line_of};
-use crate::replies::{error_line, ok_line, resend_line};
+use crate::replies::{error_line, ok_line, resend_line, start_line};
 use crate::wire::Wire;
 use marlin_frame::fails;
 use marlin_reply::{Reply, read_reply};
@@ -114,6 +114,7 @@ impl World {
             WorldEvent::Lose { at } => Ok(self.lose(*at)),
             WorldEvent::Garble { at, line } => Ok(self.garble(*at, line)),
             WorldEvent::Run => self.run(),
+            WorldEvent::Restart => self.restart(),
             WorldEvent::Chatter(reply) => self.chatter(reply),
             WorldEvent::Recv => Ok(self.receive()),
             WorldEvent::Closed => Ok(self.close()),
@@ -206,6 +207,18 @@ impl World {
         answer(&mut self.down, self.linked, reply)?;
         self.log.push(ExecutedLine { number, text })?;
         self.printer.drop_front();
+        Ok(true)
+    }
+
+    /// The event Restart.
+    fn restart(&mut self) -> Result<bool, AllocError>
+        ensures { IsStep self.old WorldEvent.Restart self.new result }
+    {
+        if !self.linked {
+            return Ok(false);
+        }
+        self.down.push(start_line())?;
+        self.printer.restart();
         Ok(true)
     }
 

@@ -2,7 +2,11 @@
 use Rattle.std.specs.Prelude.{◌≡◌, ℕ, ◌+◌, ◌≤◌, Bool, true, false, List, [], length, Option, None}
 use Rattle.marlin_reply.specs.declared.session.SessionEnd.{SessionEnd}
 
--- the sender as plain data; lines go by their numbers, from 1, and times are in milliseconds
+-- the most lines of a session
+abbrev pub most_lines : ℕ
+most_lines = 1999999999
+
+-- the sender as plain data; lines go by their places in the session, from 1, and times are in milliseconds
 pub record SenderData : Type 0 where
   -- the most lines that may be unacknowledged
   pub window : ℕ
@@ -12,15 +16,15 @@ pub record SenderData : Type 0 where
   pub issued : ℕ
   -- how many of them were acknowledged
   pub acked : ℕ
-  -- the texts of the others, in the order of their numbers
+  -- the texts of the others, in order
   pub held : List (List ℕ)
-  -- the next number to send
+  -- the next line to send
   pub cursor : ℕ
-  -- the greatest number that was sent, 0 for none
+  -- the last line that was ever sent, 0 for none
   pub sent : ℕ
   -- the next `ok` only ends a Resend
   pub swallow : Bool
-  -- the number that the last Resend asked for, and how many more of the same are ignored
+  -- the line that the last Resend asked for, and how many more of the same are ignored
   pub asked : ℕ
   pub left : ℕ
   -- the moment by which an answer is wanted
@@ -70,7 +74,7 @@ pub record IsSound (s : SenderData) : Type 0 where
   -- the lines held are as many as were issued above acked, and the window holds them
   pub counted : s.acked + length s.held ≡ s.issued
   pub in_window : length s.held ≤ s.window
-  pub few : s.issued ≤ 2000000000
+  pub few : s.issued ≤ most_lines
   -- the cursor is above acked, and at most one past the last line
   pub above_acked : s.acked + 1 ≤ s.cursor
   pub not_past : s.cursor ≤ s.issued + 1

@@ -4,7 +4,8 @@ use Rattle.marlin_reply.specs.declared.reply.Reply.{Reply}
 use Rattle.marlin_reply.specs.declared.reply.Reply.TheVariants as reply
 use Rattle.marlin_reply.specs.declared.session.SessionEnd.{SessionEnd}
 use Rattle.marlin_reply.specs.declared.session.SessionEnd.TheVariants.{NoAnswer, AskedBack, AskedAhead, Counts, Restarted, NumbersUsed}
-use Rattle.send_window.specs.Data.{SenderData}
+use Rattle.marlin_frame.specs.Numbering.{wire_number, place_of}
+use Rattle.send_window.specs.Data.{SenderData, most_lines}
 
 -- a moment so many milliseconds later, at most the greatest one
 unfoldable pub later : ℕ → ℕ → ℕ
@@ -16,7 +17,7 @@ deadline_at moment span acknowledged all = if acknowledged == all then None else
 
 -- the end of a session whose line numbers are used up
 abbrev pub end_of_numbers : ℕ → ℕ → Option SessionEnd
-end_of_numbers acknowledged all = if acknowledged == 2000000000 then Some (NumbersUsed all) else None
+end_of_numbers acknowledged all = if acknowledged == most_lines then Some (NumbersUsed all) else None
 
 -- something was heard
 abbrev pub marked : SenderData → SenderData
@@ -54,7 +55,8 @@ line_ok moment s = if nat_lt s.acked s.issued then acknowledged moment s else ma
 abbrev pub named_ok : Option ℕ → ℕ → SenderData → SenderData
 named_ok None moment s = line_ok moment s
 named_ok (Some number) moment s =
-    if number == s.acked + 1 then line_ok moment s else ended_by (Counts number (s.acked + 1)) s
+    if number == wire_number (s.acked + 1) then line_ok moment s
+    else ended_by (Counts number (wire_number (s.acked + 1))) s
 
 -- an `ok`, by whether it is swallowed and whether the session is ready
 abbrev pub heard_ok : Bool → Bool → Option ℕ → ℕ → SenderData → SenderData
@@ -74,15 +76,15 @@ hello_asked moment s = record s {
 
 -- a Resend is one of those to ignore: each line that was sent behind a lost one brings the same again
 abbrev pub is_repeated : ℕ → SenderData → Bool
-is_repeated number s = number == s.asked && nat_lt 0 s.left
+is_repeated place s = place == s.asked && nat_lt 0 s.left
 
 -- a Resend of a line that may be asked for
 abbrev pub line_asked : ℕ → ℕ → SenderData → SenderData
-line_asked number moment s = record s {
+line_asked place moment s = record s {
   swallow = true;
-  cursor = if is_repeated number s then s.cursor else number;
-  asked = number;
-  left = if is_repeated number s then s.left - 1 else s.sent - number;
+  cursor = if is_repeated place s then s.cursor else place;
+  asked = place;
+  left = if is_repeated place s then s.left - 1 else s.sent - place;
   deadline = deadline_at moment s.limit s.acked s.issued;
   silent = 0;
   heard = false;
@@ -91,9 +93,11 @@ line_asked number moment s = record s {
 -- a Resend of a ready session: neither of an acknowledged line nor past the next line to issue
 abbrev pub resend_asked : ℕ → ℕ → SenderData → SenderData
 resend_asked number moment s =
-    if nat_le number s.acked then ended_by (AskedBack number s.acked) (record s { swallow = true })
-    else if nat_lt (s.issued + 1) number then ended_by (AskedAhead number s.issued) (record s { swallow = true })
-    else line_asked number moment s
+    if nat_le number (wire_number s.acked)
+    then ended_by (AskedBack number (wire_number s.acked)) (record s { swallow = true })
+    else if nat_lt (wire_number (s.issued + 1)) number
+    then ended_by (AskedAhead number (wire_number s.issued)) (record s { swallow = true })
+    else line_asked (place_of number) moment s
 
 -- a Resend, by whether the session is ready
 abbrev pub heard_resend : Bool → ℕ → ℕ → SenderData → SenderData

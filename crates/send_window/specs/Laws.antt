@@ -5,7 +5,8 @@ use Rattle.marlin_reply.specs.declared.reply.Reply.{Reply}
 use Rattle.marlin_reply.specs.declared.reply.Reply.TheVariants as reply
 use Rattle.marlin_reply.specs.declared.session.SessionEnd.{SessionEnd}
 use Rattle.marlin_reply.specs.declared.session.SessionEnd.TheVariants.{NoAnswer, AskedBack, AskedAhead, Counts, Restarted, NumbersUsed}
-use Rattle.send_window.specs.Data.{SenderData, IsSound, new_sender, begun}
+use Rattle.marlin_frame.specs.Numbering.{wire_number}
+use Rattle.send_window.specs.Data.{SenderData, IsSound, new_sender, begun, most_lines}
 use Rattle.send_window.specs.Hearing.{later, hear_step, tick_step, is_past}
 use Rattle.send_window.specs.Sending.{hello, line, next_of, room_of, push_step, frame_step, IsFramable}
 use Rattle.send_window.specs.Session.{Step, hears, ticks, issues, gives, after_step, after_steps, IsAllowed, AreAllowed, replies_of, texts_of, HoldsIssued, IsSince, WaitsSince}
@@ -25,11 +26,11 @@ HoldsLines =
     HoldsIssued texts s → HoldsIssued (texts ++ texts_of (step ∷ [])) (after_step step s))
     × ((steps : List Step) (s : SenderData) → HoldsIssued (texts_of steps) (after_steps steps (begun s)))
 
--- a line to be sent is an issued one above acked, under its own number, and the session is ready
-pub record IsUnacknowledged (texts : List (List ℕ)) (s : SenderData) (number : ℕ) (text : List ℕ) : Type 0 where
-  pub above_acked : s.acked < number
-  pub was_issued : number ≤ s.issued
-  pub its_text : slice_get texts (number - 1) ≡ Some text
+-- a line to be sent is an issued one above acked, at its own place, and the session is ready
+pub record IsUnacknowledged (texts : List (List ℕ)) (s : SenderData) (place : ℕ) (text : List ℕ) : Type 0 where
+  pub above_acked : s.acked < place
+  pub was_issued : place ≤ s.issued
+  pub its_text : slice_get texts (place - 1) ≡ Some text
   pub after_hello : s.ready ≡ true
 
 -- what goes out is the hello, before the session is ready, or an unacknowledged line
@@ -37,7 +38,7 @@ abbrev pub GivesHeldLines : Type 0
 GivesHeldLines =
     (s : SenderData) (texts : List (List ℕ)) → IsSound s → HoldsIssued texts s →
     (next_of s ≡ Some hello → s.ready ≡ false)
-    × ((number : ℕ) (text : List ℕ) → next_of s ≡ Some (line number text) → IsUnacknowledged texts s number text)
+    × ((place : ℕ) (text : List ℕ) → next_of s ≡ Some (line place text) → IsUnacknowledged texts s place text)
 
 -- nothing goes out exactly where the session has ended, or no hello is due and the cursor is past the last line
 abbrev pub GivesNothing : Type 0
@@ -85,24 +86,26 @@ ok_number (reply.Temps _) = None
 ok_number reply.Error = None
 ok_number reply.Other = None
 
--- an `ok` that acknowledges the last line number
+-- an `ok` that acknowledges the last line that a session may have
 pub record IsLastOk (heard_line : Reply) (s : SenderData) : Type 0 where
-  pub its_line : (ok_number heard_line ≡ Some None) ⊎ (ok_number heard_line ≡ Some (Some (s.acked + 1)))
+  pub its_line : (ok_number heard_line ≡ Some None) ⊎ (ok_number heard_line ≡ Some (Some (wire_number (s.acked + 1))))
   pub own : s.swallow ≡ false
   pub after_hello : s.ready ≡ true
   pub awaited : s.acked < s.issued
-  pub last : s.acked + 1 ≡ 2000000000
+  pub last : s.acked + 1 ≡ most_lines
 
 -- what a reply must be to end the session so
 abbrev pub IsEndedBy : SessionEnd → Reply → SenderData → Type 0
 IsEndedBy (NoAnswer _) heard_line s = ⊥
 IsEndedBy (AskedBack number acknowledged) heard_line s =
-    (heard_line ≡ reply.Resend number) × (s.ready ≡ true) × (number ≤ s.acked) × (acknowledged ≡ s.acked)
+    (heard_line ≡ reply.Resend number) × (s.ready ≡ true)
+    × (number ≤ wire_number s.acked) × (acknowledged ≡ wire_number s.acked)
 IsEndedBy (AskedAhead number all) heard_line s =
-    (heard_line ≡ reply.Resend number) × (s.ready ≡ true) × (s.issued + 1 < number) × (s.acked < number) × (all ≡ s.issued)
+    (heard_line ≡ reply.Resend number) × (s.ready ≡ true) × (wire_number (s.issued + 1) < number)
+    × (wire_number s.acked < number) × (all ≡ wire_number s.issued)
 IsEndedBy (Counts number expected) heard_line s =
     (ok_number heard_line ≡ Some (Some number)) × (s.swallow ≡ false) × (s.ready ≡ true)
-    × (number ≢ s.acked + 1) × (expected ≡ s.acked + 1)
+    × (number ≢ wire_number (s.acked + 1)) × (expected ≡ wire_number (s.acked + 1))
 IsEndedBy Restarted heard_line s = (heard_line ≡ reply.Start) × (s.ready ≡ true)
 IsEndedBy (NumbersUsed all) heard_line s = IsLastOk heard_line s × (all ≡ s.issued)
 

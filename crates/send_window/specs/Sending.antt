@@ -1,9 +1,10 @@
 -- What a sender issues and gives out.
-use Rattle.std.specs.Prelude.{◌≡◌, ℕ, ◌+◌, ◌-◌, ◌≤◌, min, max, Bool, true, false, List, [], ◌∷◌, ◌++◌, length, codes, Option, None, Some, unwrap_or, is_some, if◌then◌else◌, ◌&&◌, nat_le, slice_index_or}
+use Rattle.std.specs.Prelude.{◌≡◌, ℕ, ◌+◌, ◌-◌, ◌≤◌, min, max, Bool, true, false, List, [], ◌∷◌, ◌++◌, length, Option, None, Some, unwrap_or, is_some, if◌then◌else◌, ◌&&◌, nat_le, slice_index_or}
 use Rattle.marlin_reply.specs.declared.session.SessionEnd.{SessionEnd}
 use Rattle.byte_text.specs.Marks.{has_byte}
 use Rattle.marlin_frame.specs.Frame.{frame_of}
-use Rattle.send_window.specs.Data.{SenderData}
+use Rattle.marlin_frame.specs.Numbering.{hello_number, wire_number, hello_frame}
+use Rattle.send_window.specs.Data.{SenderData, most_lines}
 use Rattle.send_window.specs.Hearing.{later}
 
 -- a text that a frame can carry: 1 to 79 bytes, no `*`, no line feed
@@ -13,26 +14,26 @@ pub record IsFramable (text : List ℕ) : Type 0 where
   pub no_star : has_byte 42 text ≡ false
   pub no_line_feed : has_byte 10 text ≡ false
 
--- what a sender gives out: the hello, or a line under its number
+-- what a sender gives out: the hello, or the line at a place in the session
 pub data Outgoing : Type 0 where
   hello : Outgoing
   line : ℕ → List ℕ → Outgoing
 
--- its number; the hello has 0
+-- the number that the printer counts it by
 abbrev pub number_of_outgoing : Outgoing → ℕ
-number_of_outgoing hello = 0
-number_of_outgoing (line number text) = number
+number_of_outgoing hello = hello_number
+number_of_outgoing (line place text) = wire_number place
 
--- its bytes; the hello is `N0 M110 N0*125`
+-- its bytes; the hello is `N0 M110 N1*124`
 abbrev pub bytes_of_outgoing : Outgoing → List ℕ
-bytes_of_outgoing hello = frame_of 0 (codes "M110 N0")
-bytes_of_outgoing (line number text) = frame_of number text
+bytes_of_outgoing hello = hello_frame
+bytes_of_outgoing (line place text) = frame_of (wire_number place) text
 
 -- how many more lines may be issued, by whether the session has ended and is ready
 abbrev pub room_at : Option SessionEnd → Bool → SenderData → ℕ
 room_at (Some _) _ s = 0
 room_at None false s = 0
-room_at None true s = min (s.window - (s.issued - s.acked)) (2000000000 - s.issued)
+room_at None true s = min (s.window - (s.issued - s.acked)) (most_lines - s.issued)
 
 -- how many more lines may be issued
 abbrev pub room_of : SenderData → ℕ
@@ -70,7 +71,7 @@ timed moment s = record s {
 abbrev pub given : Option Outgoing → ℕ → SenderData → SenderData
 given None moment s = s
 given (Some hello) moment s = timed moment (record s { hello_due = false })
-given (Some (line number text)) moment s = timed moment (record s { cursor = s.cursor + 1; sent = max s.sent s.cursor })
+given (Some (line place text)) moment s = timed moment (record s { cursor = s.cursor + 1; sent = max s.sent s.cursor })
 
 -- a call for the next frame
 abbrev pub frame_step : ℕ → SenderData → SenderData

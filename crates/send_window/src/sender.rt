@@ -1,13 +1,14 @@
 //! The sender of one session after another.
 ghost use Rattle.std.specs.Prelude.{◌≡◌, ◌<◌, ◌≤◌, ◌+◌, length, map, IfOk, IfSome, IsNone, None, Some, option_map, unwrap_or, true, false};
 ghost use Rattle.byte_text.specs.Marks.{has_byte};
+ghost use Rattle.marlin_frame.specs.Numbering.{wire_number, hello_frame};
 ghost use Rattle.send_window.specs.Data.{IsSound, new_sender, begun};
 ghost use Rattle.send_window.specs.Hearing.{later, deadline_at, end_of_numbers, acknowledged, line_ok, named_ok, heard_ok, hello_asked, is_repeated, line_asked, resend_asked, heard_resend, heard_start, heard_reply, hear_step, is_past, silent_limits, limit_passed, ticked, tick_step, answer_of};
 ghost use Rattle.send_window.specs.Sending.{IsFramable, room_of, push_step, next_line, next_of, hello, number_of_outgoing, bytes_of_outgoing, given, frame_step};
 
 use byte_text::Line;
 use crate::held::Held;
-use marlin_frame::frame;
+use marlin_frame::{HELLO_NUMBER, hello_frame, wire_number};
 use marlin_reply::{Reply, SessionEnd};
 use std::alloc::{AllocError, Global};
 use std::marker::Model;
@@ -15,15 +16,16 @@ use std::marker::Model;
 #[cfg(test)]
 mod tests;
 
-/// The greatest line number of a session.
-const MOST_LINES: u32 = 2_000_000_000;
+/// The most lines of a session.
+const MOST_LINES: u32 = 1_999_999_999;
 
 /// After so many limits in a row in which nothing was heard, the session ends.
 const MOST_SILENT: u8 = 5;
 
-/// Sends the lines of a session in order, as Marlin's serial protocol asks: each has a number from 1 and a checksum,
-/// is held until its `ok`, and goes out again on a Resend or where the limit passes. A session begins with the hello
-/// `N0 M110 N0*125`, and sends nothing else before its `ok`. Moments and the limit are in milliseconds.
+/// Sends the lines of a session in order, as Marlin's serial protocol asks: each has a number from 2 and a checksum,
+/// is held until its `ok`, and goes out again on a Resend or if the limit passes. A session begins with the hello
+/// `N0 M110 N1*124`, and sends nothing else before its `ok`. So no line has the number 1, which a printer that has
+/// restarted expects. Moments and the limit are in milliseconds.
 #[derive(Drop)]
 pub struct Sender {
     window: u8,
@@ -158,7 +160,7 @@ impl Sender {
         self.issued
     }
 
-    /// How many more lines may be issued: in a ready session as many as the window and the line numbers leave, else 0.
+    /// How many more lines may be issued: in a ready session as many as the window and the most lines leave, else 0.
     pub fn room(&self) -> usize
         ensures room { result ≡ room_of self.now }
         ensures sound { IsSound self.now }
@@ -170,22 +172,22 @@ impl Sender {
         open.min(MOST_LINES - self.issued) as usize
     }
 
-    /// Issues a line and answers its number, one more than the last one. The text has 1 to 79 bytes, no `*` and no
-    /// line feed.
+    /// Issues a line and returns its number, one more than the last one; the first line has 2. The text has 1 to 79
+    /// bytes, no `*` and no line feed.
     pub fn push(&mut self, text: &[u8]) -> u32
         requires room { 0 < room_of self.old }
         requires framable { IsFramable text.now }
         ensures state { self.new ≡ push_step text.now self.old }
-        ensures number { result ≡ self.old.issued + 1 }
+        ensures number { result ≡ wire_number (self.old.issued + 1) }
         ensures sound { IsSound self.new }
     {
         self.held.push(text);
         self.issued += 1;
-        self.issued
+        wire_number(self.issued)
     }
 
-    /// Writes what is to be sent next, at most 95 bytes without a line end, and answers its number, 0 for the hello.
-    /// Where nothing is, it writes nothing. Whoever calls it at `moment` sends the line then: that starts the time limit.
+    /// Writes what is to be sent next, at most 95 bytes without a line end, and returns its number, 1 for the hello.
+    /// If nothing is, it writes nothing. Whoever calls it at `moment` sends the line then: that starts the time limit.
     pub fn next_frame(&mut self, moment: u64, into: &mut Line) -> Option<u32>
         ensures number { result ≡ option_map number_of_outgoing (next_of self.old) }
         ensures bytes { IfSome (next_of self.old) (λ next. into.new.items ≡ bytes_of_outgoing next) }
@@ -199,16 +201,16 @@ impl Sender {
             return None;
         }
         if self.hello_due {
-            write_hello(into);
+            hello_frame(into);
             self.give_hello(moment);
-            return Some(0);
+            return Some(HELLO_NUMBER);
         }
         if self.cursor > self.issued {
             return None;
         }
-        let number = self.cursor;
+        let number = wire_number(self.cursor);
         self.held
-            .frame_at((number - self.acked - 1) as usize, number, into);
+            .frame_at((self.cursor - self.acked - 1) as usize, number, into);
         self.give_line(moment);
         Some(number)
     }
@@ -280,7 +282,7 @@ impl Sender {
         requires ready { self.old.ready ≡ true }
         ensures { self.new ≡ named_ok number moment self.old }
     {
-        let expected = self.acked + 1;
+        let expected = wire_number(self.acked + 1);
         match number {
             Some(number) if number != expected => {
                 self.ended = Some(SessionEnd::Counts { number, expected });
@@ -336,36 +338,36 @@ impl Sender {
         requires ready { self.old.ready ≡ true }
         ensures { self.new ≡ resend_asked number moment self.old }
     {
-        if number <= self.acked {
+        if number <= wire_number(self.acked) {
             self.swallow = true;
             self.ended = Some(SessionEnd::AskedBack {
                 asked: number,
-                acked: self.acked,
+                acked: wire_number(self.acked),
             });
-        } else if number > self.issued + 1 {
+        } else if number > wire_number(self.issued + 1) {
             self.swallow = true;
             self.ended = Some(SessionEnd::AskedAhead {
                 asked: number,
-                issued: self.issued,
+                issued: wire_number(self.issued),
             });
         } else {
-            self.go_to(number, moment);
+            self.go_to(number - HELLO_NUMBER, moment);
         }
     }
 
-    fn go_to(&mut self, number: u32, moment: u64)
+    fn go_to(&mut self, place: u32, moment: u64)
         requires open { self.old.ended ≡ None }
         requires ready { self.old.ready ≡ true }
-        requires unacknowledged { self.old.acked < number }
-        requires issued { number ≤ self.old.issued + 1 }
-        ensures { self.new ≡ line_asked number moment self.old }
+        requires unacknowledged { self.old.acked < place }
+        requires issued { place ≤ self.old.issued + 1 }
+        ensures { self.new ≡ line_asked place moment self.old }
     {
-        if number == self.asked && self.left > 0 {
+        if place == self.asked && self.left > 0 {
             self.left -= 1;
         } else {
-            self.cursor = number;
-            self.asked = number;
-            self.left = self.sent.saturating_sub(number);
+            self.cursor = place;
+            self.asked = place;
+            self.left = self.sent.saturating_sub(place);
         }
         self.swallow = true;
         self.deadline = deadline_of(moment, self.limit, self.acked, self.issued);
@@ -433,7 +435,7 @@ fn deadline_of(moment: u64, span: u64, acknowledged: u32, all: u32) -> Option<u6
     }
 }
 
-// The end of a session whose line numbers are used up.
+// The end of a session that has had the most lines.
 fn end_of(acknowledged: u32, all: u32) -> Option<SessionEnd>
     ensures { result ≡ end_of_numbers acknowledged all }
 {
@@ -452,14 +454,4 @@ fn deadline_from(standing: Option<u64>, moment: u64, span: u64) -> u64
         Some(deadline) => deadline,
         None => later_by(moment, span),
     }
-}
-
-// The line that sets the printer's line number to 0.
-#[tactic(auto, unfolding(byte_text::specs::Marks::has_byte))]
-fn write_hello(into: &mut Line)
-    ensures hello { into.new.items ≡ bytes_of_outgoing hello }
-    ensures short { length into.new.items ≤ 95 }
-    ensures one_line { has_byte 10 into.new.items ≡ false }
-{
-    frame(0, b"M110 N0", into);
 }

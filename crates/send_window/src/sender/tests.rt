@@ -9,15 +9,15 @@ use std::test::*;
 
 const LIMIT: u64 = 30_000;
 
-const HELLO: &[u8] = b"N0 M110 N0*125";
+const HELLO: &[u8] = b"N0 M110 N1*124";
 
-const N1: &[u8] = b"N1 G28*18";
+const N2: &[u8] = b"N2 G28*17";
 
-const N2: &[u8] = b"N2 G1 X10*83";
+const N3: &[u8] = b"N3 G1 X10*82";
 
-const N3: &[u8] = b"N3 G1 X20*81";
+const N4: &[u8] = b"N4 G1 X20*86";
 
-const N4: &[u8] = b"N4 G1 X30*87";
+const N5: &[u8] = b"N5 G1 X30*86";
 
 #[derive(Drop)]
 enum Act {
@@ -82,7 +82,7 @@ fn issue(rt: &impl Abort, sender: &mut Sender, text: &[u8]) {
     assert!(rt; !has_byte(text, b'*'));
     assert!(rt; !has_byte(text, b'\n'));
     let number = sender.push(text);
-    assert_eq!(rt; number, sender.issued());
+    assert_eq!(rt; number - 1, sender.issued());
 }
 
 fn perform(rt: &impl Abort, sender: &mut Sender, step: &Step) -> Result<(), SessionEnd> {
@@ -124,10 +124,10 @@ fn late_resend(rt: HostRuntime) -> Result<(), Fail> {
         &[
             at(0, Act::Begin, &[HELLO]),
             at(0, ok(), &[]),
-            at(0, Act::Issue(b"G28"), &[N1]),
+            at(0, Act::Issue(b"G28"), &[N2]),
             at(29_999, Act::Tick, &[]),
-            at(30_000, Act::Tick, &[N1]),
-            at(30_001, resend(2), &[]),
+            at(30_000, Act::Tick, &[N2]),
+            at(30_001, resend(3), &[]),
             at(30_002, ok(), &[]),
         ],
     );
@@ -147,14 +147,14 @@ fn repeated_resend(rt: HostRuntime) -> Result<(), Fail> {
         &[
             at(0, Act::Begin, &[HELLO]),
             at(0, ok(), &[]),
-            at(0, Act::Issue(b"G28"), &[N1]),
-            at(0, Act::Issue(b"G1 X10"), &[N2]),
-            at(0, Act::Issue(b"G1 X20"), &[N3]),
-            at(0, Act::Issue(b"G1 X30"), &[N4]),
+            at(0, Act::Issue(b"G28"), &[N2]),
+            at(0, Act::Issue(b"G1 X10"), &[N3]),
+            at(0, Act::Issue(b"G1 X20"), &[N4]),
+            at(0, Act::Issue(b"G1 X30"), &[N5]),
             at(1, ok(), &[]),
-            at(2, resend(2), &[N2, N3, N4]),
+            at(2, resend(3), &[N3, N4, N5]),
             at(2, ok(), &[]),
-            at(3, resend(2), &[]),
+            at(3, resend(3), &[]),
             at(3, ok(), &[]),
             at(4, ok(), &[]),
             at(5, ok(), &[]),
@@ -176,21 +176,21 @@ fn third_resend(rt: HostRuntime) -> Result<(), Fail> {
         &[
             at(0, Act::Begin, &[HELLO]),
             at(0, ok(), &[]),
-            at(0, Act::Issue(b"G28"), &[N1]),
-            at(0, Act::Issue(b"G1 X10"), &[N2]),
-            at(0, Act::Issue(b"G1 X20"), &[N3]),
-            at(1, resend(1), &[N1, N2, N3]),
+            at(0, Act::Issue(b"G28"), &[N2]),
+            at(0, Act::Issue(b"G1 X10"), &[N3]),
+            at(0, Act::Issue(b"G1 X20"), &[N4]),
+            at(1, resend(2), &[N2, N3, N4]),
             at(1, ok(), &[]),
-            at(2, resend(1), &[]),
+            at(2, resend(2), &[]),
             at(2, ok(), &[]),
-            at(3, resend(1), &[]),
+            at(3, resend(2), &[]),
             at(3, ok(), &[]),
-            at(4, resend(1), &[N1, N2, N3]),
+            at(4, resend(2), &[N2, N3, N4]),
             at(4, ok(), &[]),
-            at(5, ok_of(1), &[]),
             at(5, ok_of(2), &[]),
             at(5, ok_of(3), &[]),
             at(5, ok_of(4), &[]),
+            at(5, ok_of(5), &[]),
         ],
     );
     assert_eq!(rt; sender.acked(), 3);
@@ -222,14 +222,14 @@ fn garbled_hello(rt: HostRuntime) -> Result<(), Fail> {
         &rt,
         &mut sender,
         &[
-            at(200, Act::Issue(b"G28"), &[N1]),
+            at(200, Act::Issue(b"G28"), &[N2]),
             at(20_000, Act::Hear(Reply::Busy), &[]),
             at(30_199, Act::Tick, &[]),
-            at(30_200, Act::Tick, &[N1]),
-            at(60_200, Act::Tick, &[N1]),
-            at(90_200, Act::Tick, &[N1]),
-            at(120_200, Act::Tick, &[N1]),
-            at(150_200, Act::Tick, &[N1]),
+            at(30_200, Act::Tick, &[N2]),
+            at(60_200, Act::Tick, &[N2]),
+            at(90_200, Act::Tick, &[N2]),
+            at(120_200, Act::Tick, &[N2]),
+            at(150_200, Act::Tick, &[N2]),
             ends(180_200, Act::Tick, SessionEnd::NoAnswer { silent: 5 }),
             ends(180_201, ok(), SessionEnd::NoAnswer { silent: 5 }),
         ],
@@ -262,18 +262,18 @@ fn lost_hello(rt: HostRuntime) -> Result<(), Fail> {
 fn ends_of_a_session(rt: HostRuntime) -> Result<(), Fail> {
     let cases = [
         (
-            ok_of(7),
+            ok_of(8),
             SessionEnd::Counts {
-                number: 7,
-                expected: 6,
+                number: 8,
+                expected: 7,
             },
         ),
-        (resend(5), SessionEnd::AskedBack { asked: 5, acked: 5 }),
+        (resend(6), SessionEnd::AskedBack { asked: 6, acked: 6 }),
         (
-            resend(10),
+            resend(11),
             SessionEnd::AskedAhead {
-                asked: 10,
-                issued: 8,
+                asked: 11,
+                issued: 9,
             },
         ),
         (Act::Hear(Reply::Start), SessionEnd::Restarted),
@@ -286,9 +286,7 @@ fn ends_of_a_session(rt: HostRuntime) -> Result<(), Fail> {
             &[
                 at(0, Act::Begin, &[HELLO]),
                 at(0, ok(), &[]),
-                at(0, Act::Issue(b"G28"), &[N1]),
-                at(0, ok(), &[]),
-                at(0, Act::Issue(b"G28"), &[b"N2 G28*17"]),
+                at(0, Act::Issue(b"G28"), &[N2]),
                 at(0, ok(), &[]),
                 at(0, Act::Issue(b"G28"), &[b"N3 G28*16"]),
                 at(0, ok(), &[]),
@@ -297,10 +295,12 @@ fn ends_of_a_session(rt: HostRuntime) -> Result<(), Fail> {
                 at(0, Act::Issue(b"G28"), &[b"N5 G28*22"]),
                 at(0, ok(), &[]),
                 at(0, Act::Issue(b"G28"), &[b"N6 G28*21"]),
+                at(0, ok(), &[]),
                 at(0, Act::Issue(b"G28"), &[b"N7 G28*20"]),
                 at(0, Act::Issue(b"G28"), &[b"N8 G28*27"]),
-                at(1, resend(9), &[]),
-                at(1, ok_of(7), &[]),
+                at(0, Act::Issue(b"G28"), &[b"N9 G28*26"]),
+                at(1, resend(10), &[]),
+                at(1, ok_of(8), &[]),
             ],
         );
         assert_eq!(rt; sender.acked(), 5);
@@ -329,8 +329,8 @@ fn ample(rt: HostRuntime) -> Result<(), Fail> {
 // What replies alone acknowledge, the first `ok` being the hello's: a line garbled once, a line lost with two behind
 // it, and a garbled hello.
 fn counted_replies()
-    ensures garbled_line { acked_of (Reply.Ok None None None None ∷ Reply.Error ∷ Reply.Resend 1 ∷ Reply.Ok None None None None ∷ Reply.Ok None None None None ∷ []) ≡ 1 }
-    ensures lost_line { acked_of (Reply.Ok None None None None ∷ Reply.Ok None None None None ∷ Reply.Resend 2 ∷ Reply.Ok None None None None ∷ Reply.Resend 2 ∷ Reply.Ok None None None None ∷ Reply.Ok None None None None ∷ Reply.Ok None None None None ∷ Reply.Ok None None None None ∷ []) ≡ 4 }
+    ensures garbled_line { acked_of (Reply.Ok None None None None ∷ Reply.Error ∷ Reply.Resend 2 ∷ Reply.Ok None None None None ∷ Reply.Ok None None None None ∷ []) ≡ 1 }
+    ensures lost_line { acked_of (Reply.Ok None None None None ∷ Reply.Ok None None None None ∷ Reply.Resend 3 ∷ Reply.Ok None None None None ∷ Reply.Resend 3 ∷ Reply.Ok None None None None ∷ Reply.Ok None None None None ∷ Reply.Ok None None None None ∷ Reply.Ok None None None None ∷ []) ≡ 4 }
     ensures garbled_hello { acked_of (Reply.Error ∷ Reply.Resend 5 ∷ Reply.Ok None None None None ∷ Reply.Ok None None None None ∷ Reply.Busy ∷ Reply.Ok None None None None ∷ []) ≡ 1 }
     ensures nothing { acked_of [] ≡ 0 }
 {}

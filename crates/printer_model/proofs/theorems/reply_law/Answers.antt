@@ -1,6 +1,6 @@
 use Rattle.std.proofs.Common.{◌∙◌, ap}
 use Rattle.marlin_reply.specs.Kind.{kind_of}
-use Rattle.printer_model.proofs.Judging.{kind_of-error_line, kind_of-named, kind_of-ok_line, kind_of-resend_line, kind_of-temperatures_line, kind_of-unnamed, run_reply-numbered, run_reply-plain, run_reply-temperatures}
+use Rattle.printer_model.proofs.Judging.{kind_of-error_line, kind_of-named, kind_of-ok_line, kind_of-resend_line, kind_of-start_line, kind_of-temperatures_line, kind_of-unnamed, run_reply-numbered, run_reply-plain, run_reply-temperatures}
 use Rattle.std.proofs.Common.{Some, None}
 use Rattle.printer_model.proofs.theorems.reply_law.Goals as goal
 
@@ -12,6 +12,9 @@ returns-clause-resend c = kind_of-resend_line
 
 pub returns-clause-ok : goal.returns-clause-ok
 returns-clause-ok c = kind_of-ok_line
+
+pub returns-clause-start : goal.returns-clause-start
+returns-clause-start c = kind_of-start_line
 
 pub returns-clause-temperatures : goal.returns-clause-temperatures
 returns-clause-temperatures c = λ advanced lead text free asks. ap kind_of (run_reply-temperatures advanced lead text free asks) ∙ kind_of-temperatures_line
