@@ -8,13 +8,13 @@ use Rattle.std.proofs.lemmas.List.Folds.{list_all-append}
 use Rattle.arrayvec.specs.ArrayVec.{ArrayVec}
 use Rattle.printer_model.specs.World.{WorldData, fits_wire, world_of, world_from, apply, can_happen, is_empty, is_free}
 use Rattle.printer_link.specs.Link.{Grows, IsDial, IsRuns, IsSend, IsSendLoss, IsHeard, IsSilence, IsLoss, arrivals, dial_events, due_run, printer_events}
-use Rattle.printer_link.specs.Memory.{MemoryLinkData, called, closing_events, failed, grown, harm_events, heard, link_kind, link_world, send_events, LinkRan, LinkMoved, LinkHeard, LinkQuiet, LinkReceived}
+use Rattle.printer_link.specs.Memory.{MemoryLinkData, before_reply, called, closing_events, failed, grown, harm_events, heard, link_kind, link_world, send_events, LinkRan, LinkMoved, LinkHeard, LinkQuiet, LinkReceived}
 use Rattle.printer_link.specs.declared.schedule.Fate.{Fate}
 use Rattle.printer_link.specs.declared.schedule.Fate.TheVariants.{Whole, Lost, Garbled}
 use Rattle.printer_link.specs.declared.link.Heard.{Heard}
 use Rattle.printer_link.specs.declared.link.Heard.TheVariants.{Line, Nothing}
 use Rattle.printer_model.specs.declared.event.WorldEvent.{WorldEvent}
-use Rattle.printer_model.specs.declared.event.WorldEvent.TheVariants.{Opened, Send, Run, Recv, Closed}
+use Rattle.printer_model.specs.declared.event.WorldEvent.TheVariants.{Opened, Send, Run, Restart, Recv, Closed}
 use Rattle.printer_model.proofs.Laws.{world_from-push, world_of-append, world_from-linked, happens, run_out, can_open, runs_only, runs_free}
 use Rattle.printer_link.proofs.Stories.{arrivals_free}
 
@@ -139,18 +139,23 @@ printer_free due w =
     ∙ ap (λ (b : Bool). b && list_all is_free (due_run due (world_from w (arrivals w w.up)))) (arrivals_free w w.up)
     ∙ due_run_free due (world_from w (arrivals w w.up))
 
-printer_linked : (due : Bool) (w : WorldData) → w.linked ≡ true → (world_from w (printer_events due w)).linked ≡ true
-printer_linked due w open_now = world_from-linked w (printer_events due w) (printer_free due w) ∙ open_now
+-- and so is a restart before it
+pub before_free : (restarts due : Bool) (w : WorldData) → list_all is_free (before_reply restarts due w) ≡ true
+before_free false due w = printer_free due w
+before_free true due w = printer_free due (apply w Restart)
+
+before_linked : (restarts due : Bool) (w : WorldData) → w.linked ≡ true → (world_from w (before_reply restarts due w)).linked ≡ true
+before_linked restarts due w open_now = world_from-linked w (before_reply restarts due w) (before_free restarts due w) ∙ open_now
 
 recv_linked : (w : WorldData) (reply : List ℕ) (rest : List (List ℕ)) → w.down ≡ reply ∷ rest → w.linked ≡ true → (apply w Recv).linked ≡ true
 recv_linked w reply rest front open_now =
     let can : can_happen w Recv ≡ true = ap (λ (b : Bool). b && not (is_empty w.down)) open_now ∙ ap (λ (d : List (List ℕ)). not (is_empty d)) front in
     ap (λ (v : WorldData). v.linked) (happens w Recv can) ∙ open_now
 
-received_linked : (due : Bool) (w : WorldData) (rest : List (List ℕ)) (reply : List ℕ) → (world_from w (printer_events due w)).down ≡ reply ∷ rest → w.linked ≡ true → (world_from w (printer_events due w ++ Recv ∷ [])).linked ≡ true
-received_linked due w rest reply front open_now =
-    ap (λ (v : WorldData). v.linked) (world_from-push w (printer_events due w) Recv)
-    ∙ recv_linked (world_from w (printer_events due w)) reply rest front (printer_linked due w open_now)
+received_linked : (restarts due : Bool) (w : WorldData) (rest : List (List ℕ)) (reply : List ℕ) → (world_from w (before_reply restarts due w)).down ≡ reply ∷ rest → w.linked ≡ true → (world_from w (before_reply restarts due w ++ Recv ∷ [])).linked ≡ true
+received_linked restarts due w rest reply front open_now =
+    ap (λ (v : WorldData). v.linked) (world_from-push w (before_reply restarts due w) Recv)
+    ∙ recv_linked (world_from w (before_reply restarts due w)) reply rest front (before_linked restarts due w open_now)
 
 -- a receiving as it starts
 abbrev pub asked : MemoryLinkData → MemoryLinkData
@@ -160,56 +165,56 @@ asked l = heard (called l)
 asked_is : (l first mid : MemoryLinkData) → first ≡ called l → mid ≡ heard first → mid ≡ asked l
 asked_is l first mid first_is mid_is = mid_is ∙ ap heard first_is
 
-from_asked : (l mid new : MemoryLinkData) (due : Bool) (into : List ℕ) (got : Heard) → mid ≡ asked l → LinkReceived due into got mid new → LinkReceived due into got (asked l) new
-from_asked l mid new due into got mid_is received =
-    let At : MemoryLinkData → Type 0 = λ m. LinkReceived due into got m new in subst At mid_is received
+from_asked : (l mid new : MemoryLinkData) (restarts due : Bool) (into : List ℕ) (got : Heard) → mid ≡ asked l → LinkReceived restarts due into got mid new → LinkReceived restarts due into got (asked l) new
+from_asked l mid new restarts due into got mid_is received =
+    let At : MemoryLinkData → Type 0 = λ m. LinkReceived restarts due into got m new in subst At mid_is received
 
-heard_grows : (l new : MemoryLinkData) (due : Bool) (into : List ℕ) → LinkHeard due into (asked l) new → (link_world l).linked ≡ true → Grows (link_kind l) (Some l.story.past) (Some new.story.past) (IsHeard into)
-heard_grows l new due into was open_now =
-    grows_by l (printer_events due (link_world l) ++ Recv ∷ []) new.story.past (IsHeard into)
+heard_grows : (l new : MemoryLinkData) (restarts due : Bool) (into : List ℕ) → LinkHeard restarts due into (asked l) new → (link_world l).linked ≡ true → Grows (link_kind l) (Some l.story.past) (Some new.story.past) (IsHeard into)
+heard_grows l new restarts due into was open_now =
+    grows_by l (before_reply restarts due (link_world l) ++ Recv ∷ []) new.story.past (IsHeard into)
     (ap (λ (n : MemoryLinkData). n.story.past) was.is)
     (record {
-      before = printer_events due (link_world l);
+      before = before_reply restarts due (link_world l);
       reply = into;
       rest = was.front.behind;
       behind = [];
       is = refl;
       front = was.front.is;
-      linked = printer_linked due (link_world l) open_now;
+      linked = before_linked restarts due (link_world l) open_now;
       whole = refl;
-      free_before = printer_free due (link_world l);
+      free_before = before_free restarts due (link_world l);
       free_behind = refl;
     })
 
 -- a line that was received
-pub heard_past : (l first mid new : MemoryLinkData) (due : Bool) (into : List ℕ) (got : Heard) → first ≡ called l → mid ≡ heard first → LinkReceived due into got mid new → (link_world l).linked ≡ true → got ≡ Line → Grows (link_kind l) (Some l.story.past) (Some new.story.past) (IsHeard into)
-heard_past l first mid new due into Line first_is mid_is received open_now line =
-    heard_grows l new due into (from_asked l mid new due into Line (asked_is l first mid first_is mid_is) received) open_now
-heard_past l first mid new due into Nothing first_is mid_is received open_now line = absurd (cc)
+pub heard_past : (l first mid new : MemoryLinkData) (restarts due : Bool) (into : List ℕ) (got : Heard) → first ≡ called l → mid ≡ heard first → LinkReceived restarts due into got mid new → (link_world l).linked ≡ true → got ≡ Line → Grows (link_kind l) (Some l.story.past) (Some new.story.past) (IsHeard into)
+heard_past l first mid new restarts due into Line first_is mid_is received open_now line =
+    heard_grows l new restarts due into (from_asked l mid new restarts due into Line (asked_is l first mid first_is mid_is) received) open_now
+heard_past l first mid new restarts due into Nothing first_is mid_is received open_now line = absurd (cc)
 
-quiet_grows : (l new : MemoryLinkData) (due : Bool) → LinkQuiet due (asked l) new → Grows (link_kind l) (Some l.story.past) (Some new.story.past) IsSilence
-quiet_grows l new due was =
-    grows_by l (printer_events due (link_world l)) new.story.past IsSilence (ap (λ (n : MemoryLinkData). n.story.past) was.is)
-    (record { free = printer_free due (link_world l); empty = was.empty })
+quiet_grows : (l new : MemoryLinkData) (restarts due : Bool) → LinkQuiet restarts due (asked l) new → Grows (link_kind l) (Some l.story.past) (Some new.story.past) IsSilence
+quiet_grows l new restarts due was =
+    grows_by l (before_reply restarts due (link_world l)) new.story.past IsSilence (ap (λ (n : MemoryLinkData). n.story.past) was.is)
+    (record { free = before_free restarts due (link_world l); empty = was.empty })
 
 -- nothing was received
-pub quiet_past : (l first mid new : MemoryLinkData) (due : Bool) (into : List ℕ) (got : Heard) → first ≡ called l → mid ≡ heard first → LinkReceived due into got mid new → got ≡ Nothing → Grows (link_kind l) (Some l.story.past) (Some new.story.past) IsSilence
-quiet_past l first mid new due into Line first_is mid_is received nothing = absurd (cc)
-quiet_past l first mid new due into Nothing first_is mid_is received nothing =
-    quiet_grows l new due (from_asked l mid new due into Nothing (asked_is l first mid first_is mid_is) received)
+pub quiet_past : (l first mid new : MemoryLinkData) (restarts due : Bool) (into : List ℕ) (got : Heard) → first ≡ called l → mid ≡ heard first → LinkReceived restarts due into got mid new → got ≡ Nothing → Grows (link_kind l) (Some l.story.past) (Some new.story.past) IsSilence
+quiet_past l first mid new restarts due into Line first_is mid_is received nothing = absurd (cc)
+quiet_past l first mid new restarts due into Nothing first_is mid_is received nothing =
+    quiet_grows l new restarts due (from_asked l mid new restarts due into Nothing (asked_is l first mid first_is mid_is) received)
 
 -- the link is up behind a receiving
-pub received_up : (l first mid new : MemoryLinkData) (due : Bool) (into : List ℕ) (got : Heard) → first ≡ called l → mid ≡ heard first → LinkReceived due into got mid new → (link_world l).linked ≡ true → (link_world new).linked ≡ true
-received_up l first mid new due into Line first_is mid_is received open_now =
-    let was : LinkHeard due into (asked l) new = from_asked l mid new due into Line (asked_is l first mid first_is mid_is) received in
+pub received_up : (l first mid new : MemoryLinkData) (restarts due : Bool) (into : List ℕ) (got : Heard) → first ≡ called l → mid ≡ heard first → LinkReceived restarts due into got mid new → (link_world l).linked ≡ true → (link_world new).linked ≡ true
+received_up l first mid new restarts due into Line first_is mid_is received open_now =
+    let was : LinkHeard restarts due into (asked l) new = from_asked l mid new restarts due into Line (asked_is l first mid first_is mid_is) received in
     ap (λ (n : MemoryLinkData). (link_world n).linked) was.is
-    ∙ ap (λ (w : WorldData). w.linked) (grown_world l (printer_events due (link_world l) ++ Recv ∷ []))
-    ∙ received_linked due (link_world l) was.front.behind into was.front.is open_now
-received_up l first mid new due into Nothing first_is mid_is received open_now =
-    let was : LinkQuiet due (asked l) new = from_asked l mid new due into Nothing (asked_is l first mid first_is mid_is) received in
+    ∙ ap (λ (w : WorldData). w.linked) (grown_world l (before_reply restarts due (link_world l) ++ Recv ∷ []))
+    ∙ received_linked restarts due (link_world l) was.front.behind into was.front.is open_now
+received_up l first mid new restarts due into Nothing first_is mid_is received open_now =
+    let was : LinkQuiet restarts due (asked l) new = from_asked l mid new restarts due into Nothing (asked_is l first mid first_is mid_is) received in
     ap (λ (n : MemoryLinkData). (link_world n).linked) was.is
-    ∙ ap (λ (w : WorldData). w.linked) (grown_world l (printer_events due (link_world l)))
-    ∙ printer_linked due (link_world l) open_now
+    ∙ ap (λ (w : WorldData). w.linked) (grown_world l (before_reply restarts due (link_world l)))
+    ∙ before_linked restarts due (link_world l) open_now
 
 -- a receiving that failed
 pub recv_failed : (l first mid late new : MemoryLinkData) → first ≡ called l → mid ≡ heard first → LinkMoved mid late → new ≡ failed late → (link_world l).linked ≡ true → Grows (link_kind l) (Some l.story.past) (Some new.story.past) IsLoss
@@ -229,6 +234,6 @@ recv_failed l first mid late new first_is mid_is moved new_is open_now =
     (record { before = moved.added; is = refl; free = moved.free; linked = still_open })
 
 -- what the printer did before a receiving for which no place was found
-pub moved_by : (l mid new : MemoryLinkData) (due : Bool) → mid ≡ grown l (printer_events due (link_world l)) → new ≡ mid → LinkMoved l new
-moved_by l mid new due mid_is new_is =
-    record { added = printer_events due (link_world l); is = new_is ∙ mid_is; free = printer_free due (link_world l) }
+pub moved_by : (l mid new : MemoryLinkData) (restarts due : Bool) → mid ≡ grown l (before_reply restarts due (link_world l)) → new ≡ mid → LinkMoved l new
+moved_by l mid new restarts due mid_is new_is =
+    record { added = before_reply restarts due (link_world l); is = new_is ∙ mid_is; free = before_free restarts due (link_world l) }

@@ -4,11 +4,12 @@ use Rattle.std.specs.Prelude.{if◌then◌else◌, not, ◌&&◌, Result, Ok, Er
 use Rattle.std.specs.List.{list_all, list_any}
 use Rattle.std.proofs.lemmas.List.{replicate_more}
 use Rattle.std.proofs.lemmas.Bool.{cond_both}
+use Rattle.std.proofs.lemmas.List.Folds.{list_all-append}
 use Rattle.printer_model.specs.Printer.{is_full}
 use Rattle.printer_model.specs.Executed.{is_opened}
 use Rattle.printer_model.specs.World.{WorldData, arrive_front, world_from, apply, happen, can_happen, is_free, is_empty}
-use Rattle.printer_link.specs.Link.{arrivals, dial_events}
-use Rattle.printer_link.specs.Memory.{StoryData, opening_last, queue_runs, story_world, with_events}
+use Rattle.printer_link.specs.Link.{arrivals, dial_events, printer_events}
+use Rattle.printer_link.specs.Memory.{StoryData, FreeOnly, before_reply, opening_last, queue_runs, restart_events, story_world, with_events}
 use Rattle.printer_model.specs.declared.event.WorldEvent.{WorldEvent}
 use Rattle.printer_model.specs.declared.event.WorldEvent.TheVariants.{Arrive, Opened}
 use Rattle.printer_model.proofs.Laws.{world_of-push, world_of-append, happens}
@@ -128,3 +129,28 @@ dialled s mid now first last opened mid_is opened_is last_is now_is =
     ∙ ap (λ (m : StoryData). with_events m (Opened last ∷ [])) mid_is
     ∙ with_then s (queue_runs (story_world s)) (Opened last ∷ [])
     ∙ ap (λ (l : ℕ). with_events s (queue_runs (story_world s) ++ Opened l ∷ [])) same
+
+-- a restart, and then what the printer does
+pub restarted_then : (s mid now : StoryData) (restarts due : Bool) → mid ≡ with_events s (restart_events restarts) → now ≡ with_events mid (printer_events due (story_world mid)) → now ≡ with_events s (before_reply restarts due (story_world s))
+restarted_then s mid now restarts due mid_is now_is =
+    let first = restart_events restarts in
+    now_is
+    ∙ ap (λ (m : StoryData). with_events m (printer_events due (story_world m))) mid_is
+    ∙ ap (λ (w : WorldData). with_events (with_events s first) (printer_events due w)) (story_append s first)
+    ∙ with_then s first (printer_events due (world_from (story_world s) first))
+
+restart_free : (restarts : Bool) → list_all is_free (restart_events restarts) ≡ true
+restart_free false = refl
+restart_free true = refl
+
+-- and what the line and the printer did after it
+pub restarted_free : (s mid now : StoryData) (restarts : Bool) → mid ≡ with_events s (restart_events restarts) → FreeOnly mid now → FreeOnly s now
+restarted_free s mid now restarts mid_is later =
+    let first = restart_events restarts in
+    record {
+      added = first ++ later.added;
+      is = later.is ∙ ap (λ (m : StoryData). with_events m later.added) mid_is ∙ with_then s first later.added;
+      free = list_all-append is_free first later.added
+          ∙ ap (λ (b : Bool). b && list_all is_free later.added) (restart_free restarts)
+          ∙ later.free;
+    }

@@ -9,7 +9,7 @@ use Rattle.printer_model.specs.World.{WorldData, world_from, world_of, is_empty,
 use Rattle.printer_model.specs.Executed.{is_send, is_opened}
 use Rattle.printer_link.specs.Link.{LinkKind, printer_events}
 use Rattle.printer_model.specs.declared.event.WorldEvent.{WorldEvent}
-use Rattle.printer_model.specs.declared.event.WorldEvent.TheVariants.{Send, Lose, Garble, Run, Recv, Closed}
+use Rattle.printer_model.specs.declared.event.WorldEvent.TheVariants.{Send, Lose, Garble, Run, Restart, Recv, Closed}
 use Rattle.printer_link.specs.declared.link.Heard.{Heard}
 use Rattle.printer_link.specs.declared.link.Heard.TheVariants.{Line, Nothing}
 use Rattle.printer_link.specs.declared.schedule.Schedule.{Schedule}
@@ -30,6 +30,7 @@ pub record MemoryLinkData : Type 0 where
   pub last : ℕ
   pub slow : ℕ
   pub fail_at : List ℕ
+  pub restart_at : List ℕ
   pub calls : ℕ
   pub recvs : ℕ
   pub faults : ℕ
@@ -59,6 +60,14 @@ harm_events Garbled at line = Garble at (record { items = garbled line.items }) 
 -- a sending: the line, and what becomes of it
 abbrev pub send_events : WorldData → ArrayVec ℕ → Fate → List WorldEvent
 send_events w line fate = Send line ∷ harm_events fate (length w.up) line
+
+-- a restart of the printer, if there is one
+abbrev pub restart_events : Bool → List WorldEvent
+restart_events restarts = if restarts then Restart ∷ [] else []
+
+-- what happens before a reply is received: perhaps a restart, and then what arrives and what is run
+abbrev pub before_reply : Bool → Bool → WorldData → List WorldEvent
+before_reply restarts due w = restart_events restarts ++ printer_events due (world_from w (restart_events restarts))
 
 -- all that waits is run
 abbrev pub queue_runs : WorldData → List WorldEvent
@@ -112,6 +121,7 @@ new_link schedule =
       last = schedule.last;
       slow = schedule.slow;
       fail_at = schedule.fail_at;
+      restart_at = schedule.restart_at;
       calls = 0;
       recvs = 0;
       faults = 0;
@@ -139,9 +149,9 @@ is_whole Whole = true
 is_whole Lost = false
 is_whole Garbled = false
 
--- whether each line arrives whole, is run at the next receiving, and no call fails
+-- whether each line arrives whole, is run at the next receiving, no call fails, and the printer doesn't restart
 abbrev pub is_prompt : MemoryLinkData → Bool
-is_prompt l = list_all is_whole l.story.fates && (l.slow == 0 && is_empty l.fail_at)
+is_prompt l = list_all is_whole l.story.fates && (l.slow == 0 && (is_empty l.fail_at && is_empty l.restart_at))
 
 -- what no call of a link in memory changes
 abbrev pub link_kind : MemoryLinkData → LinkKind
@@ -159,16 +169,16 @@ pub record LinkMoved (old new : MemoryLinkData) : Type 0 where
   pub free : list_all is_free added ≡ true
 
 -- a line was received behind what the printer did
-pub record LinkHeard (due : Bool) (into : List ℕ) (old new : MemoryLinkData) : Type 0 where
-  pub is : new ≡ grown old (printer_events due (link_world old) ++ Recv ∷ [])
-  pub front : IsFrontReply into (world_from (link_world old) (printer_events due (link_world old))).down
+pub record LinkHeard (restarts due : Bool) (into : List ℕ) (old new : MemoryLinkData) : Type 0 where
+  pub is : new ≡ grown old (before_reply restarts due (link_world old) ++ Recv ∷ [])
+  pub front : IsFrontReply into (world_from (link_world old) (before_reply restarts due (link_world old))).down
 
 -- nothing came behind what the printer did
-pub record LinkQuiet (due : Bool) (old new : MemoryLinkData) : Type 0 where
-  pub is : new ≡ grown old (printer_events due (link_world old))
-  pub empty : (world_from (link_world old) (printer_events due (link_world old))).down ≡ []
+pub record LinkQuiet (restarts due : Bool) (old new : MemoryLinkData) : Type 0 where
+  pub is : new ≡ grown old (before_reply restarts due (link_world old))
+  pub empty : (world_from (link_world old) (before_reply restarts due (link_world old))).down ≡ []
 
 -- a receiving that didn't fail
-abbrev pub LinkReceived : Bool → List ℕ → Heard → MemoryLinkData → MemoryLinkData → Type 0
-LinkReceived due into Line old new = LinkHeard due into old new
-LinkReceived due into Nothing old new = LinkQuiet due old new
+abbrev pub LinkReceived : Bool → Bool → List ℕ → Heard → MemoryLinkData → MemoryLinkData → Type 0
+LinkReceived restarts due into Line old new = LinkHeard restarts due into old new
+LinkReceived restarts due into Nothing old new = LinkQuiet restarts due old new

@@ -4,8 +4,8 @@ ghost use Rattle.octo_outside.specs.Memory.{one_more, is_listed};
 ghost use Rattle.octo_outside.specs.Told.{Rose};
 ghost use Rattle.printer_model.specs.Executed.{executed, is_loss};
 ghost use Rattle.printer_model.specs.World.{IsFrontReply};
-ghost use Rattle.printer_link.specs.Memory.{called, closing_events, failed, grown, heard, is_due, is_prompt, link_kind, lists_name, link_world, new_link, next_fate, opening_last, send_events, sends, LinkMoved, LinkRan, LinkReceived};
-ghost use Rattle.printer_link.specs.Link.{HasSlots, Grows, IsDial, IsHangUp, IsHeard, IsLoss, IsNothing, IsOpenAs, IsRuns, IsSend, IsSendLoss, IsSendOf, IsSilence, counted_one, dial_events, printer_events, recv_events};
+ghost use Rattle.printer_link.specs.Memory.{before_reply, called, closing_events, failed, grown, heard, is_due, is_prompt, link_kind, lists_name, link_world, new_link, next_fate, opening_last, send_events, sends, LinkMoved, LinkRan, LinkReceived};
+ghost use Rattle.printer_link.specs.Link.{HasSlots, Grows, IsDial, IsHangUp, IsHeard, IsLoss, IsNothing, IsOpenAs, IsRuns, IsSend, IsSendLoss, IsSendOf, IsSilence, counted_one, dial_events, recv_events};
 ghost use Rattle.printer_model.specs.declared.event.WorldEvent.{WorldEvent};
 ghost use Rattle.printer_model.specs.declared.event.WorldEvent.TheVariants as event;
 ghost use Rattle.printer_link.specs.declared.link.Heard.TheVariants as heard_as;
@@ -29,6 +29,7 @@ pub struct MemoryLink {
     last: u32,
     slow: u32,
     fail_at: CallList,
+    restart_at: CallList,
     calls: u64,
     recvs: u64,
     faults: u64,
@@ -40,7 +41,7 @@ impl Model for MemoryLink {
 
     ghost Value = { MemoryLinkData };
 
-    ghost view = { λ l. record { story = l.story; names = l.names; last = l.last; slow = l.slow; fail_at = l.fail_at; calls = l.calls; recvs = l.recvs; faults = l.faults } };
+    ghost view = { λ l. record { story = l.story; names = l.names; last = l.last; slow = l.slow; fail_at = l.fail_at; restart_at = l.restart_at; calls = l.calls; recvs = l.recvs; faults = l.faults } };
 
     ghost invariant = { λ l. (1 ≤ l.story.places) × (l.story.places ≤ 16) };
 }
@@ -60,6 +61,7 @@ impl MemoryLink {
             fates,
             slow,
             fail_at,
+            restart_at,
         } = schedule;
         Ok(MemoryLink {
             alloc,
@@ -68,6 +70,7 @@ impl MemoryLink {
             last,
             slow,
             fail_at,
+            restart_at,
             calls: 0,
             recvs: 0,
             faults: 0,
@@ -103,7 +106,7 @@ impl MemoryLink {
             .count() as u64
     }
 
-    /// The lines that the printer ran in a session, counted from 1, without those of number 0.
+    /// The lines that the printer ran in a session, counted from 1, without those of the hello's number.
     pub fn executed(&self, session: u32) -> Result<Executed, AllocError>
         ensures { IfOk result (λ e. e ≡ executed self.now.story.places self.now.story.advanced self.now.story.past session) }
     {
@@ -133,6 +136,17 @@ impl MemoryLink {
     {
         self.recvs = self.recvs.saturating_add(1);
         self.recvs % (u64::from(self.slow) + 1) == 0
+    }
+
+    /// Whether the printer restarts at this receiving.
+    fn restarts(&self) -> bool
+        ensures { result ≡ is_listed self.now.restart_at self.now.recvs }
+    {
+        let recv = self.recvs;
+        self.restart_at
+            .as_slice()
+            .iter()
+            .any(|listed| *listed == recv)
     }
 
     /// Counts a failure, and closes the link where one is made.
@@ -183,12 +197,14 @@ impl MemoryLink {
         self.story.send(line)
     }
 
-    /// The printer does what it does before a receiving.
-    fn let_print(&mut self, due: bool) -> Result<(), AllocError>
-        ensures ok { OnOk result (self.new ≡ grown self.old (printer_events due (link_world self.old))) }
+    /// What happens before a reply is received.
+    fn before_reply(&mut self, restarts: bool, due: bool) -> Result<(), AllocError>
+        ensures ok {
+            OnOk result (self.new ≡ grown self.old (before_reply restarts due (link_world self.old)))
+        }
         ensures err { OnErr result (LinkMoved self.old self.new) }
     {
-        self.story.let_print(due)
+        self.story.before_reply(restarts, due)
     }
 
     /// Takes the front of the wire from the printer, where there is one.
@@ -200,21 +216,22 @@ impl MemoryLink {
         self.story.receive(into)
     }
 
-    /// The printer does what is due, and its next reply is taken; `fails` gives up at once.
+    /// What happens before a reply is received, and then the next one is taken; `fails` gives up at once.
     fn take_reply(
         &mut self,
         fails: bool,
+        restarts: bool,
         due: bool,
         into: &mut ReplyLine,
     ) -> Result<Heard, AllocError>
-        ensures ok { IfOk result (λ got. LinkReceived due into.new.items got self.old self.new) }
+        ensures ok { IfOk result (λ got. LinkReceived restarts due into.new.items got self.old self.new) }
         ensures err { OnErr result (LinkMoved self.old self.new) }
         ensures fails { fails ≡ true → IsErr result × (self.new ≡ self.old) }
     {
         if fails {
             return Err(AllocError);
         }
-        self.let_print(due)?;
+        self.before_reply(restarts, due)?;
         self.take_front(into)
     }
 }
@@ -286,7 +303,7 @@ impl Link for MemoryLink {
 
     fn recv(&mut self, into: &mut ReplyLine) -> Result<Heard, LinkFault>
         requires { (link_world self.old).linked ≡ true }
-        ensures adds { IfOk result (λ got. LinkReceived (is_due self.old.slow (one_more self.old.recvs)) into.new.items got (heard (called self.old)) self.new) }
+        ensures adds { IfOk result (λ got. LinkReceived (is_listed self.old.restart_at (one_more self.old.recvs)) (is_due self.old.slow (one_more self.old.recvs)) into.new.items got (heard (called self.old)) self.new) }
         ensures fails { is_listed self.old.fail_at (one_more self.old.calls) ≡ true → (result ≡ Err fault.Failed) × (self.new ≡ failed (heard (called self.old))) }
         ensures past { IfOk result (λ got. got ≡ heard_as.Line → Grows (link_kind self.old) (Some self.old.story.past) (Some self.new.story.past) (IsHeard into.new.items)) }
         ensures past_nothing { IfOk result (λ got. got ≡ heard_as.Nothing → Grows (link_kind self.old) (Some self.old.story.past) (Some self.new.story.past) IsSilence) }
@@ -303,7 +320,8 @@ impl Link for MemoryLink {
     {
         let fails = self.begin();
         let due = self.begin_recv();
-        match self.take_reply(fails, due, into) {
+        let restarts = self.restarts();
+        match self.take_reply(fails, restarts, due, into) {
             Ok(got) => Ok(got),
             Err(AllocError) => Err(self.fail()),
         }

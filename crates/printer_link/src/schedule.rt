@@ -32,4 +32,6 @@ pub struct Schedule {
     pub slow: u32,
     /// The calls that fail, counted from 1.
     pub fail_at: CallList,
+    /// The receivings at which the printer restarts first, counted from 1.
+    pub restart_at: CallList,
 }

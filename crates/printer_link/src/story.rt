@@ -4,7 +4,7 @@ ghost use Rattle.std.specs.List.{list_any};
 ghost use Rattle.printer_model.specs.Executed.{is_opened, is_send};
 ghost use Rattle.printer_model.specs.World.{apply, world_from, takes_memory, IsFrontReply};
 ghost use Rattle.printer_link.specs.Link.{arrivals, due_run, printer_events, dial_events};
-ghost use Rattle.printer_link.specs.Memory.{story_world, with_events, sends, next_fate, harm_events, send_events, opening_last, queue_runs, closing_events, RunsOnly, FreeOnly};
+ghost use Rattle.printer_link.specs.Memory.{story_world, with_events, sends, next_fate, harm_events, send_events, restart_events, before_reply, opening_last, queue_runs, closing_events, RunsOnly, FreeOnly};
 ghost use Rattle.printer_model.specs.declared.event.WorldEvent.TheVariants as event;
 ghost use Rattle.printer_link.specs.declared.link.Heard.TheVariants as heard;
 ghost use Rattle.printer_link.specs.declared.schedule.Fate.TheVariants.{Whole};
@@ -163,8 +163,30 @@ impl Story {
         self.add(WorldEvent::Run)
     }
 
-    /// What the printer does before a receiving; without memory a part of it.
-    pub(crate) fn let_print(&mut self, due: bool) -> Result<(), AllocError>
+    /// The printer restarts if it is to.
+    fn restart_due(&mut self, restarts: bool) -> Result<(), AllocError>
+        ensures ok { OnOk result (self.new ≡ with_events self.old (restart_events restarts)) }
+        ensures err { OnErr result (self.new ≡ self.old) }
+    {
+        if !restarts {
+            return Ok(());
+        }
+        self.add(WorldEvent::Restart)
+    }
+
+    /// What happens before a reply is received; without memory a part of it.
+    pub(crate) fn before_reply(&mut self, restarts: bool, due: bool) -> Result<(), AllocError>
+        ensures ok {
+            OnOk result (self.new ≡ with_events self.old (before_reply restarts due (story_world self.old)))
+        }
+        ensures err { OnErr result (FreeOnly self.old self.new) }
+    {
+        self.restart_due(restarts)?;
+        self.let_print(due)
+    }
+
+    /// What arrives and what the printer runs at a receiving; without memory a part of it.
+    fn let_print(&mut self, due: bool) -> Result<(), AllocError>
         ensures ok { OnOk result (self.new ≡ with_events self.old (printer_events due (story_world self.old))) }
         ensures err { OnErr result (FreeOnly self.old self.new) }
     {

@@ -46,15 +46,25 @@ fn check_recv(rt: &impl Abort, link: &mut MemoryLink, want: Heard, text: &str) {
     assert_eq!(rt; reply.as_slice(), text.as_bytes());
 }
 
+fn call_list(rt: &impl Abort, alloc: Global, calls: &[u64]) -> CallList {
+    let mut list = CallList::new(alloc);
+    for call in calls {
+        list.push(*call).expect(rt, "memory");
+    }
+    list
+}
+
 // A link to one listed port `p` and a printer of 4 places, whose last number is 4 at first.
-fn memory_link(rt: &impl Abort, alloc: Global, fates: &[Fate], fail_at: &[u64]) -> MemoryLink {
+fn memory_link(
+    rt: &impl Abort,
+    alloc: Global,
+    fates: &[Fate],
+    fail_at: &[u64],
+    restart_at: &[u64],
+) -> MemoryLink {
     let mut list = FateList::new(alloc);
     for fate in fates {
         list.push(*fate).expect(rt, "memory");
-    }
-    let mut calls = CallList::new(alloc);
-    for call in fail_at {
-        calls.push(*call).expect(rt, "memory");
     }
     let mut names = NameList::new(alloc);
     let name = Name::from_text("p").expect(rt, "a short name");
@@ -66,7 +76,8 @@ fn memory_link(rt: &impl Abort, alloc: Global, fates: &[Fate], fail_at: &[u64]) 
         advanced: false,
         fates: list,
         slow: 0,
-        fail_at: calls,
+        fail_at: call_list(rt, alloc, fail_at),
+        restart_at: call_list(rt, alloc, restart_at),
     };
     MemoryLink::new(alloc, schedule).expect(rt, "memory")
 }
@@ -84,42 +95,65 @@ fn check_executed(rt: &impl Abort, link: &MemoryLink, session: u32, wanted: &[(u
 const WHOLE: [Call; 12] = [
     Call::Dial("q", Err(LinkFault::NoPort)),
     Call::Dial("p", Ok(())),
-    Call::Send("N0 M110 N0*125", Ok(())),
+    Call::Send("N0 M110 N1*124", Ok(())),
     Call::Hear("ok"),
-    Call::Send("N1 G28*18", Ok(())),
+    Call::Send("N2 G28*17", Ok(())),
     Call::Hear("ok"),
-    Call::Send("N2 G1 X10*83", Ok(())),
+    Call::Send("N3 G1 X10*82", Ok(())),
     Call::Hear("ok"),
     Call::Quiet,
     Call::HangUp,
     Call::Dial("p", Ok(())),
-    Call::Send("N3 G28*16", Ok(())),
+    Call::Send("N4 G28*23", Ok(())),
 ];
 
 // The second line garbled, the third lost; the tenth call fails.
 const LOSSES: [Call; 10] = [
     Call::Dial("p", Ok(())),
-    Call::Send("N0 M110 N0*125", Ok(())),
+    Call::Send("N0 M110 N1*124", Ok(())),
     Call::Hear("ok"),
-    Call::Send("N1 G28*18", Ok(())),
-    Call::Hear("Error:checksum mismatch, Last Line: 0"),
+    Call::Send("N2 G28*17", Ok(())),
+    Call::Hear("Error:checksum mismatch, Last Line: 1"),
+    Call::Hear("Resend: 2"),
+    Call::Hear("ok"),
+    Call::Send("N2 G28*17", Ok(())),
+    Call::Quiet,
+    Call::Send("N2 G28*17", Err(LinkFault::Failed)),
+];
+
+// The printer restarts at the third receiving, with the second command on its way.
+const RESTART: [Call; 10] = [
+    Call::Dial("p", Ok(())),
+    Call::Send("N0 M110 N1*124", Ok(())),
+    Call::Hear("ok"),
+    Call::Send("N2 G28*17", Ok(())),
+    Call::Hear("ok"),
+    Call::Send("N3 G1 X10*82", Ok(())),
+    Call::Hear("start"),
+    Call::Hear("Error:Line Number is not Last Line Number+1, Last Line: 0"),
     Call::Hear("Resend: 1"),
     Call::Hear("ok"),
-    Call::Send("N1 G28*18", Ok(())),
-    Call::Quiet,
-    Call::Send("N1 G28*18", Err(LinkFault::Failed)),
 ];
 
 #[test]
+fn printer_restarts(rt: HostRuntime) {
+    let mut link = memory_link(&rt, rt.alloc(), &[], &[], &[3]);
+    for call in RESTART {
+        make_call(&rt, &mut link, call);
+    }
+    check_executed(&rt, &link, 1, &[(2, "G28")]);
+}
+
+#[test]
 fn link_follows_calls(rt: HostRuntime) {
-    let mut link = memory_link(&rt, rt.alloc(), &[], &[]);
+    let mut link = memory_link(&rt, rt.alloc(), &[], &[], &[]);
     for call in WHOLE {
         make_call(&rt, &mut link, call);
     }
     make_call(&rt, &mut link, Call::Hear("ok"));
     check_executed(&rt, &link, 0, &[]);
-    check_executed(&rt, &link, 1, &[(1, "G28"), (2, "G1 X10")]);
-    check_executed(&rt, &link, 2, &[(3, "G28")]);
+    check_executed(&rt, &link, 1, &[(2, "G28"), (3, "G1 X10")]);
+    check_executed(&rt, &link, 2, &[(4, "G28")]);
     assert_eq!(&rt; link.sends(), 4);
     assert_eq!(&rt; link.losses(), 0);
 }
@@ -131,6 +165,7 @@ fn link_loses_and_fails(rt: HostRuntime) {
         rt.alloc(),
         &[Fate::Whole, Fate::Garbled, Fate::Lost],
         &[10, 11],
+        &[],
     );
     for call in LOSSES {
         make_call(&rt, &mut link, call);
@@ -145,7 +180,7 @@ fn link_loses_and_fails(rt: HostRuntime) {
 // Each call that allocates, with ample memory.
 #[test]
 fn ample(rt: HostRuntime) {
-    let link = memory_link(&rt, rt.alloc(), &[Fate::Lost], &[2]);
+    let link = memory_link(&rt, rt.alloc(), &[Fate::Lost], &[2], &[1]);
     match link.executed(1) {
         Ok(executed) => assert_eq!(&rt; executed.as_slice().len(), 0),
         Err(AllocError) => assert!(&rt; false, "memory"),

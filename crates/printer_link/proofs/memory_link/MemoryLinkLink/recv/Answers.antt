@@ -3,17 +3,17 @@ use Rattle.printer_link.proofs.memory_link.MemoryLinkLink.recv.Goals as goal
 
 pub returns-in-Ok-clause-past : goal.returns-in-Ok-clause-past
 returns-in-Ok-clause-past c =
-    heard_past c.args.self.now c.begin-fails.new.self c.begin_recv-due.new.self c.take_reply.new.self c.begin_recv-due.result c.take_reply.new.into.items c.in-Ok.got c.begin-fails.ensures.counts
+    heard_past c.args.self.now c.begin-fails.new.self c.begin_recv-due.new.self c.take_reply.new.self c.restarts-restarts.result c.begin_recv-due.result c.take_reply.new.into.items c.in-Ok.got c.begin-fails.ensures.counts
     c.begin_recv-due.ensures.counts c.in-Ok.ensures.ok c.requires
 
 pub returns-in-Ok-clause-past_nothing : goal.returns-in-Ok-clause-past_nothing
 returns-in-Ok-clause-past_nothing c =
-    quiet_past c.args.self.now c.begin-fails.new.self c.begin_recv-due.new.self c.take_reply.new.self c.begin_recv-due.result c.take_reply.new.into.items c.in-Ok.got c.begin-fails.ensures.counts
+    quiet_past c.args.self.now c.begin-fails.new.self c.begin_recv-due.new.self c.take_reply.new.self c.restarts-restarts.result c.begin_recv-due.result c.take_reply.new.into.items c.in-Ok.got c.begin-fails.ensures.counts
     c.begin_recv-due.ensures.counts c.in-Ok.ensures.ok
 
 pub returns-in-Ok-clause-up : goal.returns-in-Ok-clause-up
 returns-in-Ok-clause-up c =
-    received_up c.args.self.now c.begin-fails.new.self c.begin_recv-due.new.self c.take_reply.new.self c.begin_recv-due.result c.take_reply.new.into.items c.in-Ok.got c.begin-fails.ensures.counts
+    received_up c.args.self.now c.begin-fails.new.self c.begin_recv-due.new.self c.take_reply.new.self c.restarts-restarts.result c.begin_recv-due.result c.take_reply.new.into.items c.in-Ok.got c.begin-fails.ensures.counts
     c.begin_recv-due.ensures.counts c.in-Ok.ensures.ok c.requires
 
 pub returns-in-Err-clause-past_failed : goal.returns-in-Err-clause-past_failed
