@@ -4,7 +4,6 @@ use Rattle.std.specs.Prelude.{◌||◌, if◌then◌else◌}
 use Rattle.std.specs.List.{list_all}
 use Rattle.std.proofs.lemmas.Bool.{and_parts, and_from}
 use Rattle.std.proofs.lemmas.List.Folds.{list_all-append}
-use Rattle.marlin_frame.specs.Frame.{frame_of}
 use Rattle.marlin_reply.specs.Kind.{kind_of}
 use Rattle.marlin_reply.specs.declared.reply.Reply.{Reply}
 use Rattle.marlin_reply.specs.declared.reply.Reply.TheVariants as reply
@@ -12,9 +11,9 @@ use Rattle.printer_model.specs.Printer.{Logged}
 use Rattle.printer_model.specs.World.{WorldData, is_free, apply, world_from, is_run}
 use Rattle.printer_link.specs.Link.{IsSend, IsSendOf, IsSendLoss, SendsFailing, MaySendFailing, IsHeard, IsSilence, IsLoss, IsHangUp}
 use Rattle.printer_model.specs.declared.event.WorldEvent.{WorldEvent}
-use Rattle.printer_model.specs.declared.event.WorldEvent.TheVariants.{Opened, Send, Arrive, Lose, Garble, Run, Chatter, Recv, Closed}
+use Rattle.printer_model.specs.declared.event.WorldEvent.TheVariants.{Opened, Send, Arrive, Lose, Garble, Run, Restart, Chatter, Recv, Closed}
 use Rattle.printer_model.proofs.Laws.{world_from-append}
-use Rattle.first_print.specs.Play.{IsCarried, is_resend, line_at, HasRun, IsHeardAs}
+use Rattle.first_print.specs.Play.{IsCarried, is_resend, line_at, frame_at, HasRun, IsHeardAs}
 use Rattle.first_print.specs.Leads.{opens_none, front_asks, event_asks, asks, Leads, Ready, Flying, Ran}
 use Rattle.first_print.proofs.Flight.{SpeaksMarlin, flies, waits, rests}
 use Rattle.first_print.proofs.Steps.{keep, ready_sent, ready_failing, ready_ran, flying_ran, closed_ran, heard}
@@ -38,6 +37,7 @@ free_silent w Arrive free = refl
 free_silent w (Lose at) free = refl
 free_silent w (Garble at line) free = refl
 free_silent w Run free = refl
+free_silent w Restart free = refl
 free_silent w (Chatter reply) free = refl
 free_silent w Recv free = absurd (cc)
 free_silent w Closed free = absurd (cc)
@@ -49,6 +49,7 @@ free_none Arrive free = refl
 free_none (Lose at) free = refl
 free_none (Garble at line) free = refl
 free_none Run free = refl
+free_none Restart free = refl
 free_none (Chatter reply) free = refl
 free_none Recv free = absurd (cc)
 free_none Closed free = absurd (cc)
@@ -61,6 +62,7 @@ run_free Arrive run = absurd (cc)
 run_free (Lose at) run = absurd (cc)
 run_free (Garble at line) run = absurd (cc)
 run_free Run run = refl
+run_free Restart run = absurd (cc)
 run_free (Chatter reply) run = absurd (cc)
 run_free Recv run = absurd (cc)
 run_free Closed run = absurd (cc)
@@ -124,6 +126,7 @@ send_none line Arrive is = absurd is
 send_none line (Lose at) is = absurd is
 send_none line (Garble at l) is = absurd is
 send_none line Run is = absurd is
+send_none line Restart is = absurd is
 send_none line (Chatter reply) is = absurd is
 send_none line Recv is = absurd is
 send_none line Closed is = absurd is
@@ -135,6 +138,7 @@ send_silent line w Arrive is = absurd is
 send_silent line w (Lose at) is = absurd is
 send_silent line w (Garble at l) is = absurd is
 send_silent line w Run is = absurd is
+send_silent line w Restart is = absurd is
 send_silent line w (Chatter reply) is = absurd is
 send_silent line w Recv is = absurd is
 send_silent line w Closed is = absurd is
@@ -146,6 +150,7 @@ failing_none w Arrive is = absurd is
 failing_none w (Lose at) is = absurd is
 failing_none w (Garble at l) is = absurd is
 failing_none w Run is = absurd is
+failing_none w Restart is = absurd is
 failing_none w (Chatter reply) is = absurd is
 failing_none w Recv is = absurd is
 failing_none w Closed is = absurd is
@@ -157,15 +162,16 @@ failing_silent w Arrive is = absurd is
 failing_silent w (Lose at) is = absurd is
 failing_silent w (Garble at l) is = absurd is
 failing_silent w Run is = absurd is
+failing_silent w Restart is = absurd is
 failing_silent w (Chatter reply) is = absurd is
 failing_silent w Recv is = absurd is
 failing_silent w Closed is = absurd is
 
 -- the next line was sent
-pub send_leads : (speech : SpeaksMarlin) (lines : List (List ℕ)) (n : ℕ) → IsCarried n (line_at lines n) → n < length lines → (w : WorldData) (added : List WorldEvent) → IsSend (frame_of n (line_at lines n)) w added → Leads false (Ready lines n) (Flying lines n) w added
+pub send_leads : (speech : SpeaksMarlin) (lines : List (List ℕ)) (n : ℕ) → IsCarried n (line_at lines n) → n < length lines → (w : WorldData) (added : List WorldEvent) → IsSend (frame_at lines n) w added → Leads false (Ready lines n) (Flying lines n) w added
 send_leads speech lines n carried within w added send =
-    let line = frame_of n (line_at lines n) in
-    let before = leads_free (Ready lines n) w send.before (λ start v event free here. waits start lines n v event free here) send.free_before in
+    let line = frame_at lines n in
+    let before = leads_free (Ready lines n) w send.before (λ start v event free here. waits speech start lines n v event free here) send.free_before in
     let at = world_from w send.before in
     let one = leads_one false (Ready lines n) (Flying lines n) at send.sent (send_none line send.sent send.line_is) (send_silent line at send.sent send.line_is) (λ start here. ready_sent start lines n at send.sent send.line_is send.sends here) in
     let behind = leads_free (Flying lines n) (apply at send.sent) send.behind (λ start v event free here. flies speech start lines n carried within v event free here) send.free_behind in
@@ -193,7 +199,7 @@ may_leads lines n w (event ∷ other ∷ events) may = absurd may
 pub send_loss_leads : (speech : SpeaksMarlin) (lines : List (List ℕ)) (n : ℕ) → IsCarried n (line_at lines n) → n < length lines → (w : WorldData) (added : List WorldEvent) → IsSendLoss w added → Leads false (Ready lines n) (Ran lines) w added
 send_loss_leads speech lines n carried within w added loss =
     let Either : List Logged → WorldData → Type 0 = λ start v. Ready lines n start v ⊎ Flying lines n start v in
-    let before = leads_free (Ready lines n) w loss.before (λ start v event free here. waits start lines n v event free here) loss.free_before in
+    let before = leads_free (Ready lines n) w loss.before (λ start v event free here. waits speech start lines n v event free here) loss.free_before in
     let at = world_from w loss.before in
     let may = may_leads lines n at loss.failing loss.may_send in
     let next = world_from at loss.failing in
@@ -208,7 +214,7 @@ send_loss_leads speech lines n carried within w added loss =
     (leads_then false false _ _ _ at loss.failing (loss.behind ++ Closed ∷ []) may (leads_then false false _ _ _ next loss.behind (Closed ∷ []) behind one)))
   where
     either_free : SpeaksMarlin → (lines : List (List ℕ)) (n : ℕ) → IsCarried n (line_at lines n) → n < length lines → (start : List Logged) (v : WorldData) (event : WorldEvent) → is_free event ≡ true → Ready lines n start v ⊎ Flying lines n start v → Ready lines n start (apply v event) ⊎ Flying lines n start (apply v event)
-    either_free speech lines n carried within start v event free (inl here) = inl (waits start lines n v event free here)
+    either_free speech lines n carried within start v event free (inl here) = inl (waits speech start lines n v event free here)
     either_free speech lines n carried within start v event free (inr here) = inr (flies speech start lines n carried within v event free here)
 
     either_ran : (lines : List (List ℕ)) (n : ℕ) → n < length lines → (start : List Logged) (v : WorldData) → Ready lines n start v ⊎ Flying lines n start v → HasRun start lines v
@@ -222,8 +228,8 @@ silence_leads speech lines n carried within w added silence =
 
 -- what stands of the line in flight after a reply, and what the printer and the line do next
 heard_free : SpeaksMarlin → (lines : List (List ℕ)) (n : ℕ) → IsCarried n (line_at lines n) → n < length lines → (kind : Reply) (start : List Logged) (v : WorldData) (event : WorldEvent) → is_free event ≡ true → IsHeardAs start lines n kind v → IsHeardAs start lines n kind (apply v event)
-heard_free speech lines n carried within (reply.Ok number planner block temps) start v event free here = waits start lines (suc n) v event free here
-heard_free speech lines n carried within (reply.Resend number) start v event free here = rests start lines n v event free here
+heard_free speech lines n carried within (reply.Ok number planner block temps) start v event free here = waits speech start lines (suc n) v event free here
+heard_free speech lines n carried within (reply.Resend number) start v event free here = rests speech start lines n v event free here
 heard_free speech lines n carried within reply.Start start v event free here = flies speech start lines n carried within v event free here
 heard_free speech lines n carried within reply.Busy start v event free here = flies speech start lines n carried within v event free here
 heard_free speech lines n carried within (reply.Temps temps) start v event free here = flies speech start lines n carried within v event free here

@@ -3,15 +3,16 @@ use Rattle.std.proofs.Common.{◌≡◌, ℕ, zero, suc, pred, ◌≤◌, Bool, 
 use Rattle.std.specs.Prelude.{◌||◌, not, filter, Some, if◌then◌else◌}
 use Rattle.std.specs.List.{list_all}
 use Rattle.std.proofs.lemmas.Bool.{ne_eqb}
-use Rattle.std.proofs.Math.Seq.{drop-append_seam}
+use Rattle.marlin_frame.specs.Numbering.{wire_number}
 use Rattle.printer_model.specs.Printer.{Logged}
 use Rattle.printer_model.specs.World.{WorldData, new_world, apply, world_from, world_of}
 use Rattle.printer_model.specs.Executed.{opens, till, is_counted, executed}
 use Rattle.printer_link.specs.Link.{IsDial}
 use Rattle.printer_model.specs.declared.event.WorldEvent.{WorldEvent}
-use Rattle.printer_model.specs.declared.event.WorldEvent.TheVariants.{Opened, Send, Arrive, Lose, Garble, Run, Chatter, Recv, Closed}
+use Rattle.printer_model.specs.declared.event.WorldEvent.TheVariants.{Opened, Send, Arrive, Lose, Garble, Run, Restart, Chatter, Recv, Closed}
 use Rattle.printer_model.proofs.Laws.{world_from-push, world_of-append, world_from-IsSameKind}
 use Rattle.printer_model.proofs.Sessions.{till-all, opens-append}
+use Rattle.printer_model.proofs.Starts.{executed-from}
 use Rattle.first_print.specs.declared.print.PrintEnd.{PrintEnd}
 use Rattle.first_print.specs.declared.print.PrintEnd.TheVariants as end
 use Rattle.first_print.specs.Play.{numbered, lines_of, log_of, HasRun}
@@ -28,34 +29,22 @@ opens_no (Arrive ∷ events) none = opens_no events none
 opens_no (Lose at ∷ events) none = opens_no events none
 opens_no (Garble at line ∷ events) none = opens_no events none
 opens_no (Run ∷ events) none = opens_no events none
+opens_no (Restart ∷ events) none = opens_no events none
 opens_no (Chatter reply ∷ events) none = opens_no events none
 opens_no (Recv ∷ events) none = opens_no events none
 opens_no (Closed ∷ events) none = opens_no events none
 
--- what comes before an Opened ends the sessions so far
-till_stop : (past rest : List WorldEvent) (last : ℕ) → till (opens past) (past ++ Opened last ∷ rest) ≡ past
-till_stop [] rest last = refl
-till_stop (Opened l ∷ past) rest last = ap (λ (es : List WorldEvent). Opened l ∷ es) (till_stop past rest last)
-till_stop (Send line ∷ past) rest last = ap (λ (es : List WorldEvent). Send line ∷ es) (till_stop past rest last)
-till_stop (Arrive ∷ past) rest last = ap (λ (es : List WorldEvent). Arrive ∷ es) (till_stop past rest last)
-till_stop (Lose at ∷ past) rest last = ap (λ (es : List WorldEvent). Lose at ∷ es) (till_stop past rest last)
-till_stop (Garble at line ∷ past) rest last = ap (λ (es : List WorldEvent). Garble at line ∷ es) (till_stop past rest last)
-till_stop (Run ∷ past) rest last = ap (λ (es : List WorldEvent). Run ∷ es) (till_stop past rest last)
-till_stop (Chatter reply ∷ past) rest last = ap (λ (es : List WorldEvent). Chatter reply ∷ es) (till_stop past rest last)
-till_stop (Recv ∷ past) rest last = ap (λ (es : List WorldEvent). Recv ∷ es) (till_stop past rest last)
-till_stop (Closed ∷ past) rest last = ap (λ (es : List WorldEvent). Closed ∷ es) (till_stop past rest last)
-
--- lines from 1 on are all counted
-counted_all : (n : ℕ) (texts : List (List ℕ)) → filter is_counted (numbered (suc n) texts) ≡ numbered (suc n) texts
+-- lines behind the hello are all counted
+counted_all : (n : ℕ) (texts : List (List ℕ)) → filter is_counted (numbered (suc (suc n)) texts) ≡ numbered (suc (suc n)) texts
 counted_all n [] = refl
 counted_all n (text ∷ texts) =
-    let line : Logged = record { number = Some (suc n); text = text } in
-    let behind : List Logged = filter is_counted (numbered (suc (suc n)) texts) in
-    ap (λ (zero_is : Bool). if not zero_is then line ∷ behind else behind) (ne_eqb (suc n) 0 (λ e. omega arith))
+    let line : Logged = record { number = Some (suc (suc n)); text = text } in
+    let behind : List Logged = filter is_counted (numbered (suc (suc (suc n))) texts) in
+    ap (λ (is_hello : Bool). if not is_hello then line ∷ behind else behind) (ne_eqb (suc (suc n)) 1 (λ e. omega arith))
     ∙ ap (λ (l : List Logged). line ∷ l) (counted_all (suc n) texts)
 
 -- the log without the hello
-counted_log : (texts : List (List ℕ)) (count : ℕ) → filter is_counted (log_of (lines_of texts) count) ≡ numbered 1 (take (pred count) texts)
+counted_log : (texts : List (List ℕ)) (count : ℕ) → filter is_counted (log_of (lines_of texts) count) ≡ numbered (wire_number 1) (take (pred count) texts)
 counted_log texts zero = refl
 counted_log texts (suc n) = counted_all 0 (take n texts)
 
@@ -90,21 +79,16 @@ dialled places advanced past first d =
 -- what was executed, from the log that a session left
 executed_log : (places : ℕ) (advanced : Bool) (past runs rest : List WorldEvent) (last : ℕ) (lines : List Logged) → list_all opens_none runs ≡ true → list_all opens_none rest ≡ true → (world_of places advanced (past ++ (runs ++ Opened last ∷ rest))).log ≡ (world_from (world_of places advanced past) runs).log ++ lines → executed places advanced (past ++ (runs ++ Opened last ∷ rest)) (suc (opens past)) ≡ filter is_counted lines
 executed_log places advanced past runs rest last lines none_runs none_rest grew =
-    let all = past ++ (runs ++ Opened last ∷ rest) in
     let front = past ++ runs in
     let counted_front : opens front ≡ opens past = omega (arith, opens-append past runs, opens_no runs none_runs) in
-    let shape : all ≡ front ++ Opened last ∷ rest = sym (append_assoc past runs (Opened last ∷ rest)) in
-    let few : opens all ≤ suc (opens past) = omega (arith, ap opens shape, opens-append front (Opened last ∷ rest), opens_no rest none_rest) in
-    let upto : till (suc (opens past)) all ≡ all = till-all (suc (opens past)) all few in
-    let before : till (opens past) all ≡ front = ap (λ (s : ℕ). till s all) (sym counted_front) ∙ ap (till (opens front)) shape ∙ till_stop front rest last in
-    let start = (world_from (world_of places advanced past) runs).log in
-    let begun : (world_of places advanced (till (opens past) all)).log ≡ start =
-    ap (λ (es : List WorldEvent). (world_of places advanced es).log) before ∙ ap (λ (w : WorldData). w.log) (world_of-append places advanced past runs) in
-    let ended : (world_of places advanced (till (suc (opens past)) all)).log ≡ start ++ lines =
-    ap (λ (es : List WorldEvent). (world_of places advanced es).log) upto ∙ grew in
-    ap (λ (l : List Logged). filter is_counted (drop (length l) (world_of places advanced (till (suc (opens past)) all)).log)) begun
-    ∙ ap (λ (l : List Logged). filter is_counted (drop (length start) l)) ended
-    ∙ ap (filter is_counted) (drop-append_seam start lines)
+    let shape : past ++ (runs ++ Opened last ∷ rest) ≡ front ++ Opened last ∷ rest = sym (append_assoc past runs (Opened last ∷ rest)) in
+    let ended : (world_of places advanced (front ++ Opened last ∷ rest)).log ≡ (world_of places advanced front).log ++ lines =
+    ap (λ (es : List WorldEvent). (world_of places advanced es).log) (sym shape)
+    ∙ grew
+    ∙ ap (λ (w : WorldData). w.log ++ lines) (sym (world_of-append places advanced past runs)) in
+    ap (λ (es : List WorldEvent). executed places advanced es (suc (opens past))) shape
+    ∙ ap (λ (s : ℕ). executed places advanced (front ++ Opened last ∷ rest) (suc s)) (sym counted_front)
+    ∙ executed-from places advanced front rest last lines (opens_no rest none_rest) ended
 
 -- a dial and what followed it
 pub print_of : (places : ℕ) (advanced : Bool) (texts : List (List ℕ)) (e : PrintEnd) (past first second : List WorldEvent) → places ≤ 16 → IsDial (world_of places advanced past) first → Leads (end_asked e) (Ready (lines_of texts) 0) (AtEnd (lines_of texts) e) (world_of places advanced (past ++ first)) second → IsPrintOf places advanced texts (is_done e) past (first ++ second)

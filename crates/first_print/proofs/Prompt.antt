@@ -8,15 +8,16 @@ use Rattle.std.proofs.lemmas.List.{append_cancel_left}
 use Rattle.octo_outside.specs.Told.{Rose, Steady}
 use Rattle.octo_outside.proofs.Told.{steady_after, steady_not_rose}
 use Rattle.marlin_frame.specs.Frame.{frame_of}
+use Rattle.marlin_frame.specs.Numbering.{wire_number}
 use Rattle.marlin_reply.specs.Kind.{kind_of}
 use Rattle.printer_model.specs.Printer.{Entry, Logged, is_full}
 use Rattle.printer_model.specs.Replies.{run_reply}
 use Rattle.printer_model.specs.World.{WorldData, new_world, is_empty, is_free, fits_wire, can_happen, apply, arrived, world_from, world_of}
 use Rattle.printer_link.specs.Link.{LinkKind, HasSlots, Grows, world_in, IsDial, IsHeard, IsSilence, IsSendOf, due_run, due_recv, printer_events, recv_events}
 use Rattle.printer_model.specs.declared.event.WorldEvent.{WorldEvent}
-use Rattle.printer_model.specs.declared.event.WorldEvent.TheVariants.{Opened, Send, Arrive, Lose, Garble, Run, Chatter, Recv, Closed}
+use Rattle.printer_model.specs.declared.event.WorldEvent.TheVariants.{Opened, Send, Arrive, Lose, Garble, Run, Restart, Chatter, Recv, Closed}
 use Rattle.printer_model.proofs.Laws.{happens, world_from-push, world_of-append, world_from-IsSameKind}
-use Rattle.first_print.specs.Play.{IsCarried, IsNext, open_world, entry_of, line_at, is_ok}
+use Rattle.first_print.specs.Play.{IsCarried, IsNext, open_world, entry_of, line_at, front_of, frame_at, is_ok}
 use Rattle.first_print.specs.declared.print.PrintEnd.{PrintEnd}
 use Rattle.first_print.specs.declared.print.PrintEnd.TheVariants as end
 use Rattle.first_print.specs.Prompt.{IsAt, IsPromptReady, IsPromptSent}
@@ -30,35 +31,35 @@ room_of places advanced last some = let full : nat_le places 0 ≡ false = grind
 
 -- the printer's reply to line n
 abbrev reply_to : Bool → List (List ℕ) → ℕ → ℕ → List ℕ
-reply_to advanced lines n places = run_reply advanced (Some n) (line_at lines n) (places - 1)
+reply_to advanced lines n places = run_reply advanced (Some (front_of n)) (line_at lines n) (places - 1)
 
 -- the log with line n
 abbrev logged_to : List Logged → List (List ℕ) → ℕ → List Logged
-logged_to log lines n = log ++ record { number = Some n; text = line_at lines n } ∷ []
+logged_to log lines n = log ++ record { number = Some (wire_number n); text = line_at lines n } ∷ []
 
 -- the line on the wire arrives
-arrive_is : (lines : List (List ℕ)) (n places : ℕ) (advanced : Bool) (last : ℕ) (log : List Logged) → IsCarried n (line_at lines n) → IsNext n last → 1 ≤ places → apply (open_world places advanced last [] log (frame_of n (line_at lines n) ∷ []) []) Arrive ≡ open_world places advanced n (entry_of lines n ∷ []) log [] []
+arrive_is : (lines : List (List ℕ)) (n places : ℕ) (advanced : Bool) (last : ℕ) (log : List Logged) → IsCarried n (line_at lines n) → IsNext n last → 1 ≤ places → apply (open_world places advanced last [] log (frame_at lines n ∷ []) []) Arrive ≡ open_world places advanced (wire_number n) (entry_of lines n ∷ []) log [] []
 arrive_is lines n places advanced last log carried next some =
-    let line = frame_of n (line_at lines n) in
+    let line = frame_at lines n in
     let w = open_world places advanced last [] log (line ∷ []) [] in
     let room = room_of places advanced last some in
     let can : can_happen w Arrive ≡ true = ap not room in
     happens w Arrive can ∙ ap (arrived w []) (took (idle places advanced last) line _ room (judged_next n last (line_at lines n) carried next))
 
 -- and is run
-run_is : (lines : List (List ℕ)) (n places : ℕ) (advanced : Bool) (log : List Logged) → apply (open_world places advanced n (entry_of lines n ∷ []) log [] []) Run ≡ open_world places advanced n [] (logged_to log lines n) [] (reply_to advanced lines n places ∷ [])
+run_is : (lines : List (List ℕ)) (n places : ℕ) (advanced : Bool) (log : List Logged) → apply (open_world places advanced (wire_number n) (entry_of lines n ∷ []) log [] []) Run ≡ open_world places advanced (wire_number n) [] (logged_to log lines n) [] (reply_to advanced lines n places ∷ [])
 run_is lines n places advanced log =
     let Behind : ℕ → WorldData = λ last. open_world places advanced last [] (logged_to log lines n) [] (reply_to advanced lines n places ∷ []) in
-    ap Behind (last_same n (line_at lines n))
+    ap Behind (last_same (wire_number n) (front_of n) (line_at lines n))
 
-ran_is : (lines : List (List ℕ)) (n places : ℕ) (advanced : Bool) (last : ℕ) (log : List Logged) → IsCarried n (line_at lines n) → IsNext n last → 1 ≤ places → world_from (open_world places advanced last [] log (frame_of n (line_at lines n) ∷ []) []) (Arrive ∷ Run ∷ []) ≡ open_world places advanced n [] (logged_to log lines n) [] (reply_to advanced lines n places ∷ [])
+ran_is : (lines : List (List ℕ)) (n places : ℕ) (advanced : Bool) (last : ℕ) (log : List Logged) → IsCarried n (line_at lines n) → IsNext n last → 1 ≤ places → world_from (open_world places advanced last [] log (frame_at lines n ∷ []) []) (Arrive ∷ Run ∷ []) ≡ open_world places advanced (wire_number n) [] (logged_to log lines n) [] (reply_to advanced lines n places ∷ [])
 ran_is lines n places advanced last log carried next some =
     ap (λ (v : WorldData). apply v Run) (arrive_is lines n places advanced last log carried next some) ∙ run_is lines n places advanced log
 
 -- a receiving over a prompt link with one line on the wire
-recv_is : (lines : List (List ℕ)) (n places : ℕ) (advanced : Bool) (last : ℕ) (log : List Logged) → IsCarried n (line_at lines n) → IsNext n last → 1 ≤ places → recv_events true (open_world places advanced last [] log (frame_of n (line_at lines n) ∷ []) []) ≡ Arrive ∷ Run ∷ Recv ∷ []
+recv_is : (lines : List (List ℕ)) (n places : ℕ) (advanced : Bool) (last : ℕ) (log : List Logged) → IsCarried n (line_at lines n) → IsNext n last → 1 ≤ places → recv_events true (open_world places advanced last [] log (frame_at lines n ∷ []) []) ≡ Arrive ∷ Run ∷ Recv ∷ []
 recv_is lines n places advanced last log carried next some =
-    let w = open_world places advanced last [] log (frame_of n (line_at lines n) ∷ []) [] in
+    let w = open_world places advanced last [] log (frame_at lines n ∷ []) [] in
     let arrives : printer_events true w ≡ Arrive ∷ due_run true (apply w Arrive) =
     ap (λ (b : Bool). (if b then [] else Arrive ∷ []) ++ due_run true (world_from w (if b then [] else Arrive ∷ []))) (room_of places advanced last some) in
     let runs : printer_events true w ≡ Arrive ∷ Run ∷ [] =
@@ -96,7 +97,7 @@ answered_ready lines n w added carried s is =
       some = s.some;
       few = s.few;
       advanced = s.advanced;
-      last = n;
+      last = wire_number n;
       log = logged_to s.log lines n;
       next = inr (omega arith);
       is = ap (λ (es : List WorldEvent). world_from w es) is
@@ -118,7 +119,7 @@ answer_kind lines n into w added carried s is h =
     ∙ ap (λ (v : WorldData). world_from v (Arrive ∷ Run ∷ [])) s.is
     ∙ ran_is lines n s.places s.advanced s.last s.log carried s.next s.some)) ∙ h.front in
     let same : reply ≡ h.reply = cc in
-    ap (λ (l : List ℕ). is_ok (kind_of l)) (h.whole ∙ sym same) ∙ speech.ok s.advanced n (line_at lines n) (s.places - 1) carried.small (omega (arith, s.few))
+    ap (λ (l : List ℕ). is_ok (kind_of l)) (h.whole ∙ sym same) ∙ speech.ok s.advanced (front_of n) (line_at lines n) (s.places - 1) carried.small (omega (arith, s.few))
 
 -- a line that is received over a prompt link
 pub answer_is : (lines : List (List ℕ)) (n : ℕ) (into : List ℕ) (w : WorldData) (added : List WorldEvent) → IsCarried n (line_at lines n) → IsPromptSent lines n w → added ≡ recv_events true w → IsHeard into w added → IsAnswer n into w added
@@ -133,13 +134,13 @@ never_silent lines n w added carried s is silence =
     absurd (cc)
 
 -- a line of a print fits the wire
-carried_fits : (n : ℕ) (text : List ℕ) → IsCarried n text → fits_wire (frame_of n text) ≡ true
+carried_fits : (n : ℕ) (text : List ℕ) → IsCarried n text → fits_wire (frame_of (front_of n) text) ≡ true
 carried_fits n text carried =
-    let short : length (frame_of n text) ≤ 95 = carried.short in
+    let short : length (frame_of (front_of n) text) ≤ 95 = carried.short in
     grind (arith, nat_tests)
 
 -- the next line is sent
-pub sent_is : (lines : List (List ℕ)) (n : ℕ) (w : WorldData) (event : WorldEvent) → IsCarried n (line_at lines n) → IsSendOf (frame_of n (line_at lines n)) event → IsPromptReady n w → IsPromptSent lines n (world_from w (event ∷ []))
+pub sent_is : (lines : List (List ℕ)) (n : ℕ) (w : WorldData) (event : WorldEvent) → IsCarried n (line_at lines n) → IsSendOf (frame_at lines n) event → IsPromptReady n w → IsPromptSent lines n (world_from w (event ∷ []))
 sent_is lines n w (Send line) carried is r =
     let o = open_world r.places r.advanced r.last [] r.log [] [] in
     let can : can_happen o (Send line) ≡ true = ap fits_wire is ∙ carried_fits n (line_at lines n) carried in
@@ -160,6 +161,7 @@ sent_is lines n w Arrive carried is r = absurd is
 sent_is lines n w (Lose at) carried is r = absurd is
 sent_is lines n w (Garble at line) carried is r = absurd is
 sent_is lines n w Run carried is r = absurd is
+sent_is lines n w Restart carried is r = absurd is
 sent_is lines n w (Chatter line) carried is r = absurd is
 sent_is lines n w Recv carried is r = absurd is
 sent_is lines n w Closed carried is r = absurd is
@@ -235,7 +237,7 @@ at_as kind kind' past R same at =
     subst P (sym same) at
 
 -- a sending over a prompt link
-pub send_at : (kind kind' : LinkKind) (old new : Option (List WorldEvent)) (lines : List (List ℕ)) (n : ℕ) (line : List ℕ) → IsCarried n (line_at lines n) → line ≡ frame_of n (line_at lines n) → kind' ≡ kind → Grows kind old new (λ w added. (sent : WorldEvent) × (added ≡ sent ∷ []) × IsSendOf line sent) → IsAt kind old (IsPromptReady n) → IsAt kind' new (IsPromptSent lines n)
+pub send_at : (kind kind' : LinkKind) (old new : Option (List WorldEvent)) (lines : List (List ℕ)) (n : ℕ) (line : List ℕ) → IsCarried n (line_at lines n) → line ≡ frame_at lines n → kind' ≡ kind → Grows kind old new (λ w added. (sent : WorldEvent) × (added ≡ sent ∷ []) × IsSendOf line sent) → IsAt kind old (IsPromptReady n) → IsAt kind' new (IsPromptSent lines n)
 send_at kind kind' old new lines n line carried line_is same grew at =
     let K : WorldData → List WorldEvent → Type 0 = λ w added. (sent : WorldEvent) × (added ≡ sent ∷ []) × IsSendOf line sent in
     let g = grown kind old new at.now K at.told grew in

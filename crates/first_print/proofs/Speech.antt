@@ -2,20 +2,24 @@
 use Rattle.std.proofs.Common.{◌≡◌, ℕ, ◌≤◌, ◌<◌, ◌^◌, Bool, true, List, ◌++◌, ◌∙◌, ap, append_assoc, arith, Some}
 use Rattle.std.specs.Prelude.{codes, decimal, bytes_eq}
 use Rattle.std.proofs.lemmas.Bool.{cond_both}
-use Rattle.marlin_reply.specs.Kind.{kind_of, is_chatter, is_talk}
-use Rattle.marlin_reply.proofs.Lines.{kind_of-ok, kind_of-temps_ok, kind_of-numbered_ok, kind_of-resend, kind_of-error}
-use Rattle.printer_model.specs.Replies.{reason_text, asked_after, error_line, resend_line, ok_line, temperatures_line, numbered_ok, run_reply}
+use Rattle.marlin_reply.specs.Kind.{kind_of}
+use Rattle.marlin_reply.proofs.Lines.{kind_of-ok, kind_of-temps_ok, kind_of-numbered_ok, kind_of-resend, kind_of-start, kind_of-error}
+use Rattle.printer_model.specs.Replies.{reason_text, asked_after, error_line, resend_line, ok_line, temperatures_line, numbered_ok, run_reply, start_line}
 use Rattle.printer_model.specs.declared.printer.Reason.{Reason}
-use Rattle.first_print.specs.Play.{is_ok, is_resend}
+use Rattle.first_print.specs.Play.{is_ok, is_resend, is_other, is_aside}
 use Rattle.first_print.proofs.Flight.{SpeaksMarlin}
 
-error_is : (reason : Reason) (last : ℕ) → is_chatter (error_line reason last) ≡ true
-unfolding is_chatter error_line
+error_is : (reason : Reason) (last : ℕ) → is_aside (error_line reason last) ≡ true
+unfolding error_line
 error_is reason last =
-    ap (λ (l : List ℕ). is_talk (kind_of l))
+    ap is_aside
     (append_assoc (codes "Error:" ++ reason_text reason) (codes ", Last Line: ") (decimal last)
     ∙ append_assoc (codes "Error:") (reason_text reason) (codes ", Last Line: " ++ decimal last))
-    ∙ ap is_talk (kind_of-error (reason_text reason ++ (codes ", Last Line: " ++ decimal last)))
+    ∙ ap is_other (kind_of-error (reason_text reason ++ (codes ", Last Line: " ++ decimal last)))
+
+start_is : is_aside start_line ≡ true
+unfolding start_line
+start_is = ap is_other kind_of-start
 
 asked_fits : (last : ℕ) → asked_after last < 2 ^ 32
 unfolding asked_after
@@ -46,4 +50,4 @@ ok_is advanced n text free small few =
 
 -- the printer speaks by Marlin's protocol
 pub speech : SpeaksMarlin
-speech = record { error = error_is; resend = resend_is; ok = ok_is }
+speech = record { error = error_is; start = start_is; resend = resend_is; ok = ok_is }

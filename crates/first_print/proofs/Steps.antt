@@ -3,8 +3,7 @@ use Rattle.std.proofs.Common.{◌≡◌, inl, inr, ℕ, ◌≤◌, ◌<◌, suc,
 use Rattle.std.specs.Prelude.{◌&&◌, not, Option}
 use Rattle.std.specs.List.{list_all}
 use Rattle.std.proofs.lemmas.Bool.{and_parts}
-use Rattle.marlin_frame.specs.Frame.{frame_of}
-use Rattle.marlin_reply.specs.Kind.{kind_of, is_chatter, is_talk}
+use Rattle.marlin_reply.specs.Kind.{kind_of}
 use Rattle.marlin_reply.specs.declared.reply.Temps.{Temps}
 use Rattle.marlin_reply.specs.declared.reply.Reply.{Reply}
 use Rattle.marlin_reply.specs.declared.reply.Reply.TheVariants as reply
@@ -12,9 +11,9 @@ use Rattle.printer_model.specs.Printer.{Entry, Logged}
 use Rattle.printer_model.specs.World.{WorldData, is_empty, is_free, can_happen, happen, apply, world_from}
 use Rattle.printer_link.specs.Link.{IsSendOf, SendsFailing}
 use Rattle.printer_model.specs.declared.event.WorldEvent.{WorldEvent}
-use Rattle.printer_model.specs.declared.event.WorldEvent.TheVariants.{Opened, Send, Arrive, Lose, Garble, Run, Chatter, Recv, Closed}
+use Rattle.printer_model.specs.declared.event.WorldEvent.TheVariants.{Opened, Send, Arrive, Lose, Garble, Run, Restart, Chatter, Recv, Closed}
 use Rattle.printer_model.proofs.Laws.{happens, apply-log}
-use Rattle.first_print.specs.Play.{open_world, line_at, log_of, is_calm, is_ok, is_resend, IsReady, InFlight, sent, garbled, lost, refused, waiting, answered, HasRun, IsStopped, IsHeardAs}
+use Rattle.first_print.specs.Play.{open_world, line_at, frame_at, log_of, WasNext, is_aside, is_calm, is_ok, is_resend, is_other, IsReady, InFlight, sent, garbled, lost, refused, waiting, answered, HasRun, IsStopped, IsHeardAs}
 use Rattle.first_print.specs.Leads.{HasRunAll}
 use Rattle.first_print.proofs.Logs.{calm-front, calm-rest}
 
@@ -40,7 +39,7 @@ opened_ready lines w last few can =
       advanced = w.printer.advanced;
       last = last;
       down = [];
-      next = inl refl;
+      next = inl (inl refl);
       calm = refl;
       is = happens w (Opened last) can
           ∙ ap (λ (queue : List Entry). open_world w.printer.places w.printer.advanced last queue w.log [] []) none
@@ -48,7 +47,7 @@ opened_ready lines w last few can =
     }
 
 -- the next line was sent
-pub ready_sent : (start : List Logged) (lines : List (List ℕ)) (n : ℕ) (w : WorldData) (event : WorldEvent) → IsSendOf (frame_of n (line_at lines n)) event → can_happen w event ≡ true → IsReady start lines n w → InFlight start lines n (apply w event)
+pub ready_sent : (start : List Logged) (lines : List (List ℕ)) (n : ℕ) (w : WorldData) (event : WorldEvent) → IsSendOf (frame_at lines n) event → can_happen w event ≡ true → IsReady start lines n w → InFlight start lines n (apply w event)
 ready_sent start lines n w (Send line) is can r =
     let o = open_world r.places r.advanced r.last [] (start ++ log_of lines n) [] r.down in
     sent r.places r.few r.advanced r.last r.down r.next r.calm
@@ -60,6 +59,7 @@ ready_sent start lines n w Arrive is can r = absurd is
 ready_sent start lines n w (Lose at) is can r = absurd is
 ready_sent start lines n w (Garble at line) is can r = absurd is
 ready_sent start lines n w Run is can r = absurd is
+ready_sent start lines n w Restart is can r = absurd is
 ready_sent start lines n w (Chatter line) is can r = absurd is
 ready_sent start lines n w Recv is can r = absurd is
 ready_sent start lines n w Closed is can r = absurd is
@@ -74,6 +74,7 @@ ready_failing start lines n w Arrive sends r = absurd sends
 ready_failing start lines n w (Lose at) sends r = absurd sends
 ready_failing start lines n w (Garble at line) sends r = absurd sends
 ready_failing start lines n w Run sends r = absurd sends
+ready_failing start lines n w Restart sends r = absurd sends
 ready_failing start lines n w (Chatter line) sends r = absurd sends
 ready_failing start lines n w Recv sends r = absurd sends
 ready_failing start lines n w Closed sends r = absurd sends
@@ -95,7 +96,7 @@ flying_ran start lines n w within (refused places few advanced last down held is
     record { count = n; within = omega arith; is = ap (λ (v : WorldData). v.log) is }
 flying_ran start lines n w within (waiting places few advanced down calm is) =
     record { count = n; within = omega arith; is = ap (λ (v : WorldData). v.log) is }
-flying_ran start lines n w within (answered places few advanced down held is) =
+flying_ran start lines n w within (answered places few advanced last down next held is) =
     record { count = suc n; within = omega arith; is = ap (λ (v : WorldData). v.log) is }
 
 -- what stopped has run the lines before
@@ -111,15 +112,15 @@ pub ready_all : (start : List Logged) (lines : List (List ℕ)) (n : ℕ) (w : W
 ready_all start lines n w all r =
     apply-log w Closed refl ∙ ap (λ (v : WorldData). v.log) r.is ∙ ap (λ (k : ℕ). start ++ log_of lines k) all
 
--- what chatter, an `ok` and a Resend make of the line in flight
-chatter_heard : (start : List Logged) (lines : List (List ℕ)) (n : ℕ) (kind : Reply) (w : WorldData) → is_talk kind ≡ true → InFlight start lines n w → IsHeardAs start lines n kind w
-chatter_heard start lines n (reply.Ok number planner block temps) w talk here = absurd (cc)
-chatter_heard start lines n (reply.Resend number) w talk here = absurd (cc)
-chatter_heard start lines n reply.Start w talk here = here
-chatter_heard start lines n reply.Busy w talk here = here
-chatter_heard start lines n (reply.Temps temps) w talk here = here
-chatter_heard start lines n reply.Error w talk here = here
-chatter_heard start lines n reply.Other w talk here = here
+-- what an `ok`, a Resend and any other reply make of the line in flight
+other_reply_heard : (start : List Logged) (lines : List (List ℕ)) (n : ℕ) (kind : Reply) (w : WorldData) → is_other kind ≡ true → InFlight start lines n w → IsHeardAs start lines n kind w
+other_reply_heard start lines n (reply.Ok number planner block temps) w talk here = absurd (cc)
+other_reply_heard start lines n (reply.Resend number) w talk here = absurd (cc)
+other_reply_heard start lines n reply.Start w talk here = here
+other_reply_heard start lines n reply.Busy w talk here = here
+other_reply_heard start lines n (reply.Temps temps) w talk here = here
+other_reply_heard start lines n reply.Error w talk here = here
+other_reply_heard start lines n reply.Other w talk here = here
 
 ok_heard : (start : List Logged) (lines : List (List ℕ)) (n : ℕ) (kind : Reply) (w : WorldData) → is_ok kind ≡ true → IsReady start lines (suc n) w → IsHeardAs start lines n kind w
 ok_heard start lines n (reply.Ok number planner block temps) w ok here = here
@@ -138,11 +139,6 @@ resend_heard start lines n reply.Busy w resend here = absurd (cc)
 resend_heard start lines n (reply.Temps temps) w resend here = absurd (cc)
 resend_heard start lines n reply.Error w resend here = absurd (cc)
 resend_heard start lines n reply.Other w resend here = absurd (cc)
-
--- chatter talks
-talks : (line : List ℕ) → is_chatter line ≡ true → is_talk (kind_of line) ≡ true
-unfolding is_chatter
-talks line chat = chat
 
 -- the world after the front of the wire from the printer was received
 received : (w o : WorldData) (reply : List ℕ) (rest : List (List ℕ)) → w ≡ o → o.down ≡ reply ∷ rest → o.linked ≡ true → apply w Recv ≡ record o { down = rest }
@@ -163,12 +159,12 @@ refused_received start lines n places few advanced last reply rest [] asking beh
     (record { places = places; advanced = advanced; last = last; down = rest; is = at })
 refused_received start lines n places few advanced last reply rest (chat ∷ before) asking behind within is calm kind w at =
     let same = heads reply chat rest (before ++ asking ∷ behind) is in
-    let Talks : List ℕ → Type 0 = λ line. is_chatter line ≡ true in
-    chatter_heard start lines n (kind_of reply) w (talks reply (subst Talks (sym same.0) (calm-front chat before calm)))
+    let Aside : List ℕ → Type 0 = λ line. is_aside line ≡ true in
+    other_reply_heard start lines n (kind_of reply) w (subst Aside (sym same.0) (calm-front chat before calm))
     (refused places few advanced last rest (record { before = before; reply = asking; behind = behind; is = same.1; calm_before = calm-rest chat before calm; kind = kind }) at)
 
-answered_received : (start : List Logged) (lines : List (List ℕ)) (n : ℕ) (places : ℕ) (few : places ≤ 16) (advanced : Bool) (reply : List ℕ) (rest before : List (List ℕ)) (ok : List ℕ) (behind : List (List ℕ)) → reply ∷ rest ≡ before ++ ok ∷ behind → is_calm before ≡ true → is_ok (kind_of ok) ≡ true → is_calm behind ≡ true → (w : WorldData) → w ≡ open_world places advanced n [] (start ++ log_of lines (suc n)) [] rest → IsHeardAs start lines n (kind_of reply) w
-answered_received start lines n places few advanced reply rest [] ok behind is calm kind calm_behind w at =
+answered_received : (start : List Logged) (lines : List (List ℕ)) (n : ℕ) (places : ℕ) (few : places ≤ 16) (advanced : Bool) (last : ℕ) → WasNext (suc n) last → (reply : List ℕ) (rest before : List (List ℕ)) (ok : List ℕ) (behind : List (List ℕ)) → reply ∷ rest ≡ before ++ ok ∷ behind → is_calm before ≡ true → is_ok (kind_of ok) ≡ true → is_calm behind ≡ true → (w : WorldData) → w ≡ open_world places advanced last [] (start ++ log_of lines (suc n)) [] rest → IsHeardAs start lines n (kind_of reply) w
+answered_received start lines n places few advanced last next reply rest [] ok behind is calm kind calm_behind w at =
     let same = heads reply ok rest behind is in
     let Acknowledges : List ℕ → Type 0 = λ line. is_ok (kind_of line) ≡ true in
     let Calm : List (List ℕ) → Type 0 = λ d. is_calm d ≡ true in
@@ -177,20 +173,20 @@ answered_received start lines n places few advanced reply rest [] ok behind is c
       places = places;
       few = few;
       advanced = advanced;
-      last = n;
+      last = last;
       down = rest;
-      next = inr (omega arith);
+      next = next;
       calm = subst Calm (sym same.1) calm_behind;
       is = at;
     })
-answered_received start lines n places few advanced reply rest (chat ∷ before) ok behind is calm kind calm_behind w at =
+answered_received start lines n places few advanced last next reply rest (chat ∷ before) ok behind is calm kind calm_behind w at =
     let same = heads reply chat rest (before ++ ok ∷ behind) is in
-    let Talks : List ℕ → Type 0 = λ line. is_chatter line ≡ true in
-    chatter_heard start lines n (kind_of reply) w (talks reply (subst Talks (sym same.0) (calm-front chat before calm)))
-    (answered places few advanced rest (record { before = before; reply = ok; behind = behind; is = same.1; calm_before = calm-rest chat before calm; kind = kind; calm_behind = calm_behind }) at)
+    let Aside : List ℕ → Type 0 = λ line. is_aside line ≡ true in
+    other_reply_heard start lines n (kind_of reply) w (subst Aside (sym same.0) (calm-front chat before calm))
+    (answered places few advanced last rest next (record { before = before; reply = ok; behind = behind; is = same.1; calm_before = calm-rest chat before calm; kind = kind; calm_behind = calm_behind }) at)
 
 -- the front of a calm wire, and the rest of it
-calm_front_of : (down rest : List (List ℕ)) (reply : List ℕ) → is_calm down ≡ true → down ≡ reply ∷ rest → is_chatter reply ≡ true
+calm_front_of : (down rest : List (List ℕ)) (reply : List ℕ) → is_calm down ≡ true → down ≡ reply ∷ rest → is_aside reply ≡ true
 calm_front_of down rest reply calm front = let Calm : List (List ℕ) → Type 0 = λ d. is_calm d ≡ true in calm-front reply rest (subst Calm front calm)
 
 calm_rest_of : (down rest : List (List ℕ)) (reply : List ℕ) → is_calm down ≡ true → down ≡ reply ∷ rest → is_calm rest ≡ true
@@ -204,26 +200,26 @@ down_is w o reply rest is front = sym (ap (λ (v : WorldData). v.down) is) ∙ f
 pub heard : (start : List Logged) (lines : List (List ℕ)) (n : ℕ) (w : WorldData) (reply : List ℕ) (rest : List (List ℕ)) → n < length lines → w.down ≡ reply ∷ rest → InFlight start lines n w → IsHeardAs start lines n (kind_of reply) (apply w Recv)
 heard start lines n w reply rest within front (sent places few advanced last down next calm is) =
     let f = down_is w _ reply rest is front in
-    chatter_heard start lines n (kind_of reply) (apply w Recv) (talks reply (calm_front_of down rest reply calm f))
+    other_reply_heard start lines n (kind_of reply) (apply w Recv) (calm_front_of down rest reply calm f)
     (sent places few advanced last rest next (calm_rest_of down rest reply calm f) (received w _ reply rest is f refl))
 heard start lines n w reply rest within front (garbled places few advanced last line down failing calm is) =
     let f = down_is w _ reply rest is front in
-    chatter_heard start lines n (kind_of reply) (apply w Recv) (talks reply (calm_front_of down rest reply calm f))
+    other_reply_heard start lines n (kind_of reply) (apply w Recv) (calm_front_of down rest reply calm f)
     (garbled places few advanced last line rest failing (calm_rest_of down rest reply calm f) (received w _ reply rest is f refl))
 heard start lines n w reply rest within front (lost places few advanced last down calm is) =
     let f = down_is w _ reply rest is front in
-    chatter_heard start lines n (kind_of reply) (apply w Recv) (talks reply (calm_front_of down rest reply calm f))
+    other_reply_heard start lines n (kind_of reply) (apply w Recv) (calm_front_of down rest reply calm f)
     (lost places few advanced last rest (calm_rest_of down rest reply calm f) (received w _ reply rest is f refl))
 heard start lines n w reply rest within front (refused places few advanced last down held is) =
     let f = down_is w _ reply rest is front in
     refused_received start lines n places few advanced last reply rest held.before held.reply held.behind within (sym f ∙ held.is) held.calm_before held.kind (apply w Recv) (received w _ reply rest is f refl)
 heard start lines n w reply rest within front (waiting places few advanced down calm is) =
     let f = down_is w _ reply rest is front in
-    chatter_heard start lines n (kind_of reply) (apply w Recv) (talks reply (calm_front_of down rest reply calm f))
+    other_reply_heard start lines n (kind_of reply) (apply w Recv) (calm_front_of down rest reply calm f)
     (waiting places few advanced rest (calm_rest_of down rest reply calm f) (received w _ reply rest is f refl))
-heard start lines n w reply rest within front (answered places few advanced down held is) =
+heard start lines n w reply rest within front (answered places few advanced last down next held is) =
     let f = down_is w _ reply rest is front in
-    answered_received start lines n places few advanced reply rest held.before held.reply held.behind (sym f ∙ held.is) held.calm_before held.kind held.calm_behind (apply w Recv) (received w _ reply rest is f refl)
+    answered_received start lines n places few advanced last next reply rest held.before held.reply held.behind (sym f ∙ held.is) held.calm_before held.kind held.calm_behind (apply w Recv) (received w _ reply rest is f refl)
 
 -- a reply that is neither leaves the line in flight
 pub other_heard : (start : List Logged) (lines : List (List ℕ)) (n : ℕ) (kind : Reply) (w : WorldData) → is_ok kind ≡ false → is_resend kind ≡ false → IsHeardAs start lines n kind w → InFlight start lines n w

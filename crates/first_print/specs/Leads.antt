@@ -1,6 +1,7 @@
 -- What the calls of a print add to the past of a link.
 use Rattle.std.specs.Prelude.{◌≡◌, ℕ, ◌≤◌, suc, Bool, true, false, ◌||◌, not, if◌then◌else◌, List, [], ◌∷◌, ◌++◌, length, take}
 use Rattle.std.specs.List.{list_all}
+use Rattle.marlin_frame.specs.Numbering.{wire_number}
 use Rattle.marlin_reply.specs.Kind.{kind_of}
 use Rattle.printer_model.specs.Printer.{Logged}
 use Rattle.printer_model.specs.World.{WorldData, apply, world_from}
@@ -56,7 +57,7 @@ HasRunAll lines start w = w.log ≡ start ++ log_of lines (length lines)
 pub record IsPrintOf (places : ℕ) (advanced : Bool) (texts : List (List ℕ)) (done : Bool) (past added : List WorldEvent) : Type 0 where
   pub count : ℕ
   pub within : count ≤ length texts
-  pub is : executed places advanced (past ++ added) (suc (opens past)) ≡ numbered 1 (take count texts)
+  pub is : executed places advanced (past ++ added) (suc (opens past)) ≡ numbered (wire_number 1) (take count texts)
   pub whole : done ≡ true → count ≡ length texts
 
 -- what a turn leaves of the print

@@ -1,14 +1,13 @@
 -- A print over a prompt link: where it stands before and after each line.
 use Rattle.std.specs.Prelude.{◌≡◌, ℕ, ◌≤◌, suc, Bool, true, List, [], ◌∷◌, length, Option, Some, is_some}
 use Rattle.octo_outside.specs.Told.{Steady}
-use Rattle.marlin_frame.specs.Frame.{frame_of}
 use Rattle.printer_model.specs.Printer.{Logged}
 use Rattle.printer_model.specs.World.{WorldData}
 use Rattle.printer_link.specs.Link.{LinkKind, world_in}
 use Rattle.printer_model.specs.declared.event.WorldEvent.{WorldEvent}
 use Rattle.first_print.specs.declared.print.Turn.{Turn}
 use Rattle.first_print.specs.declared.print.Turn.TheVariants as turn
-use Rattle.first_print.specs.Play.{line_at, IsNext, open_world}
+use Rattle.first_print.specs.Play.{frame_at, IsNext, open_world}
 
 -- the past is told, and its world is one of these
 pub record IsAt (kind : LinkKind) (past : Option (List WorldEvent)) (P : WorldData → Type 0) : Type 0 where
@@ -33,7 +32,7 @@ IsPromptReady n w = IsClear n [] w
 
 -- and then the line n was sent
 abbrev pub IsPromptSent : List (List ℕ) → ℕ → WorldData → Type 0
-IsPromptSent lines n w = IsClear n (frame_of n (line_at lines n) ∷ []) w
+IsPromptSent lines n w = IsClear n (frame_at lines n ∷ []) w
 
 -- a turn over a prompt link sends the next line, or all is done, unless the link fails
 abbrev pub GoesOn : List (List ℕ) → ℕ → LinkKind → Option (List WorldEvent) → Turn → Type 0

@@ -49,7 +49,7 @@ pub enum Turn {
 fn send_line<L: Link>(link: &mut L, job: &Job, n: u32) -> Result<(), LinkFault>
     requires open { L.up link.old ≡ true }
     requires there { n ≤ length job.now.commands }
-    requires small { n ≤ 2000000000 }
+    requires small { n ≤ 1999999999 }
     ensures carried { IsCarried n (line_at (lines_of (texts_of job.now)) n) }
     ensures sent { OnOk result (Grows (L.kind link.old) (L.past link.old) (L.past link.new) (Leads false (Ready (lines_of (texts_of job.now)) n) (Flying (lines_of (texts_of job.now)) n))) }
     ensures lost { OnErr result (Grows (L.kind link.old) (L.past link.old) (L.past link.new) (Leads false (Ready (lines_of (texts_of job.now)) n) (Ran (lines_of (texts_of job.now))))) }

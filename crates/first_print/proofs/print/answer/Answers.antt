@@ -27,7 +27,7 @@ returns-in-Resend-clause-leads g c =
     let within : c.args.n ≤ length lines = omega (arith, line_there c.args.job.now c.args.n c.requires.there) in
     let P : Reply → Type 0 = λ k. Grows (g.L.Link.kind c.args.link.now) (g.L.Link.past c.args.link.now) (g.L.Link.past c.hang_up.new.self) (Leads false (λ start w. IsHeardAs start lines c.args.n k w) (Ran lines)) in
     subst P kind
-    (grows_closed _ _ _ _ (λ start w. IsHeardAs start lines c.args.n (reply.Resend c.in-Resend.number) w) (Ran lines) c.requires.open
+    (grows_closed (g.L.Link.kind c.args.link.now) _ _ _ (λ start w. IsHeardAs start lines c.args.n (reply.Resend c.in-Resend.number) w) (Ran lines) c.requires.open
     (λ start v stopped. closed_ran start lines v (stopped_ran start lines c.args.n v within stopped)) c.hang_up.ensures.past)
 
 pub returns-in_default : goal.returns-in_default

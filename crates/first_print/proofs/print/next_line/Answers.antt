@@ -13,7 +13,7 @@ pub returns-then-n-count-clause-leads : goal.returns-then-n-count-clause-leads
 returns-then-n-count-clause-leads g c =
     let lines = lines_of (texts_of c.args.job.now) in
     let all : suc c.args.n ≡ length lines = omega (arith, lines_length c.args.job.now, c.count.ensures.value, c.if-n-count.true) in
-    grows_closed _ _ _ _ (Ready lines (suc c.args.n)) (HasRunAll lines) c.requires.open
+    grows_closed (g.L.Link.kind c.args.link.now) _ _ _ (Ready lines (suc c.args.n)) (HasRunAll lines) c.requires.open
     (λ start v ready. ready_all start lines (suc c.args.n) v all ready) c.hang_up.ensures.past
 
 pub returns-in-Ok-clause-leads : goal.returns-in-Ok-clause-leads

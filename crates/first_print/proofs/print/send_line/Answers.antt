@@ -16,7 +16,7 @@ returns-clause-sent g c =
     let lines = lines_of (texts_of c.args.job.now) in
     let n = c.args.n in
     ok_so c.send.result c.send.ensures.past
-    (λ grew. grows_so _ _ _ _ _ grew
+    (λ grew. grows_so (g.L.Link.kind c.args.link.now) _ _ _ _ grew
     (λ (w : WorldData) (added : List WorldEvent) (sends : IsSend c.write_line.new.into.items w added).
     let As : List ℕ → Type 0 = λ l. IsSend l w added in
     send_leads speech lines n c.write_line.ensures.carried (line_there c.args.job.now n c.requires.there) w added (subst As c.write_line.ensures.written sends)))
@@ -26,7 +26,7 @@ returns-clause-lost g c =
     let lines = lines_of (texts_of c.args.job.now) in
     let n = c.args.n in
     err_so c.send.result c.send.ensures.past_failed
-    (λ grew. grows_so _ _ _ _ _ grew (λ w added loss. send_loss_leads speech lines n c.write_line.ensures.carried (line_there c.args.job.now n c.requires.there) w added loss))
+    (λ grew. grows_so (g.L.Link.kind c.args.link.now) _ _ _ _ grew (λ w added loss. send_loss_leads speech lines n c.write_line.ensures.carried (line_there c.args.job.now n c.requires.there) w added loss))
 
 pub returns-clause-prompt : goal.returns-clause-prompt
 returns-clause-prompt g c prompt at =

@@ -18,20 +18,20 @@ returns-in-Ok-Line-clause-leads g c =
     let there = line_there c.args.job.now c.args.n c.requires.there in
     let into = c.recv.new.into.items in
     let grew = rw c.in-Ok-Line.field-0-is at c.in-Ok-Line.ensures.past in
-    let first = grows_so _ _ _ _ _ (grew refl) (λ w added h. heard_leads speech lines c.args.n c.requires.carried there into w added h) in
-    let second = grows_at _ _ _ _ (Leads false (λ start w. IsHeardAs start lines c.args.n (kind_of into) w) (AfterTurn lines c.answer.result)) c.recv.ensures.kind c.answer.ensures.leads in
+    let first = grows_so (g.L.Link.kind c.args.link.now) _ _ _ _ (grew refl) (λ w added h. heard_leads speech lines c.args.n c.requires.carried there into w added h) in
+    let second = grows_at (g.L.Link.kind c.args.link.now) _ _ _ (Leads false (λ start w. IsHeardAs start lines c.args.n (kind_of into) w) (AfterTurn lines c.answer.result)) c.recv.ensures.kind c.answer.ensures.leads in
     let asked : (is_resend (kind_of into) || false) ≡ turn_asked c.answer.result = or_false (is_resend (kind_of into)) ∙ sym c.answer.ensures.asked in
     let P : Bool → Type 0 = λ b. Grows (g.L.Link.kind c.args.link.now) (g.L.Link.past c.args.link.now) (g.L.Link.past c.answer.new.link) (Leads b (Flying lines c.args.n) (AfterTurn lines c.answer.result)) in
-    subst P asked (grows_then _ _ _ _ _ _ _ _ _ first second)
+    subst P asked (grows_then (g.L.Link.kind c.args.link.now) _ _ _ _ _ _ _ _ first second)
 
 pub returns-in-Ok-Nothing-clause-leads : goal.returns-in-Ok-Nothing-clause-leads
 returns-in-Ok-Nothing-clause-leads g c =
     let grew = rw c.in-Ok-Nothing.field-0-is at c.in-Ok-Nothing.ensures.past_nothing in
-    grows_so _ _ _ _ _ (grew refl) (λ w added silence. silence_leads speech (lines_of (texts_of c.args.job.now)) c.args.n c.requires.carried (line_there c.args.job.now c.args.n c.requires.there) w added silence)
+    grows_so (g.L.Link.kind c.args.link.now) _ _ _ _ (grew refl) (λ w added silence. silence_leads speech (lines_of (texts_of c.args.job.now)) c.args.n c.requires.carried (line_there c.args.job.now c.args.n c.requires.there) w added silence)
 
 pub returns-in-Err-clause-leads : goal.returns-in-Err-clause-leads
 returns-in-Err-clause-leads g c =
-    grows_so _ _ _ _ _ c.in-Err.ensures.past_failed (λ w added loss. loss_leads speech (lines_of (texts_of c.args.job.now)) c.args.n c.requires.carried (line_there c.args.job.now c.args.n c.requires.there) w added loss)
+    grows_so (g.L.Link.kind c.args.link.now) _ _ _ _ c.in-Err.ensures.past_failed (λ w added loss. loss_leads speech (lines_of (texts_of c.args.job.now)) c.args.n c.requires.carried (line_there c.args.job.now c.args.n c.requires.there) w added loss)
 
 pub returns-in-Ok-Line-clause-prompt : goal.returns-in-Ok-Line-clause-prompt
 returns-in-Ok-Line-clause-prompt g c prompt at =

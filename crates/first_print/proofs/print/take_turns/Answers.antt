@@ -15,7 +15,7 @@ loop-init g c =
       up = c.requires.«open»;
       there = omega arith;
       carried = c.requires.carried;
-      leads = grows_same _ _ (Flying (lines_of (texts_of c.args.job.now)) 0);
+      leads = grows_same (g.L.Link.kind c.args.link.now) _ (Flying (lines_of (texts_of c.args.job.now)) 0);
       kind = refl;
       prompt = λ prompt at. (refl, at);
       calls = rose_none (g.L.Link.calls c.args.link.now);
@@ -31,7 +31,7 @@ loop-preserved g c =
       up = c.in-Going.ensures.up;
       there = omega (arith, c.in-Going.ensures.going.0, lines_length c.args.job.now);
       carried = c.in-Going.ensures.going.1;
-      leads = grows_then _ _ _ _ false false (Flying lines 0) (Flying lines c.loop.line) (Flying lines c.in-Going.next) i.leads second;
+      leads = grows_then (g.L.Link.kind c.args.link.now) _ _ _ false false (Flying lines 0) (Flying lines c.loop.line) (Flying lines c.in-Going.next) i.leads second;
       kind = c.take_turn.ensures.kind ∙ i.kind;
       prompt = λ prompt at. (let here = i.prompt prompt at in
           let next = c.in-Going.ensures.prompt (prompt_kept i.kind prompt) here.1 in
@@ -45,21 +45,21 @@ returns-in-Done-clause-leads g c =
     let lines = lines_of (texts_of c.args.job.now) in
     let i = c.loop.invariant in
     let second = grows_at (g.L.Link.kind c.args.link.now) (g.L.Link.kind c.loop.link) _ _ (Leads false (Flying lines c.loop.line) (HasRunAll lines)) i.kind c.in-Done.ensures.leads in
-    grows_then _ _ _ _ false false (Flying lines 0) (Flying lines c.loop.line) (HasRunAll lines) i.leads second
+    grows_then (g.L.Link.kind c.args.link.now) _ _ _ false false (Flying lines 0) (Flying lines c.loop.line) (HasRunAll lines) i.leads second
 
 pub returns-in-Resent-clause-leads : goal.returns-in-Resent-clause-leads
 returns-in-Resent-clause-leads g c =
     let lines = lines_of (texts_of c.args.job.now) in
     let i = c.loop.invariant in
     let second = grows_at (g.L.Link.kind c.args.link.now) (g.L.Link.kind c.loop.link) _ _ (Leads true (Flying lines c.loop.line) (Ran lines)) i.kind c.in-Resent.ensures.leads in
-    grows_then _ _ _ _ false true (Flying lines 0) (Flying lines c.loop.line) (Ran lines) i.leads second
+    grows_then (g.L.Link.kind c.args.link.now) _ _ _ false true (Flying lines 0) (Flying lines c.loop.line) (Ran lines) i.leads second
 
 pub returns-in-Failed-clause-leads : goal.returns-in-Failed-clause-leads
 returns-in-Failed-clause-leads g c =
     let lines = lines_of (texts_of c.args.job.now) in
     let i = c.loop.invariant in
     let second = grows_at (g.L.Link.kind c.args.link.now) (g.L.Link.kind c.loop.link) _ _ (Leads false (Flying lines c.loop.line) (Ran lines)) i.kind c.in-Failed.ensures.leads in
-    grows_then _ _ _ _ false false (Flying lines 0) (Flying lines c.loop.line) (Ran lines) i.leads second
+    grows_then (g.L.Link.kind c.args.link.now) _ _ _ false false (Flying lines 0) (Flying lines c.loop.line) (Ran lines) i.leads second
 
 pub returns-clause-leads : goal.returns-clause-leads
 returns-clause-leads g c =
@@ -69,7 +69,7 @@ returns-clause-leads g c =
     let closed = grows_closed (g.L.Link.kind c.loop.link) (g.L.Link.up c.loop.link) _ _ (Flying lines c.loop.line) (Ran lines) i.up
     (λ start v flying. closed_ran start lines v (flying_ran start lines c.loop.line v there flying)) c.hang_up.ensures.past in
     let second = grows_at (g.L.Link.kind c.args.link.now) (g.L.Link.kind c.loop.link) _ _ (Leads false (Flying lines c.loop.line) (Ran lines)) i.kind closed in
-    grows_then _ _ _ _ false false (Flying lines 0) (Flying lines c.loop.line) (Ran lines) i.leads second
+    grows_then (g.L.Link.kind c.args.link.now) _ _ _ false false (Flying lines 0) (Flying lines c.loop.line) (Ran lines) i.leads second
 
 pub returns-in-Done-clause-prompt : goal.returns-in-Done-clause-prompt
 returns-in-Done-clause-prompt g c prompt at enough = inl refl
