@@ -1,4 +1,4 @@
-//! The prints of a host: how each one stands or ended.
+//! Records of prints: how each print of a host stands or ended.
 #![tactic(auto)]
 
 mod ending;
