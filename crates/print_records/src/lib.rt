@@ -2,5 +2,7 @@
 #![tactic(auto)]
 
 mod ending;
+mod row;
 
 pub use ending::{Ending, Outcome};
+pub use row::{PrintList, PrintRow};
