@@ -15,9 +15,9 @@ use Rattle.desk_steps.specs.declared.state.Tag.{Tag}
 use Rattle.desk_steps.specs.declared.state.Tag.TheVariants.{Script, Job, Manual, Poll}
 use Rattle.marlin_reply.specs.declared.session.LinkFact.{LinkFact}
 use Rattle.marlin_reply.specs.declared.session.LinkFact.TheVariants as fact
-use Rattle.print_queue.specs.declared.ending.Ending.{Ending}
-use Rattle.print_queue.specs.declared.ending.Outcome.{Outcome}
-use Rattle.print_queue.specs.declared.ending.Outcome.TheVariants as outcome
+use Rattle.print_records.specs.declared.ending.Ending.{Ending}
+use Rattle.print_records.specs.declared.ending.Outcome.{Outcome}
+use Rattle.print_records.specs.declared.ending.Outcome.TheVariants as outcome
 use Rattle.desk_steps.proofs.Lines.{waits_other}
 
 -- states in which no print is going on, but that an end of a connection may still be on its way

@@ -7,9 +7,9 @@ use Rattle.desk_steps.specs.declared.state.State.TheVariants.{Offline, Connectin
 use Rattle.desk_steps.specs.declared.state.Point.TheVariants as point
 use Rattle.marlin_reply.specs.declared.session.LinkFact.{LinkFact}
 use Rattle.marlin_reply.specs.declared.session.LinkFact.TheVariants as fact
-use Rattle.print_queue.specs.declared.ending.Ending.{Ending}
-use Rattle.print_queue.specs.declared.ending.Outcome.{Outcome}
-use Rattle.print_queue.specs.declared.ending.Outcome.TheVariants as outcome
+use Rattle.print_records.specs.declared.ending.Ending.{Ending}
+use Rattle.print_records.specs.declared.ending.Outcome.{Outcome}
+use Rattle.print_records.specs.declared.ending.Outcome.TheVariants as outcome
 
 -- the end of a print, if this was one, and the desk after it
 abbrev pub Noted : Type 0

@@ -10,9 +10,9 @@ use Rattle.desk_steps.specs.declared.state.Tag.{Tag}
 use Rattle.desk_steps.specs.declared.state.Tag.TheVariants.{Script, Job, Manual, Poll}
 use Rattle.marlin_reply.specs.declared.session.LinkFact.{LinkFact}
 use Rattle.marlin_reply.specs.declared.session.LinkFact.TheVariants as fact
-use Rattle.print_queue.specs.declared.ending.Ending.{Ending}
-use Rattle.print_queue.specs.declared.ending.Outcome.{Outcome}
-use Rattle.print_queue.specs.declared.ending.Outcome.TheVariants as outcome
+use Rattle.print_records.specs.declared.ending.Ending.{Ending}
+use Rattle.print_records.specs.declared.ending.Outcome.{Outcome}
+use Rattle.print_records.specs.declared.ending.Outcome.TheVariants as outcome
 
 -- a call on the desk
 pub data DeskCall : Type 0 where

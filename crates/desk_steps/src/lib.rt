@@ -9,6 +9,6 @@ pub use laws::{
     nothing_is_left_to_settle,
 };
 pub use marlin_reply::{LinkFact, SessionEnd};
-pub use print_queue::{Ending, Outcome};
+pub use print_records::{Ending, Outcome};
 pub use state::{Point, Refusal, State, Tag};
 pub use temp_rules::{HotLine, Limits};

@@ -11,7 +11,7 @@ use Rattle.desk_steps.specs.Note.{note_step}
 use Rattle.desk_steps.proofs.Steady.{steady-pull, steady-note}
 use Rattle.marlin_reply.specs.declared.session.LinkFact.{LinkFact}
 use Rattle.marlin_reply.specs.declared.session.LinkFact.TheVariants as fact
-use Rattle.print_queue.specs.declared.ending.Ending.{Ending}
+use Rattle.print_records.specs.declared.ending.Ending.{Ending}
 use Rattle.send_window.specs.Data.{SenderData}
 use Rattle.octo_session.specs.Data.{IsJoined}
 use Rattle.octo_session.specs.DeskTurn.{Pulls, IsNoted, first_fact, last_noted}

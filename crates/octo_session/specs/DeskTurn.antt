@@ -6,7 +6,7 @@ use Rattle.desk_steps.specs.Pull.{pull_step}
 use Rattle.desk_steps.specs.Note.{Noted, note_step}
 use Rattle.marlin_reply.specs.declared.session.LinkFact.{LinkFact}
 use Rattle.marlin_reply.specs.declared.session.LinkFact.TheVariants as fact
-use Rattle.print_queue.specs.declared.ending.Ending.{Ending}
+use Rattle.print_records.specs.declared.ending.Ending.{Ending}
 
 -- successive pulls at a moment give these lines and lead from one desk to another
 abbrev pub Pulls : ℕ → List Line → Data → Data → Type 0

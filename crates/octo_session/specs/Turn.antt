@@ -7,7 +7,7 @@ use Rattle.desk_steps.specs.Pull.{pull_step}
 use Rattle.marlin_reply.specs.declared.session.SessionEnd.{SessionEnd}
 use Rattle.marlin_reply.specs.declared.session.LinkFact.{LinkFact}
 use Rattle.marlin_reply.specs.declared.session.LinkFact.TheVariants as fact
-use Rattle.print_queue.specs.declared.ending.Ending.{Ending}
+use Rattle.print_records.specs.declared.ending.Ending.{Ending}
 use Rattle.printer_model.specs.declared.event.WorldEvent.{WorldEvent}
 use Rattle.send_window.specs.Data.{SenderData}
 use Rattle.send_window.specs.Sending.{next_of, room_of}
