@@ -16,7 +16,7 @@ pub use marks::{has_byte, has_m110, split_at_last};
 pub use name::Name;
 pub use numbers::{are_digits, leading_digits, number, whole_number};
 pub use sendable::is_sendable;
-pub use texts::{Line, ReplyLine, Text, append, append_decimal, bounded_text};
+pub use texts::{Line, ReplyLine, Text, append, append_decimal, append_number, bounded_text};
 
 /// The exclusive or of all bytes, which Marlin's serial protocol takes as a line's checksum.
 #[tactic(auto, unfolding(crate::specs::Xor::xor_of))]

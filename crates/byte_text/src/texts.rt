@@ -36,6 +36,16 @@ pub fn append_decimal<const N: usize>(text: &mut ArrayVec<u8, N>, number: u64)
     append(text, buffer.format(number).as_bytes());
 }
 
+/// Adds a number in decimal to a text that has room for ten digits.
+pub fn append_number<const N: usize>(text: &mut ArrayVec<u8, N>, number: u32)
+    requires { array_vec_len text.old + 10 ≤ N }
+    ensures items { text.new.items ≡ text.old.items ++ decimal number }
+    ensures short { array_vec_len text.new ≤ array_vec_len text.old + 10 }
+{
+    let mut buffer = Buffer::new();
+    append(text, buffer.format(number).as_bytes());
+}
+
 /// A text of these bytes, for which it has room.
 pub fn bounded_text<const N: usize>(bytes: &[u8]) -> ArrayVec<u8, N>
     requires { length bytes.now ≤ N }

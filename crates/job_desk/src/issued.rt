@@ -23,13 +23,3 @@ pub struct Note {
     pub temps: Option<Temps>,
     pub fact: LinkFact,
 }
-
-/// The bytes as a text of their own.
-pub(crate) fn text_of(bytes: &[u8]) -> Text
-    requires { length bytes.now ≤ 79 }
-    ensures { result.items ≡ bytes.now }
-{
-    let mut text = Text::new();
-    let _ = text.try_extend_from_slice(bytes);
-    text
-}

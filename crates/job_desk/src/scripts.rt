@@ -5,8 +5,7 @@ ghost use Rattle.byte_text.specs.Sendable.{IsSendable};
 ghost use Rattle.desk_steps.specs.Data.{texts_at};
 ghost use Rattle.job_desk.specs.Scripts.{most_lines, no_scripts, with_text};
 
-use byte_text::Text;
-use crate::issued::text_of;
+use byte_text::{Text, bounded_text};
 use desk_steps::Point;
 use std::alloc::Global;
 use std::marker::Model;
@@ -62,7 +61,7 @@ impl Script {
         if self.texts.len() >= MOST_LINES {
             return Err(AddFault::TooMany);
         }
-        match self.texts.push(text_of(text.as_slice())) {
+        match self.texts.push(bounded_text(text.as_slice())) {
             Ok(()) => Ok(()),
             Err(_) => Err(AddFault::NoMemory),
         }

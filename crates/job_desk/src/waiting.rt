@@ -6,7 +6,8 @@ ghost use Rattle.desk_steps.specs.Data.{script_lines};
 ghost use Rattle.job_desk.specs.Scripts.{most_waiting};
 ghost use Rattle.job_desk.specs.Views.{line_of};
 
-use crate::issued::{Issued, text_of};
+use byte_text::bounded_text;
+use crate::issued::Issued;
 use crate::scripts::Scripts;
 use arrayvec::ArrayVec;
 use desk_steps::{Point, Tag};
@@ -83,7 +84,7 @@ impl Waiting {
         let entry = self.entries.as_slice().first()?;
         let text = self.scripts.get(entry.point, entry.next)?;
         Some(Issued {
-            text: text_of(text.as_slice()),
+            text: bounded_text(text.as_slice()),
             tag: Tag::Script {
                 point: entry.point,
                 print: entry.print,

@@ -3,27 +3,7 @@ ghost use Rattle.std.specs.Prelude.{◌≡◌, ◌≤◌, ◌+◌, ◌++◌, fal
 ghost use Rattle.byte_text.specs.Marks.{has_byte, has_m110};
 ghost use Rattle.marlin_frame.specs.Frame.{head_of, frame_of, begins_with_n, fails, lead_of, IsNumberedLine};
 
-use byte_text::{Line, xor};
-use itoa::Buffer;
-
-// Adds the bytes to the line.
-fn append(line: &mut Line, bytes: &[u8])
-    requires { length line.old.items + length bytes.now ≤ 96 }
-    ensures items { line.new.items ≡ line.old.items ++ bytes.now }
-    ensures len { length line.new.items ≡ length line.old.items + length bytes.now }
-{
-    let _ = line.try_extend_from_slice(bytes);
-}
-
-// Adds a number in decimal to the line.
-fn append_number(line: &mut Line, n: u32)
-    requires { length line.old.items + length (decimal n) ≤ 96 }
-    ensures items { line.new.items ≡ line.old.items ++ decimal n }
-    ensures len { length line.new.items ≡ length line.old.items + length (decimal n) }
-{
-    let mut buffer = Buffer::new();
-    append(line, buffer.format(n).as_bytes());
-}
+use byte_text::{Line, append, append_decimal, xor};
 
 // Writes what the checksum is taken of.
 fn write_head(n: u32, text: &[u8], into: &mut Line)
@@ -33,7 +13,7 @@ fn write_head(n: u32, text: &[u8], into: &mut Line)
 {
     into.clear();
     append(into, b"N");
-    append_number(into, n);
+    append_decimal(into, u64::from(n));
     append(into, b" ");
     append(into, text);
 }
@@ -59,5 +39,5 @@ pub fn frame(n: u32, text: &[u8], into: &mut Line)
     write_head(n, text, into);
     let sum = xor(into.as_slice());
     append(into, b"*");
-    append_number(into, u32::from(sum));
+    append_decimal(into, u64::from(sum));
 }

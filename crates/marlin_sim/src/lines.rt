@@ -4,11 +4,12 @@ ghost use Rattle.octo_outside.specs.Memory.{is_listed};
 ghost use Rattle.printer_model.specs.Garble.{garbled};
 ghost use Rattle.marlin_sim.specs.Lines.{cut, ends_with_digit, arriving};
 
+use byte_text::{append, bounded_text};
 use crate::cuts::split_at_first;
 use crate::plan::SimPlan;
 use arrayvec::ArrayVec;
 use octo_outside::CallList;
-use printer_model::{garbled, line_of};
+use printer_model::garbled;
 use std::alloc::{AllocError, Global};
 use std::collections::VecDeque;
 use std::marker::Model;
@@ -19,33 +20,12 @@ pub type CutLine = ArrayVec<u8, 95>;
 // How many these are at most.
 const MOST_BYTES: usize = 95;
 
-// Adds bytes to a line that has room for them.
-fn put(line: &mut CutLine, bytes: &[u8])
-    requires { length line.old.items + length bytes.now ≤ 95 }
-    ensures { line.new.items ≡ line.old.items ++ bytes.now }
-{
-    match line.try_extend_from_slice(bytes) {
-        Ok(()) => {}
-        Err(_) => unreachable!(),
-    }
-}
-
 // Adds bytes to a line as far as they count.
 fn put_cut(line: &mut CutLine, bytes: &[u8])
     ensures { line.new.items ≡ cut (line.old.items ++ bytes.now) }
 {
     let room = MOST_BYTES - line.len();
-    put(line, &bytes[..room.min(bytes.len())]);
-}
-
-// A line of these bytes.
-fn cut_line(bytes: &[u8]) -> CutLine
-    requires { length bytes.now ≤ 95 }
-    ensures { result.items ≡ bytes.now }
-{
-    let mut line = CutLine::new();
-    put(&mut line, bytes);
-    line
+    append(line, &bytes[..room.min(bytes.len())]);
 }
 
 // Whether a received line is listed.
@@ -70,8 +50,8 @@ fn ends_with_digit(line: &CutLine) -> bool
 fn garbled_line(line: &CutLine) -> CutLine
     ensures { result.items ≡ garbled line.now.items }
 {
-    let line = garbled(&line_of(line.as_slice()));
-    cut_line(line.as_slice())
+    let line = garbled(&bounded_text(line.as_slice()));
+    bounded_text(line.as_slice())
 }
 
 // What arrives of the received line of that number, if it does.

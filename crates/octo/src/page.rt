@@ -3,29 +3,18 @@ ghost use Rattle.std.specs.Prelude.{◌≡◌, ◌+◌, ◌≤◌, ◌++◌, len
 ghost use Rattle.arrayvec.specs.ArrayVec.{array_vec_len};
 
 use arrayvec::ArrayVec;
+use byte_text::append;
 use itoa::Buffer;
 
 /// A text of at most 256 bytes.
 pub type Page = ArrayVec<u8, 256>;
 
-/// Adds bytes.
-pub fn put(page: &mut Page, bytes: &[u8])
-    requires { array_vec_len page.old + length bytes.now ≤ 256 }
-    ensures items { page.new.items ≡ page.old.items ++ bytes.now }
-    ensures len { array_vec_len page.new ≡ array_vec_len page.old + length bytes.now }
-{
-    match page.try_extend_from_slice(bytes) {
-        Ok(()) => {}
-        Err(_) => unreachable!(),
-    }
-}
-
 /// Adds a number in decimal.
-pub fn put_number(page: &mut Page, number: u64)
+pub fn append_number(page: &mut Page, number: u64)
     requires { array_vec_len page.old + 20 ≤ 256 }
     ensures items { page.new.items ≡ page.old.items ++ decimal number }
     ensures len { array_vec_len page.new ≤ array_vec_len page.old + 20 }
 {
     let mut buffer = Buffer::new();
-    put(page, buffer.format(number).as_bytes());
+    append(page, buffer.format(number).as_bytes());
 }

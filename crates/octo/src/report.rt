@@ -3,8 +3,8 @@ ghost use Rattle.std.specs.Prelude.{◌≡◌, ◌≤◌, ◌++◌, [], length, 
 ghost use Rattle.octo_outside.specs.Told.{Adds, AddsPrefix, Rose};
 ghost use Rattle.octo.specs.Report.{code_of, text_of, fault_code, fault_text};
 
-use byte_text::Name;
-use crate::page::{Page, put, put_number};
+use byte_text::{Name, append};
+use crate::page::{Page, append_number};
 use gcode_lines::FileFault;
 use octo_outside::{Failed, Sink, write_all};
 use temp_rules::HotLine;
@@ -52,36 +52,36 @@ fn put_printed(page: &mut Page, commands: u32, skipped: u32)
     requires { page.old.items ≡ [] }
     ensures { page.new.items ≡ codes "done: " ++ decimal commands ++ codes " commands, " ++ decimal skipped ++ codes " skipped\n" }
 {
-    put(page, b"done: ");
-    put_number(page, u64::from(commands));
-    put(page, b" commands, ");
-    put_number(page, u64::from(skipped));
-    put(page, b" skipped\n");
+    append(page, b"done: ");
+    append_number(page, u64::from(commands));
+    append(page, b" commands, ");
+    append_number(page, u64::from(skipped));
+    append(page, b" skipped\n");
 }
 
 fn put_checked(page: &mut Page, commands: u32, skipped: u32, tool: u64, bed: u64)
     requires { page.old.items ≡ [] }
     ensures { page.new.items ≡ codes "commands " ++ decimal commands ++ codes "\nskipped " ++ decimal skipped ++ codes "\nhottest tool " ++ decimal tool ++ codes "\nhottest bed " ++ decimal bed ++ codes "\n" }
 {
-    put(page, b"commands ");
-    put_number(page, u64::from(commands));
-    put(page, b"\nskipped ");
-    put_number(page, u64::from(skipped));
-    put(page, b"\nhottest tool ");
-    put_number(page, tool);
-    put(page, b"\nhottest bed ");
-    put_number(page, bed);
-    put(page, b"\n");
+    append(page, b"commands ");
+    append_number(page, u64::from(commands));
+    append(page, b"\nskipped ");
+    append_number(page, u64::from(skipped));
+    append(page, b"\nhottest tool ");
+    append_number(page, tool);
+    append(page, b"\nhottest bed ");
+    append_number(page, bed);
+    append(page, b"\n");
 }
 
-fn put_line(page: &mut Page, line: u32, what: &[u8])
+fn append_line(page: &mut Page, line: u32, what: &[u8])
     requires empty { page.old.items ≡ [] }
     requires short { length what.now ≤ 100 }
     ensures { page.new.items ≡ codes "file: line " ++ decimal line ++ what.now }
 {
-    put(page, b"file: line ");
-    put_number(page, u64::from(line));
-    put(page, what);
+    append(page, b"file: line ");
+    append_number(page, u64::from(line));
+    append(page, what);
 }
 
 fn put_fault(page: &mut Page, fault: FileFault)
@@ -89,14 +89,14 @@ fn put_fault(page: &mut Page, fault: FileFault)
     ensures { page.new.items ≡ fault_text fault }
 {
     match fault {
-        FileFault::TooLong { line } => put_line(page, line, b": too long\n"),
-        FileFault::ControlByte { line } => put_line(page, line, b": control byte\n"),
+        FileFault::TooLong { line } => append_line(page, line, b": too long\n"),
+        FileFault::ControlByte { line } => append_line(page, line, b": control byte\n"),
         FileFault::TooLarge { bytes } => {
-            put(page, b"file: ");
-            put_number(page, bytes);
-            put(page, b" bytes: too large\n");
+            append(page, b"file: ");
+            append_number(page, bytes);
+            append(page, b" bytes: too large\n");
         }
-        FileFault::NoMemory => put(page, b"no memory\n"),
+        FileFault::NoMemory => append(page, b"no memory\n"),
     }
 }
 
@@ -104,31 +104,31 @@ fn put_hot(page: &mut Page, hot: HotLine)
     requires { page.old.items ≡ [] }
     ensures { page.new.items ≡ codes "file: line " ++ decimal hot.line ++ codes ": too hot: " ++ decimal hot.asked ++ codes " over " ++ decimal hot.limit ++ codes "\n" }
 {
-    put(page, b"file: line ");
-    put_number(page, u64::from(hot.line));
-    put(page, b": too hot: ");
-    put_number(page, hot.asked);
-    put(page, b" over ");
-    put_number(page, u64::from(hot.limit));
-    put(page, b"\n");
+    append(page, b"file: line ");
+    append_number(page, u64::from(hot.line));
+    append(page, b": too hot: ");
+    append_number(page, hot.asked);
+    append(page, b" over ");
+    append_number(page, u64::from(hot.limit));
+    append(page, b"\n");
 }
 
-fn put_port(page: &mut Page, port: &Name)
+fn append_port(page: &mut Page, port: &Name)
     requires { page.old.items ≡ [] }
     ensures { page.new.items ≡ codes "port " ++ port.now ++ codes " is not listed\n" }
 {
-    put(page, b"port ");
-    put(page, port.as_bytes());
-    put(page, b" is not listed\n");
+    append(page, b"port ");
+    append(page, port.as_bytes());
+    append(page, b" is not listed\n");
 }
 
 fn put_turns(page: &mut Page, turns: u64)
     requires { page.old.items ≡ [] }
     ensures { page.new.items ≡ codes "turns used: " ++ decimal turns ++ codes "\n" }
 {
-    put(page, b"turns used: ");
-    put_number(page, turns);
-    put(page, b"\n");
+    append(page, b"turns used: ");
+    append_number(page, turns);
+    append(page, b"\n");
 }
 
 // The text of a report.
@@ -144,15 +144,15 @@ fn put_report(page: &mut Page, report: &Report)
             tool,
             bed,
         } => put_checked(page, *commands, *skipped, *tool, *bed),
-        Report::BadWords => put(page, b"octo: bad words\n"),
+        Report::BadWords => append(page, b"octo: bad words\n"),
         Report::BadFile(fault) => put_fault(page, *fault),
         Report::TooHot(hot) => put_hot(page, *hot),
-        Report::SourceFailed => put(page, b"source failed\n"),
-        Report::LinkFailed => put(page, b"link failed\n"),
-        Report::NoPort { port } => put_port(page, port),
-        Report::Resent => put(page, b"session ended: resend not built\n"),
+        Report::SourceFailed => append(page, b"source failed\n"),
+        Report::LinkFailed => append(page, b"link failed\n"),
+        Report::NoPort { port } => append_port(page, port),
+        Report::Resent => append(page, b"session ended: resend not built\n"),
         Report::TurnsUsed { turns } => put_turns(page, *turns),
-        Report::NoMemory => put(page, b"no memory\n"),
+        Report::NoMemory => append(page, b"no memory\n"),
     }
 }
 

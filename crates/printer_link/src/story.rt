@@ -9,10 +9,10 @@ ghost use Rattle.printer_model.specs.declared.event.WorldEvent.TheVariants as ev
 ghost use Rattle.printer_link.specs.declared.link.Heard.TheVariants as heard;
 ghost use Rattle.printer_link.specs.declared.schedule.Fate.TheVariants.{Whole};
 
-use byte_text::{Line, ReplyLine};
+use byte_text::{Line, ReplyLine, bounded_text};
 use crate::link::Heard;
 use crate::schedule::{Fate, FateList};
-use printer_model::{World, WorldEvent, garbled, line_of};
+use printer_model::{World, WorldEvent, garbled};
 use std::alloc::{AllocError, Global};
 use std::marker::Model;
 
@@ -257,7 +257,7 @@ fn fate_at(fates: &[Fate], place: usize) -> Fate
 fn copy_of(line: &Line) -> Line
     ensures { result ≡ line.now }
 {
-    line_of(line.as_slice())
+    bounded_text(line.as_slice())
 }
 
 /// Adds what becomes of the line at a place, which takes no memory where there is room for an event.

@@ -3,9 +3,8 @@ ghost use Rattle.std.specs.Prelude.{◌≡◌, ◌≤◌, drop, filter, pred, If
 ghost use Rattle.printer_model.specs.Executed.{executed, is_counted, left_behind, is_opened, till};
 ghost use Rattle.printer_model.specs.World.{world_of};
 
-use byte_text::Line;
+use byte_text::{Line, bounded_text};
 use crate::event::WorldEvent;
-use crate::printer::line_of;
 use crate::world::World;
 use marlin_frame::HELLO_NUMBER;
 use std::alloc::{AllocError, Global};
@@ -139,6 +138,6 @@ fn copy_of(line: &ExecutedLine) -> ExecutedLine
 {
     ExecutedLine {
         number: line.number,
-        text: line_of(line.text.as_slice()),
+        text: bounded_text(line.text.as_slice()),
     }
 }

@@ -2,8 +2,7 @@
 ghost use Rattle.std.specs.Prelude.{◌≡◌};
 ghost use Rattle.printer_model.specs.Garble.{next_digit, garbled};
 
-use byte_text::Line;
-use crate::printer::line_of;
+use byte_text::{Line, bounded_text};
 
 /// The next digit, with 0 behind 9; another byte stays.
 #[tactic(auto, unfolding(crate::specs::Garble::next_digit))]
@@ -22,7 +21,7 @@ fn next_digit(byte: u8) -> u8
 pub fn garbled(line: &Line) -> Line
     ensures { result.items ≡ garbled line.now.items }
 {
-    let mut copy = line_of(line.as_slice());
+    let mut copy = bounded_text(line.as_slice());
     if let Some(last) = copy.as_mut_slice().last_mut() {
         *last = next_digit(*last);
     }

@@ -5,7 +5,7 @@ ghost use Rattle.printer_model.specs.Printer.{is_full, judged, is_out_of_turn, l
 
 use crate::replies::run_reply;
 use arrayvec::ArrayVec;
-use byte_text::{Line, ReplyLine, has_m110};
+use byte_text::{Line, ReplyLine, bounded_text, has_m110};
 use marlin_frame::{begins_with_n, fails, has_checksum, lead, line_number, text};
 use std::marker::Model;
 
@@ -210,20 +210,8 @@ fn ran_line(advanced: bool, free: u8, entry: &Waiting) -> Ran
 {
     Ran {
         number: entry.number,
-        text: line_of(entry.text.as_slice()),
+        text: bounded_text(entry.text.as_slice()),
         reply: run_reply(advanced, entry.lead, entry.text.as_slice(), free),
-    }
-}
-
-/// A line of the outside from bytes that fit one.
-pub fn line_of(bytes: &[u8]) -> Line
-    requires { length bytes.now ≤ 96 }
-    ensures { result.items ≡ bytes.now }
-{
-    let mut line = Line::new();
-    match line.try_extend_from_slice(bytes) {
-        Ok(()) => line,
-        Err(_) => unreachable!(),
     }
 }
 
@@ -243,7 +231,7 @@ fn plain_entry(line: &[u8]) -> Waiting
     Waiting {
         number: None,
         lead: None,
-        text: line_of(line),
+        text: bounded_text(line),
     }
 }
 
@@ -255,7 +243,7 @@ fn numbered_entry(line: &[u8]) -> Waiting
     Waiting {
         number: Some(line_number(line)),
         lead: Some(lead(line)),
-        text: line_of(text(line)),
+        text: bounded_text(text(line)),
     }
 }
 

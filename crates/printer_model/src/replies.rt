@@ -3,30 +3,8 @@ ghost use Rattle.std.specs.Prelude.{◌≡◌, ◌+◌, ◌≤◌, ◌++◌, len
 ghost use Rattle.arrayvec.specs.ArrayVec.{array_vec_len};
 ghost use Rattle.printer_model.specs.Replies.{reason_text, asked_after, error_line, resend_line, ok_line, start_line, temperatures_line, lead_text, numbered_ok, run_reply};
 
-use byte_text::ReplyLine;
+use byte_text::{ReplyLine, append, append_number};
 use crate::printer::Reason;
-use itoa::Buffer;
-
-/// Adds bytes to a reply that has room for them.
-fn put(line: &mut ReplyLine, bytes: &[u8])
-    requires { array_vec_len line.old + length bytes.now ≤ 256 }
-    ensures { line.new.items ≡ line.old.items ++ bytes.now }
-{
-    match line.try_extend_from_slice(bytes) {
-        Ok(()) => {}
-        Err(_) => unreachable!(),
-    }
-}
-
-/// Adds a number in decimal, of at most ten digits.
-fn put_number(line: &mut ReplyLine, number: u32)
-    requires { array_vec_len line.old + 10 ≤ 256 }
-    ensures items { line.new.items ≡ line.old.items ++ decimal number }
-    ensures short { array_vec_len line.new ≤ array_vec_len line.old + 10 }
-{
-    let mut buffer = Buffer::new();
-    put(line, buffer.format(number).as_bytes());
-}
 
 /// Why a line was refused, as the printer says it.
 #[tactic(auto, unfolding(crate::specs::Replies::reason_text))]
@@ -46,10 +24,10 @@ pub fn error_line(reason: Reason, last: u32) -> ReplyLine
     ensures { result.items ≡ error_line reason last }
 {
     let mut line = ReplyLine::new();
-    put(&mut line, b"Error:");
-    put(&mut line, reason_bytes(reason));
-    put(&mut line, b", Last Line: ");
-    put_number(&mut line, last);
+    append(&mut line, b"Error:");
+    append(&mut line, reason_bytes(reason));
+    append(&mut line, b", Last Line: ");
+    append_number(&mut line, last);
     line
 }
 
@@ -59,8 +37,8 @@ pub fn resend_line(last: u32) -> ReplyLine
     ensures { result.items ≡ resend_line last }
 {
     let mut line = ReplyLine::new();
-    put(&mut line, b"Resend: ");
-    put_number(&mut line, last.saturating_add(1));
+    append(&mut line, b"Resend: ");
+    append_number(&mut line, last.saturating_add(1));
     line
 }
 
@@ -70,7 +48,7 @@ pub fn ok_line() -> ReplyLine
     ensures { result.items ≡ ok_line }
 {
     let mut line = ReplyLine::new();
-    put(&mut line, b"ok");
+    append(&mut line, b"ok");
     line
 }
 
@@ -80,7 +58,7 @@ pub fn start_line() -> ReplyLine
     ensures { result.items ≡ start_line }
 {
     let mut line = ReplyLine::new();
-    put(&mut line, b"start");
+    append(&mut line, b"start");
     line
 }
 
@@ -90,19 +68,19 @@ fn temperatures_line() -> ReplyLine
     ensures { result.items ≡ temperatures_line }
 {
     let mut line = ReplyLine::new();
-    put(&mut line, b"ok T:21.30 /0.00 B:21.22 /0.00 @:0 B@:0");
+    append(&mut line, b"ok T:21.30 /0.00 B:21.22 /0.00 @:0 B@:0");
     line
 }
 
 /// Adds ` N<lead>` where there is a lead.
-fn put_lead(line: &mut ReplyLine, lead: Option<u32>)
+fn append_lead(line: &mut ReplyLine, lead: Option<u32>)
     requires { array_vec_len line.old + 12 ≤ 256 }
     ensures items { line.new.items ≡ line.old.items ++ lead_text lead }
     ensures short { array_vec_len line.new ≤ array_vec_len line.old + 12 }
 {
     if let Some(number) = lead {
-        put(line, b" N");
-        put_number(line, number);
+        append(line, b" N");
+        append_number(line, number);
     }
 }
 
@@ -112,10 +90,10 @@ fn numbered_ok(lead: Option<u32>, free: u8) -> ReplyLine
     ensures { result.items ≡ numbered_ok lead free }
 {
     let mut line = ReplyLine::new();
-    put(&mut line, b"ok");
-    put_lead(&mut line, lead);
-    put(&mut line, b" P15 B");
-    put_number(&mut line, u32::from(free));
+    append(&mut line, b"ok");
+    append_lead(&mut line, lead);
+    append(&mut line, b" P15 B");
+    append_number(&mut line, u32::from(free));
     line
 }
 

@@ -5,10 +5,10 @@ ghost use Rattle.printer_model.specs.World.{IsFrontReply};
 ghost use Rattle.marlin_reply.specs.Kind.{is_chatter};
 ghost use Rattle.printer_model.specs.World.{new_world, can_happen, apply, IsStep, takes_memory};
 
-use byte_text::{Line, ReplyLine};
+use byte_text::{Line, ReplyLine, bounded_text};
 use crate::event::WorldEvent;
 use crate::executed::ExecutedLine;
-use crate::printer::{Printer, Ran, Taken, line_of};
+use crate::printer::{Printer, Ran, Taken};
 use crate::replies::{error_line, ok_line, resend_line, start_line};
 use crate::wire::Wire;
 use marlin_frame::fails;
@@ -143,7 +143,7 @@ impl World {
         if !self.linked || line.len() > 95 {
             return Ok(false);
         }
-        self.up.push(line_of(line.as_slice()))?;
+        self.up.push(bounded_text(line.as_slice()))?;
         Ok(true)
     }
 
@@ -185,7 +185,7 @@ impl World {
         if at as usize >= self.up.len() || !fails(line.as_slice()) || line.len() > 95 {
             return false;
         }
-        self.up.set(at as usize, line_of(line.as_slice()));
+        self.up.set(at as usize, bounded_text(line.as_slice()));
         true
     }
 

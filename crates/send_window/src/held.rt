@@ -4,7 +4,7 @@ ghost use Rattle.byte_text.specs.Marks.{has_byte};
 ghost use Rattle.marlin_frame.specs.Frame.{frame_of};
 ghost use Rattle.send_window.specs.Sending.{IsFramable};
 
-use byte_text::{Line, Text};
+use byte_text::{Line, Text, bounded_text};
 use circular_buffer::HeapCircularBuffer;
 use marlin_frame::frame;
 use std::alloc::{AllocError, Global};
@@ -36,7 +36,7 @@ impl HeldText {
         ensures { result ≡ bytes.now }
     {
         HeldText {
-            text: text_of(bytes),
+            text: bounded_text(bytes),
         }
     }
 
@@ -111,14 +111,4 @@ impl Held {
             None => unreachable!(),
         }
     }
-}
-
-// A text of up to 79 bytes.
-fn text_of(bytes: &[u8]) -> Text
-    requires { length bytes.now ≤ 79 }
-    ensures { result.items ≡ bytes.now }
-{
-    let mut text = Text::new();
-    let _ = text.try_extend_from_slice(bytes);
-    text
 }

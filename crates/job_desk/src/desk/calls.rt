@@ -5,9 +5,8 @@ ghost use Rattle.desk_steps.specs.Table.{add_manual, cancel_at, connect_at, disc
 ghost use Rattle.job_desk.specs.DeskViews.{named_file};
 ghost use Rattle.job_desk.specs.Views.{bytes_of};
 
-use byte_text::{Name, Text};
+use byte_text::{Name, Text, bounded_text};
 use super::{Desk, MOST_MANUAL, NotSelected, Prints, Selected};
-use crate::issued::text_of;
 use circular_buffer::HeapCircularBuffer;
 use desk_steps::{Point, Refusal, State};
 use gcode_lines::Job;
@@ -243,6 +242,6 @@ fn push_all(waiting: &mut HeapCircularBuffer<Text>, lines: &[Text])
     ensures capacity { waiting.new.capacity ≡ waiting.old.capacity }
 {
     for line in lines {
-        let _ = waiting.try_push_back(text_of(line.as_slice()));
+        let _ = waiting.try_push_back(bounded_text(line.as_slice()));
     }
 }

@@ -6,8 +6,9 @@ ghost use Rattle.desk_steps.specs.Data.{commands_of};
 ghost use Rattle.desk_steps.specs.Pull.{draw_at, from_file, from_manual, from_poll, from_scripts, keep_number, next_number, poll_is_due, pull_step, settled, talk};
 ghost use Rattle.job_desk.specs.Views.{DrawsFrom, line_of};
 
+use byte_text::bounded_text;
 use super::Desk;
-use crate::issued::{Issued, text_of};
+use crate::issued::Issued;
 use desk_steps::{Point, State, Tag};
 
 /// Marlin's question for temperatures.
@@ -83,7 +84,7 @@ impl Desk {
         self.poll_at = moment.saturating_add(self.poll_ms);
         self.number(Tag::Poll);
         Some(Issued {
-            text: text_of(POLL),
+            text: bounded_text(POLL),
             tag: Tag::Poll,
         })
     }
@@ -99,7 +100,7 @@ impl Desk {
         if at >= file.job.count() {
             return None;
         }
-        let text = text_of(file.job.get(at));
+        let text = bounded_text(file.job.get(at));
         let tag = Tag::Job {
             print: self.prints.greatest,
             index: at as u32,

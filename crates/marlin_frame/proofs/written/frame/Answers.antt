@@ -6,20 +6,20 @@ use Rattle.marlin_frame.specs.Frame.{frame_of, begins_with_n, fails, lead_of, Is
 use Rattle.marlin_frame.proofs.FrameLaws.{sum_of, begins_with_n-frame, fails-frame, lead_of-frame, no_line_feed-frame, numbered_line}
 use Rattle.marlin_frame.proofs.written.frame.Goals as goal
 
-pub append_number-requires : goal.append_number-requires
-append_number-requires c = omega (arith, length-decimal-le 3 c.from.result (omega arith) (omega arith) (omega arith))
+pub append_decimal-requires : goal.append_decimal-requires
+append_decimal-requires c = omega (arith, length-decimal-le 3 c.from.result (omega arith) (omega arith) (omega arith))
 
-sum_is : (c : goal.After-append_number) → c.from.result ≡ sum_of c.args.n c.args.text.now
+sum_is : (c : goal.After-append_decimal) → c.from.result ≡ sum_of c.args.n c.args.text.now
 sum_is c = c.from.ensures ∙ c.xor-sum.ensures ∙ ap xor_of (c.as_slice.ensures.value ∙ c.write_head.ensures.items)
 
-sum_fits : (c : goal.After-append_number) → sum_of c.args.n c.args.text.now < 2 ^ 8
+sum_fits : (c : goal.After-append_decimal) → sum_of c.args.n c.args.text.now < 2 ^ 8
 sum_fits c = omega (arith, sum_is c)
 
 pub returns-clause-written : goal.returns-clause-written
 unfolding frame_of
 returns-clause-written c =
-    c.append_number.ensures.items
-    ∙ ap (λ sum. c.append.new.line.items ++ decimal sum) (sum_is c)
+    c.append_decimal.ensures.items
+    ∙ ap (λ sum. c.append.new.text.items ++ decimal sum) (sum_is c)
     ∙ ap (λ xs. xs ++ decimal (sum_of c.args.n c.args.text.now)) (c.append.ensures.items ∙ ap (λ xs. xs ++ 42 ∷ []) c.write_head.ensures.items)
 
 pub returns-clause-at_most_95 : goal.returns-clause-at_most_95

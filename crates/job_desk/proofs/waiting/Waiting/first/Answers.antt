@@ -18,4 +18,4 @@ returns-clause-value c =
     let text = c.in_ok-text.text.now.items in
     let is_first : slice_get s.entries.items 0 ≡ Some entry = cc (c.as_slice.ensures.value, c.in_ok-entry.ensures.value) in
     let there : slice_get (texts_at entry.point s.scripts) entry.next ≡ Some text = cc (c.in_ok-text.ensures.value) in
-    rw (c.text_of.ensures, c.as_slice-2.ensures.value, ← c.self.view_is) (sym (first_line s.scripts s.entries.items entry text is_first there))
+    rw (c.bounded_text.ensures, c.as_slice-2.ensures.value, ← c.self.view_is) (sym (first_line s.scripts s.entries.items entry text is_first there))
