@@ -29,9 +29,7 @@ fn write_command(job: &Job, i: usize, n: u32, into: &mut Line)
     requires there { i < length job.now.commands }
     requires number { n ≤ 1999999999 }
     requires counted { 0 < n }
-    ensures written {
-        into.new.items ≡ frame_of (front_of n) (slice_index_or (texts_of job.now) i [])
-    }
+    ensures written { into.new.items ≡ frame_of (front_of n) (slice_index_or (texts_of job.now) i []) }
     ensures carried { IsCarried n (slice_index_or (texts_of job.now) i []) }
     ensures short { length into.new.items ≤ 95 }
 {

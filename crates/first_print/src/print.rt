@@ -10,8 +10,8 @@ ghost use Rattle.first_print.specs.Play.{lines_of, line_at, is_ok, is_resend, Is
 ghost use Rattle.first_print.specs.Leads.{Leads, asks, Ready, Flying, Ran, AfterTurn, AtEnd, IsGoing, goes_on, turn_asked, end_asked, is_done, IsPrintOf};
 ghost use Rattle.first_print.specs.Prompt.{IsAt, IsPromptReady, IsPromptSent, GoesOn, IsSmooth};
 
-use byte_text::{Line, ReplyLine};
 use crate::line::write_line;
+use byte_text::{Line, ReplyLine};
 use gcode_lines::Job;
 use marlin_reply::{Reply, read_reply};
 use octo_outside::Clock;
@@ -203,6 +203,7 @@ pub fn print_file<L: Link, T: Clock>(
     ensures asked { Grows (L.kind link.old) (L.past link.old) (L.past link.new) (λ w added. asks w added ≡ end_asked result) }
     ensures no_port { (result ≡ end.NoPort) ↔ ((L.kind link.old).listed port.now ≡ false) }
     ensures down { L.up link.new ≡ false }
+    ensures kind { L.kind link.new ≡ L.kind link.old }
     ensures calls { result ≡ end.TurnsUsed → RoseBy turns (L.calls link.old) (L.calls link.new) }
     ensures counted { L.faults link.old ≤ L.faults link.new }
     ensures failed { result ≡ end.LinkFailed → Rose (L.faults link.old) (L.faults link.new) }

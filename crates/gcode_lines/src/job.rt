@@ -4,9 +4,9 @@ ghost use Rattle.byte_text.specs.Sendable.{IsSendable};
 ghost use Rattle.gcode_lines.specs.Job.{most_bytes, texts_of, numbers_of, places_of, with_command};
 ghost use Rattle.gcode_lines.specs.Commands.{file_line, fault_at, with_line};
 
-use byte_text::Text;
 use crate::fault::FileFault;
 use crate::text::{has_control, is_skipped, is_too_long, text_from, text_of};
+use byte_text::Text;
 use std::alloc::{AllocError, Global};
 use std::marker::Model;
 

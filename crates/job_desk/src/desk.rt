@@ -10,9 +10,9 @@ mod pull;
 #[cfg(test)]
 mod tests;
 
-use byte_text::{Name, Text};
 use crate::scripts::Scripts;
 use crate::waiting::Waiting;
+use byte_text::{Name, Text};
 use circular_buffer::HeapCircularBuffer;
 use desk_steps::{Limits, Refusal, State};
 use gcode_lines::Job;

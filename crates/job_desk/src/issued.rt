@@ -1,8 +1,8 @@
 //! Issued lines, and what one turn of the link did.
 ghost use Rattle.std.specs.Prelude.{◌≡◌, ◌≤◌, length};
 
-use byte_text::Text;
 use arrayvec::ArrayVec;
+use byte_text::Text;
 use desk_steps::{LinkFact, Tag};
 use marlin_reply::Temps;
 

@@ -6,10 +6,10 @@ ghost use Rattle.desk_steps.specs.Data.{script_lines};
 ghost use Rattle.job_desk.specs.Scripts.{most_waiting};
 ghost use Rattle.job_desk.specs.Views.{line_of};
 
-use byte_text::bounded_text;
 use crate::issued::Issued;
 use crate::scripts::Scripts;
 use arrayvec::ArrayVec;
+use byte_text::bounded_text;
 use desk_steps::{Point, Tag};
 use std::marker::Model;
 

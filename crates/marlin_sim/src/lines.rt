@@ -4,10 +4,10 @@ ghost use Rattle.octo_outside.specs.Memory.{is_listed};
 ghost use Rattle.printer_model.specs.Garble.{garbled};
 ghost use Rattle.marlin_sim.specs.Lines.{cut, ends_with_digit, arriving};
 
-use byte_text::{append, bounded_text};
 use crate::cuts::split_at_first;
 use crate::plan::SimPlan;
 use arrayvec::ArrayVec;
+use byte_text::{append, bounded_text};
 use octo_outside::CallList;
 use printer_model::garbled;
 use std::alloc::{AllocError, Global};

@@ -151,6 +151,8 @@ IsWritten r code old new =
 pub record Ended (words : List (List ℕ)) (files : Option Files) (listed : List ℕ → Bool) (source source' link link' : ℕ) (r : Report) : Type 0 where
   pub bad_words : (r ≡ report.BadWords) ↔ (command_of words ≡ None)
   pub by_file : (command : CommandData) → command_of words ≡ Some command → IfSome files (λ all. IfSome (all (file_name command)) (λ bytes. IsTrouble r ⊎ IsReportOf command listed (file_of bytes) r))
+  -- a name that a recording source doesn't hold is a fault of the source, unless memory runs out
+  pub absent : (command : CommandData) → command_of words ≡ Some command → IfSome files (λ all. all (file_name command) ≡ None → IsTrouble r)
   pub source_failed : r ≡ report.SourceFailed → Rose source source'
   pub link_failed : r ≡ report.LinkFailed → Rose link link'
 

@@ -1,5 +1,5 @@
 //! A file read into the job of its commands.
-ghost use Rattle.std.specs.Prelude.{◌≡◌, ◌≢◌, ◌⊎◌, ◌≤◌, Err, IfErr, IfSome};
+ghost use Rattle.std.specs.Prelude.{◌≡◌, ◌≢◌, ◌⊎◌, ◌≤◌, Err, None, IfErr, IfSome};
 ghost use Rattle.octo_outside.specs.Told.{Rose};
 ghost use Rattle.gcode_lines.specs.Commands.{job_of};
 ghost use Rattle.octo.specs.declared.report.Report.TheVariants as report;
@@ -42,6 +42,7 @@ fn cool_commands(alloc: Global, bytes: &[u8]) -> Result<Job, Report>
 /// The job of the file of that name, or the report why there is none.
 pub fn read_job<F: Source>(alloc: Global, files: &mut F, name: &str) -> Result<Job, Report>
     ensures exact { IfSome (F.files files.old) (λ all. IfSome (all name.now) (λ bytes. IsTroubled result ⊎ (result ≡ file_of bytes))) }
+    ensures absent { IfSome (F.files files.old) (λ all. all name.now ≡ None → IsTroubled result) }
     ensures refusal { IfErr result IsRefusal }
     ensures counted { F.faults files.old ≤ F.faults files.new }
     ensures failed { result ≡ Err report.SourceFailed → Rose (F.faults files.old) (F.faults files.new) }

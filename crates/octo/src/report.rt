@@ -3,8 +3,8 @@ ghost use Rattle.std.specs.Prelude.{◌≡◌, ◌≤◌, ◌++◌, [], length, 
 ghost use Rattle.octo_outside.specs.Told.{Adds, AddsPrefix, Rose};
 ghost use Rattle.octo.specs.Report.{code_of, text_of, fault_code, fault_text};
 
-use byte_text::{Name, append};
 use crate::page::{Page, append_number};
+use byte_text::{Name, append};
 use gcode_lines::FileFault;
 use octo_outside::{Failed, Sink, write_all};
 use temp_rules::HotLine;

@@ -1,5 +1,5 @@
 //! The commands: to print a file and to check one.
-ghost use Rattle.std.specs.Prelude.{◌≡◌, ◌⊎◌, ◌<◌, ◌≤◌, ◌≢◌, ◌==◌, ℕ, List, true, false, length, Some, IfSome, IsTrue};
+ghost use Rattle.std.specs.Prelude.{◌≡◌, None, ◌⊎◌, ◌<◌, ◌≤◌, ◌≢◌, ◌==◌, ℕ, List, true, false, length, Some, IfSome, IsTrue};
 ghost use Rattle.octo_outside.specs.Told.{Rose, Steady};
 ghost use Rattle.gcode_lines.specs.Job.{texts_of};
 ghost use Rattle.printer_link.specs.Link.{Grows, Recorded, RoseBy};
@@ -10,10 +10,10 @@ ghost use Rattle.octo.specs.declared.report.Report.TheVariants as report;
 ghost use Rattle.octo.specs.Words.{CommandData, print_file, check_file, command_of, default_turns};
 ghost use Rattle.octo.specs.Outcome.{file_of, check_report, file_name, used_link, is_printed, is_resent, is_checked, is_out_of_turns, leaves_link, IsTrouble, IsReportOf, IsPrintReport, IsNoPort, IsExecuted, IsPrintable, IsWritten, HasUsedTurns, Ended};
 
-use byte_text::Name;
 use crate::files::read_job;
 use crate::report::{Report, write_report};
 use crate::words::{is_port, read_turns};
+use byte_text::Name;
 use first_print::{PrintEnd, print_file};
 use gcode_lines::Job;
 use octo_outside::{Clock, Failed, Sink, Source, WordList};
@@ -47,6 +47,7 @@ fn check_job(job: &Job) -> Report
 // Checks a file.
 fn check<F: Source>(alloc: Global, files: &mut F, file: &str) -> Report
     ensures by_file { IfSome (F.files files.old) (λ all. IfSome (all file.now) (λ bytes. IsTrouble result ⊎ IsReportOf (check_file file.now) (λ _. false) (file_of bytes) result)) }
+    ensures absent { IfSome (F.files files.old) (λ all. all file.now ≡ None → IsTrouble result) }
     ensures unused { used_link result ≡ false }
     ensures turns { is_out_of_turns result ≡ false }
     ensures words { result ≢ report.BadWords }
@@ -72,6 +73,7 @@ fn print_job<L: Link, T: Clock>(
     ensures report { IsPrintReport job.now port.now turns ((L.kind link.old).listed port.now) result }
     ensures executed { Recorded (L.past link.old) (L.past link.new) (IsPrintOf (L.kind link.old).slots (L.kind link.old).numbered (texts_of job.now) (is_printed result)) }
     ensures asked { Grows (L.kind link.old) (L.past link.old) (L.past link.new) (λ w added. asks w added ≡ is_resent result) }
+    ensures kind { L.kind link.new ≡ L.kind link.old }
     ensures counted { L.faults link.old ≤ L.faults link.new }
     ensures failed { result ≡ report.LinkFailed → Rose (L.faults link.old) (L.faults link.new) }
     ensures used { used_link result ≡ true }
@@ -118,6 +120,7 @@ fn print<F: Source, L: Link, T: Clock>(
     requires down { L.up link.old ≡ false }
     requires short { length port.now ≤ 100 }
     ensures by_file { IfSome (F.files files.old) (λ all. IfSome (all file.now) (λ bytes. IsTrouble result ⊎ IsReportOf (print_file port.now file.now turns) (L.kind link.old).listed (file_of bytes) result)) }
+    ensures absent { IfSome (F.files files.old) (λ all. all file.now ≡ None → IsTrouble result) }
     ensures executed { IsExecuted (L.kind link.old) (F.files files.old) file.now (is_printed result) (L.past link.old) (L.past link.new) }
     ensures unused { used_link result ≡ false → L.past link.new ≡ L.past link.old }
     ensures asked { Grows (L.kind link.old) (L.past link.old) (L.past link.new) (λ w added. asks w added ≡ is_resent result) }
@@ -125,6 +128,7 @@ fn print<F: Source, L: Link, T: Clock>(
     ensures unchecked { is_checked result ≡ false }
     ensures counted { F.faults files.old ≤ F.faults files.new }
     ensures source { result ≡ report.SourceFailed → Rose (F.faults files.old) (F.faults files.new) }
+    ensures kind { L.kind link.new ≡ L.kind link.old }
     ensures link_counted { L.faults link.old ≤ L.faults link.new }
     ensures link_failed { result ≡ report.LinkFailed → Rose (L.faults link.old) (L.faults link.new) }
     ensures prompt { IsSmooth (L.kind link.old).prompt (L.past link.old) ((L.kind link.old).listed port.now) (L.faults link.old) (L.faults link.new) → IsPrintable (F.files files.old) file.now turns → (is_printed result ≡ true) ⊎ IsTrouble result }
@@ -150,6 +154,8 @@ fn run<F: Source, L: Link, T: Clock>(
     ensures unchecked { (port file : List ℕ) (turns : ℕ) → command_of words.now ≡ Some (print_file port file turns) → is_checked result ≡ false }
     ensures unused { used_link result ≡ false → L.past link.new ≡ L.past link.old }
     ensures asked { Grows (L.kind link.old) (L.past link.old) (L.past link.new) (λ w added. asks w added ≡ is_resent result) }
+    ensures checked { (file : List ℕ) → command_of words.now ≡ Some (check_file file) → L.past link.new ≡ L.past link.old }
+    ensures kind { L.kind link.new ≡ L.kind link.old }
     ensures counted { F.faults files.old ≤ F.faults files.new }
     ensures link_counted { L.faults link.old ≤ L.faults link.new }
     ensures turns { is_out_of_turns result ≡ true → HasUsedTurns words.now (L.calls link.old) (L.calls link.new) }
@@ -185,6 +191,8 @@ pub fn octo<R, F: Source, L: Link, O: Sink, T: Clock>(
     ensures ended { (r : Report) × Ended words.now (F.files files.old) (L.kind link.old).listed (F.faults files.old) (F.faults files.new) (L.faults link.old) (L.faults link.new) r × IsWritten r result.code (O.written out.old) (O.written out.new) × Grows (L.kind link.old) (L.past link.old) (L.past link.new) (λ w added. asks w added ≡ is_resent r) }
     ensures executed { (port file : List ℕ) (turns : ℕ) → command_of words.now ≡ Some (print_file port file turns) → IsExecuted (L.kind link.old) (F.files files.old) file (result.code == 0) (L.past link.old) (L.past link.new) }
     ensures unused { leaves_link result.code ≡ true → L.past link.new ≡ L.past link.old }
+    ensures checked { (file : List ℕ) → command_of words.now ≡ Some (check_file file) → L.past link.new ≡ L.past link.old }
+    ensures kind { L.kind link.new ≡ L.kind link.old }
     ensures turns { result.code ≡ 10 → HasUsedTurns words.now (L.calls link.old) (L.calls link.new) }
     ensures sink { result.code ≡ 8 → Rose (O.faults out.old) (O.faults out.new) }
     ensures source_counted { F.faults files.old ≤ F.faults files.new }

@@ -2,8 +2,8 @@
 ghost use Rattle.std.specs.Prelude.{◌≡◌, false, IfOk};
 ghost use Rattle.printer_link.specs.Memory.{link_world};
 
-use byte_text::Name;
 use crate::run::octo;
+use byte_text::Name;
 use octo_outside::{CallList, MemoryClock, MemorySink, MemorySource, NameList, WordList};
 use printer_link::{Fate, FateList, MemoryLink, Schedule};
 use std::alloc::{AllocError, Global};

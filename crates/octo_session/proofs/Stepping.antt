@@ -53,28 +53,28 @@ added_one moment is_prompt x s w added is = (added, [], sym (append-nil added), 
 -- two words for one addition, the second of which holds under a premise
 pub grows_both : (kind : LinkKind) (old new : Option (List WorldEvent)) (F : Type 0) (K J : WorldData → List WorldEvent → Type 0) → Grows kind old new K → (F → Grows kind old new J) → Grows kind old new (λ w added. K w added × (F → J w added))
 grows_both kind old new F K J first second = record {
-    stays = first.stays;
-    grew = λ now e. (
-        let one = first.grew now e in (
-          one.0,
-          one.1,
-          one.2,
-          one.3,
-          (
-            one.4,
-            λ f. (
-                let two = (second f).grew now e in
-                let was : old ≡ Some two.0 = two.2 in
-                let is : old ≡ Some one.0 = one.2 in
-                let same : two.0 ≡ one.0 = cc in
-                let lists : one.0 ++ one.1 ≡ one.0 ++ two.1 = sym one.3 ∙ two.3 ∙ ap (λ (l : List WorldEvent). l ++ two.1) same in
-                let added : two.1 ≡ one.1 = sym (append_cancel_left one.0 one.1 two.1 lists) in
-                let P : List WorldEvent → Type 0 = λ l. J (world_in kind l) two.1 in
-                let Q : List WorldEvent → Type 0 = λ l. J (world_in kind one.0) l in
-                subst Q added (subst P same two.4)),
-          ),
-        ));
-  }
+  stays = first.stays;
+  grew = λ now e. (
+      let one = first.grew now e in (
+        one.0,
+        one.1,
+        one.2,
+        one.3,
+        (
+          one.4,
+          λ f. (
+              let two = (second f).grew now e in
+              let was : old ≡ Some two.0 = two.2 in
+              let is : old ≡ Some one.0 = one.2 in
+              let same : two.0 ≡ one.0 = cc in
+              let lists : one.0 ++ one.1 ≡ one.0 ++ two.1 = sym one.3 ∙ two.3 ∙ ap (λ (l : List WorldEvent). l ++ two.1) same in
+              let added : two.1 ≡ one.1 = sym (append_cancel_left one.0 one.1 two.1 lists) in
+              let P : List WorldEvent → Type 0 = λ l. J (world_in kind l) two.1 in
+              let Q : List WorldEvent → Type 0 = λ l. J (world_in kind one.0) l in
+              subst Q added (subst P same two.4)),
+        ),
+      ));
+}
 
 module _ (moment : ℕ) (kind : LinkKind) where
   pub takes_then : (old mid new : Option (List WorldEvent)) (a b c : Option ℕ) (xs ys : List Step) (s t u : SenderData) → Takes moment kind old mid a b xs s t → Takes moment kind mid new b c ys t u → Takes moment kind old new a c (xs ++ ys) s u

@@ -20,9 +20,9 @@ ghost use Rattle.octo_session.specs.declared.found.Received.TheVariants as recei
 
 mod calls;
 
-use byte_text::ReplyLine;
 use crate::found::{Doing, Found, Received, Turned, tell};
 use crate::talk::{fail, talk};
+use byte_text::ReplyLine;
 use job_desk::{Desk, LinkFact, State};
 use printer_link::{Link, LinkFault};
 use send_window::Sender;

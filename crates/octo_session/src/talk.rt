@@ -16,9 +16,9 @@ ghost use Rattle.octo_session.specs.Turn.{drawn, texts_in, is_unbroken, IsSpent}
 ghost use Rattle.octo_session.specs.declared.talk.Gave.TheVariants as gave;
 ghost use Rattle.octo_session.specs.declared.found.Doing.TheVariants as doing_now;
 
-use byte_text::{Line, ReplyLine};
 use crate::found::{Found, Received};
 use arrayvec::ArrayVec;
+use byte_text::{Line, ReplyLine};
 use job_desk::{Desk, Ending, Issued, LinkFact};
 use marlin_reply::{Reply, Temps, read_reply};
 use printer_link::{Heard, Link};

@@ -1,8 +1,8 @@
 //! Worked turns over a link in memory.
 ghost use Rattle.std.specs.Prelude.{◌≡◌, IfOk};
 
-use byte_text::Name;
 use super::*;
+use byte_text::Name;
 use desk_steps::{Limits, Outcome, Point, State};
 use gcode_lines::{one_command, read_commands};
 use job_desk::{Desk, Scripts};

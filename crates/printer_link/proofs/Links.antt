@@ -21,9 +21,9 @@ use Rattle.printer_link.proofs.Stories.{arrivals_free}
 -- a recorded history grew by these events
 pub grows_by : (l : MemoryLinkData) (added now : List WorldEvent) (Kind : WorldData → List WorldEvent → Type 0) → now ≡ l.story.past ++ added → Kind (link_world l) added → Grows (link_kind l) (Some l.story.past) (Some now) Kind
 grows_by l added now Kind is kind = record {
-    stays = refl;
-    grew = λ list e. (let same : list ≡ now = cc in (l.story.past, added, refl, same ∙ is, kind));
-  }
+  stays = refl;
+  grew = λ list e. (let same : list ≡ now = cc in (l.story.past, added, refl, same ∙ is, kind));
+}
 
 -- the world behind further events of a link
 pub grown_world : (l : MemoryLinkData) (added : List WorldEvent) → link_world (grown l added) ≡ world_from (link_world l) added

@@ -11,10 +11,10 @@ ghost use Rattle.printer_model.specs.declared.event.WorldEvent.TheVariants as ev
 ghost use Rattle.printer_link.specs.declared.link.Heard.TheVariants as heard_as;
 ghost use Rattle.printer_link.specs.declared.link.LinkFault.TheVariants as fault;
 
-use byte_text::{Line, ReplyLine};
 use crate::link::{Heard, Link, LinkFault};
 use crate::schedule::Schedule;
 use crate::story::Story;
+use byte_text::{Line, ReplyLine};
 use octo_outside::{CallList, NameList};
 use printer_model::Executed;
 use std::alloc::{AllocError, Global};
@@ -199,9 +199,7 @@ impl MemoryLink {
 
     /// What happens before a reply is received.
     fn before_reply(&mut self, restarts: bool, due: bool) -> Result<(), AllocError>
-        ensures ok {
-            OnOk result (self.new ≡ grown self.old (before_reply restarts due (link_world self.old)))
-        }
+        ensures ok { OnOk result (self.new ≡ grown self.old (before_reply restarts due (link_world self.old))) }
         ensures err { OnErr result (LinkMoved self.old self.new) }
     {
         self.story.before_reply(restarts, due)

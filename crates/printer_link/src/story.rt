@@ -9,9 +9,9 @@ ghost use Rattle.printer_model.specs.declared.event.WorldEvent.TheVariants as ev
 ghost use Rattle.printer_link.specs.declared.link.Heard.TheVariants as heard;
 ghost use Rattle.printer_link.specs.declared.schedule.Fate.TheVariants.{Whole};
 
-use byte_text::{Line, ReplyLine, bounded_text};
 use crate::link::Heard;
 use crate::schedule::{Fate, FateList};
+use byte_text::{Line, ReplyLine, bounded_text};
 use printer_model::{World, WorldEvent, garbled};
 use std::alloc::{AllocError, Global};
 use std::marker::Model;
@@ -176,9 +176,7 @@ impl Story {
 
     /// What happens before a reply is received; without memory a part of it.
     pub(crate) fn before_reply(&mut self, restarts: bool, due: bool) -> Result<(), AllocError>
-        ensures ok {
-            OnOk result (self.new ≡ with_events self.old (before_reply restarts due (story_world self.old)))
-        }
+        ensures ok { OnOk result (self.new ≡ with_events self.old (before_reply restarts due (story_world self.old))) }
         ensures err { OnErr result (FreeOnly self.old self.new) }
     {
         self.restart_due(restarts)?;

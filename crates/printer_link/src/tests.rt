@@ -1,5 +1,5 @@
-use byte_text::{Line, Name, ReplyLine};
 use super::*;
+use byte_text::{Line, Name, ReplyLine};
 use octo_outside::{CallList, NameList};
 use std::alloc::{AllocError, Global};
 use std::process::Abort;

@@ -3,9 +3,9 @@ ghost use Rattle.std.specs.Prelude.{◌≡◌, ◌≤◌, drop, filter, pred, If
 ghost use Rattle.printer_model.specs.Executed.{executed, is_counted, left_behind, is_opened, till};
 ghost use Rattle.printer_model.specs.World.{world_of};
 
-use byte_text::{Line, bounded_text};
 use crate::event::WorldEvent;
 use crate::world::World;
+use byte_text::{Line, bounded_text};
 use marlin_frame::HELLO_NUMBER;
 use std::alloc::{AllocError, Global};
 use std::marker::Model;

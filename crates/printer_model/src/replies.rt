@@ -3,8 +3,8 @@ ghost use Rattle.std.specs.Prelude.{◌≡◌, ◌+◌, ◌≤◌, ◌++◌, len
 ghost use Rattle.arrayvec.specs.ArrayVec.{array_vec_len};
 ghost use Rattle.printer_model.specs.Replies.{reason_text, asked_after, error_line, resend_line, ok_line, start_line, temperatures_line, lead_text, numbered_ok, run_reply};
 
-use byte_text::{ReplyLine, append, append_number};
 use crate::printer::Reason;
+use byte_text::{ReplyLine, append, append_number};
 
 /// Why a line was refused, as the printer says it.
 #[tactic(auto, unfolding(crate::specs::Replies::reason_text))]

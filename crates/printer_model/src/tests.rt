@@ -1,5 +1,5 @@
-use byte_text::{Line, ReplyLine};
 use super::*;
+use byte_text::{Line, ReplyLine};
 use std::process::Abort;
 
 // A line of the outside.

@@ -74,16 +74,16 @@ pub fn session_law()
     ensures before { (places : ℕ) (advanced : Bool) (past rest : List WorldEvent) (last s : ℕ)
         → s ≤ opens past
         → executed places advanced (past ++ event.Opened last ∷ rest) s
-          ≡ executed places advanced past s }
+        ≡ executed places advanced past s }
     ensures begun { (places : ℕ) (advanced : Bool) (front rest : List WorldEvent) (last : ℕ)
         (lines : List Logged) → opens rest ≡ 0
         → (world_of places advanced (front ++ event.Opened last ∷ rest)).log
-          ≡ (world_of places advanced front).log ++ lines
+        ≡ (world_of places advanced front).log ++ lines
         → executed places advanced (front ++ event.Opened last ∷ rest) (suc (opens front))
-          ≡ filter is_counted lines }
+        ≡ filter is_counted lines }
     ensures events { (front rest : List WorldEvent) (last : ℕ) → opens rest ≡ 0
         → session_of (suc (opens front)) (front ++ event.Opened last ∷ rest)
-          ≡ event.Opened last ∷ rest }
+        ≡ event.Opened last ∷ rest }
 
     // What the line and the printer do by themselves opens no session, runs among it.
     ensures free { (events : List WorldEvent) → list_all is_free events ≡ true → opens events ≡ 0 }

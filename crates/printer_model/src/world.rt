@@ -5,12 +5,12 @@ ghost use Rattle.printer_model.specs.World.{IsFrontReply};
 ghost use Rattle.marlin_reply.specs.Kind.{is_chatter};
 ghost use Rattle.printer_model.specs.World.{new_world, can_happen, apply, IsStep, takes_memory};
 
-use byte_text::{Line, ReplyLine, bounded_text};
 use crate::event::WorldEvent;
 use crate::executed::ExecutedLine;
 use crate::printer::{Printer, Ran, Taken};
 use crate::replies::{error_line, ok_line, resend_line, start_line};
 use crate::wire::Wire;
+use byte_text::{Line, ReplyLine, bounded_text};
 use marlin_frame::fails;
 use marlin_reply::{Reply, read_reply};
 use std::alloc::{AllocError, Global};

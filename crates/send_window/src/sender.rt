@@ -6,8 +6,8 @@ ghost use Rattle.send_window.specs.Data.{IsSound, new_sender, begun};
 ghost use Rattle.send_window.specs.Hearing.{later, deadline_at, end_of_numbers, acknowledged, line_ok, named_ok, heard_ok, hello_asked, is_repeated, line_asked, resend_asked, heard_resend, heard_start, heard_reply, hear_step, is_past, silent_limits, limit_passed, ticked, tick_step, answer_of};
 ghost use Rattle.send_window.specs.Sending.{IsFramable, room_of, push_step, next_line, next_of, hello, number_of_outgoing, bytes_of_outgoing, given, frame_step};
 
-use byte_text::Line;
 use crate::held::Held;
+use byte_text::Line;
 use marlin_frame::{HELLO_NUMBER, hello_frame, wire_number};
 use marlin_reply::{Reply, SessionEnd};
 use std::alloc::{AllocError, Global};

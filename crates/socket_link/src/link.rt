@@ -7,10 +7,10 @@ ghost use Rattle.socket_link.specs.Lines.{cut, ends_line};
 ghost use Rattle.printer_link.specs.declared.link.Heard.TheVariants as heard;
 ghost use Rattle.printer_link.specs.declared.link.LinkFault.TheVariants as fault;
 
-use byte_text::{Line, ReplyLine};
 use crate::address::names_address;
 use crate::lines::Lines;
 use crate::unsent::Unsent;
+use byte_text::{Line, ReplyLine};
 use libc::net::{POLLIN, poll};
 use libc::types::pollfd;
 use octo_outside::{linger, may_come_later, prepare};

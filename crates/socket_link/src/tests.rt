@@ -1,6 +1,6 @@
 //! The link over TCP against a peer on this machine, and the names that it lists.
-use byte_text::{Line, ReplyLine};
 use crate::{SocketLink, names_address};
+use byte_text::{Line, ReplyLine};
 use printer_link::{Heard, Link, LinkFault};
 use std::io::{Read, Write};
 use std::net::{Shutdown, TcpListener, TcpStream};

@@ -2,8 +2,8 @@
 ghost use Rattle.std.specs.Prelude.{◌≡◌, ◌+◌, ◌≤◌, ◌++◌, ◌∷◌, ◌↔◌, ℕ, List, [], true, length, IsTrue};
 ghost use Rattle.std.specs.Io.KnownBytes.{Appends};
 
-use byte_text::Line;
 use arrayvec::ArrayVec;
+use byte_text::Line;
 use octo_outside::write_some;
 use std::io::Write;
 use std::marker::Model;

@@ -5,8 +5,8 @@ ghost use Rattle.desk_steps.specs.Table.{add_manual, cancel_at, connect_at, disc
 ghost use Rattle.job_desk.specs.DeskViews.{named_file};
 ghost use Rattle.job_desk.specs.Views.{bytes_of};
 
-use byte_text::{Name, Text, bounded_text};
 use super::{Desk, MOST_MANUAL, NotSelected, Prints, Selected};
+use byte_text::{Name, Text, bounded_text};
 use circular_buffer::HeapCircularBuffer;
 use desk_steps::{Point, Refusal, State};
 use gcode_lines::Job;
@@ -61,7 +61,10 @@ impl Desk {
     {
         match self.state {
             State::Offline | State::Connecting | State::Operational | State::Fault => {
-                self.file = Some(Selected { name: name.copy(), job });
+                self.file = Some(Selected {
+                    name: name.copy(),
+                    job,
+                });
                 Ok(())
             }
             _ => Err(NotSelected {

@@ -6,9 +6,9 @@ ghost use Rattle.desk_steps.specs.Data.{commands_of};
 ghost use Rattle.desk_steps.specs.Pull.{draw_at, from_file, from_manual, from_poll, from_scripts, keep_number, next_number, poll_is_due, pull_step, settled, talk};
 ghost use Rattle.job_desk.specs.Views.{DrawsFrom, line_of};
 
-use byte_text::bounded_text;
 use super::Desk;
 use crate::issued::Issued;
+use byte_text::bounded_text;
 use desk_steps::{Point, State, Tag};
 
 /// Marlin's question for temperatures.

@@ -6,8 +6,8 @@ ghost use Rattle.job_desk.specs.DeskViews.{named_file};
 ghost use Rattle.job_desk.specs.Views.{bytes_of};
 ghost use Rattle.octo_session.specs.Data.{IsSession};
 
-use byte_text::{Name, Text};
 use super::Session;
+use byte_text::{Name, Text};
 use desk_steps::Refusal;
 use gcode_lines::Job;
 use job_desk::NotSelected;
