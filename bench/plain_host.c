@@ -52,10 +52,10 @@ int main(int argc, char **argv)
     long number = 0;
     FILE *file = argc == 4 ? fopen(argv[3], "r") : NULL;
     int fd = file ? dial(argv[1], argv[2]) : -1;
-    if (fd < 0 || exchange(fd, "N0 M110 N0*125\n", 15) != 0) return 1;
+    if (fd < 0 || exchange(fd, "N0 M110 N1*124\n", 15) != 0) return 1;
     while (fgets(text, sizeof text, file)) {
         text[strcspn(text, "\r\n")] = 0;
-        int length = sprintf(line, "N%ld %s", ++number, text);
+        int length = sprintf(line, "N%ld %s", ++number + 1, text);
         unsigned char sum = 0;
         for (int i = 0; i < length; i++) sum ^= line[i];
         length += sprintf(line + length, "*%d\n", sum);

@@ -41,11 +41,11 @@ print_row() {
 }
 
 print_row "two commands" 'G28\nG1 X10\n' '4 4 - -' \
-    'done: 2 commands, 0 skipped\n' 0 'N0 M110 N0\nN1 G28\nN2 G1 X10\n'
+    'done: 2 commands, 0 skipped\n' 0 'N1 M110 N1\nN2 G28\nN3 G1 X10\n'
 print_row "comments and CR LF" '; a\r\nG28 ; home\r\n\r\nM105\r\n' '4294967295 1 - -' \
-    'done: 2 commands, 2 skipped\n' 0 'N0 M110 N0\nN1 G28\nN2 M105\n'
-print_row "an empty file" '' '0 16 - -' 'done: 0 commands, 0 skipped\n' 0 'N0 M110 N0\n'
+    'done: 2 commands, 2 skipped\n' 0 'N1 M110 N1\nN2 G28\nN3 M105\n'
+print_row "an empty file" '' '0 16 - -' 'done: 0 commands, 0 skipped\n' 0 'N1 M110 N1\n'
 print_row "the third line garbled" 'G28\nG1 X10\n' '4 4 - 3' \
-    'session ended: resend not built\n' 6 'N0 M110 N0\nN1 G28\n'
-print_row "the third line lost" 'G28\nG1 X10\n' '4 4 3 -' 'turns used: 500\n' 10 'N0 M110 N0\nN1 G28\n'
+    'session ended: resend not built\n' 6 'N1 M110 N1\nN2 G28\n'
+print_row "the third line lost" 'G28\nG1 X10\n' '4 4 3 -' 'turns used: 500\n' 10 'N1 M110 N1\nN2 G28\n'
 exit "$failed"

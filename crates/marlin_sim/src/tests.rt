@@ -74,13 +74,13 @@ fn assert_row(rt: &(impl Abort + Alloc<A = Global>), row: &Row) -> Result<(), Fa
 // A print of G28 whose first sending is garbled, so that the printer asks for it again.
 const GARBLED: Row = Row {
     words: &["127.0.0.1:7100", "4", "4", "-", "2"],
-    input: b"N0 M110 N0*125\nN1 G28*18\nN1 G28*18\n",
+    input: b"N0 M110 N1*124\nN2 G28*17\nN2 G28*17\n",
     quiet_at: &[],
     conn_fails: &[],
     sink_fails: &[],
     end: SimEnd::Done,
-    written: b"start\nError:checksum mismatch, Last Line: 0\nResend: 1\nok\nok\nok\n",
-    printed: b"N0 M110 N0\nN1 G28\n",
+    written: b"start\nError:checksum mismatch, Last Line: 1\nResend: 2\nok\nok\nok\n",
+    printed: b"N1 M110 N1\nN2 G28\n",
 };
 
 #[test]
@@ -93,7 +93,7 @@ fn planned_lines(rt: HostRuntime) -> Result<(), Fail> {
     let rows = [
         Row {
             words: &["p", "4", "4", "2", "-"],
-            printed: b"N0 M110 N0\nN1 G28\n",
+            printed: b"N1 M110 N1\nN2 G28\n",
             written: b"start\nok\nok\n",
             ..GARBLED
         },
@@ -153,7 +153,7 @@ fn failing_calls(rt: HostRuntime) -> Result<(), Fail> {
             conn_fails: &[3],
             end: SimEnd::ConnFailed,
             written: b"start\n",
-            printed: b"N0 M110 N0\n",
+            printed: b"N1 M110 N1\n",
             ..GARBLED
         },
         Row {
@@ -177,7 +177,7 @@ fn failing_calls(rt: HostRuntime) -> Result<(), Fail> {
 #[test]
 fn turns_used(rt: HostRuntime) -> Result<(), Fail> {
     let alloc = rt.alloc();
-    for (turns, printed) in [(1, b"".as_slice()), (3, b"N0 M110 N0\n".as_slice())] {
+    for (turns, printed) in [(1, b"".as_slice()), (3, b"N1 M110 N1\n".as_slice())] {
         let plan = SimPlan {
             last: 4,
             places: 4,

@@ -28,7 +28,12 @@ fn calls(alloc: Global, numbers: &[u64]) -> Result<CallList, AllocError> {
 }
 
 // A printer at port p with 4 places and the last number 4.
-fn link(alloc: Global, fates: &[Fate], fail_at: &[u64]) -> Result<MemoryLink, Fail>
+fn link(
+    alloc: Global,
+    fates: &[Fate],
+    fail_at: &[u64],
+    restart_at: &[u64],
+) -> Result<MemoryLink, Fail>
     ensures { IfOk result (λ l. (link_world l).linked ≡ false) }
 {
     let mut names = NameList::new(alloc);
@@ -47,6 +52,7 @@ fn link(alloc: Global, fates: &[Fate], fail_at: &[u64]) -> Result<MemoryLink, Fa
             fates: list,
             slow: 0,
             fail_at: calls(alloc, fail_at)?,
+            restart_at: calls(alloc, restart_at)?,
         },
     )?)
 }
@@ -72,7 +78,7 @@ fn word_list(alloc: Global, words: &[&str]) -> Result<WordList, AllocError> {
 // Carries out a command with the file a.gcode.
 fn command(alloc: Global, row: &Row) -> Result<Outcome, Fail> {
     let list = word_list(alloc, row.words)?;
-    let mut link = link(alloc, row.fates, row.link_fails)?;
+    let mut link = link(alloc, row.fates, row.link_fails, row.restarts)?;
     let mut files = MemorySource::new(alloc, calls(alloc, row.source_fails)?);
     files.put("a.gcode", row.file)?;
     let mut out = MemorySink::new(alloc, calls(alloc, row.sink_fails)?);
@@ -103,6 +109,7 @@ struct Row {
     file: &'static [u8],
     fates: &'static [Fate],
     link_fails: &'static [u64],
+    restarts: &'static [u64],
     source_fails: &'static [u64],
     sink_fails: &'static [u64],
     code: u8,
@@ -121,6 +128,7 @@ const DONE: Row = Row {
     file: HOME_AND_MOVE,
     fates: &[],
     link_fails: &[],
+    restarts: &[],
     source_fails: &[],
     sink_fails: &[],
     code: 0,
@@ -207,6 +215,33 @@ fn faults_round_it(rt: HostRuntime) -> Result<(), Fail> {
             executed: b"",
             sends: 2,
             ..DONE
+        },
+    ];
+    for row in &rows {
+        assert_row(&rt, row)?;
+    }
+    Ok(())
+}
+
+// The printer restarts while the first command is on its way, and while the second is: that one is refused.
+#[test]
+fn restarts(rt: HostRuntime) -> Result<(), Fail> {
+    let restarted = Row {
+        code: 6,
+        text: b"session ended: resend not built\n",
+        ..DONE
+    };
+    let rows = [
+        Row {
+            restarts: &[2],
+            executed: b"",
+            sends: 2,
+            ..restarted
+        },
+        Row {
+            restarts: &[3],
+            executed: b"G28\n",
+            ..restarted
         },
     ];
     for row in &rows {

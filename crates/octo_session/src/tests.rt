@@ -179,6 +179,7 @@ fn link_failing(rt: &impl Abort, alloc: Global, call: Option<u64>) -> Result<Mem
             fates: FateList::new(alloc),
             slow: 0,
             fail_at,
+            restart_at: CallList::new(alloc),
         },
     )?;
     Ok(link)

@@ -123,10 +123,10 @@ fn take_step(
 
 const STEPS: [Step; 17] = [
     Step::Quiet,
-    Step::Send("N0 M110 N0*125"),
-    Step::Send("N1 G28*18"),
+    Step::Send("N0 M110 N1*124"),
+    Step::Send("N2 G28*17"),
     Step::Quiet,
-    Step::Reads("N0 M110 N0*125\nN1 G28*18\n"),
+    Step::Reads("N0 M110 N1*124\nN2 G28*17\n"),
     // A carriage return belongs to the line, and lines that came together are given one by one.
     Step::Says("ok\nok T:20 /0\r\n\nstar"),
     Step::Hear("ok"),
