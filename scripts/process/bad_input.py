@@ -19,10 +19,13 @@ def bound_memory():
     resource.setrlimit(resource.RLIMIT_AS, (MEMORY, MEMORY))
 
 
-def octo(port, file):
-    words = [OCTO, "print", port, file, "--turns", "2000"]
-    run = subprocess.run(words, capture_output=True, timeout=SECONDS, preexec_fn=bound_memory)
+def run_octo(*arguments):
+    run = subprocess.run([OCTO, *arguments], capture_output=True, timeout=SECONDS, preexec_fn=bound_memory)
     return run.returncode, run.stdout, run.stderr
+
+
+def octo(port, file):
+    return run_octo("print", port, file, "--turns", "2000")
 
 
 class Peer:
@@ -84,6 +87,7 @@ def main():
             file.write(b"G28\n")
         used = b"turns used: 2000\n"
         rows = [
+            ("an argument that isn't UTF-8", lambda: run_octo("check", b"\xff"), 2, b"octo: bad words\n"),
             ("no such file", lambda: octo(nobody(), os.path.join(folder, "b.gcode")), 4, b"source failed\n"),
             ("a folder as the file", lambda: octo(nobody(), folder), 4, b"source failed\n"),
             ("a name that is no port", lambda: octo("printer", good), 5, b"port printer is not listed\n"),

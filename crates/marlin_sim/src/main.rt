@@ -14,20 +14,10 @@ mod tests;
 
 use absent::AbsentConn;
 use end::SimEnd;
-use octo_outside::{StdSink, TcpConn, WordList};
+use octo_outside::{ArgumentsFault, StdSink, TcpConn, WordList, arguments};
 use plan::read_plan;
 use simulate::sim;
-use std::env;
 use std::process::ExitCode;
-
-// The words behind the program's name; none where memory ran out.
-fn words_of(rt: &HostRuntime) -> Option<WordList> {
-    let mut words = WordList::new(rt.alloc());
-    for word in env::args(rt).ok()?.skip(1) {
-        words.push(word.as_str()).ok()?;
-    }
-    Some(words)
-}
 
 // The first connection at the address of a plan, where the words are one and the address can be listened at.
 fn connection(rt: HostRuntime, words: &WordList) -> Option<TcpConn<HostRuntime>> {
@@ -52,9 +42,10 @@ fn serve_words(rt: HostRuntime, words: &WordList) -> SimEnd {
 }
 
 fn main(rt: HostRuntime) -> ExitCode {
-    let end = match words_of(&rt) {
-        Some(words) => serve_words(rt, &words),
-        None => SimEnd::NoMemory,
+    let end = match arguments(&rt) {
+        Ok(words) => serve_words(rt, &words),
+        Err(ArgumentsFault::NotText) => SimEnd::BadPlan,
+        Err(ArgumentsFault::NoMemory) => SimEnd::NoMemory,
     };
     ExitCode::from(end.code())
 }

@@ -2,6 +2,8 @@
 use Rattle.std.specs.Prelude.{ℕ, List, ◌++◌, codes, decimal}
 use Rattle.gcode_lines.specs.declared.fault.FileFault.{FileFault}
 use Rattle.gcode_lines.specs.declared.fault.FileFault.TheVariants.{TooLong, ControlByte, TooLarge, NoMemory}
+use Rattle.octo_outside.specs.declared.command_line.ArgumentsFault.{ArgumentsFault}
+use Rattle.octo_outside.specs.declared.command_line.ArgumentsFault.TheVariants as arguments
 use Rattle.octo.specs.declared.report.Report.{Report}
 use Rattle.octo.specs.declared.report.Report.TheVariants as report
 
@@ -47,3 +49,8 @@ text_of (report.NoPort port) = codes "port " ++ port ++ codes " is not listed\n"
 text_of report.Resent = codes "session ended: resend not built\n"
 text_of (report.TurnsUsed turns) = codes "turns used: " ++ decimal turns ++ codes "\n"
 text_of report.NoMemory = codes "no memory\n"
+
+-- the report on arguments of the program that can't be used
+abbrev pub refused : ArgumentsFault → Report
+refused arguments.NotText = report.BadWords
+refused arguments.NoMemory = report.NoMemory

@@ -1,6 +1,9 @@
 //! A print host for one 3D printer: prints a file over a link to the printer, and checks files.
 #![tactic(auto)]
 
+ghost use Rattle.std.specs.Prelude.{◌≡◌};
+ghost use Rattle.octo.specs.Report.{refused};
+
 mod files;
 mod page;
 mod report;
@@ -9,27 +12,31 @@ mod run;
 mod tests;
 mod words;
 
-use octo_outside::{FileSource, StdSink, SystemClock, WordList};
+use octo_outside::{ArgumentsFault, FileSource, StdSink, SystemClock, arguments};
 use report::{Report, write_report};
 use run::octo;
 use socket_link::SocketLink;
-use std::env;
 use std::process::ExitCode;
 
-// The words behind the program's name; none where memory ran out.
-fn words_of(rt: &HostRuntime) -> Option<WordList> {
-    let mut words = WordList::new(rt.alloc());
-    for word in env::args(rt).ok()?.skip(1) {
-        words.push(word.as_str()).ok()?;
+// The report on arguments that can't be used.
+fn refused(fault: ArgumentsFault) -> Report
+    ensures { result ≡ refused fault }
+{
+    match fault {
+        ArgumentsFault::NotText => Report::BadWords,
+        ArgumentsFault::NoMemory => Report::NoMemory,
     }
-    Some(words)
 }
 
 fn main(rt: HostRuntime) -> ExitCode {
     let mut out = StdSink::new(rt);
-    let Some(words) = words_of(&rt) else {
-        let _ = write_report(&mut out, &Report::NoMemory);
-        return ExitCode::from(Report::NoMemory.code());
+    let words = match arguments(&rt) {
+        Ok(words) => words,
+        Err(fault) => {
+            let report = refused(fault);
+            let _ = write_report(&mut out, &report);
+            return ExitCode::from(report.code());
+        }
     };
     let mut files = FileSource::new(rt);
     let mut link = SocketLink::new(&rt);
