@@ -67,6 +67,33 @@ abbrev pub AfterRunning : Bool → SimData → SimData → Type 0
 AfterRunning true old new = HasRun old new
 AfterRunning false old new = (new ≡ old) × (old.printer.queue ≡ [])
 
+-- lines arrive one after the other
+pub data Arrives : SimData → SimData → Type 0 where
+  no_line : (s : SimData) → Arrives s s
+  one_line : (old mid new : SimData) → Arrives old mid → Arrived mid new → Arrives old new
+
+-- lines arrive until none waits or the queue is full; then the front of the queue is run, if there is one
+pub record Steps (ran : Bool) (old new : SimData) : Type 0 where
+  pub mid : SimData
+  pub arrives : Arrives old mid
+  pub stuck : IsStuck mid
+  pub runs : AfterRunning ran mid new
+
+-- such a step, whose replies were written
+pub record Acts (old new : SimData) : Type 0 where
+  pub ran : Bool
+  pub stepped : SimData
+  pub steps : Steps ran old stepped
+  pub printer : new.printer ≡ stepped.printer
+  pub lines : new.lines ≡ stepped.lines
+  pub written : new.replies ≡ []
+
+-- a turn that goes on acts on what it received, whose printer is the former one
+pub record ActsOn (printer : PrinterData) (new : SimData) : Type 0 where
+  pub received : SimData
+  pub same : received.printer ≡ printer
+  pub acts : Acts received new
+
 -- how much there is to do: a line that waits is taken and run
 abbrev pub work : SimData → ℕ
 work s = 2 * length s.lines.waiting + length s.printer.queue

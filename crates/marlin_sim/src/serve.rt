@@ -5,7 +5,7 @@ ghost use Rattle.marlin_sim.specs.declared.end.SimEnd.TheVariants as end;
 ghost use Rattle.marlin_sim.specs.declared.plan.SimPlan.{SimPlan};
 ghost use Rattle.marlin_sim.specs.declared.serve.Next.TheVariants as next;
 ghost use Rattle.marlin_sim.specs.Plan.{IsPlan};
-ghost use Rattle.marlin_sim.specs.Sim.{Tells, work, IsIdle};
+ghost use Rattle.marlin_sim.specs.Sim.{Tells, Acts, ActsOn, work, IsIdle};
 ghost use Rattle.marlin_sim.specs.Served.{Outside, outside, Serves, Going, After, Ending, Outcome, IsUsed};
 
 use crate::end::SimEnd;
@@ -78,6 +78,7 @@ fn deliver<C: Conn, O: Sink>(conn: &mut C, out: &mut O, sim: &mut Sim, ran: bool
     ensures over { result ≡ next.Over → ran ≡ false }
     ensures printer { sim.new.printer ≡ sim.old.printer }
     ensures lines { sim.new.lines ≡ sim.old.lines }
+    ensures written { (result ≡ next.On) ⊎ (result ≡ next.Over) → sim.new.replies ≡ [] }
     ensures left { C.left conn.new ≡ C.left conn.old }
     ensures quiets { C.quiets conn.new ≡ C.quiets conn.old }
     ensures conn_counted { C.faults conn.old ≤ C.faults conn.new }
@@ -100,6 +101,7 @@ fn deliver<C: Conn, O: Sink>(conn: &mut C, out: &mut O, sim: &mut Sim, ran: bool
 // Takes lines while there is room, runs one, and writes the replies.
 fn act<C: Conn, O: Sink>(conn: &mut C, out: &mut O, sim: &mut Sim) -> Next
     ensures told { (plan : SimPlan) (input : List ℕ) (first : Outside) → Serves plan input first (outside (C.left conn.old) (C.written conn.old) (O.written out.old)) sim.old → After result plan input first (outside (C.left conn.new) (C.written conn.new) (O.written out.new)) sim.new }
+    ensures acts { (result ≡ next.On) ⊎ (result ≡ next.Over) → Acts sim.old sim.new }
     ensures idle { result ≡ next.Over → 1 ≤ sim.old.printer.places → IsIdle sim.new }
     ensures work { result ≡ next.On → work sim.new < work sim.old }
     ensures places { (result ≡ next.On) ⊎ (result ≡ next.Over) → sim.new.printer.places ≡ sim.old.printer.places }
@@ -142,6 +144,7 @@ fn drain<C: Conn, O: Sink>(conn: &mut C, out: &mut O, sim: &mut Sim) -> SimEnd
 // Goes on after a read that didn't find the end.
 fn go_on<C: Conn, O: Sink>(conn: &mut C, out: &mut O, sim: &mut Sim) -> Next
     ensures told { (plan : SimPlan) (input : List ℕ) (first : Outside) → Serves plan input first (outside (C.left conn.old) (C.written conn.old) (O.written out.old)) sim.old → After result plan input first (outside (C.left conn.new) (C.written conn.new) (O.written out.new)) sim.new }
+    ensures acts { result ≡ next.On → Acts sim.old sim.new }
     ensures open { result ≢ next.Over }
     ensures places { result ≡ next.On → sim.new.printer.places ≡ sim.old.printer.places }
     ensures left { C.left conn.new ≡ C.left conn.old }
@@ -170,6 +173,7 @@ fn receive<C: Conn, O: Sink>(
 ) -> Next
     requires { IsPlan plan.now }
     ensures told { (input rest wrote printed : List ℕ) (first : Outside) → Adds first.wrote (C.written conn.old) wrote → Adds first.printed (O.written out.old) printed → C.left conn.old ≡ Some rest → Tells plan.now input (bytes.now ++ rest) sim.old wrote printed → After result plan.now input first (outside (C.left conn.new) (C.written conn.new) (O.written out.new)) sim.new }
+    ensures acts { result ≡ next.On → ActsOn sim.old.printer sim.new }
     ensures open { result ≢ next.Over }
     ensures places { result ≡ next.On → sim.new.printer.places ≡ sim.old.printer.places }
     ensures left { C.left conn.new ≡ C.left conn.old }
@@ -189,6 +193,8 @@ fn receive<C: Conn, O: Sink>(
 fn take_turn<C: Conn, O: Sink>(conn: &mut C, out: &mut O, sim: &mut Sim, plan: &SimPlan) -> Next
     requires { IsPlan plan.now }
     ensures told { (input : List ℕ) (first : Outside) → Going plan.now input first (outside (C.left conn.old) (C.written conn.old) (O.written out.old)) sim.old → After result plan.now input first (outside (C.left conn.new) (C.written conn.new) (O.written out.new)) sim.new }
+    ensures acts { result ≡ next.On → ActsOn sim.old.printer sim.new }
+    ensures quiet { result ≡ next.On → C.quiets conn.new ≢ C.quiets conn.old → Acts sim.old sim.new }
     ensures closed { result ≡ next.Over → IfSome (C.left conn.old) (λ _. C.left conn.new ≡ Some []) }
     ensures used { result ≡ next.On → IfSome (C.left conn.old) (λ before. IsUsed 1 before (C.left conn.new) (C.quiets conn.old) (C.quiets conn.new)) }
     ensures places { (result ≡ next.On) ⊎ (result ≡ next.Over) → sim.new.printer.places ≡ sim.old.printer.places }

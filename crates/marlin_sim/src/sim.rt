@@ -78,7 +78,7 @@ fn put_taken(replies: &mut Blob, taken: &Taken) -> Result<(), AllocError>
 impl Sim {
     ghost use Rattle.std.specs.Prelude.{◌≡◌, ◌≤◌, ◌<◌, ◌++◌, ℕ, List, [], true, false, length, IfOk, OnOk};
     ghost use Rattle.marlin_sim.specs.Plan.{IsPlan};
-    ghost use Rattle.marlin_sim.specs.Sim.{SimData, new_sim, Tells, Keeps, IsStuck, AfterArrival, AfterRunning, work, IsIdle};
+    ghost use Rattle.marlin_sim.specs.Sim.{SimData, new_sim, Tells, Keeps, IsStuck, Arrives, Steps, AfterArrival, AfterRunning, work, IsIdle};
 
     /// A new printer before anything was received; `start` is to be written.
     pub fn new(alloc: Global, plan: &SimPlan) -> Result<Self, AllocError>
@@ -151,6 +151,7 @@ impl Sim {
     // Lets lines arrive until none waits or the queue is full.
     fn arrive_all(&mut self) -> Result<(), AllocError>
         ensures kept { OnOk result (Keeps self.old self.new) }
+        ensures arrives { OnOk result (Arrives self.old self.new) }
         ensures all { OnOk result (IsStuck self.new) }
         ensures work { OnOk result (work self.new ≤ work self.old) }
         ensures places { OnOk result (self.new.printer.places ≡ self.old.printer.places) }
@@ -175,6 +176,7 @@ impl Sim {
 
     /// Lets lines arrive until none waits or the queue is full, runs a line, and says whether there was one.
     pub fn step(&mut self) -> Result<bool, AllocError>
+        ensures steps { IfOk result (λ ran. Steps ran self.old self.new) }
         ensures kept { OnOk result (Keeps self.old self.new) }
         ensures idle { IfOk result (λ ran. ran ≡ false → 1 ≤ self.old.printer.places → IsIdle self.new) }
         ensures work { IfOk result (λ ran. ran ≡ true → work self.new < work self.old) }

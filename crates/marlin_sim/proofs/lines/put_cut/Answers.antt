@@ -8,4 +8,4 @@ returns c =
     let line = c.args.line.now.items in
     let bytes = c.args.bytes.now in
     let most : c.min.result ≡ min (95 - length line) (length bytes) = cc (c.min.ensures, c.len-room.ensures.value) in
-    c.put.ensures ∙ ap (λ n. line ++ take n bytes) most ∙ cut-room line bytes (omega (arith, c.len-room.ensures.fits))
+    c.append.ensures.items ∙ ap (λ n. line ++ take n bytes) most ∙ cut-room line bytes (omega (arith, c.len-room.ensures.fits))

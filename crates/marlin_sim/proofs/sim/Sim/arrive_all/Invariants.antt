@@ -1,9 +1,10 @@
 use Rattle.std.proofs.Common.{◌≡◌, ◌≤◌}
-use Rattle.marlin_sim.specs.Sim.{Keeps, work}
+use Rattle.marlin_sim.specs.Sim.{Arrives, Keeps, work}
 use Rattle.marlin_sim.proofs.sim.Sim.arrive_all.Given as goal
 
 abbrev pub invariant-loop : goal.invariant-loop
 invariant-loop l = record {
+  arrives : Arrives l.initial.self l.self;
   kept : Keeps l.initial.self l.self;
   work : work l.self ≤ work l.initial.self;
   places : l.self.printer.places ≡ l.initial.self.printer.places;
