@@ -3,17 +3,7 @@
 set -u
 cd "$(dirname "$0")/../.." || exit 2
 scripts/build octo marlin_sim || exit 1
-work=$(mktemp -d) || exit 2
-printer=
-finish() {
-    status=$?
-    trap - EXIT INT TERM HUP
-    [ -z "$printer" ] || kill "$printer" 2>/dev/null
-    rm -rf "$work"
-    exit "$status"
-}
-trap finish EXIT
-trap 'exit 130' INT TERM HUP
+. scripts/with_work
 failed=0
 
 # name, the file's text, the words of marlin_sim behind its address, what octo prints, octo's status, what the printer prints
@@ -21,13 +11,14 @@ print_row() {
     port=$(scripts/free_port) || exit 1
     printf "$2" >"$work/a.gcode"
     # shellcheck disable=SC2086
-    crates/marlin_sim/out/marlin_sim "127.0.0.1:$port" $3 >"$work/executed" &
+    timeout 60 crates/marlin_sim/out/marlin_sim "127.0.0.1:$port" $3 >"$work/executed" &
     printer=$!
+    started=$printer
     scripts/octo_when_up print "127.0.0.1:$port" "$work/a.gcode" --turns 500 >"$work/octo"
     octo=$?
     wait "$printer"
     sim=$?
-    printer=
+    started=
     printf "$4" >"$work/octo_wanted"
     printf "$6" >"$work/executed_wanted"
     if [ "$octo" -eq "$5" ] && [ "$sim" -eq 0 ] && cmp "$work/octo" "$work/octo_wanted" &&
