@@ -14,7 +14,8 @@ mod tests;
 
 use absent::AbsentConn;
 use end::SimEnd;
-use octo_outside::{ArgumentsFault, StdSink, TcpConn, WordList, arguments};
+use octo_outside::{ArgumentsFault, StdSink, WordList, arguments};
+use octo_sockets::TcpConn;
 use plan::read_plan;
 use simulate::sim;
 use std::process::ExitCode;

@@ -12,9 +12,7 @@ mod memory_conn;
 mod memory_source;
 mod sink;
 mod source;
-mod streams;
 mod system_clock;
-mod tcp_conn;
 #[cfg(test)]
 mod tests;
 mod types;
@@ -30,7 +28,5 @@ pub use memory_conn::MemoryConn;
 pub use memory_source::{MemoryFile, MemorySource};
 pub use sink::{MemorySink, Sink, StdSink, write_all};
 pub use source::{ReadAll, Source, read_all};
-pub use streams::{linger, may_come_later, prepare, write_some};
 pub use system_clock::SystemClock;
-pub use tcp_conn::TcpConn;
 pub use types::Failed;

@@ -5,7 +5,7 @@ use Rattle.std.proofs.Math.Seq.{take-append-add}
 use Rattle.std.proofs.lemmas.Bool.{false≢true}
 use Rattle.std.specs.Io.KnownBytes.{Appends}
 use Rattle.std.proofs.lemmas.List.{append-nil, take_rest, take_min, drop-take, drop-drop, length-take}
-use Rattle.octo_outside.proofs.Written.{appends_more}
+use Rattle.octo_sockets.proofs.Written.{appends_more}
 use Rattle.std.specs.List.{list_any, position_or_len}
 use Rattle.socket_link.specs.Lines.{cut}
 

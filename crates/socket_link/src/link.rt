@@ -13,7 +13,7 @@ use crate::unsent::Unsent;
 use byte_text::{Line, ReplyLine};
 use libc::net::{POLLIN, poll};
 use libc::types::pollfd;
-use octo_outside::{linger, may_come_later, prepare};
+use octo_sockets::{linger, may_come_later, prepare};
 use printer_link::{Heard, Link, LinkFault};
 use std::net::{Net, TcpStream, ToSocketAddrs};
 use std::os::fd::AsRawFd;

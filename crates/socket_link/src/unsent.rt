@@ -4,7 +4,7 @@ ghost use Rattle.std.specs.Io.KnownBytes.{Appends};
 
 use arrayvec::ArrayVec;
 use byte_text::Line;
-use octo_outside::write_some;
+use octo_sockets::write_some;
 use std::io::Write;
 use std::marker::Model;
 

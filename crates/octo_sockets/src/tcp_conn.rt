@@ -4,7 +4,7 @@ ghost use Rattle.octo_outside.specs.Memory.{one_more};
 ghost use Rattle.octo_outside.specs.Told.{Rose};
 
 use crate::streams::{linger, may_come_later, prepare, write_some};
-use crate::{Conn, Failed, Got};
+use octo_outside::{Conn, Failed, Got};
 use std::io::Read;
 use std::net::{Net, OpenListener, TcpListener};
 use std::time::Clock;
@@ -41,8 +41,8 @@ impl<R: Net + Drop> TcpConn<R> {
         }
     }
 
-    // The connection over a stream, whose calls wait for a bounded time from here on.
-    fn over(rt: R, stream: R::Stream) -> Result<Self, Failed>
+    /// The connection over a stream, whose calls wait for a bounded time from here on.
+    pub fn over(rt: R, stream: R::Stream) -> Result<Self, Failed>
         ensures { IfOk result (λ c. (c.faults ≡ 0) × (c.quiets ≡ 0)) }
     {
         match prepare(&stream) {
