@@ -8,9 +8,9 @@ use Rattle.byte_text.specs.Sendable.{IsSendable}
 use Rattle.gcode_lines.specs.declared.fault.FileFault.{FileFault}
 use Rattle.gcode_lines.specs.declared.fault.FileFault.TheVariants.{TooLong, ControlByte, TooLarge}
 use Rattle.gcode_lines.specs.Text.{text_of, is_too_long, has_control}
-use Rattle.gcode_lines.specs.Job.{JobData, most_bytes, texts_of, numbers_of, AllSendable}
-use Rattle.gcode_lines.specs.Commands.{FileLine, file_line, numbered, pieces_of, lines_of, is_skipped_line, fault_at, first_fault, commands_in, skipped_in, unless_fault, job_of}
-use Rattle.gcode_lines.proofs.Sendable.{sendable_text}
+use Rattle.gcode_lines.specs.Job.{most_bytes, texts_of, numbers_of, AllSendable}
+use Rattle.gcode_lines.specs.Commands.{FileLine, file_line, numbered, pieces_of, lines_of, is_skipped_line, fault_at, first_fault, commands_in, unless_fault, job_in, job_of}
+use Rattle.gcode_lines.proofs.Sendable.{sendable_text, short_from_test}
 
 -- the tests of `fault_at` over plain variables
 abbrev fault_by : Bool → Bool → Bool → ℕ → Option FileFault
@@ -27,6 +27,12 @@ pub sendable_line : (line : FileLine) → is_skipped_line line ≡ false → fau
 sendable_line line kept sound =
     let tests = sound_by (is_too_long (text_of line.bytes)) (has_control (text_of line.bytes)) line.number (ap (λ t. fault_by t (is_too_long (text_of line.bytes)) (has_control (text_of line.bytes)) line.number) (sym kept) ∙ sound) in
     sendable_text line.bytes kept tests.0 tests.1
+
+-- and its text is short
+pub short_line : (line : FileLine) → is_skipped_line line ≡ false → fault_at line ≡ None → length (text_of line.bytes) ≤ 79
+short_line line kept sound =
+    let tests = sound_by (is_too_long (text_of line.bytes)) (has_control (text_of line.bytes)) line.number (ap (λ t. fault_by t (is_too_long (text_of line.bytes)) (has_control (text_of line.bytes)) line.number) (sym kept) ∙ sound) in
+    short_from_test (text_of line.bytes) tests.0
 
 both_none : (first rest : Option FileFault) → option_or first rest ≡ None → (first ≡ None) × (rest ≡ None)
 both_none None rest e = (refl, e)
@@ -81,15 +87,11 @@ RisesFrom-increasing from (number ∷ next ∷ numbers) rises =
     let above = rises.1.0 in
     λ k. increasing_at k number next numbers (omega arith) (RisesFrom-increasing (number + 1) (next ∷ numbers) rises.1)
 
--- the job of these bytes, were there no fault
-abbrev job_in : List ℕ → JobData
-job_in bytes = record { commands = commands_in (lines_of bytes); skipped = skipped_in (lines_of bytes); bytes = length bytes }
-
 rising_lines : (bytes : List ℕ) → IsStrictlyIncreasing (numbers_in (lines_of bytes))
 unfolding lines_of
 rising_lines bytes = RisesFrom-increasing 1 _ (rises_numbered 1 0 (pieces_of bytes))
 
-sendable_from : (large : Bool) (fault : Option FileFault) (bytes : List ℕ) → first_fault (lines_of bytes) ≡ fault → IfOk (cond large (Err (TooLarge (length bytes))) (unless_fault fault (job_in bytes))) (λ job. AllSendable (texts_of job))
+sendable_from : (large : Bool) (fault : Option FileFault) (bytes : List ℕ) → first_fault (lines_of bytes) ≡ fault → IfOk (cond large (Err (TooLarge (length bytes))) (unless_fault fault (job_in bytes (lines_of bytes)))) (λ job. AllSendable (texts_of job))
 sendable_from true fault bytes e = tt
 sendable_from false (Some fault) bytes e = tt
 sendable_from false None bytes e = sendable_lines (lines_of bytes) e
@@ -99,7 +101,7 @@ pub sendable_job : (bytes : List ℕ) → IfOk (job_of bytes) (λ job. AllSendab
 unfolding job_of
 sendable_job bytes = sendable_from (nat_lt most_bytes (length bytes)) (first_fault (lines_of bytes)) bytes refl
 
-rising_from : (large : Bool) (fault : Option FileFault) (bytes : List ℕ) → IfOk (cond large (Err (TooLarge (length bytes))) (unless_fault fault (job_in bytes))) (λ job. IsStrictlyIncreasing (numbers_of job))
+rising_from : (large : Bool) (fault : Option FileFault) (bytes : List ℕ) → IfOk (cond large (Err (TooLarge (length bytes))) (unless_fault fault (job_in bytes (lines_of bytes)))) (λ job. IsStrictlyIncreasing (numbers_of job))
 rising_from true fault bytes = tt
 rising_from false (Some fault) bytes = tt
 rising_from false None bytes = rising_lines bytes

@@ -1,5 +1,10 @@
+pub mod Decoded
+pub mod FirstLine
 pub mod JobLaws
 pub mod Kept
+pub mod LineWords
 pub mod Lines
+pub mod Plain
 pub mod Sendable
 pub mod SingleLaw
+pub mod TextCut

@@ -1,14 +1,20 @@
 -- The lines of a file, one after another.
-use Rattle.std.proofs.Common.{◌≡◌, ℕ, suc, ◌+◌, ◌-◌, ◌<◌, ◌≤◌, Bool, true, false, not, cond, nat_lt, ◌==◌, List, [], ◌∷◌, ◌++◌, length, get_or, drop, Some, None, Result, Ok, Err, ◌⊎◌, inl, inr, refl, sym, ap, ◌∙◌, arith}
-use Rattle.std.specs.List.{before_first}
+use Rattle.std.proofs.Common.{◌≡◌, ℕ, suc, ◌+◌, ◌-◌, ◌<◌, ◌≤◌, Bool, true, false, not, cond, nat_lt, ◌==◌, List, [], ◌∷◌, ◌++◌, length, get_or, drop, map, Some, None, Err, ◌⊎◌, inl, inr, refl, sym, ap, subst, ◌∙◌, arith}
+use Rattle.std.specs.List.{All, before_first, position_or_len, prefix_len}
 use Rattle.std.specs.Option.{option_or}
 use Rattle.std.proofs.lemmas.Bool.Decides.{nat_tests}
-use Rattle.std.proofs.lemmas.List.{drop_more, drop_all, drop-drop, append-nil, append_assoc, length-append}
-use Rattle.std.proofs.lemmas.List.Sums.{take_while-cons, sum_by-cons}
+use Rattle.std.proofs.lemmas.List.{drop_more, drop_all, drop-drop, append-nil, append_assoc, length-append, length-map, length-drop, length-take, map-append, get_or-drop}
+use Rattle.std.proofs.lemmas.List.Elements.{All-nil, All-append}
+use Rattle.std.proofs.lemmas.List.Folds.{length-prefix_len}
+use Rattle.std.proofs.lemmas.List.Sums.{take_while-cons, sum_by-cons, fails_before_first, prefix_len_stops}
 use Rattle.gcode_lines.specs.declared.fault.FileFault.{FileFault}
 use Rattle.gcode_lines.specs.declared.fault.FileFault.TheVariants.{NoMemory, TooLarge}
-use Rattle.gcode_lines.specs.Job.{JobData, most_bytes}
-use Rattle.gcode_lines.specs.Commands.{FileLine, file_line, in_front, pieces_of, numbered, lines_of, is_skipped_line, fault_at, first_fault, commands_in, skipped_in, job_of, with_line}
+use Rattle.gcode_lines.specs.Job.{most_bytes, word_of}
+use Rattle.gcode_lines.specs.Commands.{FileLine, file_line, in_front, pieces_of, numbered, lines_of, is_skipped_line, fault_at, first_fault, commands_in, skipped_in, job_of}
+use Rattle.gcode_lines.specs.Packed.{PlacesData, places_after, command_in, EndsIn}
+use Rattle.gcode_lines.specs.Found.{AreFound, IsRefused}
+use Rattle.gcode_lines.proofs.LineWords.{IsLineOf, words_of_line}
+use Rattle.gcode_lines.proofs.TextCut.{IsPart, IsPart-part, IsPart-take, IsPart-drop}
 
 -- the bytes before the first line feed
 abbrev pub front_of : List ℕ → List ℕ
@@ -92,65 +98,112 @@ one_by : (line : FileLine) (t : Bool) → is_skipped_line line ≡ t → length 
 one_by line true e = rw e refl
 one_by line false e = rw e refl
 
--- what a job holds once so many lines up to a place were read
-pub record HasRead (bytes : List ℕ) (at number : ℕ) (job : JobData) : Type 0 where
+-- what was found once a number of lines up to a place were read
+pub record HasRead (bytes : List ℕ) (at number : ℕ) (places : PlacesData) : Type 0 where
   pub fault : first_fault (lines_of bytes) ≡ first_fault (lines_left bytes at number)
-  pub commands : commands_in (lines_of bytes) ≡ job.commands ++ commands_in (lines_left bytes at number)
-  pub skipped : skipped_in (lines_of bytes) ≡ job.skipped + skipped_in (lines_left bytes at number)
-  pub size : job.bytes ≡ length bytes
-  pub few : length job.commands + job.skipped ≤ number
+  pub commands : commands_in (lines_of bytes) ≡ map (command_in bytes) places.words ++ commands_in (lines_left bytes at number)
+  pub skipped : skipped_in (lines_of bytes) ≡ places.skipped + skipped_in (lines_left bytes at number)
+  pub ends : All (EndsIn bytes) places.words
+  pub starts : 0 < at → at ≤ length bytes → get_or bytes (at - 1) 0 ≡ 10
+  pub few : length places.words + places.skipped ≤ number
   pub counted : number ≤ at
-  pub within : at ≤ length bytes + 1
+  pub lines : number ≤ length bytes
 
-pub HasRead-start : (bytes : List ℕ) (job : JobData) → job ≡ record { commands = []; skipped = 0; bytes = length bytes } → HasRead bytes 0 0 job
+pub HasRead-start : (bytes : List ℕ) (places : PlacesData) → places ≡ record { words = []; skipped = 0 } → HasRead bytes 0 0 places
 unfolding lines_of
-HasRead-start bytes job e =
-    rw e (record { fault = refl; commands = refl; skipped = omega arith; size = refl; few = omega arith; counted = omega arith; within = omega arith })
+HasRead-start bytes places e =
+    rw e (record { fault = refl; commands = refl; skipped = omega arith; ends = All-nil (EndsIn bytes); starts = λ some within. absurd (omega arith); few = omega arith; counted = omega arith; lines = omega arith })
 
-pub HasRead-more : (bytes : List ℕ) (at number : ℕ) (job : JobData) (line : List ℕ) → HasRead bytes at number job → at < length bytes → line ≡ front_of (drop at bytes) → length line ≤ length bytes - at → fault_at (file_line line (number + 1) at) ≡ None → HasRead bytes (at + (length line + 1)) (number + 1) (with_line job (file_line line (number + 1) at))
-HasRead-more bytes at number job line read within e short sound =
+-- the line at a place in the file
+front_part : (bytes : List ℕ) (at : ℕ) → at < length bytes → IsPart bytes at (front_of (drop at bytes))
+front_part bytes at within =
+    let rest = drop at bytes in
+    let none : at + 0 ≡ at = omega arith in
+    rw none at (IsPart-part bytes at rest 0 (front_of rest) (IsPart-drop at bytes (omega arith)) (IsPart-take (position_or_len (λ b. b == 10) rest) rest))
+
+is_feed : (byte : ℕ) → not (byte == 10) ≡ false → byte ≡ 10
+is_feed byte h = grind (arith, nat_tests)
+
+-- the line at a place is a line of the file
+line_there : (bytes : List ℕ) (at number : ℕ) (line : List ℕ) → (0 < at → get_or bytes (at - 1) 0 ≡ 10) → at < length bytes → length bytes ≤ most_bytes → line ≡ front_of (drop at bytes) → IsLineOf bytes (file_line line number at)
+line_there bytes at number line starts within small e =
+    let rest = drop at bytes in
+    let feed = λ (byte : ℕ). byte == 10 in
+    let end = position_or_len feed rest in
+    let long : length line ≤ end = omega (arith, ap length e, length-take end rest) in
+    record {
+      there = subst (λ l. IsPart bytes at l) (sym e) (front_part bytes at within);
+      whole = λ k inside. ap feed (sym (get_or-drop at bytes k 0)) ∙ fails_before_first feed rest k 0 (omega arith);
+      starts = starts;
+      small = small;
+    }
+
+-- a place after a line is that of a line feed's next
+feed_before : (bytes : List ℕ) (at : ℕ) (line : List ℕ) → at < length bytes → line ≡ front_of (drop at bytes) → at + length line < length bytes → get_or bytes (at + length line) 0 ≡ 10
+feed_before bytes at line within e more =
+    let rest = drop at bytes in
+    let other = λ (byte : ℕ). not (byte == 10) in
+    let long : length line ≡ prefix_len other rest = ap length e ∙ length-prefix_len other rest in
+    let inside : prefix_len other rest < length rest = omega (arith, length-drop at bytes) in
+    let stop = prefix_len_stops other rest 0 inside in
+    let here : get_or rest (prefix_len other rest) 0 ≡ get_or bytes (at + length line) 0 = get_or-drop at bytes (prefix_len other rest) 0 ∙ ap (λ n. get_or bytes (at + n) 0) (sym long) in
+    sym here ∙ is_feed (get_or rest (prefix_len other rest) 0) stop
+
+pub HasRead-more : (bytes : List ℕ) (at number : ℕ) (places : PlacesData) (line : List ℕ) → HasRead bytes at number places → at < length bytes → length bytes ≤ most_bytes → line ≡ front_of (drop at bytes) → fault_at (file_line line (number + 1) at) ≡ None → HasRead bytes (at + (length line + 1)) (number + 1) (places_after places (file_line line (number + 1) at))
+HasRead-more bytes at number places line read within small e sound =
     let this = file_line line (number + 1) at in
     let left = lines_left bytes (at + (length line + 1)) (number + 1) in
     let next = lines_left-cons bytes at number line within e in
     let one = one_by this (is_skipped_line this) refl in
-    let added = length-append job.commands (commands_in (this ∷ [])) in
+    let new = map word_of (commands_in (this ∷ [])) in
+    let found = words_of_line bytes this (line_there bytes at (number + 1) line (λ some. read.starts some (omega arith)) within small e) sound in
+    let added = length-append places.words new in
+    let mapped = length-map (commands_in (this ∷ [])) word_of in
     let skipped = skipped_in-cons this left in
-    let before = read.skipped ∙ ap (λ lines. job.skipped + skipped_in lines) next in
+    let before = read.skipped ∙ ap (λ lines. places.skipped + skipped_in lines) next in
     let few = read.few in
     let counted = read.counted in
     record {
       fault = read.fault ∙ ap first_fault next ∙ ap (λ fault. option_or fault (first_fault left)) sound;
       commands =
-          read.commands ∙ ap (λ lines. job.commands ++ commands_in lines) next
-          ∙ ap (λ commands. job.commands ++ commands) (commands_in-cons this left)
-          ∙ sym (append_assoc job.commands (commands_in (this ∷ [])) (commands_in left));
+          read.commands ∙ ap (λ lines. map (command_in bytes) places.words ++ commands_in lines) next
+          ∙ ap (λ commands. map (command_in bytes) places.words ++ commands) (commands_in-cons this left)
+          ∙ sym (append_assoc (map (command_in bytes) places.words) (commands_in (this ∷ [])) (commands_in left))
+          ∙ ap (λ commands. (map (command_in bytes) places.words ++ commands) ++ commands_in left) (sym found.0)
+          ∙ ap (λ commands. commands ++ commands_in left) (sym (map-append (command_in bytes) places.words new));
       skipped = omega arith;
-      size = read.size;
+      ends = All-append (EndsIn bytes) places.words new read.ends found.1;
+      starts = λ some inside.
+          let step : at + (length line + 1) - 1 ≡ at + length line = omega arith in
+          ap (λ n. get_or bytes n 0) step ∙ feed_before bytes at line within e (omega arith);
       few = omega arith;
       counted = omega arith;
-      within = omega arith;
+      lines = omega arith;
     }
 
--- a file with no fault gives what was read of it all
-pub HasRead-end : (bytes : List ℕ) (at number : ℕ) (job : JobData) → HasRead bytes at number job → length bytes ≤ most_bytes → length bytes ≤ at → job_of bytes ≡ Ok job
+-- a file with no fault gives what was found in it all
+pub HasRead-end : (bytes : List ℕ) (at number : ℕ) (places : PlacesData) → HasRead bytes at number places → length bytes ≤ most_bytes → length bytes ≤ at → AreFound bytes places
 unfolding job_of
-HasRead-end bytes at number job read small past =
+HasRead-end bytes at number places read small past =
     let left = lines_left-end bytes at number past in
     let test : nat_lt most_bytes (length bytes) ≡ false = grind (arith, nat_tests) in
     let fault : first_fault (lines_of bytes) ≡ None = read.fault ∙ ap first_fault left in
-    let commands : commands_in (lines_of bytes) ≡ job.commands = read.commands ∙ ap (λ lines. job.commands ++ commands_in lines) left ∙ append-nil job.commands in
-    let skipped : skipped_in (lines_of bytes) ≡ job.skipped = read.skipped ∙ ap (λ lines. job.skipped + skipped_in lines) left ∙ omega arith in
-    let size = read.size in
-    rw (test, fault, commands, skipped, ← size) refl
+    let commands : commands_in (lines_of bytes) ≡ map (command_in bytes) places.words =
+    read.commands ∙ ap (λ lines. map (command_in bytes) places.words ++ commands_in lines) left ∙ append-nil (map (command_in bytes) places.words) in
+    let skipped : skipped_in (lines_of bytes) ≡ places.skipped = read.skipped ∙ ap (λ lines. places.skipped + skipped_in lines) left ∙ omega arith in
+    let few = read.few in
+    let lines = read.lines in
+    record { job = rw (test, fault, commands, skipped) refl; ends = read.ends; lines = omega arith; size = small }
 
 -- a file whose next line has a fault is refused for it
-pub HasRead-fault : (bytes : List ℕ) (at number : ℕ) (job : JobData) (line : List ℕ) (fault : FileFault) → HasRead bytes at number job → length bytes ≤ most_bytes → at < length bytes → line ≡ front_of (drop at bytes) → fault_at (file_line line (number + 1) at) ≡ Some fault → job_of bytes ≡ Err fault
+pub HasRead-fault : (bytes : List ℕ) (at number : ℕ) (places : PlacesData) (line : List ℕ) (fault : FileFault) → HasRead bytes at number places → length bytes ≤ most_bytes → at < length bytes → line ≡ front_of (drop at bytes) → (fault ≡ NoMemory) ⊎ (fault_at (file_line line (number + 1) at) ≡ Some fault) → IsRefused bytes fault
 unfolding job_of
-HasRead-fault bytes at number job line fault read small within e found =
+HasRead-fault bytes at number places line fault read small within e (inl memory) = inl memory
+HasRead-fault bytes at number places line fault read small within e (inr found) =
     let test : nat_lt most_bytes (length bytes) ≡ false = grind (arith, nat_tests) in
     let first : first_fault (lines_of bytes) ≡ Some fault =
     read.fault ∙ ap first_fault (lines_left-cons bytes at number line within e) ∙ ap (λ f. option_or f (first_fault (lines_left bytes (at + (length line + 1)) (number + 1)))) found in
-    rw (test, first) refl
+    inr (rw (test, first) refl)
 
 -- a file of too many bytes is refused before a line is looked at
 pub job_of-large : (bytes : List ℕ) → most_bytes < length bytes → job_of bytes ≡ Err (TooLarge (length bytes))
@@ -158,9 +211,3 @@ unfolding job_of
 job_of-large bytes large =
     let test : nat_lt most_bytes (length bytes) ≡ true = grind (arith, nat_tests) in
     rw test refl
-
--- what is answered at a line that can't be read
-pub HasRead-refused : (bytes : List ℕ) (at number : ℕ) (job : JobData) (line : List ℕ) (fault : FileFault) (answer : Result JobData FileFault) → HasRead bytes at number job → length bytes ≤ most_bytes → at < length bytes → line ≡ front_of (drop at bytes) → (fault ≡ NoMemory) ⊎ (fault_at (file_line line (number + 1) at) ≡ Some fault) → answer ≡ Err fault → (answer ≡ Err NoMemory) ⊎ (answer ≡ job_of bytes)
-HasRead-refused bytes at number job line fault answer read small within e (inl memory) is = inl (is ∙ ap Err memory)
-HasRead-refused bytes at number job line fault answer read small within e (inr found) is =
-    inr (is ∙ sym (HasRead-fault bytes at number job line fault read small within e found))

@@ -24,7 +24,7 @@ list_any-drop test (suc n) [] h = refl
 list_any-drop test (suc n) (x ∷ xs) h =
     list_any-drop test n xs (or_parts (test x) (list_any test xs) h).1
 
-list_any-weaker : (p q : ℕ → Bool) → ((x : ℕ) → p x ≡ false → q x ≡ false) → (xs : List ℕ) → list_any p xs ≡ false → list_any q xs ≡ false
+pub list_any-weaker : (p q : ℕ → Bool) → ((x : ℕ) → p x ≡ false → q x ≡ false) → (xs : List ℕ) → list_any p xs ≡ false → list_any q xs ≡ false
 list_any-weaker p q weaker [] h = refl
 list_any-weaker p q weaker (x ∷ xs) h =
     let parts = or_parts (p x) (list_any p xs) h in

@@ -1,5 +1,5 @@
 -- The command of one line is that of a file which is this line.
-use Rattle.std.proofs.Common.{◌≡◌, ℕ, ◌≤◌, Bool, true, false, cond, nat_lt, ◌==◌, List, [], ◌∷◌, length, Result, Ok, Err, refl, ap, arith}
+use Rattle.std.proofs.Common.{◌≡◌, ℕ, ◌≤◌, Bool, true, false, cond, nat_lt, ◌==◌, List, [], ◌∷◌, length, Result, Ok, Err, refl, ap, zero-add, arith}
 use Rattle.std.specs.List.{list_any}
 use Rattle.std.proofs.lemmas.Bool.{or_parts}
 use Rattle.std.proofs.lemmas.Bool.Decides.{nat_tests}
@@ -79,4 +79,4 @@ unfolding job_of
 single_is_job line text small e =
     let one = is_one line text e in
     let test : nat_lt most_bytes (length line) ≡ false = grind (arith, nat_tests) in
-    rw (test, lines_of-whole line one.whole one.some, one.kept, one.short, one.clean, one.same) refl
+    rw (test, lines_of-whole line one.whole one.some, one.kept, one.short, one.clean, one.same, zero-add) refl

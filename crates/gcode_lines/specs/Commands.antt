@@ -1,9 +1,9 @@
-use Rattle.std.specs.Prelude.{ℕ, ◌+◌, Bool, not, ◌==◌, nat_lt, List, [], ◌∷◌, ◌++◌, length, map, if◌then◌else◌, filter, count_by, Option, Some, None, Result, Ok, Err}
+use Rattle.std.specs.Prelude.{ℕ, ◌+◌, Bool, not, ◌==◌, nat_lt, List, [], ◌∷◌, length, map, if◌then◌else◌, filter, count_by, Option, Some, None, Result, Ok, Err}
 use Rattle.std.specs.Option.{option_or}
 use Rattle.gcode_lines.specs.declared.fault.FileFault.{FileFault}
 use Rattle.gcode_lines.specs.declared.fault.FileFault.TheVariants.{TooLong, ControlByte, TooLarge}
 use Rattle.gcode_lines.specs.Job.{Command, JobData, most_bytes}
-use Rattle.gcode_lines.specs.Text.{text_of, is_skipped, is_too_long, has_control}
+use Rattle.gcode_lines.specs.Text.{text_of, begin_of, is_skipped, is_too_long, has_control}
 
 -- a line of a file: its bytes, its number, and the place of its first byte
 pub record FileLine : Type 0 where
@@ -41,7 +41,12 @@ is_skipped_line line = is_skipped (text_of line.bytes)
 
 -- a line as a command
 abbrev pub command_at : FileLine → Command
-command_at line = record { text = text_of line.bytes; line = line.number; place = line.place }
+command_at line = record {
+  text = text_of line.bytes;
+  line = line.number;
+  place = line.place;
+  begin = line.place + begin_of line.bytes;
+}
 
 -- why a line refuses its file, if it does
 abbrev pub fault_at : FileLine → Option FileFault
@@ -66,12 +71,12 @@ abbrev pub unless_fault : Option FileFault → JobData → Result JobData FileFa
 unless_fault None job = Ok job
 unless_fault (Some fault) job = Err fault
 
+-- the job of a file's lines
+abbrev pub job_in : List ℕ → List FileLine → JobData
+job_in bytes lines =
+    record { file = bytes; commands = commands_in lines; skipped = skipped_in lines; bytes = length bytes }
+
 -- what a file gives: the job of its commands, or why it is refused
 unfoldable pub job_of : List ℕ → Result JobData FileFault
 job_of bytes =
-    if nat_lt most_bytes (length bytes) then Err (TooLarge (length bytes)) else unless_fault (first_fault (lines_of bytes)) (record { commands = commands_in (lines_of bytes); skipped = skipped_in (lines_of bytes); bytes = length bytes })
-
--- a job after one more line
-abbrev pub with_line : JobData → FileLine → JobData
-with_line job line =
-    record { commands = job.commands ++ commands_in (line ∷ []); skipped = job.skipped + skipped_in (line ∷ []); bytes = job.bytes }
+    if nat_lt most_bytes (length bytes) then Err (TooLarge (length bytes)) else unless_fault (first_fault (lines_of bytes)) (job_in bytes (lines_of bytes))

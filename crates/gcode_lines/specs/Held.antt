@@ -1,12 +1,13 @@
-use Rattle.std.specs.Prelude.{map}
+use Rattle.std.specs.Prelude.{All}
 use Rattle.gcode_lines.specs.declared.job.Job.TheInside.{Inside}
-use Rattle.gcode_lines.specs.declared.job.Placed.{Placed}
-use Rattle.gcode_lines.specs.Job.{Command, JobData}
-
--- a kept command as the command that it stands for
-abbrev pub command_of : Placed → Command
-command_of placed = record { text = placed.text.items; line = placed.line; place = placed.place }
+use Rattle.gcode_lines.specs.Job.{JobData, IsJob}
+use Rattle.gcode_lines.specs.Packed.{job_at, EndsIn}
 
 -- what a job's fields stand for
 abbrev pub data_of : Inside → JobData
-data_of job = record { commands = map command_of job.commands.items; skipped = job.skipped; bytes = job.bytes }
+data_of job = job_at job.file job.places
+
+-- what holds of the fields of every job
+pub record IsHeld (fields : Inside) : Type 0 where
+  pub job : IsJob (data_of fields)
+  pub ends : All (EndsIn fields.file) fields.places.words

@@ -1,18 +1,20 @@
-use Rattle.std.specs.Prelude.{ℕ, ◌+◌, ◌≤◌, List, [], ◌∷◌, ◌++◌, length, map, All}
+use Rattle.std.specs.Prelude.{◌≡◌, ℕ, ◌+◌, ◌*◌, ◌^◌, ◌≤◌, List, length, take, drop, map, All}
 use Rattle.byte_text.specs.Sendable.{IsSendable}
 
 -- the most bytes that a file may have
 abbrev pub most_bytes : ℕ
 most_bytes = 67108864
 
--- a command of a file: its text, its line counted from 1, and the place of its line's first byte
+-- a command of a file: its text, its line counted from 1, the place of its line's first byte, and that of its text's
 pub record Command : Type 0 where
   pub text : List ℕ
   pub line : ℕ
   pub place : ℕ
+  pub begin : ℕ
 
--- what a file gives: its commands in order, how many lines were skipped, and how many bytes it has
+-- what a file gives: its bytes, its commands in order, how many lines were skipped, and how many bytes it has
 pub record JobData : Type 0 where
+  pub file : List ℕ
   pub commands : List Command
   pub skipped : ℕ
   pub bytes : ℕ
@@ -29,6 +31,22 @@ numbers_of job = map (λ c. c.line) job.commands
 abbrev pub places_of : JobData → List ℕ
 places_of job = map (λ c. c.place) job.commands
 
+-- one word: where a text begins in 28 bits, how long it is in 7, and above them its line
+abbrev pub word_at : ℕ → ℕ → ℕ → ℕ
+word_at begin size line = begin + 2 ^ 28 * size + 2 ^ 35 * line
+
+-- a command as one word
+abbrev pub word_of : Command → ℕ
+word_of c = word_at c.begin (length c.text) c.line
+
+-- the commands as words
+abbrev pub packed_of : JobData → List ℕ
+packed_of job = map word_of job.commands
+
+-- a command's text is what the file holds from its place on
+abbrev pub IsCutFrom : List ℕ → Command → Type 0
+IsCutFrom file c = take (length c.text) (drop c.begin file) ≡ c.text
+
 -- every text may be sent
 abbrev pub AllSendable : List (List ℕ) → Type 0
 AllSendable texts = All IsSendable texts
@@ -38,8 +56,3 @@ pub record IsJob (job : JobData) : Type 0 where
   pub sendable : AllSendable (texts_of job)
   pub lines : length job.commands + job.skipped ≤ most_bytes
   pub size : job.bytes ≤ most_bytes
-
--- a job with one more command
-abbrev pub with_command : JobData → Command → JobData
-with_command job command =
-    record { commands = job.commands ++ command ∷ []; skipped = job.skipped; bytes = job.bytes }

@@ -2,8 +2,8 @@ use Rattle.std.specs.Prelude.{ℕ, ◌==◌, List, [], ◌∷◌, length, if◌t
 use Rattle.byte_text.specs.Marks.{has_byte, has_m110}
 use Rattle.gcode_lines.specs.declared.fault.NotOne.{NotOne}
 use Rattle.gcode_lines.specs.declared.fault.NotOne.TheVariants.{LineEnd, Empty, HasM110, TooLong, ControlByte}
-use Rattle.gcode_lines.specs.Job.{JobData}
-use Rattle.gcode_lines.specs.Text.{text_of, is_too_long, has_control}
+use Rattle.gcode_lines.specs.Job.{Command, JobData}
+use Rattle.gcode_lines.specs.Text.{text_of, begin_of, is_too_long, has_control}
 
 -- a text as a command, or the first of the rules that it breaks
 abbrev pub checked : List ℕ → Result (List ℕ) NotOne
@@ -17,4 +17,7 @@ single_of line = if has_byte 10 line then Err LineEnd else checked (text_of line
 -- a job of one command, in a file that is one line
 abbrev pub single_job : List ℕ → List ℕ → JobData
 single_job line text =
-    record { commands = record { text = text; line = 1; place = 0 } ∷ []; skipped = 0; bytes = length line }
+    record { file = line; commands = command ∷ []; skipped = 0; bytes = length line }
+  where
+    command : Command
+    command = record { text = text; line = 1; place = 0; begin = begin_of line }

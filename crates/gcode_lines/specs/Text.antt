@@ -1,4 +1,4 @@
-use Rattle.std.specs.Prelude.{ℕ, ◌-◌, Bool, ◌||◌, ◌&&◌, not, ◌==◌, nat_lt, List, length, take, drop, slice_index, if◌then◌else◌}
+use Rattle.std.specs.Prelude.{ℕ, ◌+◌, ◌-◌, Bool, ◌||◌, ◌&&◌, not, ◌==◌, nat_lt, List, length, take, drop, slice_index, if◌then◌else◌}
 use Rattle.std.specs.List.{prefix_len, suffix_len, before_first, list_any}
 use Rattle.std.specs.Char.{is_ascii_digit}
 use Rattle.byte_text.specs.Marks.{has_m110}
@@ -6,6 +6,10 @@ use Rattle.byte_text.specs.Marks.{has_m110}
 -- `;` begins a comment, `*` a checksum
 abbrev pub is_mark : ℕ → Bool
 is_mark byte = byte == 59 || byte == 42
+
+-- a byte that ends what a line says: its line feed or a mark
+abbrev pub ends_said : ℕ → Bool
+ends_said byte = byte == 10 || is_mark byte
 
 -- a space or a tab
 abbrev pub is_space : ℕ → Bool
@@ -40,6 +44,15 @@ without_number text =
 unfoldable pub text_of : List ℕ → List ℕ
 text_of line = without_number (trimmed (before_first is_mark line))
 
+-- how many bytes of a text are its line number and the spaces and tabs after it
+unfoldable pub number_len : List ℕ → ℕ
+number_len text = length text - length (without_number text)
+
+-- where in a line its text begins: after the blanks in front and the line number
+unfoldable pub begin_of : List ℕ → ℕ
+begin_of line =
+    prefix_len is_blank (before_first is_mark line) + number_len (trimmed (before_first is_mark line))
+
 -- whether a text is passed over: it is empty or would set the printer's line number
 unfoldable pub is_skipped : List ℕ → Bool
 is_skipped text = length text == 0 || has_m110 text
@@ -52,6 +65,10 @@ is_too_long text = nat_lt 79 (length text)
 abbrev pub is_control : ℕ → Bool
 is_control byte = nat_lt byte 32 && not (byte == 9) || byte == 127
 
--- whether a text holds such a byte
+-- a byte that no plain text has: an `M`, or one that no command may hold
+abbrev pub is_odd : ℕ → Bool
+is_odd byte = byte == 77 || is_control byte
+
+-- whether a text holds a byte that no command may hold
 unfoldable pub has_control : List ℕ → Bool
 has_control text = list_any is_control text

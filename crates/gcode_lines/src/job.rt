@@ -1,54 +1,43 @@
 //! The commands of one file.
-ghost use Rattle.std.specs.Prelude.{◌≡◌, ℕ, ◌+◌, ◌<◌, ◌≤◌, ◌⊎◌, [], ◌∷◌, length, slice_index, slice_index_or, MatchResult};
+ghost use Rattle.std.specs.Prelude.{◌≡◌, ℕ, ◌<◌, ◌≤◌, not, ◌==◌, [], length, slice_index, slice_index_or, All};
+ghost use Rattle.std.specs.List.{suffix_len};
 ghost use Rattle.byte_text.specs.Sendable.{IsSendable};
-ghost use Rattle.gcode_lines.specs.Job.{most_bytes, texts_of, numbers_of, places_of, with_command};
-ghost use Rattle.gcode_lines.specs.Commands.{file_line, fault_at, with_line};
+ghost use Rattle.gcode_lines.specs.Job.{most_bytes, texts_of, numbers_of, places_of, packed_of, IsCutFrom};
+ghost use Rattle.gcode_lines.specs.Found.{AreFound};
+ghost use Rattle.gcode_lines.specs.Packed.{job_at, line_start};
 
-use crate::fault::FileFault;
-use crate::text::{has_control, is_skipped, is_too_long, text_from, text_of};
-use byte_text::Text;
-use std::alloc::{AllocError, Global};
+use crate::places::Places;
+use crate::word::{begin_in, length_in, line_in};
+use octo_outside::Blob;
 use std::marker::Model;
 
-/// A command with its line, counted from 1, and the place of that line's first byte.
-#[derive(Drop)]
-pub(crate) struct Placed {
-    text: Text,
-    line: u32,
-    place: u32,
-}
-
-/// The commands of one file, in the file's order, each with its line and that line's place, as a print's progress needs them.
+/// The commands of one file, in the file's order, each with its line and that line's place, as a print's progress needs
+/// them. It holds the file's bytes once, and eight bytes a command.
 #[derive(Drop)]
 pub struct Job {
-    commands: Vec<Placed>,
-    skipped: u32,
-    bytes: u32,
+    file: Blob,
+    places: Places,
 }
 
 impl Model for Job {
-    ghost use Rattle.gcode_lines.specs.Job.{JobData, IsJob};
+    ghost use Rattle.gcode_lines.specs.Job.{JobData};
 
     ghost Value = { JobData };
 
-    ghost use Rattle.gcode_lines.specs.Held.{data_of};
+    ghost use Rattle.gcode_lines.specs.Held.{data_of, IsHeld};
 
     ghost view = { data_of };
 
-    ghost invariant = { λ job. IsJob (data_of job) };
+    ghost invariant = { IsHeld };
 }
 
 impl Job {
-    /// A job with no command yet, of a file of so many bytes.
-    pub(crate) fn new(alloc: Global, bytes: u32) -> Job
-        requires { bytes ≤ most_bytes }
-        ensures { result ≡ record { commands = []; skipped = 0; bytes = bytes } }
+    /// The job of a file in which these commands were found.
+    pub(crate) fn new(file: Blob, places: Places) -> Job
+        requires { AreFound file places }
+        ensures { result ≡ job_at file places }
     {
-        Job {
-            commands: Vec::new(alloc),
-            skipped: 0,
-            bytes,
-        }
+        Job { file, places }
     }
 
     /// How many commands there are.
@@ -56,7 +45,7 @@ impl Job {
         ensures value { result ≡ length self.now.commands }
         ensures few { result ≤ most_bytes }
     {
-        self.commands.len()
+        self.places.words().len()
     }
 
     /// The text of a command, which may be sent.
@@ -65,7 +54,9 @@ impl Job {
         ensures value { result.now ≡ slice_index_or (texts_of self.now) i [] }
         ensures sendable { IsSendable result.now }
     {
-        self.commands[i].text.as_slice()
+        let word = self.places.words()[i];
+        let begin = begin_in(word);
+        &self.file.as_slice()[begin..begin + length_in(word)]
     }
 
     /// The line of a command, counted from 1.
@@ -73,15 +64,15 @@ impl Job {
         requires { i < length self.now.commands }
         ensures { result ≡ slice_index (numbers_of self.now) i }
     {
-        self.commands[i].line
+        line_in(self.places.words()[i])
     }
 
-    /// The place of the first byte of a command's line.
+    /// The place of the first byte of a command's line. It is looked for backward from the text.
     pub fn place(&self, i: usize) -> u32
         requires { i < length self.now.commands }
         ensures { result ≡ slice_index (places_of self.now) i }
     {
-        self.commands[i].place
+        line_start(self.file.as_slice(), begin_in(self.places.words()[i])) as u32
     }
 
     /// How many lines hold no command.
@@ -89,7 +80,7 @@ impl Job {
         ensures value { result ≡ self.now.skipped }
         ensures few { result ≤ most_bytes }
     {
-        self.skipped
+        self.places.skipped()
     }
 
     /// How many bytes the file has.
@@ -97,63 +88,42 @@ impl Job {
         ensures value { result ≡ self.now.bytes }
         ensures few { result ≤ most_bytes }
     {
-        self.bytes
+        self.file.len() as u32
     }
 
-    /// Adds a command. After an error the job is as before.
-    fn push(&mut self, text: &[u8], line: u32, place: u32) -> Result<(), AllocError>
-        requires sendable { IsSendable text.now }
-        requires room { length self.old.commands + self.old.skipped < most_bytes }
-        ensures { MatchResult result
-            (λ _. self.new ≡ with_command self.old (record { text = text.now; line = line; place = place }))
-            (λ _. self.new ≡ self.old) }
+    /// The whole file.
+    pub fn text(&self) -> &[u8]
+        ensures { result.now ≡ self.now.file }
     {
-        let placed = Placed {
-            text: text_from(text),
-            line,
-            place,
-        };
-        match self.commands.push(placed) {
-            Ok(()) => Ok(()),
-            Err(_) => Err(AllocError),
-        }
+        self.file.as_slice()
     }
 
-    /// Counts a line that holds no command.
-    fn skip(&mut self)
-        requires { length self.old.commands + self.old.skipped < most_bytes }
-        ensures { self.new ≡ record self.old { skipped = self.old.skipped + 1 } }
+    /// The commands as words of 64 bits, in order. The word of a command is `t + 2^28 * n + 2^35 * l` if its text begins at
+    /// byte t of the file, has n bytes and is in line l, counted from 1.
+    pub fn packed(&self) -> &[u64]
+        ensures words { result.now ≡ packed_of self.now }
+        ensures texts { All (IsCutFrom self.now.file) self.now.commands }
     {
-        self.skipped += 1;
+        self.places.words()
     }
+}
 
-    /// Reads one line. After a fault the job is as before.
-    #[tactic(auto, using(crate::proofs::Sendable::sendable_text))]
-    pub(crate) fn read_line(
-        &mut self,
-        bytes: &[u8],
-        number: u32,
-        place: u32,
-    ) -> Result<(), FileFault>
-        requires { length self.old.commands + self.old.skipped < most_bytes }
-        ensures { let line = file_line bytes.now number place in MatchResult result
-            (λ _. (fault_at line ≡ None) × (self.new ≡ with_line self.old line))
-            (λ fault. ((fault ≡ FileFault.NoMemory) ⊎ (fault_at line ≡ Some fault)) × (self.new ≡ self.old)) }
-    {
-        let text = text_of(bytes);
-        if is_skipped(text) {
-            self.skip();
-            return Ok(());
-        }
-        if is_too_long(text) {
-            return Err(FileFault::TooLong { line: number });
-        }
-        if has_control(text) {
-            return Err(FileFault::ControlByte { line: number });
-        }
-        match self.push(text, number, place) {
-            Ok(()) => Ok(()),
-            Err(AllocError) => Err(FileFault::NoMemory),
-        }
-    }
+/// The first place of the line in which a place of the file is.
+fn line_start(file: &[u8], place: usize) -> usize
+    requires { place ≤ length file.now }
+    ensures { result ≡ line_start file.now place }
+{
+    place - bytes_after_feed(&file[..place])
+}
+
+/// How many bytes are after the last line feed.
+fn bytes_after_feed(bytes: &[u8]) -> usize
+    ensures value { result ≡ suffix_len (λ byte. not (byte == 10)) bytes.now }
+    ensures fits { result ≤ length bytes.now }
+{
+    bytes
+        .iter()
+        .rev()
+        .take_while(|byte| **byte != b'\n')
+        .count()
 }

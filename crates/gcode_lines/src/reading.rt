@@ -1,52 +1,58 @@
 //! A file's bytes, read line by line.
-ghost use Rattle.std.specs.Prelude.{◌≡◌, ℕ, ◌⊎◌, ◌==◌, ◌≤◌, length, IfOk};
-ghost use Rattle.std.specs.List.{before_first, position_or_len};
+ghost use Rattle.std.specs.Prelude.{◌≡◌, ◌⊎◌, IfOk, MatchResult};
 ghost use Rattle.gcode_lines.specs.Job.{texts_of, AllSendable};
 ghost use Rattle.gcode_lines.specs.Commands.{job_of};
+ghost use Rattle.gcode_lines.specs.Found.{AreFound, IsRefused};
 
 use crate::fault::FileFault;
 use crate::job::Job;
-use std::alloc::Global;
+use crate::line::first_line;
+use crate::places::Places;
+use octo_outside::Blob;
+use std::alloc::{AllocError, Global};
 
 /// The most bytes of a file.
 const MOST_BYTES: usize = 67_108_864;
 
-/// Where the first line feed stands, or the length.
-fn line_len(bytes: &[u8]) -> usize
-    ensures value { result ≡ position_or_len (λ byte. byte == 10) bytes.now }
-    ensures fits { result ≤ length bytes.now }
-{
-    bytes.iter().take_while(|byte| **byte != b'\n').count()
-}
-
-/// What stands before the first line feed.
-fn first_line(bytes: &[u8]) -> &[u8]
-    ensures value { result.now ≡ before_first (λ byte. byte == 10) bytes.now }
-    ensures fits { length result.now ≤ length bytes.now }
-{
-    &bytes[..line_len(bytes)]
-}
-
-/// The commands of a file of at most 67,108,864 bytes. Lines that are empty without their comments or hold `M110` are
-/// counted as skipped. The first line whose text has over 79 bytes or a control byte refuses the file; NoMemory may come
-/// at any point.
-pub fn read_commands(alloc: Global, bytes: &[u8]) -> Result<Job, FileFault>
-    ensures exact { (result ≡ Err FileFault.NoMemory) ⊎ (result ≡ job_of bytes.now) }
-    ensures sendable { IfOk result (λ job. AllSendable (texts_of job)) }
+/// Where the commands of a file are, or why there are none.
+fn find_commands(alloc: Global, bytes: &[u8]) -> Result<Places, FileFault>
+    ensures { MatchResult result (AreFound bytes.now) (IsRefused bytes.now) }
 {
     if bytes.len() > MOST_BYTES {
         return Err(FileFault::TooLarge {
             bytes: bytes.len() as u64,
         });
     }
-    let mut job = Job::new(alloc, bytes.len() as u32);
+    let mut places = Places::new(alloc);
     let mut at = 0;
     let mut number = 0;
     while at < bytes.len() {
         let line = first_line(&bytes[at..]);
         number += 1;
-        job.read_line(line, number, at as u32)?;
-        at += line.len() + 1;
+        places.read_line(line, number, at)?;
+        at += line.bytes.len() + 1;
     }
-    Ok(job)
+    Ok(places)
+}
+
+/// The commands of a file of at most 67,108,864 bytes, which the job keeps as they are. Lines that are empty without
+/// their comments or hold `M110` are counted as skipped. The first line whose text has over 79 bytes or a control byte
+/// refuses the file; NoMemory may come at any point. A file that is refused is dropped.
+pub fn take_commands(alloc: Global, bytes: Blob) -> Result<Job, FileFault>
+    ensures exact { (result ≡ Err FileFault.NoMemory) ⊎ (result ≡ job_of bytes) }
+    ensures sendable { IfOk result (λ job. AllSendable (texts_of job)) }
+{
+    let places = find_commands(alloc, bytes.as_slice())?;
+    Ok(Job::new(bytes, places))
+}
+
+/// The commands of a copy of these bytes, as `take_commands` finds them.
+pub fn read_commands(alloc: Global, bytes: &[u8]) -> Result<Job, FileFault>
+    ensures exact { (result ≡ Err FileFault.NoMemory) ⊎ (result ≡ job_of bytes.now) }
+    ensures sendable { IfOk result (λ job. AllSendable (texts_of job)) }
+{
+    match Blob::from_slice(alloc, bytes) {
+        Ok(bytes) => take_commands(alloc, bytes),
+        Err(AllocError) => Err(FileFault::NoMemory),
+    }
 }

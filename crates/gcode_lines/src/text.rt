@@ -1,19 +1,20 @@
 //! The text of one line: what stands before a `;` comment or a `*` checksum, without blanks at both ends and without
 //! the line number `N..` that hosts put in front, as in the G-code that Marlin reads. A text with `M110` is passed
 //! over, since Marlin would take a new line number from it.
-ghost use Rattle.std.specs.Prelude.{◌≡◌, ◌≤◌, length};
+ghost use Rattle.std.specs.Prelude.{◌≡◌, ◌+◌, ◌≤◌, ◌||◌, false, fold, length};
 ghost use Rattle.std.specs.Bool.{OnTrue};
 ghost use Rattle.std.specs.List.{before_first, position_or_len, prefix_len, suffix_len};
-ghost use Rattle.gcode_lines.specs.Text.{is_mark, is_space, is_blank, is_control, is_numbered, is_skipped, is_too_long, has_control, trimmed, without_number, text_of};
+ghost use Rattle.gcode_lines.specs.Text.{is_mark, is_space, is_blank, is_control, is_numbered, is_skipped, is_too_long, is_odd, has_control, trimmed, without_number, text_of, begin_of};
 ghost use Rattle.std.specs.Char.{is_ascii_digit};
 
+use crate::line::Line;
 use byte_text::{Text, has_m110};
 
 /// The most bytes of a command, so that its frame fits a line of Marlin's buffer.
 const MOST_TEXT: usize = 79;
 
 /// A byte that begins a comment or a checksum.
-fn is_mark(byte: u8) -> bool
+pub(crate) fn is_mark(byte: u8) -> bool
     ensures { result ≡ is_mark byte }
 {
     byte == b';' || byte == b'*'
@@ -114,7 +115,8 @@ fn is_numbered(text: &[u8]) -> bool
 /// A text without its line number, `N` and digits, and the spaces and tabs behind it.
 #[tactic(auto, unfolding(crate::specs::Text::without_number, crate::specs::Text::without_front))]
 fn without_number(text: &[u8]) -> &[u8]
-    ensures { result.now ≡ without_number text.now }
+    ensures value { result.now ≡ without_number text.now }
+    ensures fits { length result.now ≤ length text.now }
 {
     if !is_numbered(text) {
         return text;
@@ -124,12 +126,68 @@ fn without_number(text: &[u8]) -> &[u8]
     &text[spaces_in_front(text)..]
 }
 
-/// What a line says: without comment, checksum, blanks and line number.
-#[tactic(auto, unfolding(crate::specs::Text::text_of))]
+/// A text, and where it begins in its line.
+#[derive(Clone, Copy)]
+pub(crate) struct TextAt<'a> {
+    pub(crate) begin: usize,
+    pub(crate) text: &'a [u8],
+}
+
+/// The text in what a line says: without blanks at both ends and line number.
+#[tactic(auto, unfolding(crate::specs::Text::text_of, crate::specs::Text::begin_of, crate::specs::Text::number_len))]
+pub(crate) fn text_in(line: Line<'_>) -> TextAt<'_>
+    ensures text { result.text.now ≡ text_of line.entry.bytes.now }
+    ensures begin { result.begin ≡ begin_of line.entry.bytes.now }
+    ensures fits { result.begin + length result.text.now ≤ length line.entry.bytes.now }
+{
+    let trimmed = trimmed(line.said);
+    let text = without_number(trimmed);
+    TextAt {
+        begin: blanks_in_front(line.said) + (trimmed.len() - text.len()),
+        text,
+    }
+}
+
+/// The text of a line: what it says without comment, checksum, blanks and line number.
 pub(crate) fn text_of(line: &[u8]) -> &[u8]
     ensures { result.now ≡ text_of line.now }
 {
-    without_number(trimmed(before_mark(line)))
+    let line = Line {
+        bytes: line,
+        said: before_mark(line),
+    };
+    text_in(line).text
+}
+
+/// A byte that no plain text has.
+fn is_odd(byte: u8) -> bool
+    ensures { result ≡ is_odd byte }
+{
+    byte == b'M' || is_control(byte)
+}
+
+/// Whether a byte of a text is odd. It looks at every byte, so that many are looked at at once.
+fn has_odd(text: &[u8]) -> bool
+    ensures { result ≡ fold (λ odd byte. odd || is_odd byte) false text.now }
+{
+    text.iter().fold(false, |odd, byte| odd || is_odd(*byte))
+}
+
+/// Whether a text has as many bytes as a command may.
+fn has_fit_length(text: &[u8]) -> bool
+    ensures some { OnTrue result (1 ≤ length text.now) }
+    ensures short { OnTrue result (length text.now ≤ 79) }
+{
+    !text.is_empty() && text.len() <= MOST_TEXT
+}
+
+/// Whether a text is a command by its length and its bytes alone, as most are. That saves the tests that follow.
+pub(crate) fn is_plain(text: &[u8]) -> bool
+    ensures kept { OnTrue result (is_skipped text.now ≡ false) }
+    ensures short { OnTrue result (is_too_long text.now ≡ false) }
+    ensures sound { OnTrue result (has_control text.now ≡ false) }
+{
+    has_fit_length(text) && !has_odd(text)
 }
 
 /// Whether a text holds a byte that no command may hold.

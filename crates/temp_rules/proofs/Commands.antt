@@ -10,7 +10,7 @@ use Rattle.temp_rules.specs.declared.limits.TooHot.{TooHot}
 use Rattle.temp_rules.specs.declared.job.HotLine.{HotLine}
 
 abbrev no_command : Command
-no_command = record { text = []; line = 0; place = 0 }
+no_command = record { text = []; line = 0; place = 0; begin = 0 }
 
 abbrev hot_at : ℕ → Option TooHot → Option HotLine
 hot_at line hot = option_map (λ h. record { line = line; asked = h.asked; limit = h.limit }) hot

@@ -1,13 +1,27 @@
 //! The temperatures that a command asks for, by Marlin's `M104`, `M109`, `M140` and `M190`.
-ghost use Rattle.std.specs.Prelude.{◌≡◌, ◌≤◌, length};
+ghost use Rattle.std.specs.Prelude.{◌≡◌, ◌≤◌, [], length};
+ghost use Rattle.std.specs.Bool.{OnFalse};
 ghost use Rattle.gcode_words.specs.Words.{words_of};
-ghost use Rattle.temp_rules.specs.Asked.{whole_part, first_code, asking_code, value_asked, asking_of, degrees_up};
+ghost use Rattle.temp_rules.specs.Asked.{whole_part, first_code, asking_code, value_asked, asking_of, asked_of, degrees_up};
+ghost use Rattle.temp_rules.specs.declared.heater.Heater.TheVariants.{Tool, Bed};
 
 use super::heater::{Asking, Heater};
 use gcode_words::{CodeWord, words};
 
 /// Millionths in one degree.
 pub(crate) const MILLION: u64 = 1_000_000;
+
+/// Whether a command may ask a heater, as its first byte shows: most commands begin with another letter than `M`.
+#[tactic(auto, unfolding(crate::specs::Asked::asked_of, crate::specs::Asked::asking_of))]
+pub(crate) fn may_ask(text: &[u8]) -> bool
+    ensures tool { OnFalse result (asked_of Tool text.now ≡ []) }
+    ensures bed { OnFalse result (asked_of Bed text.now ≡ []) }
+{
+    match text {
+        [first, ..] => !first.is_ascii_alphabetic() || first.to_ascii_uppercase() == b'M',
+        [] => false,
+    }
+}
 
 /// How a command asks a heater, None where it does not.
 #[tactic(auto, unfolding(crate::specs::Asked::asking_of))]

@@ -3,7 +3,7 @@ ghost use Rattle.std.specs.Prelude.{◌≡◌, MatchResult};
 ghost use Rattle.temp_rules.specs.Asked.{asked_of};
 ghost use Rattle.temp_rules.specs.Hot.{too_hot, hot_of};
 
-use super::asked::{MILLION, read_asking, round_up};
+use super::asked::{MILLION, may_ask, read_asking, round_up};
 use super::heater::Heater;
 use gcode_words::words;
 use thiserror::Error;
@@ -30,6 +30,9 @@ pub fn check(text: &[u8], limits: &Limits) -> Result<(), TooHot>
         (λ _. hot_of limits.now text.now ≡ None)
         (λ hot. hot_of limits.now text.now ≡ Some hot) }
 {
+    if !may_ask(text) {
+        return Ok(());
+    }
     check_heater(text, Heater::Tool, limits.tool)?;
     check_heater(text, Heater::Bed, limits.bed)
 }

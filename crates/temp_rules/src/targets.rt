@@ -3,7 +3,7 @@ ghost use Rattle.std.specs.Prelude.{◌≡◌};
 ghost use Rattle.temp_rules.specs.Asked.{asked_of};
 ghost use Rattle.temp_rules.specs.Most.{most_degrees, no_targets, with_text};
 
-use super::asked::{read_asking, round_up};
+use super::asked::{may_ask, read_asking, round_up};
 use super::heater::Heater;
 use gcode_words::words;
 use std::marker::Model;
@@ -35,6 +35,9 @@ impl Targets {
     pub fn see(&mut self, text: &[u8])
         ensures { self.new ≡ with_text self.old text.now }
     {
+        if !may_ask(text) {
+            return;
+        }
         self.tool = self.tool.max(most_asked(text, Heater::Tool));
         self.bed = self.bed.max(most_asked(text, Heater::Bed));
     }

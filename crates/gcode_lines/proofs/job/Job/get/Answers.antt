@@ -1,21 +1,29 @@
-use Rattle.std.proofs.Common.{◌<◌, length, map, ap, sym, subst, arith, [], ◌∙◌}
+use Rattle.std.proofs.Common.{◌<◌, [], length, get_or, ap, sym, subst, ◌∙◌, arith}
 use Rattle.std.proofs.lemmas.List.{length-map}
 use Rattle.std.proofs.lemmas.List.Elements.{All-get_or}
 use Rattle.byte_text.specs.Sendable.{IsSendable}
-use Rattle.gcode_lines.specs.Held.{command_of, data_of}
+use Rattle.gcode_lines.specs.Held.{data_of}
 use Rattle.gcode_lines.specs.Job.{texts_of}
-use Rattle.gcode_lines.proofs.Kept.{at_kept}
+use Rattle.gcode_lines.specs.Packed.{begin_in, length_in, command_in}
+use Rattle.gcode_lines.proofs.Kept.{at_word, text_in}
 use Rattle.gcode_lines.proofs.job.Job.get.Goals as goal
 
 pub returns-clause-value : goal.returns-clause-value
 returns-clause-value c =
-    let within : c.args.i < length (map command_of c.self.inside.commands.items) = omega (arith, ap (λ job. length job.commands) c.self.view_is) in
-    rw (← c.self.view_is) (c.as_slice.ensures.value ∙ at_kept (λ k. k.text) c.self.inside.commands.items c.args.i c.index.result.now [] within c.index.ensures)
+    let file = c.self.inside.file in
+    let words = c.self.inside.places.words in
+    let inside : c.args.i < length words = omega (arith, ap (λ job. length job.commands) c.self.view_is, length-map words (command_in file)) in
+    let begin = c.begin_in-begin.ensures ∙ ap (λ shown. begin_in (get_or shown c.args.i 0)) c.words.ensures in
+    let size = c.length_in.ensures ∙ ap (λ shown. length_in (get_or shown c.args.i 0)) c.words.ensures in
+    rw (← c.self.view_is) (text_in file c.as_slice.result.now (get_or words c.args.i 0) c.begin_in-begin.result c.length_in.result c.as_slice.ensures begin size ∙ at_word (λ k. k.text) file words c.args.i [] inside)
 
 pub returns-clause-sendable : goal.returns-clause-sendable
 returns-clause-sendable c =
-    let commands = map command_of c.self.inside.commands.items in
-    let within : c.args.i < length commands = omega (arith, ap (λ job. length job.commands) c.self.view_is) in
-    let placed : c.args.i < length (texts_of (data_of c.self.inside)) = omega (arith, length-map commands (λ k. k.text)) in
-    let read = c.as_slice.ensures.value ∙ at_kept (λ k. k.text) c.self.inside.commands.items c.args.i c.index.result.now [] within c.index.ensures in
-    subst IsSendable (sym read) (All-get_or IsSendable (texts_of (data_of c.self.inside)) c.args.i [] placed c.self.invariant.sendable)
+    let file = c.self.inside.file in
+    let words = c.self.inside.places.words in
+    let inside : c.args.i < length words = omega (arith, ap (λ job. length job.commands) c.self.view_is, length-map words (command_in file)) in
+    let there : c.args.i < length (texts_of (data_of c.self.inside)) = omega (arith, length-map (data_of c.self.inside).commands (λ k. k.text), length-map words (command_in file)) in
+    let begin = c.begin_in-begin.ensures ∙ ap (λ shown. begin_in (get_or shown c.args.i 0)) c.words.ensures in
+    let size = c.length_in.ensures ∙ ap (λ shown. length_in (get_or shown c.args.i 0)) c.words.ensures in
+    let read = text_in file c.as_slice.result.now (get_or words c.args.i 0) c.begin_in-begin.result c.length_in.result c.as_slice.ensures begin size ∙ at_word (λ k. k.text) file words c.args.i [] inside in
+    subst IsSendable (sym read) (All-get_or IsSendable (texts_of (data_of c.self.inside)) c.args.i [] there c.self.invariant.job.sendable)

@@ -1,0 +1,123 @@
+//! Where the commands of a file are, found line by line.
+ghost use Rattle.std.specs.Prelude.{◌≡◌, ◌+◌, ◌<◌, ◌≤◌, ◌++◌, ◌⊎◌, [], ◌∷◌, None, Some, length, MatchResult};
+ghost use Rattle.gcode_lines.specs.Job.{most_bytes, word_at};
+ghost use Rattle.gcode_lines.specs.Commands.{file_line, fault_at};
+ghost use Rattle.gcode_lines.specs.Packed.{places_after};
+
+use crate::fault::FileFault;
+use crate::line::Line;
+use crate::text::{TextAt, has_control, is_plain, is_skipped, is_too_long, text_in};
+use crate::word::word;
+use std::alloc::{AllocError, Global};
+use std::marker::Model;
+
+/// The commands found so far, a word each, and how many lines hold none.
+#[derive(Drop)]
+pub(crate) struct Places {
+    words: Vec<u64>,
+    skipped: u32,
+}
+
+impl Model for Places {
+    ghost use Rattle.gcode_lines.specs.Packed.{PlacesData};
+
+    ghost Value = { PlacesData };
+
+    ghost view = { λ places. record { words = places.words.items; skipped = places.skipped } };
+}
+
+impl Places {
+    /// No line was read yet.
+    pub(crate) fn new(alloc: Global) -> Self
+        ensures { result ≡ record { words = []; skipped = 0 } }
+    {
+        Places {
+            words: Vec::new(alloc),
+            skipped: 0,
+        }
+    }
+
+    /// The words of the commands.
+    pub(crate) fn words(&self) -> &[u64]
+        ensures { result.now ≡ self.now.words }
+    {
+        self.words.as_slice()
+    }
+
+    /// How many lines hold no command.
+    pub(crate) fn skipped(&self) -> u32
+        ensures { result ≡ self.now.skipped }
+    {
+        self.skipped
+    }
+
+    /// Adds a command's word. After an error all is as before.
+    fn push(&mut self, word: u64) -> Result<(), AllocError>
+        ensures { MatchResult result
+            (λ _. self.new ≡ record self.old { words = self.old.words ++ word ∷ [] })
+            (λ _. self.new ≡ self.old) }
+    {
+        match self.words.push(word) {
+            Ok(()) => Ok(()),
+            Err(_) => Err(AllocError),
+        }
+    }
+
+    /// Counts a line that holds no command.
+    fn skip(&mut self)
+        requires { self.old.skipped < most_bytes }
+        ensures { self.new ≡ record self.old { skipped = self.old.skipped + 1 } }
+    {
+        self.skipped += 1;
+    }
+
+    /// Adds the text of a line as a command.
+    fn add(&mut self, found: TextAt<'_>, number: u32, place: usize) -> Result<(), FileFault>
+        requires short { length found.text.now ≤ 79 }
+        requires counted { number ≤ most_bytes }
+        requires inside { place + found.begin ≤ most_bytes }
+        ensures { MatchResult result
+            (λ _. self.new ≡ record self.old {
+              words = self.old.words
+                  ++ word_at (place + found.entry.begin) (length found.entry.text.now) number ∷ [];
+            })
+            (λ fault. (fault ≡ FileFault.NoMemory) × (self.new ≡ self.old)) }
+    {
+        match self.push(word(place + found.begin, found.text.len(), number)) {
+            Ok(()) => Ok(()),
+            Err(AllocError) => Err(FileFault::NoMemory),
+        }
+    }
+
+    /// Reads a line by its number and the place of its first byte. After a fault all is as before.
+    pub(crate) fn read_line(
+        &mut self,
+        line: Line<'_>,
+        number: u32,
+        place: usize,
+    ) -> Result<(), FileFault>
+        requires few { self.old.skipped < most_bytes }
+        requires counted { number ≤ most_bytes }
+        requires inside { place + length line.bytes.now ≤ most_bytes }
+        ensures { let line = file_line line.entry.bytes.now number place in MatchResult result
+            (λ _. (fault_at line ≡ None) × (self.new ≡ places_after self.old line))
+            (λ fault. ((fault ≡ FileFault.NoMemory) ⊎ (fault_at line ≡ Some fault))
+            × (self.new ≡ self.old)) }
+    {
+        let found = text_in(line);
+        if is_plain(found.text) {
+            return self.add(found, number, place);
+        }
+        if is_skipped(found.text) {
+            self.skip();
+            return Ok(());
+        }
+        if is_too_long(found.text) {
+            return Err(FileFault::TooLong { line: number });
+        }
+        if has_control(found.text) {
+            return Err(FileFault::ControlByte { line: number });
+        }
+        self.add(found, number, place)
+    }
+}
