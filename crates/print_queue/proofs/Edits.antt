@@ -6,7 +6,7 @@ use Rattle.print_queue.specs.declared.entry.QueueEntry.{QueueEntry}
 use Rattle.print_queue.specs.Rows.{is_before, is_key, held, insert_row, without, without_copy}
 use Rattle.print_queue.specs.Lawful.{IsApart}
 use Rattle.print_queue.proofs.Pairs.{Pairs, each_so, each_both}
-use Rattle.print_queue.proofs.Tests.{before_turned, before_one_way, before_chain, key_other, apart_turned}
+use Rattle.print_queue.proofs.Comparisons.{before_turned, before_one_way, before_chain, key_other, apart_turned}
 
 -- an entry that stands in front of another
 abbrev pub Above : QueueEntry → QueueEntry → Type 0

@@ -1,5 +1,5 @@
 pub mod Pairs
-pub mod Tests
+pub mod Comparisons
 pub mod Edits
 pub mod Kept
 pub mod Next

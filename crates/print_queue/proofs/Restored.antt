@@ -12,7 +12,7 @@ use Rattle.print_queue.specs.Rows.{is_key, is_of, held, insert_row, without, wit
 use Rattle.print_queue.specs.Lawful.{IsApart, IsWhole, IsLawful, HasPlace}
 use Rattle.print_queue.specs.Calls.{QueueData, restored, CanRestore, put_answer, new_answer}
 use Rattle.print_queue.proofs.Pairs.{Pairs, each_both}
-use Rattle.print_queue.proofs.Tests.{key_user, key_name, bytes_same, apart_turned}
+use Rattle.print_queue.proofs.Comparisons.{key_user, key_name, bytes_same, apart_turned}
 use Rattle.print_queue.proofs.Edits.{with_left, held_first, held_without, free_after, without_free, each_held, insert_restores, copy_lowers}
 use Rattle.print_queue.proofs.Kept.{above_from, apart_from, count_cons, count_filter, lawful_set}
 

@@ -1,17 +1,18 @@
 -- A sort makes sound rows lawful.
-use Rattle.std.proofs.Common.{◌≡◌, ◌≢◌, ◌⊎◌, ℕ, ◌<◌, ◌≤◌, inl, inr, List, length, get_or, refl, sym, ap, ◌∙◌, subst, arith}
+use Rattle.std.proofs.Common.{◌≡◌, ◌≢◌, ◌⊎◌, ℕ, ◌-◌, ◌<◌, ◌≤◌, inl, inr, true, List, length, get_or, refl, sym, ap, ◌∙◌, subst, arith}
 use Rattle.std.specs.Cmp.{IsStrictWeakOrder}
 use Rattle.std.specs.List.{AllPairs, swap}
 use Rattle.std.specs.List.Sorted.{IsPermutation, IsSortedBy}
 use Rattle.std.specs.Ordering.{is_lt}
 use Rattle.std.proofs.lemmas.Grind.{common_steps}
-use Rattle.std.proofs.lemmas.Bool.{cases_eq, cases_order}
+use Rattle.std.proofs.lemmas.Bool.{cases_eq, cases_order, false≢true}
+use Rattle.std.proofs.lemmas.List.{get_or_default}
 use Rattle.std.proofs.lemmas.List.Edits.{swapped_from_swap, length-swap}
 use Rattle.std.proofs.lemmas.List.Sorted.{IsPermutation-keeps, All-permutation, sum_by-IsPermutation, sorted_far}
 use Rattle.print_queue.specs.declared.entry.QueueEntry.{QueueEntry}
 use Rattle.print_queue.specs.Rows.{is_before, compared}
-use Rattle.print_queue.specs.Lawful.{IsApart, IsWhole, IsSound, IsLawful}
-use Rattle.print_queue.proofs.Tests.{before_turned, apart_turned}
+use Rattle.print_queue.specs.Lawful.{IsApart, IsWhole, IsSound, IsOrdered, IsLawful}
+use Rattle.print_queue.proofs.Comparisons.{before_turned, before_one_way, apart_turned}
 
 -- each two rows at different places are apart
 abbrev AllApart : List QueueEntry → Type 0
@@ -84,3 +85,13 @@ lawful_sorted rows ys sound moved up =
       ordered = λ i j d below within.
           before_turned (get_or ys j d) (get_or ys i d) (sorted_far is_before before_weak ys up i j d (omega arith) within) (λ same. (sound'.apart i j d below within).arrival (sym same));
     }
+
+-- rows of which one is before the one in front of it aren't in order
+pub not_ordered : (rows : List QueueEntry) (i : ℕ) (row front : QueueEntry) → 1 ≤ i → i < length rows → row ≡ get_or rows i row → front ≡ get_or rows (i - 1) front → is_before row front ≡ true → IsOrdered rows → ⊥
+not_ordered rows i row front some within here there first ordered =
+    let e = ordered (i - 1) i row (omega arith) within in
+    let front' : front ≡ get_or rows (i - 1) row = there ∙ get_or_default rows (i - 1) front row (omega arith) in
+    let turned : is_before front row ≡ true =
+    ap (is_before front) here ∙ ap (λ (f : QueueEntry). is_before f (get_or rows i row)) front' ∙ e
+    in
+    false≢true (sym (before_one_way front row turned) ∙ first)

@@ -45,10 +45,11 @@ impl Queue {
         }
     }
 
-    /// The queue of exactly these entries; takes no memory.
+    /// The queue of exactly these entries, which keep their order if it is that of printing; takes no memory.
     pub fn from_entries(entries: EntryList) -> Self
         requires { IsSound entries }
         ensures same { IsPermutation entries result.rows }
+        ensures kept { IsOrdered entries → result.rows ≡ entries }
         ensures lawful { IsLawful result.rows }
     {
         let mut entries = entries.into_items();
