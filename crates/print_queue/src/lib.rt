@@ -1,0 +1,15 @@
+//! The queue of prints: entries of users by priority and arrival, each for a number of copies of a material.
+#![tactic(auto)]
+
+mod entry;
+mod order;
+mod queue;
+mod refusal;
+mod rows;
+
+pub use entry::{EntryList, QueueEntry};
+pub use queue::Queue;
+pub use refusal::{Put, QueueRefusal};
+
+#[cfg(test)]
+mod tests;
