@@ -1,0 +1,16 @@
+//! The parts of a `multipart/form-data` body: an uploaded file and the form's two flags.
+#![tactic(auto)]
+
+mod delimiters;
+mod multipart;
+mod parameters;
+mod part;
+mod quotes;
+mod text;
+mod types;
+
+pub use multipart::multipart;
+pub use types::{PartFault, Parts, Span};
+
+#[cfg(test)]
+mod tests;
