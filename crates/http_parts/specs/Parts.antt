@@ -1,6 +1,6 @@
 -- What the parts of a form say.
-use Rattle.std.specs.Prelude.{◌≡◌, ℕ, ◌+◌, ◌-◌, Bool, true, false, ◌&&◌, List, [], ◌∷◌, ◌++◌, length, map, find, Option, Some, None, IfSome, MatchOption, is_some, is_none, unwrap_or, option_map, option_and_then, Result, Ok, Err, if◌then◌else◌, reverse, filter_map, codes}
-use Rattle.std.specs.Option.{option_map_or}
+use Rattle.std.specs.Prelude.{◌≡◌, ℕ, ◌+◌, ◌-◌, Bool, true, false, ◌&&◌, List, [], ◌∷◌, ◌++◌, length, map, find, Option, Some, None, IfSome, MatchOption, is_some, is_none, unwrap_or, option_map, option_and_then, Result, Ok, Err, if◌then◌else◌, filter_map, codes}
+use Rattle.std.specs.Option.{option_map_or, option_or}
 use Rattle.std.specs.Char.{to_ascii_lowercase}
 use Rattle.std.specs.Str.{bytes_eq}
 use Rattle.memchr.specs.Find.{first_of, matches}
@@ -9,7 +9,7 @@ use Rattle.http_parts.specs.declared.types.Parts.{Parts}
 use Rattle.http_parts.specs.declared.types.PartFault.{PartFault}
 use Rattle.http_parts.specs.declared.types.PartFault.TheVariants as fault
 use Rattle.http_parts.specs.declared.part.Field.{Field}
-use Rattle.http_parts.specs.declared.multipart.Seen.{Seen}
+use Rattle.http_parts.specs.declared.form.Seen.{Seen}
 use Rattle.http_parts.specs.Texts.{IsWithin, text_at, place_any_case}
 use Rattle.http_parts.specs.Values.{has_type, parameter, span_of, boundary_of}
 use Rattle.http_parts.specs.Delimiters.{Reaches, IsUnclosed}
@@ -44,7 +44,8 @@ is_bad body part = is_none (field_of body part)
 
 -- the last element that passes a test
 abbrev pub last_such : {A : Type 0} → (A → Bool) → List A → Option A
-last_such test list = find test (reverse list)
+last_such test [] = None
+last_such test (x ∷ xs) = option_or (last_such test xs) (if test x then Some x else None)
 
 abbrev pub is_named : List ℕ → List ℕ → Field → Bool
 is_named body name field = bytes_eq (text_at body field.name) name
@@ -61,8 +62,15 @@ is_true body field = bytes_eq (map to_ascii_lowercase (text_at body field.conten
 pub record IsForm (body : List ℕ) (fields : List Field) (parts : Parts) : Type 0 where
   pub name : parts.name ≡ option_and_then (λ (field : Field). field.filename) (last_such (is_file body) fields)
   pub file : parts.file ≡ option_map (λ (field : Field). field.content) (last_such (is_file body) fields)
-  pub select : parts.select ≡ option_map_or (is_true body) false (last_such (is_named body (codes "select")) fields)
-  pub print : parts.print ≡ option_map_or (is_true body) false (last_such (is_named body (codes "print")) fields)
+  pub select : parts.select ≡ option_map_or (is_true body) (last_such (is_named body (codes "select")) fields) false
+  pub print : parts.print ≡ option_map_or (is_true body) (last_such (is_named body (codes "print")) fields) false
+
+-- what parts say after one more field
+pub record AddsField (body : List ℕ) (field : Field) (old new : Parts) : Type 0 where
+  pub name : new.name ≡ (if is_file body field then field.filename else old.name)
+  pub file : new.file ≡ (if is_file body field then Some field.content else old.file)
+  pub select : new.select ≡ (if is_named body (codes "select") field then is_true body field else old.select)
+  pub print : new.print ≡ (if is_named body (codes "print") field then is_true body field else old.print)
 
 -- what a body of this boundary says. A missing end is told before a bad part, and of the bad parts the first
 pub data BodySays : List ℕ → List ℕ → Result Parts PartFault → Type 0 where

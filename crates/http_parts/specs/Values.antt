@@ -1,6 +1,7 @@
 -- The value of a header field: a type, and parameters after it.
-use Rattle.std.specs.Prelude.{ℕ, ◌+◌, Bool, true, false, ◌&&◌, ◌||◌, not, ◌==◌, nat_eq, nat_le, List, [], ◌∷◌, length, drop, Option, Some, None, if◌then◌else◌, is_some, option_map, option_and_then, codes}
+use Rattle.std.specs.Prelude.{ℕ, ◌+◌, Bool, true, false, ◌&&◌, ◌||◌, not, ◌==◌, nat_eq, nat_le, List, [], ◌∷◌, length, drop, Option, Some, None, if◌then◌else◌, option_map, option_and_then, codes}
 use Rattle.std.specs.List.{prefix_len, starts_with}
+use Rattle.std.specs.Option.{option_or}
 use Rattle.http_parts.specs.declared.types.Span.{Span}
 use Rattle.http_parts.specs.declared.quotes.Quoting.{Quoting}
 use Rattle.http_parts.specs.declared.quotes.Quoting.TheVariants.{Outside, Inside, Escaped}
@@ -37,12 +38,16 @@ abbrev pub key_end : List ℕ → List ℕ → Option ℕ
 key_end key bytes =
     if begins_any_case key (drop (prefix_len is_blank bytes) bytes) then Some (prefix_len is_blank bytes + length key) else None
 
--- where the value of the first parameter of this key begins: after a semicolon outside quotes, blanks, the key and its `=`
+-- where the value of a parameter of this key begins, if a byte at a place outside quotes is a semicolon and blanks, the key and its `=` come next
+abbrev pub value_here : List ℕ → Quoting → ℕ → ℕ → List ℕ → Option ℕ
+value_here key state at byte bytes =
+    if is_outside state && byte == 59 then option_map (λ count. at + 1 + count) (key_end key bytes) else None
+
+-- where the value of the first parameter of this key begins, of bytes that begin at a place
 abbrev pub value_place : List ℕ → Quoting → ℕ → List ℕ → Option ℕ
 value_place key state at [] = None
 value_place key state at (byte ∷ bytes) =
-    if is_outside state && byte == 59 && is_some (key_end key bytes) then option_map (λ count. at + 1 + count) (key_end key bytes)
-    else value_place key (next_quoting state byte) (at + 1) bytes
+    option_or (value_here key state at byte bytes) (value_place key (next_quoting state byte) (at + 1) bytes)
 
 abbrev pub span_of : ℕ → ℕ → Span
 span_of from to = record { from = from; to = to }

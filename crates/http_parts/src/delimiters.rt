@@ -1,6 +1,6 @@
 //! The delimiters that cut a body into parts.
-ghost use Rattle.std.specs.Prelude.{◌≡◌, ◌≤◌, ◌<◌, ◌+◌, ◌∷◌, List, ℕ, length, drop, IfSome};
-ghost use Rattle.http_parts.specs.Delimiters.{delimiter_at, opening, IsNextDelimiter, IsFirstDelimiter};
+ghost use Rattle.std.specs.Prelude.{◌≡◌, ◌≤◌, ◌<◌, ◌+◌, ◌∷◌, length, drop, IfSome};
+ghost use Rattle.http_parts.specs.Delimiters.{delimiter_at, delimiter_of, opening, IsNextDelimiter, IsFirstDelimiter};
 
 use crate::text::blank_count;
 use memchr::memmem::Finder;
@@ -35,11 +35,22 @@ fn delimiter_at(body: &[u8], at: usize, end: usize) -> Option<Delimiter>
     None
 }
 
+// The delimiter at a place at which the finder's needle is.
+fn delimiter_of(finder: &Finder<'_>, body: &[u8], at: usize) -> Option<Delimiter>
+    requires { at + length finder.now ≤ length body.now }
+    ensures value { result ≡ delimiter_of body.now finder.now at }
+    ensures part { IfSome result (λ delimiter. IfSome delimiter.part (λ part. (at + 2 ≤ part) × (part ≤ length body.now))) }
+    ensures at { IfSome result (λ delimiter. delimiter.at ≡ at) }
+{
+    delimiter_at(body, at, at + finder.needle().len())
+}
+
 /// The first delimiter from a place on. The finder looks for a line end, `--` and the boundary.
 ///
 /// Source: RFC 2046, section 5.1.1.
 pub fn next_delimiter(finder: &Finder<'_>, body: &[u8], from: usize) -> Option<Delimiter>
-    requires { from ≤ length body.now }
+    requires some { 0 < length finder.now }
+    requires within { from ≤ length body.now }
     ensures next { IsNextDelimiter body.now finder.now from result }
     ensures within { IfSome result (λ delimiter. (from ≤ delimiter.at) × (delimiter.at ≤ length body.now)) }
     ensures part { IfSome result (λ delimiter. IfSome delimiter.part (λ part. (delimiter.at + 2 ≤ part) × (part ≤ length body.now))) }
@@ -47,10 +58,10 @@ pub fn next_delimiter(finder: &Finder<'_>, body: &[u8], from: usize) -> Option<D
     let mut at = from;
     while let Some(found) = finder.find(&body[at..]) {
         let place = at + found;
-        if let Some(delimiter) = delimiter_at(body, place, place + finder.needle().len()) {
-            return Some(delimiter);
+        match delimiter_of(finder, body, place) {
+            Some(delimiter) => return Some(delimiter),
+            None => at = place + 1,
         }
-        at = place + 1;
     }
     None
 }
@@ -68,14 +79,12 @@ fn opening(body: &[u8], dashes: &[u8]) -> Option<Delimiter>
 
 /// The first delimiter of a body.
 pub fn first_delimiter(finder: &Finder<'_>, body: &[u8]) -> Option<Delimiter>
-    ensures first { (dashes : List ℕ) → finder.now ≡ 13 ∷ 10 ∷ dashes → IsFirstDelimiter body.now dashes result }
+    requires { finder.now ≡ 13 ∷ 10 ∷ drop 2 finder.now }
+    ensures first { IsFirstDelimiter body.now (drop 2 finder.now) result }
     ensures part { IfSome result (λ delimiter. IfSome delimiter.part (λ part. (2 ≤ part) × (part ≤ length body.now))) }
 {
-    let needle = finder.needle();
-    if needle.len() >= 2 {
-        if let Some(delimiter) = opening(body, &needle[2..]) {
-            return Some(delimiter);
-        }
+    if let Some(delimiter) = opening(body, &finder.needle()[2..]) {
+        return Some(delimiter);
     }
     next_delimiter(finder, body, 0)
 }

@@ -2,14 +2,14 @@
 #![tactic(auto)]
 
 mod delimiters;
-mod multipart;
+mod form;
 mod parameters;
 mod part;
 mod quotes;
 mod text;
 mod types;
 
-pub use multipart::multipart;
+pub use form::multipart;
 pub use types::{PartFault, Parts, Span};
 
 #[cfg(test)]

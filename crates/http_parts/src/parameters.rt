@@ -1,8 +1,9 @@
 //! The type and the parameters in the value of a header field.
-ghost use Rattle.std.specs.Prelude.{◌≡◌, ◌≤◌, length, IfSome};
+ghost use Rattle.std.specs.Prelude.{◌≡◌, ◌≤◌, ◌<◌, ◌+◌, length, slice_index, slice_range, IfSome};
+ghost use Rattle.std.specs.List.{prefix_len};
 ghost use Rattle.std.specs.Option.{option_copied};
 ghost use Rattle.http_parts.specs.Texts.{IsWithin, text_at};
-ghost use Rattle.http_parts.specs.Values.{has_type, ends_word, key_end, value_place, content_span, parameter, boundary_of, bare_end};
+ghost use Rattle.http_parts.specs.Values.{has_type, ends_word, key_end, value_here, value_place, is_bare, content_span, parameter, boundary_of, bare_end};
 ghost use Rattle.http_parts.specs.declared.quotes.Quoting.TheVariants as quoting;
 
 use crate::Span;
@@ -41,24 +42,53 @@ fn key_end(bytes: &[u8], key: &[u8]) -> Option<usize>
     None
 }
 
+// Where the value of a parameter of this key begins, if its semicolon is the span's first byte and isn't in quotes.
+fn value_here(bytes: &[u8], span: Span, quoting: Quoting, key: &[u8]) -> Option<usize>
+    requires some { span.from < span.to }
+    requires within { IsWithin span bytes.now }
+    ensures value { result ≡ value_here key.now quoting span.from (slice_index bytes.now span.from) (slice_range bytes.now (span.from + 1) span.to) }
+    ensures within { IfSome result (λ place. (span.from ≤ place) × (place ≤ span.to)) }
+{
+    let next = span.from + 1;
+    if quoting.is_outside() && bytes[span.from] == b';' {
+        let count = key_end(&bytes[next..span.to], key)?;
+        return Some(next + count);
+    }
+    None
+}
+
 // Where the value of the first parameter of this key begins: after a semicolon that isn't in quotes, blanks, the
 // key and its `=`.
+#[tactic(auto, using(crate::proofs::Scans::value_steps))]
 fn value_place(bytes: &[u8], span: Span, key: &[u8]) -> Option<usize>
     requires { IsWithin span bytes.now }
     ensures value { result ≡ value_place key.now quoting.Outside span.from (text_at bytes.now span) }
     ensures within { IfSome result (λ place. (span.from ≤ place) × (place ≤ span.to)) }
 {
     let mut quoting = Quoting::Outside;
-    for place in span.from..span.to {
-        if quoting.is_outside() && bytes[place] == b';' {
-            let next = place + 1;
-            if let Some(count) = key_end(&bytes[next..span.to], key) {
-                return Some(next + count);
-            }
+    for from in span.from..span.to {
+        let here = value_here(bytes, Span { from, to: span.to }, quoting, key);
+        if here.is_some() {
+            return here;
         }
-        quoting = quoting.after(bytes[place]);
+        quoting = quoting.after(bytes[from]);
     }
     None
+}
+
+// Whether a byte belongs to a value without quotes.
+fn is_bare(byte: u8) -> bool
+    ensures { result ≡ is_bare byte }
+{
+    !is_blank(byte) && byte != b';'
+}
+
+// How many bytes of a value without quotes are in front.
+fn bare_count(bytes: &[u8]) -> usize
+    ensures value { result ≡ prefix_len is_bare bytes.now }
+    ensures most { result ≤ length bytes.now }
+{
+    bytes.iter().take_while(|byte| is_bare(**byte)).count()
 }
 
 // Where a value without quotes ends: before a blank or a semicolon.
@@ -67,11 +97,7 @@ fn bare_end(bytes: &[u8], span: Span) -> usize
     ensures value { result ≡ bare_end span.from (text_at bytes.now span) }
     ensures within { (span.from ≤ result) × (result ≤ span.to) }
 {
-    let count = bytes[span.from..span.to]
-        .iter()
-        .take_while(|byte| !is_blank(**byte) && **byte != b';')
-        .count();
-    span.from + count
+    span.from + bare_count(&bytes[span.from..span.to])
 }
 
 // The content of a parameter whose value begins at the span's first place.
@@ -108,7 +134,8 @@ pub fn parameter(bytes: &[u8], span: Span, key: &[u8]) -> Option<Span>
 ///
 /// Source: RFC 2046, section 5.1.1.
 pub fn boundary(kind: &[u8]) -> Option<&[u8]>
-    ensures { option_copied result ≡ boundary_of kind.now }
+    ensures value { option_copied result ≡ boundary_of kind.now }
+    ensures short { IfSome result (λ text. length text.now ≤ 70) }
 {
     if !has_type(kind, b"multipart/form-data") {
         return None;

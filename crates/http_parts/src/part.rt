@@ -1,5 +1,6 @@
 //! One part of a form: its head and its content.
 ghost use Rattle.std.specs.Prelude.{◌≡◌, ◌≤◌, ◌<◌, ◌+◌, length, IfSome};
+ghost use Rattle.memchr.specs.Find.{first_of, matches};
 ghost use Rattle.http_parts.specs.Texts.{IsWithin};
 ghost use Rattle.http_parts.specs.Parts.{IsFieldIn, empty_line, disposition, named_field, field_of};
 
@@ -16,13 +17,21 @@ pub struct Field {
     pub content: Span,
 }
 
+// The first place of a needle.
+fn first_place(bytes: &[u8], needle: &[u8]) -> Option<usize>
+    ensures value { result ≡ first_of (matches bytes.now needle.now 0) }
+    ensures within { IfSome result (λ place. place + length needle.now ≤ length bytes.now) }
+{
+    memmem::find(bytes, needle)
+}
+
 // The place of the first two line ends that follow each other.
 fn empty_line(body: &[u8], lines: Span) -> Option<usize>
     requires { IsWithin lines body.now }
     ensures value { result ≡ empty_line body.now lines }
     ensures within { IfSome result (λ end. (lines.from ≤ end) × (end + 4 ≤ lines.to)) }
 {
-    let place = memmem::find(&body[lines.from..lines.to], b"\r\n\r\n")?;
+    let place = first_place(&body[lines.from..lines.to], b"\r\n\r\n")?;
     Some(lines.from + place)
 }
 

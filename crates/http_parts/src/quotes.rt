@@ -49,6 +49,7 @@ impl Quoting {
 }
 
 /// The place of the quote that ends a quoted text, which begins at the span's first place.
+#[tactic(auto, using(crate::proofs::Scans::quoted_steps))]
 pub fn quoted_end(bytes: &[u8], span: Span) -> Option<usize>
     requires { IsWithin span bytes.now }
     ensures value { result ≡ quoted_end quoting.Inside span.from (text_at bytes.now span) }

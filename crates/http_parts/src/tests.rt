@@ -13,7 +13,8 @@ const NONE: Parts = Parts {
 // The upload of 142 bytes, whose file holds text like a delimiter within a line.
 #[test]
 fn upload(rt: HostRuntime) {
-    let body = b"--XY\r\nContent-Disposition: form-data; name=\"file\"; filename=\"a.gcode\"\r\nContent-Type: application/octet-stream\r\n\r\nG28 ; --XY\r\nG1 X10\n\r\n--XY--\r\n";
+    let body =
+        b"--XY\r\nContent-Disposition: form-data; name=\"file\"; filename=\"a.gcode\"\r\nContent-Type: application/octet-stream\r\n\r\nG28 ; --XY\r\nG1 X10\n\r\n--XY--\r\n";
     assert_eq!(rt; body.len(), 142);
     let want = Parts {
         name: Some(Span { from: 61, to: 68 }),
@@ -35,14 +36,26 @@ fn types(rt: HostRuntime) {
     let body = b"--XY--";
     for (kind, want) in [
         ("multipart/form-data; boundary=XY", Ok(NONE)),
-        ("Multipart/Form-Data;charset=utf-8; BOUNDARY=\"XY\" ", Ok(NONE)),
+        (
+            "Multipart/Form-Data;charset=utf-8; BOUNDARY=\"XY\" ",
+            Ok(NONE),
+        ),
         ("multipart/form-data; boundary=XY ; a=b", Ok(NONE)),
-        ("multipart/form-data; x=\"; boundary=ZZ\"; boundary=XY", Ok(NONE)),
+        (
+            "multipart/form-data; x=\"; boundary=ZZ\"; boundary=XY",
+            Ok(NONE),
+        ),
         ("multipart/form-data; boundary=X", Err(PartFault::NoClose)),
         ("multipart/form-data; boundary=", Err(PartFault::NoBoundary)),
-        ("multipart/form-data; boundary=\"XY", Err(PartFault::NoBoundary)),
+        (
+            "multipart/form-data; boundary=\"XY",
+            Err(PartFault::NoBoundary),
+        ),
         ("multipart/form-data", Err(PartFault::NoBoundary)),
-        ("multipart/form-database; boundary=XY", Err(PartFault::NoBoundary)),
+        (
+            "multipart/form-database; boundary=XY",
+            Err(PartFault::NoBoundary),
+        ),
         ("multipart/mixed; boundary=XY", Err(PartFault::NoBoundary)),
         ("", Err(PartFault::NoBoundary)),
     ] {
@@ -100,10 +113,18 @@ fn bodies(rt: HostRuntime) {
 // The last file counts, and a filename is taken with its backslashes.
 #[test]
 fn last_file(rt: HostRuntime) {
-    let body = b"--XY\r\nContent-Disposition: form-data; name=file; filename=a\r\n\r\n1\r\n--XY\r\nContent-Disposition: form-data; name=file; filename=\"b\\\"; c\"\r\n\r\n22\r\n--XY\r\nContent-Disposition: form-data; name=file\r\n\r\n3\r\n--XY--";
+    let body =
+        b"--XY\r\nContent-Disposition: form-data; name=file; filename=a\r\n\r\n1\r\n--XY\r\nContent-Disposition: form-data; name=file; filename=\"b\\\"; c\"\r\n\r\n22\r\n--XY\r\nContent-Disposition: form-data; name=file\r\n\r\n3\r\n--XY--";
     let parts = multipart(body, FORM);
     assert!(rt; parts.is_ok());
-    if let Ok(Parts { name: Some(name), file: Some(file), .. }) = parts {
+    if let Ok(
+        Parts {
+            name: Some(name),
+            file: Some(file),
+            ..
+        },
+    ) = parts
+    {
         assert_eq!(rt; &body[name.from..name.to], b"b\\\"; c".as_slice());
         assert_eq!(rt; &body[file.from..file.to], b"22".as_slice());
     } else {

@@ -29,6 +29,7 @@ pub fn begins_any_case(bytes: &[u8], text: &[u8]) -> bool
 }
 
 /// The first place within the span at which the text is, in any case of its letters, up to the span's end.
+#[tactic(auto, using(crate::proofs::Scans::place_steps))]
 pub fn place_any_case(bytes: &[u8], span: Span, text: &[u8]) -> Option<usize>
     requires { IsWithin span bytes.now }
     ensures value { result ≡ place_any_case text.now span.from (text_at bytes.now span) }

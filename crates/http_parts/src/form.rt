@@ -1,8 +1,8 @@
 //! All parts of a body, and what they say.
-ghost use Rattle.std.specs.Prelude.{◌≡◌, ◌≤◌, ◌∷◌, ◌++◌, [], ℕ, List, length, drop, codes, Some, None, OnOk, IfSome, IfOk, IfNone, if◌then◌else◌};
+ghost use Rattle.std.specs.Prelude.{◌≡◌, ◌≤◌, ◌∷◌, ◌++◌, [], ℕ, List, length, drop, None, OnOk, IfSome, IfOk, IfNone};
 ghost use Rattle.http_parts.specs.Texts.{IsWithin};
 ghost use Rattle.http_parts.specs.Delimiters.{Reaches, IsUnclosed};
-ghost use Rattle.http_parts.specs.Parts.{IsFieldIn, IsSeen, ArePartsIn, FormSays, SeenSays, is_named, is_file, is_true};
+ghost use Rattle.http_parts.specs.Parts.{AddsField, BodySays, IsFieldIn, IsSeen, ArePartsIn, FormSays, SeenSays, is_named, is_file, is_true};
 ghost use Rattle.http_parts.specs.declared.types.Span.{Span};
 
 use crate::delimiters::{first_delimiter, next_delimiter};
@@ -49,19 +49,28 @@ fn is_true(body: &[u8], field: Field) -> bool
 // What the parts say after one more field.
 fn with_field(body: &[u8], parts: Parts, field: Field) -> Parts
     requires { IsFieldIn field body.now }
-    ensures name { result.name ≡ (if is_file body.now field then field.filename else parts.name) }
-    ensures file { result.file ≡ (if is_file body.now field then Some field.content else parts.file) }
-    ensures select { result.select ≡ (if is_named body.now (codes "select") field then is_true body.now field else parts.select) }
-    ensures print { result.print ≡ (if is_named body.now (codes "print") field then is_true body.now field else parts.print) }
+    ensures adds { AddsField body.now field parts result }
     ensures within { ArePartsIn parts body.now → ArePartsIn result body.now }
 {
     let is_file = is_file(body, field);
     let is_true = is_true(body, field);
     Parts {
         name: if is_file { field.filename } else { parts.name },
-        file: if is_file { Some(field.content) } else { parts.file },
-        select: if is_named(body, field, b"select") { is_true } else { parts.select },
-        print: if is_named(body, field, b"print") { is_true } else { parts.print },
+        file: if is_file {
+            Some(field.content)
+        } else {
+            parts.file
+        },
+        select: if is_named(body, field, b"select") {
+            is_true
+        } else {
+            parts.select
+        },
+        print: if is_named(body, field, b"print") {
+            is_true
+        } else {
+            parts.print
+        },
     }
 }
 
@@ -146,6 +155,20 @@ fn line_of(boundary: &[u8]) -> ArrayVec<u8, LONGEST_LINE>
     line
 }
 
+// Reads the parts of a body of this boundary.
+fn read_body(body: &[u8], boundary: &[u8]) -> Result<Parts, PartFault>
+    requires { length boundary.now ≤ 70 }
+    ensures says { BodySays body.now (45 ∷ 45 ∷ boundary.now) result }
+    ensures within { IfOk result (λ parts. ArePartsIn parts body.now) }
+{
+    let line = line_of(boundary);
+    let finder = Finder::new(line.as_slice());
+    match read_parts(&finder, body) {
+        Some(seen) => seen.result(),
+        None => Err(PartFault::NoClose),
+    }
+}
+
 /// Reads the parts of a `multipart/form-data` body in one pass; takes no memory. The spans are places in the body.
 ///
 /// A missing boundary is told before a missing end, and that before the first bad part.
@@ -155,12 +178,8 @@ pub fn multipart(body: &[u8], kind: &[u8]) -> Result<Parts, PartFault>
     ensures says { FormSays body.now kind.now result }
     ensures within { IfOk result (λ parts. ArePartsIn parts body.now) }
 {
-    let Some(boundary) = boundary(kind) else {
-        return Err(PartFault::NoBoundary);
-    };
-    let line = line_of(boundary);
-    match read_parts(&Finder::new(line.as_slice()), body) {
-        Some(seen) => seen.result(),
-        None => Err(PartFault::NoClose),
+    match boundary(kind) {
+        Some(boundary) => read_body(body, boundary),
+        None => Err(PartFault::NoBoundary),
     }
 }
