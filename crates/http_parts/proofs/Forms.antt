@@ -84,11 +84,11 @@ says_found : (body dashes : List ℕ) (spans : List Span) (seen : Seen) (result 
 says_found body dashes spans seen result None reached none is says =
     let good : seen.bad ≡ None = is.bad ∙ ap (option_map (λ (p : Span). p.from)) none in
     let ok = rw good at says in
-    subst (BodySays body dashes) (sym ok) (form body dashes spans seen.parts reached none is.form)
+    subst (BodySays body dashes) (sym ok) (form spans seen.parts reached none is.form)
 says_found body dashes spans seen result (Some part) reached some is says =
     let first : seen.bad ≡ Some part.from = is.bad ∙ ap (option_map (λ (p : Span). p.from)) some in
     let err = rw first at says in
-    subst (BodySays body dashes) (sym err) (bad body dashes spans part reached some)
+    subst (BodySays body dashes) (sym err) (bad spans part reached some)
 
 pub says_all : (body dashes : List ℕ) (spans : List Span) (seen : Seen) (result : Result Parts PartFault) → Reaches body dashes spans None → IsSeen body spans seen → SeenSays seen result → BodySays body dashes result
 says_all body dashes spans seen result reached is says = says_found body dashes spans seen result (find (is_bad body) spans) reached refl is says

@@ -39,13 +39,13 @@ IsFirstDelimiter body dashes found =
     MatchOption (opening body dashes) (IsNextDelimiter body (13 ∷ 10 ∷ dashes) 0 found) (λ delimiter. found ≡ Some delimiter)
 
 -- these parts follow each other from the first delimiter on, each up to the next one; then another part begins, or the last delimiter closes
-pub data Reaches : List ℕ → List ℕ → List Span → Option ℕ → Type 0 where
-  first : (body dashes : List ℕ) (delimiter : Delimiter) → IsFirstDelimiter body dashes (Some delimiter) → Reaches body dashes [] delimiter.part
-  next : (body dashes : List ℕ) (parts : List Span) (from : ℕ) (delimiter : Delimiter) → Reaches body dashes parts (Some from)
+pub data Reaches (body dashes : List ℕ) : List Span → Option ℕ → Type 0 where
+  first : (delimiter : Delimiter) → IsFirstDelimiter body dashes (Some delimiter) → Reaches body dashes [] delimiter.part
+  next : (parts : List Span) (from : ℕ) (delimiter : Delimiter) → Reaches body dashes parts (Some from)
       → IsNextDelimiter body (13 ∷ 10 ∷ dashes) from (Some delimiter) → Reaches body dashes (parts ++ span_of from delimiter.at ∷ []) delimiter.part
 
 -- no delimiter closes the body
-pub data IsUnclosed : List ℕ → List ℕ → Type 0 where
-  without : (body dashes : List ℕ) → IsFirstDelimiter body dashes None → IsUnclosed body dashes
-  open_part : (body dashes : List ℕ) (parts : List Span) (from : ℕ) → Reaches body dashes parts (Some from)
+pub data IsUnclosed (body dashes : List ℕ) : Type 0 where
+  without : IsFirstDelimiter body dashes None → IsUnclosed body dashes
+  open_part : (parts : List Span) (from : ℕ) → Reaches body dashes parts (Some from)
       → IsNextDelimiter body (13 ∷ 10 ∷ dashes) from None → IsUnclosed body dashes

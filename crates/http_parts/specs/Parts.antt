@@ -73,10 +73,12 @@ pub record AddsField (body : List ℕ) (field : Field) (old new : Parts) : Type 
   pub print : new.print ≡ (if is_named body (codes "print") field then is_true body field else old.print)
 
 -- what a body of this boundary says. A missing end is told before a bad part, and of the bad parts the first
-pub data BodySays : List ℕ → List ℕ → Result Parts PartFault → Type 0 where
-  unclosed : (body dashes : List ℕ) → IsUnclosed body dashes → BodySays body dashes (Err fault.NoClose)
-  bad : (body dashes : List ℕ) (spans : List Span) (part : Span) → Reaches body dashes spans None → find (is_bad body) spans ≡ Some part → BodySays body dashes (Err (fault.BadPart part.from))
-  form : (body dashes : List ℕ) (spans : List Span) (parts : Parts) → Reaches body dashes spans None → find (is_bad body) spans ≡ None → IsForm body (filter_map (field_of body) spans) parts → BodySays body dashes (Ok parts)
+pub data BodySays (body dashes : List ℕ) : Result Parts PartFault → Type 0 where
+  unclosed : IsUnclosed body dashes → BodySays body dashes (Err fault.NoClose)
+  bad : (spans : List Span) (part : Span) → Reaches body dashes spans None → find (is_bad body) spans ≡ Some part
+      → BodySays body dashes (Err (fault.BadPart part.from))
+  form : (spans : List Span) (parts : Parts) → Reaches body dashes spans None → find (is_bad body) spans ≡ None
+      → IsForm body (filter_map (field_of body) spans) parts → BodySays body dashes (Ok parts)
 
 -- what a body and its type say
 abbrev pub FormSays : List ℕ → List ℕ → Result Parts PartFault → Type 0

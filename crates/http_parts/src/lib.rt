@@ -3,6 +3,7 @@
 
 mod delimiters;
 mod form;
+mod laws;
 mod parameters;
 mod part;
 mod quotes;
@@ -10,6 +11,7 @@ mod text;
 mod types;
 
 pub use form::multipart;
+pub use laws::one_meaning_law;
 pub use types::{PartFault, Parts, Span};
 
 #[cfg(test)]

@@ -15,4 +15,4 @@ pub returns-clause-says : goal.returns-clause-says
 returns-clause-says c =
     let body = c.args.body.now in
     let dashes : drop 2 c.new-finder.result ≡ 45 ∷ 45 ∷ c.args.boundary.now = ap (drop 2) (c.new-finder.ensures ∙ c.as_slice.ensures.value ∙ c.line_of-line.ensures) in
-    subst (λ d. BodySays body d (Err NoClose)) dashes (unclosed body (drop 2 c.new-finder.result) c.in-None.ensures.unclosed)
+    subst (λ d. BodySays body d (Err NoClose)) dashes (unclosed c.in-None.ensures.unclosed)

@@ -6,13 +6,13 @@ use Rattle.http_parts.proofs.form.read_parts.Goals as goal
 
 pub returns-in_err-from-clause-unclosed : goal.returns-in_err-from-clause-unclosed
 returns-in_err-from-clause-unclosed c =
-    if_none c.from_residual.result (IsUnclosed c.args.body.now (drop 2 c.args.finder.now)) (without c.args.body.now (drop 2 c.args.finder.now) c.in_err-from.ensures.first)
+    if_none c.from_residual.result (IsUnclosed c.args.body.now (drop 2 c.args.finder.now)) (without c.in_err-from.ensures.first)
 
 pub returns-in-None-clause-seen : goal.returns-in-None-clause-seen
 returns-in-None-clause-seen c =
     let body = c.args.body.now in
     let dashes = drop 2 c.args.finder.now in
-    ([], subst (Reaches body dashes []) c.in-None.is (first body dashes c.in_ok-from.field-0 c.in_ok-from.ensures.first), c.new-seen.ensures.seen body)
+    ([], subst (Reaches body dashes []) c.in-None.is (first c.in_ok-from.field-0 c.in_ok-from.ensures.first), c.new-seen.ensures.seen body)
 
 pub loop-delimiter-init : goal.loop-delimiter-init
 loop-delimiter-init c =
@@ -22,7 +22,7 @@ loop-delimiter-init c =
     record {
       low = bounds.0;
       high = bounds.1;
-      reached = ([], subst (Reaches body dashes []) c.in-Some.is (first body dashes c.in_ok-from.field-0 c.in_ok-from.ensures.first), c.new-seen.ensures.seen body);
+      reached = ([], subst (Reaches body dashes []) c.in-Some.is (first c.in_ok-from.field-0 c.in_ok-from.ensures.first), c.new-seen.ensures.seen body);
       within = c.new-seen.ensures.within body;
     }
 
@@ -33,7 +33,7 @@ returns-in_err-delimiter-clause-unclosed c =
     let from = c.loop-delimiter.from in
     let reached = c.loop-delimiter.invariant.reached in
     if_none c.from_residual-in_err-delimiter.result (IsUnclosed body dashes)
-    (open_part body dashes reached.0 from reached.1 (subst (λ line. IsNextDelimiter body line from None) c.requires c.in_err-delimiter.ensures.next))
+    (open_part reached.0 from reached.1 (subst (λ line. IsNextDelimiter body line from None) c.requires c.in_err-delimiter.ensures.next))
 
 pub loop-delimiter-preserved : goal.loop-delimiter-preserved
 loop-delimiter-preserved c =
@@ -48,7 +48,7 @@ loop-delimiter-preserved c =
     record {
       low = omega (arith, bounds.0);
       high = bounds.1;
-      reached = (spans, subst (Reaches body dashes spans) c.in-Some-part.is (next body dashes reached.0 from delimiter reached.1 is_next), c.note.ensures.seen reached.0 reached.2);
+      reached = (spans, subst (Reaches body dashes spans) c.in-Some-part.is (next reached.0 from delimiter reached.1 is_next), c.note.ensures.seen reached.0 reached.2);
       within = c.note.ensures.within c.loop-delimiter.invariant.within;
     }
 
@@ -61,4 +61,4 @@ returns-in-None-part-clause-seen c =
     let delimiter = c.in_ok-delimiter.delimiter in
     let spans = reached.0 ++ span_of from delimiter.at ∷ [] in
     let is_next = subst (λ line. IsNextDelimiter body line from (Some delimiter)) c.requires c.in_ok-delimiter.ensures.next in
-    (spans, subst (Reaches body dashes spans) c.in-None-part.is (next body dashes reached.0 from delimiter reached.1 is_next), c.note.ensures.seen reached.0 reached.2)
+    (spans, subst (Reaches body dashes spans) c.in-None-part.is (next reached.0 from delimiter reached.1 is_next), c.note.ensures.seen reached.0 reached.2)
