@@ -38,7 +38,7 @@ pub trait Door {
         // The connection is the first of those to come, and nothing was read, written or counted on it yet.
         ensures ok { IfOk result (λ knock. IfSome (coming self.old) (λ inputs.
             Comes (state_of Self.Conn.left Self.Conn.written Self.Conn.faults Self.Conn.quiets)
-                inputs knock (coming self.new))) }
+            inputs knock (coming self.new))) }
         ensures fresh { IfOk result (λ knock. IsNew Self.Conn.faults Self.Conn.quiets knock) }
         ensures err { OnErr result (IfSome (coming self.old) (λ _. coming self.new ≡ Some [])) }
 

@@ -141,8 +141,9 @@ impl Door for MemoryDoor {
         ensures has_failed { self.new.has_failed ≡ self.old.has_failed }
         ensures faults { self.new.faults ≡ self.old.faults }
     {
-        if self.served.push(conn).is_err() {
-            self.keeps_all = false;
+        match self.served.push(conn) {
+            Ok(()) => {}
+            Err(_) => self.keeps_all = false,
         }
     }
 }

@@ -6,13 +6,12 @@ ghost use Rattle.octo_outside.specs.Told.{Rose};
 use crate::{Door, Doors, Knock};
 use octo_outside::{Failed, TcpConn, may_come_later};
 use std::alloc::{AllocError, Global};
-use std::io;
 use std::io::ErrorKind;
 use std::net::{Net, TcpListener, TcpStream};
 use std::os::fd::OwnedFd;
 use std::sync::Arc;
-use std::thread;
 use std::time::{Clock, Duration};
+use std::{io, thread};
 
 // How long one call waits for a connection, and rests if the system has no room for one, in milliseconds.
 const WAIT: u64 = 10;
@@ -39,7 +38,10 @@ pub struct TcpDoor<R: Net + Drop> {
 
 // A listener each of whose calls waits for a bounded time. The limit belongs to the socket, which a stream over a
 // second descriptor of it sets.
-fn listen<R: Net<Listener = TcpListener>>(rt: &R, address: &str) -> io::Result<TcpListener> {
+fn listen<R: Net<Listener = TcpListener, Stream = TcpStream>>(
+    rt: &R,
+    address: &str,
+) -> io::Result<TcpListener> {
     let listener = TcpListener::bind(rt, address)?;
     let same = TcpStream::from(OwnedFd::from(listener.try_clone()?));
     same.set_read_timeout(Some(Duration::from_millis(WAIT)))?;
@@ -192,7 +194,11 @@ mod tests {
             (9, false),
             (22, false),
         ] {
-            assert_eq!(rt; may_pass(&io::Error::from_raw_os_error(number)), want, "at {number}");
+            assert_eq!(rt;
+                may_pass(&io::Error::from_raw_os_error(number)),
+                want,
+                "at {number}"
+            );
         }
     }
 }

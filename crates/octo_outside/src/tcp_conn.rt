@@ -41,8 +41,8 @@ impl<R: Net + Drop> TcpConn<R> {
         }
     }
 
-    // The connection over a stream, whose calls wait for a bounded time from here on.
-    fn over(rt: R, stream: R::Stream) -> Result<Self, Failed>
+    /// The connection over a stream, whose calls wait for a bounded time from here on.
+    pub fn over(rt: R, stream: R::Stream) -> Result<Self, Failed>
         ensures { IfOk result (λ c. (c.faults ≡ 0) × (c.quiets ≡ 0)) }
     {
         match prepare(&stream) {
