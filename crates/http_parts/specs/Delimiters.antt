@@ -11,7 +11,8 @@ use Rattle.http_parts.specs.Values.{span_of}
 abbrev pub delimiter_at : ℕ → ℕ → List ℕ → Option Delimiter
 delimiter_at at end tail =
     if starts_with nat_eq tail (45 ∷ 45 ∷ []) then Some (record { at = at; part = None })
-    else if starts_with nat_eq (drop (prefix_len is_blank tail) tail) (13 ∷ 10 ∷ []) then Some (record { at = at; part = Some (end + prefix_len is_blank tail + 2) })
+    else if starts_with nat_eq (drop (prefix_len is_blank tail) tail) (13 ∷ 10 ∷ [])
+    then Some (record { at = at; part = Some (end + prefix_len is_blank tail + 2) })
     else None
 
 -- the delimiter at a place at which a line end, `--` and the boundary are
@@ -27,7 +28,8 @@ pub record IsDelimiter (body line : List ℕ) (at : ℕ) : Type 0 where
 abbrev pub IsNextDelimiter : List ℕ → List ℕ → ℕ → Option Delimiter → Type 0
 IsNextDelimiter body line from None = Nowhere (IsDelimiter body line) from (length body + 1)
 IsNextDelimiter body line from (Some delimiter) =
-    NoneBefore (IsDelimiter body line) from (length body + 1) delimiter.at × OccursAt body line delimiter.at × (delimiter_of body line delimiter.at ≡ Some delimiter)
+    NoneBefore (IsDelimiter body line) from (length body + 1) delimiter.at × OccursAt body line delimiter.at
+      × (delimiter_of body line delimiter.at ≡ Some delimiter)
 
 -- the delimiter that begins a body, where `--` and the boundary need no line end before them
 abbrev pub opening : List ℕ → List ℕ → Option Delimiter

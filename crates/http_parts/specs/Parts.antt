@@ -30,13 +30,18 @@ disposition body head =
 -- the field that a Content-Disposition `form-data` with a name makes of a part's content
 abbrev pub named_field : List ℕ → Span → Span → Option Field
 named_field body content value =
-    if has_type (codes "form-data") (text_at body value) then option_map (λ name. record { name = name; filename = parameter (codes "filename=") body value; content = content }) (parameter (codes "name=") body value)
+    if has_type (codes "form-data") (text_at body value)
+    then option_map (λ name. record { name = name; filename = parameter (codes "filename=") body value; content = content }) (parameter (codes "name=") body value)
     else None
+
+-- the field of a part whose empty line is at this place
+abbrev pub field_around : List ℕ → Span → ℕ → Option Field
+field_around body part end =
+    option_and_then (named_field body (span_of (end + 4) part.to)) (disposition body (span_of (part.from - 2) (end + 2)))
 
 -- a part's field: the part is header lines, an empty line and the content. The line end before it is its delimiter's
 abbrev pub field_of : List ℕ → Span → Option Field
-field_of body part =
-    option_and_then (λ end. option_and_then (named_field body (span_of (end + 4) part.to)) (disposition body (span_of (part.from - 2) (end + 2)))) (empty_line body (span_of (part.from - 2) part.to))
+field_of body part = option_and_then (field_around body part) (empty_line body (span_of (part.from - 2) part.to))
 
 -- a part that is no field
 abbrev pub is_bad : List ℕ → Span → Bool

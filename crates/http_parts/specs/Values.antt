@@ -62,7 +62,8 @@ bare_end at bytes = at + prefix_len is_bare bytes
 -- the content of a parameter whose value begins a span: what is between its quotes, or what comes before a blank or a semicolon
 abbrev pub content_span : List ℕ → Span → Option Span
 content_span bytes span =
-    if starts_with nat_eq (text_at bytes span) (34 ∷ []) then option_map (span_of (span.from + 1)) (quoted_end Inside (span.from + 1) (text_at bytes (span_of (span.from + 1) span.to)))
+    if starts_with nat_eq (text_at bytes span) (34 ∷ [])
+    then option_map (span_of (span.from + 1)) (quoted_end Inside (span.from + 1) (text_at bytes (span_of (span.from + 1) span.to)))
     else Some (span_of span.from (bare_end span.from (text_at bytes span)))
 
 -- the content of the first parameter of this key, which is written with its `=`
@@ -70,12 +71,13 @@ abbrev pub parameter : List ℕ → List ℕ → Span → Option Span
 parameter key bytes span =
     option_and_then (λ from. content_span bytes (span_of from span.to)) (value_place key Outside span.from (text_at bytes span))
 
--- a boundary has 1 to 70 bytes
-abbrev pub is_boundary : List ℕ → Bool
-is_boundary text = nat_le 1 (length text) && nat_le (length text) 70
+-- a text as a boundary, which has 1 to 70 bytes
+abbrev pub as_boundary : List ℕ → Option (List ℕ)
+as_boundary text = if nat_le 1 (length text) && nat_le (length text) 70 then Some text else None
 
 -- the boundary that a `multipart/form-data` type names
 abbrev pub boundary_of : List ℕ → Option (List ℕ)
 boundary_of kind =
-    if has_type (codes "multipart/form-data") kind then option_and_then (λ span. if is_boundary (text_at kind span) then Some (text_at kind span) else None) (parameter (codes "boundary=") kind (span_of 0 (length kind)))
+    if has_type (codes "multipart/form-data") kind
+    then option_and_then (λ span. as_boundary (text_at kind span)) (parameter (codes "boundary=") kind (span_of 0 (length kind)))
     else None

@@ -18,7 +18,8 @@ pub struct Delimiter {
 fn delimiter_at(body: &[u8], at: usize, end: usize) -> Option<Delimiter>
     requires { end ≤ length body.now }
     ensures value { result ≡ delimiter_at at end (drop end body.now) }
-    ensures within { IfSome result (λ delimiter. IfSome delimiter.part (λ part. (end + 2 ≤ part) × (part ≤ length body.now))) }
+    ensures within { IfSome result (λ delimiter. IfSome delimiter.part (λ part.
+        (end + 2 ≤ part) × (part ≤ length body.now))) }
     ensures at { IfSome result (λ delimiter. delimiter.at ≡ at) }
 {
     let tail = &body[end..];
@@ -39,7 +40,8 @@ fn delimiter_at(body: &[u8], at: usize, end: usize) -> Option<Delimiter>
 fn delimiter_of(finder: &Finder<'_>, body: &[u8], at: usize) -> Option<Delimiter>
     requires { at + length finder.now ≤ length body.now }
     ensures value { result ≡ delimiter_of body.now finder.now at }
-    ensures part { IfSome result (λ delimiter. IfSome delimiter.part (λ part. (at + 2 ≤ part) × (part ≤ length body.now))) }
+    ensures part { IfSome result (λ delimiter. IfSome delimiter.part (λ part.
+        (at + 2 ≤ part) × (part ≤ length body.now))) }
     ensures at { IfSome result (λ delimiter. delimiter.at ≡ at) }
 {
     delimiter_at(body, at, at + finder.needle().len())
@@ -52,8 +54,10 @@ pub fn next_delimiter(finder: &Finder<'_>, body: &[u8], from: usize) -> Option<D
     requires some { 0 < length finder.now }
     requires within { from ≤ length body.now }
     ensures next { IsNextDelimiter body.now finder.now from result }
-    ensures within { IfSome result (λ delimiter. (from ≤ delimiter.at) × (delimiter.at ≤ length body.now)) }
-    ensures part { IfSome result (λ delimiter. IfSome delimiter.part (λ part. (delimiter.at + 2 ≤ part) × (part ≤ length body.now))) }
+    ensures within { IfSome result (λ delimiter.
+        (from ≤ delimiter.at) × (delimiter.at ≤ length body.now)) }
+    ensures part { IfSome result (λ delimiter. IfSome delimiter.part (λ part.
+        (delimiter.at + 2 ≤ part) × (part ≤ length body.now))) }
 {
     let mut at = from;
     while let Some(found) = finder.find(&body[at..]) {
@@ -69,7 +73,8 @@ pub fn next_delimiter(finder: &Finder<'_>, body: &[u8], from: usize) -> Option<D
 // The delimiter at the body's start, where no line end comes before it.
 fn opening(body: &[u8], dashes: &[u8]) -> Option<Delimiter>
     ensures value { result ≡ opening body.now dashes.now }
-    ensures part { IfSome result (λ delimiter. IfSome delimiter.part (λ part. (2 ≤ part) × (part ≤ length body.now))) }
+    ensures part { IfSome result (λ delimiter. IfSome delimiter.part (λ part.
+        (2 ≤ part) × (part ≤ length body.now))) }
 {
     if body.starts_with(dashes) {
         return delimiter_at(body, 0, dashes.len());
@@ -81,7 +86,8 @@ fn opening(body: &[u8], dashes: &[u8]) -> Option<Delimiter>
 pub fn first_delimiter(finder: &Finder<'_>, body: &[u8]) -> Option<Delimiter>
     requires { finder.now ≡ 13 ∷ 10 ∷ drop 2 finder.now }
     ensures first { IsFirstDelimiter body.now (drop 2 finder.now) result }
-    ensures part { IfSome result (λ delimiter. IfSome delimiter.part (λ part. (2 ≤ part) × (part ≤ length body.now))) }
+    ensures part { IfSome result (λ delimiter. IfSome delimiter.part (λ part.
+        (2 ≤ part) × (part ≤ length body.now))) }
 {
     if let Some(delimiter) = opening(body, &finder.needle()[2..]) {
         return Some(delimiter);

@@ -95,7 +95,8 @@ impl Seen {
     fn note(&mut self, body: &[u8], part: Span)
         requires behind { 2 ≤ part.from }
         requires within { IsWithin part body.now }
-        ensures seen { (parts : List Span) → IsSeen body.now parts self.old → IsSeen body.now (parts ++ part ∷ []) self.new }
+        ensures seen { (parts : List Span) → IsSeen body.now parts self.old
+            → IsSeen body.now (parts ++ part ∷ []) self.new }
         ensures within { ArePartsIn self.old.parts body.now → ArePartsIn self.new.parts body.now }
     {
         match field_of(body, part) {
@@ -120,7 +121,8 @@ impl Seen {
 fn read_parts(finder: &Finder<'_>, body: &[u8]) -> Option<Seen>
     requires { finder.now ≡ 13 ∷ 10 ∷ drop 2 finder.now }
     ensures unclosed { IfNone result (IsUnclosed body.now (drop 2 finder.now)) }
-    ensures seen { IfSome result (λ seen. (parts : List Span) × Reaches body.now (drop 2 finder.now) parts None × IsSeen body.now parts seen) }
+    ensures seen { IfSome result (λ seen. (parts : List Span)
+        × Reaches body.now (drop 2 finder.now) parts None × IsSeen body.now parts seen) }
     ensures within { IfSome result (λ seen. ArePartsIn seen.parts body.now) }
 {
     let mut seen = Seen::new();

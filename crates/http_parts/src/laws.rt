@@ -6,5 +6,6 @@ ghost use Rattle.http_parts.specs.Parts.{FormSays};
 
 /// A body and its type say one thing: parts or one fault.
 pub fn one_meaning_law()
-    ensures { (body kind : List ℕ) (a b : Result Parts PartFault) → FormSays body kind a → FormSays body kind b → a ≡ b }
+    ensures { (body kind : List ℕ) (a b : Result Parts PartFault)
+        → FormSays body kind a → FormSays body kind b → a ≡ b }
 {}

@@ -46,7 +46,8 @@ fn key_end(bytes: &[u8], key: &[u8]) -> Option<usize>
 fn value_here(bytes: &[u8], span: Span, quoting: Quoting, key: &[u8]) -> Option<usize>
     requires some { span.from < span.to }
     requires within { IsWithin span bytes.now }
-    ensures value { result ≡ value_here key.now quoting span.from (slice_index bytes.now span.from) (slice_range bytes.now (span.from + 1) span.to) }
+    ensures value { result ≡ value_here key.now quoting span.from
+        (slice_index bytes.now span.from) (slice_range bytes.now (span.from + 1) span.to) }
     ensures within { IfSome result (λ place. (span.from ≤ place) × (place ≤ span.to)) }
 {
     let next = span.from + 1;
@@ -62,7 +63,8 @@ fn value_here(bytes: &[u8], span: Span, quoting: Quoting, key: &[u8]) -> Option<
 #[tactic(auto, using(crate::proofs::Scans::value_steps))]
 fn value_place(bytes: &[u8], span: Span, key: &[u8]) -> Option<usize>
     requires { IsWithin span bytes.now }
-    ensures value { result ≡ value_place key.now quoting.Outside span.from (text_at bytes.now span) }
+    ensures value { result ≡ value_place key.now quoting.Outside span.from
+        (text_at bytes.now span) }
     ensures within { IfSome result (λ place. (span.from ≤ place) × (place ≤ span.to)) }
 {
     let mut quoting = Quoting::Outside;

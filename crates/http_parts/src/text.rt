@@ -33,7 +33,8 @@ pub fn begins_any_case(bytes: &[u8], text: &[u8]) -> bool
 pub fn place_any_case(bytes: &[u8], span: Span, text: &[u8]) -> Option<usize>
     requires { IsWithin span bytes.now }
     ensures value { result ≡ place_any_case text.now span.from (text_at bytes.now span) }
-    ensures within { IfSome result (λ place. (span.from ≤ place) × (place + length text.now ≤ span.to)) }
+    ensures within { IfSome result (λ place.
+        (span.from ≤ place) × (place + length text.now ≤ span.to)) }
 {
     for place in span.from..span.to {
         if begins_any_case(&bytes[place..span.to], text) {
