@@ -1,0 +1,11 @@
+//! A law of these definitions. Its function does nothing: its contract is the law.
+ghost use Rattle.std.specs.Prelude.{◌≡◌, ℕ, List, Result};
+ghost use Rattle.http_parts.specs.declared.types.Parts.{Parts};
+ghost use Rattle.http_parts.specs.declared.types.PartFault.{PartFault};
+ghost use Rattle.http_parts.specs.Parts.{FormSays};
+
+/// A body and its type say one thing: parts or one fault.
+pub fn one_meaning_law()
+    ensures { (body kind : List ℕ) (a b : Result Parts PartFault)
+        → FormSays body kind a → FormSays body kind b → a ≡ b }
+{}

@@ -1,0 +1,45 @@
+//! Texts in front of bytes and within them, in any case of their letters.
+ghost use Rattle.std.specs.Prelude.{◌≡◌, ◌≤◌, ◌+◌, length, true, IfSome};
+ghost use Rattle.std.specs.List.{prefix_len};
+ghost use Rattle.http_parts.specs.Texts.{IsWithin, text_at, is_blank, begins_any_case, place_any_case};
+
+use crate::Span;
+
+/// Whether a byte is a space or a tab.
+pub fn is_blank(byte: u8) -> bool
+    ensures { result ≡ is_blank byte }
+{
+    byte == b' ' || byte == b'\t'
+}
+
+/// How many spaces and tabs are in front.
+pub fn blank_count(bytes: &[u8]) -> usize
+    ensures value { result ≡ prefix_len is_blank bytes.now }
+    ensures most { result ≤ length bytes.now }
+{
+    bytes.iter().take_while(|byte| is_blank(**byte)).count()
+}
+
+/// Whether the text is in front of the bytes, in any case of its letters.
+pub fn begins_any_case(bytes: &[u8], text: &[u8]) -> bool
+    ensures value { result ≡ begins_any_case text.now bytes.now }
+    ensures bound { result ≡ true → length text.now ≤ length bytes.now }
+{
+    text.len() <= bytes.len() && bytes[..text.len()].eq_ignore_ascii_case(text)
+}
+
+/// The first place within the span at which the text is, in any case of its letters, up to the span's end.
+#[tactic(auto, using(crate::proofs::Scans::place_steps))]
+pub fn place_any_case(bytes: &[u8], span: Span, text: &[u8]) -> Option<usize>
+    requires { IsWithin span bytes.now }
+    ensures value { result ≡ place_any_case text.now span.from (text_at bytes.now span) }
+    ensures within { IfSome result (λ place.
+        (span.from ≤ place) × (place + length text.now ≤ span.to)) }
+{
+    for place in span.from..span.to {
+        if begins_any_case(&bytes[place..span.to], text) {
+            return Some(place);
+        }
+    }
+    None
+}

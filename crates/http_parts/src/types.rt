@@ -1,0 +1,39 @@
+//! What a form's body holds, and why it is refused.
+use thiserror::Error;
+
+/// A range of places in a list of bytes: from the first one up to, and without, the second.
+#[derive(Clone, Copy, Debug, PartialEq, Eq)]
+pub struct Span {
+    /// The place of the first byte.
+    pub from: usize,
+    /// The place after the last byte.
+    pub to: usize,
+}
+
+/// What the parts of a form say: the last part named `file` with a filename, and the last `select` and `print`.
+#[derive(Clone, Copy, Debug, PartialEq, Eq)]
+pub struct Parts {
+    /// The filename, as it is written between its quotes.
+    pub name: Option<Span>,
+    /// The file's content.
+    pub file: Option<Span>,
+    /// Whether the last part named `select` is `true`, in any case of its letters.
+    pub select: bool,
+    /// Whether the last part named `print` is `true`, in any case of its letters.
+    pub print: bool,
+}
+
+/// Why a body has no parts.
+#[derive(Clone, Copy, Debug, PartialEq, Eq, Error)]
+pub enum PartFault {
+    /// The type isn't `multipart/form-data` with a boundary of 1 to 70 bytes.
+    #[error("no boundary")]
+    NoBoundary,
+    /// The body has no closing delimiter.
+    #[error("no closing delimiter")]
+    NoClose,
+    /// The part that begins at this place has no empty line after its header lines, or no Content-Disposition
+    /// `form-data` with a name.
+    #[error("bad part at {at}")]
+    BadPart { at: usize },
+}
