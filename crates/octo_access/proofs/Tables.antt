@@ -3,15 +3,16 @@ use Rattle.std.proofs.Common.{◌≡◌, ℕ, ◌+◌, ◌<◌, ◌≤◌, ◌�
 use Rattle.std.proofs.Math.ListN.{set, length-set}
 use Rattle.std.proofs.lemmas.Bool.Decides.{nat_tests}
 use Rattle.std.proofs.lemmas.Cmp.{nat_list_cmp_total}
-use Rattle.std.proofs.lemmas.List.Sorted.{ranks_by}
+use Rattle.std.proofs.lemmas.List.Sorted.{ranks_by, length_permutation, sum_by-IsPermutation}
 use Rattle.std.proofs.lemmas.List.Edits.{length-insert}
 use Rattle.std.proofs.lemmas.List.Sums.{sum_by-insert, sum_by-set, prefix_len-le-length}
 use Rattle.std.specs.Cmp.{IsStrictWeakOrder}
 use Rattle.std.specs.Cmp.Lexicographic.{slice_cmp, bytes_decides}
 use Rattle.std.specs.List.{find, count_by, prefix_len, insert}
+use Rattle.std.specs.List.Sorted.{IsPermutation}
 use Rattle.std.specs.Ordering.{nat_cmp}
 use Rattle.std.specs.Str.{bytes_eq}
-use Rattle.octo_access.specs.Rows.{is_before, is_named, has_digest, held, with_row, most_users, IsUserList, IsUserTable}
+use Rattle.octo_access.specs.Rows.{is_before, is_named, has_digest, held, with_row, most_users, IsByName, IsUserList, IsUserTable}
 use Rattle.octo_access.specs.declared.row.UserRow.{UserRow}
 use Rattle.octo_access.proofs.Inserted.{count-none, sorted-inserted}
 
@@ -49,3 +50,14 @@ table-with_row row rows table name key room =
       };
       ordered = sorted-inserted (λ (a b : UserRow). is_before a.name b.name) by_name row rows table.ordered;
     }
+
+-- a list of users in the order of their names
+pub table-ordered : (rows new : List UserRow) → IsUserList rows → IsPermutation rows new → IsByName new → IsUserTable new
+table-ordered rows new list moved ordered = record {
+  list = record {
+    names = λ n. rw (sum_by-IsPermutation (λ r. cond (is_named n r) 1 0) rows new moved) (list.names n);
+    keys = λ k. rw (sum_by-IsPermutation (λ r. cond (has_digest k r) 1 0) rows new moved) (list.keys k);
+    few = rw (length_permutation rows new moved) list.few;
+  };
+  ordered = ordered;
+}

@@ -43,7 +43,11 @@ pub record IsUserList (rows : List UserRow) : Type 0 where
   pub keys : (digest : List ℕ) → count_by (has_digest digest) rows ≤ 1
   pub few : length rows ≤ most_users
 
+-- rows in the order of their names
+abbrev pub IsByName : List UserRow → Type 0
+IsByName rows = IsSortedByKey (λ (row : UserRow). row.name) (slice_cmp nat_cmp) rows
+
 -- such rows, by name
 pub record IsUserTable (rows : List UserRow) : Type 0 where
   pub list : IsUserList rows
-  pub ordered : IsSortedByKey (λ (row : UserRow). row.name) (slice_cmp nat_cmp) rows
+  pub ordered : IsByName rows

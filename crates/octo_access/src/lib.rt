@@ -4,13 +4,14 @@
 mod checks;
 mod groups;
 mod names;
+mod order;
 mod permission;
 mod policy;
 mod refusal;
 mod row;
 mod users;
 
-pub use groups::{GroupFault, Groups};
+pub use groups::{GroupFault, Groups, is_built_in};
 pub use names::read_name;
 pub use permission::Permission;
 pub use policy::Policy;

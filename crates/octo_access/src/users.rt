@@ -2,24 +2,19 @@
 ghost use Rattle.std.specs.Prelude.{◌≡◌, ◌≤◌, ◌<◌, ◌⊎◌, [], length, map, is_ok, if◌then◌else◌, IsSome, IfSome, MatchResult, IsPermutation, Some, None};
 ghost use Rattle.std.specs.List.{find, prefix_len, position_or_len};
 ghost use Rattle.std.specs.Option.{option_copied};
-ghost use Rattle.std.specs.Ordering.{nat_cmp};
-ghost use Rattle.std.specs.Cmp.Lexicographic.{slice_cmp};
 ghost use Rattle.octo_access.specs.Changes.{put_refusal, change_refusal};
 ghost use Rattle.octo_access.specs.Rights.{is_caller, caller_of, caller};
 ghost use Rattle.octo_access.specs.declared.refusal.UserRefusal.TheVariants as refusal;
-ghost use Rattle.octo_access.specs.Rows.{is_before, is_named, has_digest, held, with_row, without, replaced, most_users, IsUserList, IsUserTable};
+ghost use Rattle.octo_access.specs.Rows.{is_before, is_named, has_digest, held, with_row, without, replaced, IsUserList, IsUserTable};
 
+use crate::order::{is_before, put_in_order};
 use crate::policy::Policy;
 use crate::refusal::UserRefusal;
 use crate::row::{Digest, UserList, UserRow, digest_of};
 use byte_text::Name;
 use std::alloc::Global;
-use std::cmp::Ordering;
 use std::marker::Model;
 use std::mem;
-
-/// The most users of a table.
-const MOST_USERS: usize = 1_000;
 
 /// Up to 1,000 users by name, each name and each key once.
 #[derive(Drop)]
@@ -39,19 +34,6 @@ impl Model for Users {
     ghost invariant = { λ u. IsUserTable u.rows.items };
 }
 
-/// The order of two users, that of the bytes of their names.
-fn compared(row: &UserRow, other: &UserRow) -> Ordering
-    ensures { result ≡ slice_cmp nat_cmp row.now.name other.now.name }
-{
-    row.name.as_bytes().cmp(other.name.as_bytes())
-}
-
-fn is_before(row: &UserRow, name: &Name) -> bool
-    ensures { result ≡ is_before row.now.name name.now }
-{
-    row.name.as_bytes().cmp(name.as_bytes()) == Ordering::Less
-}
-
 impl Users {
     /// No users. Takes no memory.
     pub fn new(alloc: Global) -> Users
@@ -60,6 +42,17 @@ impl Users {
         Users {
             rows: Vec::new(alloc),
         }
+    }
+
+    /// The users of a list. Takes no memory.
+    pub fn from_rows(rows: UserList) -> Users
+        requires { IsUserList rows }
+        ensures held { IsPermutation rows result }
+        ensures same { IsUserTable rows → result ≡ rows }
+    {
+        let mut rows = rows.into_items();
+        put_in_order(&mut rows);
+        Users { rows }
     }
 
     /// The users by name.
