@@ -4,7 +4,8 @@ ghost use Rattle.std.specs.IoError.{error_kind, raw_os_error};
 ghost use Rattle.octo_outside.specs.Told.{Rose};
 
 use crate::{Door, Doors, Knock};
-use octo_outside::{Failed, TcpConn, may_come_later};
+use octo_outside::Failed;
+use octo_sockets::{TcpConn, may_come_later};
 use std::alloc::{AllocError, Global};
 use std::io::ErrorKind;
 use std::net::{Net, TcpListener, TcpStream};

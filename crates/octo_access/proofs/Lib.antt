@@ -1,0 +1,5 @@
+pub mod Changed
+pub mod Found
+pub mod Inserted
+pub mod Refused
+pub mod Tables

@@ -1,0 +1,6 @@
+pub mod Groups
+pub mod Names
+pub mod Permissions
+pub mod Rights
+pub mod Rows
+pub mod Changes

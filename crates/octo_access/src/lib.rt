@@ -1,0 +1,20 @@
+//! Who may do what on a print host: permissions, groups, users and their keys.
+#![tactic(auto)]
+
+mod checks;
+mod groups;
+mod names;
+mod order;
+mod permission;
+mod policy;
+mod refusal;
+mod row;
+mod users;
+
+pub use groups::{GroupFault, Groups, is_built_in};
+pub use names::read_name;
+pub use permission::Permission;
+pub use policy::Policy;
+pub use refusal::UserRefusal;
+pub use row::{Admin, Digest, UserList, UserRow, digest_of};
+pub use users::Users;

@@ -1,0 +1,53 @@
+//! Names of users, groups, queue entries and materials.
+ghost use Rattle.std.specs.Prelude.{◌≡◌};
+ghost use Rattle.std.specs.List.{list_all};
+ghost use Rattle.std.specs.Str.{bytes_eq};
+ghost use Rattle.octo_access.specs.Changes.{is_among};
+ghost use Rattle.octo_access.specs.Names.{is_name_byte, is_name, name_of};
+
+use byte_text::Name;
+
+/// The most bytes of a name.
+const MOST_BYTES: usize = 100;
+
+fn is_name_byte(byte: u8) -> bool
+    ensures { result ≡ is_name_byte byte }
+{
+    byte.is_ascii_alphanumeric() || b"._-()+".contains(&byte)
+}
+
+fn are_name_bytes(bytes: &[u8]) -> bool
+    ensures { result ≡ list_all is_name_byte bytes.now }
+{
+    bytes.iter().all(|byte| is_name_byte(*byte))
+}
+
+fn is_name(text: &str) -> bool
+    ensures { result ≡ is_name text.now }
+{
+    !text.is_empty() && text.len() <= MOST_BYTES && are_name_bytes(text.as_bytes())
+}
+
+/// A text as a name: 1 to 100 letters, digits and `.`, `_`, `-`, `(`, `)`, `+`.
+pub fn read_name(text: &str) -> Option<Name>
+    ensures { result ≡ name_of text.now }
+{
+    if is_name(text) {
+        return Name::from_text(text);
+    }
+    None
+}
+
+/// Whether two names are the same.
+pub(crate) fn are_same(name: &Name, other: &Name) -> bool
+    ensures { result ≡ bytes_eq name.now other.now }
+{
+    name.as_bytes() == other.as_bytes()
+}
+
+/// Whether a name is among others.
+pub(crate) fn is_among(name: &Name, names: &[Name]) -> bool
+    ensures { result ≡ is_among name.now names.now }
+{
+    names.iter().any(|other| are_same(other, name))
+}

@@ -1,0 +1,53 @@
+//! Users in the order of their names.
+ghost use Rattle.std.specs.Prelude.{◌≡◌, MatchBool, IsPermutation};
+ghost use Rattle.octo_access.specs.Rows.{is_before, IsByName};
+ghost use Rattle.std.specs.Ordering.{nat_cmp};
+ghost use Rattle.std.specs.Cmp.Lexicographic.{slice_cmp};
+
+use crate::row::UserRow;
+use byte_text::Name;
+use std::cmp::Ordering;
+
+/// The order of two users, that of the bytes of their names.
+fn compared(row: &UserRow, other: &UserRow) -> Ordering
+    ensures { result ≡ slice_cmp nat_cmp row.now.name other.now.name }
+{
+    row.name.as_bytes().cmp(other.name.as_bytes())
+}
+
+/// Whether a user's name comes before a name.
+pub(crate) fn is_before(row: &UserRow, name: &Name) -> bool
+    ensures { result ≡ is_before row.now.name name.now }
+{
+    row.name.as_bytes().cmp(name.as_bytes()) == Ordering::Less
+}
+
+/// Whether users stand in the order of their names.
+fn are_by_name(rows: &[UserRow]) -> bool
+    ensures { MatchBool result (IsByName rows.now) (¬ (IsByName rows.now)) }
+{
+    for place in 1..rows.len() {
+        if is_before(&rows[place], &rows[place - 1].name) {
+            return false;
+        }
+    }
+    true
+}
+
+fn sort_by_name(rows: &mut [UserRow])
+    ensures permutation { IsPermutation rows.old rows.new }
+    ensures ordered { IsByName rows.new }
+{
+    rows.sort_unstable_by(|row, other| compared(row, other));
+}
+
+/// Puts users in the order of their names. If they are in it, nothing changes.
+pub(crate) fn put_in_order(rows: &mut [UserRow])
+    ensures permutation { IsPermutation rows.old rows.new }
+    ensures ordered { IsByName rows.new }
+    ensures same { IsByName rows.old → rows.new ≡ rows.old }
+{
+    if !are_by_name(rows) {
+        sort_by_name(rows);
+    }
+}
