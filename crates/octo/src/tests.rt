@@ -37,7 +37,9 @@ fn link(
     ensures { IfOk result (λ l. (link_world l).linked ≡ false) }
 {
     let mut names = NameList::new(alloc);
-    names.push(Name::from("p")?)?;
+    if let Some(name) = Name::from_text("p") {
+        names.push(name)?;
+    }
     let mut list = FateList::new(alloc);
     for fate in fates {
         list.push(*fate)?;
