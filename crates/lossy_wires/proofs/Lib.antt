@@ -1,0 +1,10 @@
+pub mod Lists
+pub mod Ways
+pub mod Reading
+pub mod Moves
+pub mod Arrivals
+pub mod Free
+pub mod Hearing
+pub mod Sending
+pub mod Counting
+pub mod Tracing
