@@ -8,3 +8,4 @@ pub mod Hearing
 pub mod Sending
 pub mod Counting
 pub mod Tracing
+pub mod Giving

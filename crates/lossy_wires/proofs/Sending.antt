@@ -114,7 +114,7 @@ tick_meets start issued moment s w m =
 give_keeps_end : (moment : ℕ) (s : SenderData) → (frame_step moment s).ended ≡ s.ended
 give_keeps_end moment s = grind (arith, common_steps)
 
-give_flags : (moment : ℕ) (s : SenderData) → SameFlags s (frame_step moment s)
+pub give_flags : (moment : ℕ) (s : SenderData) → SameFlags s (frame_step moment s)
 give_flags moment s = record {
   ready = grind (arith, common_steps);
   acked = grind (arith, common_steps);
