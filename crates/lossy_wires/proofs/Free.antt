@@ -27,7 +27,7 @@ use Rattle.lossy_wires.proofs.Moves.{phase_up, phase_chat, replies_chat, phase_r
 use Rattle.lossy_wires.proofs.Arrivals.{phase_refused, replies_refused, greeting_taken, command_taken, IsTaken}
 
 -- a line that waits has a number that fits
-front_small : (issued : List (List ℕ)) (ran d : Bool) (last : ℕ) (piece : Piece) (queue log : List Piece) → length issued ≤ 1999999999 → Printed issued ran d last (piece ∷ queue) log → front_in piece < 2 ^ 32
+pub front_small : (issued : List (List ℕ)) (ran d : Bool) (last : ℕ) (piece : Piece) (queue log : List Piece) → length issued ≤ 1999999999 → Printed issued ran d last (piece ∷ queue) log → front_in piece < 2 ^ 32
 front_small issued ran d last greeting queue log few printed = omega arith
 front_small issued ran d last (command place text) queue log few (before b) = absurd (b.greetings.0)
 front_small issued ran d last (command place text) queue log few (after p) =

@@ -1,5 +1,5 @@
 -- What a sender gives out next, and the sending of it.
-use Rattle.std.proofs.Common.{◌≡◌, ◌⊎◌, inl, inr, ℕ, suc, ◌+◌, ◌-◌, ◌<◌, ◌≤◌, Bool, true, false, not, ◌&&◌, ◌||◌, List, [], ◌∷◌, ◌++◌, map, refl, sym, ◌∙◌, ap, subst, append-nil, arith, rules}
+use Rattle.std.proofs.Common.{◌≡◌, ◌⊎◌, inl, inr, ℕ, suc, ◌+◌, ◌-◌, ◌<◌, ◌≤◌, Bool, true, false, not, ◌&&◌, ◌||◌, List, [], ◌∷◌, ◌++◌, map, refl, sym, ◌∙◌, ap, subst, append-nil, append_assoc, arith}
 use Rattle.std.specs.Prelude.{Option, None, Some, slice_get}
 use Rattle.std.proofs.lemmas.Grind.{common_steps}
 use Rattle.std.proofs.lemmas.Option.{gets}
@@ -16,15 +16,16 @@ use Rattle.printer_model.specs.World.{WorldData, is_free, fits_wire, can_happen,
 use Rattle.printer_model.specs.Exchanged.{is_closed, closes_next}
 use Rattle.printer_model.specs.declared.event.WorldEvent.{WorldEvent}
 use Rattle.printer_model.specs.declared.event.WorldEvent.TheVariants.{Send, Closed}
-use Rattle.printer_model.proofs.Laws.{happens, both_left, both_right, world_from-linked}
+use Rattle.printer_model.proofs.Laws.{happens, after_event, both_left, both_right, world_from-linked}
 use Rattle.send_window.specs.Data.{SenderData, IsSound}
 use Rattle.send_window.specs.Counting.{own_oks, acked_of}
 use Rattle.send_window.specs.Laws.{GivesHeldLines, IsUnacknowledged}
 use Rattle.send_window.specs.Sending.{Outgoing, hello, line, bytes_of_outgoing, next_of, frame_step}
 use Rattle.send_window.specs.Session.{HoldsIssued}
-use Rattle.lossy_wires.specs.Pieces.{greeting, command, Sent, intact, corrupted, bytes_in, bytes_on, IsIssued, IsFailing, IsSentEarly, IsSentLate}
+use Rattle.lossy_wires.specs.Pieces.{Each, greeting, command, Sent, intact, corrupted, bytes_in, bytes_on, IsIssued, IsFailing, IsSentEarly, IsSentLate}
 use Rattle.lossy_wires.specs.Wires.{Meets, Numbers}
-use Rattle.lossy_wires.specs.Traces.{oks_of, IsTallied, IsLineAbove, IsSendFit, AreSendsFit, replies_from}
+use Rattle.lossy_wires.specs.Traces.{oks_of, IsTallied, IsLineAbove, IsSendFit, AreSendsFit, replies_from, IsStartKnown}
+use Rattle.lossy_wires.proofs.Starting.{starts_more}
 use Rattle.lossy_wires.proofs.Sending.{MaySend, SameFlags, give_flags, give_meets, sent_meets, closed_meets}
 use Rattle.lossy_wires.proofs.Tracing.{Leads, Extends, extends_none, leads_then, leads_none, leads_free, tally_same}
 
@@ -109,6 +110,10 @@ closes_free (event ∷ events) free =
     (and_from (is_free event) (closes_next (events ++ Closed ∷ [])) (both_left (is_free event) (list_all is_free events) free)
     (closes_free events (both_right (is_free event) (list_all is_free events) free)))
 
+sent_starts : (w : WorldData) (sent : ArrayVec ℕ) (events : List WorldEvent) → Each (IsStartKnown events) w.down → Each (IsStartKnown (events ++ Send sent ∷ [])) (apply w (Send sent)).down
+sent_starts w sent events all =
+    after_event (λ v. Each (IsStartKnown (events ++ Send sent ∷ [])) v.down) w (Send sent) (starts_more events (Send sent ∷ []) w.down all) (λ can. starts_more events (Send sent ∷ []) w.down all)
+
 module _ (start : List Logged) (issued : List (List ℕ)) where
   -- the link is closed
   pub leads_closed : (s : SenderData) (w : WorldData) (replies : List Reply) → w.linked ≡ true → Meets start issued s w → IsTallied replies s → Leads start issued issued s w replies (Closed ∷ [])
@@ -121,6 +126,7 @@ module _ (start : List Logged) (issued : List (List ℕ)) where
         meets = subst M (sym (happens w Closed on)) (closed_meets start issued s w m);
         tallied = subst T (sym (append-nil replies)) tallied;
         sends = (tt, tt);
+        starts = λ events all. (let E : WorldData → Type 0 = λ v. Each (IsStartKnown (events ++ Closed ∷ [])) v.down in subst E (sym (happens w Closed on)) tt);
       }
 
   -- after what the line and the printer do
@@ -154,6 +160,7 @@ module _ (start : List Logged) (issued : List (List ℕ)) where
             (sent_meets start issued moment s w (sent_as next) sent.items on (written ∙ bytes_as next) (given_undue moment s next n.sound is) (may_send issued s next n.sound n.holds is) m);
         tallied = subst T (sym (append-nil replies)) (tally_same start replies s t flags.swallow flags.ready flags.acked tallied);
         sends = (send_fits issued s replies next sent.items [] n.sound n.holds tallied is written, tt);
+        starts = λ events all. sent_starts w sent events all;
       }
 
   -- a line that fails is sent in its place, and the link is closed
@@ -177,4 +184,6 @@ module _ (start : List Logged) (issued : List (List ℕ)) where
         meets = led.meets;
         tallied = subst U (append-nil replies) led.tallied;
         sends = (inr (inr (failing, closes_free behind free)), led.sends);
+        starts = λ events all. (let E : List WorldEvent → Type 0 = λ es. Each (IsStartKnown es) (world_from (apply w (Send sent)) (behind ++ Closed ∷ [])).down in
+        subst E (append_assoc events (Send sent ∷ []) (behind ++ Closed ∷ [])) (led.starts (events ++ Send sent ∷ []) (sent_starts w sent events all)));
       }

@@ -7,5 +7,6 @@ pub mod Free
 pub mod Hearing
 pub mod Sending
 pub mod Counting
+pub mod Starting
 pub mod Tracing
 pub mod Giving

@@ -1,5 +1,5 @@
 -- How the events of a session join, one after another.
-use Rattle.std.proofs.Common.{◌≡◌, ◌⊎◌, inl, inr, ℕ, ◌+◌, ◌<◌, ◌≤◌, Bool, true, false, not, ◌&&◌, ◌||◌, List, [], ◌∷◌, ◌++◌, map, refl, sym, ◌∙◌, ap, subst, append_assoc, append-nil, arith}
+use Rattle.std.proofs.Common.{◌≡◌, ◌⊎◌, inl, inr, ℕ, ◌+◌, ◌<◌, ◌≤◌, Bool, true, false, not, ◌&&◌, ◌||◌, List, [], ◌∷◌, ◌++◌, map, drop, refl, sym, ◌∙◌, ap, subst, append_assoc, append-nil, arith}
 use Rattle.std.specs.Prelude.{None, Some, if◌then◌else◌}
 use Rattle.std.specs.List.{list_all}
 use Rattle.std.proofs.lemmas.List.{map-append}
@@ -19,14 +19,15 @@ use Rattle.send_window.specs.Data.{SenderData, IsSound}
 use Rattle.send_window.specs.Counting.{acked_of}
 use Rattle.send_window.specs.Hearing.{hear_step}
 use Rattle.send_window.specs.Sending.{frame_step}
-use Rattle.lossy_wires.specs.Pieces.{Sent, bytes_on, heard_of}
+use Rattle.lossy_wires.specs.Pieces.{Each}
 use Rattle.lossy_wires.specs.Wires.{Meets}
-use Rattle.lossy_wires.specs.Traces.{replies_from, oks_of, IsTallied, IsLineAbove, IsSendFit, IsEventFit, AreSendsFit, IsTraced}
+use Rattle.lossy_wires.specs.Traces.{replies_from, oks_of, IsTallied, IsLineAbove, IsSendFit, IsEventFit, AreSendsFit, IsStartKnown, IsTraced}
 use Rattle.lossy_wires.proofs.Lists.{issued_more}
 use Rattle.lossy_wires.proofs.Free.{all_free_meets}
 use Rattle.lossy_wires.proofs.Hearing.{hear_meets}
 use Rattle.lossy_wires.proofs.Sending.{MaySend, sent_meets, closed_meets, SameFlags}
 use Rattle.lossy_wires.proofs.Counting.{hear_counted, tally_heard}
+use Rattle.lossy_wires.proofs.Starting.{starts_more, each_behind, free_starts}
 
 -- further texts are issued
 pub record Extends (issued more : List (List ℕ)) : Type 0 where
@@ -105,6 +106,7 @@ pub record Leads (start : List Logged) (issued more : List (List ℕ)) (t : Send
   pub meets : Meets start more t (world_from w added)
   pub tallied : IsTallied (replies ++ replies_from w added) t
   pub sends : AreSendsFit more replies w added
+  pub starts : (events : List WorldEvent) → Each (IsStartKnown events) w.down → Each (IsStartKnown (events ++ added)) (world_from w added).down
 
 pub replies_from-append : (w : WorldData) (xs ys : List WorldEvent) → replies_from w (xs ++ ys) ≡ replies_from w xs ++ replies_from (world_from w xs) ys
 replies_from-append w xs ys = ap (map kind_of) (received_from-append w xs ys) ∙ map-append kind_of (received_from w xs) (received_from (world_from w xs) ys)
@@ -123,13 +125,17 @@ module _ (start : List Logged) where
         meets = subst M (sym (world_from-append w xs ys)) second.meets;
         tallied = subst T joined second.tallied;
         sends = fits_append b c replies w xs ys second.extends first.sends second.sends;
+        starts = λ events all. (
+            let W : WorldData → Type 0 = λ v. Each (IsStartKnown (events ++ (xs ++ ys))) v.down in
+            let E : List WorldEvent → Type 0 = λ es. Each (IsStartKnown es) (world_from (world_from w xs) ys).down in
+            subst W (sym (world_from-append w xs ys)) (subst E (append_assoc events xs ys) (second.starts (events ++ xs) (first.starts events all))));
       }
 
   -- no event
   pub leads_none : (issued more : List (List ℕ)) (t : SenderData) (w : WorldData) (replies : List Reply) → Extends issued more → Meets start more t w → IsTallied replies t → Leads start issued more t w replies []
   leads_none issued more t w replies ext m tallied =
       let T : List Reply → Type 0 = λ l. IsTallied l t in
-      record { same_session = refl; extends = ext; meets = m; tallied = subst T (sym (append-nil replies)) tallied; sends = tt }
+      record { same_session = refl; extends = ext; meets = m; tallied = subst T (sym (append-nil replies)) tallied; sends = tt; starts = λ events all. starts_more events [] w.down all }
 
   -- what the line and the printer do
   pub leads_free : (issued : List (List ℕ)) (s : SenderData) (w : WorldData) (replies : List Reply) (events : List WorldEvent) → list_all is_free events ≡ true → Meets start issued s w → IsTallied replies s → Leads start issued issued s w replies events
@@ -142,6 +148,7 @@ module _ (start : List Logged) where
         meets = all_free_meets start issued s w events free m;
         tallied = subst T none tallied;
         sends = fits_free issued replies w events free;
+        starts = λ before all. free_starts start issued s w before events free m all;
       }
 
   -- a reply is received and heard
@@ -157,6 +164,8 @@ module _ (start : List Logged) where
         meets = subst M (sym (happens w Recv can)) (hear_meets start issued moment s w line rest on running front m);
         tallied = subst T (sym got) (tally_heard replies (kind_of line) s (hear_step (kind_of line) moment s) tallied (hear_counted start issued moment s w line rest on running front m));
         sends = (tt, tt);
+        starts = λ events all. (let E : WorldData → Type 0 = λ v. Each (IsStartKnown (events ++ Recv ∷ [])) v.down in
+        subst E (sym (happens w Recv can)) (starts_more events (Recv ∷ []) (drop 1 w.down) (each_behind (IsStartKnown events) w.down all)));
       }
 
   -- a sender that gave a line out has counted as before

@@ -1,5 +1,6 @@
 -- The events of a session since its link was made: what the host received and sent.
 use Rattle.std.specs.Prelude.{◌≡◌, ◌⊎◌, ℕ, ◌+◌, ◌<◌, ◌≤◌, Bool, true, false, List, [], ◌∷◌, ◌++◌, map}
+use Rattle.std.specs.List.{list_any}
 use Rattle.marlin_frame.specs.Frame.{frame_of, fails}
 use Rattle.marlin_frame.specs.Numbering.{wire_number, hello_frame}
 use Rattle.marlin_reply.specs.Kind.{kind_of}
@@ -10,10 +11,10 @@ use Rattle.printer_model.specs.World.{WorldData, apply, world_from}
 use Rattle.printer_model.specs.Executed.{opens}
 use Rattle.printer_model.specs.Exchanged.{received_by, received_from, closes_next}
 use Rattle.printer_model.specs.declared.event.WorldEvent.{WorldEvent}
-use Rattle.printer_model.specs.declared.event.WorldEvent.TheVariants.{Send}
+use Rattle.printer_model.specs.declared.event.WorldEvent.TheVariants.{Send, Restart}
 use Rattle.send_window.specs.Data.{SenderData}
 use Rattle.send_window.specs.Counting.{own_oks, acked_of, is_pending}
-use Rattle.lossy_wires.specs.Pieces.{IsIssued}
+use Rattle.lossy_wires.specs.Pieces.{IsIssued, Each, heard_in, start_heard}
 use Rattle.lossy_wires.specs.Wires.{Meets}
 
 -- the replies that the host received by these events
@@ -54,9 +55,19 @@ AreSendsFit issued replies w [] = Unit {0}
 AreSendsFit issued replies w (event ∷ events) =
     IsEventFit issued (acked_of replies) event events × AreSendsFit issued (replies ++ map kind_of (received_by w event)) (apply w event) events
 
+-- the printer restarts
+abbrev pub is_restart : WorldEvent → Bool
+is_restart Restart = true
+is_restart _ = false
+
+-- a `start` comes only of a restart
+abbrev pub IsStartKnown : List WorldEvent → List ℕ → Type 0
+IsStartKnown events line = heard_in line ≡ start_heard → list_any is_restart events ≡ true
+
 -- the sender of a session and the events since its link was made fit together
 pub record IsTraced (start : List Logged) (opened : WorldData) (issued : List (List ℕ)) (s : SenderData) (rest : List WorldEvent) : Type 0 where
   pub same_session : opens rest ≡ 0
   pub meets : Meets start issued s (world_from opened rest)
   pub tallied : IsTallied (replies_from opened rest) s
   pub sends : AreSendsFit issued [] opened rest
+  pub starts : Each (IsStartKnown rest) (world_from opened rest).down
