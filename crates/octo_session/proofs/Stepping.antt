@@ -1,19 +1,19 @@
 -- How the steps of a turn join.
 use Rattle.std.proofs.Common.{◌≡◌, ℕ, zero, suc, Bool, true, false, List, [], ◌∷◌, ◌++◌, Option, replicate, refl, sym, ◌∙◌, ap, subst, append_assoc, append-nil, arith}
-use Rattle.std.specs.Prelude.{None, Some, IfSome, is_some, ◌+◌, ◌≤◌}
+use Rattle.std.specs.Prelude.{None, Some, IfSome, is_some, ◌+◌, ◌≤◌, ◌&&◌}
 use Rattle.std.specs.Option.{option_map}
 use Rattle.send_window.specs.Sending.{Outgoing, number_of_outgoing, bytes_of_outgoing}
 use Rattle.std.proofs.lemmas.List.{append_cancel_left}
 use Rattle.printer_link.proofs.Grown.{recorded_then, recorded_so, recorded_same}
-use Rattle.printer_model.specs.World.{WorldData, world_from}
-use Rattle.printer_link.specs.Link.{LinkKind, Grows, world_in, IsSend, IsSendOf, RoseBy, counted_one}
+use Rattle.printer_model.specs.World.{WorldData, new_world, world_from}
+use Rattle.printer_link.specs.Link.{LinkKind, HasSlots, Grows, world_in, IsDial, IsSend, IsSendOf, RoseBy, counted_one}
 use Rattle.printer_model.specs.declared.event.WorldEvent.{WorldEvent}
-use Rattle.printer_model.proofs.Laws.{world_from-append, world_of-append}
+use Rattle.printer_model.proofs.Laws.{world_from-append, world_of-append, world_from-IsSameKind}
 use Rattle.send_window.specs.Data.{SenderData}
 use Rattle.send_window.specs.Hearing.{tick_step}
 use Rattle.marlin_reply.specs.declared.session.LinkFact.{LinkFact}
 use Rattle.marlin_reply.specs.declared.session.LinkFact.TheVariants as fact
-use Rattle.octo_session.specs.Found.{Got, unasked, lost, nothing, whole, is_got, got_of, end_by, can_find}
+use Rattle.octo_session.specs.Found.{Got, unasked, lost, nothing, whole, is_got, got_of, is_said, may_issue, end_by, can_find}
 use Rattle.octo_session.specs.declared.found.Doing.{Doing}
 use Rattle.octo_session.specs.declared.found.Doing.TheVariants.{Dialling, Resting}
 use Rattle.octo_session.specs.declared.found.Received.{Received}
@@ -203,6 +203,23 @@ got_some received.Unasked bytes asked not_lost = absurd (asked refl)
 got_some received.Lost bytes asked not_lost = absurd (not_lost refl)
 got_some received.Nothing bytes asked not_lost = refl
 got_some (received.Line temps) bytes asked not_lost = refl
+
+-- a receiving that didn't fail isn't lost
+pub got_kept : (got kept : Got) → kept ≡ got → is_got got ≡ true → kept ≡ lost → ⊥
+got_kept got kept same is gone =
+    let other : true ≡ false = sym is ∙ ap is_got (sym same ∙ gone) in
+    absurd (cc)
+
+-- a turn that receives without a failure issues no line only by its fact
+pub none_said : (got kept : Got) (found : LinkFact) → kept ≡ got → is_got got ≡ true → may_issue kept found ≡ false → is_said found ≡ false
+none_said got kept found same is none = sym (ap (λ (b : Bool). b && is_said found) (ap is_got same ∙ is)) ∙ none
+
+-- a link whose printer keeps 1 to 16 lines waiting is made
+pub opens_placed : (kind : LinkKind) (old new : Option (List WorldEvent)) (s : SenderData) → HasSlots kind → Grows kind old new IsDial → Grows kind old new (IsDone opens s)
+opens_placed kind old new s has grew =
+    recorded_so old new (λ past added. IsDial (world_in kind past) added) (λ past added. IsDone opens s (world_in kind past) added) grew
+    (λ past added dial. (let same : (world_in kind past).printer.places ≡ kind.slots = (world_from-IsSameKind (new_world kind.slots kind.numbered) past).places in
+    (dial, record { some = omega (arith, same, has.some); few = omega (arith, same, has.few) })))
 
 -- a turn that does nothing
 pub takes_rest : (moment : ℕ) (kind : LinkKind) (old : Option (List WorldEvent)) (a : Option ℕ) (doing_now : Doing) (was_up : Bool) (got : Got) (found : LinkFact) (texts : List (List ℕ)) (s : SenderData) → doing_now ≡ Resting → TakesSome moment kind old old a a (turn_steps doing_now was_up got found texts) s s

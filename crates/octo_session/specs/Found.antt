@@ -1,5 +1,5 @@
 -- What a turn finds of the link.
-use Rattle.std.specs.Prelude.{ℕ, Bool, true, false, List, Option, None, Some}
+use Rattle.std.specs.Prelude.{ℕ, Bool, true, false, ◌&&◌, List, Option, None, Some}
 use Rattle.marlin_reply.specs.Kind.{kind_of}
 use Rattle.marlin_reply.specs.declared.reply.Reply.{Reply}
 use Rattle.marlin_reply.specs.declared.reply.Reply.TheVariants as reply
@@ -96,6 +96,16 @@ can_find Talking fact.Failed = true
 can_find Talking (fact.Ended end) = true
 can_find Resting fact.Quiet = true
 can_find _ _ = false
+
+-- whether a turn that found this may have issued lines: it stayed quiet, or a call of the link failed
+abbrev pub is_said : LinkFact → Bool
+is_said fact.Quiet = true
+is_said fact.Failed = true
+is_said _ = false
+
+-- whether a turn may have issued lines: its receiving didn't fail, nor did it end the session or make it ready
+abbrev pub may_issue : Got → LinkFact → Bool
+may_issue got found = is_got got && is_said found
 
 -- whether the link is up after a turn that found this
 abbrev pub up_after : LinkFact → Bool → Bool

@@ -1,5 +1,5 @@
 -- A turn as a list of steps: each is one call on the sender, one on the link, or both.
-use Rattle.std.specs.Prelude.{◌≡◌, ℕ, ◌<◌, Bool, true, false, List, [], ◌∷◌, ◌++◌, map, replicate, Option, None, Some, is_some}
+use Rattle.std.specs.Prelude.{◌≡◌, ℕ, ◌<◌, ◌≤◌, ◌^◌, Bool, true, false, List, [], ◌∷◌, ◌++◌, map, replicate, Option, None, Some, is_some, All}
 use Rattle.byte_text.specs.Sendable.{IsSendable}
 use Rattle.marlin_reply.specs.Kind.{kind_of}
 use Rattle.marlin_reply.specs.declared.session.LinkFact.{LinkFact}
@@ -60,8 +60,12 @@ abbrev pub after_steps : ℕ → List Step → SenderData → SenderData
 after_steps moment [] s = s
 after_steps moment (step ∷ steps) s = after_steps moment steps (after_step moment step s)
 
--- what holds of the sender before a step: a line is issued only where there's room and it may be sent, and a frame is
--- given out only where there is one
+-- a text consists of bytes
+abbrev pub AreBytes : List ℕ → Type 0
+AreBytes text = All (λ b. b < 2 ^ 8) text
+
+-- what holds of the sender before a step: a line is issued only if there is room and it may be sent, and a frame is
+-- given out only if there is one
 abbrev pub IsAllowed : Step → SenderData → Type 0
 IsAllowed opens s = Unit {0}
 IsAllowed finds_no_port s = Unit {0}
@@ -70,7 +74,7 @@ IsAllowed (hears bytes) s = Unit {0}
 IsAllowed listens s = Unit {0}
 IsAllowed fails_to_receive s = Unit {0}
 IsAllowed ticks s = Unit {0}
-IsAllowed (issues text) s = (0 < room_of s) × IsSendable text
+IsAllowed (issues text) s = (0 < room_of s) × IsSendable text × AreBytes text
 IsAllowed gives s = is_some (next_of s) ≡ true
 IsAllowed fails_to_send s = is_some (next_of s) ≡ true
 IsAllowed (hangs_up was_up) s = Unit {0}
@@ -85,9 +89,14 @@ abbrev pub IsGiven : Option Outgoing → WorldData → List WorldEvent → Type 
 IsGiven None w added = ⊥
 IsGiven (Some next) w added = IsSend (bytes_of_outgoing next) w added
 
+-- the printer keeps 1 to 16 lines waiting
+pub record HasPlaces (w : WorldData) : Type 0 where
+  pub some : 1 ≤ w.printer.places
+  pub few : w.printer.places ≤ 16
+
 -- what a step adds to the past of the link
 abbrev pub IsDone : Step → SenderData → WorldData → List WorldEvent → Type 0
-IsDone opens s w added = IsDial w added
+IsDone opens s w added = IsDial w added × HasPlaces w
 IsDone finds_no_port s w added = added ≡ []
 IsDone fails_to_dial s w added = IsRuns w added
 IsDone (hears bytes) s w added = IsHeard bytes w added

@@ -14,7 +14,7 @@ use Rattle.send_window.specs.Sending.{next_of, room_of}
 use Rattle.octo_session.specs.Data.{SessionData, doing}
 use Rattle.octo_session.specs.DeskTurn.{IsNoted}
 use Rattle.printer_link.specs.Link.{LinkKind}
-use Rattle.octo_session.specs.Found.{Got, unasked, is_whole, temps_in, temps_kept, end_by}
+use Rattle.octo_session.specs.Found.{Got, lost, unasked, is_whole, may_issue, temps_in, temps_kept, end_by}
 use Rattle.octo_session.specs.Steps.{TakesSome, turn_steps}
 use Rattle.octo_session.specs.declared.found.Doing.{Doing}
 use Rattle.octo_session.specs.declared.found.Doing.TheVariants.{Dialling, HangingUp, Talking, Resting}
@@ -97,5 +97,9 @@ pub record IsTurn (moment : ℕ) (kind : LinkKind) (old_past new_past : Option (
   pub some : IfSome turned.note (λ note. IsNoteOf moment new.sender.acked lines got found note)
   -- the session ends exactly where a receiving that didn't fail and the moment end it
   pub ended : (end : SessionEnd) → (found ≡ fact.Ended end) ↔ (end_by got moment old.sender ≡ Some end)
+  -- a receiving that fails is the turn's failure
+  pub broken : got ≡ lost → found ≡ fact.Failed
+  -- lines are issued only after a receiving that didn't fail
+  pub none_issued : may_issue got found ≡ false → lines ≡ []
   pub desk : IsDeskTurn (doing old) moment new.sender.acked found lines old.desk turned.ending new.desk
   pub steps : TakesSome moment kind old_past new_past old_calls new_calls (turn_steps (doing old) old.up got found (texts_in lines)) old.sender new.sender

@@ -6,13 +6,13 @@ ghost use Rattle.desk_steps.specs.Table.{is_closable_at};
 ghost use Rattle.job_desk.specs.Views.{line_of};
 ghost use Rattle.marlin_reply.specs.declared.session.LinkFact.TheVariants as fact;
 ghost use Rattle.marlin_reply.specs.declared.session.SessionEnd.{SessionEnd};
-ghost use Rattle.printer_link.specs.Link.{Grows, IsDial, IsNothing, IsRuns, RoseBy, counted_one, dial_events};
+ghost use Rattle.printer_link.specs.Link.{HasSlots, Grows, IsDial, IsNothing, IsRuns, RoseBy, counted_one, dial_events};
 ghost use Rattle.printer_link.specs.declared.link.LinkFault.TheVariants as fault;
-ghost use Rattle.send_window.specs.Data.{new_sender, begun};
+ghost use Rattle.send_window.specs.Data.{IsSound, new_sender, begun};
 ghost use Rattle.send_window.specs.Sending.{next_of};
 ghost use Rattle.octo_session.specs.Data.{IsSession, doing, is_calling, port_of};
 ghost use Rattle.octo_session.specs.DeskTurn.{IsNoted};
-ghost use Rattle.octo_session.specs.Found.{got_of, temps_in, temps_kept, end_by, up_after, can_find, unasked};
+ghost use Rattle.octo_session.specs.Found.{got_of, temps_in, temps_kept, end_by, may_issue, up_after, can_find, lost, unasked};
 ghost use Rattle.octo_session.specs.Steps.{Takes, TakesSome, hangs_up, dial_steps, talk_steps, turn_steps};
 ghost use Rattle.octo_session.specs.Turn.{fact_of, lines_of, texts_in, IsDeskTurn, IsSpent, IsTurn};
 ghost use Rattle.octo_session.specs.declared.found.Doing.TheVariants as now_doing;
@@ -60,6 +60,7 @@ fn dial_port<L: Link>(desk: &Desk, link: &mut L) -> Result<(), LinkFault>
     ensures calls { L.calls link.new ≡ counted_one (L.calls link.old) }
     ensures up { OnOk result (L.up link.new ≡ true) }
     ensures down { OnErr result (L.up link.new ≡ false) }
+    ensures slots { HasSlots (L.kind link.old) }
     ensures kind { L.kind link.new ≡ L.kind link.old }
     ensures counted { L.faults link.old ≤ L.faults link.new }
     ensures failed { IsErrOf result fault.Failed → Rose (L.faults link.old) (L.faults link.new) }
@@ -70,6 +71,13 @@ fn dial_port<L: Link>(desk: &Desk, link: &mut L) -> Result<(), LinkFault>
     }
 }
 
+// What holds of a sender between its calls: stated for proofs.
+fn is_sound(sender: &Sender)
+    ensures { IsSound sender.now }
+{
+    sender.ready();
+}
+
 impl Session {
     /// A session of a new desk and a new sender. The link is not up.
     pub fn new(desk: Desk, sender: Sender) -> Session
@@ -77,9 +85,11 @@ impl Session {
         requires new_sender { sender ≡ new_sender sender.window sender.limit }
         ensures desk { result.desk ≡ desk }
         ensures sender { result.sender ≡ sender }
+        ensures sound { IsSound result.sender }
         ensures up { result.up ≡ false }
         ensures joined { IsSession result }
     {
+        is_sound(&sender);
         Session {
             desk,
             sender,
@@ -203,6 +213,8 @@ impl Session {
         ensures noted { IsNoted moment self.new.sender.acked result.fact (map line_of result.issued.items) self.old.desk result.ending self.new.desk }
         ensures ended { (end : SessionEnd) → (result.fact ≡ fact.Ended end) ↔ (end_by (got_of result.received line.new.items) moment self.old.sender ≡ Some end) }
         ensures ready { (result.fact ≡ fact.Ready) ↔ ((self.old.sender.ready ≡ false) × (self.new.sender.ready ≡ true)) }
+        ensures broken { got_of result.received line.new.items ≡ lost → result.fact ≡ fact.Failed }
+        ensures none_issued { may_issue (got_of result.received line.new.items) result.fact ≡ false → result.issued.items ≡ [] }
         ensures silent { result.fact ≡ fact.Ready → result.issued.items ≡ [] }
         ensures sent { result.fact ≡ fact.Ready → next_of self.new.sender ≡ None }
         ensures spent { result.fact ≡ fact.Quiet → IsSpent moment self.new.desk self.new.sender }
@@ -231,6 +243,8 @@ impl Session {
         ensures desk { IsDeskTurn (doing self.old) moment self.new.sender.acked result.fact (map line_of result.issued.items) self.old.desk result.ending self.new.desk }
         ensures ended { (end : SessionEnd) → (result.fact ≡ fact.Ended end) ↔ (end_by (got_of result.received line.new.items) moment self.old.sender ≡ Some end) }
         ensures ready { (result.fact ≡ fact.Ready) ↔ ((self.old.sender.ready ≡ false) × (self.new.sender.ready ≡ true)) }
+        ensures broken { got_of result.received line.new.items ≡ lost → result.fact ≡ fact.Failed }
+        ensures none_issued { may_issue (got_of result.received line.new.items) result.fact ≡ false → result.issued.items ≡ [] }
         ensures silent { result.fact ≡ fact.Ready → result.issued.items ≡ [] }
         ensures sent { result.fact ≡ fact.Ready → next_of self.new.sender ≡ None }
         ensures spent { self.new.up ≡ true → result.fact ≡ fact.Quiet → IsSpent moment self.new.desk self.new.sender }
@@ -275,6 +289,7 @@ impl Session {
         ensures sent { fact_of result.note ≡ fact.Ready → next_of self.new.sender ≡ None }
         ensures spent { self.new.up ≡ true → fact_of result.note ≡ fact.Quiet → IsSpent moment self.new.desk self.new.sender }
         ensures greatest { self.new.desk.greatest ≡ self.old.desk.greatest }
+        ensures before { IsSession self.old }
         ensures joined { IsSession self.new }
         ensures kind { L.kind link.new ≡ L.kind link.old }
         ensures counted { L.faults link.old ≤ L.faults link.new }

@@ -10,8 +10,8 @@ ghost use Rattle.send_window.specs.Hearing.{tick_step};
 ghost use Rattle.send_window.specs.Sending.{next_of, room_of};
 ghost use Rattle.octo_session.specs.Data.{IsJoined};
 ghost use Rattle.octo_session.specs.DeskTurn.{IsNoted, Pulls};
-ghost use Rattle.octo_session.specs.Found.{got_of, temps_kept, temps_in, temps_of_reply, is_got, end_by, up_after, can_find, unasked};
-ghost use Rattle.octo_session.specs.Steps.{Takes, TakesSome, Issues, given_by, received_by, is_up_by, sends, speech, clock_steps, talk_steps};
+ghost use Rattle.octo_session.specs.Found.{got_of, temps_kept, temps_in, temps_of_reply, is_got, end_by, is_said, may_issue, up_after, can_find, lost, unasked};
+ghost use Rattle.octo_session.specs.Steps.{AreBytes, Takes, TakesSome, Issues, given_by, received_by, is_up_by, sends, speech, clock_steps, talk_steps};
 ghost use Rattle.octo_session.specs.Turn.{drawn, texts_in, is_unbroken, IsSpent};
 ghost use Rattle.octo_session.specs.declared.talk.Gave.TheVariants as gave;
 ghost use Rattle.octo_session.specs.declared.found.Doing.TheVariants as doing_now;
@@ -74,7 +74,12 @@ fn receive<L: Link>(
     }
 }
 
-// Issues the desk's next line, where it has one.
+// A text consists of bytes: its type says so, and this states it for proofs.
+fn has_bytes(text: &[u8])
+    ensures { AreBytes text.now }
+{}
+
+// Issues the desk's next line, if it has one.
 fn pull_one(
     desk: &mut Desk,
     sender: &mut Sender,
@@ -93,6 +98,7 @@ fn pull_one(
 {
     match desk.pull(moment) {
         Some(issued) => {
+            has_bytes(issued.text.as_slice());
             sender.push(issued.text.as_slice());
             lines.push(issued);
             true
@@ -237,6 +243,7 @@ fn proceed<L: Link>(
     ensures received { result.received ≡ received }
     ensures ended { (end : SessionEnd) → (result.fact ≡ fact.Ended end) ↔ ((tick_step moment sender.old).ended ≡ Some end) }
     ensures ready { (result.fact ≡ fact.Ready) ↔ ((was_ready ≡ false) × (sender.new.ready ≡ true)) }
+    ensures none_issued { is_said result.fact ≡ false → result.issued.items ≡ [] }
     ensures silent { result.fact ≡ fact.Ready → result.issued.items ≡ [] }
     ensures sent { result.fact ≡ fact.Ready → next_of sender.new ≡ None }
     ensures spent { result.fact ≡ fact.Quiet → IsSpent moment desk.new sender.new }
@@ -276,6 +283,8 @@ pub fn talk<L: Link>(
     ensures noted { IsNoted moment sender.new.acked result.fact (map line_of result.issued.items) desk.old result.ending desk.new }
     ensures ended { (end : SessionEnd) → (result.fact ≡ fact.Ended end) ↔ (end_by (got_of result.received line.new.items) moment sender.old ≡ Some end) }
     ensures ready { (result.fact ≡ fact.Ready) ↔ ((sender.old.ready ≡ false) × (sender.new.ready ≡ true)) }
+    ensures broken { got_of result.received line.new.items ≡ lost → result.fact ≡ fact.Failed }
+    ensures none_issued { may_issue (got_of result.received line.new.items) result.fact ≡ false → result.issued.items ≡ [] }
     ensures silent { result.fact ≡ fact.Ready → result.issued.items ≡ [] }
     ensures sent { result.fact ≡ fact.Ready → next_of sender.new ≡ None }
     ensures spent { result.fact ≡ fact.Quiet → IsSpent moment desk.new sender.new }

@@ -38,7 +38,7 @@ returns-then-send_all-clause-ready g c =
 
 pub returns-then-send_all-clause-steps : goal.returns-then-send_all-clause-steps
 returns-then-send_all-clause-steps g c =
-    takes_said c.args.moment _ _ _ _ _ _ _ true (texts_in (map line_of c.pull_all-issued.result.items)) c.args.sender.now c.pull_all-issued.new.sender c.send_all.new.sender c.pull_all-issued.ensures.steps c.if-send_all.ensures.steps
+    takes_said c.args.moment _ _ _ _ _ true (texts_in (map line_of c.pull_all-issued.result.items)) c.args.sender.now c.pull_all-issued.new.sender c.send_all.new.sender c.pull_all-issued.ensures.steps c.if-send_all.ensures.steps
 
 pub note-last-requires : goal.note-last-requires
 note-last-requires g c =
@@ -72,4 +72,4 @@ returns-clause-ready g c =
 
 pub returns-clause-steps : goal.returns-clause-steps
 returns-clause-steps g c =
-    takes_said c.args.moment _ _ _ _ _ _ _ false (texts_in (map line_of c.pull_all-issued.result.items)) c.args.sender.now c.pull_all-issued.new.sender c.send_all.new.sender c.pull_all-issued.ensures.steps c.if-send_all.ensures.steps
+    takes_said c.args.moment _ _ _ _ _ false (texts_in (map line_of c.pull_all-issued.result.items)) c.args.sender.now c.pull_all-issued.new.sender c.send_all.new.sender c.pull_all-issued.ensures.steps c.if-send_all.ensures.steps

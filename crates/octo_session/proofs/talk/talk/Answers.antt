@@ -5,7 +5,7 @@ use Rattle.octo_session.specs.Found.{Got, got_of, temps_in, temps_kept, is_got, 
 use Rattle.octo_session.specs.Steps.{TakesSome, talk_steps}
 use Rattle.octo_session.specs.Turn.{texts_in}
 use Rattle.octo_session.specs.declared.found.Received.{Received}
-use Rattle.octo_session.proofs.Stepping.{takes_talk, end_by_is, got_some}
+use Rattle.octo_session.proofs.Stepping.{takes_talk, end_by_is, got_some, got_kept, none_said}
 use Rattle.octo_session.proofs.talk.talk.Goals as goal
 
 pub returns-in_default : goal.returns-in_default
@@ -26,6 +26,8 @@ returns-in_default g c =
       noted = e.noted;
       ended = λ end. (λ is_end. ends_same ∙ (e.ended end).0 is_end, λ is_end. (e.ended end).1 (sym ends_same ∙ is_end));
       ready = (λ is_ready. (sym c.ready-was_ready.ensures.ready ∙ (e.ready.0 is_ready).0, (e.ready.0 is_ready).1), λ becomes. e.ready.1 (c.ready-was_ready.ensures.ready ∙ becomes.0, becomes.1));
+      broken = λ gone. absurd (got_kept got (got_of c.proceed.result.received bytes) got_same is gone);
+      none_issued = λ none. e.none_issued (none_said got (got_of c.proceed.result.received bytes) c.proceed.result.fact got_same is none);
       silent = e.silent;
       sent = e.sent;
       spent = e.spent;

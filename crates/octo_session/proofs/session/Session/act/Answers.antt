@@ -12,7 +12,7 @@ returns-in-Talking-clause-greatest g c = noted_greatest _ _ _ _ _ _ _ c.exchange
 
 pub returns-in-Resting-clause-steps : goal.returns-in-Resting-clause-steps
 returns-in-Resting-clause-steps g c =
-    takes_rest c.args.moment _ _ _ _ _ (doing c.args.self.now) c.args.self.now.up (got_of c.silent.result.received c.args.line.now.items) c.silent.result.fact (texts_in (map line_of c.silent.result.issued.items)) c.args.self.now.sender (sym c.doing.ensures.is ∙ c.in-Resting.is)
+    takes_rest c.args.moment _ _ _ (doing c.args.self.now) c.args.self.now.up (got_of c.silent.result.received c.args.line.now.items) c.silent.result.fact (texts_in (map line_of c.silent.result.issued.items)) c.args.self.now.sender (sym c.doing.ensures.is ∙ c.in-Resting.is)
 
 pub returns-in-Dialling-clause-calls : goal.returns-in-Dialling-clause-calls
 returns-in-Dialling-clause-calls g c calling = dial_calls c.dial.result.fact _ _ c.dial.ensures.finds c.dial.ensures.steps.calls

@@ -1,0 +1,12 @@
+pub mod Lists
+pub mod Ways
+pub mod Reading
+pub mod Moves
+pub mod Arrivals
+pub mod Free
+pub mod Hearing
+pub mod Sending
+pub mod Counting
+pub mod Starting
+pub mod Tracing
+pub mod Giving
