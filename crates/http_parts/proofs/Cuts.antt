@@ -38,12 +38,12 @@ none_past body line from at start front none =
 
 -- no delimiter is where something else follows the boundary
 pub none_here : (body line : List ℕ) (from place : ℕ) → Nowhere (IsDelimiter body line) from place → delimiter_of body line place ≡ None
-  → Nowhere (IsDelimiter body line) from (place + 1)
+    → Nowhere (IsDelimiter body line) from (place + 1)
 none_here body line from place front none = Nowhere-more front (λ is. false≢true (sym (ap is_some none) ∙ is.ends))
 
 -- the first delimiter
 pub next_here : (body line : List ℕ) (from place : ℕ) (d : Delimiter) → from ≤ place → Nowhere (IsDelimiter body line) from place
-  → OccursAt body line place → delimiter_of body line place ≡ Some d → d.at ≡ place → IsNextDelimiter body line from (Some d)
+    → OccursAt body line place → delimiter_of body line place ≡ Some d → d.at ≡ place → IsNextDelimiter body line from (Some d)
 next_here body line from place d low none occurs is here =
     let Next : ℕ → Type 0 = λ k. NoneBefore (IsDelimiter body line) from (length body + 1) k × OccursAt body line k × (delimiter_of body line k ≡ Some d) in
     subst Next (sym here) (record { low = low; high = omega (arith, occurs.fits); before = none }, occurs, is)

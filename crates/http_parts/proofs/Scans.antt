@@ -21,30 +21,30 @@ span_nil bytes i to past =
     ap (λ n. take n (drop i bytes)) none
 
 place_of_cons : (text : List ℕ) (at : ℕ) (list : List ℕ) (byte : ℕ) (rest : List ℕ) → list ≡ byte ∷ rest
-  → place_any_case text at list ≡ (if begins_any_case text list then Some at else place_any_case text (at + 1) rest)
+    → place_any_case text at list ≡ (if begins_any_case text list then Some at else place_any_case text (at + 1) rest)
 place_of_cons text at list byte rest e = rw e refl
 
 quoted_of_cons : (state : Quoting) (at : ℕ) (list : List ℕ) (byte : ℕ) (rest : List ℕ) → list ≡ byte ∷ rest
-  → quoted_end state at list ≡ (if is_outside (next_quoting state byte) then Some at else quoted_end (next_quoting state byte) (at + 1) rest)
+    → quoted_end state at list ≡ (if is_outside (next_quoting state byte) then Some at else quoted_end (next_quoting state byte) (at + 1) rest)
 quoted_of_cons state at list byte rest e = rw e refl
 
 value_of_cons : (key : List ℕ) (state : Quoting) (at : ℕ) (list : List ℕ) (byte : ℕ) (rest : List ℕ) → list ≡ byte ∷ rest
-  → value_place key state at list ≡ option_or (value_here key state at byte rest) (value_place key (next_quoting state byte) (at + 1) rest)
+    → value_place key state at list ≡ option_or (value_here key state at byte rest) (value_place key (next_quoting state byte) (at + 1) rest)
 value_of_cons key state at list byte rest e = rw e refl
 
 -- one step of each scan
 pub place_any_case_at : (text bytes : List ℕ) (i to : ℕ) → i < to → to ≤ length bytes
-  → place_any_case text i (slice_range bytes i to) ≡ (if begins_any_case text (slice_range bytes i to) then Some i
+    → place_any_case text i (slice_range bytes i to) ≡ (if begins_any_case text (slice_range bytes i to) then Some i
     else place_any_case text (i + 1) (slice_range bytes (i + 1) to))
 place_any_case_at text bytes i to below within = place_of_cons text i _ _ _ (span_cons bytes i to below within)
 
 pub quoted_end_at : (state : Quoting) (bytes : List ℕ) (i to : ℕ) → i < to → to ≤ length bytes
-  → quoted_end state i (slice_range bytes i to) ≡ (if is_outside (next_quoting state (get_or bytes i 0)) then Some i
+    → quoted_end state i (slice_range bytes i to) ≡ (if is_outside (next_quoting state (get_or bytes i 0)) then Some i
     else quoted_end (next_quoting state (get_or bytes i 0)) (i + 1) (slice_range bytes (i + 1) to))
 quoted_end_at state bytes i to below within = quoted_of_cons state i _ _ _ (span_cons bytes i to below within)
 
 pub value_place_at : (key : List ℕ) (state : Quoting) (bytes : List ℕ) (i to : ℕ) → i < to → to ≤ length bytes
-  → value_place key state i (slice_range bytes i to) ≡ option_or (value_here key state i (get_or bytes i 0) (slice_range bytes (i + 1) to))
+    → value_place key state i (slice_range bytes i to) ≡ option_or (value_here key state i (get_or bytes i 0) (slice_range bytes (i + 1) to))
     (value_place key (next_quoting state (get_or bytes i 0)) (i + 1) (slice_range bytes (i + 1) to))
 value_place_at key state bytes i to below within = value_of_cons key state i _ _ _ (span_cons bytes i to below within)
 

@@ -21,13 +21,13 @@ next_unique body line from (Some d) (Some e) is other =
     let same : d.at ≡ e.at =
     ⊎_elim (λ before. absurd (other.0.before d.at is.0.low before (record { occurs = is.1; ends = ap is_some is.2 })))
     (λ after. ⊎_elim (λ before. absurd (is.0.before e.at other.0.low before (record { occurs = other.1; ends = ap is_some other.2 })))
-      (λ below. omega arith) (cases_lt e.at d.at))
+    (λ below. omega arith) (cases_lt e.at d.at))
     (cases_lt d.at e.at) in
     sym is.2 ∙ ap (λ k. delimiter_of body line k) same ∙ other.2
 
 first_unique_at : (body dashes : List ℕ) (begins a b : Option Delimiter)
-  → MatchOption begins (IsNextDelimiter body (13 ∷ 10 ∷ dashes) 0 a) (λ d. a ≡ Some d)
-  → MatchOption begins (IsNextDelimiter body (13 ∷ 10 ∷ dashes) 0 b) (λ d. b ≡ Some d) → a ≡ b
+    → MatchOption begins (IsNextDelimiter body (13 ∷ 10 ∷ dashes) 0 a) (λ d. a ≡ Some d)
+    → MatchOption begins (IsNextDelimiter body (13 ∷ 10 ∷ dashes) 0 b) (λ d. b ≡ Some d) → a ≡ b
 first_unique_at body dashes None a b is other = next_unique body (13 ∷ 10 ∷ dashes) 0 a b is other
 first_unique_at body dashes (Some d) a b is other = is ∙ sym other
 
@@ -50,9 +50,9 @@ module _ (body dashes : List ℕ) where
       let before = walk_same r s (omega (arith, length-append ps (span_of p d.at ∷ []), length-append qs (span_of q e.at ∷ []))) in
       let from : p ≡ q = some_same p q before.1 in
       let one : d ≡ e = some_same d e (next_unique body (13 ∷ 10 ∷ dashes) p (Some d) (Some e) n
-        (subst (λ k. IsNextDelimiter body (13 ∷ 10 ∷ dashes) k (Some e)) (sym from) m)) in (
+      (subst (λ k. IsNextDelimiter body (13 ∷ 10 ∷ dashes) k (Some e)) (sym from) m)) in (
         ap (λ (l : List Span). l ++ span_of p d.at ∷ []) before.0 ∙ ap (λ k. qs ++ span_of k d.at ∷ []) from
-          ∙ ap (λ (x : Delimiter). qs ++ span_of q x.at ∷ []) one,
+            ∙ ap (λ (x : Delimiter). qs ++ span_of q x.at ∷ []) one,
         ap (λ (x : Delimiter). x.part) one,
       )
 
@@ -98,14 +98,14 @@ module _ (body dashes : List ℕ) where
       let step = walk_front r (length ps) below in
       let same : from ≡ step.from = some_same from step.from (walk_same s step.reached (sym step.count)).1 in
       none_some step.delimiter (next_unique body (13 ∷ 10 ∷ dashes) step.from None (Some step.delimiter)
-        (subst (λ k. IsNextDelimiter body (13 ∷ 10 ∷ dashes) k None) same none) step.is_next))
+      (subst (λ k. IsNextDelimiter body (13 ∷ 10 ∷ dashes) k None) same none) step.is_next))
       (λ above. ⊎_elim (λ below. not_longer r s below) (λ same. none_some from (walk_same r s (omega arith)).1) (cases_lt (length xs) (length ps)))
       (cases_lt (length ps) (length xs))
 
 form_unique : (body : List ℕ) (fields : List Field) (p q : Parts) → IsForm body fields p → IsForm body fields q → p ≡ q
 form_unique body fields p q is other =
     let make : Option Span → Option Span → Bool → Bool → Parts = λ name file select print.
-      record { name = name; file = file; select = select; print = print } in
+    record { name = name; file = file; select = select; print = print } in
     ap (λ v. make v p.file p.select p.print) (is.name ∙ sym other.name)
     ∙ ap (λ v. make q.name v p.select p.print) (is.file ∙ sym other.file)
     ∙ ap (λ v. make q.name q.file v p.print) (is.select ∙ sym other.select)
@@ -124,11 +124,11 @@ body_unique body dashes (bad xs p r d) (form ys q s e g) = absurd (none_some p (
 body_unique body dashes (form xs p r d f) (bad ys q s e) = absurd (none_some q (sym d ∙ ap (find (is_bad body)) (closed_unique body dashes r s) ∙ e))
 body_unique body dashes (form xs p r d f) (form ys q s e g) =
     ap Ok (form_unique body (filter_map (field_of body) xs) p q f
-      (subst (λ l. IsForm body (filter_map (field_of body) l) q) (sym (closed_unique body dashes r s)) g))
+    (subst (λ l. IsForm body (filter_map (field_of body) l) q) (sym (closed_unique body dashes r s)) g))
 
 says_unique_at : (body : List ℕ) (boundary : Option (List ℕ)) (a b : Result Parts PartFault)
-  → MatchOption boundary (a ≡ Err fault.NoBoundary) (λ t. BodySays body (45 ∷ 45 ∷ t) a)
-  → MatchOption boundary (b ≡ Err fault.NoBoundary) (λ t. BodySays body (45 ∷ 45 ∷ t) b) → a ≡ b
+    → MatchOption boundary (a ≡ Err fault.NoBoundary) (λ t. BodySays body (45 ∷ 45 ∷ t) a)
+    → MatchOption boundary (b ≡ Err fault.NoBoundary) (λ t. BodySays body (45 ∷ 45 ∷ t) b) → a ≡ b
 says_unique_at body None a b is other = is ∙ sym other
 says_unique_at body (Some t) a b is other = body_unique body (45 ∷ 45 ∷ t) is other
 

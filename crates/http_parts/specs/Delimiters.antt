@@ -29,7 +29,7 @@ abbrev pub IsNextDelimiter : List ℕ → List ℕ → ℕ → Option Delimiter 
 IsNextDelimiter body line from None = Nowhere (IsDelimiter body line) from (length body + 1)
 IsNextDelimiter body line from (Some delimiter) =
     NoneBefore (IsDelimiter body line) from (length body + 1) delimiter.at × OccursAt body line delimiter.at
-      × (delimiter_of body line delimiter.at ≡ Some delimiter)
+    × (delimiter_of body line delimiter.at ≡ Some delimiter)
 
 -- the delimiter that begins a body, where `--` and the boundary need no line end before them
 abbrev pub opening : List ℕ → List ℕ → Option Delimiter

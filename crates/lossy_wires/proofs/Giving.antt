@@ -185,5 +185,5 @@ module _ (start : List Logged) (issued : List (List ℕ)) where
         tallied = subst U (append-nil replies) led.tallied;
         sends = (inr (inr (failing, closes_free behind free)), led.sends);
         starts = λ events all. (let E : List WorldEvent → Type 0 = λ es. Each (IsStartKnown es) (world_from (apply w (Send sent)) (behind ++ Closed ∷ [])).down in
-        subst E (append_assoc events (Send sent ∷ []) (behind ++ Closed ∷ [])) (led.starts (events ++ Send sent ∷ []) (sent_starts w sent events all)));
+            subst E (append_assoc events (Send sent ∷ []) (behind ++ Closed ∷ [])) (led.starts (events ++ Send sent ∷ []) (sent_starts w sent events all)));
       }

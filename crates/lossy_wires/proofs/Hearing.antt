@@ -66,13 +66,17 @@ module _ (issued : List (List ℕ)) (moment : ℕ) (s : SenderData) (linked : Bo
     where
       none : issued ≡ []
       none = none_left issued (omega (arith, holds.count, sound.hello_first unready))
+
       gone : a.up ≡ []
       gone = none_left a.up (omega (arith, e.one))
+
       ran_by : (b : Bool) → a.ran ≡ b → a.ran ≡ true
       ran_by true is = is
       ran_by false is = absurd (omega (arith, e.unrun_ok is))
+
       ran : a.ran ≡ true
       ran = ran_by a.ran refl
+
       hello_by : Printed issued a.ran a.dropped last a.queue a.log → IsHeardSo issued (made_ready s) linked (record a { way = way })
       hello_by (before b) =
           let unran : a.ran ≡ false = b.unran in

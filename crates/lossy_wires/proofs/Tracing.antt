@@ -165,7 +165,7 @@ module _ (start : List Logged) where
         tallied = subst T (sym got) (tally_heard replies (kind_of line) s (hear_step (kind_of line) moment s) tallied (hear_counted start issued moment s w line rest on running front m));
         sends = (tt, tt);
         starts = λ events all. (let E : WorldData → Type 0 = λ v. Each (IsStartKnown (events ++ Recv ∷ [])) v.down in
-        subst E (sym (happens w Recv can)) (starts_more events (Recv ∷ []) (drop 1 w.down) (each_behind (IsStartKnown events) w.down all)));
+            subst E (sym (happens w Recv can)) (starts_more events (Recv ∷ []) (drop 1 w.down) (each_behind (IsStartKnown events) w.down all)));
       }
 
   -- a sender that gave a line out has counted as before

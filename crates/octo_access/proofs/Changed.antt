@@ -71,8 +71,8 @@ table-replaced row former rows table there own =
         few = rw long few;
       };
       ordered = λ k d low high.
-        let inside : k + 1 < length rows = rw long at high in
-        rw (name-kept row former rows i within at same (k + 1) d inside, name-kept row former rows i within at same k d (omega arith)) (table.ordered k d low inside);
+          let inside : k + 1 < length rows = rw long at high in
+          rw (name-kept row former rows i within at same (k + 1) d inside, name-kept row former rows i within at same k d (omega arith)) (table.ordered k d low inside);
     }
 
 -- a change that isn't refused

@@ -15,8 +15,8 @@ module _ {X : Type 0} where
 
   sorted-tail : (lt : X → X → Bool) (x : X) (xs : List X) → IsSortedBy lt (x ∷ xs) → IsSortedBy lt xs
   sorted-tail lt x xs up = λ k d low high.
-    let same : suc k + 1 ≡ suc (k + 1) = omega arith in
-    rw same at (up (suc k) d (omega arith) (omega arith))
+      let same : suc k + 1 ≡ suc (k + 1) = omega arith in
+      rw same at (up (suc k) d (omega arith) (omega arith))
 
   sorted-head : (lt : X → X → Bool) (x : X) (xs : List X) → IsSortedBy lt (x ∷ xs) → (d : X) → 0 < length xs → lt (get_or xs 0 d) x ≡ false
   sorted-head lt x xs up d some = up 0 d (omega arith) (omega arith)
@@ -24,8 +24,8 @@ module _ {X : Type 0} where
   sorted-cons : (lt : X → X → Bool) (x : X) (xs : List X) → ((d : X) → 0 < length xs → lt (get_or xs 0 d) x ≡ false) → IsSortedBy lt xs → IsSortedBy lt (x ∷ xs)
   sorted-cons lt x xs head tail zero d low high = head d (omega arith)
   sorted-cons lt x xs head tail (suc k) d low high =
-    let same : suc k + 1 ≡ suc (k + 1) = omega arith in
-    rw same (tail k d (omega arith) (omega arith))
+      let same : suc k + 1 ≡ suc (k + 1) = omega arith in
+      rw same (tail k d (omega arith) (omega arith))
 
   -- the first element after an insertion is the new one or the former first one
   first-inserted : (lt : X → X → Bool) (row x y : X) (ys : List X) (b : Bool) → lt y row ≡ b → lt row x ≡ false → lt y x ≡ false → (d : X) → lt (get_or (insert (y ∷ ys) (prefix_len (λ r. lt r row) (y ∷ ys)) row) 0 d) x ≡ false
@@ -38,11 +38,11 @@ module _ {X : Type 0} where
 
   inserted-more : (lt : X → X → Bool) (o : IsStrictWeakOrder lt) (row x : X) (xs : List X) (b : Bool) → lt x row ≡ b → IsSortedBy lt (x ∷ xs) → IsSortedBy lt (insert xs (prefix_len (λ r. lt r row) xs) row) → IsSortedBy lt (insert (x ∷ xs) (prefix_len (λ r. lt r row) (x ∷ xs)) row)
   inserted-more lt o row x xs true is up rest =
-    let behind : (d : X) → 0 < length (insert xs (prefix_len (λ r. lt r row) xs) row) → lt (get_or (insert xs (prefix_len (λ r. lt r row) xs) row) 0 d) x ≡ false =
-        λ d some. head-inserted lt row x xs (o.one_way x row is) (sorted-head lt x xs up) d in
-    rw (insert_past (λ r. lt r row) row x xs is) (sorted-cons lt x (insert xs (prefix_len (λ r. lt r row) xs) row) behind rest)
+      let behind : (d : X) → 0 < length (insert xs (prefix_len (λ r. lt r row) xs) row) → lt (get_or (insert xs (prefix_len (λ r. lt r row) xs) row) 0 d) x ≡ false =
+      λ d some. head-inserted lt row x xs (o.one_way x row is) (sorted-head lt x xs up) d in
+      rw (insert_past (λ r. lt r row) row x xs is) (sorted-cons lt x (insert xs (prefix_len (λ r. lt r row) xs) row) behind rest)
   inserted-more lt o row x xs false is up rest =
-    rw (insert_here (λ r. lt r row) row x xs is) (sorted-cons lt row (x ∷ xs) (λ d some. is) up)
+      rw (insert_here (λ r. lt r row) row x xs is) (sorted-cons lt row (x ∷ xs) (λ d some. is) up)
 
   pub sorted-inserted : (lt : X → X → Bool) (o : IsStrictWeakOrder lt) (row : X) (xs : List X) → IsSortedBy lt xs → IsSortedBy lt (insert xs (prefix_len (λ r. lt r row) xs) row)
   sorted-inserted lt o row [] up = λ k d low high. absurd (omega arith)

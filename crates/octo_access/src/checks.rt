@@ -106,7 +106,12 @@ impl Users {
     }
 
     /// Refuses a key that differs from the former row's and that the admin or a user has.
-    fn check_new_key(&self, policy: &Policy, former: &UserRow, row: &UserRow) -> Result<(), UserRefusal>
+    fn check_new_key(
+        &self,
+        policy: &Policy,
+        former: &UserRow,
+        row: &UserRow,
+    ) -> Result<(), UserRefusal>
         ensures { MatchResult result
             (λ _. new_key_taken policy.now former.now row.now self.now ≡ None)
             (λ refused. new_key_taken policy.now former.now row.now self.now ≡ Some refused) }

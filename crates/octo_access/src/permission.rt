@@ -112,7 +112,5 @@ fn find_named(permissions: &[Permission], text: &str) -> Option<Permission>
 pub(crate) fn grants(permissions: &[Permission], wanted: Permission) -> bool
     ensures { result ≡ grants wanted permissions.now }
 {
-    permissions
-        .iter()
-        .any(|permission| *permission == wanted || *permission == Permission::Admin)
+    permissions.iter().any(|permission| *permission == wanted || *permission == Permission::Admin)
 }

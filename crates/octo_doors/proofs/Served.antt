@@ -14,8 +14,14 @@ no_list : (ys : List ConnState) → None ≡ Some ys → ⊥
 no_list ys e = cc
 
 pub adds_conn : (keeps : Bool) (old : List ConnData) (conn : ConnData)
-  → Adds (option_map (map conn_state) (if keeps then Some old else None))
+    → Adds (option_map (map conn_state) (if keeps then Some old else None))
     (option_map (map conn_state) (if keeps then Some (old ++ conn ∷ []) else None)) (conn_state conn ∷ [])
-adds_conn true old conn now e = (map conn_state old, conn_state conn ∷ [], refl, sym (same_list (map conn_state (old ++ conn ∷ [])) now e)
-    ∙ map-append conn_state old (conn ∷ []), refl)
+adds_conn true old conn now e = (
+  map conn_state old,
+  conn_state conn ∷ [],
+  refl,
+  sym (same_list (map conn_state (old ++ conn ∷ [])) now e)
+      ∙ map-append conn_state old (conn ∷ []),
+  refl,
+)
 adds_conn false old conn now e = absurd (no_list now e)

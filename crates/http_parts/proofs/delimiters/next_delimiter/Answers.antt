@@ -28,7 +28,7 @@ loop-found-preserved c =
       low = omega (arith, c.loop-found.invariant.low);
       high = omega (arith, occurs.fits, c.requires.some);
       none = none_here body line c.args.from (at + found)
-        (none_before body line c.args.from at found c.loop-found.invariant.high c.loop-found.invariant.none finds.0) (sym c.in-None.ensures.value);
+          (none_before body line c.args.from at found c.loop-found.invariant.high c.loop-found.invariant.none finds.0) (sym c.in-None.ensures.value);
     }
 
 pub returns-clause-next : goal.returns-clause-next

@@ -8,14 +8,14 @@ pub returns-in-Some-clause-says : goal.returns-in-Some-clause-says
 returns-in-Some-clause-says c =
     let body = c.args.body.now in
     let dashes : drop 2 c.new-finder.result ≡ 45 ∷ 45 ∷ c.args.boundary.now = ap (drop 2)
-      (c.new-finder.ensures ∙ c.as_slice.ensures.value ∙ c.line_of-line.ensures) in
+    (c.new-finder.ensures ∙ c.as_slice.ensures.value ∙ c.line_of-line.ensures) in
     let seen = c.in-Some.ensures.seen in
     subst (λ d. BodySays body d c.result.result) dashes (says_all body
-      (drop 2 c.new-finder.result) seen.0 c.in-Some.seen c.result.result seen.1 seen.2 c.result.ensures.says)
+    (drop 2 c.new-finder.result) seen.0 c.in-Some.seen c.result.result seen.1 seen.2 c.result.ensures.says)
 
 pub returns-clause-says : goal.returns-clause-says
 returns-clause-says c =
     let body = c.args.body.now in
     let dashes : drop 2 c.new-finder.result ≡ 45 ∷ 45 ∷ c.args.boundary.now = ap (drop 2)
-      (c.new-finder.ensures ∙ c.as_slice.ensures.value ∙ c.line_of-line.ensures) in
+    (c.new-finder.ensures ∙ c.as_slice.ensures.value ∙ c.line_of-line.ensures) in
     subst (λ d. BodySays body d (Err NoClose)) dashes (unclosed c.in-None.ensures.unclosed)

@@ -48,8 +48,12 @@ loop-delimiter-preserved c =
     record {
       low = omega (arith, bounds.0);
       high = bounds.1;
-      reached = (spans, subst (Reaches body dashes spans) c.in-Some-part.is
-        (next reached.0 from delimiter reached.1 is_next), c.note.ensures.seen reached.0 reached.2);
+      reached = (
+        spans,
+        subst (Reaches body dashes spans) c.in-Some-part.is
+            (next reached.0 from delimiter reached.1 is_next),
+        c.note.ensures.seen reached.0 reached.2,
+      );
       within = c.note.ensures.within c.loop-delimiter.invariant.within;
     }
 

@@ -7,4 +7,4 @@ use Rattle.http_parts.proofs.parameters.value_place.Given as goal
 abbrev pub invariant-loop-from : goal.invariant-loop-from
 invariant-loop-from l =
     value_place l.key l.quoting l.from (slice_range l.bytes l.from l.from-end) ≡ value_place l.key Outside l.fn.span.from
-      (slice_range l.bytes l.fn.span.from l.fn.span.to)
+    (slice_range l.bytes l.fn.span.from l.fn.span.to)

@@ -14,6 +14,6 @@ returns-in-Ok-clause-served c =
     let is = ap (λ (d : DoorData). d.served) c.self.view_is in
     let pushed = c.in-Ok.ensures.ok in
     subst (λ (served : Option (List ConnData)). Adds (option_map (map conn_state) served)
-      (option_map (map conn_state) (if keeps then Some c.push.new.self else None)) (conn_state conn ∷ [])) is
+    (option_map (map conn_state) (if keeps then Some c.push.new.self else None)) (conn_state conn ∷ [])) is
     (subst (λ (list : List ConnData). Adds (option_map (map conn_state) (if keeps then Some old else None))
-      (option_map (map conn_state) (if keeps then Some list else None)) (conn_state conn ∷ [])) (sym pushed) (adds_conn keeps old conn))
+    (option_map (map conn_state) (if keeps then Some list else None)) (conn_state conn ∷ [])) (sym pushed) (adds_conn keeps old conn))
