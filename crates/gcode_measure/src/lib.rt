@@ -1,0 +1,20 @@
+//! What a G-code file measures, and the file that goes on at one of its commands.
+//!
+//! Positions are whole millionths of a millimetre, all 0 at first, with absolute modes, as Marlin keeps them (its `G0`
+//! to `G3`, `G28`, `G90` to `G92`, `M82` and `M83`).
+#![tactic(auto)]
+
+mod fault;
+mod head;
+mod kind;
+mod measuring;
+mod pass;
+mod totals;
+mod values;
+
+pub use fault::MeasureFault;
+pub use measuring::measure;
+pub use totals::{Extent, Measure};
+
+#[cfg(test)]
+mod tests;
