@@ -11,3 +11,17 @@ pub enum MeasureFault {
     #[error("line {line}: too far")]
     TooFar { line: u32 },
 }
+
+/// Why there is no file that goes on at a command.
+#[derive(Clone, Copy, Debug, PartialEq, Eq, Error)]
+pub enum RestFault {
+    /// A command before it is refused.
+    #[error(transparent)]
+    Measure(MeasureFault),
+    /// There is no such command: the file has this many.
+    #[error("{count} commands")]
+    Past { count: u32 },
+    /// Out of memory.
+    #[error("no memory")]
+    NoMemory,
+}

@@ -4,16 +4,19 @@
 //! to `G3`, `G28`, `G90` to `G92`, `M82` and `M83`).
 #![tactic(auto)]
 
+mod decimal;
 mod fault;
 mod head;
 mod kind;
 mod measuring;
 mod pass;
+mod remainder;
 mod totals;
 mod values;
 
-pub use fault::MeasureFault;
+pub use fault::{MeasureFault, RestFault};
 pub use measuring::measure;
+pub use remainder::rest;
 pub use totals::{Extent, Measure};
 
 #[cfg(test)]

@@ -30,3 +30,16 @@ fn measures_the_file(rt: HostRuntime) -> Result<(), Fail> {
     assert_eq!(rt; found, want);
     Ok(())
 }
+
+#[test]
+fn goes_on_at_a_command(rt: HostRuntime) -> Result<(), Fail> {
+    let job = read_commands(rt.alloc(), FILE)?;
+    let text = rest(rt.alloc(), &job, 4)?;
+    let want = b"G90\nM83\nG92 X20.000000 Y5.000000 Z0.000000 E1.500000\nG92 E0\nG91\nG1 Z0.2 E1\n";
+    assert_eq!(rt; text.as_slice(), want.as_slice());
+    assert_eq!(rt;
+        rest(rt.alloc(), &job, 8).err(),
+        Some(RestFault::Past { count: 7 })
+    );
+    Ok(())
+}
