@@ -4,7 +4,7 @@ ghost use Rattle.gcode_lines.specs.Job.{texts_of};
 ghost use Rattle.gcode_lines.specs.Text.{is_numbered};
 ghost use Rattle.gcode_measure.specs.Head.{head_of};
 ghost use Rattle.gcode_measure.specs.Measured.{first_fault};
-ghost use Rattle.gcode_measure.specs.Rest.{axes_command, extruder_command, axis_text, position_command, line_of, ended, text_of_lines, rest_lines, rest_of, IsHeadBefore};
+ghost use Rattle.gcode_measure.specs.Rest.{axes_command, extruder_command, axis_text, position_command, line_of, ended, text_of_lines, rest_lines, rest_of, IsHeadBefore, IsRest};
 
 use crate::decimal::put_micro;
 use crate::fault::{MeasureFault, RestFault};
@@ -117,7 +117,8 @@ fn write_rest(alloc: Global, job: &Job, from: usize, head: &Head) -> Result<Blob
 ///
 /// It neither heats nor homes, and the printer must stand where the file says.
 pub fn rest(alloc: Global, job: &Job, from: usize) -> Result<Blob, RestFault>
-    ensures { (result ≡ Err RestFault.NoMemory) ⊎ (result ≡ rest_of job.now from) }
+    ensures exact { (result ≡ Err RestFault.NoMemory) ⊎ (result ≡ rest_of job.now from) }
+    ensures goes_on { IfOk result (IsRest job.now from) }
 {
     if from > job.count() {
         return Err(RestFault::Past {
