@@ -9,7 +9,7 @@ use Rattle.byte_text.specs.Marks.{has_m110}
 use Rattle.gcode_lines.specs.declared.fault.FileFault.{FileFault}
 use Rattle.gcode_lines.specs.declared.fault.FileFault.TheVariants.{TooLong, ControlByte, TooLarge}
 use Rattle.gcode_lines.specs.Job.{JobData, most_bytes, texts_of}
-use Rattle.gcode_lines.specs.Commands.{FileLine, file_line, in_front, pieces_of, numbered, lines_of, is_skipped_line, fault_at, first_fault, commands_in, skipped_in, unless_fault, job_of}
+use Rattle.gcode_lines.specs.Commands.{FileLine, file_line, in_front, pieces_of, numbered, lines_of, is_skipped_line, fault_at, first_fault, commands_in, unless_fault, job_in as lines_job, job_of}
 use Rattle.gcode_lines.specs.Text.{text_of, is_skipped, is_too_long, is_control, has_control, is_numbered}
 use Rattle.gcode_measure.specs.Rest.{line_of, ended, text_of_lines}
 use Rattle.gcode_measure.proofs.PlainLaws.{IsPlain, plain-text_of, text_of-plain, without_number-bare, text_of-behind, list_any-stronger}
@@ -59,9 +59,9 @@ commands-of_lines (line ∷ lines) sound =
     let parts = both_none (fault_at line) (first_fault lines) sound in
     commands_by line lines (is_skipped_line line) refl parts.0 (commands-of_lines lines parts.1)
 
--- the job of lines, were there no fault
+-- the job of a file, were there no fault
 abbrev pub job_in : List ℕ → JobData
-job_in bytes = record { commands = commands_in (lines_of bytes); skipped = skipped_in (lines_of bytes); bytes = length bytes }
+job_in bytes = lines_job bytes (lines_of bytes)
 
 job_by : (large : Bool) (fault : Option FileFault) (bytes : List ℕ) (job : JobData) → cond large (Err (TooLarge (length bytes))) (unless_fault fault (job_in bytes)) ≡ Ok job → (fault ≡ None) × (job_in bytes ≡ job)
 job_by true fault bytes job e = absurd cc

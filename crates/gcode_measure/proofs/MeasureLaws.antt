@@ -61,7 +61,7 @@ measured-push texts text =
     ∙ measure_by-step (is_move text) (length texts) (moves_of texts) step
 
 abbrev no_command : Command
-no_command = record { text = []; line = 0; place = 0 }
+no_command = record { text = []; line = 0; place = 0; begin = 0 }
 
 -- the first fault from a command on is its own or a later one
 pub first_fault-from : (commands : List Command) (i : ℕ) (text : List ℕ) (line : ℕ) → i < length commands → text ≡ get_or (map (λ c. c.text) commands) i [] → line ≡ get_or (map (λ c. c.line) commands) i 0 → first_fault (take i (map (λ c. c.text) commands)) (drop i commands) ≡ option_or (fault_by text line (head_of (take i (map (λ c. c.text) commands) ++ text ∷ []))) (first_fault (take i (map (λ c. c.text) commands) ++ text ∷ []) (drop (i + 1) commands))

@@ -5,4 +5,5 @@ pub mod Measured
 pub mod Pass
 pub mod Position
 pub mod Rest
+pub mod Shown
 pub mod Values

@@ -41,7 +41,7 @@ fn put_sign(text: &mut Blob, micro: i128) -> Result<(), AllocError>
 }
 
 /// Adds a number in decimal.
-fn put_whole(text: &mut Blob, n: u128) -> Result<(), AllocError>
+pub(crate) fn put_whole(text: &mut Blob, n: u128) -> Result<(), AllocError>
     ensures { OnOk result (text.new ≡ text.old ++ decimal n) }
 {
     let mut buffer = Buffer::new();

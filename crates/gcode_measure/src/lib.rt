@@ -11,12 +11,14 @@ mod kind;
 mod measuring;
 mod pass;
 mod remainder;
+mod shown;
 mod totals;
 mod values;
 
 pub use fault::{MeasureFault, RestFault};
 pub use measuring::measure;
 pub use remainder::rest;
+pub use shown::measure_text;
 pub use totals::{Extent, Measure};
 
 #[cfg(test)]

@@ -115,7 +115,10 @@ fn write_rest(alloc: Global, job: &Job, from: usize, head: &Head) -> Result<Blob
 /// has the commands from there on. Past comes first, exactly if there are fewer commands; then the first of the commands
 /// before that is refused; NoMemory may come at any point.
 ///
-/// It neither heats nor homes, and the printer must stand where the file says.
+/// It neither heats nor homes: the nozzle must be where its third line says before that is run. A command that begins with
+/// `N` and a digit gets the line number `N0`, so that it isn't taken for a numbered line.
+///
+/// Source: Marlin's G-code reference, `G90` to `G92`, `M82` and `M83`.
 pub fn rest(alloc: Global, job: &Job, from: usize) -> Result<Blob, RestFault>
     ensures exact { (result ≡ Err RestFault.NoMemory) ⊎ (result ≡ rest_of job.now from) }
     ensures goes_on { IfOk result (IsRest job.now from) }
