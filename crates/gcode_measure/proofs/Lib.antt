@@ -1,0 +1,12 @@
+pub mod DecimalLaws
+pub mod GoesOnLaws
+pub mod HeadLaws
+pub mod HeaderLaws
+pub mod LineLaws
+pub mod MeasureLaws
+pub mod PlainLaws
+pub mod PositionLaws
+pub mod ReadBackLaws
+pub mod RestLaws
+pub mod StepLaws
+pub mod ValueLaws

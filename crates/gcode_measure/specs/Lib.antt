@@ -1,0 +1,9 @@
+pub mod Decimal
+pub mod Head
+pub mod Kind
+pub mod Measured
+pub mod Pass
+pub mod Position
+pub mod Rest
+pub mod Shown
+pub mod Values
