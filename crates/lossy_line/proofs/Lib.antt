@@ -1,0 +1,9 @@
+pub mod Stepping
+pub mod Speech
+pub mod Open
+pub mod Quiet
+pub mod Ends
+pub mod Causes
+pub mod Turning
+pub mod Told
+pub mod Tying
