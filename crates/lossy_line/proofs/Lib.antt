@@ -5,5 +5,7 @@ pub mod Quiet
 pub mod Ends
 pub mod Causes
 pub mod Turning
-pub mod Told
 pub mod Tying
+pub mod Former
+pub mod Promised
+pub mod Told

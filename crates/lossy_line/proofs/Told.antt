@@ -1,5 +1,5 @@
 -- A turn over a link that records its history, or doesn't.
-use Rattle.std.proofs.Common.{◌≡◌, ◌≢◌, ◌↔◌, ℕ, Bool, true, false, List, [], ◌∷◌, ◌++◌, map, refl, sym, ◌∙◌, ap, subst}
+use Rattle.std.proofs.Common.{◌≡◌, ◌≢◌, ◌↔◌, ◌⊎◌, inl, inr, ℕ, ◌-◌, Bool, true, false, List, [], ◌∷◌, ◌++◌, map, refl, sym, ◌∙◌, ap, subst}
 use Rattle.std.specs.Prelude.{Option, None, Some, IfSome}
 use Rattle.desk_steps.specs.Data.{Line}
 use Rattle.job_desk.specs.declared.issued.Note.{Note}
@@ -13,7 +13,11 @@ use Rattle.octo_session.specs.Found.{Got, can_find, up_after}
 use Rattle.octo_session.specs.Turn.{IsTurn, IsUneventful, IsNoteOf, IsSpent, fact_of, lines_of, texts_in}
 use Rattle.octo_session.specs.declared.found.Turned.{Turned}
 use Rattle.lossy_line.specs.Issuing.{issued_in}
-use Rattle.lossy_line.specs.Linked.{IsLinked, LinkedAs}
+use Rattle.lossy_line.specs.Linked.{IsUnopened, IsLinked, LinkedAs}
+use Rattle.lossy_line.specs.Tied.{IsTied, TiedAs, WasUnopened, FormerTiedAs, IsEndCaused, EndCausedAs}
+use Rattle.lossy_line.proofs.Promised.{linked_tied, turn_former, turn_caused}
+use Rattle.marlin_reply.specs.declared.session.SessionEnd.{SessionEnd}
+use Rattle.printer_model.specs.Executed.{opens}
 use Rattle.lossy_line.proofs.Quiet.{StaysUp}
 use Rattle.lossy_line.proofs.Turning.{IsTurned, turn_links}
 
@@ -80,3 +84,26 @@ module _ (moment : ℕ) (kind : LinkKind) (old_past new_past : Option (List Worl
       let found : fact_of turned.note ≡ t.found = noted_fact turned.note moment old.sender.acked new.sender.acked t.lines t.got t.found t.none t.some in
       let lines : lines_of turned.note ≡ t.lines = noted_lines turned.note moment old.sender.acked new.sender.acked t.lines t.got t.found t.none t.some in
       subst X (sym lines) (subst F (sym found) (subst L (sym by.3) (turn_links moment kind old new t.got t.found (texts_in t.lines) issued by.0 by.1 by.4 (linked by.0 by.2))))
+
+  -- each session of the history is tied, and an end has its cause
+  pub turn_tied : IsTurn moment kind old_past new_past old_calls new_calls old new turned → IsKept moment old new turned → (issued : List (List ℕ)) → LinkedAs kind old_past issued old → TiedAs kind new_past (issued_in (fact_of turned.note) (texts_in (lines_of turned.note)) issued) new
+  turn_tied t k issued linked now is =
+      linked_tied kind (issued_in (fact_of turned.note) (texts_in (lines_of turned.note)) issued) new now (turn_linked t k issued linked now is)
+
+  pub turn_former_tied : IsTurn moment kind old_past new_past old_calls new_calls old new turned → IsKept moment old new turned → fact_of turned.note ≡ fact.Opened → (issued : List (List ℕ)) → LinkedAs kind old_past issued old → FormerTiedAs kind old_past new_past issued old
+  turn_former_tied t k opens_now issued linked now is =
+      let by = turned_by t k now is in
+      let found : fact_of turned.note ≡ t.found = noted_fact turned.note moment old.sender.acked new.sender.acked t.lines t.got t.found t.none t.some in
+      let P : List WorldEvent → Type 0 = λ es. WasUnopened kind old_past issued old ⊎ IsTied kind issued old.sender.acked es (opens es - 1) in
+      subst P (sym by.3) (former_or by.0 by.1 by.2 (turn_former moment kind old new t.got t.found (texts_in t.lines) issued by.0 by.1 (sym found ∙ opens_now) by.4 (linked by.0 by.2)))
+      where
+        former_or : (past added : List WorldEvent) → old_past ≡ Some past → IsUnopened kind issued old past ⊎ IsTied kind issued old.sender.acked (past ++ added) (opens (past ++ added) - 1) → WasUnopened kind old_past issued old ⊎ IsTied kind issued old.sender.acked (past ++ added) (opens (past ++ added) - 1)
+        former_or past added e (inl u) = inl (record { past = past; is = e; unopened = u })
+        former_or past added e (inr tied) = inr tied
+
+  pub turn_end_caused : IsTurn moment kind old_past new_past old_calls new_calls old new turned → IsKept moment old new turned → (end : SessionEnd) → fact_of turned.note ≡ fact.Ended end → (issued : List (List ℕ)) → LinkedAs kind old_past issued old → EndCausedAs kind new_past end
+  turn_end_caused t k end ends issued linked now is =
+      let by = turned_by t k now is in
+      let found : fact_of turned.note ≡ t.found = noted_fact turned.note moment old.sender.acked new.sender.acked t.lines t.got t.found t.none t.some in
+      let P : List WorldEvent → Type 0 = λ es. IsEndCaused kind end es in
+      subst P (sym by.3) (turn_caused moment kind old new t.got t.found (texts_in t.lines) issued by.0 by.1 end (sym found ∙ ends) by.4 (linked by.0 by.2))

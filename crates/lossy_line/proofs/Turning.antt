@@ -52,7 +52,7 @@ pub record IsTurned (moment : ℕ) (kind : LinkKind) (old new : SessionData) (go
   pub steps : AreAdded moment kind.prompt (turn_steps (doing old) old.up got found texts count) old.sender w added
 
 -- a turn talks only over a link that is up, and dials only if it isn't
-talks_up : (x : SessionData) → doing x ≡ Talking → x.up ≡ true
+pub talks_up : (x : SessionData) → doing x ≡ Talking → x.up ≡ true
 talks_up x is = grind (arith, common_steps)
 
 dials_down : (x : SessionData) → doing x ≡ Dialling → x.up ≡ false
@@ -77,7 +77,7 @@ linked_after moment kind old new got found texts w added t is =
     ∙ sym t.up
 
 -- a link is made in a turn that dials
-opens_dialling : (d : Doing) → can_find d fact.Opened ≡ true → d ≡ Dialling
+pub opens_dialling : (d : Doing) → can_find d fact.Opened ≡ true → d ≡ Dialling
 opens_dialling Dialling can = refl
 opens_dialling HangingUp can = absurd (cc)
 opens_dialling Talking can = absurd (cc)
@@ -208,7 +208,7 @@ module _ (moment : ℕ) (kind : LinkKind) (old new : SessionData) (got : Got) (f
         issued_idle Resting was_up g f ts count i o = refl
 
   -- the session of a link goes on
-  going_on : (found ≡ fact.Opened → ⊥) → IsTurned moment kind old new got found texts (world_in kind past) added → IsOpened kind issued old past → IsOpened kind (issued_in found texts issued) new (past ++ added)
+  pub going_on : (found ≡ fact.Opened → ⊥) → IsTurned moment kind old new got found texts (world_in kind past) added → IsOpened kind issued old past → IsOpened kind (issued_in found texts issued) new (past ++ added)
   going_on other t o =
       let start : List Logged = (world_in kind o.front).log in
       let base : WorldData = apply (world_in kind o.front) (Opened o.last) in

@@ -76,7 +76,7 @@ executed_by issued ran d last queue log (after p) =
     })
 
 -- the last session is tied
-tied_at : (kind : LinkKind) (issued : List (List ℕ)) (s : SenderData) (front : List WorldEvent) (last : ℕ) (rest : List WorldEvent) → IsTraced (world_in kind front).log (apply (world_in kind front) (Opened last)) issued s rest → IsTied kind issued s.acked (front ++ Opened last ∷ rest) (suc (opens front))
+pub tied_at : (kind : LinkKind) (issued : List (List ℕ)) (s : SenderData) (front : List WorldEvent) (last : ℕ) (rest : List WorldEvent) → IsTraced (world_in kind front).log (apply (world_in kind front) (Opened last)) issued s rest → IsTied kind issued s.acked (front ++ Opened last ∷ rest) (suc (opens front))
 tied_at kind issued s front last rest traced =
     let past : List WorldEvent = front ++ Opened last ∷ rest in
     let base : WorldData = apply (world_in kind front) (Opened last) in

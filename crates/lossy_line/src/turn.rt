@@ -10,6 +10,8 @@ ghost use Rattle.octo_session.specs.Turn.{fact_of, lines_of, texts_in, IsSpent, 
 ghost use Rattle.octo_session.specs.declared.found.Doing.TheVariants as now_doing;
 ghost use Rattle.lossy_line.specs.Issuing.{issued_in};
 ghost use Rattle.lossy_line.specs.Linked.{LinkedAs};
+ghost use Rattle.lossy_line.specs.Tied.{TiedAs, FormerTiedAs, EndCausedAs};
+ghost use Rattle.marlin_reply.specs.declared.session.SessionEnd.{SessionEnd};
 
 use octo_session::{Session, Turned};
 use printer_link::Link;
@@ -29,6 +31,25 @@ pub fn turn_over_link<L: Link>(session: &mut Session, link: &mut L, moment: u64)
         (issued : List (List ℕ)) → LinkedAs (L.kind link.old) (L.past link.old) issued session.old
         → LinkedAs (L.kind link.new) (L.past link.new)
           (issued_in (fact_of result.note) (texts_in (lines_of result.note)) issued) session.new
+    }
+
+    // Each session of the history is tied to its issued lines: the last one, and before a further link the former one.
+    ensures tied {
+        (issued : List (List ℕ)) → LinkedAs (L.kind link.old) (L.past link.old) issued session.old
+        → TiedAs (L.kind link.new) (L.past link.new)
+          (issued_in (fact_of result.note) (texts_in (lines_of result.note)) issued) session.new
+    }
+    ensures former {
+        fact_of result.note ≡ fact.Opened
+        → (issued : List (List ℕ)) → LinkedAs (L.kind link.old) (L.past link.old) issued session.old
+        → FormerTiedAs (L.kind link.new) (L.past link.old) (L.past link.new) issued session.old
+    }
+
+    // No false end: a session ends with a cause that its history shows.
+    ensures caused {
+        (end : SessionEnd) → fact_of result.note ≡ fact.Ended end
+        → (issued : List (List ℕ)) → LinkedAs (L.kind link.old) (L.past link.old) issued session.old
+        → EndCausedAs (L.kind link.new) (L.past link.new) end
     }
 
     // As `Session::turn`.
