@@ -93,7 +93,7 @@ tick_fair : (moment : ℕ) (s : SenderData) (ended : Option SessionEnd) → s.en
 tick_fair moment s None is fair = tick_fair_by moment s (tick_step moment s).ended is refl
 tick_fair moment s (Some why) is fair = subst IsFair (sym (tick_keeps_end moment s why is)) fair
 
-tick_flags : (moment : ℕ) (s : SenderData) → SameFlags s (tick_step moment s)
+pub tick_flags : (moment : ℕ) (s : SenderData) → SameFlags s (tick_step moment s)
 tick_flags moment s = record {
   ready = grind (arith, common_steps);
   acked = grind (arith, common_steps);

@@ -1,0 +1,43 @@
+-- A further link leaves the session before it tied.
+use Rattle.std.proofs.Common.{◌≡◌, ℕ, zero, suc, pred, ◌+◌, ◌-◌, ◌<◌, ◌≤◌, List, [], ◌∷◌, ◌++◌, length, take, drop, refl, sym, ◌∙◌, ap, subst, append_assoc, arith}
+use Rattle.printer_model.specs.Printer.{Logged}
+use Rattle.printer_model.specs.World.{WorldData, apply}
+use Rattle.printer_model.specs.Executed.{opens, till, executed}
+use Rattle.printer_model.specs.Exchanged.{session_of}
+use Rattle.printer_model.specs.declared.event.WorldEvent.{WorldEvent}
+use Rattle.printer_model.specs.declared.event.WorldEvent.TheVariants.{Opened}
+use Rattle.printer_model.proofs.Sessions.{opens-append, till-all, till-append}
+use Rattle.printer_model.proofs.Starts.{till-stop, executed-before, opens-free}
+use Rattle.printer_link.specs.Link.{LinkKind, world_in}
+use Rattle.lossy_wires.specs.Traces.{replies_from, AreSendsFit}
+use Rattle.send_window.specs.Counting.{acked_of}
+use Rattle.lossy_line.specs.Tied.{logged_from, world_before, IsTied}
+
+pred_below : (n : ℕ) → 1 ≤ n → pred n < n
+pred_below zero some = absurd (omega arith)
+pred_below (suc n) some = omega arith
+
+-- what a further session leaves of the one before it
+pub former_tied : (kind : LinkKind) (issued : List (List ℕ)) (acked : ℕ) (past rest : List WorldEvent) (last : ℕ) → 1 ≤ opens past → IsTied kind issued acked past (opens past) → IsTied kind issued acked (past ++ Opened last ∷ rest) (opens past)
+former_tied kind issued acked past rest last some t =
+    let s : ℕ = opens past in
+    let all : List WorldEvent = past ++ Opened last ∷ rest in
+    let ran : executed kind.slots kind.numbered all s ≡ executed kind.slots kind.numbered past s = executed-before kind.slots kind.numbered past rest last s (omega arith) in
+    let here : till s all ≡ till s past = till-stop past rest last ∙ sym (till-all s past (omega arith)) in
+    let before : till (pred s) all ≡ till (pred s) past = till-append (pred s) past (Opened last ∷ rest) (pred_below s some) in
+    let world : world_before kind all s ≡ world_before kind past s = ap (world_in kind) before in
+    let events : session_of s all ≡ session_of s past =
+    ap (λ (es : List WorldEvent). drop (length es) (till s all)) before ∙ ap (drop (length (till (pred s) past))) here
+    in
+    let E : List Logged → Type 0 = λ l. l ≡ logged_from 1 (take (length l) issued) in
+    let A : List Logged → Type 0 = λ l. acked ≤ length l in
+    let S : WorldData → Type 0 = λ w. AreSendsFit issued [] w (session_of s all) in
+    let V : List WorldEvent → Type 0 = λ es. AreSendsFit issued [] (world_before kind past s) es in
+    record {
+      executed_first = subst E (sym ran) t.executed_first;
+      acked_is = t.acked_is
+          ∙ ap (λ (es : List WorldEvent). acked_of (replies_from (world_before kind past s) es)) (sym events)
+          ∙ ap (λ (w : WorldData). acked_of (replies_from w (session_of s all))) (sym world);
+      acked_run = subst A (sym ran) t.acked_run;
+      sends = subst S (sym world) (subst V (sym events) t.sends);
+    }

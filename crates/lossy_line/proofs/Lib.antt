@@ -1,0 +1,11 @@
+pub mod Stepping
+pub mod Speech
+pub mod Open
+pub mod Quiet
+pub mod Ends
+pub mod Causes
+pub mod Turning
+pub mod Tying
+pub mod Former
+pub mod Promised
+pub mod Told

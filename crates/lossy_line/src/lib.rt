@@ -1,0 +1,6 @@
+//! The turn of a session over a line that may lose, corrupt or delay lines, to a printer that may restart.
+#![tactic(auto)]
+
+mod turn;
+
+pub use turn::turn_over_link;

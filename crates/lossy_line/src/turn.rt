@@ -1,0 +1,83 @@
+//! A turn of a session, with what holds of it whatever the line does.
+ghost use Rattle.std.specs.Prelude.{◌≡◌, ◌↔◌, ◌≤◌, ℕ, List, [], true, false, None};
+ghost use Rattle.octo_outside.specs.Told.{Rose};
+ghost use Rattle.marlin_reply.specs.declared.session.LinkFact.TheVariants as fact;
+ghost use Rattle.printer_link.specs.Link.{RoseBy};
+ghost use Rattle.send_window.specs.Sending.{next_of};
+ghost use Rattle.octo_session.specs.Data.{IsSession, doing, is_calling, port_of};
+ghost use Rattle.octo_session.specs.Found.{up_after, can_find};
+ghost use Rattle.octo_session.specs.Turn.{fact_of, lines_of, texts_in, IsSpent, IsTurn};
+ghost use Rattle.octo_session.specs.declared.found.Doing.TheVariants as now_doing;
+ghost use Rattle.lossy_line.specs.Issuing.{issued_in};
+ghost use Rattle.lossy_line.specs.Linked.{LinkedAs};
+ghost use Rattle.lossy_line.specs.Tied.{TiedAs, FormerTiedAs, EndCausedAs};
+ghost use Rattle.marlin_reply.specs.declared.session.SessionEnd.{SessionEnd};
+
+use octo_session::{Session, Turned};
+use printer_link::Link;
+
+/// One turn of a session at a moment that isn't before the last one, in milliseconds: it dials, hangs up, or receives one
+/// line and sends what is due. `Session::turn` says in which order.
+///
+/// Whatever the link lost, corrupted or delayed, and whenever the printer restarted: if session, issued lines and history
+/// fitted together before the turn, they do so after it.
+pub fn turn_over_link<L: Link>(session: &mut Session, link: &mut L, moment: u64) -> Turned
+    requires { L.up link.old ≡ session.old.up }
+    ensures turn {
+        IsTurn moment (L.kind link.old) (L.past link.old) (L.past link.new)
+        (L.calls link.old) (L.calls link.new) session.old session.new result
+    }
+    ensures linked {
+        (issued : List (List ℕ)) → LinkedAs (L.kind link.old) (L.past link.old) issued session.old
+        → LinkedAs (L.kind link.new) (L.past link.new)
+          (issued_in (fact_of result.note) (texts_in (lines_of result.note)) issued) session.new
+    }
+
+    // Each session of the history is tied to its issued lines: the last one, and before a further link the former one.
+    ensures tied {
+        (issued : List (List ℕ)) → LinkedAs (L.kind link.old) (L.past link.old) issued session.old
+        → TiedAs (L.kind link.new) (L.past link.new)
+          (issued_in (fact_of result.note) (texts_in (lines_of result.note)) issued) session.new
+    }
+    ensures former {
+        fact_of result.note ≡ fact.Opened
+        → (issued : List (List ℕ)) → LinkedAs (L.kind link.old) (L.past link.old) issued session.old
+        → FormerTiedAs (L.kind link.new) (L.past link.old) (L.past link.new) issued session.old
+    }
+
+    // No false end: a session ends with a cause that its history shows.
+    ensures caused {
+        (end : SessionEnd) → fact_of result.note ≡ fact.Ended end
+        → (issued : List (List ℕ)) → LinkedAs (L.kind link.old) (L.past link.old) issued session.old
+        → EndCausedAs (L.kind link.new) (L.past link.new) end
+    }
+
+    // As `Session::turn`.
+    ensures finds { can_find (doing session.old) (fact_of result.note) ≡ true }
+    ensures up { session.new.up ≡ up_after (fact_of result.note) session.old.up }
+    ensures link { L.up link.new ≡ session.new.up }
+    ensures no_port {
+        (fact_of result.note ≡ fact.NoPort)
+        ↔ ((doing session.old ≡ now_doing.Dialling)
+        × ((L.kind link.old).listed (port_of session.old.desk) ≡ false))
+    }
+    ensures ready {
+        (fact_of result.note ≡ fact.Ready)
+        ↔ ((session.old.sender.ready ≡ false) × (session.new.sender.ready ≡ true))
+    }
+    ensures silent { fact_of result.note ≡ fact.Ready → lines_of result.note ≡ [] }
+    ensures sent { fact_of result.note ≡ fact.Ready → next_of session.new.sender ≡ None }
+    ensures spent {
+        session.new.up ≡ true → fact_of result.note ≡ fact.Quiet
+        → IsSpent moment session.new.desk session.new.sender
+    }
+    ensures greatest { session.new.desk.greatest ≡ session.old.desk.greatest }
+    ensures before { IsSession session.old }
+    ensures joined { IsSession session.new }
+    ensures kind { L.kind link.new ≡ L.kind link.old }
+    ensures counted { L.faults link.old ≤ L.faults link.new }
+    ensures calls { is_calling (doing session.old) ≡ true → RoseBy 1 (L.calls link.old) (L.calls link.new) }
+    ensures failed { fact_of result.note ≡ fact.Failed → Rose (L.faults link.old) (L.faults link.new) }
+{
+    session.turn(link, moment)
+}
