@@ -1,0 +1,8 @@
+//! One HTTP/1.1 message from a connection, and its reply.
+#![tactic(auto)]
+
+mod fault;
+mod fill;
+mod intake;
+
+pub use fault::MessageFault;
