@@ -1,2 +1,4 @@
 pub mod Input
 pub mod Stops
+pub mod Fields
+pub mod Framing

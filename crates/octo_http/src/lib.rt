@@ -2,6 +2,8 @@
 #![tactic(auto)]
 
 mod fault;
+mod fields;
+mod framing;
 mod fill;
 mod intake;
 
