@@ -2,3 +2,4 @@ pub mod Input
 pub mod Stops
 pub mod Fields
 pub mod Framing
+pub mod Head

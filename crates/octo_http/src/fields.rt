@@ -13,6 +13,7 @@ pub fn same_text(text: &[u8], other: &[u8]) -> bool
 }
 
 /// The fields of a head, by their places in its bytes.
+#[derive(Drop)]
 pub struct FieldSpans<'a> {
     head: &'a [u8],
     spans: &'a [HeaderSpan],

@@ -5,6 +5,7 @@ mod fault;
 mod fields;
 mod framing;
 mod fill;
+mod head;
 mod intake;
 
 pub use fault::MessageFault;
