@@ -1,11 +1,13 @@
 -- The head of a message, and why an input begins with none.
-use Rattle.std.specs.Prelude.{◌≡◌, ℕ, ◌+◌, ◌<◌, ◌≤◌, ◌⊎◌, Bool, true, false, not, ◌==◌, ◌&&◌, nat_lt, nat_le, if◌then◌else◌, List, [], ◌∷◌, ◌++◌, length, map, take, Option, Some, None}
+use Rattle.std.specs.Prelude.{◌≡◌, ◌≢◌, ℕ, ◌+◌, ◌<◌, ◌≤◌, ◌⊎◌, Bool, true, false, not, ◌==◌, ◌&&◌, nat_lt, nat_le, if◌then◌else◌, List, [], ◌∷◌, ◌++◌, length, map, take, Option, Some, None}
 use Rattle.std.specs.List.{take_while}
 use Rattle.httparse.specs.Grammar.{RequestHead, ReadsRequest, HasNoRequest, NeverHasRequest, MayBecomeRequest}
 use Rattle.httparse.specs.Spans.{name_and_value, RequestExceeds}
 use Rattle.octo_http.specs.Fields.{FieldList, key_of, kind_of, is_encoded, expects_leave}
 use Rattle.octo_http.specs.Framing.{framing_of}
-use Rattle.octo_http.specs.Stops.{Grammar}
+use Rattle.octo_http.specs.Input.{IntakeData}
+use Rattle.octo_http.specs.declared.intake.Came.{Came}
+use Rattle.octo_http.specs.declared.intake.Came.TheVariants as came
 use Rattle.octo_http.specs.declared.fault.MessageFault.{MessageFault}
 use Rattle.octo_http.specs.declared.fault.MessageFault.TheVariants.{BadHead, HeadTooLarge, BodyTooLarge, BadChunk, Ended, ReadFault, NoMemory, Slow}
 use Rattle.octo_http.specs.declared.framing.Framing.{Framing}
@@ -81,3 +83,16 @@ pub record IsOpen (bytes : List ℕ) : Type 0 where
 pub record IsFound (bytes : List ℕ) (found : Found) : Type 0 where
   pub within : found.length ≤ length bytes
   pub is : IsHead (take found.length bytes) found.head
+
+-- a head was taken from the bytes at hand
+pub record TakesHead (old new : IntakeData) (head : Head) : Type 0 where
+  pub taken : List ℕ
+  pub is : IsHead taken head
+  pub split : old.bytes ≡ taken ++ new.bytes
+  pub patience : new.patience ≡ old.patience
+  pub allowed : new.allowed ≡ old.allowed
+
+-- no head was found in the bytes at hand: they are too few to be refused, and at a pause they were looked at
+pub record IsHeadless (bytes : List ℕ) (c : Came) : Type 0 where
+  pub few : length bytes < 16384
+  pub looked : c ≢ came.Bytes → HeadFault bytes Ended

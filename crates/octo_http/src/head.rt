@@ -35,11 +35,11 @@ pub struct Head {
     pub framing: Framing,
 }
 
-// A head at the front of bytes, and its length.
+/// A head at the front of bytes, and its length.
 #[derive(Drop)]
-struct Found {
-    head: Head,
-    length: usize,
+pub struct Found {
+    pub head: Head,
+    pub length: usize,
 }
 
 // The key of an Authorization, which is `Bearer`, a space and the key.
@@ -152,11 +152,11 @@ fn whole_head(
     }
 }
 
-// Looks for a head at the front of the bytes.
-fn look(alloc: Global, bytes: &[u8]) -> Result<Option<Found>, MessageFault>
+/// Looks for a head at the front of the bytes.
+pub fn look(alloc: Global, bytes: &[u8]) -> Result<Option<Found>, MessageFault>
     requires { length bytes.now ≤ 16384 }
     ensures found { IfOk result (λ found. IfSome found (IsFound bytes.now)) }
-    ensures open { IfOk result (λ found. IfNone found (IsOpen bytes.now)) }
+    ensures partial { IfOk result (λ found. IfNone found (IsOpen bytes.now)) }
     ensures refused { IfErr result (IsRefused bytes.now) }
 {
     let mut spans = [EMPTY_HEADER_SPAN; MOST_FIELDS];

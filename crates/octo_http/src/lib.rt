@@ -7,5 +7,7 @@ mod framing;
 mod fill;
 mod head;
 mod intake;
+mod looks;
+mod read_head;
 
 pub use fault::MessageFault;
