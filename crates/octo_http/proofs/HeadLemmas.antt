@@ -7,13 +7,13 @@ use Rattle.httparse.specs.Grammar.{RequestHead, Field, print_request, ReadsReque
 use Rattle.httparse.specs.Spans.{name_and_value, header_bytes, span_bytes, IsRequestAt, IsRequestOf, IsRequestWithin, RequestExceeds}
 use Rattle.octo_http.specs.Framing.{framing_of}
 use Rattle.octo_http.specs.Input.{IntakeData, Holds, Took, Knows, IsPause}
-use Rattle.octo_http.specs.Stops.{Stops, Refuses}
+use Rattle.octo_http.specs.Stops.{Stops, Refuses, Lacks}
 use Rattle.octo_http.specs.declared.intake.Came.{Came}
 use Rattle.octo_http.specs.declared.intake.Came.TheVariants as came
 use Rattle.octo_http.specs.declared.fault.MessageFault.{MessageFault}
 use Rattle.octo_http.specs.declared.fault.MessageFault.TheVariants.{BadHead, HeadTooLarge, BodyTooLarge, BadChunk, Ended, ReadFault, NoMemory, Slow}
-use Rattle.octo_http.proofs.Reading.{took_then, took_read, took_front, knows_since, stops_paused}
-use Rattle.octo_http.specs.Head.{TakesHead, IsHeadless, fields_of, head_of, head_with, IsHeadOf, IsHead, IsUnframed, HeadFault, bad_head, unframed, many_fields, many_bytes, cut_head, IsRefused, IsOpen, IsFound}
+use Rattle.octo_http.proofs.Reading.{front_more, took_then, took_read, took_front, knows_since, stops_paused}
+use Rattle.octo_http.specs.Head.{TakesHead, fields_of, head_of, head_with, IsHeadOf, IsHead, IsUnframed, HeadFault, bad_head, unframed, many_fields, many_bytes, cut_head, IsRefused, IsOpen, IsFound}
 use Rattle.octo_http.specs.declared.framing.Framing.{Framing}
 use Rattle.octo_http.specs.declared.head.Head.{Head}
 use Rattle.octo_http.specs.declared.head.Found.{Found}
@@ -44,12 +44,6 @@ never_more front rest never more =
 
 exceeds_more : (front rest : List ℕ) → RequestExceeds 64 front → RequestExceeds 64 (front ++ rest)
 exceeds_more front rest e = (e.0, e.1 ++ rest, ap (λ text. text ++ rest) e.2 ∙ append_assoc e.0 e.1 rest, e.3, e.4, e.5)
-
--- the first n bytes of more bytes begin with the first n of these
-pub front_more : (n : ℕ) (bytes more : List ℕ) → (x : List ℕ) × (take n (bytes ++ more) ≡ take n bytes ++ x)
-front_more zero bytes more = ([], refl)
-front_more (suc n) [] more = (take (suc n) more, refl)
-front_more (suc n) (b ∷ bytes) more = let later = front_more n bytes more in (later.0, ap (λ rest. b ∷ rest) later.1)
 
 -- what a look refuses is a fault of every input that begins with the bytes
 refused_head : (bytes : List ℕ) (f : MessageFault) → IsRefused (take 16384 bytes) f → Refuses HeadFault bytes f
@@ -90,7 +84,7 @@ too_long front bytes is long still more =
     many_bytes (bytes ++ more) (omega (arith, length-append bytes more, long)) (subst None (sym same) still.none) (subst May (sym same) still.may)
 
 -- bytes that are too few for a refusal
-pub headless : (front bytes : List ℕ) (c : Came) → front ≡ take 16384 bytes → length bytes < 16384 → IsOpen front → IsHeadless bytes c
+pub headless : (front bytes : List ℕ) (c : Came) → front ≡ take 16384 bytes → length bytes < 16384 → IsOpen front → Lacks HeadFault 16384 bytes c
 headless front bytes c is few still =
     let same : front ≡ bytes = is ∙ take_all 16384 bytes (omega arith) in
     let None : List ℕ → Type 0 = λ text. HasNoRequest text in
@@ -113,25 +107,6 @@ takes_head most front i i' found is at same =
       patience = refl;
       allowed = refl;
     })
-
--- a reader that pauses without a head
-pub stops_headless : (c : Came) (i i' : IntakeData) (b0 : List ℕ) (l0 l : Option (List ℕ)) (f0 f : ℕ) (e : MessageFault) → Took b0 l0 i.bytes l [] → Knows c i [] b0 l0 f0 f → i' ≡ i → IsHeadless i'.bytes c → IsPause c i' e → Stops HeadFault b0 l0 l e
-stops_headless c i i' b0 l0 l f0 f e took knows same none pause =
-    let Headless : IntakeData → Type 0 = λ j. IsHeadless j.bytes c in
-    let Pause : IntakeData → Type 0 = λ j. IsPause c j e in
-    let here : IsHeadless i.bytes c = subst Headless same none in
-    stops_paused HeadFault c i [] b0 l0 l f0 f e took knows (subst Pause same pause) here.looked
-
--- a read from there on
-pub took_on : (i i' : IntakeData) (b0 : List ℕ) (l0 l : Option (List ℕ)) (b2 : List ℕ) (l2 : Option (List ℕ)) → Took b0 l0 i.bytes l [] → i' ≡ i → Took i'.bytes l b2 l2 [] → Took b0 l0 b2 l2 []
-took_on i i' b0 l0 l b2 l2 took same later =
-    let Later : IntakeData → Type 0 = λ j. Took j.bytes l b2 l2 [] in
-    took_read b0 l0 i.bytes l b2 l2 [] took (subst Later same later)
-
-pub knows_on : (c' : Came) (i i' j : IntakeData) (b0 : List ℕ) (l0 l : Option (List ℕ)) (f0 f f' : ℕ) → Took b0 l0 i.bytes l [] → i' ≡ i → f0 ≤ f → f ≤ f' → Knows c' j [] i'.bytes l f f' → Knows c' j [] b0 l0 f0 f'
-knows_on c' i i' j b0 l0 l f0 f f' took same before after knows =
-    let Known : IntakeData → Type 0 = λ k. Knows c' j [] k.bytes l f f' in
-    knows_since c' j b0 l0 [] i.bytes l f0 f f' took before after (subst Known same knows)
 
 -- a head that was taken after reads
 pub took_head : (i i' : IntakeData) (b0 : List ℕ) (l0 l : Option (List ℕ)) (head : Head) → Took b0 l0 i.bytes l [] → TakesHead i i' head → (taken : List ℕ) × IsHead taken head × Took b0 l0 i'.bytes l taken

@@ -2,3 +2,4 @@ pub mod Reading
 pub mod Filling
 pub mod FramingLemmas
 pub mod HeadLemmas
+pub mod PartLemmas

@@ -1,9 +1,9 @@
 -- How the steps of a reader join.
-use Rattle.std.proofs.Common.{◌≡◌, ◌≢◌, ℕ, ◌+◌, ◌<◌, ◌≤◌, List, [], ◌++◌, length, Option, Some, refl, sym, ap, ◌∙◌, subst, append_assoc, append-nil, arith}
+use Rattle.std.proofs.Common.{◌≡◌, ◌≢◌, ℕ, zero, suc, ◌+◌, ◌<◌, ◌≤◌, List, [], ◌∷◌, ◌++◌, length, take, Option, Some, refl, sym, ap, ◌∙◌, subst, append_assoc, append-nil, arith}
 use Rattle.octo_outside.specs.Told.{Rose}
 use Rattle.octo_outside.proofs.Told.{rose_before, rose_after}
 use Rattle.octo_http.specs.Input.{IntakeData, Holds, Took, Knows, Waits, IsPause, Goes}
-use Rattle.octo_http.specs.Stops.{Grammar, Unfinished, IsFaultOf, Stops, Refuses, HasCause}
+use Rattle.octo_http.specs.Stops.{Grammar, Unfinished, IsFaultOf, Stops, Refuses, HasCause, Lacks}
 use Rattle.octo_http.specs.declared.fault.MessageFault.{MessageFault}
 use Rattle.octo_http.specs.declared.fault.MessageFault.TheVariants.{BadHead, HeadTooLarge, BodyTooLarge, BadChunk, Ended, ReadFault, NoMemory, Slow}
 use Rattle.octo_http.specs.declared.intake.Came.{Came}
@@ -137,6 +137,31 @@ caused_since i f0 f1 f2 Ended before after h = tt
 caused_since i f0 f1 f2 ReadFault before after h = rose_after f0 f1 f2 before after h
 caused_since i f0 f1 f2 NoMemory before after h = tt
 caused_since i f0 f1 f2 (Slow n) before after h = h
+
+-- the first n bytes of more bytes begin with the first n of these
+pub front_more : (n : ℕ) (bytes more : List ℕ) → (x : List ℕ) × (take n (bytes ++ more) ≡ take n bytes ++ x)
+front_more zero bytes more = ([], refl)
+front_more (suc n) [] more = (take (suc n) more, refl)
+front_more (suc n) (b ∷ bytes) more = let later = front_more n bytes more in (later.0, ap (λ rest. b ∷ rest) later.1)
+
+-- a reader that pauses without what it reads
+pub stops_lacking : (Says : Grammar) (most : ℕ) (c : Came) (i i' : IntakeData) (b0 : List ℕ) (l0 l : Option (List ℕ)) (f0 f : ℕ) (e : MessageFault) → Took b0 l0 i.bytes l [] → Knows c i [] b0 l0 f0 f → i' ≡ i → Lacks Says most i'.bytes c → IsPause c i' e → Stops Says b0 l0 l e
+stops_lacking Says most c i i' b0 l0 l f0 f e took knows same none pause =
+    let Lacking : IntakeData → Type 0 = λ j. Lacks Says most j.bytes c in
+    let Pause : IntakeData → Type 0 = λ j. IsPause c j e in
+    let here : Lacks Says most i.bytes c = subst Lacking same none in
+    stops_paused Says c i [] b0 l0 l f0 f e took knows (subst Pause same pause) here.looked
+
+-- a read from there on
+pub took_on : (i i' : IntakeData) (b0 : List ℕ) (l0 l : Option (List ℕ)) (b2 : List ℕ) (l2 : Option (List ℕ)) → Took b0 l0 i.bytes l [] → i' ≡ i → Took i'.bytes l b2 l2 [] → Took b0 l0 b2 l2 []
+took_on i i' b0 l0 l b2 l2 took same later =
+    let Later : IntakeData → Type 0 = λ j. Took j.bytes l b2 l2 [] in
+    took_read b0 l0 i.bytes l b2 l2 [] took (subst Later same later)
+
+pub knows_on : (c' : Came) (i i' j : IntakeData) (b0 : List ℕ) (l0 l : Option (List ℕ)) (f0 f f' : ℕ) → Took b0 l0 i.bytes l [] → i' ≡ i → f0 ≤ f → f ≤ f' → Knows c' j [] i'.bytes l f f' → Knows c' j [] b0 l0 f0 f'
+knows_on c' i i' j b0 l0 l f0 f f' took same before after knows =
+    let Known : IntakeData → Type 0 = λ k. Knows c' j [] k.bytes l f f' in
+    knows_since c' j b0 l0 [] i.bytes l f0 f f' took before after (subst Known same knows)
 
 -- how many reads an answer may still take
 abbrev pub weight : Came → ℕ

@@ -6,8 +6,6 @@ use Rattle.httparse.specs.Spans.{name_and_value, RequestExceeds}
 use Rattle.octo_http.specs.Fields.{FieldList, key_of, kind_of, is_encoded, expects_leave}
 use Rattle.octo_http.specs.Framing.{framing_of}
 use Rattle.octo_http.specs.Input.{IntakeData}
-use Rattle.octo_http.specs.declared.intake.Came.{Came}
-use Rattle.octo_http.specs.declared.intake.Came.TheVariants as came
 use Rattle.octo_http.specs.declared.fault.MessageFault.{MessageFault}
 use Rattle.octo_http.specs.declared.fault.MessageFault.TheVariants.{BadHead, HeadTooLarge, BodyTooLarge, BadChunk, Ended, ReadFault, NoMemory, Slow}
 use Rattle.octo_http.specs.declared.framing.Framing.{Framing}
@@ -91,8 +89,3 @@ pub record TakesHead (old new : IntakeData) (head : Head) : Type 0 where
   pub split : old.bytes ≡ taken ++ new.bytes
   pub patience : new.patience ≡ old.patience
   pub allowed : new.allowed ≡ old.allowed
-
--- no head was found in the bytes at hand: they are too few to be refused, and at a pause they were looked at
-pub record IsHeadless (bytes : List ℕ) (c : Came) : Type 0 where
-  pub few : length bytes < 16384
-  pub looked : c ≢ came.Bytes → HeadFault bytes Ended

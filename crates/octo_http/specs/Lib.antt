@@ -3,3 +3,5 @@ pub mod Stops
 pub mod Fields
 pub mod Framing
 pub mod Head
+pub mod Part
+pub mod Chunks

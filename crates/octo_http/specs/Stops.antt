@@ -1,8 +1,10 @@
 -- What it says of an input that a reader stops.
-use Rattle.std.specs.Prelude.{◌≡◌, ℕ, ◌<◌, List, ◌++◌, length, Option, Some}
+use Rattle.std.specs.Prelude.{◌≡◌, ◌≢◌, ℕ, ◌<◌, List, ◌++◌, length, Option, Some}
 use Rattle.octo_outside.specs.Told.{Rose}
 use Rattle.octo_http.specs.Input.{IntakeData, Holds}
 use Rattle.octo_http.specs.declared.fault.MessageFault.{MessageFault}
+use Rattle.octo_http.specs.declared.intake.Came.{Came}
+use Rattle.octo_http.specs.declared.intake.Came.TheVariants as came
 use Rattle.octo_http.specs.declared.fault.MessageFault.TheVariants.{BadHead, HeadTooLarge, BodyTooLarge, BadChunk, Ended, ReadFault, NoMemory, Slow}
 
 -- which fault a grammar finds in an input
@@ -54,3 +56,9 @@ HasCause i faults faults' (Slow n) = (n ≡ i.patience) × (i.allowed ≡ 0)
 -- fewer bytes than this came before the end
 abbrev pub IsShort : ℕ → Grammar
 IsShort n input f = (f ≡ Ended) × (length input < n)
+
+-- the bytes at hand lack what is read: they are fewer than its limit, and after a pause it is known that the input would end
+-- inside
+pub record Lacks (Says : Grammar) (most : ℕ) (bytes : List ℕ) (c : Came) : Type 0 where
+  pub few : length bytes < most
+  pub looked : c ≢ came.Bytes → Says bytes Ended

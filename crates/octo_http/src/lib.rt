@@ -8,6 +8,8 @@ mod fill;
 mod head;
 mod intake;
 mod looks;
+mod part;
 mod read_head;
+mod read_part;
 
 pub use fault::MessageFault;

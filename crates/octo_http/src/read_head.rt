@@ -1,8 +1,8 @@
 //! Reading the head of a message.
 ghost use Rattle.std.specs.Prelude.{◌≡◌, ◌≢◌, ◌<◌, ◌≤◌, ◌++◌, ℕ, List, length, IfOk, IfErr, IfSome, IfNone, OnErr};
 ghost use Rattle.octo_http.specs.Input.{Took, Waits};
-ghost use Rattle.octo_http.specs.Stops.{Stops, HasCause, Refuses};
-ghost use Rattle.octo_http.specs.Head.{IsHead, HeadFault, TakesHead, IsHeadless};
+ghost use Rattle.octo_http.specs.Stops.{Stops, HasCause, Refuses, Lacks};
+ghost use Rattle.octo_http.specs.Head.{IsHead, HeadFault, TakesHead};
 
 use crate::MessageFault;
 use crate::head::{Head, look};
@@ -22,7 +22,7 @@ fn try_head(
     came: Came,
 ) -> Result<Option<Head>, MessageFault>
     ensures head { IfOk result (λ found. IfSome found (TakesHead intake.old intake.new)) }
-    ensures none { IfOk result (λ found. IfNone found (IsHeadless intake.new.bytes came)) }
+    ensures none { IfOk result (λ found. IfNone found (Lacks HeadFault 16384 intake.new.bytes came)) }
     ensures same { IfOk result (λ found. IfNone found (intake.new ≡ intake.old)) }
     ensures refused { IfErr result (Refuses HeadFault intake.old.bytes) }
     ensures err { OnErr result (intake.new ≡ intake.old) }
