@@ -3,3 +3,5 @@ pub mod Filling
 pub mod FramingLemmas
 pub mod HeadLemmas
 pub mod PartLemmas
+pub mod ChunkLemmas
+pub mod MessageLemmas

@@ -2,6 +2,8 @@
 use Rattle.std.specs.Prelude.{◌≡◌, ℕ, ◌+◌, ◌<◌, ◌≤◌, List, [], ◌∷◌, ◌++◌, length, Result, Ok, Err}
 use Rattle.octo_http.specs.declared.fault.MessageFault.{MessageFault}
 use Rattle.octo_http.specs.declared.fault.MessageFault.TheVariants.{BodyTooLarge, Ended}
+use Rattle.octo_http.specs.declared.chunks.Added.{Added}
+use Rattle.octo_http.specs.declared.chunks.Added.TheVariants.{Chunk, Last}
 use Rattle.octo_http.specs.declared.part.Part.TheVariants.{Line, LineEnd, Trailers}
 use Rattle.octo_http.specs.Part.{crlf, IsChunkHead, IsPart, PartFault}
 
@@ -20,3 +22,14 @@ pub data Chunked : List ℕ → List ℕ → Result (List ℕ) MessageFault → 
   short : (sofar line rest : List ℕ) (size : ℕ) → Fits sofar line size → length rest < size → Chunked sofar (line ++ rest) (Err Ended)
   no_end : (sofar line piece rest : List ℕ) (size : ℕ) (f : MessageFault) → Fits sofar line size → length piece ≡ size → PartFault LineEnd rest f → Chunked sofar (line ++ (piece ++ rest)) (Err f)
   no_trailers : (sofar line rest : List ℕ) (f : MessageFault) → IsChunkHead line 0 → PartFault Trailers rest f → Chunked sofar (line ++ rest) (Err f)
+
+-- the faults of a body in chunks
+abbrev pub IsChunkFault : List ℕ → List ℕ → MessageFault → Type 0
+IsChunkFault sofar input f = Chunked sofar input (Err f)
+
+-- what was taken is a chunk, or the last one with the trailers: what follows says what it says after the new body
+abbrev pub AddsChunk : List ℕ → List ℕ → Added → List ℕ → Type 0
+AddsChunk old new Chunk taken =
+    (length old < length new) × (length new ≤ 68157440)
+    × ((input : List ℕ) (r : Result (List ℕ) MessageFault) → Chunked new input r → Chunked old (taken ++ input) r)
+AddsChunk old new Last taken = (new ≡ old) × ((more : List ℕ) → Chunked old (taken ++ more) (Ok old))

@@ -5,3 +5,4 @@ pub mod Framing
 pub mod Head
 pub mod Part
 pub mod Chunks
+pub mod Message

@@ -1,6 +1,8 @@
 //! One HTTP/1.1 message from a connection, and its reply.
 #![tactic(auto)]
 
+mod body;
+mod chunks;
 mod fault;
 mod fields;
 mod framing;
@@ -8,8 +10,10 @@ mod fill;
 mod head;
 mod intake;
 mod looks;
+mod message;
 mod part;
 mod read_head;
 mod read_part;
 
 pub use fault::MessageFault;
+pub use message::{Message, read_message};
