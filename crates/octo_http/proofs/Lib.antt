@@ -5,3 +5,4 @@ pub mod HeadLemmas
 pub mod PartLemmas
 pub mod ChunkLemmas
 pub mod MessageLemmas
+pub mod ReplyLemmas

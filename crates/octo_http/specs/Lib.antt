@@ -6,3 +6,4 @@ pub mod Head
 pub mod Part
 pub mod Chunks
 pub mod Message
+pub mod Reply

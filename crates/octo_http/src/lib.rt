@@ -14,6 +14,8 @@ mod message;
 mod part;
 mod read_head;
 mod read_part;
+mod reply;
 
 pub use fault::MessageFault;
 pub use message::{Message, read_message};
+pub use reply::{HttpReply, ReplyKind, write_reply};
