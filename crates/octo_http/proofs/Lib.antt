@@ -1,0 +1,8 @@
+pub mod Reading
+pub mod Filling
+pub mod FramingLemmas
+pub mod HeadLemmas
+pub mod PartLemmas
+pub mod ChunkLemmas
+pub mod MessageLemmas
+pub mod ReplyLemmas

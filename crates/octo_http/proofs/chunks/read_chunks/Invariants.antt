@@ -1,0 +1,15 @@
+use Rattle.std.proofs.Common.{◌≡◌, ◌≤◌, ◌-◌, List, ℕ, length}
+use Rattle.octo_http.specs.Input.{Took, Waits}
+use Rattle.octo_http.proofs.ChunkLemmas.{Leads}
+use Rattle.octo_http.proofs.chunks.read_chunks.Given as goal
+
+abbrev pub invariant-chunks : goal.invariant-chunks
+invariant-chunks g l = record {
+  sofar : (taken : List ℕ) × Took l.initial.intake.bytes (g.C.Conn.left l.initial.conn) l.intake.bytes (g.C.Conn.left l.conn) taken × Leads l.body taken;
+  few : length l.body ≤ 68157440;
+  waits : Waits l.initial.intake l.intake (g.C.Conn.faults l.initial.conn) (g.C.Conn.faults l.conn) (g.C.Conn.quiets l.initial.conn) (g.C.Conn.quiets l.conn);
+  written : g.C.Conn.written l.conn ≡ g.C.Conn.written l.initial.conn;
+}
+
+abbrev pub decreases-chunks : goal.decreases-chunks
+decreases-chunks g l = 68157440 - length l.body

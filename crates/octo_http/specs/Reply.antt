@@ -1,0 +1,43 @@
+-- The bytes of a reply (RFC 9112, section 4).
+use Rattle.std.specs.Prelude.{ℕ, Bool, ◌==◌, ◌&&◌, nat_le, nat_lt, if◌then◌else◌, List, [], ◌++◌, length, codes, decimal, unwrap_or}
+use Rattle.http.specs.StatusCode.{reason_phrase}
+use Rattle.octo_http.specs.Part.{crlf}
+use Rattle.octo_http.specs.declared.reply.ReplyKind.{ReplyKind}
+use Rattle.octo_http.specs.declared.reply.ReplyKind.TheVariants.{Empty, Json, Bytes}
+use Rattle.octo_http.specs.declared.reply.HttpReply.{HttpReply}
+
+-- the phrase of a status code, empty if it has none
+unfoldable pub reason_of : ℕ → List ℕ
+reason_of code = unwrap_or (reason_phrase code) []
+
+-- the phrase of a status, empty if it isn't a code of three digits
+unfoldable pub phrase_of : ℕ → List ℕ
+phrase_of status = if nat_le 100 status && nat_lt status 1000 then reason_of status else []
+
+-- the status line, and that the connection is closed
+abbrev pub first_lines : ℕ → List ℕ
+first_lines status =
+    codes "HTTP/1.1 " ++ decimal status ++ codes " " ++ phrase_of status ++ (crlf ++ codes "Connection: close" ++ crlf)
+
+-- the line of a body's type
+abbrev pub type_line : ReplyKind → List ℕ
+type_line Empty = []
+type_line Json = codes "Content-Type: application/json" ++ crlf
+type_line Bytes = codes "Content-Type: application/octet-stream" ++ crlf
+
+-- all that stands before a body of n bytes; 204 has no length
+abbrev pub head_bytes : ℕ → ReplyKind → ℕ → List ℕ
+head_bytes status kind n =
+    if status == 204 then first_lines status ++ crlf
+    else first_lines status ++ codes "Content-Length: " ++ decimal n ++ crlf ++ type_line kind ++ crlf
+
+-- the body that is sent: none with 204, nor if the reply is empty
+abbrev pub sent_body : ℕ → ReplyKind → List ℕ → List ℕ
+sent_body status Empty body = []
+sent_body status Json body = if status == 204 then [] else body
+sent_body status Bytes body = if status == 204 then [] else body
+
+-- the bytes of a reply
+abbrev pub reply_bytes : HttpReply → List ℕ
+reply_bytes r =
+    head_bytes r.status r.kind (length (sent_body r.status r.kind r.body)) ++ sent_body r.status r.kind r.body

@@ -1,0 +1,155 @@
+//! What was read of a connection and isn't taken yet.
+ghost use Rattle.std.specs.Prelude.{◌≡◌, ◌<◌, ◌≤◌, ◌+◌, ◌-◌, ◌++◌, ◌↔◌, ℕ, List, [], length, drop, take, IfOk, OnOk, IfErr, OnErr, IsOk, Err, Ok};
+
+use crate::MessageFault;
+use octo_outside::{Conn, Failed, Got};
+use std::alloc::{AllocError, Global};
+use std::marker::Model;
+
+// How many bytes a read may bring.
+const READ: usize = 4096;
+
+// From how many bytes on those that were taken are let go.
+const TAKEN: usize = 16384;
+
+/// What a read brought.
+#[derive(Clone, Copy, Debug, PartialEq, Eq)]
+pub enum Came {
+    Bytes,
+    /// Nothing is there yet.
+    Quiet,
+    /// Nothing is left and the peer has closed.
+    Ended,
+    /// The connection failed.
+    Failed,
+}
+
+/// The bytes that were read and aren't taken yet, and for how many quiet reads the reader still waits.
+#[derive(Drop)]
+pub struct Intake {
+    alloc: Global,
+    bytes: Vec<u8>,
+    // How many of the bytes were taken.
+    taken: usize,
+    patience: u32,
+    allowed: u32,
+}
+
+impl Model for Intake {
+    ghost use Rattle.std.specs.Prelude.{◌≤◌, drop, vec_len};
+    ghost use Rattle.octo_http.specs.Input.{IntakeData};
+
+    ghost Value = { IntakeData };
+
+    ghost view = { λ i. record { bytes = drop i.taken i.bytes.items; patience = i.patience; allowed = i.allowed } };
+
+    ghost invariant = { λ i. i.taken ≤ vec_len i.bytes };
+}
+
+impl Intake {
+    ghost use Rattle.std.specs.Prelude.{◌≡◌, ◌<◌, ◌≤◌, ◌+◌, ◌-◌, ◌++◌, [], length, drop, take, IfOk, OnOk, IfErr, OnErr, IsOk, Err, Ok};
+    ghost use Rattle.octo_outside.specs.Told.{Rose};
+    ghost use Rattle.octo_http.specs.Input.{IntakeData, Took, Brings, Waits, IsPause, Knows, Goes};
+    ghost use Rattle.octo_http.specs.declared.intake.Came.{Came};
+    ghost use Rattle.octo_http.specs.declared.intake.Came.TheVariants as came;
+
+    /// Nothing was read yet, and so many reads may be quiet.
+    pub fn new(alloc: Global, patience: u32) -> Self
+        ensures { result ≡ record { bytes = []; patience = patience; allowed = patience } }
+    {
+        Intake {
+            alloc,
+            bytes: Vec::new(alloc),
+            taken: 0,
+            patience,
+            allowed: patience,
+        }
+    }
+
+    /// The bytes that aren't taken yet.
+    pub fn bytes(&self) -> &[u8]
+        ensures { result.now ≡ self.now.bytes }
+    {
+        &self.bytes.as_slice()[self.taken..]
+    }
+
+    /// Takes the first bytes.
+    pub fn take(&mut self, n: usize)
+        requires { n ≤ length self.old.bytes }
+        ensures { self.new ≡ record self.old { bytes = drop n self.old.bytes } }
+    {
+        self.taken += n;
+    }
+
+    // Lets those bytes go that were taken, if they are many or all.
+    fn compact(&mut self) -> Result<(), AllocError>
+        ensures { self.new ≡ self.old }
+    {
+        if self.taken >= TAKEN || self.taken == self.bytes.len() {
+            let kept = Vec::from_slice(self.alloc, self.bytes())?;
+            self.bytes = kept;
+            self.taken = 0;
+        }
+        Ok(())
+    }
+
+    // Adds bytes that came; without memory nothing is added.
+    fn push(&mut self, bytes: &[u8]) -> Result<(), AllocError>
+        ensures ok { OnOk result (self.new ≡ record self.old { bytes = self.old.bytes ++ bytes.now }) }
+        ensures err { OnErr result (self.new ≡ self.old) }
+    {
+        self.compact()?;
+        self.bytes.extend_from_slice(bytes)
+    }
+
+    // One more read was quiet.
+    fn count_quiet(&mut self)
+        requires { 0 < self.old.allowed }
+        ensures { self.new ≡ record self.old { allowed = self.old.allowed - 1 } }
+    {
+        self.allowed -= 1;
+    }
+
+    /// Reads once. Without memory what came is lost.
+    pub fn fetch<C: Conn>(&mut self, conn: &mut C) -> Result<Came, AllocError>
+        requires { 0 < self.old.allowed }
+        // What came stands behind what was at hand.
+        ensures took { OnOk result (Took self.old.bytes (C.left conn.old) self.new.bytes (C.left conn.new) []) }
+        ensures brings { IfOk result (λ came. Brings came self.old self.new) }
+        ensures knows { IfOk result (λ came. Knows came self.new [] self.old.bytes (C.left conn.old) (C.faults conn.old) (C.faults conn.new)) }
+
+        // Counts, and what stays.
+        ensures waits { Waits self.old self.new (C.faults conn.old) (C.faults conn.new) (C.quiets conn.old) (C.quiets conn.new) }
+        ensures written { C.written conn.new ≡ C.written conn.old }
+    {
+        let mut buffer = [0; READ];
+        match conn.read(&mut buffer) {
+            Ok(Got::Bytes(n)) => {
+                self.push(&buffer[..n])?;
+                Ok(Came::Bytes)
+            }
+            Ok(Got::Quiet) => {
+                self.count_quiet();
+                Ok(Came::Quiet)
+            }
+            Ok(Got::Ended) => Ok(Came::Ended),
+            Err(Failed) => Ok(Came::Failed),
+        }
+    }
+
+    /// Whether the reader goes on after a read that brought this: the first reason not to.
+    pub fn go_on(&self, came: Came) -> Result<(), MessageFault>
+        ensures pause { IfErr result (IsPause came self.now) }
+        ensures on { OnOk result (Goes came self.now) }
+    {
+        match came {
+            Came::Bytes => Ok(()),
+            Came::Quiet if self.allowed == 0 => Err(MessageFault::Slow {
+                quiet: self.patience,
+            }),
+            Came::Quiet => Ok(()),
+            Came::Ended => Err(MessageFault::Ended),
+            Came::Failed => Err(MessageFault::ReadFault),
+        }
+    }
+}

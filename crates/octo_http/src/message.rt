@@ -1,0 +1,117 @@
+//! One message of a connection.
+ghost use Rattle.std.specs.Prelude.{◌≡◌, ◌<◌, ◌≤◌, ℕ, List, Some, Ok, Err, OnOk, OnErr, IfErr, IsErrOf};
+ghost use Rattle.octo_outside.specs.Told.{Adds, AddsPrefix, Rose};
+ghost use Rattle.octo_http.specs.Message.{has_body, leave, asked, message_of, Answers, Writes, IsPatient};
+
+use crate::MessageFault;
+use crate::body::read_body;
+use crate::chunks::MOST_BODY;
+use crate::framing::Framing;
+use crate::head::Head;
+use crate::intake::Intake;
+use crate::read_head::read_head;
+use http::Method;
+use octo_outside::{Blob, Conn, Failed, send_all};
+use std::alloc::Global;
+
+/// A message. Source: RFC 9112.
+#[derive(Drop)]
+pub struct Message {
+    pub method: Method,
+    /// The target up to `?`.
+    pub path: Blob,
+    /// The caller's key: the first X-Api-Key, else that of an `Authorization: Bearer`.
+    pub key: Option<Blob>,
+    /// The body's type, as Content-Type gives it.
+    pub kind: Option<Blob>,
+    /// Whether a length or chunks were given.
+    pub sized: bool,
+    /// Whether the body is said to have a coding other than identity.
+    pub encoded: bool,
+    pub body: Blob,
+}
+
+// Whether there is a body to read.
+fn has_body(framing: Framing) -> bool
+    ensures { result ≡ has_body framing }
+{
+    match framing {
+        Framing::NoBody => false,
+        Framing::Length(length) => length > 0 && length <= MOST_BODY,
+        Framing::Chunked => true,
+    }
+}
+
+// What is written before the body is read. Source: RFC 9110, section 10.1.1.
+fn leave_for(head: &Head) -> &'static [u8]
+    ensures { result.now ≡ asked head.now }
+{
+    if head.expects && has_body(head.framing) {
+        b"HTTP/1.1 100 Continue\r\n\r\n"
+    } else {
+        b""
+    }
+}
+
+// Gives the client leave to send the body, if it waits for that.
+fn give_leave<C: Conn>(conn: &mut C, head: &Head) -> Result<(), Failed>
+    ensures ok { OnOk result (Adds (C.written conn.old) (C.written conn.new) (asked head.now)) }
+    ensures err { OnErr result (AddsPrefix (C.written conn.old) (C.written conn.new) (asked head.now)) }
+    ensures left { C.left conn.new ≡ C.left conn.old }
+    ensures quiets { C.quiets conn.new ≡ C.quiets conn.old }
+    ensures counted { C.faults conn.old ≤ C.faults conn.new }
+    ensures failed { OnErr result (Rose (C.faults conn.old) (C.faults conn.new)) }
+{
+    send_all(conn, leave_for(head))?;
+    Ok(())
+}
+
+// The message of a head and a body.
+fn message_of(head: Head, body: Blob) -> Message
+    ensures { result ≡ message_of head body }
+{
+    let Head {
+        method,
+        path,
+        key,
+        kind,
+        encoded,
+        expects: _,
+        framing,
+    } = head;
+    Message {
+        method,
+        path,
+        key,
+        kind,
+        sized: framing != Framing::NoBody,
+        encoded,
+        body,
+    }
+}
+
+/// Reads one message. It waits through at most `patience` quiet reads; what follows the message isn't looked at.
+pub fn read_message<C: Conn>(
+    alloc: Global,
+    conn: &mut C,
+    patience: u32,
+) -> Result<Message, MessageFault>
+    // What the input says is answered, and the leave to send a body is written before the body is read.
+    ensures answer { (input : List ℕ) → C.left conn.old ≡ Some input
+        → Writes (C.written conn.old) (C.written conn.new) (Answers input (C.left conn.new) result) }
+    ensures bounded { AddsPrefix (C.written conn.old) (C.written conn.new) leave }
+
+    // Counts.
+    ensures patient { IsPatient patience (C.quiets conn.old) (C.quiets conn.new) result }
+    ensures counted { C.faults conn.old ≤ C.faults conn.new }
+    ensures failed { IsErrOf result MessageFault.ReadFault → Rose (C.faults conn.old) (C.faults conn.new) }
+{
+    let mut intake = Intake::new(alloc, patience);
+    let head = read_head(alloc, &mut intake, conn)?;
+    match give_leave(conn, &head) {
+        Ok(()) => {}
+        Err(Failed) => return Err(MessageFault::ReadFault),
+    }
+    let body = read_body(alloc, &mut intake, conn, head.framing)?;
+    Ok(message_of(head, body))
+}

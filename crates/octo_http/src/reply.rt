@@ -1,0 +1,142 @@
+//! The reply to a message.
+ghost use Rattle.std.specs.Prelude.{◌≡◌, ◌≤◌, ◌<◌, ◌+◌, ◌++◌, length, codes, decimal, OnOk, OnErr};
+ghost use Rattle.arrayvec.specs.ArrayVec.{array_vec_len};
+ghost use Rattle.octo_outside.specs.Told.{Adds, AddsPrefix, Rose};
+ghost use Rattle.octo_http.specs.Part.{crlf};
+ghost use Rattle.octo_http.specs.Reply.{reason_of, phrase_of, first_lines, type_line, head_bytes, sent_body, reply_bytes};
+
+use arrayvec::ArrayVec;
+use byte_text::{append, append_decimal};
+use http::StatusCode;
+use octo_outside::{Blob, Conn, Failed, send_all};
+
+/// What a reply has as its body.
+#[derive(Clone, Copy, Debug, PartialEq, Eq)]
+pub enum ReplyKind {
+    /// Nothing.
+    Empty,
+    /// JSON.
+    Json,
+    /// A file's bytes.
+    Bytes,
+}
+
+/// A reply, after which the connection is closed. An empty one sends no body, and neither does one of status 204.
+#[derive(Drop)]
+pub struct HttpReply {
+    pub status: u16,
+    pub kind: ReplyKind,
+    pub body: Blob,
+}
+
+// The lines and fields before a body.
+type ReplyHead = ArrayVec<u8, 192>;
+
+// The phrase of a status code, empty if it has none.
+fn reason_of(code: &StatusCode) -> &'static str
+    ensures value { result.now ≡ reason_of code.now }
+    ensures short { length result.now ≤ 31 }
+{
+    match code.canonical_reason() {
+        Some(phrase) => phrase,
+        None => "",
+    }
+}
+
+// The phrase of a status, empty if it has none.
+fn phrase_of(status: u16) -> &'static str
+    ensures value { result.now ≡ phrase_of status }
+    ensures short { length result.now ≤ 31 }
+{
+    match StatusCode::from_u16(status) {
+        Ok(code) => reason_of(&code),
+        Err(_) => "",
+    }
+}
+
+// Adds a number in decimal.
+fn put_number(head: &mut ReplyHead, number: u64)
+    requires { array_vec_len head.old ≤ 160 }
+    ensures items { head.new.items ≡ head.old.items ++ decimal number }
+    ensures few { array_vec_len head.new ≤ array_vec_len head.old + 20 }
+{
+    append_decimal(head, number);
+}
+
+// The status line, and that the connection is closed.
+fn first_lines(status: u16) -> ReplyHead
+    ensures items { result.items ≡ first_lines status }
+    ensures few { array_vec_len result ≤ 82 }
+{
+    let mut head = ArrayVec::new();
+    append(&mut head, b"HTTP/1.1 ");
+    put_number(&mut head, u64::from(status));
+    append(&mut head, b" ");
+    append(&mut head, phrase_of(status).as_bytes());
+    append(&mut head, b"\r\nConnection: close\r\n");
+    head
+}
+
+// The line of a body's type.
+fn type_line(kind: ReplyKind) -> &'static [u8]
+    ensures value { result.now ≡ type_line kind }
+    ensures short { length result.now ≤ 40 }
+{
+    match kind {
+        ReplyKind::Empty => b"",
+        ReplyKind::Json => b"Content-Type: application/json\r\n",
+        ReplyKind::Bytes => b"Content-Type: application/octet-stream\r\n",
+    }
+}
+
+// Adds the body's length and type.
+fn put_content(head: &mut ReplyHead, kind: ReplyKind, count: usize)
+    requires { array_vec_len head.old ≤ 82 }
+    ensures items { head.new.items ≡ head.old.items ++ codes "Content-Length: " ++ decimal count ++ crlf ++ type_line kind }
+    ensures few { array_vec_len head.new ≤ 160 }
+{
+    append(head, b"Content-Length: ");
+    put_number(head, count as u64);
+    append(head, b"\r\n");
+    append(head, type_line(kind));
+}
+
+// All that stands before the body.
+fn head_of(status: u16, kind: ReplyKind, count: usize) -> ReplyHead
+    ensures { result.items ≡ head_bytes status kind count }
+{
+    let mut head = first_lines(status);
+    if status == 204 {
+        append(&mut head, b"\r\n");
+        return head;
+    }
+    put_content(&mut head, kind, count);
+    append(&mut head, b"\r\n");
+    head
+}
+
+// The body that is sent.
+fn sent_body(reply: &HttpReply) -> &[u8]
+    ensures { result.now ≡ sent_body reply.now.status reply.now.kind reply.now.body }
+{
+    if reply.status == 204 || reply.kind == ReplyKind::Empty {
+        return b"";
+    }
+    reply.body.as_slice()
+}
+
+/// Writes the bytes of a reply; after a failed call a prefix of them was written. Source: RFC 9112, section 4.
+pub fn write_reply<C: Conn>(conn: &mut C, reply: &HttpReply) -> Result<(), Failed>
+    ensures ok { OnOk result (Adds (C.written conn.old) (C.written conn.new) (reply_bytes reply.now)) }
+    ensures err { OnErr result (AddsPrefix (C.written conn.old) (C.written conn.new) (reply_bytes reply.now)) }
+    ensures left { C.left conn.new ≡ C.left conn.old }
+    ensures quiets { C.quiets conn.new ≡ C.quiets conn.old }
+    ensures counted { C.faults conn.old ≤ C.faults conn.new }
+    ensures failed { OnErr result (Rose (C.faults conn.old) (C.faults conn.new)) }
+{
+    let body = sent_body(reply);
+    let head = head_of(reply.status, reply.kind, body.len());
+    send_all(conn, head.as_slice())?;
+    send_all(conn, body)?;
+    Ok(())
+}
