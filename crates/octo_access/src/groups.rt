@@ -163,7 +163,7 @@ impl Groups {
     }
 
     /// Whether there is a group of that name.
-    pub(crate) fn is_known(&self, name: &Name) -> bool
+    pub fn is_known(&self, name: &Name) -> bool
         ensures { result ≡ is_known self.now name.now }
     {
         self.permissions_of(name).is_some()
