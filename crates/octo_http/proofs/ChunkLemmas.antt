@@ -19,6 +19,7 @@ stops_after P Q b0 l0 b1 l1 l2 t f took stops so input holds =
   where
     cut : (rest : List ℕ) → Unfinished P rest l2 → Unfinished Q (t ++ rest) l2
     cut rest u = (t ++ u.0, u.1, ap (λ text. t ++ text) u.2 ∙ sym (append_assoc t u.0 u.1), u.3, so u.0 Ended u.4)
+
     later : (g : MessageFault) (rest : List ℕ) → IsFaultOf P rest l2 g → IsFaultOf Q (t ++ rest) l2 g
     later BadHead rest h = so rest BadHead h
     later HeadTooLarge rest h = so rest HeadTooLarge h
@@ -50,45 +51,45 @@ stops_trailers sofar line b0 l0 b1 l1 l f took head stops =
 pub stops_short : (sofar line : List ℕ) (size : ℕ) (b0 : List ℕ) (l0 : Option (List ℕ)) (b1 : List ℕ) (l1 l : Option (List ℕ)) (f : MessageFault) → Took b0 l0 b1 l1 line → Fits sofar line size → Stops (IsShort size) b1 l1 l f → Stops (IsChunkFault sofar) b0 l0 l f
 stops_short sofar line size b0 l0 b1 l1 l f took fits stops =
     stops_after (IsShort size) (IsChunkFault sofar) b0 l0 b1 l1 l line f took stops (λ input g p.
-      let Says : MessageFault → Type 0 = λ h. Chunked sofar (line ++ input) (Err h) in
-      subst Says (sym p.0) (short sofar line input size fits p.1))
+    let Says : MessageFault → Type 0 = λ h. Chunked sofar (line ++ input) (Err h) in
+    subst Says (sym p.0) (short sofar line input size fits p.1))
 
 -- no line end after a chunk's bytes
 pub stops_end : (sofar line piece : List ℕ) (size : ℕ) (b0 : List ℕ) (l0 : Option (List ℕ)) (b1 : List ℕ) (l1 : Option (List ℕ)) (b2 : List ℕ) (l2 l : Option (List ℕ)) (f : MessageFault) → Took b0 l0 b1 l1 line → Took b1 l1 b2 l2 piece → Fits sofar line size → length piece ≡ size → Stops (PartFault LineEnd) b2 l2 l f → Stops (IsChunkFault sofar) b0 l0 l f
 stops_end sofar line piece size b0 l0 b1 l1 b2 l2 l f first second fits long stops =
     stops_after (PartFault LineEnd) (IsChunkFault sofar) b0 l0 b2 l2 l (line ++ piece) f (took_then b0 l0 b1 l1 b2 l2 line piece first second) stops (λ input g p.
-      let Says : List ℕ → Type 0 = λ text. Chunked sofar text (Err g) in
-      subst Says (sym (append_assoc line piece input)) (no_end sofar line piece input size g fits long p))
+    let Says : List ℕ → Type 0 = λ text. Chunked sofar text (Err g) in
+    subst Says (sym (append_assoc line piece input)) (no_end sofar line piece input size g fits long p))
 
 -- a whole chunk
 pub adds_chunk : (old new line piece ending : List ℕ) (size : ℕ) (b0 : List ℕ) (l0 : Option (List ℕ)) (b1 : List ℕ) (l1 : Option (List ℕ)) (b2 : List ℕ) (l2 : Option (List ℕ)) (b3 : List ℕ) (l3 : Option (List ℕ)) → Took b0 l0 b1 l1 line → Took b1 l1 b2 l2 piece → Took b2 l2 b3 l3 ending → Fits old line size → length piece ≡ size → new ≡ old ++ piece → ending ≡ crlf → (taken : List ℕ) × AddsChunk old new Chunk taken × Took b0 l0 b3 l3 taken
 adds_chunk old new line piece ending size b0 l0 b1 l1 b2 l2 b3 l3 first second third fits long grown is = (
-      (line ++ piece) ++ ending,
-      (
-        omega (arith, ap length grown, length-append old piece, long, fits.some),
-        omega (arith, ap length grown, length-append old piece, long, fits.few),
-        λ input r says.
-          let New : List ℕ → Type 0 = λ text. Chunked text input r in
-          let Says : List ℕ → Type 0 = λ text. Chunked old text r in
-          let joined : ((line ++ piece) ++ ending) ++ input ≡ line ++ (piece ++ (crlf ++ input)) =
-            append_assoc (line ++ piece) ending input ∙ append_assoc line piece (ending ++ input) ∙ ap (λ e. line ++ (piece ++ (e ++ input))) is in
-          subst Says (sym joined) (chunk old line piece input size r fits long (subst New grown says)),
-      ),
-      took_then b0 l0 b2 l2 b3 l3 (line ++ piece) ending (took_then b0 l0 b1 l1 b2 l2 line piece first second) third,
-    )
+  (line ++ piece) ++ ending,
+  (
+    omega (arith, ap length grown, length-append old piece, long, fits.some),
+    omega (arith, ap length grown, length-append old piece, long, fits.few),
+    λ input r says.
+        let New : List ℕ → Type 0 = λ text. Chunked text input r in
+        let Says : List ℕ → Type 0 = λ text. Chunked old text r in
+        let joined : ((line ++ piece) ++ ending) ++ input ≡ line ++ (piece ++ (crlf ++ input)) =
+        append_assoc (line ++ piece) ending input ∙ append_assoc line piece (ending ++ input) ∙ ap (λ e. line ++ (piece ++ (e ++ input))) is in
+        subst Says (sym joined) (chunk old line piece input size r fits long (subst New grown says)),
+  ),
+  took_then b0 l0 b2 l2 b3 l3 (line ++ piece) ending (took_then b0 l0 b1 l1 b2 l2 line piece first second) third,
+)
 
 -- the last chunk
 pub adds_last : (body line trailers : List ℕ) (n : ℕ) (b0 : List ℕ) (l0 : Option (List ℕ)) (b1 : List ℕ) (l1 : Option (List ℕ)) (b2 : List ℕ) (l2 : Option (List ℕ)) → Took b0 l0 b1 l1 line → Took b1 l1 b2 l2 trailers → IsChunkHead line 0 → IsPart Trailers trailers n → (taken : List ℕ) × AddsChunk body body Last taken × Took b0 l0 b2 l2 taken
 adds_last body line trailers n b0 l0 b1 l1 b2 l2 first second head are = (
-      line ++ trailers,
-      (
-        refl,
-        λ more.
-          let Says : List ℕ → Type 0 = λ text. Chunked body text (Ok body) in
-          subst Says (sym (append_assoc line trailers more)) (last body line trailers more n head are),
-      ),
-      took_then b0 l0 b1 l1 b2 l2 line trailers first second,
-    )
+  line ++ trailers,
+  (
+    refl,
+    λ more.
+        let Says : List ℕ → Type 0 = λ text. Chunked body text (Ok body) in
+        subst Says (sym (append_assoc line trailers more)) (last body line trailers more n head are),
+  ),
+  took_then b0 l0 b1 l1 b2 l2 line trailers first second,
+)
 
 -- a line of a chunk that fits
 pub fits_by : (sofar line : List ℕ) (size : ℕ) → IsChunkHead line size → size ≢ 0 → length sofar ≤ 68157440 → size ≤ 68157440 - length sofar → Fits sofar line size

@@ -50,12 +50,12 @@ short_of count due body0 body b0 l0 c i l f0 f e sofar some pause =
 -- a read from there on
 pub sofar_read : (count due : ℕ) (body0 body b0 : List ℕ) (l0 : Option (List ℕ)) (c c' : Came) (i i' : IntakeData) (l l' : Option (List ℕ)) (f0 f f' : ℕ) → Sofar count due body0 body b0 l0 c i l f0 f → Took i.bytes l i'.bytes l' [] → f0 ≤ f → f ≤ f' → Knows c' i' [] i.bytes l f f' → Sofar count due body0 body b0 l0 c' i' l' f0 f'
 sofar_read count due body0 body b0 l0 c c' i i' l l' f0 f f' sofar took before after knows = (
-      sofar.0,
-      sofar.1,
-      sofar.2,
-      took_read b0 l0 i.bytes l i'.bytes l' sofar.0 sofar.3 took,
-      knows_since c' i' b0 l0 sofar.0 i.bytes l f0 f f' sofar.3 before after knows,
-    )
+  sofar.0,
+  sofar.1,
+  sofar.2,
+  took_read b0 l0 i.bytes l i'.bytes l' sofar.0 sofar.3 took,
+  knows_since c' i' b0 l0 sofar.0 i.bytes l f0 f f' sofar.3 before after knows,
+)
 
 -- the error at the exit of a call
 pub on_exit : {A : Type 0} (r : Result A MessageFault) (e : MessageFault) (C : MessageFault → Type 0) → IsErrAnd r (λ f. f ≡ e) → C e → IfErr r C

@@ -56,7 +56,7 @@ refused_head bytes BadHead (inr found) = λ more.
     let first : List ℕ = take found.0 front in
     let rest : List ℕ = drop found.0 front ++ drop 16384 bytes in
     let split : bytes ≡ first ++ rest =
-      sym (take-append-drop 16384 bytes) ∙ ap (λ text. text ++ drop 16384 bytes) (sym (take-append-drop found.0 front)) ∙ append_assoc first (drop found.0 front) (drop 16384 bytes) in
+    sym (take-append-drop 16384 bytes) ∙ ap (λ text. text ++ drop 16384 bytes) (sym (take-append-drop found.0 front)) ∙ append_assoc first (drop found.0 front) (drop 16384 bytes) in
     let Fault : List ℕ → Type 0 = λ text. HeadFault text BadHead in
     subst Fault (sym (ap (λ text. text ++ more) split ∙ append_assoc first rest more)) (unframed first (rest ++ more) found.2)
 refused_head bytes HeadTooLarge e = λ more.
@@ -95,9 +95,9 @@ headless front bytes c is few still =
 pub takes_head : (most : ℕ) (front : List ℕ) (i i' : IntakeData) (found : Found) → front ≡ take most i.bytes → IsFound front found → i' ≡ record i { bytes = drop found.length i.bytes } → TakesHead i i' found.head
 takes_head most front i i' found is at same =
     let first : take found.length front ≡ take found.length i.bytes =
-      sym (take-append-le found.length front (drop most i.bytes) at.within)
-      ∙ ap (λ text. take found.length (text ++ drop most i.bytes)) is
-      ∙ ap (λ text. take found.length text) (take-append-drop most i.bytes) in
+    sym (take-append-le found.length front (drop most i.bytes) at.within)
+    ∙ ap (λ text. take found.length (text ++ drop most i.bytes)) is
+    ∙ ap (λ text. take found.length text) (take-append-drop most i.bytes) in
     let Head : List ℕ → Type 0 = λ text. IsHead text found.head in
     let Takes : IntakeData → Type 0 = λ j. TakesHead i j found.head in
     subst Takes (sym same) (record {

@@ -28,8 +28,8 @@ is_err (Err f) e is = ap Err is
 pub stops_length : (n : ℕ) (b0 : List ℕ) (l0 l : Option (List ℕ)) (f : MessageFault) → n ≤ 68157440 → Stops (IsShort n) b0 l0 l f → Stops (IsBodyFault (Length n)) b0 l0 l f
 stops_length n b0 l0 l f few stops =
     stops_after (IsShort n) (IsBodyFault (Length n)) b0 l0 b0 l0 l [] f (took_none b0 l0) stops (λ input g p.
-      let Says : MessageFault → Type 0 = λ h. BodySays (Length n) input (Err h) in
-      subst Says (sym p.0) (short n input few p.1))
+    let Says : MessageFault → Type 0 = λ h. BodySays (Length n) input (Err h) in
+    subst Says (sym p.0) (short n input few p.1))
 
 -- a body of a length
 pub says_length : (n : ℕ) (body old taken more : List ℕ) → n ≤ 68157440 → old ≡ [] → length taken ≡ n → body ≡ old ++ taken → BodySays (Length n) (taken ++ more) (Ok body)
@@ -72,6 +72,7 @@ prefix_prefix head n = by (head.expects && has_body head.framing) n
     none : (k : ℕ) → take {A = ℕ} k [] ≡ []
     none zero = refl
     none (suc k) = refl
+
     by : (b : Bool) (k : ℕ) → (m : ℕ) × (take k (if b then leave else []) ≡ take m leave)
     by true k = (k, refl)
     by false k = (0, none k)
@@ -99,6 +100,7 @@ body_answer bytes rest input left head f is split fault =
   where
     cut : Unfinished (IsBodyFault head.framing) rest left → IsUnfinished (bytes ++ rest) left (asked head)
     cut u = (bytes ++ u.0, u.1, ap (λ text. bytes ++ text) u.2 ∙ sym (append_assoc bytes u.0 u.1), u.3, bad_body bytes u.0 head Ended is u.4)
+
     by : (g : MessageFault) → IsFaultOf (IsBodyFault head.framing) rest left g → Answers (bytes ++ rest) left (Err g) (asked head)
     by BadHead h = bad_body bytes rest head BadHead is h
     by HeadTooLarge h = bad_body bytes rest head HeadTooLarge is h
@@ -222,7 +224,7 @@ body_fault p i left b1 left1 left2 left3 old mid next new head r f begun taken s
     let after = after_head p i left b1 left1 left2 taken.0 begun taken.2 same input told in
     let Says : Result Message MessageFault → Type 0 = λ q. Writes old new (Answers input left3 q) in
     subst Says (sym (is_err r f is)) (writes_all old new (asked head) (Answers input left3 (Err f)) (asked_only old mid next new head first adds last)
-      (body_answer taken.0 after.0 input left3 head f taken.1 after.1 (stops after.0 after.2)))
+    (body_answer taken.0 after.0 input left3 head f taken.1 after.1 (stops after.0 after.2)))
 
 -- the answer if all is read
 pub message_read : (p : ℕ) (i : IntakeData) (left : Option (List ℕ)) (b1 b2 : List ℕ) (left1 left2 left3 old mid next new : Option (List ℕ)) (head : Head) (body : List ℕ) (m : Message) → i ≡ record { bytes = []; patience = p; allowed = p } → ((bytes : List ℕ) × IsHead bytes head × Took i.bytes left b1 left1 bytes) → left2 ≡ left1 → mid ≡ old → Adds mid next (asked head) → new ≡ next → ((taken : List ℕ) × ((more : List ℕ) → BodySays head.framing (taken ++ more) (Ok body)) × Took b1 left2 b2 left3 taken) → m ≡ message_of head body → (input : List ℕ) → left ≡ Some input → Writes old new (Answers input left3 (Ok m))
@@ -231,7 +233,7 @@ message_read p i left b1 b2 left1 left2 left3 old mid next new head body m begun
     let later = read.2 after.0 after.2 in
     let Says : Message → Type 0 = λ n. Writes old new (Answers input left3 (Ok n)) in
     subst Says (sym is) (writes_all old new (asked head) (Answers input left3 (Ok (message_of head body))) (asked_only old mid next new head first adds last)
-      (message_answer taken.0 read.0 later.0 input left3 head body taken.1 (after.1 ∙ ap (λ text. taken.0 ++ text) later.1) (read.1 later.0)))
+    (message_answer taken.0 read.0 later.0 input left3 head body taken.1 (after.1 ∙ ap (λ text. taken.0 ++ text) later.1) (read.1 later.0)))
 
 -- nothing was written, which is no more than the leave
 pub bounded_same : (old new : Option (List ℕ)) → new ≡ old → AddsPrefix old new leave

@@ -57,10 +57,13 @@ ends_later bytes place short not_first none occurs =
     let End : ℕ → Type 0 = λ m. TrailersEnd (take (place + 4) bytes) m in
     record {
       within = within;
-      is = (omega (arith, long, within, short), subst End (sym long) (later (take (place + 4) bytes) place
-        (λ first. not_first (occurs_whole bytes crlf 0 (place + 4) within first))
-        (λ k low high at. none.before k low high (occurs_whole bytes crlf_crlf k (place + 4) within at))
-        (occurs_front bytes crlf_crlf place (place + 4) within (omega arith) occurs)));
+      is = (
+        omega (arith, long, within, short),
+        subst End (sym long) (later (take (place + 4) bytes) place
+            (λ first. not_first (occurs_whole bytes crlf 0 (place + 4) within first))
+            (λ k low high at. none.before k low high (occurs_whole bytes crlf_crlf k (place + 4) within at))
+            (occurs_front bytes crlf_crlf place (place + 4) within (omega arith) occurs)),
+      );
     }
 
 -- bytes that can't become a part can't with more behind them
@@ -87,8 +90,8 @@ refuses_part part front bytes f is refused =
     let Refused : MessageFault → Type 0 = λ g. Refuses (PartFault part) bytes g in
     let No : List ℕ → Type 0 = λ text. IsNoPart part text in
     subst Refused (sym refused.0) (λ more.
-      let ahead = front_more (most_of part) bytes more in
-      no_part part (bytes ++ more) (subst No (sym (ahead.1 ∙ ap (λ text. text ++ ahead.0) (sym is))) (never_more part front ahead.0 refused.1)))
+    let ahead = front_more (most_of part) bytes more in
+    no_part part (bytes ++ more) (subst No (sym (ahead.1 ∙ ap (λ text. text ++ ahead.0) (sym is))) (never_more part front ahead.0 refused.1)))
 
 -- bytes that are enough for a part and hold none
 pub too_long : (part : Part) (front bytes : List ℕ) → front ≡ take (most_of part) bytes → most_of part ≤ length bytes → IsPartial part front → Refuses (PartFault part) bytes BadChunk
@@ -108,9 +111,9 @@ partless part front bytes c is few partial =
 pub takes_part : (part : Part) (most : ℕ) (front : List ℕ) (i i' : IntakeData) (found : ℕ × ℕ) → front ≡ take most i.bytes → IsFoundPart part front found → i' ≡ record i { bytes = drop found.1 i.bytes } → TakesPart part i i' found.0
 takes_part part most front i i' found is at same =
     let first : take found.1 front ≡ take found.1 i.bytes =
-      sym (take-append-le found.1 front (drop most i.bytes) at.within)
-      ∙ ap (λ text. take found.1 (text ++ drop most i.bytes)) is
-      ∙ ap (λ text. take found.1 text) (take-append-drop most i.bytes) in
+    sym (take-append-le found.1 front (drop most i.bytes) at.within)
+    ∙ ap (λ text. take found.1 (text ++ drop most i.bytes)) is
+    ∙ ap (λ text. take found.1 text) (take-append-drop most i.bytes) in
     let Is : List ℕ → Type 0 = λ text. IsPart part text found.0 in
     let Takes : IntakeData → Type 0 = λ j. TakesPart part i j found.0 in
     subst Takes (sym same) (record {

@@ -99,13 +99,15 @@ stops_paused Says c i t b0 l0 l1 f0 f1 f took knows pause short input holds = pa
   where
     cut : c ≢ came.Bytes → Unfinished Says input l1
     cut other = let one = took input holds in
-      (t ++ i.bytes, one.2.rest, one.1 ∙ ap (λ rest. t ++ rest) one.2.is ∙ sym (append_assoc t i.bytes one.2.rest), one.2.known, short other)
+        (t ++ i.bytes, one.2.rest, one.1 ∙ ap (λ rest. t ++ rest) one.2.is ∙ sym (append_assoc t i.bytes one.2.rest), one.2.known, short other)
+
     at_end : c ≡ came.Ended → Says input Ended
     at_end is =
-      let Known : Came → Type 0 = λ d. Knows d i t b0 l0 f0 f1 in
-      let ended : Knows came.Ended i t b0 l0 f0 f1 = subst Known is knows in
-      let Here : List ℕ → Type 0 = λ text. Says text Ended in
-      subst Here (sym (ended input holds)) (short (λ other. cc))
+        let Known : Came → Type 0 = λ d. Knows d i t b0 l0 f0 f1 in
+        let ended : Knows came.Ended i t b0 l0 f0 f1 = subst Known is knows in
+        let Here : List ℕ → Type 0 = λ text. Says text Ended in
+        subst Here (sym (ended input holds)) (short (λ other. cc))
+
     paused : (g : MessageFault) → IsPause c i g → IsFaultOf Says input l1 g
     paused BadHead h = absurd h
     paused HeadTooLarge h = absurd h

@@ -79,6 +79,7 @@ phrase_unknown n not_code = sym (ap (λ (b : Bool). if b then reason_of n else [
   where
     is_code : (k : ℕ) → (nat_le 100 k && nat_lt k 1000) ≡ true → IsStatusCode k
     is_code k h = grind (arith, nat_tests)
+
     by : (b : Bool) → (nat_le 100 n && nat_lt n 1000) ≡ b → b ≡ false
     by true h = absurd (not_code (is_code n h))
     by false h = refl
