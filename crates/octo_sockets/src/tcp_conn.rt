@@ -1,36 +1,61 @@
-//! Connections over TCP.
+//! Connections over TCP, and over a Unix socket.
 ghost use Rattle.std.specs.Prelude.{◌≡◌, ◌≤◌, None, IfOk};
 ghost use Rattle.octo_outside.specs.Memory.{one_more};
 ghost use Rattle.octo_outside.specs.Told.{Rose};
 
+use crate::socket_stream::{SocketStream, unix_path};
 use crate::streams::{linger, may_come_later, prepare, write_some};
 use octo_outside::{Conn, Failed, Got};
+use std::fs;
 use std::io::Read;
 use std::net::{Net, OpenListener, TcpListener};
+use std::os::unix::net::UnixListener;
+use std::rt::Files;
 use std::time::Clock;
 
-/// A connection over TCP. It tells neither what is left nor what was written.
+/// A connection over TCP, or over a Unix socket. It tells neither what is left nor what was written.
 #[derive(Drop)]
 pub struct TcpConn<R: Net + Drop> {
     rt: R,
-    stream: R::Stream,
+    stream: SocketStream<R::Stream>,
     faults: u64,
     quiets: u64,
 }
 
-impl<R: Net + Drop> TcpConn<R> {
-    /// Listens at `HOST:PORT`, waits for the first peer, and listens no longer.
+impl<R: Net + Files + Drop> TcpConn<R> {
+    /// Listens at `HOST:PORT` or `unix:PATH`, waits for the first peer, and listens no longer. The socket's file is
+    /// removed then.
     ///
-    /// Fails where the address can't be bound, as one that is in use or isn't this machine's.
+    /// Fails if the address can't be bound, as one that is in use or isn't this machine's, or a path that is there.
     pub fn accept_one(rt: R, address: &str) -> Result<Self, Failed>
         ensures { IfOk result (λ c. (c.faults ≡ 0) × (c.quiets ≡ 0)) }
     {
+        if let Some(path) = unix_path(address) {
+            return TcpConn::accept_at_path(rt, path);
+        }
         match TcpListener::bind(&rt, address) {
             Ok(listener) => TcpConn::accept(rt, &listener),
             Err(_) => Err(Failed),
         }
     }
 
+    // Waits for the first peer of a Unix socket at this path.
+    fn accept_at_path(rt: R, path: &str) -> Result<Self, Failed>
+        ensures { IfOk result (λ c. (c.faults ≡ 0) × (c.quiets ≡ 0)) }
+    {
+        let Ok(listener) = UnixListener::bind(&rt, path) else {
+            return Err(Failed);
+        };
+        let accepted = listener.accept();
+        let _ = fs::remove_file(&rt, path);
+        match accepted {
+            Ok((stream, _)) => TcpConn::ready(rt, SocketStream::Unix(stream)),
+            Err(_) => Err(Failed),
+        }
+    }
+}
+
+impl<R: Net + Drop> TcpConn<R> {
     /// Waits for the next peer of a listener.
     pub fn accept(rt: R, listener: &R::Listener) -> Result<Self, Failed>
         ensures { IfOk result (λ c. (c.faults ≡ 0) × (c.quiets ≡ 0)) }
@@ -43,6 +68,13 @@ impl<R: Net + Drop> TcpConn<R> {
 
     /// The connection over a stream, whose calls wait for a bounded time from here on.
     pub fn over(rt: R, stream: R::Stream) -> Result<Self, Failed>
+        ensures { IfOk result (λ c. (c.faults ≡ 0) × (c.quiets ≡ 0)) }
+    {
+        TcpConn::ready(rt, SocketStream::Tcp(stream))
+    }
+
+    // The same, whichever kind of stream it is.
+    fn ready(rt: R, stream: SocketStream<R::Stream>) -> Result<Self, Failed>
         ensures { IfOk result (λ c. (c.faults ≡ 0) × (c.quiets ≡ 0)) }
     {
         match prepare(&stream) {

@@ -1,6 +1,6 @@
-//! Names of ports over TCP.
+//! Names of ports over TCP and of Unix sockets.
 ghost use Rattle.std.specs.Prelude.{◌≡◌};
-ghost use Rattle.socket_link.specs.Address.{is_port, names_address};
+ghost use Rattle.socket_link.specs.Address.{is_port, names_address, names_path, names_port};
 
 use byte_text::{are_digits, number, split_at_last};
 
@@ -21,4 +21,19 @@ pub fn names_address(name: &str) -> bool
         Some((host, port)) => !host.is_empty() && is_port(port) && !name.starts_with(b"unix:"),
         None => false,
     }
+}
+
+// Whether a name is `unix:PATH` with a path, which isn't empty.
+fn names_path(name: &str) -> bool
+    ensures { result ≡ names_path name.now }
+{
+    let name = name.as_bytes();
+    name.starts_with(b"unix:") && 6 <= name.len()
+}
+
+/// Whether a name is that of a port: `HOST:PORT`, or `unix:PATH`.
+pub fn names_port(name: &str) -> bool
+    ensures { result ≡ names_port name.now }
+{
+    names_address(name) || names_path(name)
 }

@@ -1,4 +1,4 @@
-//! A link to a printer over TCP, which does not tell what happened.
+//! A link to a printer over TCP or a Unix socket, which does not tell what happened.
 #![tactic(auto)]
 
 mod address;
@@ -6,7 +6,7 @@ mod lines;
 mod link;
 mod unsent;
 
-pub use address::names_address;
+pub use address::{names_address, names_port};
 pub use link::SocketLink;
 
 #[cfg(test)]

@@ -1,22 +1,23 @@
-//! A link to a printer over TCP.
+//! A link to a printer over TCP or a Unix socket.
 ghost use Rattle.std.specs.Prelude.{◌≡◌, ◌+◌, ◌≤◌, ◌⊎◌, ◌++◌, ◌∷◌, [], length, true, false, is_some, Some, None, Ok, OnOk, OnErr, IsOk, IsErrOf};
 ghost use Rattle.std.specs.List.{list_any, before_first, after_first};
 ghost use Rattle.octo_outside.specs.Told.{Rose};
-ghost use Rattle.socket_link.specs.Address.{names_address};
+ghost use Rattle.socket_link.specs.Address.{names_port};
 ghost use Rattle.socket_link.specs.Lines.{cut, ends_line};
 ghost use Rattle.printer_link.specs.declared.link.Heard.TheVariants as heard;
 ghost use Rattle.printer_link.specs.declared.link.LinkFault.TheVariants as fault;
 
-use crate::address::names_address;
+use crate::address::names_port;
 use crate::lines::Lines;
 use crate::unsent::Unsent;
 use byte_text::{Line, ReplyLine};
 use libc::net::{POLLIN, poll};
 use libc::types::pollfd;
-use octo_sockets::{linger, may_come_later, prepare};
+use octo_sockets::{SocketStream, linger, may_come_later, prepare, unix_path};
 use printer_link::{Heard, Link, LinkFault};
 use std::net::{Net, TcpStream, ToSocketAddrs};
 use std::os::fd::AsRawFd;
+use std::os::unix::net::UnixStream;
 use std::time::{Clock, Duration};
 
 // How long a receiving waits for input, in milliseconds.
@@ -27,7 +28,7 @@ const CONNECT: u64 = 2000;
 
 const ADDRESSES: usize = 4;
 
-/// A link over TCP to the ports named `HOST:PORT`. It does not tell its past.
+/// A link to the ports named `HOST:PORT`, over TCP, and `unix:PATH`, over a Unix socket. It does not tell its past.
 ///
 /// A receiving waits for about a millisecond, and a reply that comes in ends the wait at once. Lines that are sent
 /// are written when a receiving finds no reply that has been read, so that those of one turn go out together; a
@@ -35,25 +36,32 @@ const ADDRESSES: usize = 4;
 #[derive(Drop)]
 pub struct SocketLink<R: Net + Drop> {
     rt: R,
-    stream: Option<R::Stream>,
+    stream: Option<SocketStream<R::Stream>>,
     unsent: Unsent,
     lines: Lines,
     up: bool,
     faults: u64,
 }
 
-// A stream to an address, none where nobody answers there in time.
-fn connect<R: Net>(rt: &R, name: &str) -> Option<R::Stream> {
+// A stream over TCP to an address, none if nobody answers there in time.
+fn connect_address<R: Net>(rt: &R, name: &str) -> Option<R::Stream> {
     let timeout = Duration::from_millis(CONNECT);
     for address in name.to_socket_addrs(rt).ok()?.take(ADDRESSES) {
         if let Ok(stream) = TcpStream::connect_timeout(rt, &address, timeout) {
-            return match prepare(&stream) {
-                Ok(()) => Some(stream),
-                Err(_) => None,
-            };
+            return Some(stream);
         }
     }
     None
+}
+
+// A stream to a port, none if nobody answers there. A Unix socket answers at once or not at all.
+fn connect<R: Net>(rt: &R, name: &str) -> Option<SocketStream<R::Stream>> {
+    let stream = match unix_path(name) {
+        Some(path) => SocketStream::Unix(UnixStream::connect(rt, path).ok()?),
+        None => SocketStream::Tcp(connect_address(rt, name)?),
+    };
+    prepare(&stream).ok()?;
+    Some(stream)
 }
 
 // Whether a read of the stream has something to give, now or within about a millisecond. A poll that fails tells
@@ -188,7 +196,7 @@ impl<R: Net + Drop> SocketLink<R> {
 impl<R: Net + Clock + Drop> Link for SocketLink<R> {
     ghost past = { λ _. None };
 
-    ghost kind = { λ _. record { slots = 4; numbered = false; prompt = false; listed = names_address } };
+    ghost kind = { λ _. record { slots = 4; numbered = false; prompt = false; listed = names_port } };
 
     ghost calls = { λ _. None };
 
@@ -197,7 +205,7 @@ impl<R: Net + Clock + Drop> Link for SocketLink<R> {
     ghost faults = { λ l. l.faults };
 
     fn dial(&mut self, name: &str) -> Result<(), LinkFault> {
-        if !names_address(name) {
+        if !names_port(name) {
             return Err(LinkFault::NoPort);
         }
         let Some(stream) = connect(&self.rt, name) else {
