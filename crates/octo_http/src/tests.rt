@@ -1,8 +1,7 @@
-//! A message with leave to send its body, messages that are cut or contradict themselves, and those of common clients.
+//! A message with leave to send its body, messages that are cut, and messages that contradict themselves.
 use crate::{HttpReply, Message, MessageFault, ReplyKind, read_message, write_reply};
 use octo_outside::{Blob, CallList, MemoryConn};
 use std::alloc::{AllocError, Global};
-use std::fs;
 use std::test::Fail;
 
 const UPLOAD: &[u8] = b"POST /api/files/local?x=1 HTTP/1.1\r\nX-Api-Key: k\r\nExpect: 100-Continue\r\n\
@@ -83,29 +82,6 @@ fn smuggling(rt: HostRuntime) -> Result<(), Fail> {
         let mut input = Blob::from_slice(rt.alloc(), b"POST / HTTP/1.1\r\n")?;
         input.append(fields.as_bytes())?;
         assert!(rt; read(rt.alloc(), input.as_slice())?.err() == want, "{fields}");
-    }
-    Ok(())
-}
-
-#[test]
-fn clients(rt: HostRuntime) -> Result<(), Fail> {
-    for (name, method, count) in [
-        ("curl_get", "GET", 0),
-        ("curl_post", "POST", 19),
-        ("curl_upload", "POST", 308),
-        ("curl_chunks", "PUT", 11),
-        ("wget_get", "GET", 0),
-        ("wget_post", "POST", 19),
-        ("http_client_post", "POST", 19),
-        ("http_client_chunks", "PUT", 11),
-        ("urllib_post", "POST", 19),
-        ("fetch_post", "POST", 19),
-        ("fetch_upload", "POST", 277),
-    ] {
-        let path = format!(in rt.alloc(); "{name}.http")?;
-        let input = fs::read(&rt, path.as_str())?;
-        let message = read(rt.alloc(), input.as_slice())??;
-        assert!(rt; message.method.as_str() == method && message.body.len() == count, "{name}");
     }
     Ok(())
 }
