@@ -19,3 +19,6 @@ mod reply;
 pub use fault::MessageFault;
 pub use message::{Message, read_message};
 pub use reply::{HttpReply, ReplyKind, write_reply};
+
+#[cfg(test)]
+mod tests;
