@@ -1,9 +1,12 @@
 //! The link over TCP against a peer on this machine, and the names that it lists.
-use crate::{SocketLink, names_address};
+use crate::{SocketLink, names_address, names_port};
 use byte_text::{Line, ReplyLine};
 use printer_link::{Heard, Link, LinkFault};
+use std::fs;
 use std::io::{Read, Write};
 use std::net::{Shutdown, TcpListener, TcpStream};
+use std::os::unix::net::UnixListener;
+use std::process;
 use std::process::Abort;
 use std::test::Fail;
 use std::time::Duration;
@@ -33,6 +36,18 @@ fn names(rt: HostRuntime) {
         ("unix:80", false),
     ] {
         assert_eq!(rt; names_address(name), want, "at {name}");
+    }
+    for (name, want) in [
+        ("127.0.0.1:7100", true),
+        ("unix:/run/printer", true),
+        ("unix:/run/printer:7100", true),
+        ("unix:80", true),
+        ("unix:", false),
+        ("unix", false),
+        ("Unix:/run/printer", false),
+        ("printer", false),
+    ] {
+        assert_eq!(rt; names_port(name), want, "at {name}");
     }
 }
 
@@ -83,7 +98,7 @@ fn check_line(rt: &impl Abort, link: &mut SocketLink<HostRuntime>, want: &[u8]) 
     assert_eq!(rt; reply.as_slice(), want);
 }
 
-fn check_read(rt: &impl Abort, peer: &mut TcpStream, want: &[u8]) {
+fn check_read<S: Read>(rt: &impl Abort, peer: &mut S, want: &[u8]) {
     let mut read = [0; 64];
     assert!(rt; want.len() <= 64);
     peer.read_exact(&mut read[..want.len()])
@@ -176,6 +191,27 @@ fn socket_link_ends(rt: HostRuntime) -> Result<(), Fail> {
     assert!(rt; !link.is_up());
     take_step(&rt, &mut link, &mut peer, Step::Reads("M104 S0\n"));
     drop(listener);
+    assert!(rt; !link.is_up());
+    assert!(rt; link.dial(name.as_str()) == Err(LinkFault::Failed));
+    Ok(())
+}
+
+// A Unix socket: lines go both ways, and where nobody listens any more a dial fails.
+#[test]
+fn unix_socket(rt: HostRuntime) -> Result<(), Fail> {
+    let path = format!(in rt.alloc(); "/tmp/socket_link_{}", process::id(rt.process()))?;
+    let name = format!(in rt.alloc(); "unix:{}", path)?;
+    let listener = UnixListener::bind(&rt, path.as_str())?;
+    let mut link = SocketLink::new(&rt);
+    assert!(rt; link.dial(name.as_str()) == Ok(()));
+    let (mut peer, _) = listener.accept()?;
+    peer.set_read_timeout(Some(Duration::from_secs(10)))?;
+    peer.write_all(b"start\n")?;
+    check_line(&rt, &mut link, b"start");
+    send(&rt, &mut link, "M104 S0");
+    link.hang_up();
+    check_read(&rt, &mut peer, b"M104 S0\n");
+    fs::remove_file(&rt, path.as_str())?;
     assert!(rt; !link.is_up());
     assert!(rt; link.dial(name.as_str()) == Err(LinkFault::Failed));
     Ok(())
