@@ -41,7 +41,11 @@ still_closed : (w : WorldData) → IsStill w (Closed ∷ [])
 still_closed w = record { unsent = λ since. refl; unheard = refl }
 
 -- the clock's steps, after a reply was heard or none was there
-clock_caused : (moment : ℕ) (is_prompt : Bool) (found : LinkFact) (texts : List (List ℕ)) (count : ℕ) (made : WorldData) (rest : List WorldEvent) (s : SenderData) (more : List WorldEvent) (ended : Option SessionEnd) → can_find Talking found ≡ true → (tick_step moment s).ended ≡ ended → ((why : SessionEnd) → (tick_step moment s).ended ≡ Some why → found ≡ fact.Ended why) → IsAt made rest s → AreAdded moment is_prompt (clock_steps found texts count) s (world_from made rest) more → IsCaused (after_steps moment (clock_steps found texts count) s).ended made (rest ++ more)
+clock_caused : (moment : ℕ) (is_prompt : Bool) (found : LinkFact) (texts : List (List ℕ)) (count : ℕ) (made : WorldData)
+    (rest : List WorldEvent) (s : SenderData) (more : List WorldEvent) (ended : Option SessionEnd) → can_find Talking found ≡ true →
+    (tick_step moment s).ended ≡ ended → ((why : SessionEnd) → (tick_step moment s).ended ≡ Some why → found ≡ fact.Ended why) →
+    IsAt made rest s → AreAdded moment is_prompt (clock_steps found texts count) s (world_from made rest) more →
+    IsCaused (after_steps moment (clock_steps found texts count) s).ended made (rest ++ more)
 clock_caused moment is_prompt found texts count made rest s more None can is ends at added =
     let C : Option SessionEnd → Type 0 = λ e. IsCaused e made (rest ++ more) in
     subst C (sym (clock_end moment found texts count s can ∙ is)) tt
@@ -59,7 +63,8 @@ clock_caused moment is_prompt found texts count made rest s more (Some why) can 
     subst C (sym (clock_end moment found texts count s can)) so
 
 -- a reply ends a session with a cause
-heard_caused : (moment : ℕ) (bytes : List ℕ) (made : WorldData) (rest : List WorldEvent) (s : SenderData) (ended : Option SessionEnd) → s.ended ≡ None → (hear_step (kind_of bytes) moment s).ended ≡ ended → IsFair ended → IsStartKnown rest bytes → IsCaused ended made rest
+heard_caused : (moment : ℕ) (bytes : List ℕ) (made : WorldData) (rest : List WorldEvent) (s : SenderData) (ended : Option SessionEnd) →
+    s.ended ≡ None → (hear_step (kind_of bytes) moment s).ended ≡ ended → IsFair ended → IsStartKnown rest bytes → IsCaused ended made rest
 heard_caused moment bytes made rest s None running is fair known = tt
 heard_caused moment bytes made rest s (Some (NoAnswer count)) running is fair known = absurd (((ends_by_rule (NoAnswer count) s moment running).0 (kind_of bytes)).0 is)
 heard_caused moment bytes made rest s (Some (AskedBack number acknowledged)) running is fair known = fair
@@ -69,7 +74,9 @@ heard_caused moment bytes made rest s (Some Restarted) running is fair known = k
 heard_caused moment bytes made rest s (Some (NumbersUsed all)) running is fair known = tt
 
 -- a `start` that is received comes of a restart before it
-known_front : (start : List Logged) (issued : List (List ℕ)) (s : SenderData) (made : WorldData) (rest first : List WorldEvent) (bytes : List ℕ) → IsHeard bytes (world_from made rest) first → Meets start issued s (world_from made rest) → Each (IsStartKnown rest) (world_from made rest).down → IsStartKnown (rest ++ first) bytes
+known_front : (start : List Logged) (issued : List (List ℕ)) (s : SenderData) (made : WorldData) (rest first : List WorldEvent)
+    (bytes : List ℕ) → IsHeard bytes (world_from made rest) first → Meets start issued s (world_from made rest) →
+    Each (IsStartKnown rest) (world_from made rest).down → IsStartKnown (rest ++ first) bytes
 known_front start issued s made rest first bytes is m starts begins =
     let w : WorldData = world_from made rest in
     let before : Each (IsStartKnown (rest ++ is.before)) (world_from w is.before).down = free_starts start issued s w rest is.before is.free_before m starts in
@@ -81,7 +88,8 @@ known_front start issued s made rest first bytes is m starts begins =
     ∙ or_left (list_any is_restart (rest ++ is.before)) (list_any is_restart (Recv ∷ is.behind)) so
 
 module _ (moment : ℕ) (is_prompt : Bool) (found : LinkFact) (texts : List (List ℕ)) (count : ℕ) (start : List Logged) (made : WorldData) (issued : List (List ℕ)) (s : SenderData) (rest : List WorldEvent) where
-  silence_at : (first : List WorldEvent) → s.ended ≡ None → IsSilence (world_from made rest) first → IsQuiet (sends_since 0 rest) s → IsTraced start made issued s rest → IsAt made (rest ++ first) s
+  silence_at : (first : List WorldEvent) → s.ended ≡ None → IsSilence (world_from made rest) first → IsQuiet (sends_since 0 rest) s →
+      IsTraced start made issued s rest → IsAt made (rest ++ first) s
   silence_at first running is quiet traced =
       let led = leads_free start issued s (world_from made rest) (replies_from made rest) first is.free traced.meets traced.tallied in
       let T : List Reply → Type 0 = λ l. IsTallied l s in
@@ -94,7 +102,8 @@ module _ (moment : ℕ) (is_prompt : Bool) (found : LinkFact) (texts : List (Lis
         fair = traced.meets.numbers.replies.fair;
       }
 
-  heard_at : (bytes : List ℕ) (first : List WorldEvent) → s.ended ≡ None → IsHeard bytes (world_from made rest) first → IsTraced start made issued s rest → IsAt made (rest ++ first) (hear_step (kind_of bytes) moment s)
+  heard_at : (bytes : List ℕ) (first : List WorldEvent) → s.ended ≡ None → IsHeard bytes (world_from made rest) first →
+      IsTraced start made issued s rest → IsAt made (rest ++ first) (hear_step (kind_of bytes) moment s)
   heard_at bytes first running is traced =
       let t : SenderData = hear_step (kind_of bytes) moment s in
       let led = hears_leads start issued moment s (world_from made rest) (replies_from made rest) bytes first running is traced.meets traced.tallied in
@@ -109,14 +118,21 @@ module _ (moment : ℕ) (is_prompt : Bool) (found : LinkFact) (texts : List (Lis
       }
 
   -- what follows the first step
-  behind : (first more added : List WorldEvent) (t : SenderData) → can_find Talking found ≡ true → ((why : SessionEnd) → (tick_step moment t).ended ≡ Some why → found ≡ fact.Ended why) → IsAt made (rest ++ first) t → added ≡ first ++ more → AreAdded moment is_prompt (clock_steps found texts count) t (world_from (world_from made rest) first) more → IsCaused (after_steps moment (clock_steps found texts count) t).ended made (rest ++ added)
+  behind : (first more added : List WorldEvent) (t : SenderData) → can_find Talking found ≡ true →
+      ((why : SessionEnd) → (tick_step moment t).ended ≡ Some why → found ≡ fact.Ended why) → IsAt made (rest ++ first) t →
+      added ≡ first ++ more → AreAdded moment is_prompt (clock_steps found texts count) t (world_from (world_from made rest) first) more →
+      IsCaused (after_steps moment (clock_steps found texts count) t).ended made (rest ++ added)
   behind first more added t can ends at is steps =
       let A : WorldData → Type 0 = λ w. AreAdded moment is_prompt (clock_steps found texts count) t w more in
       let C : List WorldEvent → Type 0 = λ es. IsCaused (after_steps moment (clock_steps found texts count) t).ended made es in
       let all : (rest ++ first) ++ more ≡ rest ++ added = append_assoc rest first more ∙ ap (λ (es : List WorldEvent). rest ++ es) (sym is) in
       subst C all (clock_caused moment is_prompt found texts count made (rest ++ first) t more (tick_step moment t).ended can refl ends at (subst A (sym (world_from-append made rest first)) steps))
 
-  pub talk_caused : (got : Got) (added : List WorldEvent) → can_find Talking found ≡ true → (got ≡ unasked → ⊥) → ((why : SessionEnd) → (found ≡ fact.Ended why → end_by got moment s ≡ Some why) × (end_by got moment s ≡ Some why → found ≡ fact.Ended why)) → s.ended ≡ None → IsQuiet (sends_since 0 rest) s → IsTraced start made issued s rest → AreAdded moment is_prompt (talk_steps got found texts count) s (world_from made rest) added → IsCaused (after_steps moment (talk_steps got found texts count) s).ended made (rest ++ added)
+  pub talk_caused : (got : Got) (added : List WorldEvent) → can_find Talking found ≡ true → (got ≡ unasked → ⊥) →
+      ((why : SessionEnd) → (found ≡ fact.Ended why → end_by got moment s ≡ Some why) × (end_by got moment s ≡ Some why → found ≡ fact.Ended why)) →
+      s.ended ≡ None → IsQuiet (sends_since 0 rest) s → IsTraced start made issued s rest →
+      AreAdded moment is_prompt (talk_steps got found texts count) s (world_from made rest) added →
+      IsCaused (after_steps moment (talk_steps got found texts count) s).ended made (rest ++ added)
   talk_caused unasked added can asked ends running quiet traced steps = absurd (asked refl)
   talk_caused lost added can asked ends running quiet traced steps =
       let C : Option SessionEnd → Type 0 = λ e. IsCaused e made (rest ++ added) in

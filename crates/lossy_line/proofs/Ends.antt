@@ -44,7 +44,8 @@ pub record IsStill (w : WorldData) (added : List WorldEvent) : Type 0 where
   pub unsent : (since : ℕ) → sends_since since added ≡ since
   pub unheard : replies_from w added ≡ []
 
-still_silent : (made : WorldData) (rest added : List WorldEvent) → IsStill (world_from made rest) added → IsSilentSince made rest → IsSilentSince made (rest ++ added)
+still_silent : (made : WorldData) (rest added : List WorldEvent) → IsStill (world_from made rest) added → IsSilentSince made rest →
+    IsSilentSince made (rest ++ added)
 still_silent made rest added still (inl none) =
     let same : replies_from made (rest ++ added) ≡ replies_from made rest =
     replies_from-append made rest added ∙ ap (λ (l : List Reply). replies_from made rest ++ l) still.unheard ∙ append-nil (replies_from made rest)
@@ -54,7 +55,8 @@ still_silent made rest added still (inr four) =
     let same : sends_since 0 (rest ++ added) ≡ sends_since 0 rest = sends_since-append 0 rest added ∙ still.unsent (sends_since 0 rest) in
     inr (omega (arith, same, four))
 
-pub still_caused : (ended : Option SessionEnd) (made : WorldData) (rest added : List WorldEvent) → IsStill (world_from made rest) added → IsCaused ended made rest → IsCaused ended made (rest ++ added)
+pub still_caused : (ended : Option SessionEnd) (made : WorldData) (rest added : List WorldEvent) → IsStill (world_from made rest) added →
+    IsCaused ended made rest → IsCaused ended made (rest ++ added)
 still_caused None made rest added still caused = tt
 still_caused (Some (NoAnswer count)) made rest added still caused = still_silent made rest added still caused
 still_caused (Some (AskedBack number acknowledged)) made rest added still caused = caused
@@ -67,13 +69,20 @@ still_free : (w : WorldData) (events : List WorldEvent) → list_all is_free eve
 still_free w events free = record { unsent = λ since. sends_since-free since events free; unheard = ap (map kind_of) (received_from-free w events free) }
 
 -- the events of a turn that neither talks nor makes a link
-pub still_turn : (moment : ℕ) (is_prompt : Bool) (d : Doing) (was_up : Bool) (got : Got) (found : LinkFact) (texts : List (List ℕ)) (count : ℕ) (s : SenderData) (w : WorldData) (added : List WorldEvent) → (d ≡ Talking → ⊥) → (found ≡ fact.Opened → ⊥) → AreAdded moment is_prompt (turn_steps d was_up got found texts count) s w added → IsStill w added
+pub still_turn : (moment : ℕ) (is_prompt : Bool) (d : Doing) (was_up : Bool) (got : Got) (found : LinkFact) (texts : List (List ℕ))
+    (count : ℕ) (s : SenderData) (w : WorldData) (added : List WorldEvent) → (d ≡ Talking → ⊥) → (found ≡ fact.Opened → ⊥) →
+    AreAdded moment is_prompt (turn_steps d was_up got found texts count) s w added → IsStill w added
 still_turn moment is_prompt d was_up got found texts count s w added idle other is = by d found idle other is
   where
     none : added ≡ [] → IsStill w added
     none e = (let S : List WorldEvent → Type 0 = λ es. IsStill w es in subst S (sym e) (record { unsent = λ since. refl; unheard = refl }))
+<<<<<<< HEAD
 
     by : (e : Doing) (f : LinkFact) → (e ≡ Talking → ⊥) → (f ≡ fact.Opened → ⊥) → AreAdded moment is_prompt (turn_steps e was_up got f texts count) s w added → IsStill w added
+=======
+    by : (e : Doing) (f : LinkFact) → (e ≡ Talking → ⊥) → (f ≡ fact.Opened → ⊥) →
+        AreAdded moment is_prompt (turn_steps e was_up got f texts count) s w added → IsStill w added
+>>>>>>> f90a2bc7cfac35305825cae3ee39572dd2b28b67
     by Dialling fact.Quiet i o a = none a
     by Dialling fact.Opened i o a = absurd (o refl)
     by Dialling fact.Ready i o a = none a
@@ -96,14 +105,17 @@ still_turn moment is_prompt d was_up got found texts count s w added idle other 
     by Resting f i o a = none a
 
 -- a session that has counted no `ok`, or is ready
-silent_by : (replies : List Reply) (s : SenderData) (since : ℕ) (made : WorldData) (rest : List WorldEvent) (ready : Bool) → s.ready ≡ ready → IsTallied replies s → replies ≡ replies_from made rest → since ≡ sends_since 0 rest → (ready ≡ true → 4 ≤ since) → IsSilentSince made rest
+silent_by : (replies : List Reply) (s : SenderData) (since : ℕ) (made : WorldData) (rest : List WorldEvent) (ready : Bool) →
+    s.ready ≡ ready → IsTallied replies s → replies ≡ replies_from made rest → since ≡ sends_since 0 rest → (ready ≡ true → 4 ≤ since) →
+    IsSilentSince made rest
 silent_by replies s since made rest false is tallied same count four =
     let none : oks_of s.ready s.acked ≡ 0 = ap (λ (b : Bool). oks_of b s.acked) is in
     inl (ap (own_oks reply.Start) (sym same) ∙ sym tallied.counted ∙ none)
 silent_by replies s since made rest true is tallied same count four = inr (omega (arith, count, four refl))
 
 -- the clock ends a session for silence alone, at the fifth limit
-tick_silent : (moment count : ℕ) (s : SenderData) (since : ℕ) → s.ended ≡ None → IsQuiet since s → (tick_step moment s).ended ≡ Some (NoAnswer count) → s.ready ≡ true → 4 ≤ since
+tick_silent : (moment count : ℕ) (s : SenderData) (since : ℕ) → s.ended ≡ None → IsQuiet since s →
+    (tick_step moment s).ended ≡ Some (NoAnswer count) → s.ready ≡ true → 4 ≤ since
 tick_silent moment count s since running quiet ends ready =
     let at = (tick_ends (NoAnswer count) moment s running).0 ends in
     omega (arith, at.2, quiet.sent_enough running ready at.1)
@@ -118,7 +130,8 @@ pub record IsAt (made : WorldData) (rest : List WorldEvent) (s : SenderData) : T
 tick_none : (moment : ℕ) (s : SenderData) (why : SessionEnd) → s.ended ≡ Some why → (tick_step moment s).ended ≡ Some why
 tick_none moment s why is = grind (arith, common_steps)
 
-tick_caused_by : (moment : ℕ) (made : WorldData) (rest : List WorldEvent) (s : SenderData) (ended : Option SessionEnd) → IsAt made rest s → s.ended ≡ None → (tick_step moment s).ended ≡ ended → IsCaused ended made rest
+tick_caused_by : (moment : ℕ) (made : WorldData) (rest : List WorldEvent) (s : SenderData) (ended : Option SessionEnd) → IsAt made rest s →
+    s.ended ≡ None → (tick_step moment s).ended ≡ ended → IsCaused ended made rest
 tick_caused_by moment made rest s None at running is = tt
 tick_caused_by moment made rest s (Some (NoAnswer count)) at running is =
     silent_by (replies_from made rest) s (sends_since 0 rest) made rest s.ready refl at.tallied refl refl (λ ready. tick_silent moment count s (sends_since 0 rest) running at.quiet is ready)
@@ -128,7 +141,8 @@ tick_caused_by moment made rest s (Some (Counts number expected)) at running is 
 tick_caused_by moment made rest s (Some Restarted) at running is = absurd ((tick_ends Restarted moment s running).0 is)
 tick_caused_by moment made rest s (Some (NumbersUsed all)) at running is = tt
 
-pub tick_caused : (moment : ℕ) (made : WorldData) (rest : List WorldEvent) (s : SenderData) (ended : Option SessionEnd) → s.ended ≡ ended → IsAt made rest s → IsCaused (tick_step moment s).ended made rest
+pub tick_caused : (moment : ℕ) (made : WorldData) (rest : List WorldEvent) (s : SenderData) (ended : Option SessionEnd) → s.ended ≡ ended →
+    IsAt made rest s → IsCaused (tick_step moment s).ended made rest
 tick_caused moment made rest s None is at = tick_caused_by moment made rest s (tick_step moment s).ended at is refl
 tick_caused moment made rest s (Some why) is at =
     let C : Option SessionEnd → Type 0 = λ e. IsCaused e made rest in
@@ -150,7 +164,8 @@ after_append : (moment : ℕ) (xs ys : List Step) (s : SenderData) → after_ste
 after_append moment [] ys s = refl
 after_append moment (x ∷ xs) ys s = after_append moment xs ys (after_step moment x s)
 
-speech_end : (moment : ℕ) (all : Bool) (texts : List (List ℕ)) (count : ℕ) (s : SenderData) → (after_steps moment (speech all texts count) s).ended ≡ s.ended
+speech_end : (moment : ℕ) (all : Bool) (texts : List (List ℕ)) (count : ℕ) (s : SenderData) →
+    (after_steps moment (speech all texts count) s).ended ≡ s.ended
 speech_end moment true texts count s =
     ap (λ (t : SenderData). t.ended) (after_append moment (issuing texts) (replicate count gives) s)
     ∙ gives_end moment count (after_steps moment (issuing texts) s) ∙ said_end moment texts s
@@ -161,7 +176,8 @@ speech_end moment false texts count s =
     ∙ gives_end moment count (after_steps moment (issuing texts) s) ∙ said_end moment texts s
 
 -- the end after the clock's steps is that of the tick
-pub clock_end : (moment : ℕ) (found : LinkFact) (texts : List (List ℕ)) (count : ℕ) (s : SenderData) → can_find Talking found ≡ true → (after_steps moment (clock_steps found texts count) s).ended ≡ (tick_step moment s).ended
+pub clock_end : (moment : ℕ) (found : LinkFact) (texts : List (List ℕ)) (count : ℕ) (s : SenderData) → can_find Talking found ≡ true →
+    (after_steps moment (clock_steps found texts count) s).ended ≡ (tick_step moment s).ended
 clock_end moment fact.Quiet texts count s can = speech_end moment true texts count (tick_step moment s)
 clock_end moment fact.Opened texts count s can = absurd (cc)
 clock_end moment fact.Ready texts count s can = refl

@@ -18,7 +18,8 @@ pred_below zero some = absurd (omega arith)
 pred_below (suc n) some = omega arith
 
 -- what a further session leaves of the one before it
-pub former_tied : (kind : LinkKind) (issued : List (List ℕ)) (acked : ℕ) (past rest : List WorldEvent) (last : ℕ) → 1 ≤ opens past → IsTied kind issued acked past (opens past) → IsTied kind issued acked (past ++ Opened last ∷ rest) (opens past)
+pub former_tied : (kind : LinkKind) (issued : List (List ℕ)) (acked : ℕ) (past rest : List WorldEvent) (last : ℕ) → 1 ≤ opens past →
+    IsTied kind issued acked past (opens past) → IsTied kind issued acked (past ++ Opened last ∷ rest) (opens past)
 former_tied kind issued acked past rest last some t =
     let s : ℕ = opens past in
     let all : List WorldEvent = past ++ Opened last ∷ rest in

@@ -4,6 +4,7 @@ pub mod Open
 pub mod Quiet
 pub mod Ends
 pub mod Causes
+pub mod Turned
 pub mod Turning
 pub mod Tying
 pub mod Former

@@ -41,14 +41,17 @@ closed_after : (w : WorldData) → (apply w Closed).linked ≡ false
 closed_after w = cond_both w.linked (happen w Closed) w (λ v. v.linked ≡ false) (λ _. refl) (λ off. off)
 
 -- one event with what the line and the printer do round it
-around : (w : WorldData) (before behind : List WorldEvent) (event : WorldEvent) → list_all is_free before ≡ true → list_all is_free behind ≡ true → ((v : WorldData) → (apply v event).linked ≡ v.linked) → (world_from w (before ++ event ∷ behind)).linked ≡ w.linked
+around : (w : WorldData) (before behind : List WorldEvent) (event : WorldEvent) → list_all is_free before ≡ true →
+    list_all is_free behind ≡ true → ((v : WorldData) → (apply v event).linked ≡ v.linked) →
+    (world_from w (before ++ event ∷ behind)).linked ≡ w.linked
 around w before behind event first last same =
     ap (λ (v : WorldData). v.linked) (world_from-append w before (event ∷ behind))
     ∙ world_from-linked (apply (world_from w before) event) behind last
     ∙ same (world_from w before)
     ∙ world_from-linked w before first
 
-sent_around : (w : WorldData) (bytes : List ℕ) (before behind : List WorldEvent) (event : WorldEvent) → IsSendOf bytes event → list_all is_free before ≡ true → list_all is_free behind ≡ true → (world_from w (before ++ event ∷ behind)).linked ≡ w.linked
+sent_around : (w : WorldData) (bytes : List ℕ) (before behind : List WorldEvent) (event : WorldEvent) → IsSendOf bytes event →
+    list_all is_free before ≡ true → list_all is_free behind ≡ true → (world_from w (before ++ event ∷ behind)).linked ≡ w.linked
 sent_around w bytes before behind (Send line) is first last = around w before behind (Send line) first last (λ v. after_event (λ u. u.linked ≡ v.linked) v (Send line) refl (λ _. refl))
 sent_around w bytes before behind (Opened number) is first last = absurd is
 sent_around w bytes before behind Arrive is first last = absurd is
@@ -69,7 +72,8 @@ given_up (Some next) w added given =
 closed_last : (w : WorldData) (events : List WorldEvent) → (world_from w (events ++ Closed ∷ [])).linked ≡ false
 closed_last w events = ap (λ (v : WorldData). v.linked) (world_from-push w events Closed) ∙ closed_after (world_from w events)
 
-step_up : (step : Step) (s : SenderData) (w : WorldData) (added : List WorldEvent) → IsDone step s w added → (world_from w added).linked ≡ up_by step w.linked
+step_up : (step : Step) (s : SenderData) (w : WorldData) (added : List WorldEvent) → IsDone step s w added →
+    (world_from w added).linked ≡ up_by step w.linked
 step_up opens s w added is =
     let dial = is.0 in
     ap (λ (es : List WorldEvent). (world_from w es).linked) dial.is
@@ -88,7 +92,8 @@ step_up fails_to_send s w added is = ap (λ (es : List WorldEvent). (world_from 
 step_up (hangs_up true) s w added is = ap (λ (es : List WorldEvent). (world_from w es).linked) is.0 ∙ closed_after w
 step_up (hangs_up false) s w added is = ap (λ (es : List WorldEvent). (world_from w es).linked) is
 
-pub steps_up : (moment : ℕ) (is_prompt : Bool) (steps : List Step) (s : SenderData) (w : WorldData) (added : List WorldEvent) → AreAdded moment is_prompt steps s w added → (world_from w added).linked ≡ up_all steps w.linked
+pub steps_up : (moment : ℕ) (is_prompt : Bool) (steps : List Step) (s : SenderData) (w : WorldData) (added : List WorldEvent) →
+    AreAdded moment is_prompt steps s w added → (world_from w added).linked ≡ up_all steps w.linked
 steps_up moment is_prompt [] s w added none = ap (λ (es : List WorldEvent). (world_from w es).linked) none
 steps_up moment is_prompt (step ∷ steps) s w added is =
     ap (λ (es : List WorldEvent). (world_from w es).linked) is.2
@@ -114,7 +119,8 @@ up_said texts count = up_append (issuing texts) (replicate count gives) true ∙
 up_broken : (texts : List (List ℕ)) (count : ℕ) → up_all (speech false texts count) true ≡ false
 up_broken texts count = up_append (issuing texts) (replicate count gives ++ fails_to_send ∷ []) true ∙ up_append (replicate count gives) (fails_to_send ∷ []) (up_all (issuing texts) true)
 
-up_clock : (found : LinkFact) (texts : List (List ℕ)) (count : ℕ) → can_find Talking found ≡ true → up_all (clock_steps found texts count) true ≡ up_after found true
+up_clock : (found : LinkFact) (texts : List (List ℕ)) (count : ℕ) → can_find Talking found ≡ true →
+    up_all (clock_steps found texts count) true ≡ up_after found true
 up_clock fact.Quiet texts count can = up_said texts count
 up_clock fact.Opened texts count can = absurd (cc)
 up_clock fact.Ready texts count can = refl
@@ -123,7 +129,8 @@ up_clock fact.NoPort texts count can = absurd (cc)
 up_clock fact.Failed texts count can = up_broken texts count
 up_clock (fact.Ended end) texts count can = refl
 
-up_talk : (got : Got) (found : LinkFact) (texts : List (List ℕ)) (count : ℕ) → can_find Talking found ≡ true → (got ≡ unasked → ⊥) → (got ≡ lost → found ≡ fact.Failed) → up_all (talk_steps got found texts count) true ≡ up_after found true
+up_talk : (got : Got) (found : LinkFact) (texts : List (List ℕ)) (count : ℕ) → can_find Talking found ≡ true → (got ≡ unasked → ⊥) →
+    (got ≡ lost → found ≡ fact.Failed) → up_all (talk_steps got found texts count) true ≡ up_after found true
 up_talk unasked found texts count can asked broken = absurd (asked refl)
 up_talk lost found texts count can asked broken = sym (ap (λ (f : LinkFact). up_after f true) (broken refl))
 up_talk nothing found texts count can asked broken = up_clock found texts count can
@@ -164,7 +171,9 @@ IsUpFor HangingUp was_up = Unit {0}
 IsUpFor Talking was_up = was_up ≡ true
 IsUpFor Resting was_up = Unit {0}
 
-pub turn_up : (doing_now : Doing) (was_up : Bool) (got : Got) (found : LinkFact) (texts : List (List ℕ)) (count : ℕ) → can_find doing_now found ≡ true → IsUpFor doing_now was_up → (doing_now ≡ Talking → got ≡ unasked → ⊥) → (got ≡ lost → found ≡ fact.Failed) → up_all (turn_steps doing_now was_up got found texts count) was_up ≡ up_after found was_up
+pub turn_up : (doing_now : Doing) (was_up : Bool) (got : Got) (found : LinkFact) (texts : List (List ℕ)) (count : ℕ) →
+    can_find doing_now found ≡ true → IsUpFor doing_now was_up → (doing_now ≡ Talking → got ≡ unasked → ⊥) →
+    (got ≡ lost → found ≡ fact.Failed) → up_all (turn_steps doing_now was_up got found texts count) was_up ≡ up_after found was_up
 turn_up Dialling was_up got found texts count can is asked broken =
     ap (up_all (dial_steps found)) is ∙ up_dial found can ∙ sym (ap (up_after found) is)
 turn_up HangingUp was_up got found texts count can is asked broken = up_hang was_up found can

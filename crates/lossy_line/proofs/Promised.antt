@@ -15,8 +15,10 @@ use Rattle.printer_model.specs.declared.event.WorldEvent.TheVariants.{Opened}
 use Rattle.printer_model.proofs.Laws.{world_from-append}
 use Rattle.printer_model.proofs.Sessions.{opens-append}
 use Rattle.printer_model.proofs.Starts.{opens-free, runs-free}
-use Rattle.printer_link.specs.Link.{LinkKind, world_in}
-use Rattle.send_window.specs.Data.{SenderData}
+use Rattle.printer_link.specs.Link.{LinkKind, IsOpenAs, world_in}
+use Rattle.printer_model.specs.Exchanged.{sends_since}
+use Rattle.send_window.specs.Counting.{IsQuiet}
+use Rattle.send_window.specs.Data.{SenderData, IsSound}
 use Rattle.octo_session.specs.Data.{SessionData, doing}
 use Rattle.octo_session.specs.Found.{Got, unasked, lost, nothing, whole, end_by, can_find}
 use Rattle.octo_session.specs.declared.found.Doing.{Doing}
@@ -26,20 +28,23 @@ use Rattle.lossy_wires.specs.Pieces.{Each}
 use Rattle.lossy_wires.specs.Wires.{Meets}
 use Rattle.lossy_wires.specs.Traces.{replies_from, IsTallied, IsStartKnown, IsTraced}
 use Rattle.lossy_wires.proofs.Tracing.{Leads, leads_free, fits_append, replies_from-append}
-use Rattle.lossy_line.specs.Linked.{IsCaused, IsUnopened, IsOpened, IsLinked, unopened, opened}
+use Rattle.lossy_line.specs.Linked.{IsCaused, IsUnopened, IsOpened, IsLinked, LinkedAs, unopened, opened}
 use Rattle.lossy_line.specs.Tied.{IsTied, IsLastTied, IsEndCaused}
 use Rattle.lossy_line.proofs.Former.{former_tied}
-use Rattle.lossy_line.proofs.Turning.{IsTurned, opens_dialling, talks_up, going_on}
+use Rattle.lossy_line.proofs.Turned.{IsTurned, opens_dialling, talks_up}
+use Rattle.lossy_line.proofs.Turning.{going_on}
 use Rattle.lossy_line.specs.Issuing.{issued_in}
 use Rattle.lossy_line.proofs.Tying.{tied_at, opened_tied}
 
 -- linked is tied
-pub linked_tied : (kind : LinkKind) (issued : List (List ℕ)) (x : SessionData) (past : List WorldEvent) → IsLinked kind issued x past → IsLastTied kind issued x past
+pub linked_tied : (kind : LinkKind) (issued : List (List ℕ)) (x : SessionData) (past : List WorldEvent) → IsLinked kind issued x past →
+    IsLastTied kind issued x past
 linked_tied kind issued x past (unopened u) = inl u
 linked_tied kind issued x past (opened o) = inr (opened_tied kind issued x past o)
 
 -- what the line and the printer do leaves a session traced
-traced_free : (start : List Logged) (made : WorldData) (issued : List (List ℕ)) (s : SenderData) (rest events : List WorldEvent) → list_all is_free events ≡ true → IsTraced start made issued s rest → IsTraced start made issued s (rest ++ events)
+traced_free : (start : List Logged) (made : WorldData) (issued : List (List ℕ)) (s : SenderData) (rest events : List WorldEvent) →
+    list_all is_free events ≡ true → IsTraced start made issued s rest → IsTraced start made issued s (rest ++ events)
 traced_free start made issued s rest events free t =
     let led = leads_free start issued s (world_from made rest) (replies_from made rest) events free t.meets t.tallied in
     let M : WorldData → Type 0 = λ w. Meets start issued s w in
@@ -54,7 +59,9 @@ traced_free start made issued s rest events free t =
     }
 
 -- the session before a further link, with what ran in the dial
-former_by : (kind : LinkKind) (issued : List (List ℕ)) (x : SessionData) (past added runs : List WorldEvent) (last : ℕ) → list_all is_free runs ≡ true → added ≡ runs ++ Opened last ∷ [] → IsOpened kind issued x past → IsTied kind issued x.sender.acked (past ++ added) (opens (past ++ added) - 1)
+former_by : (kind : LinkKind) (issued : List (List ℕ)) (x : SessionData) (past added runs : List WorldEvent) (last : ℕ) →
+    list_all is_free runs ≡ true → added ≡ runs ++ Opened last ∷ [] → IsOpened kind issued x past →
+    IsTied kind issued x.sender.acked (past ++ added) (opens (past ++ added) - 1)
 former_by kind issued x past added runs last free is o =
     let rest : List WorldEvent = o.rest ++ runs in
     let longer : List WorldEvent = past ++ runs in
@@ -72,7 +79,9 @@ former_by kind issued x past added runs last free is o =
     subst C count (subst W (sym whole) (former_tied kind issued x.sender.acked longer [] last (omega (arith, number)) there))
 
 module _ (moment : ℕ) (kind : LinkKind) (old new : SessionData) (got : Got) (found : LinkFact) (texts issued : List (List ℕ)) (past added : List WorldEvent) where
-  pub turn_former : found ≡ fact.Opened → IsTurned moment kind old new got found texts (world_in kind past) added → IsLinked kind issued old past → IsUnopened kind issued old past ⊎ IsTied kind issued old.sender.acked (past ++ added) (opens (past ++ added) - 1)
+  pub turn_former : found ≡ fact.Opened → IsTurned moment kind old new got found texts (world_in kind past) added →
+      IsLinked kind issued old past →
+      IsUnopened kind issued old past ⊎ IsTied kind issued old.sender.acked (past ++ added) (opens (past ++ added) - 1)
   turn_former is t (unopened u) = inl u
   turn_former is t (opened o) =
       let F : LinkFact → Type 0 = λ f. can_find (doing old) f ≡ true in
@@ -92,13 +101,15 @@ module _ (moment : ℕ) (kind : LinkKind) (old new : SessionData) (got : Got) (f
   ends_talking end Resting can = absurd (cc)
 
   -- the sender has ended so
-  ended_by_talk : (end : SessionEnd) (g : Got) (count : ℕ) → end_by g moment old.sender ≡ Some end → (after_steps moment (talk_steps g (fact.Ended end) texts count) old.sender).ended ≡ Some end
+  ended_by_talk : (end : SessionEnd) (g : Got) (count : ℕ) → end_by g moment old.sender ≡ Some end →
+      (after_steps moment (talk_steps g (fact.Ended end) texts count) old.sender).ended ≡ Some end
   ended_by_talk end unasked count is = absurd (cc)
   ended_by_talk end lost count is = absurd (cc)
   ended_by_talk end nothing count is = is
   ended_by_talk end (whole bytes) count is = is
 
-  sender_ended : (end : SessionEnd) → found ≡ fact.Ended end → IsTurned moment kind old new got found texts (world_in kind past) added → new.sender.ended ≡ Some end
+  sender_ended : (end : SessionEnd) → found ≡ fact.Ended end → IsTurned moment kind old new got found texts (world_in kind past) added →
+      new.sender.ended ≡ Some end
   sender_ended end is t =
       let F : LinkFact → Type 0 = λ f. can_find (doing old) f ≡ true in
       let talks : doing old ≡ Talking = ends_talking end (doing old) (subst F is t.can) in
@@ -108,7 +119,8 @@ module _ (moment : ℕ) (kind : LinkKind) (old new : SessionData) (got : Got) (f
       ap (λ (s : SenderData). s.ended) sender ∙ ended_by_talk end got t.count ((t.ended end).0 is)
 
   -- an end has its cause
-  pub turn_caused : (end : SessionEnd) → found ≡ fact.Ended end → IsTurned moment kind old new got found texts (world_in kind past) added → IsLinked kind issued old past → IsEndCaused kind end (past ++ added)
+  pub turn_caused : (end : SessionEnd) → found ≡ fact.Ended end → IsTurned moment kind old new got found texts (world_in kind past) added →
+      IsLinked kind issued old past → IsEndCaused kind end (past ++ added)
   turn_caused end is t (unopened u) =
       let F : LinkFact → Type 0 = λ f. can_find (doing old) f ≡ true in
       let up : old.up ≡ true = talks_up old (ends_talking end (doing old) (subst F is t.can)) in
@@ -126,3 +138,36 @@ module _ (moment : ℕ) (kind : LinkKind) (old new : SessionData) (got : Got) (f
         same_session = after.traced.same_session;
         caused = subst C (sender_ended end is t) after.caused;
       }
+
+-- a new session is linked over a link that is closed
+pub new_linked : (kind : LinkKind) (recorded : Option (List WorldEvent)) (x : SessionData) → x.up ≡ false → IsSound x.sender →
+    IsOpenAs kind recorded false → LinkedAs kind recorded [] x
+new_linked kind recorded x down sound closed past is =
+    let O : Option (List WorldEvent) → Type 0 = λ r. IsOpenAs kind r false in
+    unopened (record { none_issued = refl; down = down; closed = subst O is closed; sound = sound })
+
+same_linked : (kind : LinkKind) (issued : List (List ℕ)) (x y : SessionData) (past : List WorldEvent) → y.sender ≡ x.sender → y.up ≡ x.up →
+    IsLinked kind issued x past → IsLinked kind issued y past
+same_linked kind issued x y past sender up (unopened u) =
+    let S : SenderData → Type 0 = λ s. IsSound s in
+    unopened (record { none_issued = u.none_issued; down = up ∙ u.down; closed = u.closed; sound = subst S (sym sender) u.sound })
+same_linked kind issued x y past sender up (opened o) =
+    let T : SenderData → Type 0 = λ s. IsTraced (world_in kind o.front).log (apply (world_in kind o.front) (Opened o.last)) issued s o.rest in
+    let Q : SenderData → Type 0 = λ s. IsQuiet (sends_since 0 o.rest) s in
+    let C : SenderData → Type 0 = λ s. IsCaused s.ended (apply (world_in kind o.front) (Opened o.last)) o.rest in
+    opened (record {
+      front = o.front;
+      last = o.last;
+      rest = o.rest;
+      is = o.is;
+      can = o.can;
+      traced = subst T (sym sender) o.traced;
+      open_as = o.open_as ∙ sym up;
+      quiet = λ is_up. subst Q (sym sender) (o.quiet (sym up ∙ is_up));
+      caused = subst C (sym sender) o.caused;
+    })
+
+-- a call of the desk leaves a session linked
+pub desk_linked : (kind : LinkKind) (recorded : Option (List WorldEvent)) (issued : List (List ℕ)) (x y : SessionData) →
+    y.sender ≡ x.sender → y.up ≡ x.up → LinkedAs kind recorded issued x → LinkedAs kind recorded issued y
+desk_linked kind recorded issued x y sender up linked past is = same_linked kind issued x y past sender up (linked past is)

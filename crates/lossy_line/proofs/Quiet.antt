@@ -32,7 +32,8 @@ owes_quiet : (since : ℕ) (s : SenderData) → IsQuiet since s → OwesLine sin
 owes_quiet since s quiet = grind (arith, common_steps)
 
 -- one line more was sent
-since_sent : (since : ℕ) (bytes : List ℕ) (before behind : List WorldEvent) (event : WorldEvent) → IsSendOf bytes event → list_all is_free before ≡ true → list_all is_free behind ≡ true → sends_since since (before ++ event ∷ behind) ≡ since + 1
+since_sent : (since : ℕ) (bytes : List ℕ) (before behind : List WorldEvent) (event : WorldEvent) → IsSendOf bytes event →
+    list_all is_free before ≡ true → list_all is_free behind ≡ true → sends_since since (before ++ event ∷ behind) ≡ since + 1
 since_sent since bytes before behind (Send line) is first last =
     sends_since-append since before (Send line ∷ behind)
     ∙ ap (λ (n : ℕ). sends_since (n + 1) behind) (sends_since-free since before first)
@@ -47,7 +48,8 @@ since_sent since bytes before behind (Chatter reply) is first last = absurd is
 since_sent since bytes before behind Recv is first last = absurd is
 since_sent since bytes before behind Closed is first last = absurd is
 
-since_given : (since : ℕ) (next : Option Outgoing) (w : WorldData) (added : List WorldEvent) → IsGiven next w added → sends_since since added ≡ since + 1
+since_given : (since : ℕ) (next : Option Outgoing) (w : WorldData) (added : List WorldEvent) → IsGiven next w added →
+    sends_since since added ≡ since + 1
 since_given since None w added given = absurd given
 since_given since (Some next) w added given =
     let S : List WorldEvent → Type 0 = λ es. sends_since since es ≡ since + 1 in
@@ -63,7 +65,8 @@ pub record Owes (since : ℕ) (s : SenderData) : Type 0 where
   pub sound : IsSound s
   pub owes : OwesLine since s
 
-said_owes : (moment since : ℕ) (step : Step) (s : SenderData) (w : WorldData) (added : List WorldEvent) → IsSaying step → IsAllowed step s → IsDone step s w added → Owes since s → Owes (sends_since since added) (after_step moment step s)
+said_owes : (moment since : ℕ) (step : Step) (s : SenderData) (w : WorldData) (added : List WorldEvent) → IsSaying step → IsAllowed step s →
+    IsDone step s w added → Owes since s → Owes (sends_since since added) (after_step moment step s)
 said_owes moment since (issues text) s w added saying allowed is o =
     let O : List WorldEvent → Type 0 = λ es. Owes (sends_since since es) (push_step text s) in
     subst O (sym is) (record { sound = issues_sound text s allowed.0 o.sound; owes = sends_in_silence.2 text since s o.owes })
@@ -81,7 +84,9 @@ said_owes moment since ticks s w added saying allowed is o = absurd saying
 said_owes moment since fails_to_send s w added saying allowed is o = absurd saying
 said_owes moment since (hangs_up was_up) s w added saying allowed is o = absurd saying
 
-all_owe : (moment since : ℕ) (is_prompt : Bool) (steps : List Step) (s : SenderData) (w : WorldData) (added : List WorldEvent) → Each IsSaying steps → AreAllowed moment steps s → AreAdded moment is_prompt steps s w added → Owes since s → Owes (sends_since since added) (after_steps moment steps s)
+all_owe : (moment since : ℕ) (is_prompt : Bool) (steps : List Step) (s : SenderData) (w : WorldData) (added : List WorldEvent) →
+    Each IsSaying steps → AreAllowed moment steps s → AreAdded moment is_prompt steps s w added → Owes since s →
+    Owes (sends_since since added) (after_steps moment steps s)
 all_owe moment since is_prompt [] s w added saying allowed none o =
     let O : List WorldEvent → Type 0 = λ es. Owes (sends_since since es) s in
     subst O (sym none) o
@@ -116,7 +121,10 @@ StaysUp fact.Ready = Unit {0}
 StaysUp _ = ⊥
 
 module _ (moment : ℕ) (is_prompt : Bool) where
-  clock_owes : (since : ℕ) (found : LinkFact) (texts : List (List ℕ)) (count : ℕ) (s : SenderData) (w : WorldData) (added : List WorldEvent) → StaysUp found → IsSound s → IsQuiet since s → AreAllowed moment (clock_steps found texts count) s → AreAdded moment is_prompt (clock_steps found texts count) s w added → Owes (sends_since since added) (after_steps moment (clock_steps found texts count) s)
+  clock_owes : (since : ℕ) (found : LinkFact) (texts : List (List ℕ)) (count : ℕ) (s : SenderData) (w : WorldData)
+      (added : List WorldEvent) → StaysUp found → IsSound s → IsQuiet since s → AreAllowed moment (clock_steps found texts count) s →
+      AreAdded moment is_prompt (clock_steps found texts count) s w added →
+      Owes (sends_since since added) (after_steps moment (clock_steps found texts count) s)
   clock_owes since fact.Quiet texts count s w added stays sound quiet allowed is =
       let steps : List Step = speech true texts count in
       let t : SenderData = tick_step moment s in
@@ -136,7 +144,10 @@ module _ (moment : ℕ) (is_prompt : Bool) where
   clock_owes since fact.Failed texts count s w added stays sound quiet allowed is = absurd stays
   clock_owes since (fact.Ended end) texts count s w added stays sound quiet allowed is = absurd stays
 
-  talk_owes : (since : ℕ) (got : Got) (found : LinkFact) (texts : List (List ℕ)) (count : ℕ) (s : SenderData) (w : WorldData) (added : List WorldEvent) → (got ≡ unasked → ⊥) → (got ≡ lost → found ≡ fact.Failed) → StaysUp found → IsSound s → IsQuiet since s → AreAllowed moment (talk_steps got found texts count) s → AreAdded moment is_prompt (talk_steps got found texts count) s w added → Owes (sends_since since added) (after_steps moment (talk_steps got found texts count) s)
+  talk_owes : (since : ℕ) (got : Got) (found : LinkFact) (texts : List (List ℕ)) (count : ℕ) (s : SenderData) (w : WorldData)
+      (added : List WorldEvent) → (got ≡ unasked → ⊥) → (got ≡ lost → found ≡ fact.Failed) → StaysUp found → IsSound s → IsQuiet since s →
+      AreAllowed moment (talk_steps got found texts count) s → AreAdded moment is_prompt (talk_steps got found texts count) s w added →
+      Owes (sends_since since added) (after_steps moment (talk_steps got found texts count) s)
   talk_owes since unasked found texts count s w added asked broken stays sound quiet allowed is = absurd (asked refl)
   talk_owes since lost found texts count s w added asked broken stays sound quiet allowed is = absurd (subst StaysUp (broken refl) stays)
   talk_owes since nothing found texts count s w added asked broken stays sound quiet allowed is =
@@ -154,7 +165,11 @@ module _ (moment : ℕ) (is_prompt : Bool) where
       subst O (sym is.2) (subst N (sym (sends_since-append since is.0 is.1 ∙ ap (λ (n : ℕ). sends_since n is.1) none)) more)
 
 -- after a turn that leaves the link up nothing is owed, if nothing is unsent
-pub talk_quiet : (moment since : ℕ) (is_prompt : Bool) (got : Got) (found : LinkFact) (texts : List (List ℕ)) (count : ℕ) (s t : SenderData) (w : WorldData) (added : List WorldEvent) → (got ≡ unasked → ⊥) → (got ≡ lost → found ≡ fact.Failed) → StaysUp found → IsSound s → IsQuiet since s → AreAllowed moment (talk_steps got found texts count) s → AreAdded moment is_prompt (talk_steps got found texts count) s w added → t ≡ after_steps moment (talk_steps got found texts count) s → next_of t ≡ None → IsQuiet (sends_since since added) t
+pub talk_quiet : (moment since : ℕ) (is_prompt : Bool) (got : Got) (found : LinkFact) (texts : List (List ℕ)) (count : ℕ) (s t : SenderData)
+    (w : WorldData) (added : List WorldEvent) → (got ≡ unasked → ⊥) → (got ≡ lost → found ≡ fact.Failed) → StaysUp found → IsSound s →
+    IsQuiet since s → AreAllowed moment (talk_steps got found texts count) s →
+    AreAdded moment is_prompt (talk_steps got found texts count) s w added → t ≡ after_steps moment (talk_steps got found texts count) s →
+    next_of t ≡ None → IsQuiet (sends_since since added) t
 talk_quiet moment since is_prompt got found texts count s t w added asked broken stays sound quiet allowed is same unsent =
     let O : SenderData → Type 0 = λ u. Owes (sends_since since added) u in
     let o : Owes (sends_since since added) t = subst O (sym same) (talk_owes moment is_prompt since got found texts count s w added asked broken stays sound quiet allowed is) in

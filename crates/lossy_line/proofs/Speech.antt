@@ -22,7 +22,10 @@ use Rattle.lossy_line.specs.Issuing.{issued_by, issued_after, issued_in}
 use Rattle.lossy_line.proofs.Stepping.{IsPlain, plain_leads, hears_leads}
 
 -- plain steps, one after another
-pub steps_lead : (start : List Logged) (moment : ℕ) (is_prompt : Bool) (steps : List Step) (issued : List (List ℕ)) (s : SenderData) (w : WorldData) (replies : List Reply) (added : List WorldEvent) → Each IsPlain steps → AreAllowed moment steps s → AreAdded moment is_prompt steps s w added → Meets start issued s w → IsTallied replies s → Leads start issued (issued_after steps issued) (after_steps moment steps s) w replies added
+pub steps_lead : (start : List Logged) (moment : ℕ) (is_prompt : Bool) (steps : List Step) (issued : List (List ℕ)) (s : SenderData)
+    (w : WorldData) (replies : List Reply) (added : List WorldEvent) → Each IsPlain steps → AreAllowed moment steps s →
+    AreAdded moment is_prompt steps s w added → Meets start issued s w → IsTallied replies s →
+    Leads start issued (issued_after steps issued) (after_steps moment steps s) w replies added
 steps_lead start moment is_prompt [] issued s w replies added plain allowed none m tallied =
     let L : List WorldEvent → Type 0 = λ es. Leads start issued issued s w replies es in
     subst L (sym none) (leads_none start issued issued s w replies (extends_none issued) m tallied)
@@ -75,7 +78,10 @@ plain_dial fact.Failed other = (tt, tt)
 plain_dial (fact.Ended end) other = tt
 
 module _ (start : List Logged) (moment : ℕ) (is_prompt : Bool) (issued : List (List ℕ)) (s : SenderData) (w : WorldData) (replies : List Reply) (added : List WorldEvent) where
-  talk_leads : (got : Got) (found : LinkFact) (texts : List (List ℕ)) (count : ℕ) → s.ended ≡ None → AreAllowed moment (talk_steps got found texts count) s → AreAdded moment is_prompt (talk_steps got found texts count) s w added → Meets start issued s w → IsTallied replies s → Leads start issued (issued_after (talk_steps got found texts count) issued) (after_steps moment (talk_steps got found texts count) s) w replies added
+  talk_leads : (got : Got) (found : LinkFact) (texts : List (List ℕ)) (count : ℕ) → s.ended ≡ None →
+      AreAllowed moment (talk_steps got found texts count) s → AreAdded moment is_prompt (talk_steps got found texts count) s w added →
+      Meets start issued s w → IsTallied replies s → Leads start issued (issued_after (talk_steps got found texts count) issued)
+      (after_steps moment (talk_steps got found texts count) s) w replies added
   talk_leads unasked found texts count running allowed is m tallied = steps_lead start moment is_prompt [] issued s w replies added tt allowed is m tallied
   talk_leads lost found texts count running allowed is m tallied = steps_lead start moment is_prompt (fails_to_receive ∷ []) issued s w replies added (tt, tt) allowed is m tallied
   talk_leads nothing found texts count running allowed is m tallied =
@@ -95,7 +101,12 @@ module _ (start : List Logged) (moment : ℕ) (is_prompt : Bool) (issued : List 
       subst L (sym is.2) (leads_then start issued issued all t u w replies first rest one more)
 
   -- a turn that makes no link
-  pub turn_leads : (doing_now : Doing) (was_up : Bool) (got : Got) (found : LinkFact) (texts : List (List ℕ)) (count : ℕ) → (found ≡ fact.Opened → ⊥) → (doing_now ≡ Talking → s.ended ≡ None) → AreAllowed moment (turn_steps doing_now was_up got found texts count) s → AreAdded moment is_prompt (turn_steps doing_now was_up got found texts count) s w added → Meets start issued s w → IsTallied replies s → Leads start issued (issued_after (turn_steps doing_now was_up got found texts count) issued) (after_steps moment (turn_steps doing_now was_up got found texts count) s) w replies added
+  pub turn_leads : (doing_now : Doing) (was_up : Bool) (got : Got) (found : LinkFact) (texts : List (List ℕ)) (count : ℕ) →
+      (found ≡ fact.Opened → ⊥) → (doing_now ≡ Talking → s.ended ≡ None) →
+      AreAllowed moment (turn_steps doing_now was_up got found texts count) s →
+      AreAdded moment is_prompt (turn_steps doing_now was_up got found texts count) s w added → Meets start issued s w →
+      IsTallied replies s → Leads start issued (issued_after (turn_steps doing_now was_up got found texts count) issued)
+      (after_steps moment (turn_steps doing_now was_up got found texts count) s) w replies added
   turn_leads Dialling was_up got found texts count other running allowed is m tallied = steps_lead start moment is_prompt (dial_steps found) issued s w replies added (plain_dial found other) allowed is m tallied
   turn_leads HangingUp was_up got found texts count other running allowed is m tallied = steps_lead start moment is_prompt (hangs_up was_up ∷ []) issued s w replies added (tt, tt) allowed is m tallied
   turn_leads Talking was_up got found texts count other running allowed is m tallied = talk_leads got found texts count (running refl) allowed is m tallied
@@ -114,7 +125,8 @@ issued_gives : (count : ℕ) (issued : List (List ℕ)) → issued_after (replic
 issued_gives zero issued = refl
 issued_gives (suc count) issued = issued_gives count issued
 
-issued_speech : (all : Bool) (texts : List (List ℕ)) (count : ℕ) (issued : List (List ℕ)) → issued_after (speech all texts count) issued ≡ issued ++ texts
+issued_speech : (all : Bool) (texts : List (List ℕ)) (count : ℕ) (issued : List (List ℕ)) →
+    issued_after (speech all texts count) issued ≡ issued ++ texts
 issued_speech true texts count issued =
     issued_after-append (issuing texts) (replicate count gives) issued ∙ issued_gives count (issued_after (issuing texts) issued) ∙ issued_issuing texts issued
 issued_speech false texts count issued =
@@ -125,7 +137,8 @@ issued_speech false texts count issued =
 none_added : (texts issued : List (List ℕ)) → texts ≡ [] → issued ≡ issued ++ texts
 none_added texts issued none = sym (append-nil issued) ∙ ap (λ (l : List (List ℕ)). issued ++ l) (sym none)
 
-issued_clock : (found : LinkFact) (texts : List (List ℕ)) (count : ℕ) (issued : List (List ℕ)) → (may_issue nothing found ≡ false → texts ≡ []) → issued_after (clock_steps found texts count) issued ≡ issued ++ texts
+issued_clock : (found : LinkFact) (texts : List (List ℕ)) (count : ℕ) (issued : List (List ℕ)) →
+    (may_issue nothing found ≡ false → texts ≡ []) → issued_after (clock_steps found texts count) issued ≡ issued ++ texts
 issued_clock fact.Quiet texts count issued none = issued_speech true texts count issued
 issued_clock fact.Opened texts count issued none = none_added texts issued (none refl)
 issued_clock fact.Ready texts count issued none = none_added texts issued (none refl)
@@ -134,13 +147,15 @@ issued_clock fact.NoPort texts count issued none = none_added texts issued (none
 issued_clock fact.Failed texts count issued none = issued_speech false texts count issued
 issued_clock (fact.Ended end) texts count issued none = none_added texts issued (none refl)
 
-issued_talk : (got : Got) (found : LinkFact) (texts : List (List ℕ)) (count : ℕ) (issued : List (List ℕ)) → (may_issue got found ≡ false → texts ≡ []) → issued_after (talk_steps got found texts count) issued ≡ issued ++ texts
+issued_talk : (got : Got) (found : LinkFact) (texts : List (List ℕ)) (count : ℕ) (issued : List (List ℕ)) →
+    (may_issue got found ≡ false → texts ≡ []) → issued_after (talk_steps got found texts count) issued ≡ issued ++ texts
 issued_talk unasked found texts count issued none = none_added texts issued (none refl)
 issued_talk lost found texts count issued none = none_added texts issued (none refl)
 issued_talk nothing found texts count issued none = issued_clock found texts count issued none
 issued_talk (whole bytes) found texts count issued none = issued_clock found texts count issued none
 
-issued_dial : (found : LinkFact) (texts issued : List (List ℕ)) → (found ≡ fact.Opened → ⊥) → texts ≡ [] → issued_after (dial_steps found) issued ≡ issued ++ texts
+issued_dial : (found : LinkFact) (texts issued : List (List ℕ)) → (found ≡ fact.Opened → ⊥) → texts ≡ [] →
+    issued_after (dial_steps found) issued ≡ issued ++ texts
 issued_dial fact.Quiet texts issued other none = none_added texts issued none
 issued_dial fact.Opened texts issued other none = absurd (other refl)
 issued_dial fact.Ready texts issued other none = none_added texts issued none
@@ -159,7 +174,10 @@ issued_in_other fact.Failed texts issued other = refl
 issued_in_other (fact.Ended end) texts issued other = refl
 
 -- a turn that makes no link adds the texts of its lines
-pub issued_turn : (doing_now : Doing) (was_up : Bool) (got : Got) (found : LinkFact) (texts : List (List ℕ)) (count : ℕ) (issued : List (List ℕ)) → (found ≡ fact.Opened → ⊥) → (may_issue got found ≡ false → texts ≡ []) → ((doing_now ≡ Talking → ⊥) → got ≡ unasked) → issued_after (turn_steps doing_now was_up got found texts count) issued ≡ issued_in found texts issued
+pub issued_turn : (doing_now : Doing) (was_up : Bool) (got : Got) (found : LinkFact) (texts : List (List ℕ)) (count : ℕ)
+    (issued : List (List ℕ)) → (found ≡ fact.Opened → ⊥) → (may_issue got found ≡ false → texts ≡ []) →
+    ((doing_now ≡ Talking → ⊥) → got ≡ unasked) →
+    issued_after (turn_steps doing_now was_up got found texts count) issued ≡ issued_in found texts issued
 issued_turn Dialling was_up got found texts count issued other none asks =
     let un : got ≡ unasked = asks (λ (is : Dialling ≡ Talking). absurd (cc)) in
     issued_dial found texts issued other (none (ap (λ (g : Got). may_issue g found) un)) ∙ sym (issued_in_other found texts issued other)

@@ -46,7 +46,8 @@ some_next (Some o) some = (o, refl)
 
 module _ (start : List Logged) (issued : List (List ℕ)) (moment : ℕ) (s : SenderData) (w : WorldData) (replies : List Reply) where
   -- three parts, the middle one of which may change the sender
-  around : (t : SenderData) (before middle behind : List WorldEvent) → list_all is_free before ≡ true → list_all is_free behind ≡ true → Meets start issued s w → IsTallied replies s
+  around : (t : SenderData) (before middle behind : List WorldEvent) → list_all is_free before ≡ true → list_all is_free behind ≡ true →
+      Meets start issued s w → IsTallied replies s
       → (Meets start issued s (world_from w before) → IsTallied (replies ++ replies_from w before) s → Leads start issued issued t (world_from w before) (replies ++ replies_from w before) middle)
       → Leads start issued issued t w replies (before ++ (middle ++ behind))
   around t before middle behind first last m tallied does =
@@ -57,14 +58,18 @@ module _ (start : List Logged) (issued : List (List ℕ)) (moment : ℕ) (s : Se
       (leads_then start issued issued issued t t (world_from w before) (replies ++ replies_from w before) middle behind two three)
 
   -- a reply is received and heard
-  pub hears_leads : (bytes : List ℕ) (added : List WorldEvent) → s.ended ≡ None → IsHeard bytes w added → Meets start issued s w → IsTallied replies s → Leads start issued issued (hear_step (kind_of bytes) moment s) w replies added
+  pub hears_leads : (bytes : List ℕ) (added : List WorldEvent) → s.ended ≡ None → IsHeard bytes w added → Meets start issued s w →
+      IsTallied replies s → Leads start issued issued (hear_step (kind_of bytes) moment s) w replies added
   hears_leads bytes added running is m tallied =
       let L : List WorldEvent → Type 0 = λ es. Leads start issued issued (hear_step (kind_of bytes) moment s) w replies es in
       let B : List ℕ → Type 0 = λ b. Leads start issued issued (hear_step (kind_of b) moment s) w replies (is.before ++ Recv ∷ is.behind) in
       subst L (sym is.is) (subst B (sym is.whole) (around (hear_step (kind_of is.reply) moment s) is.before (Recv ∷ []) is.behind is.free_before is.free_behind m tallied
       (λ met told. leads_recv start issued moment s (world_from w is.before) (replies ++ replies_from w is.before) is.reply is.rest is.linked running is.front met told)))
 
-  sent_leads : (next : Outgoing) (before behind : List WorldEvent) (event : WorldEvent) → next_of s ≡ Some next → IsSendOf (bytes_of_outgoing next) event → can_happen (world_from w before) event ≡ true → list_all is_free before ≡ true → list_all is_free behind ≡ true → Meets start issued s w → IsTallied replies s → Leads start issued issued (frame_step moment s) w replies (before ++ event ∷ behind)
+  sent_leads : (next : Outgoing) (before behind : List WorldEvent) (event : WorldEvent) → next_of s ≡ Some next →
+      IsSendOf (bytes_of_outgoing next) event → can_happen (world_from w before) event ≡ true → list_all is_free before ≡ true →
+      list_all is_free behind ≡ true → Meets start issued s w → IsTallied replies s →
+      Leads start issued issued (frame_step moment s) w replies (before ++ event ∷ behind)
   sent_leads next before behind (Send sent) is written can first last m tallied =
       around (frame_step moment s) before (Send sent ∷ []) behind first last m tallied
       (λ met told. leads_sent start issued moment s (world_from w before) (replies ++ replies_from w before) next sent is written can met told)
@@ -78,14 +83,18 @@ module _ (start : List Logged) (issued : List (List ℕ)) (moment : ℕ) (s : Se
   sent_leads next before behind Recv is written can first last m tallied = absurd written
   sent_leads next before behind Closed is written can first last m tallied = absurd written
 
-  given_leads : (next : Option Outgoing) (added : List WorldEvent) → next_of s ≡ next → IsGiven next w added → Meets start issued s w → IsTallied replies s → Leads start issued issued (frame_step moment s) w replies added
+  given_leads : (next : Option Outgoing) (added : List WorldEvent) → next_of s ≡ next → IsGiven next w added → Meets start issued s w →
+      IsTallied replies s → Leads start issued issued (frame_step moment s) w replies added
   given_leads None added is given m tallied = absurd given
   given_leads (Some next) added is given m tallied =
       let L : List WorldEvent → Type 0 = λ es. Leads start issued issued (frame_step moment s) w replies es in
       subst L (sym given.is) (sent_leads next given.before given.behind given.sent is given.line_is given.sends given.free_before given.free_behind m tallied)
 
   -- a sending fails: nothing went out, or a line that fails
-  lost_leads : (next : Outgoing) (before failing behind : List WorldEvent) → next_of s ≡ Some next → MaySendFailing (world_from w before) failing → list_all is_free before ≡ true → list_all is_free behind ≡ true → (world_from w (before ++ failing ++ behind)).linked ≡ true → Meets start issued s w → IsTallied replies s → Leads start issued issued (frame_step moment s) w replies (before ++ (failing ++ (behind ++ Closed ∷ [])))
+  lost_leads : (next : Outgoing) (before failing behind : List WorldEvent) → next_of s ≡ Some next →
+      MaySendFailing (world_from w before) failing → list_all is_free before ≡ true → list_all is_free behind ≡ true →
+      (world_from w (before ++ failing ++ behind)).linked ≡ true → Meets start issued s w → IsTallied replies s →
+      Leads start issued issued (frame_step moment s) w replies (before ++ (failing ++ (behind ++ Closed ∷ [])))
   lost_leads next before [] behind is may first last on m tallied =
       let t = frame_step moment s in
       let one = leads_free start issued s w replies before first m tallied in
@@ -119,7 +128,8 @@ module _ (start : List Logged) (issued : List (List ℕ)) (moment : ℕ) (s : Se
   regroup before failing behind = simp append_assoc
 
   -- the steps that neither make a link nor hear a reply
-  pub plain_leads : (step : Step) (added : List WorldEvent) → IsPlain step → IsAllowed step s → IsDone step s w added → Meets start issued s w → IsTallied replies s → Leads start issued (issued_by step issued) (after_step moment step s) w replies added
+  pub plain_leads : (step : Step) (added : List WorldEvent) → IsPlain step → IsAllowed step s → IsDone step s w added →
+      Meets start issued s w → IsTallied replies s → Leads start issued (issued_by step issued) (after_step moment step s) w replies added
   plain_leads opens added plain allowed is m tallied = absurd plain
   plain_leads (hears bytes) added plain allowed is m tallied = absurd plain
   plain_leads finds_no_port added plain allowed is m tallied =

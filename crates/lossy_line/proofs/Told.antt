@@ -19,14 +19,19 @@ use Rattle.lossy_line.proofs.Promised.{linked_tied, turn_former, turn_caused}
 use Rattle.marlin_reply.specs.declared.session.SessionEnd.{SessionEnd}
 use Rattle.printer_model.specs.Executed.{opens}
 use Rattle.lossy_line.proofs.Quiet.{StaysUp}
-use Rattle.lossy_line.proofs.Turning.{IsTurned, turn_links}
+use Rattle.lossy_line.proofs.Turned.{IsTurned}
+use Rattle.lossy_line.proofs.Turning.{turn_links}
 
 -- the note says what the turn found and issued
-pub noted_fact : (note : Option Note) (moment before acked : ℕ) (lines : List Line) (got : Got) (found : LinkFact) → (note ≡ None) ↔ IsUneventful lines before acked got found → IfSome note (λ n. IsNoteOf moment acked lines got found n) → fact_of note ≡ found
+pub noted_fact : (note : Option Note) (moment before acked : ℕ) (lines : List Line) (got : Got) (found : LinkFact) →
+    (note ≡ None) ↔ IsUneventful lines before acked got found → IfSome note (λ n. IsNoteOf moment acked lines got found n) →
+    fact_of note ≡ found
 noted_fact None moment before acked lines got found none some = sym (none.0 refl).quiet
 noted_fact (Some note) moment before acked lines got found none some = some.its_fact
 
-pub noted_lines : (note : Option Note) (moment before acked : ℕ) (lines : List Line) (got : Got) (found : LinkFact) → (note ≡ None) ↔ IsUneventful lines before acked got found → IfSome note (λ n. IsNoteOf moment acked lines got found n) → lines_of note ≡ lines
+pub noted_lines : (note : Option Note) (moment before acked : ℕ) (lines : List Line) (got : Got) (found : LinkFact) →
+    (note ≡ None) ↔ IsUneventful lines before acked got found → IfSome note (λ n. IsNoteOf moment acked lines got found n) →
+    lines_of note ≡ lines
 noted_lines None moment before acked lines got found none some = sym (none.0 refl).no_line
 noted_lines (Some note) moment before acked lines got found none some = some.its_lines
 
@@ -39,7 +44,8 @@ pub record IsKept (moment : ℕ) (old new : SessionData) (turned : Turned) : Typ
   pub spent : new.up ≡ true → fact_of turned.note ≡ fact.Quiet → IsSpent moment new.desk new.sender
 
 module _ (moment : ℕ) (kind : LinkKind) (old_past new_past : Option (List WorldEvent)) (old_calls new_calls : Option ℕ) (old new : SessionData) (turned : Turned) where
-  unsent : (t : IsTurn moment kind old_past new_past old_calls new_calls old new turned) → fact_of turned.note ≡ t.found → IsKept moment old new turned → (f : LinkFact) → t.found ≡ f → new.up ≡ true → StaysUp f → next_of new.sender ≡ None
+  unsent : (t : IsTurn moment kind old_past new_past old_calls new_calls old new turned) → fact_of turned.note ≡ t.found →
+      IsKept moment old new turned → (f : LinkFact) → t.found ≡ f → new.up ≡ true → StaysUp f → next_of new.sender ≡ None
   unsent t is k fact.Quiet found up stays = (k.spent up (is ∙ found)).sent
   unsent t is k fact.Ready found up stays = k.sent (is ∙ found)
   unsent t is k fact.Opened found up stays = absurd stays
@@ -49,7 +55,10 @@ module _ (moment : ℕ) (kind : LinkKind) (old_past new_past : Option (List Worl
   unsent t is k (fact.Ended end) found up stays = absurd stays
 
   -- the turn by its steps, over a recorded history
-  pub turned_by : (t : IsTurn moment kind old_past new_past old_calls new_calls old new turned) → IsKept moment old new turned → (now : List WorldEvent) → new_past ≡ Some now → (past : List WorldEvent) × (added : List WorldEvent) × (old_past ≡ Some past) × (now ≡ past ++ added) × IsTurned moment kind old new t.got t.found (texts_in t.lines) (world_in kind past) added
+  pub turned_by : (t : IsTurn moment kind old_past new_past old_calls new_calls old new turned) → IsKept moment old new turned →
+      (now : List WorldEvent) → new_past ≡ Some now →
+      (past : List WorldEvent) × (added : List WorldEvent) × (old_past ≡ Some past) × (now ≡ past ++ added) × IsTurned moment kind old new t.got t.found (texts_in t.lines)
+      (world_in kind past) added
   turned_by t k now is =
       let takes = t.steps.takes in
       let grew = takes.past.grew now is in
@@ -75,7 +84,9 @@ module _ (moment : ℕ) (kind : LinkKind) (old_past new_past : Option (List Worl
         },
       )
 
-  pub turn_linked : IsTurn moment kind old_past new_past old_calls new_calls old new turned → IsKept moment old new turned → (issued : List (List ℕ)) → LinkedAs kind old_past issued old → LinkedAs kind new_past (issued_in (fact_of turned.note) (texts_in (lines_of turned.note)) issued) new
+  pub turn_linked : IsTurn moment kind old_past new_past old_calls new_calls old new turned → IsKept moment old new turned →
+      (issued : List (List ℕ)) → LinkedAs kind old_past issued old →
+      LinkedAs kind new_past (issued_in (fact_of turned.note) (texts_in (lines_of turned.note)) issued) new
   turn_linked t k issued linked now is =
       let by = turned_by t k now is in
       let L : List WorldEvent → Type 0 = λ es. IsLinked kind (issued_in t.found (texts_in t.lines) issued) new es in
@@ -86,22 +97,37 @@ module _ (moment : ℕ) (kind : LinkKind) (old_past new_past : Option (List Worl
       subst X (sym lines) (subst F (sym found) (subst L (sym by.3) (turn_links moment kind old new t.got t.found (texts_in t.lines) issued by.0 by.1 by.4 (linked by.0 by.2))))
 
   -- each session of the history is tied, and an end has its cause
-  pub turn_tied : IsTurn moment kind old_past new_past old_calls new_calls old new turned → IsKept moment old new turned → (issued : List (List ℕ)) → LinkedAs kind old_past issued old → TiedAs kind new_past (issued_in (fact_of turned.note) (texts_in (lines_of turned.note)) issued) new
+  pub turn_tied : IsTurn moment kind old_past new_past old_calls new_calls old new turned → IsKept moment old new turned →
+      (issued : List (List ℕ)) → LinkedAs kind old_past issued old →
+      TiedAs kind new_past (issued_in (fact_of turned.note) (texts_in (lines_of turned.note)) issued) new
   turn_tied t k issued linked now is =
       linked_tied kind (issued_in (fact_of turned.note) (texts_in (lines_of turned.note)) issued) new now (turn_linked t k issued linked now is)
 
-  pub turn_former_tied : IsTurn moment kind old_past new_past old_calls new_calls old new turned → IsKept moment old new turned → fact_of turned.note ≡ fact.Opened → (issued : List (List ℕ)) → LinkedAs kind old_past issued old → FormerTiedAs kind old_past new_past issued old
+  pub turn_former_tied : IsTurn moment kind old_past new_past old_calls new_calls old new turned → IsKept moment old new turned →
+      fact_of turned.note ≡ fact.Opened → (issued : List (List ℕ)) → LinkedAs kind old_past issued old →
+      FormerTiedAs kind old_past new_past issued old
   turn_former_tied t k opens_now issued linked now is =
       let by = turned_by t k now is in
       let found : fact_of turned.note ≡ t.found = noted_fact turned.note moment old.sender.acked new.sender.acked t.lines t.got t.found t.none t.some in
       let P : List WorldEvent → Type 0 = λ es. WasUnopened kind old_past issued old ⊎ IsTied kind issued old.sender.acked es (opens es - 1) in
       subst P (sym by.3) (former_or by.0 by.1 by.2 (turn_former moment kind old new t.got t.found (texts_in t.lines) issued by.0 by.1 (sym found ∙ opens_now) by.4 (linked by.0 by.2)))
+<<<<<<< HEAD
     where
       former_or : (past added : List WorldEvent) → old_past ≡ Some past → IsUnopened kind issued old past ⊎ IsTied kind issued old.sender.acked (past ++ added) (opens (past ++ added) - 1) → WasUnopened kind old_past issued old ⊎ IsTied kind issued old.sender.acked (past ++ added) (opens (past ++ added) - 1)
       former_or past added e (inl u) = inl (record { past = past; is = e; unopened = u })
       former_or past added e (inr tied) = inr tied
+=======
+      where
+        former_or : (past added : List WorldEvent) → old_past ≡ Some past →
+            IsUnopened kind issued old past ⊎ IsTied kind issued old.sender.acked (past ++ added) (opens (past ++ added) - 1) →
+            WasUnopened kind old_past issued old ⊎ IsTied kind issued old.sender.acked (past ++ added) (opens (past ++ added) - 1)
+        former_or past added e (inl u) = inl (record { past = past; is = e; unopened = u })
+        former_or past added e (inr tied) = inr tied
+>>>>>>> f90a2bc7cfac35305825cae3ee39572dd2b28b67
 
-  pub turn_end_caused : IsTurn moment kind old_past new_past old_calls new_calls old new turned → IsKept moment old new turned → (end : SessionEnd) → fact_of turned.note ≡ fact.Ended end → (issued : List (List ℕ)) → LinkedAs kind old_past issued old → EndCausedAs kind new_past end
+  pub turn_end_caused : IsTurn moment kind old_past new_past old_calls new_calls old new turned → IsKept moment old new turned →
+      (end : SessionEnd) → fact_of turned.note ≡ fact.Ended end → (issued : List (List ℕ)) → LinkedAs kind old_past issued old →
+      EndCausedAs kind new_past end
   turn_end_caused t k end ends issued linked now is =
       let by = turned_by t k now is in
       let found : fact_of turned.note ≡ t.found = noted_fact turned.note moment old.sender.acked new.sender.acked t.lines t.got t.found t.none t.some in

@@ -35,61 +35,13 @@ use Rattle.lossy_line.proofs.Ends.{IsStill, still_caused, still_turn}
 use Rattle.lossy_line.proofs.Speech.{turn_leads, issued_turn}
 use Rattle.lossy_line.proofs.Open.{IsUpFor, steps_up, up_all, turn_up}
 use Rattle.lossy_line.proofs.Quiet.{StaysUp, talk_quiet}
-
--- what a turn made of a session, by its steps
-pub record IsTurned (moment : ℕ) (kind : LinkKind) (old new : SessionData) (got : Got) (found : LinkFact) (texts : List (List ℕ)) (w : WorldData) (added : List WorldEvent) : Type 0 where
-  pub count : ℕ
-  pub joined : IsSession old
-  pub can : can_find (doing old) found ≡ true
-  pub asked : (got ≡ unasked) ↔ (doing old ≢ Talking)
-  pub ended : (end : SessionEnd) → (found ≡ fact.Ended end) ↔ (end_by got moment old.sender ≡ Some end)
-  pub broken : got ≡ lost → found ≡ fact.Failed
-  pub none_issued : may_issue got found ≡ false → texts ≡ []
-  pub up : new.up ≡ up_after found old.up
-  pub unsent : new.up ≡ true → StaysUp found → next_of new.sender ≡ None
-  pub sender : new.sender ≡ after_steps moment (turn_steps (doing old) old.up got found texts count) old.sender
-  pub allowed : AreAllowed moment (turn_steps (doing old) old.up got found texts count) old.sender
-  pub steps : AreAdded moment kind.prompt (turn_steps (doing old) old.up got found texts count) old.sender w added
-
--- a turn talks only over a link that is up, and dials only if it isn't
-pub talks_up : (x : SessionData) → doing x ≡ Talking → x.up ≡ true
-talks_up x is = grind (arith, common_steps)
-
-dials_down : (x : SessionData) → doing x ≡ Dialling → x.up ≡ false
-dials_down x is = grind (arith, common_steps)
-
-rests_down : (x : SessionData) → doing x ≡ Resting → x.up ≡ false
-rests_down x is = grind (arith, common_steps)
-
-up_for : (x : SessionData) (d : Doing) → doing x ≡ d → IsUpFor d x.up
-up_for x Dialling is = dials_down x is
-up_for x HangingUp is = tt
-up_for x Talking is = talks_up x is
-up_for x Resting is = tt
-
--- the world after the turn is open exactly if the session is up
-linked_after : (moment : ℕ) (kind : LinkKind) (old new : SessionData) (got : Got) (found : LinkFact) (texts : List (List ℕ)) (w : WorldData) (added : List WorldEvent) → IsTurned moment kind old new got found texts w added → w.linked ≡ old.up → (world_from w added).linked ≡ new.up
-linked_after moment kind old new got found texts w added t is =
-    let steps = turn_steps (doing old) old.up got found texts t.count in
-    steps_up moment kind.prompt steps old.sender w added t.steps
-    ∙ ap (up_all steps) is
-    ∙ turn_up (doing old) old.up got found texts t.count t.can (up_for old (doing old) refl) (λ talks un. (t.asked.0 un) talks) t.broken
-    ∙ sym t.up
-
--- a link is made in a turn that dials
-pub opens_dialling : (d : Doing) → can_find d fact.Opened ≡ true → d ≡ Dialling
-opens_dialling Dialling can = refl
-opens_dialling HangingUp can = absurd (cc)
-opens_dialling Talking can = absurd (cc)
-opens_dialling Resting can = absurd (cc)
-
--- the world of a history from its last link on
-pub world_since : (kind : LinkKind) (past front : List WorldEvent) (last : ℕ) (rest : List WorldEvent) → past ≡ front ++ Opened last ∷ rest → world_in kind past ≡ world_from (apply (world_in kind front) (Opened last)) rest
-world_since kind past front last rest is =
-    ap (world_in kind) is ∙ world_of-append kind.slots kind.numbered front (Opened last ∷ rest)
+use Rattle.lossy_line.proofs.Turned.{IsTurned, talks_up, dials_down, rests_down, linked_after, opens_dialling, world_since, sound_of, linked_as, world_then, idle_steps, down_after}
 
 -- a link is made
-opened_by : (kind : LinkKind) (old new : SessionData) (past added runs : List WorldEvent) (last : ℕ) → IsSound old.sender → (world_in kind past).printer.places ≤ 16 → added ≡ runs ++ Opened last ∷ [] → can_happen (world_from (world_in kind past) runs) (Opened last) ≡ true → new.sender ≡ begun old.sender → (world_in kind (past ++ added)).linked ≡ new.up → IsOpened kind [] new (past ++ added)
+opened_by : (kind : LinkKind) (old new : SessionData) (past added runs : List WorldEvent) (last : ℕ) → IsSound old.sender →
+    (world_in kind past).printer.places ≤ 16 → added ≡ runs ++ Opened last ∷ [] →
+    can_happen (world_from (world_in kind past) runs) (Opened last) ≡ true → new.sender ≡ begun old.sender →
+    (world_in kind (past ++ added)).linked ≡ new.up → IsOpened kind [] new (past ++ added)
 opened_by kind old new past added runs last sound few is can sender open_as =
     let front : List WorldEvent = past ++ runs in
     let here : world_in kind front ≡ world_from (world_in kind past) runs = world_of-append kind.slots kind.numbered past runs in
@@ -119,47 +71,10 @@ opened_by kind old new past added runs last sound few is can sender open_as =
       caused = subst C (sym sender) tt;
     }
 
-sound_of : (kind : LinkKind) (issued : List (List ℕ)) (x : SessionData) (past : List WorldEvent) → IsLinked kind issued x past → IsSound x.sender
-sound_of kind issued x past (unopened u) = u.sound
-sound_of kind issued x past (opened o) = o.traced.meets.numbers.sound
-
-pub linked_as : (kind : LinkKind) (issued : List (List ℕ)) (x : SessionData) (past : List WorldEvent) → IsLinked kind issued x past → (world_in kind past).linked ≡ x.up
-linked_as kind issued x past (unopened u) = u.closed ∙ sym u.down
-linked_as kind issued x past (opened o) = o.open_as
-
--- the world after the turn
-world_then : (kind : LinkKind) (past added : List WorldEvent) → world_in kind (past ++ added) ≡ world_from (world_in kind past) added
-world_then kind past added = world_of-append kind.slots kind.numbered past added
-
--- the steps that are made in a turn that makes no link, where the session isn't up, leave the sender
-idle_steps : (moment : ℕ) (d : Doing) (was_up : Bool) (got : Got) (found : LinkFact) (texts : List (List ℕ)) (count : ℕ) (s : SenderData) → (d ≡ Talking → ⊥) → (found ≡ fact.Opened → ⊥) → after_steps moment (turn_steps d was_up got found texts count) s ≡ s
-idle_steps moment Dialling was_up got fact.Quiet texts count s idle other = refl
-idle_steps moment Dialling was_up got fact.Opened texts count s idle other = absurd (other refl)
-idle_steps moment Dialling was_up got fact.Ready texts count s idle other = refl
-idle_steps moment Dialling was_up got fact.Closed texts count s idle other = refl
-idle_steps moment Dialling was_up got fact.NoPort texts count s idle other = refl
-idle_steps moment Dialling was_up got fact.Failed texts count s idle other = refl
-idle_steps moment Dialling was_up got (fact.Ended end) texts count s idle other = refl
-idle_steps moment HangingUp was_up got found texts count s idle other = refl
-idle_steps moment Talking was_up got found texts count s idle other = absurd (idle refl)
-idle_steps moment Resting was_up got found texts count s idle other = refl
-
--- and the session down
-down_after : (d : Doing) (found : LinkFact) (was_up : Bool) → can_find d found ≡ true → (d ≡ Talking → ⊥) → (found ≡ fact.Opened → ⊥) → was_up ≡ false → up_after found was_up ≡ false
-down_after d fact.Quiet was_up can idle other down = down
-down_after d fact.Opened was_up can idle other down = absurd (other refl)
-down_after Dialling fact.Ready was_up can idle other down = absurd (cc)
-down_after HangingUp fact.Ready was_up can idle other down = absurd (cc)
-down_after Talking fact.Ready was_up can idle other down = absurd (idle refl)
-down_after Resting fact.Ready was_up can idle other down = absurd (cc)
-down_after d fact.Closed was_up can idle other down = refl
-down_after d fact.NoPort was_up can idle other down = refl
-down_after d fact.Failed was_up can idle other down = refl
-down_after d (fact.Ended end) was_up can idle other down = refl
-
 module _ (moment : ℕ) (kind : LinkKind) (old new : SessionData) (got : Got) (found : LinkFact) (texts issued : List (List ℕ)) (past added : List WorldEvent) where
   -- the turn makes a link
-  opening : found ≡ fact.Opened → IsTurned moment kind old new got found texts (world_in kind past) added → IsLinked kind issued old past → IsLinked kind (issued_in found texts issued) new (past ++ added)
+  opening : found ≡ fact.Opened → IsTurned moment kind old new got found texts (world_in kind past) added → IsLinked kind issued old past →
+      IsLinked kind (issued_in found texts issued) new (past ++ added)
   opening is t linked =
       let F : LinkFact → Type 0 = λ f. can_find (doing old) f ≡ true in
       let dials : doing old ≡ Dialling = opens_dialling (doing old) (subst F is t.can) in
@@ -180,7 +95,8 @@ module _ (moment : ℕ) (kind : LinkKind) (old new : SessionData) (got : Got) (f
       subst I (sym is) (opened (opened_by kind old new past added dial.runs dial.last (sound_of kind issued old past linked) step.3.0.1.few all dial.opens sender open_as))
 
   -- no turn has made one yet
-  still_unopened : (found ≡ fact.Opened → ⊥) → IsTurned moment kind old new got found texts (world_in kind past) added → IsUnopened kind issued old past → IsUnopened kind (issued_in found texts issued) new (past ++ added)
+  still_unopened : (found ≡ fact.Opened → ⊥) → IsTurned moment kind old new got found texts (world_in kind past) added →
+      IsUnopened kind issued old past → IsUnopened kind (issued_in found texts issued) new (past ++ added)
   still_unopened other t u =
       let idle : doing old ≡ Talking → ⊥ = λ talks. (let up : old.up ≡ true = talks_up old talks in let down : old.up ≡ false = u.down in absurd (cc)) in
       let un : got ≡ unasked = t.asked.1 idle in
@@ -194,6 +110,7 @@ module _ (moment : ℕ) (kind : LinkKind) (old new : SessionData) (got : Got) (f
         closed = ap (λ (w : WorldData). w.linked) (world_then kind past added) ∙ linked_after moment kind old new got found texts (world_in kind past) added t (u.closed ∙ sym u.down) ∙ down;
         sound = subst S (sym same) u.sound;
       }
+<<<<<<< HEAD
     where
       issued_idle : (d : Doing) (was_up : Bool) (g : Got) (f : LinkFact) (ts : List (List ℕ)) (count : ℕ) → (d ≡ Talking → ⊥) → (f ≡ fact.Opened → ⊥) → issued_after (turn_steps d was_up g f ts count) issued ≡ issued
       issued_idle Dialling was_up g fact.Quiet ts count i o = refl
@@ -206,9 +123,25 @@ module _ (moment : ℕ) (kind : LinkKind) (old new : SessionData) (got : Got) (f
       issued_idle HangingUp was_up g f ts count i o = refl
       issued_idle Talking was_up g f ts count i o = absurd (i refl)
       issued_idle Resting was_up g f ts count i o = refl
+=======
+      where
+        issued_idle : (d : Doing) (was_up : Bool) (g : Got) (f : LinkFact) (ts : List (List ℕ)) (count : ℕ) → (d ≡ Talking → ⊥) →
+            (f ≡ fact.Opened → ⊥) → issued_after (turn_steps d was_up g f ts count) issued ≡ issued
+        issued_idle Dialling was_up g fact.Quiet ts count i o = refl
+        issued_idle Dialling was_up g fact.Opened ts count i o = absurd (o refl)
+        issued_idle Dialling was_up g fact.Ready ts count i o = refl
+        issued_idle Dialling was_up g fact.Closed ts count i o = refl
+        issued_idle Dialling was_up g fact.NoPort ts count i o = refl
+        issued_idle Dialling was_up g fact.Failed ts count i o = refl
+        issued_idle Dialling was_up g (fact.Ended end) ts count i o = refl
+        issued_idle HangingUp was_up g f ts count i o = refl
+        issued_idle Talking was_up g f ts count i o = absurd (i refl)
+        issued_idle Resting was_up g f ts count i o = refl
+>>>>>>> f90a2bc7cfac35305825cae3ee39572dd2b28b67
 
   -- the session of a link goes on
-  pub going_on : (found ≡ fact.Opened → ⊥) → IsTurned moment kind old new got found texts (world_in kind past) added → IsOpened kind issued old past → IsOpened kind (issued_in found texts issued) new (past ++ added)
+  pub going_on : (found ≡ fact.Opened → ⊥) → IsTurned moment kind old new got found texts (world_in kind past) added →
+      IsOpened kind issued old past → IsOpened kind (issued_in found texts issued) new (past ++ added)
   going_on other t o =
       let start : List Logged = (world_in kind o.front).log in
       let base : WorldData = apply (world_in kind o.front) (Opened o.last) in
@@ -245,6 +178,7 @@ module _ (moment : ℕ) (kind : LinkKind) (old new : SessionData) (got : Got) (f
         quiet = λ up. still_quiet up t o;
         caused = caused_by (doing old) refl t o;
       }
+<<<<<<< HEAD
     where
       caused_idle : (doing old ≡ Talking → ⊥) → (t : IsTurned moment kind old new got found texts (world_in kind past) added) → (o : IsOpened kind issued old past) → IsCaused new.sender.ended (apply (world_in kind o.front) (Opened o.last)) (o.rest ++ added)
       caused_idle idle t o =
@@ -318,13 +252,92 @@ module _ (moment : ℕ) (kind : LinkKind) (old new : SessionData) (got : Got) (f
           subst Q (sym (sends_since-append 0 o.rest added))
           (talk_quiet moment (sends_since 0 o.rest) kind.prompt got found texts t.count old.sender new.sender (world_in kind past) added (λ un. (t.asked.0 un) is) t.broken so
           o.traced.meets.numbers.sound (o.quiet (talks_up old is)) (subst A is t.allowed) (subst B is t.steps) (subst C is t.sender) (t.unsent up so))
+=======
+      where
+        caused_idle : (doing old ≡ Talking → ⊥) → (t : IsTurned moment kind old new got found texts (world_in kind past) added) →
+            (o : IsOpened kind issued old past) →
+            IsCaused new.sender.ended (apply (world_in kind o.front) (Opened o.last)) (o.rest ++ added)
+        caused_idle idle t o =
+            let made : WorldData = apply (world_in kind o.front) (Opened o.last) in
+            let here : world_in kind past ≡ world_from made o.rest = world_since kind past o.front o.last o.rest o.is in
+            let S : WorldData → Type 0 = λ w. IsStill w added in
+            let C : SenderData → Type 0 = λ s. IsCaused s.ended made (o.rest ++ added) in
+            let same : new.sender ≡ old.sender = t.sender ∙ idle_steps moment (doing old) old.up got found texts t.count old.sender idle other in
+            let still : IsStill (world_in kind past) added = still_turn moment kind.prompt (doing old) old.up got found texts t.count old.sender (world_in kind past) added idle other t.steps in
+            subst C (sym same) (still_caused old.sender.ended made o.rest added (subst S here still) o.caused)
+        stays : (f : LinkFact) (was_up : Bool) → (f ≡ fact.Opened → ⊥) → up_after f was_up ≡ true → StaysUp f
+        stays fact.Quiet was_up o up = tt
+        stays fact.Opened was_up o up = absurd (o refl)
+        stays fact.Ready was_up o up = tt
+        stays fact.Closed was_up o up = absurd (cc)
+        stays fact.NoPort was_up o up = absurd (cc)
+        stays fact.Failed was_up o up = absurd (cc)
+        stays (fact.Ended end) was_up o up = absurd (cc)
+        talks : (d : Doing) → doing old ≡ d → IsTurned moment kind old new got found texts (world_in kind past) added → new.up ≡ true →
+            doing old ≡ Talking
+        talks Dialling is t up =
+            let idle : doing old ≡ Talking → ⊥ = λ (i : doing old ≡ Talking). (let e : Dialling ≡ Talking = sym is ∙ i in absurd (cc)) in
+            let down : new.up ≡ false = t.up ∙ down_after (doing old) found old.up t.can idle other (dials_down old is) in
+            absurd (cc)
+        talks HangingUp is t up =
+            let F : Doing → Type 0 = λ d. can_find d found ≡ true in
+            let down : up_after found old.up ≡ false = hung found old.up (subst F is t.can) in
+            let off : new.up ≡ false = t.up ∙ down in
+            absurd (cc)
+          where
+            hung : (f : LinkFact) (was_up : Bool) → can_find HangingUp f ≡ true → up_after f was_up ≡ false
+            hung fact.Quiet was_up can = absurd (cc)
+            hung fact.Opened was_up can = absurd (cc)
+            hung fact.Ready was_up can = absurd (cc)
+            hung fact.Closed was_up can = refl
+            hung fact.NoPort was_up can = refl
+            hung fact.Failed was_up can = refl
+            hung (fact.Ended end) was_up can = refl
+        talks Talking is t up = is
+        talks Resting is t up =
+            let idle : doing old ≡ Talking → ⊥ = λ (i : doing old ≡ Talking). (let e : Resting ≡ Talking = sym is ∙ i in absurd (cc)) in
+            let down : new.up ≡ false = t.up ∙ down_after (doing old) found old.up t.can idle other (rests_down old is) in
+            absurd (cc)
+        caused_by : (d : Doing) → doing old ≡ d → (t : IsTurned moment kind old new got found texts (world_in kind past) added) →
+            (o : IsOpened kind issued old past) →
+            IsCaused new.sender.ended (apply (world_in kind o.front) (Opened o.last)) (o.rest ++ added)
+        caused_by Talking is t o =
+            let made : WorldData = apply (world_in kind o.front) (Opened o.last) in
+            let here : world_in kind past ≡ world_from made o.rest = world_since kind past o.front o.last o.rest o.is in
+            let F : Doing → Type 0 = λ d. can_find d found ≡ true in
+            let B : Doing → Type 0 = λ d. AreAdded moment kind.prompt (turn_steps d old.up got found texts t.count) old.sender (world_in kind past) added in
+            let W : WorldData → Type 0 = λ w. AreAdded moment kind.prompt (talk_steps got found texts t.count) old.sender w added in
+            let C : SenderData → Type 0 = λ s. IsCaused s.ended made (o.rest ++ added) in
+            let sender : new.sender ≡ after_steps moment (talk_steps got found texts t.count) old.sender =
+            t.sender ∙ ap (λ (d : Doing). after_steps moment (turn_steps d old.up got found texts t.count) old.sender) is
+            in
+            subst C (sym sender) (talk_caused moment kind.prompt found texts t.count (world_in kind o.front).log made issued old.sender o.rest got added (subst F is t.can) (λ un. (t.asked.0 un) is) t.ended
+            (t.joined.running (talks_up old is)) (o.quiet (talks_up old is)) o.traced (subst W here (subst B is t.steps)))
+        caused_by Dialling is t o = caused_idle (λ (i : doing old ≡ Talking). (let e : Dialling ≡ Talking = sym is ∙ i in absurd (cc))) t o
+        caused_by HangingUp is t o = caused_idle (λ (i : doing old ≡ Talking). (let e : HangingUp ≡ Talking = sym is ∙ i in absurd (cc))) t o
+        caused_by Resting is t o = caused_idle (λ (i : doing old ≡ Talking). (let e : Resting ≡ Talking = sym is ∙ i in absurd (cc))) t o
+        still_quiet : new.up ≡ true → (t : IsTurned moment kind old new got found texts (world_in kind past) added) →
+            (o : IsOpened kind issued old past) → IsQuiet (sends_since 0 (o.rest ++ added)) new.sender
+        still_quiet up t o =
+            let is : doing old ≡ Talking = talks (doing old) refl t up in
+            let so : StaysUp found = stays found old.up other (sym t.up ∙ up) in
+            let A : Doing → Type 0 = λ d. AreAllowed moment (turn_steps d old.up got found texts t.count) old.sender in
+            let B : Doing → Type 0 = λ d. AreAdded moment kind.prompt (turn_steps d old.up got found texts t.count) old.sender (world_in kind past) added in
+            let C : Doing → Type 0 = λ d. new.sender ≡ after_steps moment (turn_steps d old.up got found texts t.count) old.sender in
+            let Q : ℕ → Type 0 = λ n. IsQuiet n new.sender in
+            subst Q (sym (sends_since-append 0 o.rest added))
+            (talk_quiet moment (sends_since 0 o.rest) kind.prompt got found texts t.count old.sender new.sender (world_in kind past) added (λ un. (t.asked.0 un) is) t.broken so
+            o.traced.meets.numbers.sound (o.quiet (talks_up old is)) (subst A is t.allowed) (subst B is t.steps) (subst C is t.sender) (t.unsent up so))
+>>>>>>> f90a2bc7cfac35305825cae3ee39572dd2b28b67
 
-  linked_other : (found ≡ fact.Opened → ⊥) → IsTurned moment kind old new got found texts (world_in kind past) added → IsLinked kind issued old past → IsLinked kind (issued_in found texts issued) new (past ++ added)
+  linked_other : (found ≡ fact.Opened → ⊥) → IsTurned moment kind old new got found texts (world_in kind past) added →
+      IsLinked kind issued old past → IsLinked kind (issued_in found texts issued) new (past ++ added)
   linked_other other t (unopened u) = unopened (still_unopened other t u)
   linked_other other t (opened o) = opened (going_on other t o)
 
   -- a turn
-  pub turn_links : IsTurned moment kind old new got found texts (world_in kind past) added → IsLinked kind issued old past → IsLinked kind (issued_in found texts issued) new (past ++ added)
+  pub turn_links : IsTurned moment kind old new got found texts (world_in kind past) added → IsLinked kind issued old past →
+      IsLinked kind (issued_in found texts issued) new (past ++ added)
   turn_links t linked = links_by (is_opened_fact found) t linked
     where
       is_opened_fact : (f : LinkFact) → (f ≡ fact.Opened) ⊎ (f ≡ fact.Opened → ⊥)
@@ -335,7 +348,13 @@ module _ (moment : ℕ) (kind : LinkKind) (old new : SessionData) (got : Got) (f
       is_opened_fact fact.NoPort = inr (λ (e : fact.NoPort ≡ fact.Opened). absurd (cc))
       is_opened_fact fact.Failed = inr (λ (e : fact.Failed ≡ fact.Opened). absurd (cc))
       is_opened_fact (fact.Ended end) = inr (λ (e : fact.Ended end ≡ fact.Opened). absurd (cc))
+<<<<<<< HEAD
 
       links_by : (found ≡ fact.Opened) ⊎ (found ≡ fact.Opened → ⊥) → IsTurned moment kind old new got found texts (world_in kind past) added → IsLinked kind issued old past → IsLinked kind (issued_in found texts issued) new (past ++ added)
+=======
+      links_by : (found ≡ fact.Opened) ⊎ (found ≡ fact.Opened → ⊥) →
+          IsTurned moment kind old new got found texts (world_in kind past) added → IsLinked kind issued old past →
+          IsLinked kind (issued_in found texts issued) new (past ++ added)
+>>>>>>> f90a2bc7cfac35305825cae3ee39572dd2b28b67
       links_by (inl is) t linked = opening is t linked
       links_by (inr other) t linked = linked_other other t linked

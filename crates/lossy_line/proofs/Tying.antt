@@ -23,7 +23,7 @@ use Rattle.lossy_wires.proofs.Lists.{lines_front}
 use Rattle.lossy_wires.proofs.Giving.{tally_acked}
 use Rattle.lossy_line.specs.Linked.{IsOpened}
 use Rattle.lossy_line.specs.Tied.{logged_from, world_before, IsTied}
-use Rattle.lossy_line.proofs.Turning.{world_since}
+use Rattle.lossy_line.proofs.Turned.{world_since}
 
 -- a list from a place on begins with what stands there
 drop_at : (texts : List (List ℕ)) (place : ℕ) (text : List ℕ) → slice_get texts place ≡ Some text → drop place texts ≡ text ∷ drop (suc place) texts
@@ -32,7 +32,8 @@ drop_at (first ∷ texts) zero text found = let same : first ≡ text = cc in ap
 drop_at (first ∷ texts) (suc place) text found = drop_at texts place text found
 
 -- issued lines that ran, as the log has them
-logged_lines : (issued : List (List ℕ)) (place : ℕ) (lines : List Piece) → AreLinesFrom issued (suc place) lines → map logged_in lines ≡ logged_from (suc place) (take (length lines) (drop place issued))
+logged_lines : (issued : List (List ℕ)) (place : ℕ) (lines : List Piece) → AreLinesFrom issued (suc place) lines →
+    map logged_in lines ≡ logged_from (suc place) (take (length lines) (drop place issued))
 logged_lines issued place [] so = refl
 logged_lines issued place (greeting ∷ lines) so = absurd so.0
 logged_lines issued place (command at text ∷ lines) so =
@@ -44,7 +45,8 @@ logged_lines issued place (command at text ∷ lines) so =
     ∙ sym (ap (λ (l : List (List ℕ)). logged_from (suc place) (take (suc (length lines)) l)) (drop_at issued place text found))
 
 -- they count, the hello doesn't
-all_counted : (issued : List (List ℕ)) (place : ℕ) (lines : List Piece) → AreLinesFrom issued (suc place) lines → filter is_counted (map logged_in lines) ≡ map logged_in lines
+all_counted : (issued : List (List ℕ)) (place : ℕ) (lines : List Piece) → AreLinesFrom issued (suc place) lines →
+    filter is_counted (map logged_in lines) ≡ map logged_in lines
 all_counted issued place [] so = refl
 all_counted issued place (greeting ∷ lines) so = absurd so.0
 all_counted issued place (command at text ∷ lines) so =
@@ -61,7 +63,8 @@ length-map : {X Y : Type 0} (f : X → Y) (xs : List X) → length (map f xs) �
 length-map f [] = refl
 length-map f (x ∷ xs) = ap suc (length-map f xs)
 
-executed_by : (issued : List (List ℕ)) (ran d : Bool) (last : ℕ) (queue log : List Piece) → Printed issued ran d last queue log → IsExecuted issued log (filter is_counted (map logged_in log))
+executed_by : (issued : List (List ℕ)) (ran d : Bool) (last : ℕ) (queue log : List Piece) → Printed issued ran d last queue log →
+    IsExecuted issued log (filter is_counted (map logged_in log))
 executed_by issued ran d last queue log (before b) =
     let E : List Piece → Type 0 = λ l. IsExecuted issued l (filter is_counted (map logged_in l)) in
     subst E (sym b.none_run) (record { is = refl; count = refl })
@@ -76,7 +79,9 @@ executed_by issued ran d last queue log (after p) =
     })
 
 -- the last session is tied
-pub tied_at : (kind : LinkKind) (issued : List (List ℕ)) (s : SenderData) (front : List WorldEvent) (last : ℕ) (rest : List WorldEvent) → IsTraced (world_in kind front).log (apply (world_in kind front) (Opened last)) issued s rest → IsTied kind issued s.acked (front ++ Opened last ∷ rest) (suc (opens front))
+pub tied_at : (kind : LinkKind) (issued : List (List ℕ)) (s : SenderData) (front : List WorldEvent) (last : ℕ) (rest : List WorldEvent) →
+    IsTraced (world_in kind front).log (apply (world_in kind front) (Opened last)) issued s rest →
+    IsTied kind issued s.acked (front ++ Opened last ∷ rest) (suc (opens front))
 tied_at kind issued s front last rest traced =
     let past : List WorldEvent = front ++ Opened last ∷ rest in
     let base : WorldData = apply (world_in kind front) (Opened last) in
@@ -107,7 +112,8 @@ tied_at kind issued s front last rest traced =
     }
 
 -- once a turn has made a link, the last session is tied
-pub opened_tied : (kind : LinkKind) (issued : List (List ℕ)) (x : SessionData) (past : List WorldEvent) → IsOpened kind issued x past → IsTied kind issued x.sender.acked past (opens past)
+pub opened_tied : (kind : LinkKind) (issued : List (List ℕ)) (x : SessionData) (past : List WorldEvent) → IsOpened kind issued x past →
+    IsTied kind issued x.sender.acked past (opens past)
 opened_tied kind issued x past o =
     let number : suc (opens o.front) ≡ opens past = omega (arith, ap opens o.is, opens-append o.front (Opened o.last ∷ o.rest), o.traced.same_session) in
     let P : List WorldEvent → Type 0 = λ es. IsTied kind issued x.sender.acked es (suc (opens o.front)) in

@@ -2,14 +2,13 @@
 use crate::{SocketLink, names_address, names_port};
 use byte_text::{Line, ReplyLine};
 use printer_link::{Heard, Link, LinkFault};
-use std::fs;
 use std::io::{Read, Write};
 use std::net::{Shutdown, TcpListener, TcpStream};
 use std::os::unix::net::UnixListener;
-use std::process;
 use std::process::Abort;
 use std::test::Fail;
 use std::time::Duration;
+use std::{fs, process};
 
 #[test]
 fn names(rt: HostRuntime) {
