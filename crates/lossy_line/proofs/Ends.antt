@@ -76,13 +76,9 @@ still_turn moment is_prompt d was_up got found texts count s w added idle other 
   where
     none : added ≡ [] → IsStill w added
     none e = (let S : List WorldEvent → Type 0 = λ es. IsStill w es in subst S (sym e) (record { unsent = λ since. refl; unheard = refl }))
-<<<<<<< HEAD
 
-    by : (e : Doing) (f : LinkFact) → (e ≡ Talking → ⊥) → (f ≡ fact.Opened → ⊥) → AreAdded moment is_prompt (turn_steps e was_up got f texts count) s w added → IsStill w added
-=======
     by : (e : Doing) (f : LinkFact) → (e ≡ Talking → ⊥) → (f ≡ fact.Opened → ⊥) →
         AreAdded moment is_prompt (turn_steps e was_up got f texts count) s w added → IsStill w added
->>>>>>> f90a2bc7cfac35305825cae3ee39572dd2b28b67
     by Dialling fact.Quiet i o a = none a
     by Dialling fact.Opened i o a = absurd (o refl)
     by Dialling fact.Ready i o a = none a
