@@ -3,3 +3,4 @@ pub mod Found
 pub mod Inserted
 pub mod Refused
 pub mod Tables
+pub mod Undone

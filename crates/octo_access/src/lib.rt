@@ -18,3 +18,6 @@ pub use policy::Policy;
 pub use refusal::UserRefusal;
 pub use row::{Admin, Digest, UserList, UserRow, digest_of};
 pub use users::Users;
+
+#[cfg(test)]
+mod tests;
