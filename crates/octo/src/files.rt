@@ -6,8 +6,8 @@ ghost use Rattle.octo.specs.declared.report.Report.TheVariants as report;
 ghost use Rattle.octo.specs.Outcome.{file_of, cool_job, IsTroubled, IsRefusal};
 
 use crate::report::Report;
-use gcode_lines::{FileFault, Job, read_commands};
-use octo_outside::{ReadAll, Source, read_all};
+use gcode_lines::{FileFault, Job, take_commands};
+use octo_outside::{Blob, ReadAll, Source, read_all};
 use std::alloc::Global;
 use temp_rules::{Limits, first_hot};
 
@@ -22,13 +22,13 @@ const LIMITS: Limits = Limits {
     bed: 120,
 };
 
-// The job of a file's bytes, within the limits.
-fn cool_commands(alloc: Global, bytes: &[u8]) -> Result<Job, Report>
-    ensures exact { (result ≡ Err report.NoMemory) ⊎ (result ≡ cool_job (job_of bytes.now)) }
+// The job of a file's bytes, which it keeps, within the limits.
+fn cool_commands(alloc: Global, bytes: Blob) -> Result<Job, Report>
+    ensures exact { (result ≡ Err report.NoMemory) ⊎ (result ≡ cool_job (job_of bytes)) }
     ensures refusal { IfErr result IsRefusal }
     ensures source { result ≢ Err report.SourceFailed }
 {
-    let job = match read_commands(alloc, bytes) {
+    let job = match take_commands(alloc, bytes) {
         Ok(job) => job,
         Err(FileFault::NoMemory) => return Err(Report::NoMemory),
         Err(fault) => return Err(Report::BadFile(fault)),
@@ -55,5 +55,5 @@ pub fn read_job<F: Source>(alloc: Global, files: &mut F, name: &str) -> Result<J
         }
         Err(ReadAll::NoMemory) => return Err(Report::NoMemory),
     };
-    cool_commands(alloc, bytes.as_slice())
+    cool_commands(alloc, bytes)
 }
