@@ -5,8 +5,8 @@ mod body;
 mod chunks;
 mod fault;
 mod fields;
-mod framing;
 mod fill;
+mod framing;
 mod head;
 mod intake;
 mod looks;
@@ -19,6 +19,3 @@ mod reply;
 pub use fault::MessageFault;
 pub use message::{Message, read_message};
 pub use reply::{HttpReply, ReplyKind, write_reply};
-
-#[cfg(test)]
-mod tests;

@@ -34,8 +34,10 @@ impl Looks {
         ensures pause { came ≢ Came.Bytes → result ≡ true }
     {
         let marked = self.finds(bytes, mark);
-        let due =
-            marked || came != Came::Bytes || bytes.len() >= most || bytes.len() / 2 >= self.looked;
+        let due = marked
+            || came != Came::Bytes
+            || bytes.len() >= most
+            || bytes.len() / 2 >= self.looked;
         if due {
             self.looked = bytes.len();
         }

@@ -33,8 +33,8 @@ returns-in_err-fill-clause-stops g c =
     let line = c.in_ok-size.ensures.part in
     on_exit _ c.in_err-fill.field-0.0 _ c.from_residual-in_err-fill.ensures.1
     (stops_short c.args.body.now line.0 c.in_ok-size.size _ _ _ _ _ _ line.2
-      (fits_by _ line.0 _ line.1 c.if-size-eq0.false c.requires (omega (arith, c.len.ensures, c.if-size-len.false)))
-      c.in_err-fill.ensures.stops)
+    (fits_by _ line.0 _ line.1 c.if-size-eq0.false c.requires (omega (arith, c.len.ensures, c.if-size-len.false)))
+    c.in_err-fill.ensures.stops)
 
 pub returns-in_err-read_part-2-clause-stops : goal.returns-in_err-read_part-2-clause-stops
 returns-in_err-read_part-2-clause-stops g c =
@@ -42,8 +42,8 @@ returns-in_err-read_part-2-clause-stops g c =
     let piece = c.in_ok-fill.ensures.ok in
     on_exit _ c.in_err-read_part-2.field-0.0 _ c.from_residual-in_err-read_part-2.ensures.1
     (stops_end c.args.body.now line.0 piece.0 c.in_ok-size.size _ _ _ _ _ _ _ _ line.2 piece.3
-      (fits_by _ line.0 _ line.1 c.if-size-eq0.false c.requires (omega (arith, c.len.ensures, c.if-size-len.false)))
-      piece.1 c.in_err-read_part-2.ensures.stops)
+    (fits_by _ line.0 _ line.1 c.if-size-eq0.false c.requires (omega (arith, c.len.ensures, c.if-size-len.false)))
+    piece.1 c.in_err-read_part-2.ensures.stops)
 
 pub returns-clause-chunk : goal.returns-clause-chunk
 returns-clause-chunk g c =

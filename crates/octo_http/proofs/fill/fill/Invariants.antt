@@ -6,8 +6,8 @@ use Rattle.octo_http.proofs.fill.fill.Given as goal
 abbrev pub invariant-filling : goal.invariant-filling
 invariant-filling g l = record {
   sofar : (taken : List ℕ) × (length taken + l.due ≡ l.count) × (l.body ≡ l.initial.body ++ taken)
-    × Took l.initial.intake.bytes (g.C.Conn.left l.initial.conn) l.intake.bytes (g.C.Conn.left l.conn) taken
-    × Knows l.came l.intake taken l.initial.intake.bytes (g.C.Conn.left l.initial.conn) (g.C.Conn.faults l.initial.conn) (g.C.Conn.faults l.conn);
+      × Took l.initial.intake.bytes (g.C.Conn.left l.initial.conn) l.intake.bytes (g.C.Conn.left l.conn) taken
+      × Knows l.came l.intake taken l.initial.intake.bytes (g.C.Conn.left l.initial.conn) (g.C.Conn.faults l.initial.conn) (g.C.Conn.faults l.conn);
   waits : Waits l.initial.intake l.intake (g.C.Conn.faults l.initial.conn) (g.C.Conn.faults l.conn) (g.C.Conn.quiets l.initial.conn) (g.C.Conn.quiets l.conn);
   written : g.C.Conn.written l.conn ≡ g.C.Conn.written l.initial.conn;
 }

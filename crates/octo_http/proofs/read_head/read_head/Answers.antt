@@ -18,7 +18,7 @@ pub returns-in_err-go_on-clause-stops : goal.returns-in_err-go_on-clause-stops
 returns-in_err-go_on-clause-stops g c =
     on_exit _ c.in_err-go_on.field-0.0 _ c.from_residual-in_err-go_on.ensures.1
     (stops_lacking HeadFault 16384 _ _ _ _ _ _ _ _ _ c.reading.invariant.took c.reading.invariant.knows
-      (rw c.in-None.is at c.in_ok-head.ensures.same) (rw c.in-None.is at c.in_ok-head.ensures.none) c.in_err-go_on.ensures.pause)
+    (rw c.in-None.is at c.in_ok-head.ensures.same) (rw c.in-None.is at c.in_ok-head.ensures.none) c.in_err-go_on.ensures.pause)
 
 pub reading-preserved : goal.reading-preserved
 reading-preserved g c =

@@ -5,14 +5,14 @@ use Rattle.octo_http.proofs.reply.write_reply.Goals as goal
 pub returns-in_err-send_all-clause-err : goal.returns-in_err-send_all-clause-err
 returns-in_err-send_all-clause-err g c =
     on_failed _ _ (replied_head c.args.reply.now _ _ _ c.sent_body-body.result.now
-      (joined c.args.reply.now _ _ _ c.sent_body-body.ensures refl (c.as_slice.ensures.value ∙ c.head_of-head.ensures))
-      c.in_err-send_all.ensures.err)
+    (joined c.args.reply.now _ _ _ c.sent_body-body.ensures refl (c.as_slice.ensures.value ∙ c.head_of-head.ensures))
+    c.in_err-send_all.ensures.err)
 
 pub returns-in_err-send_all-2-clause-err : goal.returns-in_err-send_all-2-clause-err
 returns-in_err-send_all-2-clause-err g c =
     on_failed _ _ (replied_body c.args.reply.now _ _ _ _ c.sent_body-body.result.now
-      (joined c.args.reply.now _ _ _ c.sent_body-body.ensures refl (c.as_slice.ensures.value ∙ c.head_of-head.ensures))
-      c.in_ok-send_all.ensures.ok c.in_err-send_all-2.ensures.err)
+    (joined c.args.reply.now _ _ _ c.sent_body-body.ensures refl (c.as_slice.ensures.value ∙ c.head_of-head.ensures))
+    c.in_ok-send_all.ensures.ok c.in_err-send_all-2.ensures.err)
 
 pub returns-clause-ok : goal.returns-clause-ok
 returns-clause-ok g c =
