@@ -11,7 +11,8 @@ use Rattle.octo_http.specs.declared.fault.MessageFault.TheVariants.{BadHead, Hea
 use Rattle.octo_http.proofs.Reading.{took_none, took_then}
 
 -- a fault after bytes that were taken
-pub stops_after : (P Q : Grammar) (b0 : List ℕ) (l0 : Option (List ℕ)) (b1 : List ℕ) (l1 l2 : Option (List ℕ)) (t : List ℕ) (f : MessageFault) → Took b0 l0 b1 l1 t → Stops P b1 l1 l2 f → ((input : List ℕ) (g : MessageFault) → P input g → Q (t ++ input) g) → Stops Q b0 l0 l2 f
+pub stops_after : (P Q : Grammar) (b0 : List ℕ) (l0 : Option (List ℕ)) (b1 : List ℕ) (l1 l2 : Option (List ℕ)) (t : List ℕ) (f : MessageFault)
+    → Took b0 l0 b1 l1 t → Stops P b1 l1 l2 f → ((input : List ℕ) (g : MessageFault) → P input g → Q (t ++ input) g) → Stops Q b0 l0 l2 f
 stops_after P Q b0 l0 b1 l1 l2 t f took stops so input holds =
     let one = took input holds in
     let Fault : List ℕ → Type 0 = λ text. IsFaultOf Q text l2 f in
@@ -31,7 +32,8 @@ stops_after P Q b0 l0 b1 l1 l2 t f took stops so input holds =
     later (Slow n) rest h = cut rest h
 
 -- a chunk that would make the body too large
-pub stops_large : (sofar line : List ℕ) (size : ℕ) (b0 : List ℕ) (l0 : Option (List ℕ)) (b1 : List ℕ) (l1 : Option (List ℕ)) → Took b0 l0 b1 l1 line → IsChunkHead line size → 68157440 < length sofar + size → Stops (IsChunkFault sofar) b0 l0 l1 BodyTooLarge
+pub stops_large : (sofar line : List ℕ) (size : ℕ) (b0 : List ℕ) (l0 : Option (List ℕ)) (b1 : List ℕ) (l1 : Option (List ℕ)) → Took b0 l0 b1 l1 line
+    → IsChunkHead line size → 68157440 < length sofar + size → Stops (IsChunkFault sofar) b0 l0 l1 BodyTooLarge
 stops_large sofar line size b0 l0 b1 l1 took head many input holds =
     let one = took input holds in
     let Says : List ℕ → Type 0 = λ text. Chunked sofar text (Err BodyTooLarge) in
@@ -43,26 +45,34 @@ stops_line sofar b0 l0 l f stops =
     stops_after (PartFault Line) (IsChunkFault sofar) b0 l0 b0 l0 l [] f (took_none b0 l0) stops (λ input g p. no_line sofar input g p)
 
 -- no trailers after the last line
-pub stops_trailers : (sofar line b0 : List ℕ) (l0 : Option (List ℕ)) (b1 : List ℕ) (l1 l : Option (List ℕ)) (f : MessageFault) → Took b0 l0 b1 l1 line → IsChunkHead line 0 → Stops (PartFault Trailers) b1 l1 l f → Stops (IsChunkFault sofar) b0 l0 l f
+pub stops_trailers : (sofar line b0 : List ℕ) (l0 : Option (List ℕ)) (b1 : List ℕ) (l1 l : Option (List ℕ)) (f : MessageFault) → Took b0 l0 b1 l1 line
+    → IsChunkHead line 0 → Stops (PartFault Trailers) b1 l1 l f → Stops (IsChunkFault sofar) b0 l0 l f
 stops_trailers sofar line b0 l0 b1 l1 l f took head stops =
     stops_after (PartFault Trailers) (IsChunkFault sofar) b0 l0 b1 l1 l line f took stops (λ input g p. no_trailers sofar line input g head p)
 
 -- too few bytes after a line
-pub stops_short : (sofar line : List ℕ) (size : ℕ) (b0 : List ℕ) (l0 : Option (List ℕ)) (b1 : List ℕ) (l1 l : Option (List ℕ)) (f : MessageFault) → Took b0 l0 b1 l1 line → Fits sofar line size → Stops (IsShort size) b1 l1 l f → Stops (IsChunkFault sofar) b0 l0 l f
+pub stops_short : (sofar line : List ℕ) (size : ℕ) (b0 : List ℕ) (l0 : Option (List ℕ)) (b1 : List ℕ) (l1 l : Option (List ℕ)) (f : MessageFault)
+    → Took b0 l0 b1 l1 line → Fits sofar line size → Stops (IsShort size) b1 l1 l f → Stops (IsChunkFault sofar) b0 l0 l f
 stops_short sofar line size b0 l0 b1 l1 l f took fits stops =
     stops_after (IsShort size) (IsChunkFault sofar) b0 l0 b1 l1 l line f took stops (λ input g p.
     let Says : MessageFault → Type 0 = λ h. Chunked sofar (line ++ input) (Err h) in
     subst Says (sym p.0) (short sofar line input size fits p.1))
 
 -- no line end after a chunk's bytes
-pub stops_end : (sofar line piece : List ℕ) (size : ℕ) (b0 : List ℕ) (l0 : Option (List ℕ)) (b1 : List ℕ) (l1 : Option (List ℕ)) (b2 : List ℕ) (l2 l : Option (List ℕ)) (f : MessageFault) → Took b0 l0 b1 l1 line → Took b1 l1 b2 l2 piece → Fits sofar line size → length piece ≡ size → Stops (PartFault LineEnd) b2 l2 l f → Stops (IsChunkFault sofar) b0 l0 l f
+pub stops_end : (sofar line piece : List ℕ) (size : ℕ) (b0 : List ℕ) (l0 : Option (List ℕ)) (b1 : List ℕ) (l1 : Option (List ℕ)) (b2 : List ℕ)
+    (l2 l : Option (List ℕ)) (f : MessageFault) → Took b0 l0 b1 l1 line → Took b1 l1 b2 l2 piece → Fits sofar line size → length piece ≡ size → Stops
+    (PartFault LineEnd) b2 l2 l f → Stops (IsChunkFault sofar) b0 l0 l f
 stops_end sofar line piece size b0 l0 b1 l1 b2 l2 l f first second fits long stops =
-    stops_after (PartFault LineEnd) (IsChunkFault sofar) b0 l0 b2 l2 l (line ++ piece) f (took_then b0 l0 b1 l1 b2 l2 line piece first second) stops (λ input g p.
+    stops_after (PartFault LineEnd) (IsChunkFault sofar) b0 l0 b2 l2 l (line ++ piece) f (took_then b0 l0 b1 l1 b2 l2 line piece first second) stops
+    (λ input g p.
     let Says : List ℕ → Type 0 = λ text. Chunked sofar text (Err g) in
     subst Says (sym (append_assoc line piece input)) (no_end sofar line piece input size g fits long p))
 
 -- a whole chunk
-pub adds_chunk : (old new line piece ending : List ℕ) (size : ℕ) (b0 : List ℕ) (l0 : Option (List ℕ)) (b1 : List ℕ) (l1 : Option (List ℕ)) (b2 : List ℕ) (l2 : Option (List ℕ)) (b3 : List ℕ) (l3 : Option (List ℕ)) → Took b0 l0 b1 l1 line → Took b1 l1 b2 l2 piece → Took b2 l2 b3 l3 ending → Fits old line size → length piece ≡ size → new ≡ old ++ piece → ending ≡ crlf → (taken : List ℕ) × AddsChunk old new Chunk taken × Took b0 l0 b3 l3 taken
+pub adds_chunk : (old new line piece ending : List ℕ) (size : ℕ) (b0 : List ℕ) (l0 : Option (List ℕ)) (b1 : List ℕ) (l1 : Option (List ℕ)) (b2 : List ℕ)
+    (l2 : Option (List ℕ)) (b3 : List ℕ) (l3 : Option (List ℕ)) → Took b0 l0 b1 l1 line → Took b1 l1 b2 l2 piece → Took b2 l2 b3 l3 ending
+    → Fits old line size → length piece ≡ size → new ≡ old ++ piece → ending ≡ crlf → (taken : List ℕ) × AddsChunk old new Chunk taken
+    × Took b0 l0 b3 l3 taken
 adds_chunk old new line piece ending size b0 l0 b1 l1 b2 l2 b3 l3 first second third fits long grown is = (
   (line ++ piece) ++ ending,
   (
@@ -79,7 +89,9 @@ adds_chunk old new line piece ending size b0 l0 b1 l1 b2 l2 b3 l3 first second t
 )
 
 -- the last chunk
-pub adds_last : (body line trailers : List ℕ) (n : ℕ) (b0 : List ℕ) (l0 : Option (List ℕ)) (b1 : List ℕ) (l1 : Option (List ℕ)) (b2 : List ℕ) (l2 : Option (List ℕ)) → Took b0 l0 b1 l1 line → Took b1 l1 b2 l2 trailers → IsChunkHead line 0 → IsPart Trailers trailers n → (taken : List ℕ) × AddsChunk body body Last taken × Took b0 l0 b2 l2 taken
+pub adds_last : (body line trailers : List ℕ) (n : ℕ) (b0 : List ℕ) (l0 : Option (List ℕ)) (b1 : List ℕ) (l1 : Option (List ℕ)) (b2 : List ℕ)
+    (l2 : Option (List ℕ)) → Took b0 l0 b1 l1 line → Took b1 l1 b2 l2 trailers → IsChunkHead line 0 → IsPart Trailers trailers n → (taken : List ℕ)
+    × AddsChunk body body Last taken × Took b0 l0 b2 l2 taken
 adds_last body line trailers n b0 l0 b1 l1 b2 l2 first second head are = (
   line ++ trailers,
   (
@@ -92,7 +104,8 @@ adds_last body line trailers n b0 l0 b1 l1 b2 l2 first second head are = (
 )
 
 -- a line of a chunk that fits
-pub fits_by : (sofar line : List ℕ) (size : ℕ) → IsChunkHead line size → size ≢ 0 → length sofar ≤ 68157440 → size ≤ 68157440 - length sofar → Fits sofar line size
+pub fits_by : (sofar line : List ℕ) (size : ℕ) → IsChunkHead line size → size ≢ 0 → length sofar ≤ 68157440 → size ≤ 68157440 - length sofar
+    → Fits sofar line size
 fits_by sofar line size head some few room = record { head = head; some = omega (arith, some); few = omega (arith, few, room) }
 
 -- what follows says what the whole body does
@@ -117,6 +130,7 @@ leads_last old new t u lead adds more =
     subst Says (sym (append_assoc t u more)) (lead (u ++ more) (Ok new) (subst Body (sym adds.0) (adds.1 more)))
 
 -- a fault after chunks
-pub stops_leads : (body b0 : List ℕ) (l0 : Option (List ℕ)) (b1 : List ℕ) (l1 l2 : Option (List ℕ)) (t : List ℕ) (f : MessageFault) → Took b0 l0 b1 l1 t → Leads body t → Stops (IsChunkFault body) b1 l1 l2 f → Stops (IsChunkFault []) b0 l0 l2 f
+pub stops_leads : (body b0 : List ℕ) (l0 : Option (List ℕ)) (b1 : List ℕ) (l1 l2 : Option (List ℕ)) (t : List ℕ) (f : MessageFault) → Took b0 l0 b1 l1 t
+    → Leads body t → Stops (IsChunkFault body) b1 l1 l2 f → Stops (IsChunkFault []) b0 l0 l2 f
 stops_leads body b0 l0 b1 l1 l2 t f took lead stops =
     stops_after (IsChunkFault body) (IsChunkFault []) b0 l0 b1 l1 l2 t f took stops (λ input g p. lead input (Err g) p)

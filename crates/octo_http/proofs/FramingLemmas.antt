@@ -36,11 +36,13 @@ no_number text not_text = by (list_all is_ascii_digit text) refl
     by false digits = rw digits refl
 
 -- lengths alone
-pub by_lengths : (lengths codings : List (List ℕ)) (text : List ℕ) (r : Option Framing) → Some text ≡ first_of lengths → None ≡ first_of codings → r ≡ (if list_all (λ v. bytes_eq v text) lengths then option_map Length (whole_number text 18) else None) → r ≡ framing_by lengths codings
+pub by_lengths : (lengths codings : List (List ℕ)) (text : List ℕ) (r : Option Framing) → Some text ≡ first_of lengths → None ≡ first_of codings
+    → r ≡ (if list_all (λ v. bytes_eq v text) lengths then option_map Length (whole_number text 18) else None) → r ≡ framing_by lengths codings
 by_lengths [] codings text r a b is = cc
 by_lengths (first ∷ lengths) (coding ∷ codings) text r a b is = cc
 by_lengths (first ∷ lengths) [] text r a b is =
     let same : text ≡ first = cc in
     let Is : List ℕ → Type 0 = λ t. r ≡ (if list_all (λ v. bytes_eq v t) (first ∷ lengths) then option_map Length (whole_number t 18) else None) in
     let here : Is first = subst Is same is in
-    here ∙ ap (λ (b : Bool). if (b && list_all (λ v. bytes_eq v first) lengths) then option_map Length (whole_number first 18) else None) ((bytes_eq-Decides first first).1 refl)
+    here ∙ ap (λ (b : Bool). if (b && list_all (λ v. bytes_eq v first) lengths) then option_map Length (whole_number first 18) else None)
+    ((bytes_eq-Decides first first).1 refl)

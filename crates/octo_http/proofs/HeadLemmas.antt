@@ -24,7 +24,8 @@ front_is bytes h n long reads =
     (reads.0, ap (λ text. take n text) reads.1 ∙ take_at (print_request h) (drop n bytes) n (sym long) ∙ sym (append-nil (print_request h)))
 
 -- a head that was found is one within the limits
-pub found_within : (bytes : List ℕ) (spans : List HeaderSpan) (r : RequestSpans) (h : RequestHead) → IsRequestWithin bytes spans r → IsRequestAt bytes spans r h → length bytes ≤ 16384 → length spans ≡ 64 → IsHeadOf (take r.len bytes) h
+pub found_within : (bytes : List ℕ) (spans : List HeaderSpan) (r : RequestSpans) (h : RequestHead) → IsRequestWithin bytes spans r
+    → IsRequestAt bytes spans r h → length bytes ≤ 16384 → length spans ≡ 64 → IsHeadOf (take r.len bytes) h
 found_within bytes spans r h within at short room = record {
   reads = front_is bytes h r.len at.len at.reads;
   short = omega (arith, length-take r.len bytes, short);
@@ -32,7 +33,8 @@ found_within bytes spans r h within at short room = record {
 }
 
 -- a head whose fields contradict each other
-pub unframed_at : (bytes : List ℕ) (spans : List HeaderSpan) (r : RequestSpans) → IsRequestWithin bytes spans r → IsRequestOf bytes spans r → length bytes ≤ 16384 → length spans ≡ 64 → None ≡ framing_of (map (header_bytes bytes) (take r.headers spans)) → IsUnframed (take r.len bytes)
+pub unframed_at : (bytes : List ℕ) (spans : List HeaderSpan) (r : RequestSpans) → IsRequestWithin bytes spans r → IsRequestOf bytes spans r
+    → length bytes ≤ 16384 → length spans ≡ 64 → None ≡ framing_of (map (header_bytes bytes) (take r.headers spans)) → IsUnframed (take r.len bytes)
 unframed_at bytes spans r within of short room none =
     (of.0, found_within bytes spans r of.0 within of.1 short room, sym (none ∙ ap framing_of of.1.fields))
 
@@ -56,7 +58,8 @@ refused_head bytes BadHead (inr found) = λ more.
     let first : List ℕ = take found.0 front in
     let rest : List ℕ = drop found.0 front ++ drop 16384 bytes in
     let split : bytes ≡ first ++ rest =
-    sym (take-append-drop 16384 bytes) ∙ ap (λ text. text ++ drop 16384 bytes) (sym (take-append-drop found.0 front)) ∙ append_assoc first (drop found.0 front) (drop 16384 bytes) in
+    sym (take-append-drop 16384 bytes) ∙ ap (λ text. text ++ drop 16384 bytes) (sym (take-append-drop found.0 front)) ∙ append_assoc first
+    (drop found.0 front) (drop 16384 bytes) in
     let Fault : List ℕ → Type 0 = λ text. HeadFault text BadHead in
     subst Fault (sym (ap (λ text. text ++ more) split ∙ append_assoc first rest more)) (unframed first (rest ++ more) found.2)
 refused_head bytes HeadTooLarge e = λ more.
@@ -92,7 +95,8 @@ headless front bytes c is few still =
     record { few = few; looked = λ _. cut_head bytes few (subst None same still.none) (subst May same still.may) }
 
 -- a head that was found is taken
-pub takes_head : (most : ℕ) (front : List ℕ) (i i' : IntakeData) (found : Found) → front ≡ take most i.bytes → IsFound front found → i' ≡ record i { bytes = drop found.length i.bytes } → TakesHead i i' found.head
+pub takes_head : (most : ℕ) (front : List ℕ) (i i' : IntakeData) (found : Found) → front ≡ take most i.bytes → IsFound front found
+    → i' ≡ record i { bytes = drop found.length i.bytes } → TakesHead i i' found.head
 takes_head most front i i' found is at same =
     let first : take found.length front ≡ take found.length i.bytes =
     sym (take-append-le found.length front (drop most i.bytes) at.within)
@@ -109,6 +113,7 @@ takes_head most front i i' found is at same =
     })
 
 -- a head that was taken after reads
-pub took_head : (i i' : IntakeData) (b0 : List ℕ) (l0 l : Option (List ℕ)) (head : Head) → Took b0 l0 i.bytes l [] → TakesHead i i' head → (taken : List ℕ) × IsHead taken head × Took b0 l0 i'.bytes l taken
+pub took_head : (i i' : IntakeData) (b0 : List ℕ) (l0 l : Option (List ℕ)) (head : Head) → Took b0 l0 i.bytes l [] → TakesHead i i' head
+    → (taken : List ℕ) × IsHead taken head × Took b0 l0 i'.bytes l taken
 took_head i i' b0 l0 l head took takes =
     (takes.taken, takes.is, took_then b0 l0 i.bytes l i'.bytes l [] takes.taken took (took_front i.bytes l i'.bytes takes.taken takes.split))

@@ -25,14 +25,16 @@ is_err (Ok x) e is = absurd is
 is_err (Err f) e is = ap Err is
 
 -- too few bytes for a length
-pub stops_length : (n : ℕ) (b0 : List ℕ) (l0 l : Option (List ℕ)) (f : MessageFault) → n ≤ 68157440 → Stops (IsShort n) b0 l0 l f → Stops (IsBodyFault (Length n)) b0 l0 l f
+pub stops_length : (n : ℕ) (b0 : List ℕ) (l0 l : Option (List ℕ)) (f : MessageFault) → n ≤ 68157440 → Stops (IsShort n) b0 l0 l f
+    → Stops (IsBodyFault (Length n)) b0 l0 l f
 stops_length n b0 l0 l f few stops =
     stops_after (IsShort n) (IsBodyFault (Length n)) b0 l0 b0 l0 l [] f (took_none b0 l0) stops (λ input g p.
     let Says : MessageFault → Type 0 = λ h. BodySays (Length n) input (Err h) in
     subst Says (sym p.0) (short n input few p.1))
 
 -- a body of a length
-pub says_length : (n : ℕ) (body old taken more : List ℕ) → n ≤ 68157440 → old ≡ [] → length taken ≡ n → body ≡ old ++ taken → BodySays (Length n) (taken ++ more) (Ok body)
+pub says_length : (n : ℕ) (body old taken more : List ℕ) → n ≤ 68157440 → old ≡ [] → length taken ≡ n → body ≡ old ++ taken
+    → BodySays (Length n) (taken ++ more) (Ok body)
 says_length n body old taken more few none long is =
     let Says : List ℕ → Type 0 = λ text. BodySays (Length n) (taken ++ more) (Ok text) in
     let same : body ≡ taken = is ∙ ap (λ text. text ++ taken) none in
@@ -46,16 +48,19 @@ says_none framing body is none more =
     subst At (sym is) (subst Says (sym none) (no_body more))
 
 -- a body in chunks
-pub says_chunked : (framing : Framing) (body taken : List ℕ) → framing ≡ Chunked → ((more : List ℕ) → chunks.Chunked [] (taken ++ more) (Ok body)) → (more : List ℕ) → BodySays framing (taken ++ more) (Ok body)
+pub says_chunked : (framing : Framing) (body taken : List ℕ) → framing ≡ Chunked → ((more : List ℕ) → chunks.Chunked [] (taken ++ more) (Ok body))
+    → (more : List ℕ) → BodySays framing (taken ++ more) (Ok body)
 says_chunked framing body taken is says more =
     let At : Framing → Type 0 = λ f. BodySays f (taken ++ more) (Ok body) in
     subst At (sym is) (in_chunks (taken ++ more) (Ok body) (says more))
 
 -- a fault in chunks
-pub stops_chunked : (framing : Framing) (b0 : List ℕ) (l0 l : Option (List ℕ)) (f : MessageFault) → framing ≡ Chunked → Stops (chunks.IsChunkFault []) b0 l0 l f → Stops (IsBodyFault framing) b0 l0 l f
+pub stops_chunked : (framing : Framing) (b0 : List ℕ) (l0 l : Option (List ℕ)) (f : MessageFault) → framing ≡ Chunked
+    → Stops (chunks.IsChunkFault []) b0 l0 l f → Stops (IsBodyFault framing) b0 l0 l f
 stops_chunked framing b0 l0 l f is stops =
     let At : Framing → Type 0 = λ g. Stops (IsBodyFault g) b0 l0 l f in
-    subst At (sym is) (stops_after (chunks.IsChunkFault []) (IsBodyFault Chunked) b0 l0 b0 l0 l [] f (took_none b0 l0) stops (λ input g p. in_chunks input (Err g) p))
+    subst At (sym is)
+    (stops_after (chunks.IsChunkFault []) (IsBodyFault Chunked) b0 l0 b0 l0 l [] f (took_none b0 l0) stops (λ input g p. in_chunks input (Err g) p))
 
 -- what a client is given leave by is a prefix of the leave
 pub asked_prefix : (head : Head) → (n : ℕ) × (asked head ≡ take n leave)
@@ -93,7 +98,8 @@ head_answer input left NoMemory h = (0, refl)
 head_answer input left (Slow n) h = (h.0, h.1, h.2, h.3, no_head h.0 Ended h.4)
 
 -- a fault of the body is the answer
-pub body_answer : (bytes rest input : List ℕ) (left : Option (List ℕ)) (head : Head) (f : MessageFault) → IsHead bytes head → input ≡ bytes ++ rest → IsFaultOf (IsBodyFault head.framing) rest left f → Answers input left (Err f) (asked head)
+pub body_answer : (bytes rest input : List ℕ) (left : Option (List ℕ)) (head : Head) (f : MessageFault) → IsHead bytes head → input ≡ bytes ++ rest
+    → IsFaultOf (IsBodyFault head.framing) rest left f → Answers input left (Err f) (asked head)
 body_answer bytes rest input left head f is split fault =
     let Answer : List ℕ → Type 0 = λ text. Answers text left (Err f) (asked head) in
     subst Answer (sym split) (by f fault)
@@ -112,7 +118,8 @@ body_answer bytes rest input left head f is split fault =
     by (Slow n) h = cut h
 
 -- a message is the answer
-pub message_answer : (bytes taken more input : List ℕ) (left : Option (List ℕ)) (head : Head) (body : List ℕ) → IsHead bytes head → input ≡ bytes ++ (taken ++ more) → BodySays head.framing (taken ++ more) (Ok body) → Answers input left (Ok (message_of head body)) (asked head)
+pub message_answer : (bytes taken more input : List ℕ) (left : Option (List ℕ)) (head : Head) (body : List ℕ) → IsHead bytes head
+    → input ≡ bytes ++ (taken ++ more) → BodySays head.framing (taken ++ more) (Ok body) → Answers input left (Ok (message_of head body)) (asked head)
 message_answer bytes taken more input left head body is split says =
     let Answer : List ℕ → Type 0 = λ text. Answers text left (Ok (message_of head body)) (asked head) in
     subst Answer (sym split) (message bytes (taken ++ more) head body is says)
@@ -123,25 +130,29 @@ writes_all old new sent Says adds says =
     ((sent, says), became_so old new (λ _ added. added ≡ sent) (λ _ added. Says added) adds (λ past added is. subst Says (sym is) says))
 
 -- part of it was written
-pub writes_part : (old new : Option (List ℕ)) (list : List ℕ) (Says : List ℕ → Type 0) → AddsPrefix old new list → ((n : ℕ) → Says (take n list)) → Writes old new Says
+pub writes_part : (old new : Option (List ℕ)) (list : List ℕ) (Says : List ℕ → Type 0) → AddsPrefix old new list → ((n : ℕ) → Says (take n list))
+    → Writes old new Says
 writes_part old new list Says adds says =
     ((take 0 list, says 0), became_so old new (λ _ added. (n : ℕ) × (added ≡ take n list)) (λ _ added. Says added) adds (λ past added is. subst Says (sym is.1) (says is.0)))
 
 -- the leave, or part of it
 pub bounded_all : (old new : Option (List ℕ)) (head : Head) → Adds old new (asked head) → AddsPrefix old new leave
 bounded_all old new head adds =
-    became_so old new (λ _ added. added ≡ asked head) (λ _ added. (n : ℕ) × (added ≡ take n leave)) adds (λ past added is. let p = asked_prefix head in (p.0, is ∙ p.1))
+    became_so old new (λ _ added. added ≡ asked head) (λ _ added. (n : ℕ) × (added ≡ take n leave)) adds
+    (λ past added is. let p = asked_prefix head in (p.0, is ∙ p.1))
 
 pub bounded_part : (old new : Option (List ℕ)) (head : Head) → AddsPrefix old new (asked head) → AddsPrefix old new leave
 bounded_part old new head adds =
-    became_so old new (λ _ added. (n : ℕ) × (added ≡ take n (asked head))) (λ _ added. (n : ℕ) × (added ≡ take n leave)) adds (λ past added is. let p = prefix_prefix head is.0 in (p.0, is.1 ∙ p.1))
+    became_so old new (λ _ added. (n : ℕ) × (added ≡ take n (asked head))) (λ _ added. (n : ℕ) × (added ≡ take n leave)) adds
+    (λ past added is. let p = prefix_prefix head is.0 in (p.0, is.1 ∙ p.1))
 
 pub bounded_none : (old new : Option (List ℕ)) → Adds old new [] → AddsPrefix old new leave
 bounded_none old new adds =
     became_so old new (λ _ added. added ≡ []) (λ _ added. (n : ℕ) × (added ≡ take n leave)) adds (λ past added is. (0, is))
 
 -- reads of a head and then of a body
-pub waits_both : (a b c : IntakeData) (f0 f1 f2 f3 q0 q1 q2 q3 : ℕ) → Waits a b f0 f1 q0 q1 → q2 ≡ q1 → f1 ≤ f2 → Waits b c f2 f3 q2 q3 → Waits a c f0 f3 q0 q3
+pub waits_both : (a b c : IntakeData) (f0 f1 f2 f3 q0 q1 q2 q3 : ℕ) → Waits a b f0 f1 q0 q1 → q2 ≡ q1 → f1 ≤ f2 → Waits b c f2 f3 q2 q3
+    → Waits a c f0 f3 q0 q3
 waits_both a b c f0 f1 f2 f3 q0 q1 q2 q3 first same more second =
     waits_then a b c f0 f2 f3 q0 q2 q3
     (record {
@@ -154,12 +165,14 @@ waits_both a b c f0 f1 f2 f3 q0 q1 q2 q3 first same more second =
     second
 
 -- a message is read with patience
-pub patient_ok : (patience : ℕ) (i : IntakeData) (f0 f1 q0 q1 : ℕ) (m : Message) → Waits (record { bytes = []; patience = patience; allowed = patience }) i f0 f1 q0 q1 → IsPatient patience q0 q1 (Ok m)
+pub patient_ok : (patience : ℕ) (i : IntakeData) (f0 f1 q0 q1 : ℕ) (m : Message)
+    → Waits (record { bytes = []; patience = patience; allowed = patience }) i f0 f1 q0 q1 → IsPatient patience q0 q1 (Ok m)
 patient_ok patience i f0 f1 q0 q1 m waits =
     record { more = waits.quiet; most = λ below. omega (arith, waits.counted below); slow = tt }
 
 -- and so is a fault
-pub patient_err : (patience : ℕ) (i : IntakeData) (f0 f1 g q0 q1 : ℕ) (e : MessageFault) → Waits (record { bytes = []; patience = patience; allowed = patience }) i f0 f1 q0 q1 → HasCause i g f1 e → IsPatient patience q0 q1 (Err e)
+pub patient_err : (patience : ℕ) (i : IntakeData) (f0 f1 g q0 q1 : ℕ) (e : MessageFault)
+    → Waits (record { bytes = []; patience = patience; allowed = patience }) i f0 f1 q0 q1 → HasCause i g f1 e → IsPatient patience q0 q1 (Err e)
 patient_err patience i f0 f1 g q0 q1 e waits cause =
     record { more = waits.quiet; most = λ below. omega (arith, waits.counted below); slow = by e cause }
   where
@@ -174,7 +187,8 @@ patient_err patience i f0 f1 g q0 q1 e waits cause =
     by (Slow n) h = (h.0 ∙ waits.same, λ below. omega (arith, waits.counted below, h.1))
 
 -- a failed call was counted
-pub failed_at : {A : Type 0} (i : IntakeData) (f0 f1 : ℕ) (e : MessageFault) → HasCause i f0 f1 e → ◌≡◌ {A = Result A MessageFault} (Err e) (Err ReadFault) → Rose f0 f1
+pub failed_at : {A : Type 0} (i : IntakeData) (f0 f1 : ℕ) (e : MessageFault) → HasCause i f0 f1 e → ◌≡◌ {A = Result A MessageFault} (Err e) (Err ReadFault)
+    → Rose f0 f1
 failed_at i f0 f1 BadHead cause is = absurd (cc)
 failed_at i f0 f1 HeadTooLarge cause is = absurd (cc)
 failed_at i f0 f1 BodyTooLarge cause is = absurd (cc)
@@ -189,15 +203,20 @@ adds_same : (old new : Option (List ℕ)) → new ≡ old → Adds old new []
 adds_same old new same = let Added : Option (List ℕ) → Type 0 = λ w. Adds old w [] in subst Added (sym same) (adds_none old)
 
 -- the answer at a fault of the head
-pub head_fault : (p : ℕ) (i : IntakeData) (left left' old new : Option (List ℕ)) (r : Result Message MessageFault) (f : MessageFault) → i ≡ record { bytes = []; patience = p; allowed = p } → Stops HeadFault i.bytes left left' f → new ≡ old → IsErrAnd r (λ g. g ≡ f) → (input : List ℕ) → left ≡ Some input → Writes old new (Answers input left' r)
+pub head_fault : (p : ℕ) (i : IntakeData) (left left' old new : Option (List ℕ)) (r : Result Message MessageFault) (f : MessageFault)
+    → i ≡ record { bytes = []; patience = p; allowed = p } → Stops HeadFault i.bytes left left' f → new ≡ old → IsErrAnd r (λ g. g ≡ f) → (input : List ℕ)
+    → left ≡ Some input → Writes old new (Answers input left' r)
 head_fault p i left left' old new r f begun stops same is input told =
     let Stopped : IntakeData → Type 0 = λ j. Stops HeadFault j.bytes left left' f in
     let stopped : Stops HeadFault [] left left' f = subst Stopped begun stops in
     let Says : Result Message MessageFault → Type 0 = λ q. Writes old new (Answers input left' q) in
-    subst Says (sym (is_err r f is)) (writes_all old new [] (Answers input left' (Err f)) (adds_same old new same) (head_answer input left' f (stopped input (holds_all input left told))))
+    subst Says (sym (is_err r f is))
+    (writes_all old new [] (Answers input left' (Err f)) (adds_same old new same) (head_answer input left' f (stopped input (holds_all input left told))))
 
 -- what is known of the input after the head was taken
-after_head : (p : ℕ) (i : IntakeData) (left : Option (List ℕ)) (b1 : List ℕ) (left1 left2 : Option (List ℕ)) (bytes : List ℕ) → i ≡ record { bytes = []; patience = p; allowed = p } → Took i.bytes left b1 left1 bytes → left2 ≡ left1 → (input : List ℕ) → left ≡ Some input → (rest : List ℕ) × (input ≡ bytes ++ rest) × Holds b1 left2 rest
+after_head : (p : ℕ) (i : IntakeData) (left : Option (List ℕ)) (b1 : List ℕ) (left1 left2 : Option (List ℕ)) (bytes : List ℕ)
+    → i ≡ record { bytes = []; patience = p; allowed = p } → Took i.bytes left b1 left1 bytes → left2 ≡ left1 → (input : List ℕ) → left ≡ Some input
+    → (rest : List ℕ) × (input ≡ bytes ++ rest) × Holds b1 left2 rest
 after_head p i left b1 left1 left2 bytes begun took same input told =
     let Takes : IntakeData → Type 0 = λ j. Took j.bytes left b1 left1 bytes in
     let takes : Took [] left b1 left1 bytes = subst Takes begun took in
@@ -205,11 +224,14 @@ after_head p i left b1 left1 left2 bytes begun took same input told =
     (one.0, one.1, record { rest = one.2.rest; known = same ∙ one.2.known; is = one.2.is })
 
 -- the answer if the leave can't be written
-pub leave_fault : (p : ℕ) (i : IntakeData) (left : Option (List ℕ)) (b1 : List ℕ) (left1 left2 old mid new : Option (List ℕ)) (head : Head) → i ≡ record { bytes = []; patience = p; allowed = p } → ((bytes : List ℕ) × IsHead bytes head × Took i.bytes left b1 left1 bytes) → left2 ≡ left1 → mid ≡ old → AddsPrefix mid new (asked head) → (input : List ℕ) → left ≡ Some input → Writes old new (Answers input left2 (Err ReadFault))
+pub leave_fault : (p : ℕ) (i : IntakeData) (left : Option (List ℕ)) (b1 : List ℕ) (left1 left2 old mid new : Option (List ℕ)) (head : Head)
+    → i ≡ record { bytes = []; patience = p; allowed = p } → ((bytes : List ℕ) × IsHead bytes head × Took i.bytes left b1 left1 bytes) → left2 ≡ left1
+    → mid ≡ old → AddsPrefix mid new (asked head) → (input : List ℕ) → left ≡ Some input → Writes old new (Answers input left2 (Err ReadFault))
 leave_fault p i left b1 left1 left2 old mid new head begun taken same kept adds input told =
     let after = after_head p i left b1 left1 left2 taken.0 begun taken.2 same input told in
     let Added : Option (List ℕ) → Type 0 = λ w. AddsPrefix w new (asked head) in
-    writes_part old new (asked head) (Answers input left2 (Err ReadFault)) (subst Added kept adds) (λ n. inr (taken.0, after.0, head, n, after.1, taken.1, refl))
+    writes_part old new (asked head) (Answers input left2 (Err ReadFault)) (subst Added kept adds)
+    (λ n. inr (taken.0, after.0, head, n, after.1, taken.1, refl))
 
 -- the leave was written, and nothing else
 pub asked_only : (old mid next new : Option (List ℕ)) (head : Head) → mid ≡ old → Adds mid next (asked head) → new ≡ next → Adds old new (asked head)
@@ -219,7 +241,10 @@ asked_only old mid next new head first adds last =
     subst To (sym last) (subst From first adds)
 
 -- the answer at a fault of the body
-pub body_fault : (p : ℕ) (i : IntakeData) (left : Option (List ℕ)) (b1 : List ℕ) (left1 left2 left3 old mid next new : Option (List ℕ)) (head : Head) (r : Result Message MessageFault) (f : MessageFault) → i ≡ record { bytes = []; patience = p; allowed = p } → ((bytes : List ℕ) × IsHead bytes head × Took i.bytes left b1 left1 bytes) → left2 ≡ left1 → mid ≡ old → Adds mid next (asked head) → new ≡ next → Stops (IsBodyFault head.framing) b1 left2 left3 f → IsErrAnd r (λ g. g ≡ f) → (input : List ℕ) → left ≡ Some input → Writes old new (Answers input left3 r)
+pub body_fault : (p : ℕ) (i : IntakeData) (left : Option (List ℕ)) (b1 : List ℕ) (left1 left2 left3 old mid next new : Option (List ℕ)) (head : Head)
+    (r : Result Message MessageFault) (f : MessageFault) → i ≡ record { bytes = []; patience = p; allowed = p } →
+    ((bytes : List ℕ) × IsHead bytes head × Took i.bytes left b1 left1 bytes) → left2 ≡ left1 → mid ≡ old → Adds mid next (asked head) → new ≡ next → Stops
+    (IsBodyFault head.framing) b1 left2 left3 f → IsErrAnd r (λ g. g ≡ f) → (input : List ℕ) → left ≡ Some input → Writes old new (Answers input left3 r)
 body_fault p i left b1 left1 left2 left3 old mid next new head r f begun taken same first adds last stops is input told =
     let after = after_head p i left b1 left1 left2 taken.0 begun taken.2 same input told in
     let Says : Result Message MessageFault → Type 0 = λ q. Writes old new (Answers input left3 q) in
@@ -227,7 +252,11 @@ body_fault p i left b1 left1 left2 left3 old mid next new head r f begun taken s
     (body_answer taken.0 after.0 input left3 head f taken.1 after.1 (stops after.0 after.2)))
 
 -- the answer if all is read
-pub message_read : (p : ℕ) (i : IntakeData) (left : Option (List ℕ)) (b1 b2 : List ℕ) (left1 left2 left3 old mid next new : Option (List ℕ)) (head : Head) (body : List ℕ) (m : Message) → i ≡ record { bytes = []; patience = p; allowed = p } → ((bytes : List ℕ) × IsHead bytes head × Took i.bytes left b1 left1 bytes) → left2 ≡ left1 → mid ≡ old → Adds mid next (asked head) → new ≡ next → ((taken : List ℕ) × ((more : List ℕ) → BodySays head.framing (taken ++ more) (Ok body)) × Took b1 left2 b2 left3 taken) → m ≡ message_of head body → (input : List ℕ) → left ≡ Some input → Writes old new (Answers input left3 (Ok m))
+pub message_read : (p : ℕ) (i : IntakeData) (left : Option (List ℕ)) (b1 b2 : List ℕ) (left1 left2 left3 old mid next new : Option (List ℕ)) (head : Head)
+    (body : List ℕ) (m : Message) → i ≡ record { bytes = []; patience = p; allowed = p } →
+    ((bytes : List ℕ) × IsHead bytes head × Took i.bytes left b1 left1 bytes) → left2 ≡ left1 → mid ≡ old → Adds mid next (asked head) → new ≡ next →
+    ((taken : List ℕ) × ((more : List ℕ) → BodySays head.framing (taken ++ more) (Ok body)) × Took b1 left2 b2 left3 taken) → m ≡ message_of head body →
+    (input : List ℕ) → left ≡ Some input → Writes old new (Answers input left3 (Ok m))
 message_read p i left b1 b2 left1 left2 left3 old mid next new head body m begun taken same first adds last read is input told =
     let after = after_head p i left b1 left1 left2 taken.0 begun taken.2 same input told in
     let later = read.2 after.0 after.2 in
@@ -246,25 +275,29 @@ bounded_cut old mid new head kept adds =
     bounded_part old new head (subst Added kept adds)
 
 -- the patience at a fault
-pub patient_at : (p : ℕ) (i0 i : IntakeData) (f0 f1 g q0 q1 : ℕ) (r : Result Message MessageFault) (e : MessageFault) → i0 ≡ record { bytes = []; patience = p; allowed = p } → Waits i0 i f0 f1 q0 q1 → HasCause i g f1 e → IsErrAnd r (λ f. f ≡ e) → IsPatient p q0 q1 r
+pub patient_at : (p : ℕ) (i0 i : IntakeData) (f0 f1 g q0 q1 : ℕ) (r : Result Message MessageFault) (e : MessageFault)
+    → i0 ≡ record { bytes = []; patience = p; allowed = p } → Waits i0 i f0 f1 q0 q1 → HasCause i g f1 e → IsErrAnd r (λ f. f ≡ e) → IsPatient p q0 q1 r
 patient_at p i0 i f0 f1 g q0 q1 r e begun waits cause is =
     let From : IntakeData → Type 0 = λ j. Waits j i f0 f1 q0 q1 in
     let At : Result Message MessageFault → Type 0 = λ s. IsPatient p q0 q1 s in
     subst At (sym (is_err r e is)) (patient_err p i f0 f1 g q0 q1 e (subst From begun waits) cause)
 
 -- the patience if the leave can't be written
-pub patient_leave : (p : ℕ) (i0 i : IntakeData) (f0 f1 q0 q1 q2 : ℕ) → i0 ≡ record { bytes = []; patience = p; allowed = p } → Waits i0 i f0 f1 q0 q1 → q2 ≡ q1 → IsPatient p q0 q2 (Err ReadFault)
+pub patient_leave : (p : ℕ) (i0 i : IntakeData) (f0 f1 q0 q1 q2 : ℕ) → i0 ≡ record { bytes = []; patience = p; allowed = p } → Waits i0 i f0 f1 q0 q1
+    → q2 ≡ q1 → IsPatient p q0 q2 (Err ReadFault)
 patient_leave p i0 i f0 f1 q0 q1 q2 begun waits same =
     let From : IntakeData → Type 0 = λ j. Waits j i f0 f1 q0 q1 in
     let here : Waits (record { bytes = []; patience = p; allowed = p }) i f0 f1 q0 q1 = subst From begun waits in
     record { more = omega (arith, here.quiet, same); most = λ below. omega (arith, here.counted (omega (arith, below, same)), same); slow = tt }
 
 -- the patience if all is read
-pub patient_read : (p : ℕ) (i0 i : IntakeData) (f0 f1 q0 q1 : ℕ) (m : Message) → i0 ≡ record { bytes = []; patience = p; allowed = p } → Waits i0 i f0 f1 q0 q1 → IsPatient p q0 q1 (Ok m)
+pub patient_read : (p : ℕ) (i0 i : IntakeData) (f0 f1 q0 q1 : ℕ) (m : Message) → i0 ≡ record { bytes = []; patience = p; allowed = p }
+    → Waits i0 i f0 f1 q0 q1 → IsPatient p q0 q1 (Ok m)
 patient_read p i0 i f0 f1 q0 q1 m begun waits =
     let From : IntakeData → Type 0 = λ j. Waits j i f0 f1 q0 q1 in
     patient_ok p i f0 f1 q0 q1 m (subst From begun waits)
 
 -- a failed call was counted, if that is the fault
-pub failed_with : (i : IntakeData) (f0 f1 : ℕ) (r : Result Message MessageFault) (e : MessageFault) → HasCause i f0 f1 e → IsErrAnd r (λ f. f ≡ e) → r ≡ Err ReadFault → Rose f0 f1
+pub failed_with : (i : IntakeData) (f0 f1 : ℕ) (r : Result Message MessageFault) (e : MessageFault) → HasCause i f0 f1 e → IsErrAnd r (λ f. f ≡ e)
+    → r ≡ Err ReadFault → Rose f0 f1
 failed_with i f0 f1 r e cause is fault = failed_at i f0 f1 e cause (sym (is_err r e is) ∙ fault)

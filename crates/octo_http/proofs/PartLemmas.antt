@@ -49,7 +49,8 @@ ends_at_once bytes short occurs =
     }
 
 -- an empty line after other lines
-pub ends_later : (bytes : List ℕ) (place : ℕ) → length bytes ≤ 16384 → ¬ (OccursAt bytes crlf 0) → NoneBefore (OccursAt bytes crlf_crlf) 0 (length bytes + 1) place → OccursAt bytes crlf_crlf place → IsFoundPart Trailers bytes (0, place + 4)
+pub ends_later : (bytes : List ℕ) (place : ℕ) → length bytes ≤ 16384 → ¬ (OccursAt bytes crlf 0)
+    → NoneBefore (OccursAt bytes crlf_crlf) 0 (length bytes + 1) place → OccursAt bytes crlf_crlf place → IsFoundPart Trailers bytes (0, place + 4)
 ends_later bytes place short not_first none occurs =
     let n : ℕ = place + 4 in
     let within : place + 4 ≤ length bytes = occurs.fits in
@@ -85,7 +86,8 @@ never_more LineEnd front rest never = other_more front rest never
 never_more Trailers front rest never = absurd never
 
 -- a look at the first bytes that refuses them
-pub refuses_part : (part : Part) (front bytes : List ℕ) (f : MessageFault) → front ≡ take (most_of part) bytes → (f ≡ BadChunk) × IsNoPart part front → Refuses (PartFault part) bytes f
+pub refuses_part : (part : Part) (front bytes : List ℕ) (f : MessageFault) → front ≡ take (most_of part) bytes → (f ≡ BadChunk) × IsNoPart part front
+    → Refuses (PartFault part) bytes f
 refuses_part part front bytes f is refused =
     let Refused : MessageFault → Type 0 = λ g. Refuses (PartFault part) bytes g in
     let No : List ℕ → Type 0 = λ text. IsNoPart part text in
@@ -94,21 +96,24 @@ refuses_part part front bytes f is refused =
     no_part part (bytes ++ more) (subst No (sym (ahead.1 ∙ ap (λ text. text ++ ahead.0) (sym is))) (never_more part front ahead.0 refused.1)))
 
 -- bytes that are enough for a part and hold none
-pub too_long : (part : Part) (front bytes : List ℕ) → front ≡ take (most_of part) bytes → most_of part ≤ length bytes → IsPartial part front → Refuses (PartFault part) bytes BadChunk
+pub too_long : (part : Part) (front bytes : List ℕ) → front ≡ take (most_of part) bytes → most_of part ≤ length bytes → IsPartial part front
+    → Refuses (PartFault part) bytes BadChunk
 too_long part front bytes is long partial = λ more.
     let same : take (most_of part) (bytes ++ more) ≡ front = take-append-le (most_of part) bytes more long ∙ sym is in
     let Partial : List ℕ → Type 0 = λ text. IsPartial part text in
     long_part part (bytes ++ more) (omega (arith, length-append bytes more, long)) (subst Partial (sym same) partial)
 
 -- bytes that are too few for a refusal
-pub partless : (part : Part) (front bytes : List ℕ) (c : Came) → front ≡ take (most_of part) bytes → length bytes < most_of part → IsPartial part front → Lacks (PartFault part) (most_of part) bytes c
+pub partless : (part : Part) (front bytes : List ℕ) (c : Came) → front ≡ take (most_of part) bytes → length bytes < most_of part → IsPartial part front
+    → Lacks (PartFault part) (most_of part) bytes c
 partless part front bytes c is few partial =
     let same : front ≡ bytes = is ∙ take_all (most_of part) bytes (omega arith) in
     let Partial : List ℕ → Type 0 = λ text. IsPartial part text in
     record { few = few; looked = λ _. cut_part part bytes few (subst Partial same partial) }
 
 -- a part that was found is taken
-pub takes_part : (part : Part) (most : ℕ) (front : List ℕ) (i i' : IntakeData) (found : ℕ × ℕ) → front ≡ take most i.bytes → IsFoundPart part front found → i' ≡ record i { bytes = drop found.1 i.bytes } → TakesPart part i i' found.0
+pub takes_part : (part : Part) (most : ℕ) (front : List ℕ) (i i' : IntakeData) (found : ℕ × ℕ) → front ≡ take most i.bytes → IsFoundPart part front found
+    → i' ≡ record i { bytes = drop found.1 i.bytes } → TakesPart part i i' found.0
 takes_part part most front i i' found is at same =
     let first : take found.1 front ≡ take found.1 i.bytes =
     sym (take-append-le found.1 front (drop most i.bytes) at.within)
@@ -125,7 +130,8 @@ takes_part part most front i i' found is at same =
     })
 
 -- a part that was taken after reads
-pub took_part : (part : Part) (i i' : IntakeData) (b0 : List ℕ) (l0 l : Option (List ℕ)) (n : ℕ) → Took b0 l0 i.bytes l [] → TakesPart part i i' n → (taken : List ℕ) × IsPart part taken n × Took b0 l0 i'.bytes l taken
+pub took_part : (part : Part) (i i' : IntakeData) (b0 : List ℕ) (l0 l : Option (List ℕ)) (n : ℕ) → Took b0 l0 i.bytes l [] → TakesPart part i i' n
+    → (taken : List ℕ) × IsPart part taken n × Took b0 l0 i'.bytes l taken
 took_part part i i' b0 l0 l n took takes =
     (takes.taken, takes.is, took_then b0 l0 i.bytes l i'.bytes l [] takes.taken took (took_front i.bytes l i'.bytes takes.taken takes.split))
 

@@ -14,14 +14,16 @@ pub took_none : (bytes : List ℕ) (left : Option (List ℕ)) → Took bytes lef
 took_none bytes left input holds = (input, refl, holds)
 
 -- taken one after the other
-pub took_then : (b0 : List ℕ) (l0 : Option (List ℕ)) (b1 : List ℕ) (l1 : Option (List ℕ)) (b2 : List ℕ) (l2 : Option (List ℕ)) (t u : List ℕ) → Took b0 l0 b1 l1 t → Took b1 l1 b2 l2 u → Took b0 l0 b2 l2 (t ++ u)
+pub took_then : (b0 : List ℕ) (l0 : Option (List ℕ)) (b1 : List ℕ) (l1 : Option (List ℕ)) (b2 : List ℕ) (l2 : Option (List ℕ)) (t u : List ℕ)
+    → Took b0 l0 b1 l1 t → Took b1 l1 b2 l2 u → Took b0 l0 b2 l2 (t ++ u)
 took_then b0 l0 b1 l1 b2 l2 t u first second input holds =
     let one = first input holds in
     let two = second one.0 one.2 in
     (two.0, one.1 ∙ ap (λ rest. t ++ rest) two.1 ∙ sym (append_assoc t u two.0), two.2)
 
 -- a read takes nothing
-pub took_read : (b0 : List ℕ) (l0 : Option (List ℕ)) (b1 : List ℕ) (l1 : Option (List ℕ)) (b2 : List ℕ) (l2 : Option (List ℕ)) (t : List ℕ) → Took b0 l0 b1 l1 t → Took b1 l1 b2 l2 [] → Took b0 l0 b2 l2 t
+pub took_read : (b0 : List ℕ) (l0 : Option (List ℕ)) (b1 : List ℕ) (l1 : Option (List ℕ)) (b2 : List ℕ) (l2 : Option (List ℕ)) (t : List ℕ)
+    → Took b0 l0 b1 l1 t → Took b1 l1 b2 l2 [] → Took b0 l0 b2 l2 t
 took_read b0 l0 b1 l1 b2 l2 t first second input holds =
     let one = first input holds in
     let two = second one.0 one.2 in
@@ -57,7 +59,8 @@ waits_taken a b c f0 f1 q0 q1 first patience allowed = record {
 }
 
 -- what is known of a read holds from an earlier beginning on
-pub knows_since : (c : Came) (i : IntakeData) (b0 : List ℕ) (l0 : Option (List ℕ)) (t b1 : List ℕ) (l1 : Option (List ℕ)) (f0 f1 f2 : ℕ) → Took b0 l0 b1 l1 t → f0 ≤ f1 → f1 ≤ f2 → Knows c i [] b1 l1 f1 f2 → Knows c i t b0 l0 f0 f2
+pub knows_since : (c : Came) (i : IntakeData) (b0 : List ℕ) (l0 : Option (List ℕ)) (t b1 : List ℕ) (l1 : Option (List ℕ)) (f0 f1 f2 : ℕ) → Took b0 l0 b1 l1 t
+    → f0 ≤ f1 → f1 ≤ f2 → Knows c i [] b1 l1 f1 f2 → Knows c i t b0 l0 f0 f2
 knows_since came.Bytes i b0 l0 t b1 l1 f0 f1 f2 took before after knows = knows
 knows_since came.Quiet i b0 l0 t b1 l1 f0 f1 f2 took before after knows = tt
 knows_since came.Ended i b0 l0 t b1 l1 f0 f1 f2 took before after knows =
@@ -65,7 +68,8 @@ knows_since came.Ended i b0 l0 t b1 l1 f0 f1 f2 took before after knows =
 knows_since came.Failed i b0 l0 t b1 l1 f0 f1 f2 took before after knows = rose_after f0 f1 f2 before after knows
 
 -- bytes at hand that have a fault stop a reader
-pub stops_refused : (Says : Grammar) (b0 : List ℕ) (l0 : Option (List ℕ)) (b1 : List ℕ) (l1 : Option (List ℕ)) (f : MessageFault) → Took b0 l0 b1 l1 [] → Refuses Says b1 f → Stops Says b0 l0 l1 f
+pub stops_refused : (Says : Grammar) (b0 : List ℕ) (l0 : Option (List ℕ)) (b1 : List ℕ) (l1 : Option (List ℕ)) (f : MessageFault) → Took b0 l0 b1 l1 []
+    → Refuses Says b1 f → Stops Says b0 l0 l1 f
 stops_refused Says b0 l0 b1 l1 f took refuses input holds =
     let one = took input holds in
     let whole : input ≡ b1 ++ one.2.rest = one.1 ∙ one.2.is in
@@ -94,7 +98,8 @@ caused_refused Says b i f0 f1 NoMemory h = tt
 caused_refused Says b i f0 f1 (Slow n) h = absurd h
 
 -- a pause stops a reader that isn't done with the bytes it took and those at hand
-pub stops_paused : (Says : Grammar) (c : Came) (i : IntakeData) (t b0 : List ℕ) (l0 l1 : Option (List ℕ)) (f0 f1 : ℕ) (f : MessageFault) → Took b0 l0 i.bytes l1 t → Knows c i t b0 l0 f0 f1 → IsPause c i f → (c ≢ came.Bytes → Says (t ++ i.bytes) Ended) → Stops Says b0 l0 l1 f
+pub stops_paused : (Says : Grammar) (c : Came) (i : IntakeData) (t b0 : List ℕ) (l0 l1 : Option (List ℕ)) (f0 f1 : ℕ) (f : MessageFault)
+    → Took b0 l0 i.bytes l1 t → Knows c i t b0 l0 f0 f1 → IsPause c i f → (c ≢ came.Bytes → Says (t ++ i.bytes) Ended) → Stops Says b0 l0 l1 f
 stops_paused Says c i t b0 l0 l1 f0 f1 f took knows pause short input holds = paused f pause
   where
     cut : c ≢ came.Bytes → Unfinished Says input l1
@@ -119,7 +124,8 @@ stops_paused Says c i t b0 l0 l1 f0 f1 f took knows pause short input holds = pa
     paused (Slow n) h = let quiet : c ≡ came.Quiet = h.0 in cut (λ other. cc)
 
 -- and has its cause
-pub caused_paused : (c : Came) (i : IntakeData) (t b0 : List ℕ) (l0 : Option (List ℕ)) (f0 f1 : ℕ) (f : MessageFault) → Knows c i t b0 l0 f0 f1 → IsPause c i f → HasCause i f0 f1 f
+pub caused_paused : (c : Came) (i : IntakeData) (t b0 : List ℕ) (l0 : Option (List ℕ)) (f0 f1 : ℕ) (f : MessageFault) → Knows c i t b0 l0 f0 f1
+    → IsPause c i f → HasCause i f0 f1 f
 caused_paused c i t b0 l0 f0 f1 BadHead knows h = absurd h
 caused_paused c i t b0 l0 f0 f1 HeadTooLarge knows h = absurd h
 caused_paused c i t b0 l0 f0 f1 BodyTooLarge knows h = absurd h
@@ -147,7 +153,8 @@ front_more (suc n) [] more = (take (suc n) more, refl)
 front_more (suc n) (b ∷ bytes) more = let later = front_more n bytes more in (later.0, ap (λ rest. b ∷ rest) later.1)
 
 -- a reader that pauses without what it reads
-pub stops_lacking : (Says : Grammar) (most : ℕ) (c : Came) (i i' : IntakeData) (b0 : List ℕ) (l0 l : Option (List ℕ)) (f0 f : ℕ) (e : MessageFault) → Took b0 l0 i.bytes l [] → Knows c i [] b0 l0 f0 f → i' ≡ i → Lacks Says most i'.bytes c → IsPause c i' e → Stops Says b0 l0 l e
+pub stops_lacking : (Says : Grammar) (most : ℕ) (c : Came) (i i' : IntakeData) (b0 : List ℕ) (l0 l : Option (List ℕ)) (f0 f : ℕ) (e : MessageFault)
+    → Took b0 l0 i.bytes l [] → Knows c i [] b0 l0 f0 f → i' ≡ i → Lacks Says most i'.bytes c → IsPause c i' e → Stops Says b0 l0 l e
 stops_lacking Says most c i i' b0 l0 l f0 f e took knows same none pause =
     let Lacking : IntakeData → Type 0 = λ j. Lacks Says most j.bytes c in
     let Pause : IntakeData → Type 0 = λ j. IsPause c j e in
@@ -155,12 +162,14 @@ stops_lacking Says most c i i' b0 l0 l f0 f e took knows same none pause =
     stops_paused Says c i [] b0 l0 l f0 f e took knows (subst Pause same pause) here.looked
 
 -- a read from there on
-pub took_on : (i i' : IntakeData) (b0 : List ℕ) (l0 l : Option (List ℕ)) (b2 : List ℕ) (l2 : Option (List ℕ)) → Took b0 l0 i.bytes l [] → i' ≡ i → Took i'.bytes l b2 l2 [] → Took b0 l0 b2 l2 []
+pub took_on : (i i' : IntakeData) (b0 : List ℕ) (l0 l : Option (List ℕ)) (b2 : List ℕ) (l2 : Option (List ℕ)) → Took b0 l0 i.bytes l [] → i' ≡ i
+    → Took i'.bytes l b2 l2 [] → Took b0 l0 b2 l2 []
 took_on i i' b0 l0 l b2 l2 took same later =
     let Later : IntakeData → Type 0 = λ j. Took j.bytes l b2 l2 [] in
     took_read b0 l0 i.bytes l b2 l2 [] took (subst Later same later)
 
-pub knows_on : (c' : Came) (i i' j : IntakeData) (b0 : List ℕ) (l0 l : Option (List ℕ)) (f0 f f' : ℕ) → Took b0 l0 i.bytes l [] → i' ≡ i → f0 ≤ f → f ≤ f' → Knows c' j [] i'.bytes l f f' → Knows c' j [] b0 l0 f0 f'
+pub knows_on : (c' : Came) (i i' j : IntakeData) (b0 : List ℕ) (l0 l : Option (List ℕ)) (f0 f f' : ℕ) → Took b0 l0 i.bytes l [] → i' ≡ i → f0 ≤ f → f ≤ f'
+    → Knows c' j [] i'.bytes l f f' → Knows c' j [] b0 l0 f0 f'
 knows_on c' i i' j b0 l0 l f0 f f' took same before after knows =
     let Known : IntakeData → Type 0 = λ k. Knows c' j [] k.bytes l f f' in
     knows_since c' j b0 l0 [] i.bytes l f0 f f' took before after (subst Known same knows)

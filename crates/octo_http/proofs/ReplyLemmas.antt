@@ -101,24 +101,29 @@ pub decimal_short : (n : ℕ) → n < 2 ^ 64 → length (decimal n) ≤ 20
 decimal_short n below = length-decimal-le 20 n (lit< tt) (omega arith) below
 
 -- head and body are the reply
-pub joined : (r : HttpReply) (head body : List ℕ) (n : ℕ) → body ≡ sent_body r.status r.kind r.body → n ≡ length body → head ≡ head_bytes r.status r.kind n → head ++ body ≡ reply_bytes r
+pub joined : (r : HttpReply) (head body : List ℕ) (n : ℕ) → body ≡ sent_body r.status r.kind r.body → n ≡ length body → head ≡ head_bytes r.status r.kind n
+    → head ++ body ≡ reply_bytes r
 joined r head body n is long at =
-    ap (λ text. text ++ body) (at ∙ ap (λ k. head_bytes r.status r.kind k) (long ∙ ap length is)) ∙ ap (λ text. head_bytes r.status r.kind (length (sent_body r.status r.kind r.body)) ++ text) is
+    ap (λ text. text ++ body) (at ∙ ap (λ k. head_bytes r.status r.kind k) (long ∙ ap length is)) ∙ ap
+    (λ text. head_bytes r.status r.kind (length (sent_body r.status r.kind r.body)) ++ text) is
 
 -- both were written
-pub replied : (r : HttpReply) (old mid new : Option (List ℕ)) (head body : List ℕ) → head ++ body ≡ reply_bytes r → Adds old mid head → Adds mid new body → Adds old new (reply_bytes r)
+pub replied : (r : HttpReply) (old mid new : Option (List ℕ)) (head body : List ℕ) → head ++ body ≡ reply_bytes r → Adds old mid head → Adds mid new body
+    → Adds old new (reply_bytes r)
 replied r old mid new head body is first second =
     let Added : List ℕ → Type 0 = λ text. Adds old new text in
     subst Added is (adds_then old mid new head body first second)
 
 -- part of the head was written
-pub replied_head : (r : HttpReply) (old new : Option (List ℕ)) (head body : List ℕ) → head ++ body ≡ reply_bytes r → AddsPrefix old new head → AddsPrefix old new (reply_bytes r)
+pub replied_head : (r : HttpReply) (old new : Option (List ℕ)) (head body : List ℕ) → head ++ body ≡ reply_bytes r → AddsPrefix old new head
+    → AddsPrefix old new (reply_bytes r)
 replied_head r old new head body is first =
     let Added : List ℕ → Type 0 = λ text. AddsPrefix old new text in
     subst Added is (prefix_front old new head body first)
 
 -- the head and part of the body were written
-pub replied_body : (r : HttpReply) (old mid new : Option (List ℕ)) (head body : List ℕ) → head ++ body ≡ reply_bytes r → Adds old mid head → AddsPrefix mid new body → AddsPrefix old new (reply_bytes r)
+pub replied_body : (r : HttpReply) (old mid new : Option (List ℕ)) (head body : List ℕ) → head ++ body ≡ reply_bytes r → Adds old mid head
+    → AddsPrefix mid new body → AddsPrefix old new (reply_bytes r)
 replied_body r old mid new head body is first second =
     let Added : List ℕ → Type 0 = λ text. AddsPrefix old new text in
     subst Added is (prefix_then old mid new head body first second)

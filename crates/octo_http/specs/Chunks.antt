@@ -15,12 +15,14 @@ pub record Fits (sofar line : List ℕ) (size : ℕ) : Type 0 where
 
 -- what an input says as a body in chunks, after the bytes so far
 pub data Chunked : List ℕ → List ℕ → Result (List ℕ) MessageFault → Type 0 where
-  chunk : (sofar line piece rest : List ℕ) (size : ℕ) (r : Result (List ℕ) MessageFault) → Fits sofar line size → length piece ≡ size → Chunked (sofar ++ piece) rest r → Chunked sofar (line ++ (piece ++ (crlf ++ rest))) r
+  chunk : (sofar line piece rest : List ℕ) (size : ℕ) (r : Result (List ℕ) MessageFault) → Fits sofar line size → length piece ≡ size
+      → Chunked (sofar ++ piece) rest r → Chunked sofar (line ++ (piece ++ (crlf ++ rest))) r
   last : (sofar line trailers rest : List ℕ) (n : ℕ) → IsChunkHead line 0 → IsPart Trailers trailers n → Chunked sofar (line ++ (trailers ++ rest)) (Ok sofar)
   no_line : (sofar input : List ℕ) (f : MessageFault) → PartFault Line input f → Chunked sofar input (Err f)
   large : (sofar line rest : List ℕ) (size : ℕ) → IsChunkHead line size → 68157440 < length sofar + size → Chunked sofar (line ++ rest) (Err BodyTooLarge)
   short : (sofar line rest : List ℕ) (size : ℕ) → Fits sofar line size → length rest < size → Chunked sofar (line ++ rest) (Err Ended)
-  no_end : (sofar line piece rest : List ℕ) (size : ℕ) (f : MessageFault) → Fits sofar line size → length piece ≡ size → PartFault LineEnd rest f → Chunked sofar (line ++ (piece ++ rest)) (Err f)
+  no_end : (sofar line piece rest : List ℕ) (size : ℕ) (f : MessageFault) → Fits sofar line size → length piece ≡ size → PartFault LineEnd rest f
+      → Chunked sofar (line ++ (piece ++ rest)) (Err f)
   no_trailers : (sofar line rest : List ℕ) (f : MessageFault) → IsChunkHead line 0 → PartFault Trailers rest f → Chunked sofar (line ++ rest) (Err f)
 
 -- the faults of a body in chunks

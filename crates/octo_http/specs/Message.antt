@@ -57,9 +57,11 @@ IsBodyFault framing input f = BodySays framing input (Err f)
 
 -- what an input says as a message, and what is written for it
 pub data MessageSays : List ℕ → Result Message MessageFault → List ℕ → Type 0 where
-  message : (bytes rest : List ℕ) (head : Head) (body : List ℕ) → IsHead bytes head → BodySays head.framing rest (Ok body) → MessageSays (bytes ++ rest) (Ok (message_of head body)) (asked head)
+  message : (bytes rest : List ℕ) (head : Head) (body : List ℕ) → IsHead bytes head → BodySays head.framing rest (Ok body)
+      → MessageSays (bytes ++ rest) (Ok (message_of head body)) (asked head)
   no_head : (input : List ℕ) (f : MessageFault) → HeadFault input f → MessageSays input (Err f) []
-  bad_body : (bytes rest : List ℕ) (head : Head) (f : MessageFault) → IsHead bytes head → IsBodyFault head.framing rest f → MessageSays (bytes ++ rest) (Err f) (asked head)
+  bad_body : (bytes rest : List ℕ) (head : Head) (f : MessageFault) → IsHead bytes head → IsBodyFault head.framing rest f
+      → MessageSays (bytes ++ rest) (Err f) (asked head)
 
 -- what was read holds no whole message: were it all, the input would have ended inside one
 abbrev pub IsUnfinished : List ℕ → Option (List ℕ) → List ℕ → Type 0

@@ -34,7 +34,8 @@ ending_of (a ∷ b ∷ rest) = if a == 13 && b == 10 then Whole else Other
 -- trailers end with the first empty line, n bytes from their beginning, which is the beginning of a line
 pub data TrailersEnd : List ℕ → ℕ → Type 0 where
   at_once : (input : List ℕ) → OccursAt input crlf 0 → TrailersEnd input 2
-  later : (input : List ℕ) (place : ℕ) → ¬ (OccursAt input crlf 0) → Nowhere (OccursAt input crlf_crlf) 0 place → OccursAt input crlf_crlf place → TrailersEnd input (place + 4)
+  later : (input : List ℕ) (place : ℕ) → ¬ (OccursAt input crlf 0) → Nowhere (OccursAt input crlf_crlf) 0 place → OccursAt input crlf_crlf place
+      → TrailersEnd input (place + 4)
 
 -- no trailers end in the input
 pub record HasNoEnd (input : List ℕ) : Type 0 where

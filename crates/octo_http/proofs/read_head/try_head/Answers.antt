@@ -23,8 +23,10 @@ returns-in-Some-clause-head c =
 
 pub returns-in-None-clause-refused : goal.returns-in-None-clause-refused
 returns-in-None-clause-refused c =
-    too_long _ _ (c.front_of.ensures ∙ ap (take 16384) c.bytes-bytes.ensures) (omega (arith, ap length c.bytes-bytes.ensures)) (rw c.in-None.is at c.in_ok-found.ensures.partial)
+    too_long _ _ (c.front_of.ensures ∙ ap (take 16384) c.bytes-bytes.ensures) (omega (arith, ap length c.bytes-bytes.ensures))
+    (rw c.in-None.is at c.in_ok-found.ensures.partial)
 
 pub returns-in-None-2-clause-none : goal.returns-in-None-2-clause-none
 returns-in-None-2-clause-none c =
-    headless _ _ _ (c.front_of.ensures ∙ ap (take 16384) c.bytes-bytes.ensures) (omega (arith, ap length c.bytes-bytes.ensures)) (rw c.in-None-2.is at c.in_ok-found.ensures.partial)
+    headless _ _ _ (c.front_of.ensures ∙ ap (take 16384) c.bytes-bytes.ensures) (omega (arith, ap length c.bytes-bytes.ensures))
+    (rw c.in-None-2.is at c.in_ok-found.ensures.partial)
