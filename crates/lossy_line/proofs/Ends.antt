@@ -76,6 +76,7 @@ still_turn moment is_prompt d was_up got found texts count s w added idle other 
   where
     none : added ≡ [] → IsStill w added
     none e = (let S : List WorldEvent → Type 0 = λ es. IsStill w es in subst S (sym e) (record { unsent = λ since. refl; unheard = refl }))
+
     by : (e : Doing) (f : LinkFact) → (e ≡ Talking → ⊥) → (f ≡ fact.Opened → ⊥) →
         AreAdded moment is_prompt (turn_steps e was_up got f texts count) s w added → IsStill w added
     by Dialling fact.Quiet i o a = none a

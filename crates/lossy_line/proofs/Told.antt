@@ -109,12 +109,12 @@ module _ (moment : ℕ) (kind : LinkKind) (old_past new_past : Option (List Worl
       let found : fact_of turned.note ≡ t.found = noted_fact turned.note moment old.sender.acked new.sender.acked t.lines t.got t.found t.none t.some in
       let lines : lines_of turned.note ≡ t.lines = noted_lines turned.note moment old.sender.acked new.sender.acked t.lines t.got t.found t.none t.some in
       subst X (sym lines) (subst F (sym found) (subst L (sym by.3) (opened_or by.0 by.1 by.2 t found by.4 opening_so)))
-      where
-        opened_or : (past added : List WorldEvent) → old_past ≡ Some past → (t : IsTurn moment kind old_past new_past old_calls new_calls old new turned) →
-            fact_of turned.note ≡ t.found → IsTurned moment kind old new t.got t.found (texts_in t.lines) (world_in kind past) added →
-            IsOpening kind old_past issued old (fact_of turned.note) → IsOpened kind (issued_in t.found (texts_in t.lines) issued) new (past ++ added)
-        opened_or past added e t found so (inl was) = turn_keeps moment kind old new t.got t.found (texts_in t.lines) issued past added so (was past e)
-        opened_or past added e t found so (inr makes) = opening moment kind old new t.got t.found (texts_in t.lines) issued past added (sym found ∙ makes.0) so (makes.1 past e)
+    where
+      opened_or : (past added : List WorldEvent) → old_past ≡ Some past → (t : IsTurn moment kind old_past new_past old_calls new_calls old new turned) →
+          fact_of turned.note ≡ t.found → IsTurned moment kind old new t.got t.found (texts_in t.lines) (world_in kind past) added →
+          IsOpening kind old_past issued old (fact_of turned.note) → IsOpened kind (issued_in t.found (texts_in t.lines) issued) new (past ++ added)
+      opened_or past added e t found so (inl was) = turn_keeps moment kind old new t.got t.found (texts_in t.lines) issued past added so (was past e)
+      opened_or past added e t found so (inr makes) = opening moment kind old new t.got t.found (texts_in t.lines) issued past added (sym found ∙ makes.0) so (makes.1 past e)
 
   -- then the last session is tied
   pub turn_tied : IsTurn moment kind old_past new_past old_calls new_calls old new turned → IsKept moment old new turned →
@@ -131,12 +131,12 @@ module _ (moment : ℕ) (kind : LinkKind) (old_past new_past : Option (List Worl
       let found : fact_of turned.note ≡ t.found = noted_fact turned.note moment old.sender.acked new.sender.acked t.lines t.got t.found t.none t.some in
       let P : List WorldEvent → Type 0 = λ es. WasUnopened kind old_past issued old ⊎ IsTied kind issued old.sender.acked es (opens es - 1) in
       subst P (sym by.3) (former_or by.0 by.1 by.2 (turn_former moment kind old new t.got t.found (texts_in t.lines) issued by.0 by.1 (sym found ∙ opens_now) by.4 (linked by.0 by.2)))
-      where
-        former_or : (past added : List WorldEvent) → old_past ≡ Some past →
-            IsUnopened kind issued old past ⊎ IsTied kind issued old.sender.acked (past ++ added) (opens (past ++ added) - 1) →
-            WasUnopened kind old_past issued old ⊎ IsTied kind issued old.sender.acked (past ++ added) (opens (past ++ added) - 1)
-        former_or past added e (inl u) = inl (record { past = past; is = e; unopened = u })
-        former_or past added e (inr tied) = inr tied
+    where
+      former_or : (past added : List WorldEvent) → old_past ≡ Some past →
+          IsUnopened kind issued old past ⊎ IsTied kind issued old.sender.acked (past ++ added) (opens (past ++ added) - 1) →
+          WasUnopened kind old_past issued old ⊎ IsTied kind issued old.sender.acked (past ++ added) (opens (past ++ added) - 1)
+      former_or past added e (inl u) = inl (record { past = past; is = e; unopened = u })
+      former_or past added e (inr tied) = inr tied
 
   pub turn_end_caused : IsTurn moment kind old_past new_past old_calls new_calls old new turned → IsKept moment old new turned →
       (end : SessionEnd) → fact_of turned.note ≡ fact.Ended end → (issued : List (List ℕ)) → LinkedAs kind old_past issued old →

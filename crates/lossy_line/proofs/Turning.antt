@@ -120,19 +120,19 @@ module _ (moment : ℕ) (kind : LinkKind) (old new : SessionData) (got : Got) (f
         closed = ap (λ (w : WorldData). w.linked) (world_then kind past added) ∙ linked_after moment kind old new got found texts (world_in kind past) added t (u.closed ∙ sym u.down) ∙ down;
         sound = subst S (sym same) u.sound;
       }
-      where
-        issued_idle : (d : Doing) (was_up : Bool) (g : Got) (f : LinkFact) (ts : List (List ℕ)) (count : ℕ) → (d ≡ Talking → ⊥) →
-            (f ≡ fact.Opened → ⊥) → issued_after (turn_steps d was_up g f ts count) issued ≡ issued
-        issued_idle Dialling was_up g fact.Quiet ts count i o = refl
-        issued_idle Dialling was_up g fact.Opened ts count i o = absurd (o refl)
-        issued_idle Dialling was_up g fact.Ready ts count i o = refl
-        issued_idle Dialling was_up g fact.Closed ts count i o = refl
-        issued_idle Dialling was_up g fact.NoPort ts count i o = refl
-        issued_idle Dialling was_up g fact.Failed ts count i o = refl
-        issued_idle Dialling was_up g (fact.Ended end) ts count i o = refl
-        issued_idle HangingUp was_up g f ts count i o = refl
-        issued_idle Talking was_up g f ts count i o = absurd (i refl)
-        issued_idle Resting was_up g f ts count i o = refl
+    where
+      issued_idle : (d : Doing) (was_up : Bool) (g : Got) (f : LinkFact) (ts : List (List ℕ)) (count : ℕ) → (d ≡ Talking → ⊥) →
+          (f ≡ fact.Opened → ⊥) → issued_after (turn_steps d was_up g f ts count) issued ≡ issued
+      issued_idle Dialling was_up g fact.Quiet ts count i o = refl
+      issued_idle Dialling was_up g fact.Opened ts count i o = absurd (o refl)
+      issued_idle Dialling was_up g fact.Ready ts count i o = refl
+      issued_idle Dialling was_up g fact.Closed ts count i o = refl
+      issued_idle Dialling was_up g fact.NoPort ts count i o = refl
+      issued_idle Dialling was_up g fact.Failed ts count i o = refl
+      issued_idle Dialling was_up g (fact.Ended end) ts count i o = refl
+      issued_idle HangingUp was_up g f ts count i o = refl
+      issued_idle Talking was_up g f ts count i o = absurd (i refl)
+      issued_idle Resting was_up g f ts count i o = refl
 
   -- the session of a link goes on
   pub going_on : (found ≡ fact.Opened → ⊥) → IsTurned moment kind old new got found texts (world_in kind past) added →
@@ -173,81 +173,85 @@ module _ (moment : ℕ) (kind : LinkKind) (old new : SessionData) (got : Got) (f
         quiet = λ up. still_quiet up t o;
         caused = caused_by (doing old) refl t o;
       }
-      where
-        caused_idle : (doing old ≡ Talking → ⊥) → (t : IsTurned moment kind old new got found texts (world_in kind past) added) →
-            (o : IsOpened kind issued old past) →
-            IsCaused new.sender.ended (apply (world_in kind o.front) (Opened o.last)) (o.rest ++ added)
-        caused_idle idle t o =
-            let made : WorldData = apply (world_in kind o.front) (Opened o.last) in
-            let here : world_in kind past ≡ world_from made o.rest = world_since kind past o.front o.last o.rest o.is in
-            let S : WorldData → Type 0 = λ w. IsStill w added in
-            let C : SenderData → Type 0 = λ s. IsCaused s.ended made (o.rest ++ added) in
-            let same : new.sender ≡ old.sender = t.sender ∙ idle_steps moment (doing old) old.up got found texts t.count old.sender idle other in
-            let still : IsStill (world_in kind past) added = still_turn moment kind.prompt (doing old) old.up got found texts t.count old.sender (world_in kind past) added idle other t.steps in
-            subst C (sym same) (still_caused old.sender.ended made o.rest added (subst S here still) o.caused)
-        stays : (f : LinkFact) (was_up : Bool) → (f ≡ fact.Opened → ⊥) → up_after f was_up ≡ true → StaysUp f
-        stays fact.Quiet was_up o up = tt
-        stays fact.Opened was_up o up = absurd (o refl)
-        stays fact.Ready was_up o up = tt
-        stays fact.Closed was_up o up = absurd (cc)
-        stays fact.NoPort was_up o up = absurd (cc)
-        stays fact.Failed was_up o up = absurd (cc)
-        stays (fact.Ended end) was_up o up = absurd (cc)
-        talks : (d : Doing) → doing old ≡ d → IsTurned moment kind old new got found texts (world_in kind past) added → new.up ≡ true →
-            doing old ≡ Talking
-        talks Dialling is t up =
-            let idle : doing old ≡ Talking → ⊥ = λ (i : doing old ≡ Talking). (let e : Dialling ≡ Talking = sym is ∙ i in absurd (cc)) in
-            let down : new.up ≡ false = t.up ∙ down_after (doing old) found old.up t.can idle other (dials_down old is) in
-            absurd (cc)
-        talks HangingUp is t up =
-            let F : Doing → Type 0 = λ d. can_find d found ≡ true in
-            let down : up_after found old.up ≡ false = hung found old.up (subst F is t.can) in
-            let off : new.up ≡ false = t.up ∙ down in
-            absurd (cc)
-          where
-            hung : (f : LinkFact) (was_up : Bool) → can_find HangingUp f ≡ true → up_after f was_up ≡ false
-            hung fact.Quiet was_up can = absurd (cc)
-            hung fact.Opened was_up can = absurd (cc)
-            hung fact.Ready was_up can = absurd (cc)
-            hung fact.Closed was_up can = refl
-            hung fact.NoPort was_up can = refl
-            hung fact.Failed was_up can = refl
-            hung (fact.Ended end) was_up can = refl
-        talks Talking is t up = is
-        talks Resting is t up =
-            let idle : doing old ≡ Talking → ⊥ = λ (i : doing old ≡ Talking). (let e : Resting ≡ Talking = sym is ∙ i in absurd (cc)) in
-            let down : new.up ≡ false = t.up ∙ down_after (doing old) found old.up t.can idle other (rests_down old is) in
-            absurd (cc)
-        caused_by : (d : Doing) → doing old ≡ d → (t : IsTurned moment kind old new got found texts (world_in kind past) added) →
-            (o : IsOpened kind issued old past) →
-            IsCaused new.sender.ended (apply (world_in kind o.front) (Opened o.last)) (o.rest ++ added)
-        caused_by Talking is t o =
-            let made : WorldData = apply (world_in kind o.front) (Opened o.last) in
-            let here : world_in kind past ≡ world_from made o.rest = world_since kind past o.front o.last o.rest o.is in
-            let F : Doing → Type 0 = λ d. can_find d found ≡ true in
-            let B : Doing → Type 0 = λ d. AreAdded moment kind.prompt (turn_steps d old.up got found texts t.count) old.sender (world_in kind past) added in
-            let W : WorldData → Type 0 = λ w. AreAdded moment kind.prompt (talk_steps got found texts t.count) old.sender w added in
-            let C : SenderData → Type 0 = λ s. IsCaused s.ended made (o.rest ++ added) in
-            let sender : new.sender ≡ after_steps moment (talk_steps got found texts t.count) old.sender =
-            t.sender ∙ ap (λ (d : Doing). after_steps moment (turn_steps d old.up got found texts t.count) old.sender) is
-            in
-            subst C (sym sender) (talk_caused moment kind.prompt found texts t.count (world_in kind o.front).log made issued old.sender o.rest got added (subst F is t.can) (λ un. (t.asked.0 un) is) t.ended
-            (t.joined.running (talks_up old is)) (o.quiet (talks_up old is)) o.traced (subst W here (subst B is t.steps)))
-        caused_by Dialling is t o = caused_idle (λ (i : doing old ≡ Talking). (let e : Dialling ≡ Talking = sym is ∙ i in absurd (cc))) t o
-        caused_by HangingUp is t o = caused_idle (λ (i : doing old ≡ Talking). (let e : HangingUp ≡ Talking = sym is ∙ i in absurd (cc))) t o
-        caused_by Resting is t o = caused_idle (λ (i : doing old ≡ Talking). (let e : Resting ≡ Talking = sym is ∙ i in absurd (cc))) t o
-        still_quiet : new.up ≡ true → (t : IsTurned moment kind old new got found texts (world_in kind past) added) →
-            (o : IsOpened kind issued old past) → IsQuiet (sends_since 0 (o.rest ++ added)) new.sender
-        still_quiet up t o =
-            let is : doing old ≡ Talking = talks (doing old) refl t up in
-            let so : StaysUp found = stays found old.up other (sym t.up ∙ up) in
-            let A : Doing → Type 0 = λ d. AreAllowed moment (turn_steps d old.up got found texts t.count) old.sender in
-            let B : Doing → Type 0 = λ d. AreAdded moment kind.prompt (turn_steps d old.up got found texts t.count) old.sender (world_in kind past) added in
-            let C : Doing → Type 0 = λ d. new.sender ≡ after_steps moment (turn_steps d old.up got found texts t.count) old.sender in
-            let Q : ℕ → Type 0 = λ n. IsQuiet n new.sender in
-            subst Q (sym (sends_since-append 0 o.rest added))
-            (talk_quiet moment (sends_since 0 o.rest) kind.prompt got found texts t.count old.sender new.sender (world_in kind past) added (λ un. (t.asked.0 un) is) t.broken so
-            o.traced.meets.numbers.sound (o.quiet (talks_up old is)) (subst A is t.allowed) (subst B is t.steps) (subst C is t.sender) (t.unsent up so))
+    where
+      caused_idle : (doing old ≡ Talking → ⊥) → (t : IsTurned moment kind old new got found texts (world_in kind past) added) →
+          (o : IsOpened kind issued old past) →
+          IsCaused new.sender.ended (apply (world_in kind o.front) (Opened o.last)) (o.rest ++ added)
+      caused_idle idle t o =
+          let made : WorldData = apply (world_in kind o.front) (Opened o.last) in
+          let here : world_in kind past ≡ world_from made o.rest = world_since kind past o.front o.last o.rest o.is in
+          let S : WorldData → Type 0 = λ w. IsStill w added in
+          let C : SenderData → Type 0 = λ s. IsCaused s.ended made (o.rest ++ added) in
+          let same : new.sender ≡ old.sender = t.sender ∙ idle_steps moment (doing old) old.up got found texts t.count old.sender idle other in
+          let still : IsStill (world_in kind past) added = still_turn moment kind.prompt (doing old) old.up got found texts t.count old.sender (world_in kind past) added idle other t.steps in
+          subst C (sym same) (still_caused old.sender.ended made o.rest added (subst S here still) o.caused)
+
+      stays : (f : LinkFact) (was_up : Bool) → (f ≡ fact.Opened → ⊥) → up_after f was_up ≡ true → StaysUp f
+      stays fact.Quiet was_up o up = tt
+      stays fact.Opened was_up o up = absurd (o refl)
+      stays fact.Ready was_up o up = tt
+      stays fact.Closed was_up o up = absurd (cc)
+      stays fact.NoPort was_up o up = absurd (cc)
+      stays fact.Failed was_up o up = absurd (cc)
+      stays (fact.Ended end) was_up o up = absurd (cc)
+
+      talks : (d : Doing) → doing old ≡ d → IsTurned moment kind old new got found texts (world_in kind past) added → new.up ≡ true →
+          doing old ≡ Talking
+      talks Dialling is t up =
+          let idle : doing old ≡ Talking → ⊥ = λ (i : doing old ≡ Talking). (let e : Dialling ≡ Talking = sym is ∙ i in absurd (cc)) in
+          let down : new.up ≡ false = t.up ∙ down_after (doing old) found old.up t.can idle other (dials_down old is) in
+          absurd (cc)
+      talks HangingUp is t up =
+          let F : Doing → Type 0 = λ d. can_find d found ≡ true in
+          let down : up_after found old.up ≡ false = hung found old.up (subst F is t.can) in
+          let off : new.up ≡ false = t.up ∙ down in
+          absurd (cc)
+        where
+          hung : (f : LinkFact) (was_up : Bool) → can_find HangingUp f ≡ true → up_after f was_up ≡ false
+          hung fact.Quiet was_up can = absurd (cc)
+          hung fact.Opened was_up can = absurd (cc)
+          hung fact.Ready was_up can = absurd (cc)
+          hung fact.Closed was_up can = refl
+          hung fact.NoPort was_up can = refl
+          hung fact.Failed was_up can = refl
+          hung (fact.Ended end) was_up can = refl
+      talks Talking is t up = is
+      talks Resting is t up =
+          let idle : doing old ≡ Talking → ⊥ = λ (i : doing old ≡ Talking). (let e : Resting ≡ Talking = sym is ∙ i in absurd (cc)) in
+          let down : new.up ≡ false = t.up ∙ down_after (doing old) found old.up t.can idle other (rests_down old is) in
+          absurd (cc)
+
+      caused_by : (d : Doing) → doing old ≡ d → (t : IsTurned moment kind old new got found texts (world_in kind past) added) →
+          (o : IsOpened kind issued old past) →
+          IsCaused new.sender.ended (apply (world_in kind o.front) (Opened o.last)) (o.rest ++ added)
+      caused_by Talking is t o =
+          let made : WorldData = apply (world_in kind o.front) (Opened o.last) in
+          let here : world_in kind past ≡ world_from made o.rest = world_since kind past o.front o.last o.rest o.is in
+          let F : Doing → Type 0 = λ d. can_find d found ≡ true in
+          let B : Doing → Type 0 = λ d. AreAdded moment kind.prompt (turn_steps d old.up got found texts t.count) old.sender (world_in kind past) added in
+          let W : WorldData → Type 0 = λ w. AreAdded moment kind.prompt (talk_steps got found texts t.count) old.sender w added in
+          let C : SenderData → Type 0 = λ s. IsCaused s.ended made (o.rest ++ added) in
+          let sender : new.sender ≡ after_steps moment (talk_steps got found texts t.count) old.sender =
+          t.sender ∙ ap (λ (d : Doing). after_steps moment (turn_steps d old.up got found texts t.count) old.sender) is
+          in
+          subst C (sym sender) (talk_caused moment kind.prompt found texts t.count (world_in kind o.front).log made issued old.sender o.rest got added (subst F is t.can) (λ un. (t.asked.0 un) is) t.ended
+          (t.joined.running (talks_up old is)) (o.quiet (talks_up old is)) o.traced (subst W here (subst B is t.steps)))
+      caused_by Dialling is t o = caused_idle (λ (i : doing old ≡ Talking). (let e : Dialling ≡ Talking = sym is ∙ i in absurd (cc))) t o
+      caused_by HangingUp is t o = caused_idle (λ (i : doing old ≡ Talking). (let e : HangingUp ≡ Talking = sym is ∙ i in absurd (cc))) t o
+      caused_by Resting is t o = caused_idle (λ (i : doing old ≡ Talking). (let e : Resting ≡ Talking = sym is ∙ i in absurd (cc))) t o
+
+      still_quiet : new.up ≡ true → (t : IsTurned moment kind old new got found texts (world_in kind past) added) →
+          (o : IsOpened kind issued old past) → IsQuiet (sends_since 0 (o.rest ++ added)) new.sender
+      still_quiet up t o =
+          let is : doing old ≡ Talking = talks (doing old) refl t up in
+          let so : StaysUp found = stays found old.up other (sym t.up ∙ up) in
+          let A : Doing → Type 0 = λ d. AreAllowed moment (turn_steps d old.up got found texts t.count) old.sender in
+          let B : Doing → Type 0 = λ d. AreAdded moment kind.prompt (turn_steps d old.up got found texts t.count) old.sender (world_in kind past) added in
+          let C : Doing → Type 0 = λ d. new.sender ≡ after_steps moment (turn_steps d old.up got found texts t.count) old.sender in
+          let Q : ℕ → Type 0 = λ n. IsQuiet n new.sender in
+          subst Q (sym (sends_since-append 0 o.rest added))
+          (talk_quiet moment (sends_since 0 o.rest) kind.prompt got found texts t.count old.sender new.sender (world_in kind past) added (λ un. (t.asked.0 un) is) t.broken so
+          o.traced.meets.numbers.sound (o.quiet (talks_up old is)) (subst A is t.allowed) (subst B is t.steps) (subst C is t.sender) (t.unsent up so))
 
   linked_other : (found ≡ fact.Opened → ⊥) → IsTurned moment kind old new got found texts (world_in kind past) added →
       IsLinked kind issued old past → IsLinked kind (issued_in found texts issued) new (past ++ added)

@@ -104,9 +104,9 @@ tied_at kind issued s front last rest traced =
     record {
       executed_first = so.is;
       acked_is = sym (
-        ap (λ (w : WorldData). acked_of (replies_from w (session_of (suc (opens front)) past))) world
-        ∙ ap (λ (es : List WorldEvent). acked_of (replies_from (world_in kind front) es)) events
-        ∙ tally_acked (replies_from base rest) s s.ready refl n.sound traced.tallied);
+          ap (λ (w : WorldData). acked_of (replies_from w (session_of (suc (opens front)) past))) world
+          ∙ ap (λ (es : List WorldEvent). acked_of (replies_from (world_in kind front) es)) events
+          ∙ tally_acked (replies_from base rest) s s.ready refl n.sound traced.tallied);
       acked_run = omega (arith, so.count, n.replies.acked_run);
       sends = subst S (sym world) (subst V (sym events) (tt, traced.sends));
     }

@@ -23,62 +23,44 @@ use printer_link::Link;
 /// fitted together before the turn, they do so after it.
 pub fn turn_over_link<L: Link>(session: &mut Session, link: &mut L, moment: u64) -> Turned
     requires { L.up link.old ≡ session.old.up }
-    ensures turn {
-        IsTurn moment (L.kind link.old) (L.past link.old) (L.past link.new)
-        (L.calls link.old) (L.calls link.new) session.old session.new result
-    }
-    ensures linked {
-        (issued : List (List ℕ)) → LinkedAs (L.kind link.old) (L.past link.old) issued session.old
+    ensures turn { IsTurn moment (L.kind link.old) (L.past link.old) (L.past link.new)
+        (L.calls link.old) (L.calls link.new) session.old session.new result }
+    ensures linked { (issued : List (List ℕ)) → LinkedAs (L.kind link.old) (L.past link.old) issued session.old
         → LinkedAs (L.kind link.new) (L.past link.new)
-          (issued_in (fact_of result.note) (texts_in (lines_of result.note)) issued) session.new
-    }
+        (issued_in (fact_of result.note) (texts_in (lines_of result.note)) issued) session.new }
 
     // Once a link is made, each session of the history is tied to its issued lines: the last one, and in a turn that
     // makes a further link the one before it.
-    ensures opened {
-        (issued : List (List ℕ))
+    ensures opened { (issued : List (List ℕ))
         → IsOpening (L.kind link.old) (L.past link.old) issued session.old (fact_of result.note)
         → OpenedAs (L.kind link.new) (L.past link.new)
-          (issued_in (fact_of result.note) (texts_in (lines_of result.note)) issued) session.new
-    }
-    ensures tied {
-        (issued : List (List ℕ))
+        (issued_in (fact_of result.note) (texts_in (lines_of result.note)) issued) session.new }
+    ensures tied { (issued : List (List ℕ))
         → IsOpening (L.kind link.old) (L.past link.old) issued session.old (fact_of result.note)
         → TiedAs (L.kind link.new) (L.past link.new)
-          (issued_in (fact_of result.note) (texts_in (lines_of result.note)) issued) session.new
-    }
-    ensures former {
-        fact_of result.note ≡ fact.Opened
+        (issued_in (fact_of result.note) (texts_in (lines_of result.note)) issued) session.new }
+    ensures former { fact_of result.note ≡ fact.Opened
         → (issued : List (List ℕ)) → LinkedAs (L.kind link.old) (L.past link.old) issued session.old
-        → FormerTiedAs (L.kind link.new) (L.past link.old) (L.past link.new) issued session.old
-    }
+        → FormerTiedAs (L.kind link.new) (L.past link.old) (L.past link.new) issued session.old }
 
     // No false end: a session ends with a cause that its history shows.
-    ensures caused {
-        (end : SessionEnd) → fact_of result.note ≡ fact.Ended end
+    ensures caused { (end : SessionEnd) → fact_of result.note ≡ fact.Ended end
         → (issued : List (List ℕ)) → LinkedAs (L.kind link.old) (L.past link.old) issued session.old
-        → EndCausedAs (L.kind link.new) (L.past link.new) end
-    }
+        → EndCausedAs (L.kind link.new) (L.past link.new) end }
 
     // As `Session::turn`.
     ensures finds { can_find (doing session.old) (fact_of result.note) ≡ true }
     ensures up { session.new.up ≡ up_after (fact_of result.note) session.old.up }
     ensures link { L.up link.new ≡ session.new.up }
-    ensures no_port {
-        (fact_of result.note ≡ fact.NoPort)
+    ensures no_port { (fact_of result.note ≡ fact.NoPort)
         ↔ ((doing session.old ≡ now_doing.Dialling)
-        × ((L.kind link.old).listed (port_of session.old.desk) ≡ false))
-    }
-    ensures ready {
-        (fact_of result.note ≡ fact.Ready)
-        ↔ ((session.old.sender.ready ≡ false) × (session.new.sender.ready ≡ true))
-    }
+        × ((L.kind link.old).listed (port_of session.old.desk) ≡ false)) }
+    ensures ready { (fact_of result.note ≡ fact.Ready)
+        ↔ ((session.old.sender.ready ≡ false) × (session.new.sender.ready ≡ true)) }
     ensures silent { fact_of result.note ≡ fact.Ready → lines_of result.note ≡ [] }
     ensures sent { fact_of result.note ≡ fact.Ready → next_of session.new.sender ≡ None }
-    ensures spent {
-        session.new.up ≡ true → fact_of result.note ≡ fact.Quiet
-        → IsSpent moment session.new.desk session.new.sender
-    }
+    ensures spent { session.new.up ≡ true → fact_of result.note ≡ fact.Quiet
+        → IsSpent moment session.new.desk session.new.sender }
     ensures greatest { session.new.desk.greatest ≡ session.old.desk.greatest }
     ensures before { IsSession session.old }
     ensures joined { IsSession session.new }
