@@ -29,18 +29,12 @@ use Rattle.lossy_wires.specs.Wires.{Meets}
 use Rattle.lossy_wires.specs.Traces.{replies_from, IsTallied, IsStartKnown, IsTraced}
 use Rattle.lossy_wires.proofs.Tracing.{Leads, leads_free, fits_append, replies_from-append}
 use Rattle.lossy_line.specs.Linked.{IsCaused, IsUnopened, IsOpened, IsLinked, LinkedAs, unopened, opened}
-use Rattle.lossy_line.specs.Tied.{IsTied, IsLastTied, IsEndCaused}
+use Rattle.lossy_line.specs.Tied.{IsTied, IsEndCaused}
 use Rattle.lossy_line.proofs.Former.{former_tied}
 use Rattle.lossy_line.proofs.Turned.{IsTurned, opens_dialling, talks_up}
 use Rattle.lossy_line.proofs.Turning.{going_on}
 use Rattle.lossy_line.specs.Issuing.{issued_in}
-use Rattle.lossy_line.proofs.Tying.{tied_at, opened_tied}
-
--- linked is tied
-pub linked_tied : (kind : LinkKind) (issued : List (List ℕ)) (x : SessionData) (past : List WorldEvent) → IsLinked kind issued x past →
-    IsLastTied kind issued x past
-linked_tied kind issued x past (unopened u) = inl u
-linked_tied kind issued x past (opened o) = inr (opened_tied kind issued x past o)
+use Rattle.lossy_line.proofs.Tying.{tied_at}
 
 -- what the line and the printer do leaves a session traced
 traced_free : (start : List Logged) (made : WorldData) (issued : List (List ℕ)) (s : SenderData) (rest events : List WorldEvent) →

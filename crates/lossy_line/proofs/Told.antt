@@ -13,14 +13,15 @@ use Rattle.octo_session.specs.Found.{Got, can_find, up_after}
 use Rattle.octo_session.specs.Turn.{IsTurn, IsUneventful, IsNoteOf, IsSpent, fact_of, lines_of, texts_in}
 use Rattle.octo_session.specs.declared.found.Turned.{Turned}
 use Rattle.lossy_line.specs.Issuing.{issued_in}
-use Rattle.lossy_line.specs.Linked.{IsUnopened, IsLinked, LinkedAs}
+use Rattle.lossy_line.specs.Linked.{IsUnopened, IsOpened, IsLinked, LinkedAs, OpenedAs, IsOpening}
 use Rattle.lossy_line.specs.Tied.{IsTied, TiedAs, WasUnopened, FormerTiedAs, IsEndCaused, EndCausedAs}
-use Rattle.lossy_line.proofs.Promised.{linked_tied, turn_former, turn_caused}
+use Rattle.lossy_line.proofs.Promised.{turn_former, turn_caused}
+use Rattle.lossy_line.proofs.Tying.{opened_tied}
 use Rattle.marlin_reply.specs.declared.session.SessionEnd.{SessionEnd}
 use Rattle.printer_model.specs.Executed.{opens}
 use Rattle.lossy_line.proofs.Quiet.{StaysUp}
 use Rattle.lossy_line.proofs.Turned.{IsTurned}
-use Rattle.lossy_line.proofs.Turning.{turn_links}
+use Rattle.lossy_line.proofs.Turning.{turn_links, turn_keeps, opening}
 
 -- the note says what the turn found and issued
 pub noted_fact : (note : Option Note) (moment before acked : ℕ) (lines : List Line) (got : Got) (found : LinkFact) →
@@ -96,12 +97,31 @@ module _ (moment : ℕ) (kind : LinkKind) (old_past new_past : Option (List Worl
       let lines : lines_of turned.note ≡ t.lines = noted_lines turned.note moment old.sender.acked new.sender.acked t.lines t.got t.found t.none t.some in
       subst X (sym lines) (subst F (sym found) (subst L (sym by.3) (turn_links moment kind old new t.got t.found (texts_in t.lines) issued by.0 by.1 by.4 (linked by.0 by.2))))
 
-  -- each session of the history is tied, and an end has its cause
+  -- a link was made before, or is made
+  pub turn_opened : IsTurn moment kind old_past new_past old_calls new_calls old new turned → IsKept moment old new turned →
+      (issued : List (List ℕ)) → IsOpening kind old_past issued old (fact_of turned.note) →
+      OpenedAs kind new_past (issued_in (fact_of turned.note) (texts_in (lines_of turned.note)) issued) new
+  turn_opened t k issued opening_so now is =
+      let by = turned_by t k now is in
+      let L : List WorldEvent → Type 0 = λ es. IsOpened kind (issued_in t.found (texts_in t.lines) issued) new es in
+      let F : LinkFact → Type 0 = λ f. IsOpened kind (issued_in f (texts_in t.lines) issued) new now in
+      let X : List Line → Type 0 = λ l. IsOpened kind (issued_in (fact_of turned.note) (texts_in l) issued) new now in
+      let found : fact_of turned.note ≡ t.found = noted_fact turned.note moment old.sender.acked new.sender.acked t.lines t.got t.found t.none t.some in
+      let lines : lines_of turned.note ≡ t.lines = noted_lines turned.note moment old.sender.acked new.sender.acked t.lines t.got t.found t.none t.some in
+      subst X (sym lines) (subst F (sym found) (subst L (sym by.3) (opened_or by.0 by.1 by.2 t found by.4 opening_so)))
+    where
+      opened_or : (past added : List WorldEvent) → old_past ≡ Some past → (t : IsTurn moment kind old_past new_past old_calls new_calls old new turned) →
+          fact_of turned.note ≡ t.found → IsTurned moment kind old new t.got t.found (texts_in t.lines) (world_in kind past) added →
+          IsOpening kind old_past issued old (fact_of turned.note) → IsOpened kind (issued_in t.found (texts_in t.lines) issued) new (past ++ added)
+      opened_or past added e t found so (inl was) = turn_keeps moment kind old new t.got t.found (texts_in t.lines) issued past added so (was past e)
+      opened_or past added e t found so (inr makes) = opening moment kind old new t.got t.found (texts_in t.lines) issued past added (sym found ∙ makes.0) so (makes.1 past e)
+
+  -- then the last session is tied
   pub turn_tied : IsTurn moment kind old_past new_past old_calls new_calls old new turned → IsKept moment old new turned →
-      (issued : List (List ℕ)) → LinkedAs kind old_past issued old →
+      (issued : List (List ℕ)) → IsOpening kind old_past issued old (fact_of turned.note) →
       TiedAs kind new_past (issued_in (fact_of turned.note) (texts_in (lines_of turned.note)) issued) new
-  turn_tied t k issued linked now is =
-      linked_tied kind (issued_in (fact_of turned.note) (texts_in (lines_of turned.note)) issued) new now (turn_linked t k issued linked now is)
+  turn_tied t k issued opening_so now is =
+      opened_tied kind (issued_in (fact_of turned.note) (texts_in (lines_of turned.note)) issued) new now (turn_opened t k issued opening_so now is)
 
   pub turn_former_tied : IsTurn moment kind old_past new_past old_calls new_calls old new turned → IsKept moment old new turned →
       fact_of turned.note ≡ fact.Opened → (issued : List (List ℕ)) → LinkedAs kind old_past issued old →

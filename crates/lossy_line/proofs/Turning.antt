@@ -71,10 +71,20 @@ opened_by kind old new past added runs last sound few is can sender open_as =
       caused = subst C (sym sender) tt;
     }
 
+-- whether a turn makes a link
+is_opened_fact : (f : LinkFact) → (f ≡ fact.Opened) ⊎ (f ≡ fact.Opened → ⊥)
+is_opened_fact fact.Quiet = inr (λ (e : fact.Quiet ≡ fact.Opened). absurd (cc))
+is_opened_fact fact.Opened = inl refl
+is_opened_fact fact.Ready = inr (λ (e : fact.Ready ≡ fact.Opened). absurd (cc))
+is_opened_fact fact.Closed = inr (λ (e : fact.Closed ≡ fact.Opened). absurd (cc))
+is_opened_fact fact.NoPort = inr (λ (e : fact.NoPort ≡ fact.Opened). absurd (cc))
+is_opened_fact fact.Failed = inr (λ (e : fact.Failed ≡ fact.Opened). absurd (cc))
+is_opened_fact (fact.Ended end) = inr (λ (e : fact.Ended end ≡ fact.Opened). absurd (cc))
+
 module _ (moment : ℕ) (kind : LinkKind) (old new : SessionData) (got : Got) (found : LinkFact) (texts issued : List (List ℕ)) (past added : List WorldEvent) where
   -- the turn makes a link
-  opening : found ≡ fact.Opened → IsTurned moment kind old new got found texts (world_in kind past) added → IsLinked kind issued old past →
-      IsLinked kind (issued_in found texts issued) new (past ++ added)
+  pub opening : found ≡ fact.Opened → IsTurned moment kind old new got found texts (world_in kind past) added → IsLinked kind issued old past →
+      IsOpened kind (issued_in found texts issued) new (past ++ added)
   opening is t linked =
       let F : LinkFact → Type 0 = λ f. can_find (doing old) f ≡ true in
       let dials : doing old ≡ Dialling = opens_dialling (doing old) (subst F is t.can) in
@@ -91,8 +101,8 @@ module _ (moment : ℕ) (kind : LinkKind) (old new : SessionData) (got : Got) (f
       let open_as : (world_in kind (past ++ added)).linked ≡ new.up =
       ap (λ (w : WorldData). w.linked) (world_then kind past added) ∙ linked_after moment kind old new got found texts (world_in kind past) added t (linked_as kind issued old past linked)
       in
-      let I : LinkFact → Type 0 = λ f. IsLinked kind (issued_in f texts issued) new (past ++ added) in
-      subst I (sym is) (opened (opened_by kind old new past added dial.runs dial.last (sound_of kind issued old past linked) step.3.0.1.few all dial.opens sender open_as))
+      let I : LinkFact → Type 0 = λ f. IsOpened kind (issued_in f texts issued) new (past ++ added) in
+      subst I (sym is) (opened_by kind old new past added dial.runs dial.last (sound_of kind issued old past linked) step.3.0.1.few all dial.opens sender open_as)
 
   -- no turn has made one yet
   still_unopened : (found ≡ fact.Opened → ⊥) → IsTurned moment kind old new got found texts (world_in kind past) added →
@@ -253,6 +263,7 @@ module _ (moment : ℕ) (kind : LinkKind) (old new : SessionData) (got : Got) (f
       IsLinked kind (issued_in found texts issued) new (past ++ added)
   turn_links t linked = links_by (is_opened_fact found) t linked
     where
+<<<<<<< HEAD
       is_opened_fact : (f : LinkFact) → (f ≡ fact.Opened) ⊎ (f ≡ fact.Opened → ⊥)
       is_opened_fact fact.Quiet = inr (λ (e : fact.Quiet ≡ fact.Opened). absurd (cc))
       is_opened_fact fact.Opened = inl refl
@@ -262,8 +273,20 @@ module _ (moment : ℕ) (kind : LinkKind) (old new : SessionData) (got : Got) (f
       is_opened_fact fact.Failed = inr (λ (e : fact.Failed ≡ fact.Opened). absurd (cc))
       is_opened_fact (fact.Ended end) = inr (λ (e : fact.Ended end ≡ fact.Opened). absurd (cc))
 
+=======
+>>>>>>> 268e8abc92abc2f052d9550fe1110d5781841a65
       links_by : (found ≡ fact.Opened) ⊎ (found ≡ fact.Opened → ⊥) →
           IsTurned moment kind old new got found texts (world_in kind past) added → IsLinked kind issued old past →
           IsLinked kind (issued_in found texts issued) new (past ++ added)
-      links_by (inl is) t linked = opening is t linked
+      links_by (inl is) t linked = opened (opening is t linked)
       links_by (inr other) t linked = linked_other other t linked
+
+  -- a turn after a link was made
+  pub turn_keeps : IsTurned moment kind old new got found texts (world_in kind past) added → IsOpened kind issued old past →
+      IsOpened kind (issued_in found texts issued) new (past ++ added)
+  turn_keeps t o = keeps_by (is_opened_fact found) t o
+    where
+      keeps_by : (found ≡ fact.Opened) ⊎ (found ≡ fact.Opened → ⊥) → IsTurned moment kind old new got found texts (world_in kind past) added →
+          IsOpened kind issued old past → IsOpened kind (issued_in found texts issued) new (past ++ added)
+      keeps_by (inl is) t o = opening is t (opened o)
+      keeps_by (inr other) t o = going_on other t o

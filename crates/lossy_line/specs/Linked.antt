@@ -2,6 +2,8 @@
 use Rattle.std.specs.Prelude.{◌≡◌, ◌⊎◌, ℕ, ◌≤◌, Bool, true, false, List, [], ◌∷◌, ◌++◌, Option, None, Some}
 use Rattle.std.specs.List.{list_any}
 use Rattle.marlin_reply.specs.declared.reply.Reply.TheVariants as reply
+use Rattle.marlin_reply.specs.declared.session.LinkFact.{LinkFact}
+use Rattle.marlin_reply.specs.declared.session.LinkFact.TheVariants as fact
 use Rattle.marlin_reply.specs.declared.session.SessionEnd.{SessionEnd}
 use Rattle.marlin_reply.specs.declared.session.SessionEnd.TheVariants.{NoAnswer, AskedBack, AskedAhead, Counts, Restarted, NumbersUsed}
 use Rattle.printer_model.specs.World.{WorldData, can_happen, apply}
@@ -60,3 +62,12 @@ pub data IsLinked (kind : LinkKind) (issued : List (List ℕ)) (x : SessionData)
 -- the same if the link records its history
 abbrev pub LinkedAs : LinkKind → Option (List WorldEvent) → List (List ℕ) → SessionData → Type 0
 LinkedAs kind recorded issued x = (past : List WorldEvent) → recorded ≡ Some past → IsLinked kind issued x past
+
+-- a turn has made a link, and all this holds, if the link records its history
+abbrev pub OpenedAs : LinkKind → Option (List WorldEvent) → List (List ℕ) → SessionData → Type 0
+OpenedAs kind recorded issued x = (past : List WorldEvent) → recorded ≡ Some past → IsOpened kind issued x past
+
+-- a turn made a link before, or one that found this makes one
+abbrev pub IsOpening : LinkKind → Option (List WorldEvent) → List (List ℕ) → SessionData → LinkFact → Type 0
+IsOpening kind recorded issued x found =
+    OpenedAs kind recorded issued x ⊎ ((found ≡ fact.Opened) × LinkedAs kind recorded issued x)

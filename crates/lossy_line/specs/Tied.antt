@@ -36,14 +36,10 @@ pub record IsTied (kind : LinkKind) (issued : List (List ℕ)) (acked : ℕ) (pa
   -- each line that was sent is the hello or an issued line above acked; one that failed is the last one
   pub sends : AreSendsFit issued [] (world_before kind past s) (session_of s past)
 
--- once a turn has made a link, the last session of the history is tied
-abbrev pub IsLastTied : LinkKind → List (List ℕ) → SessionData → List WorldEvent → Type 0
-IsLastTied kind issued x past =
-    IsUnopened kind issued x past ⊎ IsTied kind issued x.sender.acked past (opens past)
-
--- the same if the link records its history
+-- the last session of a recorded history is tied
 abbrev pub TiedAs : LinkKind → Option (List WorldEvent) → List (List ℕ) → SessionData → Type 0
-TiedAs kind recorded issued x = (past : List WorldEvent) → recorded ≡ Some past → IsLastTied kind issued x past
+TiedAs kind recorded issued x =
+    (past : List WorldEvent) → recorded ≡ Some past → IsTied kind issued x.sender.acked past (opens past)
 
 -- a session that no link was made for yet, by its recorded history
 pub record WasUnopened (kind : LinkKind) (recorded : Option (List WorldEvent)) (issued : List (List ℕ)) (x : SessionData) : Type 0 where
