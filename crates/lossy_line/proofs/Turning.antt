@@ -263,18 +263,6 @@ module _ (moment : ℕ) (kind : LinkKind) (old new : SessionData) (got : Got) (f
       IsLinked kind (issued_in found texts issued) new (past ++ added)
   turn_links t linked = links_by (is_opened_fact found) t linked
     where
-<<<<<<< HEAD
-      is_opened_fact : (f : LinkFact) → (f ≡ fact.Opened) ⊎ (f ≡ fact.Opened → ⊥)
-      is_opened_fact fact.Quiet = inr (λ (e : fact.Quiet ≡ fact.Opened). absurd (cc))
-      is_opened_fact fact.Opened = inl refl
-      is_opened_fact fact.Ready = inr (λ (e : fact.Ready ≡ fact.Opened). absurd (cc))
-      is_opened_fact fact.Closed = inr (λ (e : fact.Closed ≡ fact.Opened). absurd (cc))
-      is_opened_fact fact.NoPort = inr (λ (e : fact.NoPort ≡ fact.Opened). absurd (cc))
-      is_opened_fact fact.Failed = inr (λ (e : fact.Failed ≡ fact.Opened). absurd (cc))
-      is_opened_fact (fact.Ended end) = inr (λ (e : fact.Ended end ≡ fact.Opened). absurd (cc))
-
-=======
->>>>>>> 268e8abc92abc2f052d9550fe1110d5781841a65
       links_by : (found ≡ fact.Opened) ⊎ (found ≡ fact.Opened → ⊥) →
           IsTurned moment kind old new got found texts (world_in kind past) added → IsLinked kind issued old past →
           IsLinked kind (issued_in found texts issued) new (past ++ added)

@@ -29,10 +29,6 @@ pub fn turn_over_link<L: Link>(session: &mut Session, link: &mut L, moment: u64)
         → LinkedAs (L.kind link.new) (L.past link.new)
         (issued_in (fact_of result.note) (texts_in (lines_of result.note)) issued) session.new }
 
-<<<<<<< HEAD
-    // Each session of the history is tied to its issued lines: the last one, and before a further link the former one.
-    ensures tied { (issued : List (List ℕ)) → LinkedAs (L.kind link.old) (L.past link.old) issued session.old
-=======
     // Once a link is made, each session of the history is tied to its issued lines: the last one, and in a turn that
     // makes a further link the one before it.
     ensures opened { (issued : List (List ℕ))
@@ -41,7 +37,6 @@ pub fn turn_over_link<L: Link>(session: &mut Session, link: &mut L, moment: u64)
         (issued_in (fact_of result.note) (texts_in (lines_of result.note)) issued) session.new }
     ensures tied { (issued : List (List ℕ))
         → IsOpening (L.kind link.old) (L.past link.old) issued session.old (fact_of result.note)
->>>>>>> 268e8abc92abc2f052d9550fe1110d5781841a65
         → TiedAs (L.kind link.new) (L.past link.new)
         (issued_in (fact_of result.note) (texts_in (lines_of result.note)) issued) session.new }
     ensures former { fact_of result.note ≡ fact.Opened
