@@ -1,0 +1,123 @@
+//! Whether tables are those that a host can begin with.
+ghost use Rattle.std.specs.Prelude.{◌≡◌, ◌+◌, Some, count_by};
+ghost use Rattle.std.specs.List.{list_all};
+ghost use Rattle.octo_access.specs.Rows.{is_named, has_digest};
+ghost use Rattle.print_queue.specs.Rows.{is_of};
+ghost use Rattle.octo_keeper.specs.Sound.{are_apart, are_numbered_from, are_sound, is_alone, is_apart, is_queue, is_user_list, is_whole, is_within};
+
+use crate::Tables;
+use octo_access::UserRow;
+use print_queue::QueueEntry;
+use print_records::PrintRow;
+
+fn is_apart(a: &QueueEntry, b: &QueueEntry) -> bool
+    ensures { result ≡ is_apart a.now b.now }
+{
+    a.arrival != b.arrival && !b.is_key(&a.user, &a.name)
+}
+
+fn is_apart_from(row: &QueueEntry, rows: &[QueueEntry]) -> bool
+    ensures { result ≡ list_all (is_apart row.now) rows.now }
+{
+    rows.iter().all(|other| is_apart(row, other))
+}
+
+fn are_apart(rows: &[QueueEntry]) -> bool
+    ensures { result ≡ are_apart rows.now }
+{
+    let mut rest = rows;
+    while let [row, others @ ..] = rest {
+        if !is_apart_from(row, others) {
+            return false;
+        }
+        rest = others;
+    }
+    true
+}
+
+fn is_whole(row: &QueueEntry) -> bool
+    ensures { result ≡ is_whole row.now }
+{
+    1 <= row.left && row.left <= row.copies && row.copies <= 100
+}
+
+fn is_within(rows: &[QueueEntry], row: &QueueEntry) -> bool
+    ensures { result ≡ is_within rows.now row.now }
+{
+    rows.iter().filter(|other| other.is_of(&row.user)).count() <= 64
+}
+
+fn are_whole(rows: &[QueueEntry]) -> bool
+    ensures { result ≡ list_all is_whole rows.now }
+{
+    rows.iter().all(is_whole)
+}
+
+fn are_within(rows: &[QueueEntry]) -> bool
+    ensures { result ≡ list_all (is_within rows.now) rows.now }
+{
+    rows.iter().all(|row| is_within(rows, row))
+}
+
+fn is_queue(rows: &[QueueEntry]) -> bool
+    ensures { result ≡ is_queue rows.now }
+{
+    are_apart(rows) && are_whole(rows) && are_within(rows)
+}
+
+fn count_named(rows: &[UserRow], row: &UserRow) -> usize
+    ensures { result ≡ count_by (is_named row.now.name) rows.now }
+{
+    rows.iter()
+        .filter(|other| other.name.as_bytes() == row.name.as_bytes())
+        .count()
+}
+
+fn count_with_digest(rows: &[UserRow], row: &UserRow) -> usize
+    ensures { result ≡ count_by (has_digest row.now.digest) rows.now }
+{
+    rows.iter()
+        .filter(|other| other.digest == row.digest)
+        .count()
+}
+
+fn is_alone(rows: &[UserRow], row: &UserRow) -> bool
+    ensures { result ≡ is_alone rows.now row.now }
+{
+    count_named(rows, row) <= 1 && count_with_digest(rows, row) <= 1
+}
+
+fn are_alone(rows: &[UserRow]) -> bool
+    ensures { result ≡ list_all (is_alone rows.now) rows.now }
+{
+    rows.iter().all(|row| is_alone(rows, row))
+}
+
+fn is_user_list(rows: &[UserRow]) -> bool
+    ensures { result ≡ is_user_list rows.now }
+{
+    rows.len() <= 1_000 && are_alone(rows)
+}
+
+fn are_numbered(rows: &[PrintRow]) -> bool
+    ensures { result ≡ are_numbered_from 1 rows.now }
+{
+    let mut number = 1;
+    for row in rows {
+        if u64::from(row.number) != number {
+            return false;
+        }
+        number += 1;
+    }
+    true
+}
+
+/// Whether a host can begin with these tables: names, keys and arrivals are distinct and within their limits, and the prints are
+/// numbered from 1 without a gap.
+pub fn are_sound(tables: &Tables) -> bool
+    ensures { result ≡ are_sound tables.now }
+{
+    is_user_list(tables.users.as_slice())
+        && is_queue(tables.queue.as_slice())
+        && are_numbered(tables.prints.as_slice())
+}

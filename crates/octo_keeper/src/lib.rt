@@ -1,0 +1,22 @@
+//! What a print host keeps: its users, queue and print records as tables, and its files on a shelf.
+#![tactic(auto)]
+
+mod checks;
+mod copies;
+mod edits;
+mod files;
+mod keeper;
+mod lists;
+mod memory_keeper;
+mod memory_shelf;
+mod shelf;
+mod tables;
+
+pub use keeper::{Keeper, KeeperFault};
+pub use memory_keeper::MemoryKeeper;
+pub use memory_shelf::MemoryShelf;
+pub use shelf::{FileList, Shelf, ShelfFault, ShelfFile};
+pub use tables::{Change, Tables};
+
+#[cfg(test)]
+mod tests;

@@ -1,0 +1,99 @@
+//! A keeper in memory, some of whose calls fail.
+use crate::checks::are_sound;
+use crate::{Change, Keeper, KeeperFault, Tables};
+use octo_outside::{CallList, Calls};
+use std::alloc::Global;
+use std::marker::Model;
+
+/// Tables in memory.
+#[derive(Drop)]
+pub struct MemoryKeeper {
+    tables: Tables,
+    calls: Calls,
+}
+
+impl Model for MemoryKeeper {
+    ghost use Rattle.octo_keeper.specs.Memory.{KeeperData};
+
+    ghost Value = { KeeperData };
+
+    ghost view = { λ k. record { tables = k.tables; calls = k.calls } };
+}
+
+impl MemoryKeeper {
+    ghost use Rattle.std.specs.Prelude.{◌≡◌, Some};
+
+    /// A keeper of these tables whose calls with these numbers, from 1, fail; takes no memory.
+    pub fn new(tables: Tables, fail_at: CallList) -> Self
+        ensures { result ≡ record { tables = tables; calls = record { made = 0; faults = 0; fail_at = fail_at } } }
+    {
+        MemoryKeeper {
+            tables,
+            calls: Calls::new(fail_at),
+        }
+    }
+
+    /// The tables.
+    pub fn tables(&self) -> Option<&Tables>
+        ensures { (tables : _) × (result ≡ Some tables) × (tables.now ≡ self.now.tables) }
+    {
+        Some(&self.tables)
+    }
+}
+
+impl Keeper for MemoryKeeper {
+    ghost use Rattle.std.specs.Prelude.{◌≡◌, ◌≤◌, ◌↔◌, ◌⊎◌, true, false, Some, IfOk, OnOk, OnErr, IsErrOf};
+    ghost use Rattle.octo_outside.specs.Told.{Rose};
+    ghost use Rattle.octo_outside.specs.Memory.{one_more, is_listed};
+    ghost use Rattle.octo_keeper.specs.declared.keeper.KeeperFault.TheVariants as fault;
+    ghost use Rattle.octo_keeper.specs.Tables.{changed, AreSound};
+    ghost use Rattle.octo_keeper.specs.Memory.{KeeperData};
+    ghost use Rattle.octo_keeper.specs.Sound.{are_sound};
+
+    ghost tables = { λ k. Some k.tables };
+
+    ghost faults = { λ k. k.calls.faults };
+
+    #[tactic(auto, using(crate::proofs::SoundTables::tables_tell))]
+    fn load(&mut self, alloc: Global) -> Result<Tables, KeeperFault>
+        ensures ok { IfOk result (λ loaded. loaded ≡ self.old.tables) }
+        ensures sound { IfOk result AreSound }
+        ensures stays { self.new.tables ≡ self.old.tables }
+
+        ensures fails { IsErrOf result fault.Failed
+            ↔ ((is_listed self.old.calls.fail_at (one_more self.old.calls.made) ≡ true) ⊎ (are_sound self.old.tables ≡ false)) }
+        ensures counted { self.old.calls.faults ≤ self.new.calls.faults }
+        ensures failed { IsErrOf result fault.Failed → Rose self.old.calls.faults self.new.calls.faults }
+    {
+        if self.calls.begin() {
+            self.calls.fail();
+            return Err(KeeperFault::Failed);
+        }
+        if !are_sound(&self.tables) {
+            self.calls.fail();
+            return Err(KeeperFault::Failed);
+        }
+        match self.tables.copy(alloc) {
+            Ok(tables) => Ok(tables),
+            Err(_) => Err(KeeperFault::NoMemory),
+        }
+    }
+
+    fn commit(&mut self, alloc: Global, change: &Change) -> Result<(), KeeperFault>
+        ensures ok { OnOk result (self.new.tables ≡ changed change.now self.old.tables) }
+        ensures err { OnErr result (self.new.tables ≡ self.old.tables) }
+
+        ensures fails { IsErrOf result fault.Failed ↔ (is_listed self.old.calls.fail_at (one_more self.old.calls.made) ≡ true) }
+        ensures counted { self.old.calls.faults ≤ self.new.calls.faults }
+        ensures failed { IsErrOf result fault.Failed → Rose self.old.calls.faults self.new.calls.faults }
+    {
+        if self.calls.begin() {
+            self.calls.fail();
+            return Err(KeeperFault::Failed);
+        }
+        match self.tables.change(alloc, change) {
+            Ok(()) => Ok(()),
+            Err(_) => Err(KeeperFault::NoMemory),
+        }
+    }
+}

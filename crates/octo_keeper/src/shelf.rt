@@ -1,0 +1,92 @@
+//! What keeps the files.
+use byte_text::Name;
+use octo_outside::{Blob, ItemList};
+use std::alloc::{AllocError, AllocFailed, Global};
+
+/// Why a shelf didn't do a call.
+#[derive(Clone, Copy, Debug, PartialEq, Eq)]
+pub enum ShelfFault {
+    /// It failed, and its count of faults rose.
+    Failed,
+    /// Out of memory.
+    NoMemory,
+}
+
+impl From<AllocError> for ShelfFault {
+    ghost use Rattle.std.specs.Prelude.{◌≡◌};
+    ghost use Rattle.octo_keeper.specs.declared.shelf.ShelfFault.TheVariants.{NoMemory};
+
+    ghost from_gives = { λ _ e. e ≡ NoMemory };
+
+    fn from(_: AllocError) -> Self {
+        ShelfFault::NoMemory
+    }
+}
+
+impl<T: Drop> From<AllocFailed<T>> for ShelfFault {
+    ghost use Rattle.std.specs.Prelude.{◌≡◌};
+    ghost use Rattle.octo_keeper.specs.declared.shelf.ShelfFault.TheVariants.{NoMemory};
+
+    ghost from_gives = { λ _ e. e ≡ NoMemory };
+
+    fn from(_: AllocFailed<T>) -> Self {
+        ShelfFault::NoMemory
+    }
+}
+
+/// A file on a shelf.
+#[derive(Drop)]
+pub struct ShelfFile {
+    pub name: Name,
+    pub bytes: Blob,
+}
+
+/// Names of files with their sizes in bytes.
+pub type FileList = ItemList<(Name, u64)>;
+
+/// What keeps the files of a host: a map from names to bytes.
+pub trait Shelf {
+    ghost use Rattle.std.specs.Prelude.{◌≡◌, ℕ, ◌≤◌, List, Option, option_map, IfOk, IfSome, OnOk, OnErr, IsErrOf};
+    ghost use Rattle.octo_outside.specs.Told.{Rose};
+    ghost use Rattle.octo_keeper.specs.declared.shelf.ShelfFile.{ShelfFile};
+    ghost use Rattle.octo_keeper.specs.declared.shelf.ShelfFault.TheVariants as fault;
+    ghost use Rattle.octo_keeper.specs.Files.{bytes_of, sizes_of, with_file, without_file};
+
+    /// The files by name, if the shelf records them: `None` for a real folder.
+    ghost files: { Self → Option (List ShelfFile) };
+
+    /// How many calls failed.
+    ghost faults: { Self → ℕ };
+
+    /// The names of all files with their sizes, by name.
+    fn list(&mut self, alloc: Global) -> Result<FileList, ShelfFault>
+        ensures ok { IfOk result (λ list. IfSome (files self.old) (λ held. list ≡ sizes_of held)) }
+        ensures stays { files self.new ≡ files self.old }
+
+        ensures counted { faults self.old ≤ faults self.new }
+        ensures failed { IsErrOf result fault.Failed → Rose (faults self.old) (faults self.new) };
+
+    /// The bytes of a file, `None` if there is no file of that name.
+    fn get(&mut self, alloc: Global, name: &Name) -> Result<Option<Blob>, ShelfFault>
+        ensures ok { IfOk result (λ bytes. IfSome (files self.old) (λ held. bytes ≡ bytes_of name.now held)) }
+        ensures stays { files self.new ≡ files self.old }
+
+        ensures counted { faults self.old ≤ faults self.new }
+        ensures failed { IsErrOf result fault.Failed → Rose (faults self.old) (faults self.new) };
+
+    /// Sets the bytes of that name alone.
+    fn put(&mut self, alloc: Global, name: &Name, bytes: &[u8]) -> Result<(), ShelfFault>
+        ensures ok { OnOk result (files self.new ≡ option_map (with_file name.now bytes.now) (files self.old)) }
+        ensures err { OnErr result (files self.new ≡ files self.old) }
+
+        ensures counted { faults self.old ≤ faults self.new }
+        ensures failed { IsErrOf result fault.Failed → Rose (faults self.old) (faults self.new) };
+
+    /// Takes the file of that name alone out, if there is one.
+    fn remove(&mut self, alloc: Global, name: &Name) -> Result<(), ShelfFault>
+        ensures ok { OnOk result (files self.new ≡ option_map (without_file name.now) (files self.old)) }
+        ensures err { OnErr result (files self.new ≡ files self.old) }
+
+        ensures counted { faults self.old ≤ faults self.new }
+        ensures failed { IsErrOf result fault.Failed → Rose (faults self.old) (faults self.new) };
+}
