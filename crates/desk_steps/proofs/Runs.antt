@@ -13,7 +13,7 @@ use Rattle.desk_steps.specs.declared.state.State.TheVariants.{Operational, Print
 use Rattle.desk_steps.specs.declared.state.Point.TheVariants as point
 use Rattle.desk_steps.specs.declared.state.Tag.{Tag}
 use Rattle.desk_steps.specs.declared.state.Tag.TheVariants.{Script, Job, Manual, Poll}
-use Rattle.marlin_reply.specs.declared.session.LinkFact.{LinkFact}
+use Rattle.desk_steps.specs.declared.link_fact.LinkFact.{LinkFact}
 use Rattle.print_records.specs.declared.ending.Ending.{Ending}
 use Rattle.std.proofs.Common.{⊎_elim, ◌≤◌, arith, All}
 use Rattle.std.proofs.lemmas.List.{append-nil}

@@ -6,8 +6,8 @@ use Rattle.gcode_lines.specs.Job.{JobData}
 use Rattle.desk_steps.specs.Data.{Data, File}
 use Rattle.desk_steps.specs.declared.state.State.{State}
 use Rattle.desk_steps.specs.declared.state.State.TheVariants.{Offline, Connecting, Operational, Printing, Pausing, Paused, Cancelling, Finishing, Closing, Fault}
-use Rattle.marlin_reply.specs.declared.session.LinkFact.{LinkFact}
-use Rattle.marlin_reply.specs.declared.session.LinkFact.TheVariants as fact
+use Rattle.desk_steps.specs.declared.link_fact.LinkFact.{LinkFact}
+use Rattle.desk_steps.specs.declared.link_fact.LinkFact.TheVariants as fact
 use Rattle.job_desk.specs.Views.{bytes_of}
 use Rattle.job_desk.specs.declared.desk.Selected.{Selected}
 use Rattle.job_desk.specs.declared.desk.Desk.TheInside.{Inside}

@@ -2,9 +2,9 @@
 use Rattle.std.proofs.Common.{◌≡◌, ◌≢◌, ◌↔◌, ◌⊎◌, inl, inr, ℕ, ◌-◌, Bool, true, false, List, [], ◌∷◌, ◌++◌, map, refl, sym, ◌∙◌, ap, subst}
 use Rattle.std.specs.Prelude.{Option, None, Some, IfSome}
 use Rattle.desk_steps.specs.Data.{Line}
-use Rattle.job_desk.specs.declared.issued.Note.{Note}
-use Rattle.marlin_reply.specs.declared.session.LinkFact.{LinkFact}
-use Rattle.marlin_reply.specs.declared.session.LinkFact.TheVariants as fact
+use Rattle.desk_steps.specs.declared.issued.Note.{Note}
+use Rattle.desk_steps.specs.declared.link_fact.LinkFact.{LinkFact}
+use Rattle.desk_steps.specs.declared.link_fact.LinkFact.TheVariants as fact
 use Rattle.printer_model.specs.declared.event.WorldEvent.{WorldEvent}
 use Rattle.printer_link.specs.Link.{LinkKind, world_in}
 use Rattle.send_window.specs.Sending.{next_of}
@@ -17,7 +17,7 @@ use Rattle.lossy_line.specs.Linked.{IsUnopened, IsOpened, IsLinked, LinkedAs, Op
 use Rattle.lossy_line.specs.Tied.{IsTied, TiedAs, WasUnopened, FormerTiedAs, IsEndCaused, EndCausedAs}
 use Rattle.lossy_line.proofs.Promised.{turn_former, turn_caused}
 use Rattle.lossy_line.proofs.Tying.{opened_tied}
-use Rattle.marlin_reply.specs.declared.session.SessionEnd.{SessionEnd}
+use Rattle.send_window.specs.declared.session_end.SessionEnd.{SessionEnd}
 use Rattle.printer_model.specs.Executed.{opens}
 use Rattle.lossy_line.proofs.Quiet.{StaysUp}
 use Rattle.lossy_line.proofs.Turned.{IsTurned}

@@ -1,7 +1,7 @@
 //! A turn of a session, with what holds of it whatever the line does.
 ghost use Rattle.std.specs.Prelude.{◌≡◌, ◌↔◌, ◌≤◌, ℕ, List, [], true, false, None};
 ghost use Rattle.octo_outside.specs.Told.{Rose};
-ghost use Rattle.marlin_reply.specs.declared.session.LinkFact.TheVariants as fact;
+ghost use Rattle.desk_steps.specs.declared.link_fact.LinkFact.TheVariants as fact;
 ghost use Rattle.printer_link.specs.Link.{RoseBy};
 ghost use Rattle.send_window.specs.Sending.{next_of};
 ghost use Rattle.octo_session.specs.Data.{IsSession, doing, is_calling, port_of};
@@ -11,7 +11,7 @@ ghost use Rattle.octo_session.specs.declared.found.Doing.TheVariants as now_doin
 ghost use Rattle.lossy_line.specs.Issuing.{issued_in};
 ghost use Rattle.lossy_line.specs.Linked.{LinkedAs, OpenedAs, IsOpening};
 ghost use Rattle.lossy_line.specs.Tied.{TiedAs, FormerTiedAs, EndCausedAs};
-ghost use Rattle.marlin_reply.specs.declared.session.SessionEnd.{SessionEnd};
+ghost use Rattle.send_window.specs.declared.session_end.SessionEnd.{SessionEnd};
 
 use octo_session::{Session, Turned};
 use printer_link::Link;

@@ -9,16 +9,16 @@ use Rattle.desk_steps.proofs.Settled.{settled_by_steps}
 use Rattle.send_window.specs.Sending.{push_step}
 use Rattle.desk_steps.specs.Note.{note_step}
 use Rattle.desk_steps.proofs.Steady.{steady-pull, steady-note}
-use Rattle.marlin_reply.specs.declared.session.LinkFact.{LinkFact}
-use Rattle.marlin_reply.specs.declared.session.LinkFact.TheVariants as fact
+use Rattle.desk_steps.specs.declared.link_fact.LinkFact.{LinkFact}
+use Rattle.desk_steps.specs.declared.link_fact.LinkFact.TheVariants as fact
 use Rattle.print_records.specs.declared.ending.Ending.{Ending}
 use Rattle.send_window.specs.Data.{SenderData}
 use Rattle.octo_session.specs.Data.{IsJoined}
 use Rattle.octo_session.specs.DeskTurn.{Pulls, IsNoted, first_fact, last_noted}
 use Rattle.octo_session.specs.Steps.{Step, issues, after_steps, AreAllowed, Issues, issuing}
-use Rattle.job_desk.specs.Views.{line_of}
-use Rattle.job_desk.specs.declared.issued.Issued.{Issued}
-use Rattle.marlin_reply.specs.declared.session.SessionEnd.{SessionEnd}
+use Rattle.desk_steps.specs.Issued.{line_of}
+use Rattle.desk_steps.specs.declared.issued.Issued.{Issued}
+use Rattle.send_window.specs.declared.session_end.SessionEnd.{SessionEnd}
 use Rattle.send_window.specs.Hearing.{answer_of}
 use Rattle.octo_session.specs.Found.{up_after}
 use Rattle.octo_session.specs.Turn.{drawn, texts_in, is_unbroken}

@@ -4,8 +4,8 @@ use Rattle.std.specs.Option.{option_or}
 use Rattle.desk_steps.specs.Data.{Data, Line}
 use Rattle.desk_steps.specs.Pull.{pull_step}
 use Rattle.desk_steps.specs.Note.{Noted, note_step}
-use Rattle.marlin_reply.specs.declared.session.LinkFact.{LinkFact}
-use Rattle.marlin_reply.specs.declared.session.LinkFact.TheVariants as fact
+use Rattle.desk_steps.specs.declared.link_fact.LinkFact.{LinkFact}
+use Rattle.desk_steps.specs.declared.link_fact.LinkFact.TheVariants as fact
 use Rattle.print_records.specs.declared.ending.Ending.{Ending}
 
 -- successive pulls at a moment give these lines and lead from one desk to another

@@ -1,12 +1,12 @@
 -- What a turn promises.
 use Rattle.std.specs.Prelude.{◌≡◌, ◌≢◌, ◌⊎◌, ◌↔◌, ℕ, Bool, true, false, List, [], ◌∷◌, map, Option, None, Some, IfSome}
-use Rattle.job_desk.specs.Views.{line_of}
-use Rattle.job_desk.specs.declared.issued.Note.{Note}
+use Rattle.desk_steps.specs.Issued.{line_of}
+use Rattle.desk_steps.specs.declared.issued.Note.{Note}
 use Rattle.desk_steps.specs.Data.{Data, Line}
 use Rattle.desk_steps.specs.Pull.{pull_step}
-use Rattle.marlin_reply.specs.declared.session.SessionEnd.{SessionEnd}
-use Rattle.marlin_reply.specs.declared.session.LinkFact.{LinkFact}
-use Rattle.marlin_reply.specs.declared.session.LinkFact.TheVariants as fact
+use Rattle.send_window.specs.declared.session_end.SessionEnd.{SessionEnd}
+use Rattle.desk_steps.specs.declared.link_fact.LinkFact.{LinkFact}
+use Rattle.desk_steps.specs.declared.link_fact.LinkFact.TheVariants as fact
 use Rattle.print_records.specs.declared.ending.Ending.{Ending}
 use Rattle.printer_model.specs.declared.event.WorldEvent.{WorldEvent}
 use Rattle.send_window.specs.Data.{SenderData}

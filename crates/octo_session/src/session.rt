@@ -3,9 +3,9 @@ ghost use Rattle.std.specs.Prelude.{◌≡◌, ◌≢◌, ◌↔◌, ◌≤◌, 
 ghost use Rattle.octo_outside.specs.Told.{Rose};
 ghost use Rattle.desk_steps.specs.Data.{new_desk};
 ghost use Rattle.desk_steps.specs.Table.{is_closable_at};
-ghost use Rattle.job_desk.specs.Views.{line_of};
-ghost use Rattle.marlin_reply.specs.declared.session.LinkFact.TheVariants as fact;
-ghost use Rattle.marlin_reply.specs.declared.session.SessionEnd.{SessionEnd};
+ghost use Rattle.desk_steps.specs.Issued.{line_of};
+ghost use Rattle.desk_steps.specs.declared.link_fact.LinkFact.TheVariants as fact;
+ghost use Rattle.send_window.specs.declared.session_end.SessionEnd.{SessionEnd};
 ghost use Rattle.printer_link.specs.Link.{HasSlots, Grows, IsDial, IsNothing, IsRuns, RoseBy, counted_one, dial_events};
 ghost use Rattle.printer_link.specs.declared.link.LinkFault.TheVariants as fault;
 ghost use Rattle.send_window.specs.Data.{IsSound, new_sender, begun};

@@ -1,8 +1,8 @@
 use Rattle.std.proofs.Common.{◌≡◌, ◌↔◌, ℕ, List, [], ◌∷◌, sym, ap, ◌∙◌, refl, rules, map}
 use Rattle.std.specs.Prelude.{Option, None}
-use Rattle.job_desk.specs.Views.{line_of}
-use Rattle.job_desk.specs.declared.issued.Issued.{Issued}
-use Rattle.job_desk.specs.declared.issued.Note.{Note}
+use Rattle.desk_steps.specs.Issued.{line_of}
+use Rattle.desk_steps.specs.declared.issued.Issued.{Issued}
+use Rattle.desk_steps.specs.declared.issued.Note.{Note}
 use Rattle.octo_session.specs.Data.{SessionData}
 use Rattle.octo_session.specs.Found.{got_of, temps_in, temps_kept}
 use Rattle.octo_session.specs.Turn.{IsStill, IsUneventful}
