@@ -1,5 +1,6 @@
 pub mod Course
 pub mod Data
+pub mod Endings
 pub mod Issued
 pub mod Note
 pub mod Plain

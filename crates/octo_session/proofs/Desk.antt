@@ -42,7 +42,7 @@ pulls_more moment lines old mid None pulls e still =
 pulls_more moment lines old mid (Some line) pulls e still = pulls_push moment lines line old mid pulls e
 
 -- no pull raises the greatest print, nor does a note
-pulls_greatest : (moment : ℕ) (lines : List Line) (old new : Data) → Pulls moment lines old new → new.greatest ≡ old.greatest
+pub pulls_greatest : (moment : ℕ) (lines : List Line) (old new : Data) → Pulls moment lines old new → new.greatest ≡ old.greatest
 pulls_greatest moment [] old new same = ap (λ (d : Data). d.greatest) same
 pulls_greatest moment (line ∷ lines) old new pulls =
     pulls_greatest moment lines (pull_step moment old).1 new pulls.1 ∙ (steady-pull moment old).greatest

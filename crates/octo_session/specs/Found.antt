@@ -107,6 +107,16 @@ is_said _ = false
 abbrev pub may_issue : Got → LinkFact → Bool
 may_issue got found = is_got got && is_said found
 
+-- whether the hello is acknowledged after a turn that found this
+abbrev pub ready_after : LinkFact → Bool → Bool
+ready_after fact.Quiet was_ready = was_ready
+ready_after fact.Opened was_ready = false
+ready_after fact.Ready was_ready = true
+ready_after fact.Closed was_ready = was_ready
+ready_after fact.NoPort was_ready = was_ready
+ready_after fact.Failed was_ready = was_ready
+ready_after (fact.Ended end) was_ready = was_ready
+
 -- whether the link is up after a turn that found this
 abbrev pub up_after : LinkFact → Bool → Bool
 up_after fact.Quiet was_up = was_up

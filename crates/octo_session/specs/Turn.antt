@@ -65,6 +65,12 @@ pub record IsNoteOf (moment acked : ℕ) (lines : List Line) (got : Got) (found 
   pub its_temps : note.temps ≡ temps_in got
   pub its_fact : note.fact ≡ found
 
+-- a note of a turn says its moment and how many lines are acknowledged, and this is what it made of the desk
+pub record IsNoteOn (moment acked : ℕ) (old new : Data) (ending : Option Ending) (note : Note) : Type 0 where
+  pub its_moment : note.moment ≡ moment
+  pub its_acked : note.acked ≡ acked
+  pub noted : IsNoted moment acked note.fact (map line_of note.issued.items) old ending new
+
 -- nothing happened, by what is known before a note is made
 pub record IsStill (found : Found) (before acked : ℕ) : Type 0 where
   pub no_line : found.issued.items ≡ []
