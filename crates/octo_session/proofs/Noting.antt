@@ -188,7 +188,7 @@ module _ (moment : ℕ) (kind : LinkKind) (old_past new_past : Option (List Worl
   found_is : fact_of turned.note ≡ t.found
   found_is = noted_fact turned.note moment old.sender.acked new.sender.acked t.lines t.got t.found t.none t.some
 
-  pub rises_in : IsSound old.sender → RisesIn (fact_of turned.note) old.sender new.sender
+  rises_in : IsSound old.sender → RisesIn (fact_of turned.note) old.sender new.sender
   rises_in sound =
       let P : SenderData → Type 0 = λ s. RisesIn (fact_of turned.note) old.sender s in
       let F : LinkFact → Type 0 = λ f. can_find (doing old) f ≡ true in
@@ -256,7 +256,7 @@ module _ (moment : ℕ) (kind : LinkKind) (old_past new_past : Option (List Worl
       by None is some = tt
       by (Some note) is some =
           let noted = desk_noted (doing old) moment new.sender.acked t.found t.lines old.desk turned.ending new.desk
-              (λ rests. (let no : ◌≡◌ {A = Option Note} (Some note) None = sym is ∙ rests_still rests in cc no)) t.desk in
+          (λ rests. (let no : ◌≡◌ {A = Option Note} (Some note) None = sym is ∙ rests_still rests in cc no)) t.desk in
           let F : LinkFact → Type 0 = λ f. IsNoted moment new.sender.acked f (map line_of note.issued.items) old.desk turned.ending new.desk in
           let L : List Line → Type 0 = λ l. IsNoted moment new.sender.acked t.found l old.desk turned.ending new.desk in
           record {
