@@ -53,11 +53,17 @@ impl Model for Session {
 // Dials the port of the desk.
 fn dial_port<L: Link>(desk: &Desk, link: &mut L) -> Result<(), LinkFault>
     requires { L.up link.old ≡ false }
-    ensures past { OnOk result (Grows (L.kind link.old) (L.past link.old) (L.past link.new) IsDial) }
-    ensures past_no_port { IsErrOf result fault.NoPort → Grows (L.kind link.old) (L.past link.old) (L.past link.new) IsNothing }
-    ensures past_prompt { (L.kind link.old).prompt ≡ true → OnOk result (Grows (L.kind link.old) (L.past link.old) (L.past link.new) (λ w added. (last : ℕ) × (added ≡ dial_events w last))) }
-    ensures past_failed { IsErrOf result fault.Failed → Grows (L.kind link.old) (L.past link.old) (L.past link.new) IsRuns }
-    ensures no_port { IsErrOf result fault.NoPort ↔ ((L.kind link.old).listed (port_of desk.now) ≡ false) }
+    ensures past { OnOk result (Grows (L.kind link.old) (L.past link.old) (L.past link.new)
+        IsDial) }
+    ensures past_no_port { IsErrOf result fault.NoPort
+        → Grows (L.kind link.old) (L.past link.old) (L.past link.new) IsNothing }
+    ensures past_prompt { (L.kind link.old).prompt ≡ true
+        → OnOk result (Grows (L.kind link.old) (L.past link.old) (L.past link.new)
+        (λ w added. (last : ℕ) × (added ≡ dial_events w last))) }
+    ensures past_failed { IsErrOf result fault.Failed
+        → Grows (L.kind link.old) (L.past link.old) (L.past link.new) IsRuns }
+    ensures no_port { IsErrOf result fault.NoPort
+        ↔ ((L.kind link.old).listed (port_of desk.now) ≡ false) }
     ensures calls { L.calls link.new ≡ counted_one (L.calls link.old) }
     ensures up { OnOk result (L.up link.new ≡ true) }
     ensures down { OnErr result (L.up link.new ≡ false) }
@@ -152,7 +158,8 @@ impl Session {
         ensures finds { result.fact ≡ fact.Opened }
         ensures silent { result.issued.items ≡ [] }
         ensures unasked { result.received ≡ received.Unasked }
-        ensures noted { IsNoted moment self.new.sender.acked fact.Opened [] self.old.desk result.ending self.new.desk }
+        ensures noted { IsNoted moment self.new.sender.acked fact.Opened [] self.old.desk
+            result.ending self.new.desk }
         ensures joined { IsSession self.new }
         ensures up { self.new.up ≡ true }
         ensures sender { self.new.sender ≡ begun self.old.sender }
@@ -163,20 +170,24 @@ impl Session {
         Found::silent(LinkFact::Opened, Received::Unasked, ending)
     }
 
-    // Dials, and opens the session where the link is made.
+    // Dials, and opens the session if the link is made.
     fn dial<L: Link>(&mut self, link: &mut L, moment: u64) -> Found
         requires shut { self.old.up ≡ false }
         requires down { L.up link.old ≡ false }
         ensures finds { can_find now_doing.Dialling result.fact ≡ true }
         ensures silent { result.issued.items ≡ [] }
         ensures unasked { result.received ≡ received.Unasked }
-        ensures noted { IsNoted moment self.new.sender.acked result.fact [] self.old.desk result.ending self.new.desk }
+        ensures noted { IsNoted moment self.new.sender.acked result.fact [] self.old.desk
+            result.ending self.new.desk }
         ensures joined { IsSession self.new }
         ensures up { self.new.up ≡ up_after result.fact false }
         ensures link { L.up link.new ≡ self.new.up }
-        ensures no_port { (result.fact ≡ fact.NoPort) ↔ ((L.kind link.old).listed (port_of self.old.desk) ≡ false) }
+        ensures no_port { (result.fact ≡ fact.NoPort)
+            ↔ ((L.kind link.old).listed (port_of self.old.desk) ≡ false) }
         ensures ready { self.new.sender.ready ≡ true → self.old.sender.ready ≡ true }
-        ensures steps { Takes moment (L.kind link.old) (L.past link.old) (L.past link.new) (L.calls link.old) (L.calls link.new) (dial_steps result.fact) self.old.sender self.new.sender }
+        ensures steps { Takes moment (L.kind link.old) (L.past link.old) (L.past link.new)
+            (L.calls link.old) (L.calls link.new) (dial_steps result.fact) self.old.sender
+            self.new.sender }
         ensures kind { L.kind link.new ≡ L.kind link.old }
         ensures counted { L.faults link.old ≤ L.faults link.new }
         ensures failed { result.fact ≡ fact.Failed → Rose (L.faults link.old) (L.faults link.new) }
@@ -196,18 +207,21 @@ impl Session {
         }
     }
 
-    // Hangs up, where the link is up.
+    // Hangs up, if the link is up.
     fn hang_up<L: Link>(&mut self, link: &mut L, moment: u64) -> Found
         requires { L.up link.old ≡ self.old.up }
         ensures finds { result.fact ≡ fact.Closed }
         ensures silent { result.issued.items ≡ [] }
         ensures unasked { result.received ≡ received.Unasked }
-        ensures noted { IsNoted moment self.new.sender.acked fact.Closed [] self.old.desk result.ending self.new.desk }
+        ensures noted { IsNoted moment self.new.sender.acked fact.Closed [] self.old.desk
+            result.ending self.new.desk }
         ensures joined { IsSession self.new }
         ensures up { self.new.up ≡ false }
         ensures link { L.up link.new ≡ false }
         ensures sender { self.new.sender ≡ self.old.sender }
-        ensures steps { Takes moment (L.kind link.old) (L.past link.old) (L.past link.new) (L.calls link.old) (L.calls link.new) (hangs_up self.old.up ∷ []) self.old.sender self.new.sender }
+        ensures steps { Takes moment (L.kind link.old) (L.past link.old) (L.past link.new)
+            (L.calls link.old) (L.calls link.new) (hangs_up self.old.up ∷ []) self.old.sender
+            self.new.sender }
         ensures kind { L.kind link.new ≡ L.kind link.old }
         ensures counted { L.faults link.old ≤ L.faults link.new }
     {
@@ -225,19 +239,28 @@ impl Session {
         requires up { L.up link.old ≡ true }
         ensures finds { can_find now_doing.Talking result.fact ≡ true }
         ensures asked { (got_of result.received line.new.items) ≢ unasked }
-        ensures temps { temps_kept result.received ≡ temps_in (got_of result.received line.new.items) }
-        ensures noted { IsNoted moment self.new.sender.acked result.fact (map line_of result.issued.items) self.old.desk result.ending self.new.desk }
-        ensures ended { (end : SessionEnd) → (result.fact ≡ fact.Ended end) ↔ (end_by (got_of result.received line.new.items) moment self.old.sender ≡ Some end) }
-        ensures ready { (result.fact ≡ fact.Ready) ↔ ((self.old.sender.ready ≡ false) × (self.new.sender.ready ≡ true)) }
+        ensures temps { temps_kept result.received
+            ≡ temps_in (got_of result.received line.new.items) }
+        ensures noted { IsNoted moment self.new.sender.acked result.fact
+            (map line_of result.issued.items) self.old.desk result.ending self.new.desk }
+        ensures ended { (end : SessionEnd)
+            → (result.fact ≡ fact.Ended end)
+            ↔ (end_by (got_of result.received line.new.items) moment self.old.sender ≡ Some end) }
+        ensures ready { (result.fact ≡ fact.Ready)
+            ↔ ((self.old.sender.ready ≡ false) × (self.new.sender.ready ≡ true)) }
         ensures broken { got_of result.received line.new.items ≡ lost → result.fact ≡ fact.Failed }
-        ensures none_issued { may_issue (got_of result.received line.new.items) result.fact ≡ false → result.issued.items ≡ [] }
+        ensures none_issued { may_issue (got_of result.received line.new.items) result.fact ≡ false
+            → result.issued.items ≡ [] }
         ensures silent { result.fact ≡ fact.Ready → result.issued.items ≡ [] }
         ensures sent { result.fact ≡ fact.Ready → next_of self.new.sender ≡ None }
         ensures spent { result.fact ≡ fact.Quiet → IsSpent moment self.new.desk self.new.sender }
         ensures joined { IsSession self.new }
         ensures up { self.new.up ≡ up_after result.fact true }
         ensures link { L.up link.new ≡ self.new.up }
-        ensures steps { TakesSome moment (L.kind link.old) (L.past link.old) (L.past link.new) (L.calls link.old) (L.calls link.new) (talk_steps (got_of result.received line.new.items) result.fact (texts_in (map line_of result.issued.items))) self.old.sender self.new.sender }
+        ensures steps { TakesSome moment (L.kind link.old) (L.past link.old) (L.past link.new)
+            (L.calls link.old) (L.calls link.new)
+            (talk_steps (got_of result.received line.new.items) result.fact
+            (texts_in (map line_of result.issued.items))) self.old.sender self.new.sender }
         ensures kind { L.kind link.new ≡ L.kind link.old }
         ensures counted { L.faults link.old ≤ L.faults link.new }
         ensures failed { result.fact ≡ fact.Failed → Rose (L.faults link.old) (L.faults link.new) }
@@ -254,25 +277,40 @@ impl Session {
     fn act<L: Link>(&mut self, link: &mut L, moment: u64, line: &mut ReplyLine) -> Found
         requires { L.up link.old ≡ self.old.up }
         ensures finds { can_find (doing self.old) result.fact ≡ true }
-        ensures asked { ((got_of result.received line.new.items) ≡ unasked) ↔ (doing self.old ≢ now_doing.Talking) }
-        ensures temps { temps_kept result.received ≡ temps_in (got_of result.received line.new.items) }
-        ensures desk { IsDeskTurn (doing self.old) moment self.new.sender.acked result.fact (map line_of result.issued.items) self.old.desk result.ending self.new.desk }
-        ensures ended { (end : SessionEnd) → (result.fact ≡ fact.Ended end) ↔ (end_by (got_of result.received line.new.items) moment self.old.sender ≡ Some end) }
-        ensures ready { (result.fact ≡ fact.Ready) ↔ ((self.old.sender.ready ≡ false) × (self.new.sender.ready ≡ true)) }
+        ensures asked { ((got_of result.received line.new.items) ≡ unasked)
+            ↔ (doing self.old ≢ now_doing.Talking) }
+        ensures temps { temps_kept result.received
+            ≡ temps_in (got_of result.received line.new.items) }
+        ensures desk { IsDeskTurn (doing self.old) moment self.new.sender.acked result.fact
+            (map line_of result.issued.items) self.old.desk result.ending self.new.desk }
+        ensures ended { (end : SessionEnd)
+            → (result.fact ≡ fact.Ended end)
+            ↔ (end_by (got_of result.received line.new.items) moment self.old.sender ≡ Some end) }
+        ensures ready { (result.fact ≡ fact.Ready)
+            ↔ ((self.old.sender.ready ≡ false) × (self.new.sender.ready ≡ true)) }
         ensures broken { got_of result.received line.new.items ≡ lost → result.fact ≡ fact.Failed }
-        ensures none_issued { may_issue (got_of result.received line.new.items) result.fact ≡ false → result.issued.items ≡ [] }
+        ensures none_issued { may_issue (got_of result.received line.new.items) result.fact ≡ false
+            → result.issued.items ≡ [] }
         ensures silent { result.fact ≡ fact.Ready → result.issued.items ≡ [] }
         ensures sent { result.fact ≡ fact.Ready → next_of self.new.sender ≡ None }
-        ensures spent { self.new.up ≡ true → result.fact ≡ fact.Quiet → IsSpent moment self.new.desk self.new.sender }
+        ensures spent { self.new.up ≡ true → result.fact ≡ fact.Quiet
+            → IsSpent moment self.new.desk self.new.sender }
         ensures joined { IsSession self.new }
         ensures up { self.new.up ≡ up_after result.fact self.old.up }
         ensures link { L.up link.new ≡ self.new.up }
         ensures greatest { self.new.desk.greatest ≡ self.old.desk.greatest }
-        ensures no_port { (result.fact ≡ fact.NoPort) ↔ ((doing self.old ≡ now_doing.Dialling) × ((L.kind link.old).listed (port_of self.old.desk) ≡ false)) }
-        ensures steps { TakesSome moment (L.kind link.old) (L.past link.old) (L.past link.new) (L.calls link.old) (L.calls link.new) (turn_steps (doing self.old) self.old.up (got_of result.received line.new.items) result.fact (texts_in (map line_of result.issued.items))) self.old.sender self.new.sender }
+        ensures no_port { (result.fact ≡ fact.NoPort)
+            ↔ ((doing self.old ≡ now_doing.Dialling)
+            × ((L.kind link.old).listed (port_of self.old.desk) ≡ false)) }
+        ensures steps { TakesSome moment (L.kind link.old) (L.past link.old) (L.past link.new)
+            (L.calls link.old) (L.calls link.new)
+            (turn_steps (doing self.old) self.old.up (got_of result.received line.new.items)
+            result.fact (texts_in (map line_of result.issued.items))) self.old.sender
+            self.new.sender }
         ensures kind { L.kind link.new ≡ L.kind link.old }
         ensures counted { L.faults link.old ≤ L.faults link.new }
-        ensures calls { is_calling (doing self.old) ≡ true → RoseBy 1 (L.calls link.old) (L.calls link.new) }
+        ensures calls { is_calling (doing self.old) ≡ true
+            → RoseBy 1 (L.calls link.old) (L.calls link.new) }
         ensures failed { result.fact ≡ fact.Failed → Rose (L.faults link.old) (L.faults link.new) }
     {
         match self.doing() {
@@ -285,35 +323,51 @@ impl Session {
 
     /// One turn at a moment that isn't before the last one. It does the first of these that applies:
     ///
-    /// 1. Where the desk begins to connect and the link is down, it dials the desk's port.
-    /// 2. Where the desk may close the connection, it hangs up.
-    /// 3. Where the link is up, it receives at most one reply line, has the sender hear it and the clock tick, and tells
+    /// 1. If the desk begins to connect and the link is down, it dials the desk's port.
+    /// 2. If the desk may close the connection, it hangs up.
+    /// 3. If the link is up, it receives at most one reply line, has the sender hear it and the clock tick, and notes at
     ///    the desk what is acknowledged. Then it issues lines while there is room, and sends every frame. In the turn in
     ///    which the hello is acknowledged it issues nothing.
     ///
-    /// Where a call of the link fails the desk first takes what was acknowledged, and the failure at the end. It takes no
-    /// memory.
+    /// If a call of the link fails the desk first takes what was acknowledged, and the failure at the end. It takes no
+    /// memory. The moment is in milliseconds.
     pub fn turn<L: Link>(&mut self, link: &mut L, moment: u64) -> Turned
         requires { L.up link.old ≡ self.old.up }
-        ensures turn { IsTurn moment (L.kind link.old) (L.past link.old) (L.past link.new) (L.calls link.old) (L.calls link.new) self.old self.new result }
+        ensures turn { IsTurn moment (L.kind link.old) (L.past link.old) (L.past link.new)
+            (L.calls link.old) (L.calls link.new) self.old self.new result }
+
+        // What it found, by the note: the link's state and the hello.
         ensures finds { can_find (doing self.old) (fact_of result.note) ≡ true }
         ensures up { self.new.up ≡ up_after (fact_of result.note) self.old.up }
         ensures link { L.up link.new ≡ self.new.up }
-        ensures no_port { (fact_of result.note ≡ fact.NoPort) ↔ ((doing self.old ≡ now_doing.Dialling) × ((L.kind link.old).listed (port_of self.old.desk) ≡ false)) }
-        ensures ready { (fact_of result.note ≡ fact.Ready) ↔ ((self.old.sender.ready ≡ false) × (self.new.sender.ready ≡ true)) }
+        ensures no_port { (fact_of result.note ≡ fact.NoPort)
+            ↔ ((doing self.old ≡ now_doing.Dialling)
+            × ((L.kind link.old).listed (port_of self.old.desk) ≡ false)) }
+        ensures ready { (fact_of result.note ≡ fact.Ready)
+            ↔ ((self.old.sender.ready ≡ false) × (self.new.sender.ready ≡ true)) }
+
+        // In the turn in which the hello is acknowledged nothing is issued; a quiet turn leaves nothing to issue or send.
         ensures silent { fact_of result.note ≡ fact.Ready → lines_of result.note ≡ [] }
         ensures sent { fact_of result.note ≡ fact.Ready → next_of self.new.sender ≡ None }
-        ensures spent { self.new.up ≡ true → fact_of result.note ≡ fact.Quiet → IsSpent moment self.new.desk self.new.sender }
+        ensures spent { self.new.up ≡ true → fact_of result.note ≡ fact.Quiet
+            → IsSpent moment self.new.desk self.new.sender }
+
+        // What stays, and what holds between turns.
         ensures greatest { self.new.desk.greatest ≡ self.old.desk.greatest }
         ensures before { IsSession self.old }
         ensures joined { IsSession self.new }
         ensures kind { L.kind link.new ≡ L.kind link.old }
-        ensures counted { L.faults link.old ≤ L.faults link.new }
-        ensures calls { is_calling (doing self.old) ≡ true → RoseBy 1 (L.calls link.old) (L.calls link.new) }
-        ensures failed { fact_of result.note ≡ fact.Failed → Rose (L.faults link.old) (L.faults link.new) }
 
-        // The hello and the acknowledged lines, by the note: acked falls only where a link is made, to 0.
-        ensures ready_is { self.new.sender.ready ≡ ready_after (fact_of result.note) self.old.sender.ready }
+        // Counts: of the link's faults and calls.
+        ensures counted { L.faults link.old ≤ L.faults link.new }
+        ensures calls { is_calling (doing self.old) ≡ true
+            → RoseBy 1 (L.calls link.old) (L.calls link.new) }
+        ensures failed { fact_of result.note ≡ fact.Failed
+            → Rose (L.faults link.old) (L.faults link.new) }
+
+        // The hello and the acknowledged lines, by the note: their count falls only if a link is made, to 0.
+        ensures ready_is { self.new.sender.ready
+            ≡ ready_after (fact_of result.note) self.old.sender.ready }
         ensures not_fallen { (fact_of result.note ≡ fact.Opened)
             ⊎ (self.old.sender.acked ≤ self.new.sender.acked) }
         ensures within { self.new.sender.acked ≤ self.old.sender.issued }

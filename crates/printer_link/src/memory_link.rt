@@ -108,7 +108,8 @@ impl MemoryLink {
 
     /// The lines that the printer ran in a session, counted from 1, without those of the hello's number.
     pub fn executed(&self, session: u32) -> Result<Executed, AllocError>
-        ensures { IfOk result (λ e. e ≡ executed self.now.story.places self.now.story.advanced self.now.story.past session) }
+        ensures { IfOk result (λ e. e ≡ executed self.now.story.places self.now.story.advanced
+            self.now.story.past session) }
     {
         Executed::of_session(
             self.alloc,
@@ -175,7 +176,9 @@ impl MemoryLink {
 
     /// The printer runs all that waits, and a link is made; `fails` gives up at once.
     fn make_link(&mut self, fails: bool) -> Result<(), AllocError>
-        ensures ok { OnOk result (self.new ≡ grown self.old (dial_events (link_world self.old) (opening_last self.old.story self.old.last))) }
+        ensures ok { OnOk result (self.new
+            ≡ grown self.old (dial_events (link_world self.old)
+            (opening_last self.old.story self.old.last))) }
         ensures err { OnErr result (LinkRan self.old self.new) }
         ensures fails { fails ≡ true → IsErr result × (self.new ≡ self.old) }
     {
@@ -187,7 +190,9 @@ impl MemoryLink {
 
     /// A line is sent and meets its fate; `fails` gives up at once.
     fn transmit(&mut self, fails: bool, line: &Line) -> Result<(), AllocError>
-        ensures ok { OnOk result (self.new ≡ grown self.old (send_events (link_world self.old) line.now (next_fate self.old.story))) }
+        ensures ok { OnOk result (self.new
+            ≡ grown self.old (send_events (link_world self.old) line.now
+            (next_fate self.old.story))) }
         ensures err { OnErr result (self.new ≡ self.old) }
         ensures fails { fails ≡ true → IsErr result }
     {
@@ -199,7 +204,8 @@ impl MemoryLink {
 
     /// What happens before a reply is received.
     fn before_reply(&mut self, restarts: bool, due: bool) -> Result<(), AllocError>
-        ensures ok { OnOk result (self.new ≡ grown self.old (before_reply restarts due (link_world self.old))) }
+        ensures ok { OnOk result (self.new
+            ≡ grown self.old (before_reply restarts due (link_world self.old))) }
         ensures err { OnErr result (LinkMoved self.old self.new) }
     {
         self.story.before_reply(restarts, due)
@@ -207,8 +213,11 @@ impl MemoryLink {
 
     /// Takes the front of the wire from the printer, where there is one.
     fn take_front(&mut self, into: &mut ReplyLine) -> Result<Heard, AllocError>
-        ensures line { IfOk result (λ got. got ≡ heard_as.Line → (self.new ≡ grown self.old (event.Recv ∷ [])) × IsFrontReply into.new.items (link_world self.old).down) }
-        ensures nothing { IfOk result (λ got. got ≡ heard_as.Nothing → (self.new ≡ self.old) × ((link_world self.old).down ≡ [])) }
+        ensures line { IfOk result (λ got. got ≡ heard_as.Line
+            → (self.new ≡ grown self.old (event.Recv ∷ []))
+            × IsFrontReply into.new.items (link_world self.old).down) }
+        ensures nothing { IfOk result (λ got. got ≡ heard_as.Nothing
+            → (self.new ≡ self.old) × ((link_world self.old).down ≡ [])) }
         ensures err { OnErr result (self.new ≡ self.old) }
     {
         self.story.receive(into)
@@ -222,7 +231,8 @@ impl MemoryLink {
         due: bool,
         into: &mut ReplyLine,
     ) -> Result<Heard, AllocError>
-        ensures ok { IfOk result (λ got. LinkReceived restarts due into.new.items got self.old self.new) }
+        ensures ok { IfOk result (λ got.
+            LinkReceived restarts due into.new.items got self.old self.new) }
         ensures err { OnErr result (LinkMoved self.old self.new) }
         ensures fails { fails ≡ true → IsErr result × (self.new ≡ self.old) }
     {
@@ -247,17 +257,30 @@ impl Link for MemoryLink {
 
     fn dial(&mut self, name: &str) -> Result<(), LinkFault>
         requires { (link_world self.old).linked ≡ false }
-        ensures adds { OnOk result (self.new ≡ grown (called self.old) (dial_events (link_world self.old) (opening_last self.old.story self.old.last))) }
+        ensures adds { OnOk result (self.new
+            ≡ grown (called self.old) (dial_events (link_world self.old)
+            (opening_last self.old.story self.old.last))) }
         ensures adds_nothing { IsErrOf result fault.NoPort → self.new ≡ called self.old }
-        ensures fails { is_listed self.old.fail_at (one_more self.old.calls) ≡ true → lists_name self.old.names name.now ≡ true → (result ≡ Err fault.Failed) × (self.new ≡ failed (called self.old)) }
-        ensures past { OnOk result (Grows (link_kind self.old) (Some self.old.story.past) (Some self.new.story.past) IsDial) }
-        ensures past_no_port { IsErrOf result fault.NoPort → Grows (link_kind self.old) (Some self.old.story.past) (Some self.new.story.past) IsNothing }
-        ensures past_failed { IsErrOf result fault.Failed → Grows (link_kind self.old) (Some self.old.story.past) (Some self.new.story.past) IsRuns }
-        ensures past_prompt { is_prompt self.old ≡ true → OnOk result (Grows (link_kind self.old) (Some self.old.story.past) (Some self.new.story.past) (λ w added. (last : ℕ) × (added ≡ dial_events w last))) }
-        ensures no_port { IsErrOf result fault.NoPort ↔ (lists_name self.old.names name.now ≡ false) }
+        ensures fails { is_listed self.old.fail_at (one_more self.old.calls) ≡ true
+            → lists_name self.old.names name.now ≡ true
+            → (result ≡ Err fault.Failed) × (self.new ≡ failed (called self.old)) }
+        ensures past { OnOk result (Grows (link_kind self.old) (Some self.old.story.past)
+            (Some self.new.story.past) IsDial) }
+        ensures past_no_port { IsErrOf result fault.NoPort
+            → Grows (link_kind self.old) (Some self.old.story.past) (Some self.new.story.past)
+            IsNothing }
+        ensures past_failed { IsErrOf result fault.Failed
+            → Grows (link_kind self.old) (Some self.old.story.past) (Some self.new.story.past)
+            IsRuns }
+        ensures past_prompt { is_prompt self.old ≡ true
+            → OnOk result (Grows (link_kind self.old) (Some self.old.story.past)
+            (Some self.new.story.past) (λ w added. (last : ℕ) × (added ≡ dial_events w last))) }
+        ensures no_port { IsErrOf result fault.NoPort
+            ↔ (lists_name self.old.names name.now ≡ false) }
         ensures up { OnOk result ((link_world self.new).linked ≡ true) }
         ensures down { OnErr result ((link_world self.new).linked ≡ false) }
-        ensures open { IsOpenAs (link_kind self.new) (Some self.new.story.past) (link_world self.new).linked }
+        ensures open { IsOpenAs (link_kind self.new) (Some self.new.story.past)
+            (link_world self.new).linked }
         ensures slots { HasSlots (link_kind self.new) }
         ensures kind { link_kind self.new ≡ link_kind self.old }
         ensures calls { Some self.new.calls ≡ counted_one (Some self.old.calls) }
@@ -277,16 +300,26 @@ impl Link for MemoryLink {
     fn send(&mut self, line: &Line) -> Result<(), LinkFault>
         requires open { (link_world self.old).linked ≡ true }
         requires short { length line.now.items ≤ 95 }
-        ensures adds { OnOk result (self.new ≡ grown (called self.old) (send_events (link_world self.old) line.now (next_fate self.old.story))) }
+        ensures adds { OnOk result (self.new
+            ≡ grown (called self.old) (send_events (link_world self.old) line.now
+            (next_fate self.old.story))) }
         ensures adds_closed { OnErr result (self.new ≡ failed (called self.old)) }
-        ensures fails { is_listed self.old.fail_at (one_more self.old.calls) ≡ true → result ≡ Err fault.Failed }
-        ensures past { OnOk result (Grows (link_kind self.old) (Some self.old.story.past) (Some self.new.story.past) (IsSend line.now.items)) }
-        ensures past_failed { OnErr result (Grows (link_kind self.old) (Some self.old.story.past) (Some self.new.story.past) IsSendLoss) }
-        ensures past_prompt { is_prompt self.old ≡ true → OnOk result (Grows (link_kind self.old) (Some self.old.story.past) (Some self.new.story.past) (λ w added. (sent : WorldEvent) × (added ≡ sent ∷ []) × IsSendOf line.now.items sent)) }
+        ensures fails { is_listed self.old.fail_at (one_more self.old.calls) ≡ true
+            → result ≡ Err fault.Failed }
+        ensures past { OnOk result (Grows (link_kind self.old) (Some self.old.story.past)
+            (Some self.new.story.past) (IsSend line.now.items)) }
+        ensures past_failed { OnErr result
+            (Grows (link_kind self.old) (Some self.old.story.past) (Some self.new.story.past)
+            IsSendLoss) }
+        ensures past_prompt { is_prompt self.old ≡ true
+            → OnOk result (Grows (link_kind self.old) (Some self.old.story.past)
+            (Some self.new.story.past) (λ w added. (sent : WorldEvent) × (added ≡ sent ∷ [])
+            × IsSendOf line.now.items sent)) }
         ensures no_port { IsErrOf result fault.NoPort → ⊥ }
         ensures up { OnOk result ((link_world self.new).linked ≡ true) }
         ensures down { OnErr result ((link_world self.new).linked ≡ false) }
-        ensures open { IsOpenAs (link_kind self.new) (Some self.new.story.past) (link_world self.new).linked }
+        ensures open { IsOpenAs (link_kind self.new) (Some self.new.story.past)
+            (link_world self.new).linked }
         ensures kind { link_kind self.new ≡ link_kind self.old }
         ensures calls { Some self.new.calls ≡ counted_one (Some self.old.calls) }
         ensures counted { self.old.faults ≤ self.new.faults }
@@ -301,16 +334,30 @@ impl Link for MemoryLink {
 
     fn recv(&mut self, into: &mut ReplyLine) -> Result<Heard, LinkFault>
         requires { (link_world self.old).linked ≡ true }
-        ensures adds { IfOk result (λ got. LinkReceived (is_listed self.old.restart_at (one_more self.old.recvs)) (is_due self.old.slow (one_more self.old.recvs)) into.new.items got (heard (called self.old)) self.new) }
-        ensures fails { is_listed self.old.fail_at (one_more self.old.calls) ≡ true → (result ≡ Err fault.Failed) × (self.new ≡ failed (heard (called self.old))) }
-        ensures past { IfOk result (λ got. got ≡ heard_as.Line → Grows (link_kind self.old) (Some self.old.story.past) (Some self.new.story.past) (IsHeard into.new.items)) }
-        ensures past_nothing { IfOk result (λ got. got ≡ heard_as.Nothing → Grows (link_kind self.old) (Some self.old.story.past) (Some self.new.story.past) IsSilence) }
-        ensures past_failed { OnErr result (Grows (link_kind self.old) (Some self.old.story.past) (Some self.new.story.past) IsLoss) }
-        ensures past_prompt { is_prompt self.old ≡ true → OnOk result (Grows (link_kind self.old) (Some self.old.story.past) (Some self.new.story.past) (λ w added. added ≡ recv_events true w)) }
+        ensures adds { IfOk result (λ got.
+            LinkReceived (is_listed self.old.restart_at (one_more self.old.recvs))
+            (is_due self.old.slow (one_more self.old.recvs)) into.new.items got
+            (heard (called self.old)) self.new) }
+        ensures fails { is_listed self.old.fail_at (one_more self.old.calls) ≡ true
+            → (result ≡ Err fault.Failed) × (self.new ≡ failed (heard (called self.old))) }
+        ensures past { IfOk result (λ got. got ≡ heard_as.Line
+            → Grows (link_kind self.old) (Some self.old.story.past) (Some self.new.story.past)
+            (IsHeard into.new.items)) }
+        ensures past_nothing { IfOk result
+            (λ got. got ≡ heard_as.Nothing
+            → Grows (link_kind self.old) (Some self.old.story.past) (Some self.new.story.past)
+            IsSilence) }
+        ensures past_failed { OnErr result
+            (Grows (link_kind self.old) (Some self.old.story.past) (Some self.new.story.past)
+            IsLoss) }
+        ensures past_prompt { is_prompt self.old ≡ true
+            → OnOk result (Grows (link_kind self.old) (Some self.old.story.past)
+            (Some self.new.story.past) (λ w added. added ≡ recv_events true w)) }
         ensures no_port { IsErrOf result fault.NoPort → ⊥ }
         ensures up { OnOk result ((link_world self.new).linked ≡ true) }
         ensures down { OnErr result ((link_world self.new).linked ≡ false) }
-        ensures open { IsOpenAs (link_kind self.new) (Some self.new.story.past) (link_world self.new).linked }
+        ensures open { IsOpenAs (link_kind self.new) (Some self.new.story.past)
+            (link_world self.new).linked }
         ensures kind { link_kind self.new ≡ link_kind self.old }
         ensures calls { Some self.new.calls ≡ counted_one (Some self.old.calls) }
         ensures counted { self.old.faults ≤ self.new.faults }
@@ -327,7 +374,8 @@ impl Link for MemoryLink {
 
     fn hang_up(&mut self)
         ensures adds { self.new ≡ grown self.old (closing_events (link_world self.old)) }
-        ensures past { Grows (link_kind self.old) (Some self.old.story.past) (Some self.new.story.past) (IsHangUp (link_world self.old).linked) }
+        ensures past { Grows (link_kind self.old) (Some self.old.story.past)
+            (Some self.new.story.past) (IsHangUp (link_world self.old).linked) }
         ensures down { (link_world self.new).linked ≡ false }
         ensures kind { link_kind self.new ≡ link_kind self.old }
         ensures calls { self.new.calls ≡ self.old.calls }

@@ -21,7 +21,7 @@ pub fn nothing_law()
     ensures { GivesNothing }
 {}
 
-/// Only an `ok` that no Resend stands before acknowledges a line.
+/// Only an `ok` that doesn't follow a Resend acknowledges a line.
 pub fn acked_law()
     ensures { AckedRises }
 {}
