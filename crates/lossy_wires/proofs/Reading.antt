@@ -24,7 +24,8 @@ frame_sum : (place : ℕ) (text : List ℕ) → place ≤ 1999999999 → IsFit t
 frame_sum place text few fit = sum_of-lt (wire_number place) text (small place few) fit.bytes
 
 -- a line in turn is accepted
-pub line_accepted : (last place : ℕ) (text : List ℕ) → place ≤ 1999999999 → IsFit text → wire_number place ≡ last + 1 → judged last (bytes_in (command place text)) ≡ Ok (entry_in (command place text))
+pub line_accepted : (last place : ℕ) (text : List ℕ) → place ≤ 1999999999 → IsFit text → wire_number place ≡ last + 1 →
+    judged last (bytes_in (command place text)) ≡ Ok (entry_in (command place text))
 line_accepted last place text few fit turn =
     let n = wire_number place in
     let line = frame_of n text in
@@ -34,7 +35,8 @@ line_accepted last place text few fit turn =
     ∙ ap (λ (lead : ℕ). taken (record { number = Some n; lead = Some lead; text = text })) (lead_of-frame n text (small place few))
 
 -- another one is refused
-pub line_refused : (last place : ℕ) (text : List ℕ) → place ≤ 1999999999 → IsFit text → wire_number place ≢ last + 1 → judged last (bytes_in (command place text)) ≡ Err WrongNumber
+pub line_refused : (last place : ℕ) (text : List ℕ) → place ≤ 1999999999 → IsFit text → wire_number place ≢ last + 1 →
+    judged last (bytes_in (command place text)) ≡ Err WrongNumber
 line_refused last place text few fit other =
     let n = wire_number place in
     let line = frame_of n text in
@@ -94,7 +96,8 @@ pub record IsRunReply (bytes : List ℕ) (front : ℕ) : Type 0 where
   pub named : Bool
   pub heard : heard_in bytes ≡ ok_heard (named_by named front)
 
-run_heard_by : (advanced asks : Bool) (front free : ℕ) (text : List ℕ) → front < 2 ^ 32 → free < 2 ^ 32 → bytes_eq text (codes "M105") ≡ asks → IsRunReply (run_reply advanced (Some front) text free) front
+run_heard_by : (advanced asks : Bool) (front free : ℕ) (text : List ℕ) → front < 2 ^ 32 → free < 2 ^ 32 → bytes_eq text (codes "M105") ≡ asks →
+    IsRunReply (run_reply advanced (Some front) text free) front
 run_heard_by advanced true front free text low few asks =
     record { named = false; heard = ap heard_in (run_reply-temperatures advanced (Some front) text free asks) ∙ ap heard_of kind_of-temperatures_line }
 run_heard_by true false front free text low few asks =
@@ -102,5 +105,6 @@ run_heard_by true false front free text low few asks =
 run_heard_by false false front free text low few asks =
     record { named = false; heard = ap heard_in (run_reply-plain (Some front) text free asks) ∙ heard_ok }
 
-pub run_heard : (advanced : Bool) (front free : ℕ) (text : List ℕ) → front < 2 ^ 32 → free < 2 ^ 32 → IsRunReply (run_reply advanced (Some front) text free) front
+pub run_heard : (advanced : Bool) (front free : ℕ) (text : List ℕ) → front < 2 ^ 32 → free < 2 ^ 32 →
+    IsRunReply (run_reply advanced (Some front) text free) front
 run_heard advanced front free text low few = run_heard_by advanced (bytes_eq text (codes "M105")) front free text low few refl

@@ -47,12 +47,14 @@ closes_more : (xs ys : List WorldEvent) → closes_next xs ≡ true → closes_n
 closes_more [] ys closes = absurd (cc)
 closes_more (event ∷ xs) ys closes = closes_by (is_closed event) (is_free event) closes (closes_more xs ys)
   where
-    closes_by : (a b : Bool) → (a || (b && closes_next xs)) ≡ true → (closes_next xs ≡ true → closes_next (xs ++ ys) ≡ true) → (a || (b && closes_next (xs ++ ys))) ≡ true
+    closes_by : (a b : Bool) → (a || (b && closes_next xs)) ≡ true → (closes_next xs ≡ true → closes_next (xs ++ ys) ≡ true) →
+        (a || (b && closes_next (xs ++ ys))) ≡ true
     closes_by true b closes later = refl
     closes_by false true closes later = later closes
     closes_by false false closes later = absurd (cc)
 
-line_above_more : (issued more : List (List ℕ)) (acked : ℕ) (bytes : List ℕ) → Extends issued more → IsLineAbove issued acked bytes → IsLineAbove more acked bytes
+line_above_more : (issued more : List (List ℕ)) (acked : ℕ) (bytes : List ℕ) → Extends issued more → IsLineAbove issued acked bytes →
+    IsLineAbove more acked bytes
 line_above_more issued more acked bytes ext line =
     let L : List (List ℕ) → Type 0 = λ texts. IsLineAbove texts acked bytes in
     subst L (sym ext.is) (record {
@@ -63,22 +65,26 @@ line_above_more issued more acked bytes ext line =
       framed = line.framed;
     })
 
-send_more : (issued more : List (List ℕ)) (acked : ℕ) (bytes : List ℕ) (xs ys : List WorldEvent) → Extends issued more → IsSendFit issued acked bytes xs → IsSendFit more acked bytes (xs ++ ys)
+send_more : (issued more : List (List ℕ)) (acked : ℕ) (bytes : List ℕ) (xs ys : List WorldEvent) → Extends issued more → IsSendFit issued acked bytes xs →
+    IsSendFit more acked bytes (xs ++ ys)
 send_more issued more acked bytes xs ys ext (inl greets) = inl greets
 send_more issued more acked bytes xs ys ext (inr (inl line)) = inr (inl (line_above_more issued more acked bytes ext line))
 send_more issued more acked bytes xs ys ext (inr (inr failed)) = inr (inr (failed.0, closes_more xs ys failed.1))
 
-event_more : (issued more : List (List ℕ)) (acked : ℕ) (event : WorldEvent) (xs ys : List WorldEvent) → Extends issued more → IsEventFit issued acked event xs → IsEventFit more acked event (xs ++ ys)
+event_more : (issued more : List (List ℕ)) (acked : ℕ) (event : WorldEvent) (xs ys : List WorldEvent) → Extends issued more → IsEventFit issued acked event xs →
+    IsEventFit more acked event (xs ++ ys)
 event_more issued more acked (Send line) xs ys ext fit = send_more issued more acked line.items xs ys ext fit
 event_more issued more acked _ xs ys ext fit = tt
 
-replies_first : (replies : List Reply) (w : WorldData) (event : WorldEvent) (xs : List WorldEvent) → replies ++ replies_from w (event ∷ xs) ≡ (replies ++ map kind_of (received_by w event)) ++ replies_from (apply w event) xs
+replies_first : (replies : List Reply) (w : WorldData) (event : WorldEvent) (xs : List WorldEvent) →
+    replies ++ replies_from w (event ∷ xs) ≡ (replies ++ map kind_of (received_by w event)) ++ replies_from (apply w event) xs
 replies_first replies w event xs =
     ap (λ (l : List Reply). replies ++ l) (map-append kind_of (received_by w event) (received_from (apply w event) xs))
     ∙ sym (append_assoc replies (map kind_of (received_by w event)) (replies_from (apply w event) xs))
 
 -- the lines sent in two parts
-pub fits_append : (issued more : List (List ℕ)) (replies : List Reply) (w : WorldData) (xs ys : List WorldEvent) → Extends issued more → AreSendsFit issued replies w xs → AreSendsFit more (replies ++ replies_from w xs) (world_from w xs) ys → AreSendsFit more replies w (xs ++ ys)
+pub fits_append : (issued more : List (List ℕ)) (replies : List Reply) (w : WorldData) (xs ys : List WorldEvent) → Extends issued more →
+    AreSendsFit issued replies w xs → AreSendsFit more (replies ++ replies_from w xs) (world_from w xs) ys → AreSendsFit more replies w (xs ++ ys)
 fits_append issued more replies w [] ys ext first second =
     let F : List Reply → Type 0 = λ l. AreSendsFit more l w ys in
     subst F (append-nil replies) second
@@ -92,7 +98,8 @@ free_event_fits : (issued : List (List ℕ)) (acked : ℕ) (event : WorldEvent) 
 free_event_fits issued acked (Send line) xs free = absurd (cc)
 free_event_fits issued acked _ xs free = tt
 
-fits_free : (issued : List (List ℕ)) (replies : List Reply) (w : WorldData) (events : List WorldEvent) → list_all is_free events ≡ true → AreSendsFit issued replies w events
+fits_free : (issued : List (List ℕ)) (replies : List Reply) (w : WorldData) (events : List WorldEvent) → list_all is_free events ≡ true →
+    AreSendsFit issued replies w events
 fits_free issued replies w [] free = tt
 fits_free issued replies w (event ∷ events) free = (
   free_event_fits issued (acked_of replies) event events (both_left (is_free event) (list_all is_free events) free),
@@ -112,7 +119,8 @@ pub replies_from-append : (w : WorldData) (xs ys : List WorldEvent) → replies_
 replies_from-append w xs ys = ap (map kind_of) (received_from-append w xs ys) ∙ map-append kind_of (received_from w xs) (received_from (world_from w xs) ys)
 
 module _ (start : List Logged) where
-  pub leads_then : (a b c : List (List ℕ)) (t u : SenderData) (w : WorldData) (replies : List Reply) (xs ys : List WorldEvent) → Leads start a b t w replies xs → Leads start b c u (world_from w xs) (replies ++ replies_from w xs) ys → Leads start a c u w replies (xs ++ ys)
+  pub leads_then : (a b c : List (List ℕ)) (t u : SenderData) (w : WorldData) (replies : List Reply) (xs ys : List WorldEvent) →
+      Leads start a b t w replies xs → Leads start b c u (world_from w xs) (replies ++ replies_from w xs) ys → Leads start a c u w replies (xs ++ ys)
   leads_then a b c t u w replies xs ys first second =
       let M : WorldData → Type 0 = λ v. Meets start c u v in
       let T : List Reply → Type 0 = λ l. IsTallied l u in
@@ -132,13 +140,15 @@ module _ (start : List Logged) where
       }
 
   -- no event
-  pub leads_none : (issued more : List (List ℕ)) (t : SenderData) (w : WorldData) (replies : List Reply) → Extends issued more → Meets start more t w → IsTallied replies t → Leads start issued more t w replies []
+  pub leads_none : (issued more : List (List ℕ)) (t : SenderData) (w : WorldData) (replies : List Reply) → Extends issued more → Meets start more t w →
+      IsTallied replies t → Leads start issued more t w replies []
   leads_none issued more t w replies ext m tallied =
       let T : List Reply → Type 0 = λ l. IsTallied l t in
       record { same_session = refl; extends = ext; meets = m; tallied = subst T (sym (append-nil replies)) tallied; sends = tt; starts = λ events all. starts_more events [] w.down all }
 
   -- what the line and the printer do
-  pub leads_free : (issued : List (List ℕ)) (s : SenderData) (w : WorldData) (replies : List Reply) (events : List WorldEvent) → list_all is_free events ≡ true → Meets start issued s w → IsTallied replies s → Leads start issued issued s w replies events
+  pub leads_free : (issued : List (List ℕ)) (s : SenderData) (w : WorldData) (replies : List Reply) (events : List WorldEvent) →
+      list_all is_free events ≡ true → Meets start issued s w → IsTallied replies s → Leads start issued issued s w replies events
   leads_free issued s w replies events free m tallied =
       let T : List Reply → Type 0 = λ l. IsTallied l s in
       let none : replies ≡ replies ++ replies_from w events = sym (append-nil replies) ∙ ap (λ (l : List (List ℕ)). replies ++ map kind_of l) (sym (received_from-free w events free)) in
@@ -152,7 +162,9 @@ module _ (start : List Logged) where
       }
 
   -- a reply is received and heard
-  pub leads_recv : (issued : List (List ℕ)) (moment : ℕ) (s : SenderData) (w : WorldData) (replies : List Reply) (line : List ℕ) (rest : List (List ℕ)) → w.linked ≡ true → s.ended ≡ None → w.down ≡ line ∷ rest → Meets start issued s w → IsTallied replies s → Leads start issued issued (hear_step (kind_of line) moment s) w replies (Recv ∷ [])
+  pub leads_recv : (issued : List (List ℕ)) (moment : ℕ) (s : SenderData) (w : WorldData) (replies : List Reply) (line : List ℕ) (rest : List (List ℕ)) →
+      w.linked ≡ true → s.ended ≡ None → w.down ≡ line ∷ rest → Meets start issued s w → IsTallied replies s →
+      Leads start issued issued (hear_step (kind_of line) moment s) w replies (Recv ∷ [])
   leads_recv issued moment s w replies line rest on running front m tallied =
       let can : can_happen w Recv ≡ true = ap (λ (b : Bool). b && not (is_empty w.down)) on ∙ ap (λ (l : List (List ℕ)). not (is_empty l)) front in
       let M : WorldData → Type 0 = λ v. Meets start issued (hear_step (kind_of line) moment s) v in
@@ -169,7 +181,8 @@ module _ (start : List Logged) where
       }
 
   -- a sender that gave a line out has counted as before
-  pub tally_same : (replies : List Reply) (s t : SenderData) → t.swallow ≡ s.swallow → t.ready ≡ s.ready → t.acked ≡ s.acked → IsTallied replies s → IsTallied replies t
+  pub tally_same : (replies : List Reply) (s t : SenderData) → t.swallow ≡ s.swallow → t.ready ≡ s.ready → t.acked ≡ s.acked → IsTallied replies s →
+      IsTallied replies t
   tally_same replies s t swallow ready acked old = record {
     pending = swallow ∙ old.pending;
     counted = ap (λ (b : Bool). oks_of b t.acked) ready ∙ ap (λ (n : ℕ). oks_of s.ready n) acked ∙ old.counted;

@@ -12,11 +12,10 @@ ghost use Rattle.printer_model.specs.declared.printer.Reason.TheVariants as reas
 ghost use Rattle.printer_model.specs.Exchanged.{session_of};
 ghost use Rattle.printer_model.specs.Executed.{executed, is_counted, opens};
 ghost use Rattle.printer_model.specs.World.{is_run};
-ghost use Rattle.printer_model.specs.Printer.{IsInTurn, IsRefusal, IsSameKind, Logged, PrinterData, judged, plain_entry, take_line};
+ghost use Rattle.printer_model.specs.Printer.{IsInTurn, IsRefusal, IsSameKind, Logged, judged, plain_entry};
 ghost use Rattle.printer_model.specs.World.{Grew, IsTidy, WorldData, accepted_lines, apply, is_free, moves_down, moves_printer, moves_up, world_from, world_of};
 ghost use Rattle.printer_model.specs.declared.event.WorldEvent.{WorldEvent};
 ghost use Rattle.printer_model.specs.declared.event.WorldEvent.TheVariants as event;
-ghost use Rattle.printer_model.specs.declared.printer.Taken.TheVariants as taken;
 
 /// What one event, or several, leave of a world.
 pub fn world_law()
@@ -82,12 +81,6 @@ pub fn reply_law()
     ensures unnamed { (text : List ℕ) (free : ℕ) → bytes_eq text (codes "M105") ≡ false
         → free < 2 ^ 32
         → kind_of (run_reply true None text free) ≡ reply.Ok None (Some 15) (Some free) None }
-{}
-
-/// What is accepted, and only that, changes the printer.
-pub fn refusal_law()
-    ensures { (p : PrinterData) (line : List ℕ) → (take_line p line).0 ≢ taken.Accepted
-        → (take_line p line).1 ≡ p }
 {}
 
 /// What further events leave of what a session executed and add to it, and the last session by itself.

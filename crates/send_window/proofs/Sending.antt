@@ -1,7 +1,6 @@
 -- What goes out, what a Resend and the clock leave, and which texts may be issued.
-use Rattle.std.proofs.Common.{◌≡◌, ℕ, true, List, arith, rules}
+use Rattle.std.proofs.Common.{◌≡◌, ℕ, true, arith, rules}
 use Rattle.std.proofs.lemmas.Grind.{common_steps}
-use Rattle.byte_text.specs.Sendable.{IsSendable}
 use Rattle.marlin_reply.specs.declared.reply.Reply.{Reply}
 use Rattle.marlin_reply.specs.declared.reply.Reply.TheVariants as reply
 use Rattle.send_window.specs.Counting.{is_ok}
