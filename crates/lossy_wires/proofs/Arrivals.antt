@@ -1,12 +1,12 @@
 -- What the arrival of a line at the printer leaves of the parts.
-use Rattle.std.proofs.Common.{◌≡◌, ◌≢◌, ℕ, suc, ◌+◌, ◌<◌, ◌≤◌, Bool, true, false, List, [], ◌∷◌, ◌++◌, length, refl, sym, ◌∙◌, ap, subst, append_assoc, length-append, arith}
-use Rattle.marlin_frame.specs.Numbering.{hello_number, wire_number}
+use Rattle.std.proofs.Common.{◌≡◌, ℕ, ◌+◌, ◌≤◌, Bool, true, false, List, [], ◌∷◌, ◌++◌, length, refl, sym, ◌∙◌, ap, subst, append_assoc, length-append, arith}
+use Rattle.marlin_frame.specs.Numbering.{wire_number}
 use Rattle.printer_model.specs.Replies.{asked_after}
 use Rattle.send_window.specs.Data.{SenderData, IsSound}
 use Rattle.send_window.specs.Session.{HoldsIssued}
-use Rattle.lossy_wires.specs.Pieces.{Piece, greeting, command, Sent, intact, corrupted, Answer, refusal, Each, IsGreeting, IsIssued, IsSentEarly, IsSentLate, AreLinesFrom}
-use Rattle.lossy_wires.specs.Wires.{Wires, last_at, IsBefore, IsAfter, Printed, before, after, lines_run, weights, greetings_on, is_closing, IsAsked, Answers, IsEarly, Phase, shut, early, late, Replies}
-use Rattle.lossy_wires.proofs.Lists.{each_push, issued_within, lines_push, lines_within}
+use Rattle.lossy_wires.specs.Pieces.{Piece, greeting, command, Sent, intact, refusal, IsGreeting, IsIssued, AreLinesFrom}
+use Rattle.lossy_wires.specs.Wires.{Wires, last_at, IsAfter, Printed, before, after, lines_run, IsAsked, Phase, shut, early, late, Replies}
+use Rattle.lossy_wires.proofs.Lists.{each_push, lines_push, lines_within}
 use Rattle.lossy_wires.proofs.Ways.{weights_push, greetings_push, greetings_le, closing_push, early_push, begun_push}
 use Rattle.lossy_wires.proofs.Moves.{replies_way}
 use Rattle.lossy_wires.proofs.Reading.{asked_after-next}

@@ -1,6 +1,6 @@
 -- The acknowledged lines are counted over the replies that were received.
-use Rattle.std.proofs.Common.{◌≡◌, ℕ, suc, ◌+◌, ◌<◌, ◌≤◌, Bool, true, false, not, ◌&&◌, ◌||◌, List, [], ◌∷◌, ◌++◌, map, refl, sym, ◌∙◌, ap, subst, arith}
-use Rattle.std.specs.Prelude.{Option, Some, None, if◌then◌else◌}
+use Rattle.std.proofs.Common.{◌≡◌, ℕ, suc, ◌+◌, ◌≤◌, Bool, true, false, not, ◌&&◌, ◌||◌, List, [], ◌∷◌, ◌++◌, map, refl, sym, ◌∙◌, ap, subst, arith}
+use Rattle.std.specs.Prelude.{Option, None, if◌then◌else◌}
 use Rattle.std.proofs.lemmas.Grind.{common_steps}
 use Rattle.marlin_frame.specs.Numbering.{wire_number}
 use Rattle.marlin_reply.specs.Kind.{kind_of}
@@ -9,11 +9,11 @@ use Rattle.marlin_reply.specs.declared.reply.Reply.TheVariants as reply
 use Rattle.printer_model.specs.Printer.{Logged}
 use Rattle.printer_model.specs.World.{WorldData}
 use Rattle.send_window.specs.Data.{SenderData, IsSound}
-use Rattle.send_window.specs.Hearing.{swallowed, made_ready, acknowledged, named_ok, heard_resend, heard_start, hear_step}
-use Rattle.send_window.specs.Counting.{is_ok, is_resend, own_oks, is_pending}
+use Rattle.send_window.specs.Hearing.{acknowledged, named_ok, heard_start, hear_step}
+use Rattle.send_window.specs.Counting.{is_ok, is_resend, is_pending}
 use Rattle.send_window.proofs.OwnOks.{counts_next}
 use Rattle.lossy_wires.specs.Pieces.{Answer, greeting_ok, command_ok, refusal, asking, closing, chat, restart, Heard, ok_heard, resend_heard, start_heard, talk_heard, heard_of, heard_in, named_by, reply_to}
-use Rattle.lossy_wires.specs.Wires.{Wires, Shows, Phase, shut, early, late, IsRead, Numbers, Meets, lines_run}
+use Rattle.lossy_wires.specs.Wires.{Wires, Phase, shut, early, late, IsRead, Numbers, Meets, lines_run}
 use Rattle.lossy_wires.specs.Traces.{oks_of, IsTallied}
 use Rattle.lossy_wires.proofs.Ways.{answers_le, IsFirst, first_of_way}
 use Rattle.lossy_wires.proofs.Hearing.{heard_as, hear_as, ok_by, named_right, run_few}

@@ -18,7 +18,7 @@ use Rattle.printer_model.proofs.Laws.{after_event, stays, both_left, both_right,
 use Rattle.printer_model.proofs.Wires.{map_remove}
 use Rattle.marlin_reply.specs.Kind.{is_chatter}
 use Rattle.send_window.specs.Data.{SenderData}
-use Rattle.lossy_wires.specs.Pieces.{Piece, greeting, command, Sent, intact, corrupted, Answer, refusal, chat, restart, replies_in, replies_on, heard_in, entry_in, logged_in, number_in, front_in, text_in, bytes_in, bytes_on, Each, IsFit, IsIssued, IsFailing, IsSentEarly, IsSentLate, IsLineAt, Heard, ok_heard, resend_heard, talk_heard, named_by}
+use Rattle.lossy_wires.specs.Pieces.{Piece, greeting, command, Sent, intact, corrupted, refusal, chat, restart, replies_in, heard_in, entry_in, logged_in, number_in, front_in, text_in, bytes_in, bytes_on, IsIssued, IsFailing, IsSentEarly, IsSentLate, IsLineAt, Heard, ok_heard, resend_heard, talk_heard, named_by}
 use Rattle.lossy_wires.specs.Wires.{Wires, Shows, Numbers, Meets, Printed, before, after, Phase, shut, early, late}
 use Rattle.lossy_wires.proofs.Lists.{each_remove, each_set, length-remove_le, issued_fit, issued_within, lines_at}
 use Rattle.lossy_wires.proofs.Ways.{down_push}

@@ -1,16 +1,13 @@
 -- What a sender gives out next, and the sending of it.
-use Rattle.std.proofs.Common.{◌≡◌, ◌⊎◌, inl, inr, ℕ, suc, ◌+◌, ◌-◌, ◌<◌, ◌≤◌, Bool, true, false, not, ◌&&◌, ◌||◌, List, [], ◌∷◌, ◌++◌, map, refl, sym, ◌∙◌, ap, subst, append-nil, append_assoc, arith}
-use Rattle.std.specs.Prelude.{Option, None, Some, slice_get}
+use Rattle.std.proofs.Common.{◌≡◌, inl, inr, ℕ, ◌+◌, Bool, true, false, ◌&&◌, List, [], ◌∷◌, ◌++◌, refl, sym, ◌∙◌, ap, subst, append-nil, append_assoc, arith}
+use Rattle.std.specs.Prelude.{Some}
 use Rattle.std.proofs.lemmas.Grind.{common_steps}
 use Rattle.std.proofs.lemmas.Option.{gets}
 use Rattle.std.proofs.lemmas.Bool.{and_from, or_right}
 use Rattle.std.specs.List.{list_all}
 use Rattle.arrayvec.specs.ArrayVec.{ArrayVec}
-use Rattle.marlin_frame.specs.Frame.{fails, frame_of}
-use Rattle.marlin_frame.specs.Numbering.{wire_number, hello_frame}
-use Rattle.marlin_reply.specs.Kind.{kind_of}
+use Rattle.marlin_frame.specs.Frame.{fails}
 use Rattle.marlin_reply.specs.declared.reply.Reply.{Reply}
-use Rattle.marlin_reply.specs.declared.reply.Reply.TheVariants as reply
 use Rattle.printer_model.specs.Printer.{Logged}
 use Rattle.printer_model.specs.World.{WorldData, is_free, fits_wire, can_happen, happen, apply, world_from}
 use Rattle.printer_model.specs.Exchanged.{is_closed, closes_next}
@@ -18,16 +15,16 @@ use Rattle.printer_model.specs.declared.event.WorldEvent.{WorldEvent}
 use Rattle.printer_model.specs.declared.event.WorldEvent.TheVariants.{Send, Closed}
 use Rattle.printer_model.proofs.Laws.{happens, after_event, both_left, both_right, world_from-linked}
 use Rattle.send_window.specs.Data.{SenderData, IsSound}
-use Rattle.send_window.specs.Counting.{own_oks, acked_of}
-use Rattle.send_window.specs.Laws.{GivesHeldLines, IsUnacknowledged}
+use Rattle.send_window.specs.Counting.{acked_of}
+use Rattle.send_window.specs.Laws.{IsUnacknowledged}
 use Rattle.send_window.specs.Sending.{Outgoing, hello, line, bytes_of_outgoing, next_of, frame_step}
 use Rattle.send_window.specs.Session.{HoldsIssued}
-use Rattle.lossy_wires.specs.Pieces.{Each, greeting, command, Sent, intact, corrupted, bytes_in, bytes_on, IsIssued, IsFailing, IsSentEarly, IsSentLate}
-use Rattle.lossy_wires.specs.Wires.{Meets, Numbers}
-use Rattle.lossy_wires.specs.Traces.{oks_of, IsTallied, IsLineAbove, IsSendFit, AreSendsFit, replies_from, IsStartKnown}
+use Rattle.lossy_wires.specs.Pieces.{Each, greeting, command, Sent, intact, corrupted, bytes_on, IsIssued, IsFailing}
+use Rattle.lossy_wires.specs.Wires.{Meets}
+use Rattle.lossy_wires.specs.Traces.{oks_of, IsTallied, IsSendFit, replies_from, IsStartKnown}
 use Rattle.lossy_wires.proofs.Starting.{starts_more}
-use Rattle.lossy_wires.proofs.Sending.{MaySend, SameFlags, give_flags, give_meets, sent_meets, closed_meets}
-use Rattle.lossy_wires.proofs.Tracing.{Leads, Extends, extends_none, leads_then, leads_none, leads_free, tally_same}
+use Rattle.lossy_wires.proofs.Sending.{MaySend, give_flags, give_meets, sent_meets, closed_meets}
+use Rattle.lossy_wires.proofs.Tracing.{Leads, extends_none, leads_then, leads_none, leads_free, tally_same}
 
 -- what is given out is the hello or a line above acked
 hello_unready : (s : SenderData) → IsSound s → next_of s ≡ Some hello → s.ready ≡ false

@@ -1,5 +1,5 @@
 -- A reply on the way is received, and the sender hears it.
-use Rattle.std.proofs.Common.{◌≡◌, ◌≢◌, ℕ, suc, ◌+◌, ◌<◌, ◌≤◌, Bool, true, false, List, [], ◌∷◌, ◌++◌, length, map, drop, refl, sym, ◌∙◌, ap, subst, append-nil, length-append, arith}
+use Rattle.std.proofs.Common.{◌≡◌, ℕ, suc, ◌+◌, ◌<◌, ◌≤◌, Bool, true, false, List, [], ◌∷◌, ◌++◌, length, map, drop, refl, sym, ◌∙◌, ap, subst, append-nil, length-append, arith}
 use Rattle.std.specs.Prelude.{Option, Some, None, if◌then◌else◌, nat_lt, ◌==◌}
 use Rattle.std.proofs.lemmas.Bool.{lt-ltb, le-ltb, lt-leb, eq-eqb}
 use Rattle.marlin_frame.specs.Numbering.{wire_number, place_of}
@@ -12,14 +12,14 @@ use Rattle.printer_model.specs.Printer.{Logged}
 use Rattle.printer_model.specs.World.{WorldData, happen}
 use Rattle.printer_model.specs.declared.event.WorldEvent.TheVariants.{Recv}
 use Rattle.send_window.specs.Data.{SenderData, IsSound, most_lines}
-use Rattle.send_window.specs.Hearing.{marked, ended_by, swallowed, made_ready, acknowledged, line_ok, named_ok, heard_ok, hello_asked, line_asked, resend_asked, heard_resend, heard_start, heard_reply, unless_ended, hear_step, end_of_numbers}
+use Rattle.send_window.specs.Hearing.{marked, ended_by, swallowed, made_ready, acknowledged, line_ok, named_ok, heard_ok, hello_asked, line_asked, resend_asked, heard_resend, heard_start, heard_reply, unless_ended, hear_step}
 use Rattle.send_window.specs.Session.{HoldsIssued, hears}
 use Rattle.send_window.proofs.Issued.{step_holds}
 use Rattle.send_window.proofs.Soundness.{hears_sound}
-use Rattle.lossy_wires.specs.Pieces.{Piece, Sent, Each, IsSentLate, AreLinesFrom, Answer, greeting_ok, command_ok, refusal, asking, closing, chat, restart, Heard, ok_heard, resend_heard, start_heard, talk_heard, heard_of, heard_in, named_by, reply_to, rest_of, replies_on}
-use Rattle.lossy_wires.specs.Wires.{Wires, Shows, IsBefore, IsAfter, Printed, before, after, lines_run, weights, greetings_on, is_closing, IsEarlyWay, IsRestartKnown, IsBegun, IsAsked, Answers, IsEarly, Phase, shut, early, late, IsFair, IsRead, Replies, Numbers, Meets}
+use Rattle.lossy_wires.specs.Pieces.{Piece, Sent, Each, IsSentLate, AreLinesFrom, Answer, greeting_ok, command_ok, refusal, asking, closing, chat, restart, Heard, ok_heard, resend_heard, start_heard, talk_heard, heard_of, heard_in, named_by, reply_to, rest_of}
+use Rattle.lossy_wires.specs.Wires.{Wires, Shows, Printed, before, after, lines_run, weights, is_closing, IsAsked, Answers, IsEarly, Phase, shut, early, late, IsFair, IsRead, Replies, Numbers, Meets}
 use Rattle.lossy_wires.proofs.Lists.{none_left, lines_none, lines_within, lines_front}
-use Rattle.lossy_wires.proofs.Ways.{greetings_le, early_front, early_unclosing, answers_front, answers_unclosing, answers_le, answers_begin, IsFirst, first_of_way}
+use Rattle.lossy_wires.proofs.Ways.{early_front, early_unclosing, answers_front, answers_unclosing, answers_le, answers_begin, IsFirst, first_of_way}
 
 -- a sender after a reply, by what the reply does
 abbrev pub heard_as : Heard → ℕ → SenderData → SenderData

@@ -1,16 +1,13 @@
 -- What the events of the line and the printer leave of the parts, over the parts alone.
-use Rattle.std.proofs.Common.{◌≡◌, ◌≢◌, ℕ, suc, ◌+◌, ◌<◌, ◌≤◌, Bool, true, false, List, [], ◌∷◌, ◌++◌, length, refl, sym, ◌∙◌, ap, subst, append_assoc, append-nil, length-append, arith}
-use Rattle.std.specs.Prelude.{None}
+use Rattle.std.proofs.Common.{◌≡◌, ℕ, suc, ◌+◌, ◌≤◌, Bool, true, false, List, [], ◌∷◌, ◌++◌, length, refl, sym, ◌∙◌, ap, subst, append_assoc, append-nil, length-append, arith}
 use Rattle.marlin_frame.specs.Numbering.{hello_number, wire_number}
 use Rattle.printer_model.specs.Printer.{last_after}
-use Rattle.printer_model.specs.Replies.{asked_after}
-use Rattle.send_window.specs.Data.{SenderData, IsSound}
-use Rattle.send_window.specs.Session.{HoldsIssued}
-use Rattle.lossy_wires.specs.Pieces.{Piece, greeting, command, Sent, intact, corrupted, Answer, greeting_ok, command_ok, refusal, chat, restart, entry_in, Each, IsFit, IsIssued, IsSentEarly, IsSentLate, IsLineAt, AreLinesFrom}
-use Rattle.lossy_wires.specs.Wires.{Wires, last_at, IsBefore, IsAfter, Printed, before, after, lines_run, weight_of, weights, greeting_count, greetings_on, is_closing, IsEarlyWay, IsRestartKnown, IsBegun, IsAsked, Answers, IsEarly, Phase, shut, early, late, IsRead, Replies}
-use Rattle.lossy_wires.proofs.Lists.{none_left, issued_fit, issued_within, lines_push, lines_front, lines_at, lines_within}
+use Rattle.send_window.specs.Data.{SenderData}
+use Rattle.lossy_wires.specs.Pieces.{Piece, greeting, command, Sent, Answer, greeting_ok, command_ok, chat, restart, entry_in, Each, IsFit, IsSentEarly, IsSentLate, IsLineAt, AreLinesFrom}
+use Rattle.lossy_wires.specs.Wires.{Wires, last_at, Printed, before, after, lines_run, weight_of, greeting_count, is_closing, IsEarlyWay, IsRestartKnown, IsBegun, Answers, IsEarly, Phase, shut, early, late, Replies}
+use Rattle.lossy_wires.proofs.Lists.{none_left, issued_fit, lines_front, lines_at}
 use Rattle.lossy_wires.proofs.Ways.{weights_push, greetings_push, greetings_le, closing_push, early_push, begun_push, answers_push}
-use Rattle.lossy_wires.proofs.Reading.{last_after-greeting, last_after-command, asked_after-next}
+use Rattle.lossy_wires.proofs.Reading.{last_after-greeting, last_after-command}
 
 -- fewer lines, or others of the same kind, are on the wire to the printer
 pub phase_up : (issued : List (List ℕ)) (s : SenderData) (linked : Bool) (a : Wires) (up : List Sent) → length up ≤ length a.up →

@@ -1,20 +1,20 @@
 -- How the printer reads the lines of a session, and what its replies are to a sender.
-use Rattle.std.proofs.Common.{◌≡◌, ◌≢◌, inl, inr, ℕ, ◌+◌, ◌<◌, ◌≤◌, ◌^◌, min, Bool, true, false, List, [], ◌∷◌, codes, refl, sym, ◌∙◌, ap, arith}
-use Rattle.std.specs.Prelude.{Option, Some, None, Ok, Err, Result, bytes_eq, cond}
+use Rattle.std.proofs.Common.{◌≡◌, ◌≢◌, inl, inr, ℕ, ◌+◌, ◌<◌, ◌≤◌, ◌^◌, Bool, true, false, List, codes, refl, sym, ◌∙◌, ap, arith}
+use Rattle.std.specs.Prelude.{Some, None, Ok, Err, Result, bytes_eq, cond}
 use Rattle.byte_text.specs.Marks.{has_m110}
-use Rattle.marlin_frame.specs.Frame.{frame_of, fails, lead_of, begins_with_n, line_number_of}
+use Rattle.marlin_frame.specs.Frame.{frame_of, line_number_of}
 use Rattle.marlin_frame.specs.Numbering.{hello_number, wire_number, hello_text, hello_frame}
 use Rattle.marlin_frame.proofs.FrameLaws.{sum_of, sum_of-lt, numbered_line, lead_of-frame, begins_with_n-frame, line_number_of-frame, has_m110-frame}
 use Rattle.marlin_frame.proofs.HelloLaws.{hello_lead, hello_line, hello_sets_number}
 use Rattle.marlin_reply.specs.Kind.{kind_of, is_talk, is_chatter}
 use Rattle.marlin_reply.specs.declared.reply.Reply.{Reply}
 use Rattle.marlin_reply.specs.declared.reply.Reply.TheVariants as reply
-use Rattle.printer_model.specs.Printer.{Entry, judged, last_after, last_behind}
+use Rattle.printer_model.specs.Printer.{Entry, judged, last_after}
 use Rattle.printer_model.specs.Replies.{asked_after, error_line, ok_line, resend_line, run_reply, start_line}
 use Rattle.printer_model.specs.declared.printer.Reason.{Reason}
 use Rattle.printer_model.specs.declared.printer.Reason.TheVariants.{WrongNumber}
 use Rattle.printer_model.proofs.Judging.{judged-numbered, judged-out_of_turn, kind_of-error_line, kind_of-resend_line, kind_of-ok_line, kind_of-start_line, kind_of-temperatures_line, kind_of-named, run_reply-temperatures, run_reply-numbered, run_reply-plain}
-use Rattle.lossy_wires.specs.Pieces.{Piece, greeting, command, entry_in, bytes_in, front_in, text_in, IsFit, Heard, ok_heard, resend_heard, start_heard, talk_heard, heard_of, heard_in, named_by}
+use Rattle.lossy_wires.specs.Pieces.{greeting, command, entry_in, bytes_in, IsFit, ok_heard, resend_heard, start_heard, talk_heard, heard_of, heard_in, named_by}
 
 -- a text's frame is read back
 small : (place : ℕ) → place ≤ 1999999999 → wire_number place < 2 ^ 32

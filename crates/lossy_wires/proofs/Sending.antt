@@ -1,6 +1,6 @@
 -- What the host does leaves a sender and a world that fit together: it opens and closes a link, issues and sends lines,
 -- and its clock ticks.
-use Rattle.std.proofs.Common.{◌≡◌, ℕ, suc, ◌+◌, ◌-◌, ◌<◌, ◌≤◌, Bool, true, false, not, ◌&&◌, List, [], ◌∷◌, ◌++◌, length, map, refl, sym, ◌∙◌, ap, subst, append-nil, length-append, arith}
+use Rattle.std.proofs.Common.{◌≡◌, ℕ, ◌+◌, ◌<◌, ◌≤◌, Bool, true, false, not, List, [], ◌∷◌, ◌++◌, length, map, refl, sym, ◌∙◌, ap, subst, append-nil, length-append, arith}
 use Rattle.std.specs.Prelude.{Option, Some, None}
 use Rattle.std.proofs.lemmas.Grind.{common_steps}
 use Rattle.std.proofs.lemmas.List.{map-append}
@@ -12,13 +12,13 @@ use Rattle.printer_model.specs.declared.event.WorldEvent.TheVariants.{Opened, Cl
 use Rattle.printer_model.proofs.Laws.{both_right}
 use Rattle.send_window.specs.Data.{SenderData, IsSound, begun}
 use Rattle.send_window.specs.Hearing.{tick_step}
-use Rattle.send_window.specs.Sending.{hello, line, next_of, room_of, frame_step, push_step}
+use Rattle.send_window.specs.Sending.{room_of, frame_step, push_step}
 use Rattle.send_window.specs.Session.{HoldsIssued, ticks, issues, gives}
 use Rattle.send_window.proofs.Ending.{tick_ends}
 use Rattle.send_window.proofs.Issued.{step_holds}
 use Rattle.send_window.proofs.Soundness.{begun_sound, ticks_sound, issues_sound, gives_sound}
-use Rattle.lossy_wires.specs.Pieces.{Piece, Sent, Answer, bytes_on, Each, IsFit, IsIssued, IsFailing, IsSentEarly, IsSentLate}
-use Rattle.lossy_wires.specs.Wires.{Wires, Shows, Printed, before, after, lines_run, weights, Answers, IsEarly, Phase, shut, early, late, IsFair, IsRead, Replies, Numbers, Meets}
+use Rattle.lossy_wires.specs.Pieces.{Piece, Sent, Answer, bytes_on, IsFit, IsSentEarly, IsSentLate}
+use Rattle.lossy_wires.specs.Wires.{Wires, Printed, before, after, lines_run, weights, Answers, IsEarly, Phase, shut, early, late, IsFair, Replies, Meets}
 use Rattle.lossy_wires.proofs.Lists.{each_push, each_so, sent_more, lines_more}
 use Rattle.lossy_wires.proofs.Ways.{answers_more}
 

@@ -1,20 +1,20 @@
 -- A `start` on the wire from the printer comes of a restart in the session.
-use Rattle.std.proofs.Common.{◌≡◌, ℕ, ◌-◌, ◌<◌, ◌≤◌, ◌^◌, Bool, true, false, not, ◌&&◌, ◌||◌, List, [], ◌∷◌, ◌++◌, length, map, drop, refl, sym, ◌∙◌, ap, subst, append_assoc, append-nil, arith}
-use Rattle.std.specs.Prelude.{Option, Some, Ok, Err, Result, if◌then◌else◌}
+use Rattle.std.proofs.Common.{◌≡◌, ℕ, ◌-◌, ◌≤◌, Bool, true, false, not, List, [], ◌∷◌, ◌++◌, length, map, drop, refl, sym, ◌∙◌, ap, subst, append_assoc, append-nil, arith}
+use Rattle.std.specs.Prelude.{Some, Ok, Err, Result, if◌then◌else◌}
 use Rattle.std.specs.List.{list_any, list_all}
 use Rattle.std.proofs.lemmas.Bool.{or_left, or_right, cond_both}
 use Rattle.std.proofs.lemmas.List.Folds.{list_any-append}
 use Rattle.marlin_reply.specs.Kind.{is_chatter}
-use Rattle.printer_model.specs.Printer.{Entry, Logged, PrinterData, is_full, take_judged, take_line, judged, run_queue}
+use Rattle.printer_model.specs.Printer.{Entry, Logged, PrinterData, is_full, take_judged, take_line, judged}
 use Rattle.printer_model.specs.Replies.{error_line, resend_line, ok_line, run_reply, taken_replies}
-use Rattle.printer_model.specs.World.{WorldData, is_empty, is_free, can_happen, happen, apply, world_from, arrive_front, after_run, replied}
+use Rattle.printer_model.specs.World.{WorldData, is_empty, is_free, can_happen, apply, world_from, arrive_front, replied}
 use Rattle.printer_model.specs.declared.event.WorldEvent.{WorldEvent}
 use Rattle.printer_model.specs.declared.event.WorldEvent.TheVariants.{Opened, Send, Arrive, Lose, Garble, Run, Restart, Chatter, Recv, Closed}
 use Rattle.printer_model.specs.declared.printer.Reason.{Reason}
 use Rattle.printer_model.specs.declared.printer.Taken.TheVariants.{Full}
 use Rattle.printer_model.proofs.Laws.{after_event, stays, both_left, both_right, run_queue_of}
 use Rattle.send_window.specs.Data.{SenderData}
-use Rattle.lossy_wires.specs.Pieces.{Piece, Each, heard_in, start_heard, talk_heard, ok_heard, resend_heard, named_by, entry_in, front_in, text_in}
+use Rattle.lossy_wires.specs.Pieces.{Piece, Each, heard_in, talk_heard, ok_heard, named_by, entry_in, front_in, text_in}
 use Rattle.lossy_wires.specs.Wires.{Wires, Shows, Numbers, Meets}
 use Rattle.lossy_wires.specs.Traces.{is_restart, IsStartKnown}
 use Rattle.lossy_wires.proofs.Lists.{each_push, each_so}

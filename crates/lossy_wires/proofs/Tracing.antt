@@ -1,31 +1,28 @@
 -- How the events of a session join, one after another.
-use Rattle.std.proofs.Common.{◌≡◌, ◌⊎◌, inl, inr, ℕ, ◌+◌, ◌<◌, ◌≤◌, Bool, true, false, not, ◌&&◌, ◌||◌, List, [], ◌∷◌, ◌++◌, map, drop, refl, sym, ◌∙◌, ap, subst, append_assoc, append-nil, arith}
-use Rattle.std.specs.Prelude.{None, Some, if◌then◌else◌}
+use Rattle.std.proofs.Common.{◌≡◌, inl, inr, ℕ, Bool, true, false, not, ◌&&◌, ◌||◌, List, [], ◌∷◌, ◌++◌, map, drop, refl, sym, ◌∙◌, ap, subst, append_assoc, append-nil, arith}
+use Rattle.std.specs.Prelude.{None, if◌then◌else◌}
 use Rattle.std.specs.List.{list_all}
 use Rattle.std.proofs.lemmas.List.{map-append}
-use Rattle.marlin_frame.specs.Frame.{fails}
 use Rattle.marlin_reply.specs.Kind.{kind_of}
 use Rattle.marlin_reply.specs.declared.reply.Reply.{Reply}
 use Rattle.printer_model.specs.Printer.{Logged}
-use Rattle.printer_model.specs.World.{WorldData, is_empty, is_free, fits_wire, can_happen, happen, apply, world_from}
+use Rattle.printer_model.specs.World.{WorldData, is_empty, is_free, can_happen, apply, world_from}
 use Rattle.printer_model.specs.Executed.{opens}
 use Rattle.printer_model.specs.Exchanged.{front_line, received_by, received_from, is_closed, closes_next}
 use Rattle.printer_model.specs.declared.event.WorldEvent.{WorldEvent}
-use Rattle.printer_model.specs.declared.event.WorldEvent.TheVariants.{Opened, Send, Arrive, Lose, Garble, Run, Restart, Chatter, Recv, Closed}
+use Rattle.printer_model.specs.declared.event.WorldEvent.TheVariants.{Send, Recv}
 use Rattle.printer_model.proofs.Laws.{happens, world_from-append, both_left, both_right}
 use Rattle.printer_model.proofs.Sessions.{opens-append}
 use Rattle.printer_model.proofs.Starts.{opens-free, received_from-append, received_from-free}
-use Rattle.send_window.specs.Data.{SenderData, IsSound}
+use Rattle.send_window.specs.Data.{SenderData}
 use Rattle.send_window.specs.Counting.{acked_of}
 use Rattle.send_window.specs.Hearing.{hear_step}
-use Rattle.send_window.specs.Sending.{frame_step}
 use Rattle.lossy_wires.specs.Pieces.{Each}
 use Rattle.lossy_wires.specs.Wires.{Meets}
-use Rattle.lossy_wires.specs.Traces.{replies_from, oks_of, IsTallied, IsLineAbove, IsSendFit, IsEventFit, AreSendsFit, IsStartKnown, IsTraced}
+use Rattle.lossy_wires.specs.Traces.{replies_from, oks_of, IsTallied, IsLineAbove, IsSendFit, IsEventFit, AreSendsFit, IsStartKnown}
 use Rattle.lossy_wires.proofs.Lists.{issued_more}
 use Rattle.lossy_wires.proofs.Free.{all_free_meets}
 use Rattle.lossy_wires.proofs.Hearing.{hear_meets}
-use Rattle.lossy_wires.proofs.Sending.{MaySend, sent_meets, closed_meets, SameFlags}
 use Rattle.lossy_wires.proofs.Counting.{hear_counted, tally_heard}
 use Rattle.lossy_wires.proofs.Starting.{starts_more, each_behind, free_starts}
 
