@@ -1,14 +1,14 @@
 -- How a print ends in a note, and what the note leaves.
-use Rattle.std.proofs.Common.{◌≡◌, ◌⊎◌, inl, inr, ℕ, ◌≤◌, Bool, true, false, cond, List, [], ◌∷◌, Option, None, Some, refl, sym, ◌∙◌, ap, arith}
+use Rattle.std.proofs.Common.{◌≡◌, ◌⊎◌, inl, inr, ℕ, ◌≤◌, Bool, true, false, cond, [], Option, None, Some, refl, sym, ◌∙◌, ap, arith}
 use Rattle.std.specs.Prelude.{IfSome}
 use Rattle.std.proofs.lemmas.Bool.{false≢true}
 use Rattle.std.proofs.lemmas.Bool.Decides.{nat_tests}
-use Rattle.desk_steps.specs.Data.{Data, Line, with_script}
+use Rattle.desk_steps.specs.Data.{Data, with_script}
 use Rattle.desk_steps.specs.Pull.{is_issued, settle_at, settled}
 use Rattle.desk_steps.specs.Note.{Noted, ended, is_over, end_at, finish, leave, fail, ready_at, opened, note_fact, note_step}
 use Rattle.desk_steps.specs.Endings.{has_print, IsActive, IsAcknowledged, is_failure, EndsAs, IsEnding}
 use Rattle.desk_steps.specs.declared.state.State.{State}
-use Rattle.desk_steps.specs.declared.state.State.TheVariants.{Offline, Connecting, Operational, Printing, Pausing, Paused, Cancelling, Finishing, Closing, Fault}
+use Rattle.desk_steps.specs.declared.state.State.TheVariants.{Offline, Connecting, Printing, Pausing, Paused, Cancelling, Finishing, Fault}
 use Rattle.desk_steps.specs.declared.state.Point.TheVariants as point
 use Rattle.desk_steps.specs.declared.link_fact.LinkFact.{LinkFact}
 use Rattle.desk_steps.specs.declared.link_fact.LinkFact.TheVariants as fact

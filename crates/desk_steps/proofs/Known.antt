@@ -17,7 +17,7 @@ use Rattle.std.proofs.lemmas.List.{append-nil}
 use Rattle.std.proofs.lemmas.Bool.{cases_lt}
 use Rattle.desk_steps.specs.Course as course
 use Rattle.desk_steps.specs.Course.{Course, Body, started, paused}
-use Rattle.desk_steps.specs.Story.{Story, never, going, left}
+use Rattle.desk_steps.specs.Story.{Story, never, left}
 use Rattle.desk_steps.specs.Run.{DeskCall, Connect, Disconnect, Select, DropFile, Start, Restart, Pause, Resume, Toggle, Cancel, Manually, Pull, Note, Fate, Left, fate_of, Run, moved, after_start, after_restart, after_pull, after_note, after, MayCall, pulled_of, of_print}
 use Rattle.desk_steps.proofs.Lines.{pulled_of-push, of_print-other, of_print-own, same_test, below_test, above_test, waits_own}
 use Rattle.desk_steps.proofs.Steady.{Steady, steady-connect, steady-disconnect, steady-select, steady-drop_file, steady-pause, steady-resume, steady-toggle, steady-cancel, steady-manual, steady-pull, steady-note}

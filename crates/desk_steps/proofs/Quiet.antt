@@ -1,5 +1,5 @@
 -- A quiet note that acknowledges nothing new and leaves the state leaves the whole desk, and ends no print.
-use Rattle.std.proofs.Common.{◌≡◌, ℕ, Bool, true, false, cond, Option, None, Some, refl, sym, ◌∙◌, ap, subst}
+use Rattle.std.proofs.Common.{◌≡◌, ℕ, Bool, true, false, cond, Option, None, refl, sym, ◌∙◌, ap}
 use Rattle.desk_steps.specs.Data.{Data, with_script}
 use Rattle.desk_steps.specs.Pull.{is_issued, settle_at, settled}
 use Rattle.desk_steps.specs.Note.{Noted, is_over, end_at, finish, note_step}

@@ -12,8 +12,8 @@ pub struct Issued {
     pub tag: Tag,
 }
 
-/// What one turn did: its moment in milliseconds, the lines acknowledged in the session so far, the lines it issued, the
-/// temperatures it heard and what it found of the link.
+/// What one turn did: its moment in milliseconds, how many lines of the session are acknowledged, the lines that it issued,
+/// the temperatures that it received and what it found of the link.
 #[derive(Drop)]
 pub struct Note {
     pub moment: u64,

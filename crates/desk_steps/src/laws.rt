@@ -4,14 +4,14 @@ ghost use Rattle.desk_steps.specs.Settled.{IsSettledBySteps};
 ghost use Rattle.desk_steps.specs.Story.{EveryRunTellsStories};
 
 /// For every list of calls on a new desk, the pulled lines of each print begin a course, are a whole course with the end
-/// Done where the print is done and with the end Cancelled where it was cancelled, and a file command is pulled only
+/// Done if the print is done and with the end Cancelled if it was cancelled, and a file command is pulled only
 /// while Printing.
 pub fn every_run_tells_stories()
     ensures { EveryRunTellsStories }
 {}
 
 /// The file commands of a course are the file's first ones, with the indexes 0, 1, 2 and so on without a gap, and each of
-/// its scripts stands whole.
+/// its scripts is whole.
 pub fn every_course_reads_plainly()
     ensures { EveryCourseReadsPlainly }
 {}

@@ -16,7 +16,9 @@ pub enum State {
     Fault,
 }
 
-/// When a script runs; the names of OctoPrint's GCODE scripts stand beside.
+/// When a script runs, with the name of OctoPrint's GCODE script.
+///
+/// Source: OctoPrint's documentation, GCODE scripts.
 #[derive(Clone, Copy, Debug, PartialEq, Eq, Default)]
 pub enum Point {
     /// afterPrinterConnected
@@ -39,7 +41,7 @@ pub enum Point {
 /// Where an issued line comes from.
 #[derive(Clone, Copy, Debug, PartialEq, Eq, Default)]
 pub enum Tag {
-    /// A line of a script, with its print, or 0 where it belongs to none.
+    /// A line of a script, with its print, or 0 if it belongs to none.
     Script { point: Point, print: u32 },
     /// The file command at an index, counted from 0.
     Job { print: u32, index: u32 },
@@ -59,7 +61,7 @@ pub enum Refusal {
     /// No file is selected.
     #[error("no file is selected")]
     NoFile,
-    /// With so many manual lines waiting, the new ones would pass 256.
+    /// With `held` manual lines waiting, the new ones would pass 256.
     #[error("{held} lines wait")]
     Full { held: u32 },
     /// The file is being printed.

@@ -122,7 +122,8 @@ impl Scripts {
         requires { IsSendable text.now.items }
         ensures ok { OnOk result (self.new ≡ with_text point text.now.items self.old) }
         ensures err { OnErr result (self.new ≡ self.old) }
-        ensures too_many { (result ≡ Err AddFault.TooMany) ↔ (length (texts_at point self.old) ≡ most_lines) }
+        ensures too_many { (result ≡ Err AddFault.TooMany)
+            ↔ (length (texts_at point self.old) ≡ most_lines) }
     {
         match point {
             Point::Connected => self.connected.add(text),
@@ -152,7 +153,8 @@ impl Scripts {
 
     /// A script's text at a place, counted from 0.
     pub fn get(&self, point: Point, i: usize) -> Option<&Text>
-        ensures value { option_map (λ t. t.items) (option_copied result) ≡ slice_get (texts_at point self.now) i }
+        ensures value { option_map (λ t. t.items) (option_copied result)
+            ≡ slice_get (texts_at point self.now) i }
         ensures sendable { IfSome result (λ t. IsSendable t.now.items) }
     {
         self.at(point).get(i)

@@ -51,11 +51,12 @@ impl Waiting {
         }
     }
 
-    /// A script waits behind the others, for a print or, with 0, for none.
+    /// A script waits after the others, for a print or, with 0, for none.
     pub(crate) fn add(&mut self, point: Point, print: u32)
         requires { self.old.count < most_waiting }
         ensures scripts { self.new.scripts ≡ self.old.scripts }
-        ensures lines { self.new.lines ≡ self.old.lines ++ script_lines self.old.scripts point print }
+        ensures lines { self.new.lines
+            ≡ self.old.lines ++ script_lines self.old.scripts point print }
         ensures count { self.new.count ≤ self.old.count + 1 }
     {
         if self.scripts.count(point) > 0 {

@@ -1,12 +1,11 @@
 -- A turn that talks ends a session with a cause.
-use Rattle.std.proofs.Common.{◌≡◌, ◌⊎◌, inl, inr, ℕ, ◌+◌, ◌≤◌, Bool, true, false, ◌||◌, List, [], ◌∷◌, ◌++◌, map, refl, sym, ◌∙◌, ap, subst, append_assoc, append-nil, arith}
+use Rattle.std.proofs.Common.{◌≡◌, ℕ, Bool, true, List, [], ◌∷◌, ◌++◌, refl, sym, ◌∙◌, ap, subst, append_assoc}
 use Rattle.std.specs.Prelude.{Option, None, Some}
-use Rattle.std.specs.List.{list_any, list_all}
+use Rattle.std.specs.List.{list_any}
 use Rattle.std.proofs.lemmas.Bool.{or_left}
 use Rattle.std.proofs.lemmas.List.Folds.{list_any-append}
 use Rattle.marlin_reply.specs.Kind.{kind_of}
 use Rattle.marlin_reply.specs.declared.reply.Reply.{Reply}
-use Rattle.marlin_reply.specs.declared.reply.Reply.TheVariants as reply
 use Rattle.desk_steps.specs.declared.link_fact.LinkFact.{LinkFact}
 use Rattle.desk_steps.specs.declared.link_fact.LinkFact.TheVariants as fact
 use Rattle.send_window.specs.declared.session_end.SessionEnd.{SessionEnd}
@@ -26,12 +25,12 @@ use Rattle.send_window.proofs.Ending.{ends_by_rule}
 use Rattle.send_window.proofs.Silence.{sends_in_silence}
 use Rattle.octo_session.specs.Found.{Got, unasked, lost, nothing, whole, end_by, can_find}
 use Rattle.octo_session.specs.declared.found.Doing.TheVariants.{Talking}
-use Rattle.octo_session.specs.Steps.{Step, ticks, hangs_up, after_steps, AreAdded, clock_steps, talk_steps}
-use Rattle.lossy_wires.specs.Pieces.{Each, heard_in, heard_of, start_heard}
+use Rattle.octo_session.specs.Steps.{ticks, hangs_up, after_steps, AreAdded, clock_steps, talk_steps}
+use Rattle.lossy_wires.specs.Pieces.{Each, heard_in, heard_of}
 use Rattle.lossy_wires.specs.Wires.{IsFair, Meets}
 use Rattle.lossy_wires.specs.Traces.{replies_from, IsTallied, is_restart, IsStartKnown, IsTraced}
 use Rattle.lossy_wires.proofs.Starting.{free_starts}
-use Rattle.lossy_wires.proofs.Tracing.{Leads, leads_free, replies_from-append}
+use Rattle.lossy_wires.proofs.Tracing.{leads_free, replies_from-append}
 use Rattle.lossy_line.specs.Linked.{IsCaused}
 use Rattle.lossy_line.proofs.Ends.{IsStill, IsAt, still_caused, tick_caused, clock_end}
 use Rattle.lossy_line.proofs.Stepping.{hears_leads}

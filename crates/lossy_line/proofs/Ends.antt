@@ -1,5 +1,5 @@
 -- A session ends with a cause.
-use Rattle.std.proofs.Common.{◌≡◌, ◌⊎◌, inl, inr, ℕ, zero, suc, ◌+◌, ◌≤◌, Bool, true, false, ◌||◌, List, [], ◌∷◌, ◌++◌, map, replicate, refl, sym, ◌∙◌, ap, subst, append-nil, arith}
+use Rattle.std.proofs.Common.{◌≡◌, inl, inr, ℕ, zero, suc, ◌≤◌, Bool, true, false, List, [], ◌∷◌, ◌++◌, map, replicate, refl, sym, ◌∙◌, ap, subst, append-nil, arith}
 use Rattle.std.specs.Prelude.{Option, None, Some}
 use Rattle.std.specs.List.{list_any, list_all}
 use Rattle.std.proofs.lemmas.Bool.{or_left}
@@ -12,32 +12,24 @@ use Rattle.desk_steps.specs.declared.link_fact.LinkFact.{LinkFact}
 use Rattle.desk_steps.specs.declared.link_fact.LinkFact.TheVariants as fact
 use Rattle.send_window.specs.declared.session_end.SessionEnd.{SessionEnd}
 use Rattle.send_window.specs.declared.session_end.SessionEnd.TheVariants.{NoAnswer, AskedBack, AskedAhead, Counts, Restarted, NumbersUsed}
-use Rattle.printer_model.specs.Printer.{Logged}
-use Rattle.printer_model.specs.World.{WorldData, is_free, is_run, apply, world_from}
+use Rattle.printer_model.specs.World.{WorldData, is_free, world_from}
 use Rattle.printer_model.specs.Exchanged.{sends_since}
 use Rattle.printer_model.specs.declared.event.WorldEvent.{WorldEvent}
 use Rattle.printer_model.specs.declared.event.WorldEvent.TheVariants.{Closed}
-use Rattle.printer_model.proofs.Laws.{world_from-append}
 use Rattle.printer_model.proofs.Starts.{runs-free, sends_since-append, sends_since-free, received_from-free}
-use Rattle.printer_link.specs.Link.{IsHeard}
 use Rattle.send_window.specs.Counting.{IsQuiet, own_oks}
-use Rattle.send_window.specs.Data.{SenderData, IsSound}
-use Rattle.send_window.specs.Hearing.{hear_step, tick_step}
+use Rattle.send_window.specs.Data.{SenderData}
+use Rattle.send_window.specs.Hearing.{tick_step}
 use Rattle.send_window.specs.Sending.{frame_step, push_step}
-use Rattle.send_window.proofs.Ending.{ends_by_rule, tick_ends}
-use Rattle.send_window.proofs.Silence.{sends_in_silence}
-use Rattle.octo_session.specs.Found.{Got, unasked, lost, nothing, whole, end_by, can_find}
+use Rattle.send_window.proofs.Ending.{tick_ends}
+use Rattle.octo_session.specs.Found.{Got, can_find}
 use Rattle.octo_session.specs.declared.found.Doing.{Doing}
 use Rattle.octo_session.specs.declared.found.Doing.TheVariants.{Dialling, HangingUp, Talking, Resting}
-use Rattle.octo_session.specs.Steps.{Step, ticks, issues, gives, fails_to_send, hangs_up, after_step, after_steps, AreAdded, issuing, speech, clock_steps, talk_steps, dial_steps, turn_steps}
-use Rattle.lossy_wires.specs.Pieces.{Each, heard_in, heard_of, start_heard}
-use Rattle.lossy_wires.specs.Wires.{IsFair, Meets}
-use Rattle.lossy_wires.specs.Traces.{replies_from, oks_of, IsTallied, is_restart, IsStartKnown}
-use Rattle.lossy_wires.proofs.Starting.{free_starts}
-use Rattle.lossy_wires.proofs.Tracing.{Leads, leads_free, replies_from-append}
+use Rattle.octo_session.specs.Steps.{Step, gives, fails_to_send, hangs_up, after_step, after_steps, AreAdded, issuing, speech, clock_steps, turn_steps}
+use Rattle.lossy_wires.specs.Wires.{IsFair}
+use Rattle.lossy_wires.specs.Traces.{replies_from, oks_of, IsTallied, is_restart}
+use Rattle.lossy_wires.proofs.Tracing.{replies_from-append}
 use Rattle.lossy_line.specs.Linked.{IsSilentSince, IsCaused}
-use Rattle.lossy_line.proofs.Stepping.{hears_leads}
-use Rattle.lossy_line.proofs.Quiet.{since_heard}
 
 -- events that neither send nor receive keep a cause
 pub record IsStill (w : WorldData) (added : List WorldEvent) : Type 0 where

@@ -1,11 +1,11 @@
 -- Where the steps of a turn leave a link open.
-use Rattle.std.proofs.Common.{◌≡◌, ℕ, zero, suc, Bool, true, false, not, ◌&&◌, List, [], ◌∷◌, ◌++◌, replicate, refl, sym, ◌∙◌, ap, subst, append_assoc}
+use Rattle.std.proofs.Common.{◌≡◌, ℕ, zero, suc, Bool, true, false, List, [], ◌∷◌, ◌++◌, replicate, refl, sym, ◌∙◌, ap, subst}
 use Rattle.std.specs.Prelude.{Option, None, Some}
 use Rattle.std.specs.List.{list_all}
 use Rattle.std.proofs.lemmas.Bool.{cond_both}
 use Rattle.desk_steps.specs.declared.link_fact.LinkFact.{LinkFact}
 use Rattle.desk_steps.specs.declared.link_fact.LinkFact.TheVariants as fact
-use Rattle.printer_model.specs.World.{WorldData, is_free, can_happen, happen, apply, world_from}
+use Rattle.printer_model.specs.World.{WorldData, is_free, happen, apply, world_from}
 use Rattle.printer_model.specs.declared.event.WorldEvent.{WorldEvent}
 use Rattle.printer_model.specs.declared.event.WorldEvent.TheVariants.{Opened, Send, Arrive, Lose, Garble, Run, Restart, Chatter, Recv, Closed}
 use Rattle.printer_model.proofs.Laws.{after_event, happens, world_from-append, world_from-push, world_from-linked}
@@ -16,7 +16,7 @@ use Rattle.send_window.specs.Sending.{Outgoing, next_of}
 use Rattle.octo_session.specs.Found.{Got, unasked, lost, nothing, whole, can_find, up_after}
 use Rattle.octo_session.specs.declared.found.Doing.{Doing}
 use Rattle.octo_session.specs.declared.found.Doing.TheVariants.{Dialling, HangingUp, Talking, Resting}
-use Rattle.octo_session.specs.Steps.{Step, opens, finds_no_port, fails_to_dial, hears, listens, fails_to_receive, ticks, issues, gives, fails_to_send, hangs_up, after_step, IsGiven, IsDone, AreAdded, issuing, sends, speech, clock_steps, talk_steps, dial_steps, turn_steps}
+use Rattle.octo_session.specs.Steps.{Step, opens, finds_no_port, fails_to_dial, hears, listens, fails_to_receive, ticks, issues, gives, fails_to_send, hangs_up, after_step, IsGiven, IsDone, AreAdded, issuing, speech, clock_steps, talk_steps, dial_steps, turn_steps}
 
 -- whether a link is open after a step
 abbrev pub up_by : Step → Bool → Bool

@@ -1,8 +1,7 @@
 -- What a turn promises of each session of a recorded history, and of its end.
-use Rattle.std.proofs.Common.{◌≡◌, ◌⊎◌, inl, inr, ℕ, suc, ◌+◌, ◌-◌, ◌≤◌, Bool, true, false, List, [], ◌∷◌, ◌++◌, refl, sym, ◌∙◌, ap, subst, append_assoc, append-nil, arith}
-use Rattle.std.specs.Prelude.{Option, None, Some}
+use Rattle.std.proofs.Common.{◌≡◌, ◌⊎◌, inl, inr, ℕ, suc, ◌-◌, true, false, List, [], ◌∷◌, ◌++◌, refl, sym, ◌∙◌, ap, subst, append_assoc, append-nil, arith}
+use Rattle.std.specs.Prelude.{Option, Some}
 use Rattle.std.specs.List.{list_all}
-use Rattle.desk_steps.specs.Data.{Line}
 use Rattle.desk_steps.specs.declared.link_fact.LinkFact.{LinkFact}
 use Rattle.desk_steps.specs.declared.link_fact.LinkFact.TheVariants as fact
 use Rattle.send_window.specs.declared.session_end.SessionEnd.{SessionEnd}
@@ -14,7 +13,7 @@ use Rattle.printer_model.specs.declared.event.WorldEvent.{WorldEvent}
 use Rattle.printer_model.specs.declared.event.WorldEvent.TheVariants.{Opened}
 use Rattle.printer_model.proofs.Laws.{world_from-append}
 use Rattle.printer_model.proofs.Sessions.{opens-append}
-use Rattle.printer_model.proofs.Starts.{opens-free, runs-free}
+use Rattle.printer_model.proofs.Starts.{runs-free}
 use Rattle.printer_link.specs.Link.{LinkKind, IsOpenAs, world_in}
 use Rattle.printer_model.specs.Exchanged.{sends_since}
 use Rattle.send_window.specs.Counting.{IsQuiet}
@@ -27,7 +26,7 @@ use Rattle.octo_session.specs.Steps.{opens as makes_link, after_steps, AreAdded,
 use Rattle.lossy_wires.specs.Pieces.{Each}
 use Rattle.lossy_wires.specs.Wires.{Meets}
 use Rattle.lossy_wires.specs.Traces.{replies_from, IsTallied, IsStartKnown, IsTraced}
-use Rattle.lossy_wires.proofs.Tracing.{Leads, leads_free, fits_append, replies_from-append}
+use Rattle.lossy_wires.proofs.Tracing.{leads_free, fits_append, replies_from-append}
 use Rattle.lossy_line.specs.Linked.{IsCaused, IsUnopened, IsOpened, IsLinked, LinkedAs, unopened, opened}
 use Rattle.lossy_line.specs.Tied.{IsTied, IsEndCaused}
 use Rattle.lossy_line.proofs.Former.{former_tied}

@@ -1,6 +1,6 @@
 -- The steps of a whole turn lead the session on.
-use Rattle.std.proofs.Common.{◌≡◌, ◌≢◌, ℕ, zero, suc, Bool, true, false, List, [], ◌∷◌, ◌++◌, replicate, refl, sym, ◌∙◌, ap, subst, append_assoc, append-nil}
-use Rattle.std.specs.Prelude.{Option, None, Some}
+use Rattle.std.proofs.Common.{◌≡◌, ℕ, zero, suc, Bool, true, false, List, [], ◌∷◌, ◌++◌, replicate, refl, sym, ◌∙◌, ap, subst, append_assoc, append-nil}
+use Rattle.std.specs.Prelude.{None}
 use Rattle.marlin_reply.specs.Kind.{kind_of}
 use Rattle.marlin_reply.specs.declared.reply.Reply.{Reply}
 use Rattle.desk_steps.specs.declared.link_fact.LinkFact.{LinkFact}
@@ -10,14 +10,14 @@ use Rattle.printer_model.specs.World.{WorldData, world_from}
 use Rattle.printer_model.specs.declared.event.WorldEvent.{WorldEvent}
 use Rattle.send_window.specs.Data.{SenderData}
 use Rattle.send_window.specs.Hearing.{hear_step}
-use Rattle.octo_session.specs.Found.{Got, unasked, lost, nothing, whole, may_issue, can_find}
+use Rattle.octo_session.specs.Found.{Got, unasked, lost, nothing, whole, may_issue}
 use Rattle.octo_session.specs.declared.found.Doing.{Doing}
 use Rattle.octo_session.specs.declared.found.Doing.TheVariants.{Dialling, HangingUp, Talking, Resting}
-use Rattle.octo_session.specs.Steps.{Step, opens, finds_no_port, fails_to_dial, hears, listens, fails_to_receive, ticks, issues, gives, fails_to_send, hangs_up, after_step, after_steps, AreAllowed, AreAdded, issuing, sends, speech, clock_steps, talk_steps, dial_steps, turn_steps}
+use Rattle.octo_session.specs.Steps.{Step, listens, fails_to_receive, gives, fails_to_send, hangs_up, after_step, after_steps, AreAllowed, AreAdded, issuing, speech, clock_steps, talk_steps, dial_steps, turn_steps}
 use Rattle.lossy_wires.specs.Pieces.{Each}
 use Rattle.lossy_wires.specs.Wires.{Meets}
 use Rattle.lossy_wires.specs.Traces.{replies_from, IsTallied}
-use Rattle.lossy_wires.proofs.Tracing.{Extends, extends_none, Leads, leads_then, leads_none}
+use Rattle.lossy_wires.proofs.Tracing.{extends_none, Leads, leads_then, leads_none}
 use Rattle.lossy_line.specs.Issuing.{issued_by, issued_after, issued_in}
 use Rattle.lossy_line.proofs.Stepping.{IsPlain, plain_leads, hears_leads}
 

@@ -1,9 +1,7 @@
 -- Each step of a turn leads the session on.
-use Rattle.std.proofs.Common.{◌≡◌, ◌⊎◌, inl, inr, ℕ, zero, suc, ◌+◌, ◌<◌, ◌≤◌, Bool, true, false, List, [], ◌∷◌, ◌++◌, replicate, refl, sym, ◌∙◌, ap, subst, append_assoc, append-nil, arith}
+use Rattle.std.proofs.Common.{◌≡◌, ℕ, true, false, List, [], ◌∷◌, ◌++◌, refl, sym, ◌∙◌, ap, subst, append_assoc, append-nil}
 use Rattle.std.specs.Prelude.{Option, None, Some, is_some}
 use Rattle.std.specs.List.{list_all}
-use Rattle.arrayvec.specs.ArrayVec.{ArrayVec}
-use Rattle.marlin_frame.specs.Frame.{fails}
 use Rattle.marlin_reply.specs.Kind.{kind_of}
 use Rattle.marlin_reply.specs.declared.reply.Reply.{Reply}
 use Rattle.printer_model.specs.Printer.{Logged}
@@ -12,7 +10,7 @@ use Rattle.printer_model.specs.declared.event.WorldEvent.{WorldEvent}
 use Rattle.printer_model.specs.declared.event.WorldEvent.TheVariants.{Opened, Send, Arrive, Lose, Garble, Run, Restart, Chatter, Recv, Closed}
 use Rattle.printer_model.proofs.Laws.{world_from-append, world_from-linked}
 use Rattle.printer_model.proofs.Starts.{runs-free}
-use Rattle.printer_link.specs.Link.{IsSend, IsSendOf, IsHeard, IsSilence, IsLoss, IsSendLoss, SendsFailing, MaySendFailing}
+use Rattle.printer_link.specs.Link.{IsSendOf, IsHeard, MaySendFailing}
 use Rattle.send_window.specs.Data.{SenderData}
 use Rattle.send_window.specs.Hearing.{hear_step, tick_step}
 use Rattle.send_window.specs.Sending.{Outgoing, bytes_of_outgoing, next_of, frame_step, push_step}
@@ -20,8 +18,8 @@ use Rattle.octo_session.specs.Steps.{Step, opens, finds_no_port, fails_to_dial, 
 use Rattle.lossy_wires.specs.Pieces.{IsFit}
 use Rattle.lossy_wires.specs.Wires.{Meets}
 use Rattle.lossy_wires.specs.Traces.{replies_from, IsTallied}
-use Rattle.lossy_wires.proofs.Sending.{SameFlags, tick_flags, tick_meets, issue_meets}
-use Rattle.lossy_wires.proofs.Tracing.{Extends, extends_none, Leads, leads_then, leads_none, leads_free, leads_recv, tally_same}
+use Rattle.lossy_wires.proofs.Sending.{tick_flags, tick_meets, issue_meets}
+use Rattle.lossy_wires.proofs.Tracing.{extends_none, Leads, leads_then, leads_none, leads_free, leads_recv, tally_same}
 use Rattle.lossy_wires.proofs.Giving.{leads_closed, leads_loss, leads_given, leads_sent, leads_failing}
 use Rattle.lossy_line.specs.Issuing.{issued_by}
 

@@ -1,16 +1,15 @@
 -- A turn over a link that records its history, or doesn't.
-use Rattle.std.proofs.Common.{◌≡◌, ◌≢◌, ◌↔◌, ◌⊎◌, inl, inr, ℕ, ◌-◌, Bool, true, false, List, [], ◌∷◌, ◌++◌, map, refl, sym, ◌∙◌, ap, subst}
-use Rattle.std.specs.Prelude.{Option, None, Some, IfSome}
+use Rattle.std.proofs.Common.{◌≡◌, ◌⊎◌, inl, inr, ℕ, ◌-◌, true, List, ◌++◌, refl, sym, ◌∙◌, ap, subst}
+use Rattle.std.specs.Prelude.{Option, None, Some}
 use Rattle.desk_steps.specs.Data.{Line}
-use Rattle.desk_steps.specs.declared.issued.Note.{Note}
 use Rattle.desk_steps.specs.declared.link_fact.LinkFact.{LinkFact}
 use Rattle.desk_steps.specs.declared.link_fact.LinkFact.TheVariants as fact
 use Rattle.printer_model.specs.declared.event.WorldEvent.{WorldEvent}
 use Rattle.printer_link.specs.Link.{LinkKind, world_in}
 use Rattle.send_window.specs.Sending.{next_of}
 use Rattle.octo_session.specs.Data.{SessionData, IsSession, doing}
-use Rattle.octo_session.specs.Found.{Got, can_find, up_after}
-use Rattle.octo_session.specs.Turn.{IsTurn, IsUneventful, IsNoteOf, IsSpent, fact_of, lines_of, texts_in}
+use Rattle.octo_session.specs.Found.{can_find, up_after}
+use Rattle.octo_session.specs.Turn.{IsTurn, IsSpent, fact_of, lines_of, texts_in}
 use Rattle.octo_session.specs.declared.found.Turned.{Turned}
 use Rattle.octo_session.proofs.Noting.{noted_fact, noted_lines}
 use Rattle.lossy_line.specs.Issuing.{issued_in}

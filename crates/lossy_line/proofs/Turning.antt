@@ -1,12 +1,11 @@
 -- A turn leaves session, issued texts and history linked.
-use Rattle.std.proofs.Common.{◌≡◌, ◌≢◌, ◌↔◌, ◌⊎◌, inl, inr, ℕ, ◌+◌, ◌≤◌, Bool, true, false, List, [], ◌∷◌, ◌++◌, refl, sym, ◌∙◌, ap, subst, append_assoc, append-nil, arith}
-use Rattle.std.specs.Prelude.{Option, None, Some}
-use Rattle.std.proofs.lemmas.Grind.{common_steps}
+use Rattle.std.proofs.Common.{◌≡◌, ◌⊎◌, inl, inr, ℕ, ◌≤◌, Bool, true, false, List, [], ◌∷◌, ◌++◌, refl, sym, ◌∙◌, ap, subst, append_assoc, append-nil, arith}
+use Rattle.std.specs.Prelude.{None}
 use Rattle.marlin_reply.specs.declared.reply.Reply.{Reply}
 use Rattle.desk_steps.specs.declared.link_fact.LinkFact.{LinkFact}
 use Rattle.desk_steps.specs.declared.link_fact.LinkFact.TheVariants as fact
 use Rattle.printer_model.specs.Printer.{Logged}
-use Rattle.printer_model.specs.World.{WorldData, can_happen, happen, apply, world_from}
+use Rattle.printer_model.specs.World.{WorldData, can_happen, apply, world_from}
 use Rattle.printer_model.specs.Exchanged.{sends_since}
 use Rattle.printer_model.specs.declared.event.WorldEvent.{WorldEvent}
 use Rattle.printer_model.specs.declared.event.WorldEvent.TheVariants.{Opened}
@@ -16,13 +15,11 @@ use Rattle.printer_model.proofs.Starts.{sends_since-append}
 use Rattle.printer_link.specs.Link.{LinkKind, world_in}
 use Rattle.send_window.specs.Counting.{IsQuiet}
 use Rattle.send_window.specs.Data.{SenderData, IsSound, begun}
-use Rattle.send_window.specs.Sending.{next_of}
-use Rattle.octo_session.specs.Data.{SessionData, IsSession, doing}
-use Rattle.octo_session.specs.Found.{Got, unasked, lost, nothing, whole, may_issue, end_by, can_find, up_after}
-use Rattle.send_window.specs.declared.session_end.SessionEnd.{SessionEnd}
+use Rattle.octo_session.specs.Data.{SessionData, doing}
+use Rattle.octo_session.specs.Found.{Got, unasked, may_issue, can_find, up_after}
 use Rattle.octo_session.specs.declared.found.Doing.{Doing}
 use Rattle.octo_session.specs.declared.found.Doing.TheVariants.{Dialling, HangingUp, Talking, Resting}
-use Rattle.octo_session.specs.Steps.{opens, after_steps, AreAllowed, IsDone, AreAdded, dial_steps, talk_steps, turn_steps}
+use Rattle.octo_session.specs.Steps.{opens, after_steps, AreAllowed, AreAdded, dial_steps, talk_steps, turn_steps}
 use Rattle.lossy_wires.specs.Wires.{Meets}
 use Rattle.lossy_wires.specs.Traces.{replies_from, IsTallied, IsStartKnown, IsTraced}
 use Rattle.lossy_wires.specs.Pieces.{Each}
@@ -33,7 +30,6 @@ use Rattle.lossy_line.specs.Linked.{IsCaused, IsUnopened, IsOpened, IsLinked, un
 use Rattle.lossy_line.proofs.Causes.{talk_caused}
 use Rattle.lossy_line.proofs.Ends.{IsStill, still_caused, still_turn}
 use Rattle.lossy_line.proofs.Speech.{turn_leads, issued_turn}
-use Rattle.lossy_line.proofs.Open.{IsUpFor, steps_up, up_all, turn_up}
 use Rattle.lossy_line.proofs.Quiet.{StaysUp, talk_quiet}
 use Rattle.lossy_line.proofs.Turned.{IsTurned, talks_up, dials_down, rests_down, linked_after, opens_dialling, world_since, sound_of, linked_as, world_then, idle_steps, down_after}
 

@@ -1,12 +1,11 @@
 -- Where session, issued texts and history are linked, they are tied.
-use Rattle.std.proofs.Common.{◌≡◌, ℕ, zero, suc, pred, ◌+◌, ◌-◌, ◌<◌, ◌≤◌, Bool, true, false, not, eqb, List, [], ◌∷◌, ◌++◌, length, map, take, drop, refl, sym, ◌∙◌, ap, subst, arith}
-use Rattle.std.specs.Prelude.{Option, None, Some, filter, slice_get, if◌then◌else◌}
+use Rattle.std.proofs.Common.{◌≡◌, ℕ, zero, suc, Bool, false, not, eqb, List, [], ◌∷◌, ◌++◌, length, map, take, drop, refl, sym, ◌∙◌, ap, subst, arith}
+use Rattle.std.specs.Prelude.{Some, filter, slice_get, if◌then◌else◌}
 use Rattle.std.proofs.lemmas.Bool.{ne_eqb}
 use Rattle.marlin_frame.specs.Numbering.{hello_number, wire_number}
-use Rattle.marlin_reply.specs.declared.reply.Reply.{Reply}
 use Rattle.printer_model.specs.Printer.{Logged}
 use Rattle.printer_model.specs.World.{WorldData, apply, world_from}
-use Rattle.printer_model.specs.Executed.{opens, till, is_counted, executed}
+use Rattle.printer_model.specs.Executed.{opens, is_counted, executed}
 use Rattle.printer_model.specs.Exchanged.{session_of}
 use Rattle.printer_model.specs.declared.event.WorldEvent.{WorldEvent}
 use Rattle.printer_model.specs.declared.event.WorldEvent.TheVariants.{Opened}
@@ -17,7 +16,7 @@ use Rattle.send_window.specs.Counting.{acked_of}
 use Rattle.send_window.specs.Data.{SenderData}
 use Rattle.octo_session.specs.Data.{SessionData}
 use Rattle.lossy_wires.specs.Pieces.{Piece, greeting, command, logged_in, AreLinesFrom}
-use Rattle.lossy_wires.specs.Wires.{IsBefore, IsAfter, Printed, before, after, lines_run, Meets}
+use Rattle.lossy_wires.specs.Wires.{Printed, before, after, lines_run}
 use Rattle.lossy_wires.specs.Traces.{replies_from, AreSendsFit, IsTraced}
 use Rattle.lossy_wires.proofs.Lists.{lines_front}
 use Rattle.lossy_wires.proofs.Giving.{tally_acked}

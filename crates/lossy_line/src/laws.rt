@@ -11,7 +11,8 @@ ghost use Rattle.lossy_line.specs.Linked.{LinkedAs};
 pub fn linked_law()
     ensures begins { (kind : LinkKind) (recorded : Option (List WorldEvent)) (x : SessionData)
         → x.up ≡ false → IsSound x.sender → IsOpenAs kind recorded false → LinkedAs kind recorded [] x }
-    ensures desk { (kind : LinkKind) (recorded : Option (List WorldEvent)) (issued : List (List ℕ)) (x y : SessionData)
+    ensures desk { (kind : LinkKind) (recorded : Option (List WorldEvent)) (issued : List (List ℕ))
+        (x y : SessionData)
         → y.sender ≡ x.sender → y.up ≡ x.up
         → LinkedAs kind recorded issued x → LinkedAs kind recorded issued y }
 {}

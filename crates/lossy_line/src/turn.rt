@@ -26,7 +26,8 @@ pub fn turn_over_link<L: Link>(session: &mut Session, link: &mut L, moment: u64)
     requires { L.up link.old ≡ session.old.up }
     ensures turn { IsTurn moment (L.kind link.old) (L.past link.old) (L.past link.new)
         (L.calls link.old) (L.calls link.new) session.old session.new result }
-    ensures linked { (issued : List (List ℕ)) → LinkedAs (L.kind link.old) (L.past link.old) issued session.old
+    ensures linked { (issued : List (List ℕ))
+        → LinkedAs (L.kind link.old) (L.past link.old) issued session.old
         → LinkedAs (L.kind link.new) (L.past link.new)
         (issued_in (fact_of result.note) (texts_in (lines_of result.note)) issued) session.new }
 
@@ -67,9 +68,12 @@ pub fn turn_over_link<L: Link>(session: &mut Session, link: &mut L, moment: u64)
     ensures joined { IsSession session.new }
     ensures kind { L.kind link.new ≡ L.kind link.old }
     ensures counted { L.faults link.old ≤ L.faults link.new }
-    ensures calls { is_calling (doing session.old) ≡ true → RoseBy 1 (L.calls link.old) (L.calls link.new) }
-    ensures failed { fact_of result.note ≡ fact.Failed → Rose (L.faults link.old) (L.faults link.new) }
-    ensures ready_is { session.new.sender.ready ≡ ready_after (fact_of result.note) session.old.sender.ready }
+    ensures calls { is_calling (doing session.old) ≡ true
+        → RoseBy 1 (L.calls link.old) (L.calls link.new) }
+    ensures failed { fact_of result.note ≡ fact.Failed
+        → Rose (L.faults link.old) (L.faults link.new) }
+    ensures ready_is { session.new.sender.ready
+        ≡ ready_after (fact_of result.note) session.old.sender.ready }
     ensures not_fallen { (fact_of result.note ≡ fact.Opened)
         ⊎ (session.old.sender.acked ≤ session.new.sender.acked) }
     ensures within { session.new.sender.acked ≤ session.old.sender.issued }

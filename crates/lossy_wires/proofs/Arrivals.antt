@@ -1,18 +1,19 @@
 -- What the arrival of a line at the printer leaves of the parts.
-use Rattle.std.proofs.Common.{◌≡◌, ◌≢◌, ℕ, suc, ◌+◌, ◌<◌, ◌≤◌, Bool, true, false, List, [], ◌∷◌, ◌++◌, length, refl, sym, ◌∙◌, ap, subst, append_assoc, length-append, arith}
-use Rattle.marlin_frame.specs.Numbering.{hello_number, wire_number}
+use Rattle.std.proofs.Common.{◌≡◌, ℕ, ◌+◌, ◌≤◌, Bool, true, false, List, [], ◌∷◌, ◌++◌, length, refl, sym, ◌∙◌, ap, subst, append_assoc, length-append, arith}
+use Rattle.marlin_frame.specs.Numbering.{wire_number}
 use Rattle.printer_model.specs.Replies.{asked_after}
 use Rattle.send_window.specs.Data.{SenderData, IsSound}
 use Rattle.send_window.specs.Session.{HoldsIssued}
-use Rattle.lossy_wires.specs.Pieces.{Piece, greeting, command, Sent, intact, corrupted, Answer, refusal, Each, IsGreeting, IsIssued, IsSentEarly, IsSentLate, AreLinesFrom}
-use Rattle.lossy_wires.specs.Wires.{Wires, last_at, IsBefore, IsAfter, Printed, before, after, lines_run, weights, greetings_on, is_closing, IsAsked, Answers, IsEarly, Phase, shut, early, late, Replies}
-use Rattle.lossy_wires.proofs.Lists.{each_push, issued_within, lines_push, lines_within}
+use Rattle.lossy_wires.specs.Pieces.{Piece, greeting, command, Sent, intact, refusal, IsGreeting, IsIssued, AreLinesFrom}
+use Rattle.lossy_wires.specs.Wires.{Wires, last_at, IsAfter, Printed, before, after, lines_run, IsAsked, Phase, shut, early, late, Replies}
+use Rattle.lossy_wires.proofs.Lists.{each_push, lines_push, lines_within}
 use Rattle.lossy_wires.proofs.Ways.{weights_push, greetings_push, greetings_le, closing_push, early_push, begun_push}
 use Rattle.lossy_wires.proofs.Moves.{replies_way}
 use Rattle.lossy_wires.proofs.Reading.{asked_after-next}
 
 -- what a refusal asks for, by what the printer accepted
-pub refusal_asks : (issued : List (List ℕ)) (s : SenderData) (ran d : Bool) (last : ℕ) (queue log : List Piece) → IsSound s → HoldsIssued issued s → IsAfter issued ran d last queue log → (m : ℕ) → d ≡ false → m ≡ lines_run log → IsAsked s.issued m (asked_after last)
+pub refusal_asks : (issued : List (List ℕ)) (s : SenderData) (ran d : Bool) (last : ℕ) (queue log : List Piece) → IsSound s → HoldsIssued issued s →
+    IsAfter issued ran d last queue log → (m : ℕ) → d ≡ false → m ≡ lines_run log → IsAsked s.issued m (asked_after last)
 refusal_asks issued s ran d last queue log sound holds p m kept same =
     let all : List Piece = p.lines ++ queue in
     let within : 0 + length all ≤ length issued = lines_within issued 0 all p.accepted (omega arith) in
@@ -27,7 +28,8 @@ refusal_asks issued s ran d last queue log sound holds p m kept same =
     }
 
 -- the line at the front is refused
-pub phase_refused : (issued : List (List ℕ)) (s : SenderData) (linked : Bool) (a : Wires) (sent : Sent) (up : List Sent) (number : ℕ) → Phase issued s linked (record a { up = sent ∷ up }) → Phase issued s linked (record a { up = up; way = a.way ++ refusal number ∷ [] })
+pub phase_refused : (issued : List (List ℕ)) (s : SenderData) (linked : Bool) (a : Wires) (sent : Sent) (up : List Sent) (number : ℕ) →
+    Phase issued s linked (record a { up = sent ∷ up }) → Phase issued s linked (record a { up = up; way = a.way ++ refusal number ∷ [] })
 phase_refused issued s linked a sent up number (shut closed none idle) = absurd (cc)
 phase_refused issued s linked a sent up number (early opened unready e) = early opened unready (record {
   ups = e.ups.1;
@@ -41,17 +43,22 @@ phase_refused issued s linked a sent up number (early opened unready e) = early 
 })
 phase_refused issued s linked a sent up number (late opened ready ran ups) = late opened ready ran ups.1
 
-after_ran : (issued : List (List ℕ)) (ran d : Bool) (last : ℕ) (queue log : List Piece) → ran ≡ true → Printed issued ran d last queue log → IsAfter issued ran d last queue log
+after_ran : (issued : List (List ℕ)) (ran d : Bool) (last : ℕ) (queue log : List Piece) → ran ≡ true → Printed issued ran d last queue log →
+    IsAfter issued ran d last queue log
 after_ran issued ran d last queue log is (before b) = let unran : ran ≡ false = b.unran in absurd (cc)
 after_ran issued ran d last queue log is (after p) = p
 
-refusal_so : (issued : List (List ℕ)) (s : SenderData) (linked : Bool) (last : ℕ) (a : Wires) (sent : Sent) (up : List Sent) → IsSound s → HoldsIssued issued s → Printed issued a.ran a.dropped last a.queue a.log → Phase issued s linked (record a { up = sent ∷ up }) → s.ready ≡ true → (m : ℕ) → a.dropped ≡ false → m ≡ lines_run a.log → IsAsked s.issued m (asked_after last)
+refusal_so : (issued : List (List ℕ)) (s : SenderData) (linked : Bool) (last : ℕ) (a : Wires) (sent : Sent) (up : List Sent) → IsSound s →
+    HoldsIssued issued s → Printed issued a.ran a.dropped last a.queue a.log → Phase issued s linked (record a { up = sent ∷ up }) → s.ready ≡ true → (m : ℕ) →
+    a.dropped ≡ false → m ≡ lines_run a.log → IsAsked s.issued m (asked_after last)
 refusal_so issued s linked last a sent up sound holds printed (shut closed none idle) ready m kept same = absurd (cc)
 refusal_so issued s linked last a sent up sound holds printed (early opened unready e) ready m kept same = absurd (cc)
 refusal_so issued s linked last a sent up sound holds printed (late opened is_ready ran ups) ready m kept same =
     refusal_asks issued s a.ran a.dropped last a.queue a.log sound holds (after_ran issued a.ran a.dropped last a.queue a.log ran printed) m kept same
 
-pub replies_refused : (issued : List (List ℕ)) (s : SenderData) (linked : Bool) (last : ℕ) (a : Wires) (sent : Sent) (up : List Sent) → IsSound s → HoldsIssued issued s → Printed issued a.ran a.dropped last a.queue a.log → Phase issued s linked (record a { up = sent ∷ up }) → Replies s linked a.dropped a.log a.way → Replies s linked a.dropped a.log (a.way ++ refusal (asked_after last) ∷ [])
+pub replies_refused : (issued : List (List ℕ)) (s : SenderData) (linked : Bool) (last : ℕ) (a : Wires) (sent : Sent) (up : List Sent) → IsSound s →
+    HoldsIssued issued s → Printed issued a.ran a.dropped last a.queue a.log → Phase issued s linked (record a { up = sent ∷ up }) →
+    Replies s linked a.dropped a.log a.way → Replies s linked a.dropped a.log (a.way ++ refusal (asked_after last) ∷ [])
 replies_refused issued s linked last a sent up sound holds printed phase r =
     replies_way s linked a.dropped a.dropped a.log a.way (refusal (asked_after last)) refl
     (λ ready g m kept same. (refusal_so issued s linked last a sent up sound holds printed phase ready m kept same, (kept, same))) r
@@ -61,7 +68,9 @@ pub record IsTaken (issued : List (List ℕ)) (s : SenderData) (linked : Bool) (
   pub printed : Printed issued a.ran a.dropped last a.queue a.log
   pub phase : Phase issued s linked a
 
-pub greeting_taken : (issued : List (List ℕ)) (s : SenderData) (linked : Bool) (last number : ℕ) (a : Wires) (up : List Sent) → Printed issued a.ran a.dropped last a.queue a.log → Phase issued s linked (record a { up = intact greeting ∷ up }) → IsTaken issued s linked number (record a { up = up; queue = a.queue ++ greeting ∷ [] })
+pub greeting_taken : (issued : List (List ℕ)) (s : SenderData) (linked : Bool) (last number : ℕ) (a : Wires) (up : List Sent) →
+    Printed issued a.ran a.dropped last a.queue a.log → Phase issued s linked (record a { up = intact greeting ∷ up }) →
+    IsTaken issued s linked number (record a { up = up; queue = a.queue ++ greeting ∷ [] })
 greeting_taken issued s linked last number a up printed (shut closed none idle) = absurd (cc)
 greeting_taken issued s linked last number a up printed (late opened ready ran ups) = absurd (ups.0)
 greeting_taken issued s linked last number a up (after p) (early opened unready e) = absurd (omega (arith, e.one, e.run_ok p.has_run, greetings_le a.way))
@@ -92,7 +101,10 @@ kept_by : (d : Bool) (last count place : ℕ) → 1 ≤ place → last ≡ last_
 kept_by false last count place some is turn = refl
 kept_by true last count place some is turn = absurd (omega (arith, is, turn))
 
-pub command_taken : (issued : List (List ℕ)) (s : SenderData) (linked : Bool) (last place : ℕ) (text : List ℕ) (a : Wires) (up : List Sent) → wire_number place ≡ last + 1 → Printed issued a.ran a.dropped last a.queue a.log → Phase issued s linked (record a { up = intact (command place text) ∷ up }) → IsTaken issued s linked (wire_number place) (record a { up = up; queue = a.queue ++ command place text ∷ [] })
+pub command_taken : (issued : List (List ℕ)) (s : SenderData) (linked : Bool) (last place : ℕ) (text : List ℕ) (a : Wires) (up : List Sent) →
+    wire_number place ≡ last + 1 → Printed issued a.ran a.dropped last a.queue a.log →
+    Phase issued s linked (record a { up = intact (command place text) ∷ up }) →
+    IsTaken issued s linked (wire_number place) (record a { up = up; queue = a.queue ++ command place text ∷ [] })
 command_taken issued s linked last place text a up turn printed (shut closed none idle) = absurd (cc)
 command_taken issued s linked last place text a up turn printed (early opened unready e) = absurd (e.ups.0)
 command_taken issued s linked last place text a up turn (before b) (late opened ready ran ups) = let unran : a.ran ≡ false = b.unran in absurd (cc)

@@ -18,7 +18,7 @@ use Rattle.printer_model.proofs.Laws.{after_event, stays, both_left, both_right,
 use Rattle.printer_model.proofs.Wires.{map_remove}
 use Rattle.marlin_reply.specs.Kind.{is_chatter}
 use Rattle.send_window.specs.Data.{SenderData}
-use Rattle.lossy_wires.specs.Pieces.{Piece, greeting, command, Sent, intact, corrupted, Answer, refusal, chat, restart, replies_in, replies_on, heard_in, entry_in, logged_in, number_in, front_in, text_in, bytes_in, bytes_on, Each, IsFit, IsIssued, IsFailing, IsSentEarly, IsSentLate, IsLineAt, Heard, ok_heard, resend_heard, talk_heard, named_by}
+use Rattle.lossy_wires.specs.Pieces.{Piece, greeting, command, Sent, intact, corrupted, refusal, chat, restart, replies_in, heard_in, entry_in, logged_in, number_in, front_in, text_in, bytes_in, bytes_on, IsIssued, IsFailing, IsSentEarly, IsSentLate, IsLineAt, Heard, ok_heard, resend_heard, talk_heard, named_by}
 use Rattle.lossy_wires.specs.Wires.{Wires, Shows, Numbers, Meets, Printed, before, after, Phase, shut, early, late}
 use Rattle.lossy_wires.proofs.Lists.{each_remove, each_set, length-remove_le, issued_fit, issued_within, lines_at}
 use Rattle.lossy_wires.proofs.Ways.{down_push}
@@ -27,7 +27,8 @@ use Rattle.lossy_wires.proofs.Moves.{phase_up, phase_chat, replies_chat, phase_r
 use Rattle.lossy_wires.proofs.Arrivals.{phase_refused, replies_refused, greeting_taken, command_taken, IsTaken}
 
 -- a line that waits has a number that fits
-pub front_small : (issued : List (List ℕ)) (ran d : Bool) (last : ℕ) (piece : Piece) (queue log : List Piece) → length issued ≤ 1999999999 → Printed issued ran d last (piece ∷ queue) log → front_in piece < 2 ^ 32
+pub front_small : (issued : List (List ℕ)) (ran d : Bool) (last : ℕ) (piece : Piece) (queue log : List Piece) → length issued ≤ 1999999999 →
+    Printed issued ran d last (piece ∷ queue) log → front_in piece < 2 ^ 32
 front_small issued ran d last greeting queue log few printed = omega arith
 front_small issued ran d last (command place text) queue log few (before b) = absurd (b.greetings.0)
 front_small issued ran d last (command place text) queue log few (after p) =
@@ -35,12 +36,14 @@ front_small issued ran d last (command place text) queue log few (after p) =
     omega (arith, issued_within issued place text at.1)
 
 -- the line at the front of the wire is an issued one, or fails
-sent_issued : (issued : List (List ℕ)) (s : SenderData) (linked : Bool) (a : Wires) (place : ℕ) (text : List ℕ) (up : List Sent) → Phase issued s linked (record a { up = intact (command place text) ∷ up }) → IsIssued issued place text
+sent_issued : (issued : List (List ℕ)) (s : SenderData) (linked : Bool) (a : Wires) (place : ℕ) (text : List ℕ) (up : List Sent) →
+    Phase issued s linked (record a { up = intact (command place text) ∷ up }) → IsIssued issued place text
 sent_issued issued s linked a place text up (shut closed none idle) = absurd (cc)
 sent_issued issued s linked a place text up (early opened unready e) = absurd (e.ups.0)
 sent_issued issued s linked a place text up (late opened ready ran ups) = ups.0
 
-sent_failing : (issued : List (List ℕ)) (s : SenderData) (linked : Bool) (a : Wires) (bytes : List ℕ) (up : List Sent) → Phase issued s linked (record a { up = corrupted bytes ∷ up }) → IsFailing bytes
+sent_failing : (issued : List (List ℕ)) (s : SenderData) (linked : Bool) (a : Wires) (bytes : List ℕ) (up : List Sent) →
+    Phase issued s linked (record a { up = corrupted bytes ∷ up }) → IsFailing bytes
 sent_failing issued s linked a bytes up (shut closed none idle) = absurd (cc)
 sent_failing issued s linked a bytes up (early opened unready e) = e.ups.0
 sent_failing issued s linked a bytes up (late opened ready ran ups) = ups.0
@@ -99,7 +102,8 @@ module _ (start : List Logged) (issued : List (List ℕ)) (s : SenderData) (w : 
       }
 
   -- the printer says something else
-  chat_meets : (line : List ℕ) → w.linked ≡ true → is_chatter line ≡ true → Meets start issued s w → Meets start issued s (record w { down = w.down ++ line ∷ [] })
+  chat_meets : (line : List ℕ) → w.linked ≡ true → is_chatter line ≡ true → Meets start issued s w →
+      Meets start issued s (record w { down = w.down ++ line ∷ [] })
   chat_meets line on talk m =
       let a = m.wires in
       let sh = m.shows in
@@ -149,18 +153,22 @@ module _ (start : List Logged) (issued : List (List ℕ)) (s : SenderData) (w : 
       }
 
   -- the log after a run
-  logged_more : (a : Wires) (piece : Piece) → w.log ≡ start ++ map logged_in a.log → w.log ++ logged_in piece ∷ [] ≡ start ++ map logged_in (a.log ++ piece ∷ [])
+  logged_more : (a : Wires) (piece : Piece) → w.log ≡ start ++ map logged_in a.log →
+      w.log ++ logged_in piece ∷ [] ≡ start ++ map logged_in (a.log ++ piece ∷ [])
   logged_more a piece is =
       ap (λ (l : List Logged). l ++ logged_in piece ∷ []) is
       ∙ append_assoc start (map logged_in a.log) (logged_in piece ∷ [])
       ∙ ap (λ (l : List Logged). start ++ l) (sym (map-append logged_in a.log (piece ∷ [])))
 
-  said : (piece : Piece) (named : Bool) (reply : List ℕ) → heard_in reply ≡ ok_heard (named_by named (front_in piece)) → map heard_in (reply ∷ []) ≡ replies_in (answer_to piece named)
+  said : (piece : Piece) (named : Bool) (reply : List ℕ) → heard_in reply ≡ ok_heard (named_by named (front_in piece)) →
+      map heard_in (reply ∷ []) ≡ replies_in (answer_to piece named)
   said greeting named reply is = ap (λ (h : Heard). h ∷ []) is
   said (command place text) named reply is = ap (λ (h : Heard). h ∷ []) is
 
   -- the front of the queue ran
-  ran_meets : (a : Wires) (piece : Piece) (queue : List Piece) (on : Bool) → w.linked ≡ on → Shows start (record a { queue = piece ∷ queue }) w → Numbers issued s w.linked w.printer.last (record a { queue = piece ∷ queue }) → Meets start issued s (after_run w (run_queue w.printer (entry_in piece ∷ map entry_in queue)))
+  ran_meets : (a : Wires) (piece : Piece) (queue : List Piece) (on : Bool) → w.linked ≡ on → Shows start (record a { queue = piece ∷ queue }) w →
+      Numbers issued s w.linked w.printer.last (record a { queue = piece ∷ queue }) →
+      Meets start issued s (after_run w (run_queue w.printer (entry_in piece ∷ map entry_in queue)))
   ran_meets a piece queue true on sh n =
       let few : length issued ≤ 1999999999 = omega (arith, n.holds.count, n.sound.few) in
       let free = w.printer.places - length w.printer.queue in
@@ -209,7 +217,8 @@ module _ (start : List Logged) (issued : List (List ℕ)) (s : SenderData) (w : 
         };
       }
 
-  run_meets : (a : Wires) (queue : List Piece) → Shows start (record a { queue = queue }) w → Numbers issued s w.linked w.printer.last (record a { queue = queue }) → Meets start issued s (apply w Run)
+  run_meets : (a : Wires) (queue : List Piece) → Shows start (record a { queue = queue }) w →
+      Numbers issued s w.linked w.printer.last (record a { queue = queue }) → Meets start issued s (apply w Run)
   run_meets a [] sh n =
       let M : WorldData → Type 0 = λ v. Meets start issued s v in
       let cannot : can_happen w Run ≡ false = ap (λ (q : List Entry). not (is_empty q)) sh.queue in
@@ -219,7 +228,10 @@ module _ (start : List Logged) (issued : List (List ℕ)) (s : SenderData) (w : 
       subst M (sym (run_queue_of w (entry_in piece) (map entry_in queue) sh.queue)) (ran_meets a piece queue w.linked refl sh n)
 
   -- the line at the front was accepted
-  taken_meets : (a : Wires) (piece : Piece) (up : List Sent) → Shows start (record a { up = intact piece ∷ up }) w → Numbers issued s w.linked w.printer.last (record a { up = intact piece ∷ up }) → IsTaken issued s w.linked (number_in piece) (record a { up = up; queue = a.queue ++ piece ∷ [] }) → Meets start issued s (arrived w (map bytes_on up) (take_judged w.printer (Ok (entry_in piece))))
+  taken_meets : (a : Wires) (piece : Piece) (up : List Sent) → Shows start (record a { up = intact piece ∷ up }) w →
+      Numbers issued s w.linked w.printer.last (record a { up = intact piece ∷ up }) →
+      IsTaken issued s w.linked (number_in piece) (record a { up = up; queue = a.queue ++ piece ∷ [] }) →
+      Meets start issued s (arrived w (map bytes_on up) (take_judged w.printer (Ok (entry_in piece))))
   taken_meets a piece up sh n taken = record {
     wires = record a { up = up; queue = a.queue ++ piece ∷ [] };
     shows = record {
@@ -240,7 +252,9 @@ module _ (start : List Logged) (issued : List (List ℕ)) (s : SenderData) (w : 
   }
 
   -- it was refused
-  refused_meets : (a : Wires) (sent : Sent) (up : List Sent) (reason : Reason) → Shows start (record a { up = sent ∷ up }) w → Numbers issued s w.linked w.printer.last (record a { up = sent ∷ up }) → Meets start issued s (arrived w (map bytes_on up) (take_judged w.printer (Err reason)))
+  refused_meets : (a : Wires) (sent : Sent) (up : List Sent) (reason : Reason) → Shows start (record a { up = sent ∷ up }) w →
+      Numbers issued s w.linked w.printer.last (record a { up = sent ∷ up }) →
+      Meets start issued s (arrived w (map bytes_on up) (take_judged w.printer (Err reason)))
   refused_meets a sent up reason sh n =
       let last = w.printer.last in
       let lines : List (List ℕ) = error_line reason last ∷ resend_line last ∷ ok_line ∷ [] in
@@ -268,7 +282,10 @@ module _ (start : List Logged) (issued : List (List ℕ)) (s : SenderData) (w : 
         };
       }
 
-  arrive_command : (a : Wires) (place : ℕ) (text : List ℕ) (up : List Sent) → is_full w.printer ≡ false → Shows start (record a { up = intact (command place text) ∷ up }) w → Numbers issued s w.linked w.printer.last (record a { up = intact (command place text) ∷ up }) → (wire_number place ≡ w.printer.last + 1) ⊎ (wire_number place ≢ w.printer.last + 1) → Meets start issued s (apply w Arrive)
+  arrive_command : (a : Wires) (place : ℕ) (text : List ℕ) (up : List Sent) → is_full w.printer ≡ false →
+      Shows start (record a { up = intact (command place text) ∷ up }) w →
+      Numbers issued s w.linked w.printer.last (record a { up = intact (command place text) ∷ up }) →
+      (wire_number place ≡ w.printer.last + 1) ⊎ (wire_number place ≢ w.printer.last + 1) → Meets start issued s (apply w Arrive)
   arrive_command a place text up room sh n (inl turn) =
       let M : WorldData → Type 0 = λ v. Meets start issued s v in
       let its : IsIssued issued place text = sent_issued issued s w.linked a place text up n.phase in
@@ -283,7 +300,8 @@ module _ (start : List Logged) (issued : List (List ℕ)) (s : SenderData) (w : 
       let judged_so = line_refused w.printer.last place text few (issued_fit issued place text n.fit its) other in
       subst M (sym (arrive_refuses w (bytes_in (command place text)) (map bytes_on up) WrongNumber sh.up room judged_so)) (refused_meets a (intact (command place text)) up WrongNumber sh n)
 
-  arrive_meets : (a : Wires) (up : List Sent) (full : Bool) → is_full w.printer ≡ full → Shows start (record a { up = up }) w → Numbers issued s w.linked w.printer.last (record a { up = up }) → Meets start issued s (apply w Arrive)
+  arrive_meets : (a : Wires) (up : List Sent) (full : Bool) → is_full w.printer ≡ full → Shows start (record a { up = up }) w →
+      Numbers issued s w.linked w.printer.last (record a { up = up }) → Meets start issued s (apply w Arrive)
   arrive_meets a [] full is sh n =
       let M : WorldData → Type 0 = λ v. Meets start issued s v in
       let cannot : can_happen w Arrive ≡ false = ap (λ (l : List (List ℕ)). not (is_empty l) && not (is_full w.printer)) sh.up in
@@ -320,7 +338,8 @@ module _ (start : List Logged) (issued : List (List ℕ)) (s : SenderData) (w : 
   free_meets Closed free m = absurd (cc)
 
 -- several of them
-pub all_free_meets : (start : List Logged) (issued : List (List ℕ)) (s : SenderData) (w : WorldData) (events : List WorldEvent) → list_all is_free events ≡ true → Meets start issued s w → Meets start issued s (world_from w events)
+pub all_free_meets : (start : List Logged) (issued : List (List ℕ)) (s : SenderData) (w : WorldData) (events : List WorldEvent) →
+    list_all is_free events ≡ true → Meets start issued s w → Meets start issued s (world_from w events)
 all_free_meets start issued s w [] free m = m
 all_free_meets start issued s w (event ∷ events) free m =
     all_free_meets start issued s (apply w event) events (both_right (is_free event) (list_all is_free events) free)

@@ -1,16 +1,13 @@
 -- What a sender gives out next, and the sending of it.
-use Rattle.std.proofs.Common.{◌≡◌, ◌⊎◌, inl, inr, ℕ, suc, ◌+◌, ◌-◌, ◌<◌, ◌≤◌, Bool, true, false, not, ◌&&◌, ◌||◌, List, [], ◌∷◌, ◌++◌, map, refl, sym, ◌∙◌, ap, subst, append-nil, append_assoc, arith}
-use Rattle.std.specs.Prelude.{Option, None, Some, slice_get}
+use Rattle.std.proofs.Common.{◌≡◌, inl, inr, ℕ, ◌+◌, Bool, true, false, ◌&&◌, List, [], ◌∷◌, ◌++◌, refl, sym, ◌∙◌, ap, subst, append-nil, append_assoc, arith}
+use Rattle.std.specs.Prelude.{Some}
 use Rattle.std.proofs.lemmas.Grind.{common_steps}
 use Rattle.std.proofs.lemmas.Option.{gets}
 use Rattle.std.proofs.lemmas.Bool.{and_from, or_right}
 use Rattle.std.specs.List.{list_all}
 use Rattle.arrayvec.specs.ArrayVec.{ArrayVec}
-use Rattle.marlin_frame.specs.Frame.{fails, frame_of}
-use Rattle.marlin_frame.specs.Numbering.{wire_number, hello_frame}
-use Rattle.marlin_reply.specs.Kind.{kind_of}
+use Rattle.marlin_frame.specs.Frame.{fails}
 use Rattle.marlin_reply.specs.declared.reply.Reply.{Reply}
-use Rattle.marlin_reply.specs.declared.reply.Reply.TheVariants as reply
 use Rattle.printer_model.specs.Printer.{Logged}
 use Rattle.printer_model.specs.World.{WorldData, is_free, fits_wire, can_happen, happen, apply, world_from}
 use Rattle.printer_model.specs.Exchanged.{is_closed, closes_next}
@@ -18,22 +15,23 @@ use Rattle.printer_model.specs.declared.event.WorldEvent.{WorldEvent}
 use Rattle.printer_model.specs.declared.event.WorldEvent.TheVariants.{Send, Closed}
 use Rattle.printer_model.proofs.Laws.{happens, after_event, both_left, both_right, world_from-linked}
 use Rattle.send_window.specs.Data.{SenderData, IsSound}
-use Rattle.send_window.specs.Counting.{own_oks, acked_of}
-use Rattle.send_window.specs.Laws.{GivesHeldLines, IsUnacknowledged}
+use Rattle.send_window.specs.Counting.{acked_of}
+use Rattle.send_window.specs.Laws.{IsUnacknowledged}
 use Rattle.send_window.specs.Sending.{Outgoing, hello, line, bytes_of_outgoing, next_of, frame_step}
 use Rattle.send_window.specs.Session.{HoldsIssued}
-use Rattle.lossy_wires.specs.Pieces.{Each, greeting, command, Sent, intact, corrupted, bytes_in, bytes_on, IsIssued, IsFailing, IsSentEarly, IsSentLate}
-use Rattle.lossy_wires.specs.Wires.{Meets, Numbers}
-use Rattle.lossy_wires.specs.Traces.{oks_of, IsTallied, IsLineAbove, IsSendFit, AreSendsFit, replies_from, IsStartKnown}
+use Rattle.lossy_wires.specs.Pieces.{Each, greeting, command, Sent, intact, corrupted, bytes_on, IsIssued, IsFailing}
+use Rattle.lossy_wires.specs.Wires.{Meets}
+use Rattle.lossy_wires.specs.Traces.{oks_of, IsTallied, IsSendFit, replies_from, IsStartKnown}
 use Rattle.lossy_wires.proofs.Starting.{starts_more}
-use Rattle.lossy_wires.proofs.Sending.{MaySend, SameFlags, give_flags, give_meets, sent_meets, closed_meets}
-use Rattle.lossy_wires.proofs.Tracing.{Leads, Extends, extends_none, leads_then, leads_none, leads_free, tally_same}
+use Rattle.lossy_wires.proofs.Sending.{MaySend, give_flags, give_meets, sent_meets, closed_meets}
+use Rattle.lossy_wires.proofs.Tracing.{Leads, extends_none, leads_then, leads_none, leads_free, tally_same}
 
 -- what is given out is the hello or a line above acked
 hello_unready : (s : SenderData) → IsSound s → next_of s ≡ Some hello → s.ready ≡ false
 hello_unready s sound is = grind (arith, common_steps)
 
-line_held : (s : SenderData) (texts : List (List ℕ)) (place : ℕ) (text : List ℕ) → IsSound s → HoldsIssued texts s → next_of s ≡ Some (line place text) → IsUnacknowledged texts s place text
+line_held : (s : SenderData) (texts : List (List ℕ)) (place : ℕ) (text : List ℕ) → IsSound s → HoldsIssued texts s → next_of s ≡ Some (line place text) →
+    IsUnacknowledged texts s place text
 line_held s texts place text sound holds is = grind (arith, common_steps, gets)
 
 -- a sender that gave something out doesn't owe the hello
@@ -70,7 +68,8 @@ bytes_as (line place text) = refl
 line_issued : (issued : List (List ℕ)) (s : SenderData) (place : ℕ) (text : List ℕ) → IsUnacknowledged issued s place text → IsIssued issued place text
 line_issued issued s place text is = record { counted = omega (arith, is.above_acked); found = is.its_text }
 
-may_send : (issued : List (List ℕ)) (s : SenderData) (next : Outgoing) → IsSound s → HoldsIssued issued s → next_of s ≡ Some next → MaySend issued s (sent_as next)
+may_send : (issued : List (List ℕ)) (s : SenderData) (next : Outgoing) → IsSound s → HoldsIssued issued s → next_of s ≡ Some next →
+    MaySend issued s (sent_as next)
 unfolding sent_as
 may_send issued s hello sound holds is = record {
   early_so = λ unready. (tt, hello_is_due s is);
@@ -83,13 +82,15 @@ may_send issued s (line place text) sound holds is =
       late_so = λ ready. line_issued issued s place text its;
     }
 
-may_send_failing : (issued : List (List ℕ)) (s : SenderData) (next : Outgoing) (bytes : List ℕ) → IsSound s → next_of s ≡ Some next → IsFailing bytes → MaySend issued s (corrupted bytes)
+may_send_failing : (issued : List (List ℕ)) (s : SenderData) (next : Outgoing) (bytes : List ℕ) → IsSound s → next_of s ≡ Some next → IsFailing bytes →
+    MaySend issued s (corrupted bytes)
 may_send_failing issued s next bytes sound is failing = record {
   early_so = λ unready. (failing, some_is_due s next sound is unready);
   late_so = λ ready. failing;
 }
 
-send_fits : (issued : List (List ℕ)) (s : SenderData) (replies : List Reply) (next : Outgoing) (bytes : List ℕ) (behind : List WorldEvent) → IsSound s → HoldsIssued issued s → IsTallied replies s → next_of s ≡ Some next → bytes ≡ bytes_of_outgoing next → IsSendFit issued (acked_of replies) bytes behind
+send_fits : (issued : List (List ℕ)) (s : SenderData) (replies : List Reply) (next : Outgoing) (bytes : List ℕ) (behind : List WorldEvent) → IsSound s →
+    HoldsIssued issued s → IsTallied replies s → next_of s ≡ Some next → bytes ≡ bytes_of_outgoing next → IsSendFit issued (acked_of replies) bytes behind
 send_fits issued s replies hello bytes behind sound holds tallied is written = inl written
 send_fits issued s replies (line place text) bytes behind sound holds tallied is written =
     let its = line_held s issued place text sound holds is in
@@ -110,13 +111,15 @@ closes_free (event ∷ events) free =
     (and_from (is_free event) (closes_next (events ++ Closed ∷ [])) (both_left (is_free event) (list_all is_free events) free)
     (closes_free events (both_right (is_free event) (list_all is_free events) free)))
 
-sent_starts : (w : WorldData) (sent : ArrayVec ℕ) (events : List WorldEvent) → Each (IsStartKnown events) w.down → Each (IsStartKnown (events ++ Send sent ∷ [])) (apply w (Send sent)).down
+sent_starts : (w : WorldData) (sent : ArrayVec ℕ) (events : List WorldEvent) → Each (IsStartKnown events) w.down →
+    Each (IsStartKnown (events ++ Send sent ∷ [])) (apply w (Send sent)).down
 sent_starts w sent events all =
     after_event (λ v. Each (IsStartKnown (events ++ Send sent ∷ [])) v.down) w (Send sent) (starts_more events (Send sent ∷ []) w.down all) (λ can. starts_more events (Send sent ∷ []) w.down all)
 
 module _ (start : List Logged) (issued : List (List ℕ)) where
   -- the link is closed
-  pub leads_closed : (s : SenderData) (w : WorldData) (replies : List Reply) → w.linked ≡ true → Meets start issued s w → IsTallied replies s → Leads start issued issued s w replies (Closed ∷ [])
+  pub leads_closed : (s : SenderData) (w : WorldData) (replies : List Reply) → w.linked ≡ true → Meets start issued s w → IsTallied replies s →
+      Leads start issued issued s w replies (Closed ∷ [])
   leads_closed s w replies on m tallied =
       let M : WorldData → Type 0 = λ v. Meets start issued s v in
       let T : List Reply → Type 0 = λ l. IsTallied l s in
@@ -130,7 +133,8 @@ module _ (start : List Logged) (issued : List (List ℕ)) where
       }
 
   -- after what the line and the printer do
-  pub leads_loss : (s : SenderData) (w : WorldData) (replies : List Reply) (events : List WorldEvent) → list_all is_free events ≡ true → w.linked ≡ true → Meets start issued s w → IsTallied replies s → Leads start issued issued s w replies (events ++ Closed ∷ [])
+  pub leads_loss : (s : SenderData) (w : WorldData) (replies : List Reply) (events : List WorldEvent) → list_all is_free events ≡ true → w.linked ≡ true →
+      Meets start issued s w → IsTallied replies s → Leads start issued issued s w replies (events ++ Closed ∷ [])
   leads_loss s w replies events free on m tallied =
       let first = leads_free start issued s w replies events free m tallied in
       let still : (world_from w events).linked ≡ true = world_from-linked w events free ∙ on in
@@ -138,14 +142,17 @@ module _ (start : List Logged) (issued : List (List ℕ)) where
       (leads_closed s (world_from w events) (replies ++ replies_from w events) still first.meets first.tallied)
 
   -- a line is given out, and nothing is known of it yet
-  pub leads_given : (moment : ℕ) (s : SenderData) (w : WorldData) (replies : List Reply) → Meets start issued s w → IsTallied replies s → Leads start issued issued (frame_step moment s) w replies []
+  pub leads_given : (moment : ℕ) (s : SenderData) (w : WorldData) (replies : List Reply) → Meets start issued s w → IsTallied replies s →
+      Leads start issued issued (frame_step moment s) w replies []
   leads_given moment s w replies m tallied =
       let flags = give_flags moment s in
       leads_none start issued issued (frame_step moment s) w replies (extends_none issued) (give_meets start issued moment s w m)
       (tally_same start replies s (frame_step moment s) flags.swallow flags.ready flags.acked tallied)
 
   -- what is given out is sent
-  pub leads_sent : (moment : ℕ) (s : SenderData) (w : WorldData) (replies : List Reply) (next : Outgoing) (sent : ArrayVec ℕ) → next_of s ≡ Some next → sent.items ≡ bytes_of_outgoing next → can_happen w (Send sent) ≡ true → Meets start issued s w → IsTallied replies s → Leads start issued issued (frame_step moment s) w replies (Send sent ∷ [])
+  pub leads_sent : (moment : ℕ) (s : SenderData) (w : WorldData) (replies : List Reply) (next : Outgoing) (sent : ArrayVec ℕ) → next_of s ≡ Some next →
+      sent.items ≡ bytes_of_outgoing next → can_happen w (Send sent) ≡ true → Meets start issued s w → IsTallied replies s →
+      Leads start issued issued (frame_step moment s) w replies (Send sent ∷ [])
   leads_sent moment s w replies next sent is written can m tallied =
       let n = m.numbers in
       let on : w.linked ≡ true = both_left w.linked (fits_wire sent.items) can in
@@ -164,7 +171,9 @@ module _ (start : List Logged) (issued : List (List ℕ)) where
       }
 
   -- a line that fails is sent in its place, and the link is closed
-  pub leads_failing : (moment : ℕ) (s : SenderData) (w : WorldData) (replies : List Reply) (next : Outgoing) (sent : ArrayVec ℕ) (behind : List WorldEvent) → next_of s ≡ Some next → fails sent.items ≡ true → can_happen w (Send sent) ≡ true → list_all is_free behind ≡ true → Meets start issued s w → IsTallied replies s → Leads start issued issued (frame_step moment s) w replies (Send sent ∷ (behind ++ Closed ∷ []))
+  pub leads_failing : (moment : ℕ) (s : SenderData) (w : WorldData) (replies : List Reply) (next : Outgoing) (sent : ArrayVec ℕ) (behind : List WorldEvent) →
+      next_of s ≡ Some next → fails sent.items ≡ true → can_happen w (Send sent) ≡ true → list_all is_free behind ≡ true → Meets start issued s w →
+      IsTallied replies s → Leads start issued issued (frame_step moment s) w replies (Send sent ∷ (behind ++ Closed ∷ []))
   leads_failing moment s w replies next sent behind is failing can free m tallied =
       let n = m.numbers in
       let on : w.linked ≡ true = both_left w.linked (fits_wire sent.items) can in

@@ -1,5 +1,5 @@
 -- A reply on the way is received, and the sender hears it.
-use Rattle.std.proofs.Common.{◌≡◌, ◌≢◌, ℕ, suc, ◌+◌, ◌<◌, ◌≤◌, Bool, true, false, List, [], ◌∷◌, ◌++◌, length, map, drop, refl, sym, ◌∙◌, ap, subst, append-nil, length-append, arith}
+use Rattle.std.proofs.Common.{◌≡◌, ℕ, suc, ◌+◌, ◌<◌, ◌≤◌, Bool, true, false, List, [], ◌∷◌, ◌++◌, length, map, drop, refl, sym, ◌∙◌, ap, subst, append-nil, length-append, arith}
 use Rattle.std.specs.Prelude.{Option, Some, None, if◌then◌else◌, nat_lt, ◌==◌}
 use Rattle.std.proofs.lemmas.Bool.{lt-ltb, le-ltb, lt-leb, eq-eqb}
 use Rattle.marlin_frame.specs.Numbering.{wire_number, place_of}
@@ -12,14 +12,14 @@ use Rattle.printer_model.specs.Printer.{Logged}
 use Rattle.printer_model.specs.World.{WorldData, happen}
 use Rattle.printer_model.specs.declared.event.WorldEvent.TheVariants.{Recv}
 use Rattle.send_window.specs.Data.{SenderData, IsSound, most_lines}
-use Rattle.send_window.specs.Hearing.{marked, ended_by, swallowed, made_ready, acknowledged, line_ok, named_ok, heard_ok, hello_asked, line_asked, resend_asked, heard_resend, heard_start, heard_reply, unless_ended, hear_step, end_of_numbers}
+use Rattle.send_window.specs.Hearing.{marked, ended_by, swallowed, made_ready, acknowledged, line_ok, named_ok, heard_ok, hello_asked, line_asked, resend_asked, heard_resend, heard_start, heard_reply, unless_ended, hear_step}
 use Rattle.send_window.specs.Session.{HoldsIssued, hears}
 use Rattle.send_window.proofs.Issued.{step_holds}
 use Rattle.send_window.proofs.Soundness.{hears_sound}
-use Rattle.lossy_wires.specs.Pieces.{Piece, Sent, Each, IsSentLate, AreLinesFrom, Answer, greeting_ok, command_ok, refusal, asking, closing, chat, restart, Heard, ok_heard, resend_heard, start_heard, talk_heard, heard_of, heard_in, named_by, reply_to, rest_of, replies_on}
-use Rattle.lossy_wires.specs.Wires.{Wires, Shows, IsBefore, IsAfter, Printed, before, after, lines_run, weights, greetings_on, is_closing, IsEarlyWay, IsRestartKnown, IsBegun, IsAsked, Answers, IsEarly, Phase, shut, early, late, IsFair, IsRead, Replies, Numbers, Meets}
+use Rattle.lossy_wires.specs.Pieces.{Piece, Sent, Each, IsSentLate, AreLinesFrom, Answer, greeting_ok, command_ok, refusal, asking, closing, chat, restart, Heard, ok_heard, resend_heard, start_heard, talk_heard, heard_of, heard_in, named_by, reply_to, rest_of}
+use Rattle.lossy_wires.specs.Wires.{Wires, Shows, Printed, before, after, lines_run, weights, is_closing, IsAsked, Answers, IsEarly, Phase, shut, early, late, IsFair, IsRead, Replies, Numbers, Meets}
 use Rattle.lossy_wires.proofs.Lists.{none_left, lines_none, lines_within, lines_front}
-use Rattle.lossy_wires.proofs.Ways.{greetings_le, early_front, early_unclosing, answers_front, answers_unclosing, answers_le, answers_begin, IsFirst, first_of_way}
+use Rattle.lossy_wires.proofs.Ways.{early_front, early_unclosing, answers_front, answers_unclosing, answers_le, answers_begin, IsFirst, first_of_way}
 
 -- a sender after a reply, by what the reply does
 abbrev pub heard_as : Heard → ℕ → SenderData → SenderData
@@ -37,7 +37,8 @@ reply_as (reply.Temps temps) moment s = refl
 reply_as reply.Error moment s = refl
 reply_as reply.Other moment s = refl
 
-pub hear_as : (line : List ℕ) (heard : Heard) (moment : ℕ) (s : SenderData) → s.ended ≡ None → heard_in line ≡ heard → hear_step (kind_of line) moment s ≡ heard_as heard moment s
+pub hear_as : (line : List ℕ) (heard : Heard) (moment : ℕ) (s : SenderData) → s.ended ≡ None → heard_in line ≡ heard →
+    hear_step (kind_of line) moment s ≡ heard_as heard moment s
 hear_as line heard moment s running is =
     ap (λ (e : Option SessionEnd). unless_ended e (heard_reply (kind_of line) moment s) s) running
     ∙ reply_as (kind_of line) moment s
@@ -48,12 +49,14 @@ pub record IsHeardSo (issued : List (List ℕ)) (s : SenderData) (linked : Bool)
   pub phase : Phase issued s linked a
   pub replies : Replies s linked a.dropped a.log a.way
 
-pub ok_by : (swallow ready : Bool) (number : Option ℕ) (moment : ℕ) (s : SenderData) → s.swallow ≡ swallow → s.ready ≡ ready → heard_as (ok_heard number) moment s ≡ heard_ok swallow ready number moment s
+pub ok_by : (swallow ready : Bool) (number : Option ℕ) (moment : ℕ) (s : SenderData) → s.swallow ≡ swallow → s.ready ≡ ready →
+    heard_as (ok_heard number) moment s ≡ heard_ok swallow ready number moment s
 ok_by swallow ready number moment s e f =
     ap (λ (b : Bool). heard_ok b s.ready number moment s) e ∙ ap (λ (b : Bool). heard_ok swallow b number moment s) f
 
 -- before the hello's `ok` was read: a sender that stays as it was but for marks
-early_stays : (s t : SenderData) (linked d : Bool) (log : List Piece) (way : List Answer) → s.ready ≡ false → t.ready ≡ s.ready → t.acked ≡ s.acked → t.ended ≡ s.ended → Replies s linked d log way → (way' : List Answer) → Replies t linked d log way'
+early_stays : (s t : SenderData) (linked d : Bool) (log : List Piece) (way : List Answer) → s.ready ≡ false → t.ready ≡ s.ready → t.acked ≡ s.acked →
+    t.ended ≡ s.ended → Replies s linked d log way → (way' : List Answer) → Replies t linked d log way'
 early_stays s t linked d log way unready same acked ended r way' = record {
   fair = subst IsFair (sym ended) r.fair;
   acked_run = omega (arith, acked, r.acked_run);
@@ -61,7 +64,9 @@ early_stays s t linked d log way unready same acked ended r way' = record {
 }
 
 module _ (issued : List (List ℕ)) (moment : ℕ) (s : SenderData) (linked : Bool) (last : ℕ) where
-  hello_heard : (a : Wires) (named : Bool) (way : List Answer) → IsSound s → HoldsIssued issued s → Printed issued a.ran a.dropped last a.queue a.log → linked ≡ true → s.ended ≡ None → s.ready ≡ false → IsEarly s a.ran a.dropped a.queue a.up (greeting_ok named ∷ way) → IsHeardSo issued (made_ready s) linked (record a { way = way })
+  hello_heard : (a : Wires) (named : Bool) (way : List Answer) → IsSound s → HoldsIssued issued s → Printed issued a.ran a.dropped last a.queue a.log →
+      linked ≡ true → s.ended ≡ None → s.ready ≡ false → IsEarly s a.ran a.dropped a.queue a.up (greeting_ok named ∷ way) →
+      IsHeardSo issued (made_ready s) linked (record a { way = way })
   hello_heard a named way sound holds printed opened running unready e = hello_by printed
     where
       none : issued ≡ []
@@ -107,7 +112,9 @@ module _ (issued : List (List ℕ)) (moment : ℕ) (s : SenderData) (linked : Bo
             };
           }
 
-  early_heard : (a : Wires) (x : Answer) (way : List Answer) → IsSound s → HoldsIssued issued s → Printed issued a.ran a.dropped last a.queue a.log → linked ≡ true → s.ended ≡ None → s.ready ≡ false → IsEarly s a.ran a.dropped a.queue a.up (x ∷ way) → Replies s linked a.dropped a.log (x ∷ way) → IsHeardSo issued (heard_as (reply_to x) moment s) linked (record a { way = rest_of x way })
+  early_heard : (a : Wires) (x : Answer) (way : List Answer) → IsSound s → HoldsIssued issued s → Printed issued a.ran a.dropped last a.queue a.log →
+      linked ≡ true → s.ended ≡ None → s.ready ≡ false → IsEarly s a.ran a.dropped a.queue a.up (x ∷ way) → Replies s linked a.dropped a.log (x ∷ way) →
+      IsHeardSo issued (heard_as (reply_to x) moment s) linked (record a { way = rest_of x way })
   early_heard a (greeting_ok named) way sound holds printed opened running unready e r =
       let H : SenderData → Type 0 = λ t. IsHeardSo issued t linked (record a { way = way }) in
       subst H (sym (ok_by false false (named_by named 0) moment s e.swallows unready)) (hello_heard a named way sound holds printed opened running unready e)
@@ -190,7 +197,8 @@ module _ (issued : List (List ℕ)) (moment : ℕ) (s : SenderData) (linked : Bo
 line_right : (moment : ℕ) (s : SenderData) → s.acked < s.issued → line_ok moment s ≡ acknowledged moment s
 line_right moment s more = ap (λ (b : Bool). if b then acknowledged moment s else marked s) (lt-ltb s.acked s.issued more)
 
-pub named_right : (named : Bool) (place moment : ℕ) (s : SenderData) → place ≡ suc s.acked → s.acked < s.issued → named_ok (named_by named (wire_number place)) moment s ≡ acknowledged moment s
+pub named_right : (named : Bool) (place moment : ℕ) (s : SenderData) → place ≡ suc s.acked → s.acked < s.issued →
+    named_ok (named_by named (wire_number place)) moment s ≡ acknowledged moment s
 named_right false place moment s is more = line_right moment s more
 named_right true place moment s is more =
     ap (λ (b : Bool). if b then line_ok moment s else ended_by (Counts (wire_number place) (wire_number (s.acked + 1))) s) (eq-eqb (wire_number place) (wire_number (s.acked + 1)) (omega (arith, is)))
@@ -210,7 +218,10 @@ asked_right number moment s is =
 
 module _ (issued : List (List ℕ)) (moment : ℕ) (s : SenderData) (linked : Bool) where
   -- a ready sender that stays as it was but for marks and the swallow flag
-  late_stays : (t : SenderData) (a : Wires) (x : Answer) (way way' : List Answer) → linked ≡ true → s.ready ≡ true → a.ran ≡ true → Each (IsSentLate issued) a.up → t.ready ≡ s.ready → t.acked ≡ s.acked → t.issued ≡ s.issued → t.ended ≡ s.ended → t.swallow ≡ is_closing way' → Replies s linked a.dropped a.log (x ∷ way) → Answers true a.dropped s.issued s.acked way' (lines_run a.log) → IsHeardSo issued t linked (record a { way = way' })
+  late_stays : (t : SenderData) (a : Wires) (x : Answer) (way way' : List Answer) → linked ≡ true → s.ready ≡ true → a.ran ≡ true →
+      Each (IsSentLate issued) a.up → t.ready ≡ s.ready → t.acked ≡ s.acked → t.issued ≡ s.issued → t.ended ≡ s.ended → t.swallow ≡ is_closing way' →
+      Replies s linked a.dropped a.log (x ∷ way) → Answers true a.dropped s.issued s.acked way' (lines_run a.log) →
+      IsHeardSo issued t linked (record a { way = way' })
   late_stays t a x way way' opened ready ran ups same acked all ended swallows r answers =
       let N : ℕ → Type 0 = λ n. Answers true a.dropped n t.acked way' (lines_run a.log) in
       let A : ℕ → Type 0 = λ m. Answers true a.dropped s.issued m way' (lines_run a.log) in
@@ -223,7 +234,9 @@ module _ (issued : List (List ℕ)) (moment : ℕ) (s : SenderData) (linked : Bo
         };
       }
 
-  late_heard : (a : Wires) (x : Answer) (way : List Answer) → lines_run a.log ≤ s.issued → linked ≡ true → s.ended ≡ None → s.ready ≡ true → a.ran ≡ true → Each (IsSentLate issued) a.up → IsRead s a.dropped (x ∷ way) (lines_run a.log) → Replies s linked a.dropped a.log (x ∷ way) → IsHeardSo issued (heard_as (reply_to x) moment s) linked (record a { way = rest_of x way })
+  late_heard : (a : Wires) (x : Answer) (way : List Answer) → lines_run a.log ≤ s.issued → linked ≡ true → s.ended ≡ None → s.ready ≡ true → a.ran ≡ true →
+      Each (IsSentLate issued) a.up → IsRead s a.dropped (x ∷ way) (lines_run a.log) → Replies s linked a.dropped a.log (x ∷ way) →
+      IsHeardSo issued (heard_as (reply_to x) moment s) linked (record a { way = rest_of x way })
   late_heard a (greeting_ok named) way few opened running ready ran ups read r = absurd (read.answers)
   late_heard a (command_ok place named) way few opened running ready ran ups read r =
       let H : SenderData → Type 0 = λ t. IsHeardSo issued t linked (record a { way = way }) in
@@ -279,14 +292,19 @@ run_few issued ran d last queue log (after p) =
     let run : lines_run log ≡ length p.lines = ap lines_run p.logged in
     omega (arith, run, lines_within issued 0 p.lines (lines_front issued 1 p.lines queue p.accepted) (omega arith))
 
-heard_by : (issued : List (List ℕ)) (moment : ℕ) (s : SenderData) (linked : Bool) (last : ℕ) (a : Wires) (x : Answer) (way : List Answer) → linked ≡ true → s.ended ≡ None → Numbers issued s linked last (record a { way = x ∷ way }) → Phase issued s linked (record a { way = x ∷ way }) → IsHeardSo issued (heard_as (reply_to x) moment s) linked (record a { way = rest_of x way })
+heard_by : (issued : List (List ℕ)) (moment : ℕ) (s : SenderData) (linked : Bool) (last : ℕ) (a : Wires) (x : Answer) (way : List Answer) → linked ≡ true →
+    s.ended ≡ None → Numbers issued s linked last (record a { way = x ∷ way }) → Phase issued s linked (record a { way = x ∷ way }) →
+    IsHeardSo issued (heard_as (reply_to x) moment s) linked (record a { way = rest_of x way })
 heard_by issued moment s linked last a x way on running n (shut closed none idle) = absurd (cc)
 heard_by issued moment s linked last a x way on running n (early opened unready e) =
     early_heard issued moment s linked last a x way n.sound n.holds n.printed opened running unready e n.replies
 heard_by issued moment s linked last a x way on running n (late opened ready ran ups) =
     late_heard issued moment s linked a x way (omega (arith, run_few issued a.ran a.dropped last a.queue a.log n.printed, n.holds.count)) opened running ready ran ups (n.replies.reads running opened ready) n.replies
 
-heard_meets : (start : List Logged) (issued : List (List ℕ)) (moment : ℕ) (s : SenderData) (w : WorldData) (line : List ℕ) (rest : List (List ℕ)) (a : Wires) (way : List Answer) → w.linked ≡ true → s.ended ≡ None → w.down ≡ line ∷ rest → Shows start (record a { way = way }) w → Numbers issued s w.linked w.printer.last (record a { way = way }) → IsFirst line rest way → Meets start issued (hear_step (kind_of line) moment s) (happen w Recv)
+heard_meets : (start : List Logged) (issued : List (List ℕ)) (moment : ℕ) (s : SenderData) (w : WorldData) (line : List ℕ) (rest : List (List ℕ)) (a : Wires) (way : List Answer) →
+    w.linked ≡ true → s.ended ≡ None → w.down ≡ line ∷ rest → Shows start (record a { way = way }) w →
+    Numbers issued s w.linked w.printer.last (record a { way = way }) → IsFirst line rest way →
+    Meets start issued (hear_step (kind_of line) moment s) (happen w Recv)
 heard_meets start issued moment s w line rest a way on running front sh n first =
     let x = first.answer in
     let N : List Answer → Type 0 = λ l. Numbers issued s w.linked w.printer.last (record a { way = l }) in
@@ -316,7 +334,8 @@ heard_meets start issued moment s w line rest a way on running front sh n first 
     }
 
 -- a reply is received and heard
-pub hear_meets : (start : List Logged) (issued : List (List ℕ)) (moment : ℕ) (s : SenderData) (w : WorldData) (line : List ℕ) (rest : List (List ℕ)) → w.linked ≡ true → s.ended ≡ None → w.down ≡ line ∷ rest → Meets start issued s w → Meets start issued (hear_step (kind_of line) moment s) (happen w Recv)
+pub hear_meets : (start : List Logged) (issued : List (List ℕ)) (moment : ℕ) (s : SenderData) (w : WorldData) (line : List ℕ) (rest : List (List ℕ)) →
+    w.linked ≡ true → s.ended ≡ None → w.down ≡ line ∷ rest → Meets start issued s w → Meets start issued (hear_step (kind_of line) moment s) (happen w Recv)
 hear_meets start issued moment s w line rest on running front m =
     let first : IsFirst line rest m.wires.way = first_of_way line rest m.wires.way (sym (ap (map heard_in) front) ∙ m.shows.down) in
     heard_meets start issued moment s w line rest m.wires m.wires.way on running front m.shows m.numbers first

@@ -1,8 +1,7 @@
 -- Lists of lines: what holds of each item, and that lines are the issued ones in order.
-use Rattle.std.proofs.Common.{◌≡◌, ℕ, zero, suc, ◌+◌, ◌-◌, ◌<◌, ◌≤◌, List, [], ◌∷◌, ◌++◌, length, map, set, refl, sym, ap, subst, arith}
-use Rattle.std.specs.Prelude.{Option, Some, None, slice_get}
+use Rattle.std.proofs.Common.{◌≡◌, ℕ, zero, suc, ◌+◌, ◌-◌, ◌<◌, ◌≤◌, List, [], ◌∷◌, ◌++◌, length, set, refl, subst, arith}
+use Rattle.std.specs.Prelude.{Some, slice_get}
 use Rattle.std.specs.List.{remove}
-use Rattle.std.proofs.lemmas.List.{append-nil}
 use Rattle.std.proofs.lemmas.Option.{slice_get_within}
 use Rattle.lossy_wires.specs.Pieces.{Piece, greeting, command, Sent, intact, corrupted, Each, IsFit, IsIssued, IsSentLate, IsLineAt, AreLinesFrom}
 
@@ -64,7 +63,8 @@ issued_within issued place text is =
     omega (arith, is.counted)
 
 -- one more line
-pub lines_push : (issued : List (List ℕ)) (place : ℕ) (pieces : List Piece) (at : ℕ) (text : List ℕ) → AreLinesFrom issued place pieces → at ≡ place + length pieces → IsIssued issued at text → AreLinesFrom issued place (pieces ++ command at text ∷ [])
+pub lines_push : (issued : List (List ℕ)) (place : ℕ) (pieces : List Piece) (at : ℕ) (text : List ℕ) → AreLinesFrom issued place pieces →
+    at ≡ place + length pieces → IsIssued issued at text → AreLinesFrom issued place (pieces ++ command at text ∷ [])
 lines_push issued place [] at text lines is its = ((omega arith, its), tt)
 lines_push issued place (piece ∷ pieces) at text lines is its = (lines.0, lines_push issued (suc place) pieces at text lines.1 (omega arith) its)
 
@@ -74,7 +74,8 @@ lines_front issued place [] ys lines = tt
 lines_front issued place (x ∷ xs) ys lines = (lines.0, lines_front issued (suc place) xs ys lines.1)
 
 -- the line after these
-pub lines_at : (issued : List (List ℕ)) (place : ℕ) (xs : List Piece) (y : Piece) (ys : List Piece) → AreLinesFrom issued place (xs ++ y ∷ ys) → IsLineAt issued (place + length xs) y
+pub lines_at : (issued : List (List ℕ)) (place : ℕ) (xs : List Piece) (y : Piece) (ys : List Piece) → AreLinesFrom issued place (xs ++ y ∷ ys) →
+    IsLineAt issued (place + length xs) y
 lines_at issued place [] y ys lines =
     let P : ℕ → Type 0 = λ n. IsLineAt issued n y in
     let same : place ≡ place + 0 = omega arith in
@@ -94,7 +95,8 @@ lines_more issued more place [] lines = tt
 lines_more issued more place (piece ∷ pieces) lines = (line_more issued more place piece lines.0, lines_more issued more (suc place) pieces lines.1)
 
 -- there are at most as many as were issued
-pub lines_within : (issued : List (List ℕ)) (place : ℕ) (pieces : List Piece) → AreLinesFrom issued (suc place) pieces → place ≤ length issued → place + length pieces ≤ length issued
+pub lines_within : (issued : List (List ℕ)) (place : ℕ) (pieces : List Piece) → AreLinesFrom issued (suc place) pieces → place ≤ length issued →
+    place + length pieces ≤ length issued
 lines_within issued place [] lines within = omega arith
 lines_within issued place (greeting ∷ pieces) lines within = absurd lines.0
 lines_within issued place (command at text ∷ pieces) lines within =

@@ -1,19 +1,18 @@
 -- What the events of the line and the printer leave of the parts, over the parts alone.
-use Rattle.std.proofs.Common.{◌≡◌, ◌≢◌, ℕ, suc, ◌+◌, ◌<◌, ◌≤◌, Bool, true, false, List, [], ◌∷◌, ◌++◌, length, refl, sym, ◌∙◌, ap, subst, append_assoc, append-nil, length-append, arith}
-use Rattle.std.specs.Prelude.{None}
+use Rattle.std.proofs.Common.{◌≡◌, ℕ, suc, ◌+◌, ◌≤◌, Bool, true, false, List, [], ◌∷◌, ◌++◌, length, refl, sym, ◌∙◌, ap, subst, append_assoc, append-nil, length-append, arith}
 use Rattle.marlin_frame.specs.Numbering.{hello_number, wire_number}
 use Rattle.printer_model.specs.Printer.{last_after}
-use Rattle.printer_model.specs.Replies.{asked_after}
-use Rattle.send_window.specs.Data.{SenderData, IsSound}
-use Rattle.send_window.specs.Session.{HoldsIssued}
-use Rattle.lossy_wires.specs.Pieces.{Piece, greeting, command, Sent, intact, corrupted, Answer, greeting_ok, command_ok, refusal, chat, restart, entry_in, Each, IsFit, IsIssued, IsSentEarly, IsSentLate, IsLineAt, AreLinesFrom}
-use Rattle.lossy_wires.specs.Wires.{Wires, last_at, IsBefore, IsAfter, Printed, before, after, lines_run, weight_of, weights, greeting_count, greetings_on, is_closing, IsEarlyWay, IsRestartKnown, IsBegun, IsAsked, Answers, IsEarly, Phase, shut, early, late, IsRead, Replies}
-use Rattle.lossy_wires.proofs.Lists.{none_left, issued_fit, issued_within, lines_push, lines_front, lines_at, lines_within}
+use Rattle.send_window.specs.Data.{SenderData}
+use Rattle.lossy_wires.specs.Pieces.{Piece, greeting, command, Sent, Answer, greeting_ok, command_ok, chat, restart, entry_in, Each, IsFit, IsSentEarly, IsSentLate, IsLineAt, AreLinesFrom}
+use Rattle.lossy_wires.specs.Wires.{Wires, last_at, Printed, before, after, lines_run, weight_of, greeting_count, is_closing, IsEarlyWay, IsRestartKnown, IsBegun, Answers, IsEarly, Phase, shut, early, late, Replies}
+use Rattle.lossy_wires.proofs.Lists.{none_left, issued_fit, lines_front, lines_at}
 use Rattle.lossy_wires.proofs.Ways.{weights_push, greetings_push, greetings_le, closing_push, early_push, begun_push, answers_push}
-use Rattle.lossy_wires.proofs.Reading.{last_after-greeting, last_after-command, asked_after-next}
+use Rattle.lossy_wires.proofs.Reading.{last_after-greeting, last_after-command}
 
 -- fewer lines, or others of the same kind, are on the wire to the printer
-pub phase_up : (issued : List (List ℕ)) (s : SenderData) (linked : Bool) (a : Wires) (up : List Sent) → length up ≤ length a.up → (Each IsSentEarly a.up → Each IsSentEarly up) → (Each (IsSentLate issued) a.up → Each (IsSentLate issued) up) → Phase issued s linked a → Phase issued s linked (record a { up = up })
+pub phase_up : (issued : List (List ℕ)) (s : SenderData) (linked : Bool) (a : Wires) (up : List Sent) → length up ≤ length a.up →
+    (Each IsSentEarly a.up → Each IsSentEarly up) → (Each (IsSentLate issued) a.up → Each (IsSentLate issued) up) → Phase issued s linked a →
+    Phase issued s linked (record a { up = up })
 phase_up issued s linked a up le early_so late_so (shut closed none idle) =
     let few : length a.up ≡ 0 = ap length none in
     shut closed (none_left up (omega (arith, le, few))) idle
@@ -30,7 +29,9 @@ phase_up issued s linked a up le early_so late_so (early opened unready e) = ear
 phase_up issued s linked a up le early_so late_so (late opened ready ran ups) = late opened ready ran (late_so ups)
 
 -- an answer that weighs nothing joins the way, and the queue doesn't grow
-pub early_way : (s : SenderData) (ran d d' : Bool) (queue queue' : List Piece) (up : List Sent) (way : List Answer) (x : Answer) → weight_of x ≡ 0 → greeting_count x ≡ 0 → is_closing (x ∷ []) ≡ false → length queue' ≤ length queue → ((f : Bool) → IsEarlyWay f (x ∷ [])) → (d ≡ false → IsRestartKnown d' (x ∷ [])) → IsBegun d' (x ∷ []) → IsEarly s ran d queue up way → IsEarly s ran d' queue' up (way ++ x ∷ [])
+pub early_way : (s : SenderData) (ran d d' : Bool) (queue queue' : List Piece) (up : List Sent) (way : List Answer) (x : Answer) → weight_of x ≡ 0 →
+    greeting_count x ≡ 0 → is_closing (x ∷ []) ≡ false → length queue' ≤ length queue → ((f : Bool) → IsEarlyWay f (x ∷ [])) →
+    (d ≡ false → IsRestartKnown d' (x ∷ [])) → IsBegun d' (x ∷ []) → IsEarly s ran d queue up way → IsEarly s ran d' queue' up (way ++ x ∷ [])
 early_way s ran d d' queue queue' up way x light none other le so known begins e = record {
   ups = e.ups;
   one = omega (arith, e.one, le, light, weights_push way x);
@@ -43,7 +44,9 @@ early_way s ran d d' queue queue' up way x light none other le so known begins e
 }
 
 -- an answer joins the way, and no line runs
-pub replies_way : (s : SenderData) (linked d d' : Bool) (log : List Piece) (way : List Answer) (x : Answer) → is_closing (x ∷ []) ≡ false → (s.ready ≡ true → (g : Bool) (m : ℕ) → d ≡ false → m ≡ lines_run log → Answers g d' s.issued m (x ∷ []) (lines_run log)) → Replies s linked d log way → Replies s linked d' log (way ++ x ∷ [])
+pub replies_way : (s : SenderData) (linked d d' : Bool) (log : List Piece) (way : List Answer) (x : Answer) → is_closing (x ∷ []) ≡ false →
+    (s.ready ≡ true → (g : Bool) (m : ℕ) → d ≡ false → m ≡ lines_run log → Answers g d' s.issued m (x ∷ []) (lines_run log)) → Replies s linked d log way →
+    Replies s linked d' log (way ++ x ∷ [])
 replies_way s linked d d' log way x other so r = record {
   fair = r.fair;
   acked_run = r.acked_run;
@@ -54,26 +57,31 @@ replies_way s linked d d' log way x other so r = record {
 }
 
 -- another reply
-pub phase_chat : (issued : List (List ℕ)) (s : SenderData) (linked : Bool) (a : Wires) → linked ≡ true → Phase issued s linked a → Phase issued s linked (record a { way = a.way ++ chat ∷ [] })
+pub phase_chat : (issued : List (List ℕ)) (s : SenderData) (linked : Bool) (a : Wires) → linked ≡ true → Phase issued s linked a →
+    Phase issued s linked (record a { way = a.way ++ chat ∷ [] })
 phase_chat issued s linked a on (shut closed none idle) = absurd (cc)
 phase_chat issued s linked a on (early opened unready e) =
     early opened unready (early_way s a.ran a.dropped a.dropped a.queue a.queue a.up a.way chat refl refl refl (omega arith) (λ f. tt) (λ k. k) tt e)
 phase_chat issued s linked a on (late opened ready ran ups) = late opened ready ran ups
 
-pub replies_chat : (s : SenderData) (linked d : Bool) (log : List Piece) (way : List Answer) → Replies s linked d log way → Replies s linked d log (way ++ chat ∷ [])
+pub replies_chat : (s : SenderData) (linked d : Bool) (log : List Piece) (way : List Answer) → Replies s linked d log way →
+    Replies s linked d log (way ++ chat ∷ [])
 replies_chat s linked d log way r = replies_way s linked d d log way chat refl (λ ready g m kept same. (kept, same)) r
 
 -- the printer restarts
-pub phase_restart : (issued : List (List ℕ)) (s : SenderData) (linked : Bool) (a : Wires) → linked ≡ true → Phase issued s linked a → Phase issued s linked (record a { dropped = a.ran; queue = []; way = a.way ++ restart ∷ [] })
+pub phase_restart : (issued : List (List ℕ)) (s : SenderData) (linked : Bool) (a : Wires) → linked ≡ true → Phase issued s linked a →
+    Phase issued s linked (record a { dropped = a.ran; queue = []; way = a.way ++ restart ∷ [] })
 phase_restart issued s linked a on (shut closed none idle) = absurd (cc)
 phase_restart issued s linked a on (early opened unready e) =
     early opened unready (early_way s a.ran a.dropped a.ran a.queue [] a.up a.way restart refl refl refl (omega arith) (λ f. tt) (λ k. tt) tt e)
 phase_restart issued s linked a on (late opened ready ran ups) = late opened ready ran ups
 
-pub replies_restart : (s : SenderData) (linked d d' : Bool) (log : List Piece) (way : List Answer) → Replies s linked d log way → Replies s linked d' log (way ++ restart ∷ [])
+pub replies_restart : (s : SenderData) (linked d d' : Bool) (log : List Piece) (way : List Answer) → Replies s linked d log way →
+    Replies s linked d' log (way ++ restart ∷ [])
 replies_restart s linked d d' log way r = replies_way s linked d d' log way restart refl (λ ready g m kept same. omega (arith, same)) r
 
-pub printed_restart : (issued : List (List ℕ)) (ran d : Bool) (last : ℕ) (queue log : List Piece) → Printed issued ran d last queue log → Printed issued ran ran 0 [] log
+pub printed_restart : (issued : List (List ℕ)) (ran d : Bool) (last : ℕ) (queue log : List Piece) → Printed issued ran d last queue log →
+    Printed issued ran ran 0 [] log
 printed_restart issued ran d last queue log (before b) =
     before (record { unran = b.unran; kept = b.unran; none_run = b.none_run; greetings = tt; few = omega arith })
 printed_restart issued ran d last queue log (after p) =
@@ -93,7 +101,8 @@ answer_to greeting named = greeting_ok named
 answer_to (command place text) named = command_ok place named
 
 -- the front of the queue runs
-pub printed_run : (issued : List (List ℕ)) (ran d : Bool) (last : ℕ) (piece : Piece) (queue log : List Piece) → Each IsFit issued → Printed issued ran d last (piece ∷ queue) log → Printed issued true d (last_after last (entry_in piece)) queue (log ++ piece ∷ [])
+pub printed_run : (issued : List (List ℕ)) (ran d : Bool) (last : ℕ) (piece : Piece) (queue log : List Piece) → Each IsFit issued →
+    Printed issued ran d last (piece ∷ queue) log → Printed issued true d (last_after last (entry_in piece)) queue (log ++ piece ∷ [])
 printed_run issued ran d last (command place text) queue log fit (before b) = absurd (b.greetings.0)
 printed_run issued ran d last greeting queue log fit (before b) =
     let none : queue ≡ [] = none_left queue (omega (arith, b.few)) in
@@ -128,7 +137,8 @@ pub run_grows : (log : List Piece) (piece : Piece) → lines_run log ≤ lines_r
 run_grows [] piece = omega arith
 run_grows (first ∷ log) piece = omega (arith, length-append log (piece ∷ []))
 
-run_counts : (log lines : List Piece) (piece : Piece) → log ≡ greeting ∷ lines → (lines_run log ≡ length lines) × (lines_run (log ++ piece ∷ []) ≡ suc (length lines))
+run_counts : (log lines : List Piece) (piece : Piece) → log ≡ greeting ∷ lines →
+    (lines_run log ≡ length lines) × (lines_run (log ++ piece ∷ []) ≡ suc (length lines))
 run_counts log lines piece is =
     (ap lines_run is, ap (λ (l : List Piece). lines_run (l ++ piece ∷ [])) is ∙ (omega (arith, length-append lines (piece ∷ []))))
 
@@ -137,7 +147,8 @@ pub record IsRan (issued : List (List ℕ)) (s : SenderData) (linked : Bool) (a 
   pub phase : Phase issued s linked a
   pub replies : Replies s linked a.dropped a.log a.way
 
-run_early : (s : SenderData) (ran d : Bool) (queue : List Piece) (up : List Sent) (way : List Answer) (named : Bool) → ran ≡ false → d ≡ false → IsEarly s ran d (greeting ∷ queue) up way → IsEarly s true d queue up (way ++ greeting_ok named ∷ [])
+run_early : (s : SenderData) (ran d : Bool) (queue : List Piece) (up : List Sent) (way : List Answer) (named : Bool) → ran ≡ false → d ≡ false →
+    IsEarly s ran d (greeting ∷ queue) up way → IsEarly s true d queue up (way ++ greeting_ok named ∷ [])
 run_early s ran d queue up way named unran kept e = record {
   ups = e.ups;
   one = omega (arith, e.one, weights_push way (greeting_ok named));
@@ -149,7 +160,10 @@ run_early s ran d queue up way named unran kept e = record {
   swallows = e.swallows ∙ sym (closing_push way (greeting_ok named) refl);
 }
 
-pub run_open : (issued : List (List ℕ)) (s : SenderData) (linked : Bool) (last : ℕ) (a : Wires) (piece : Piece) (queue : List Piece) (named : Bool) → linked ≡ true → Printed issued a.ran a.dropped last (piece ∷ queue) a.log → Phase issued s linked (record a { queue = piece ∷ queue }) → Replies s linked a.dropped a.log a.way → IsRan issued s linked (record a { ran = true; queue = queue; log = a.log ++ piece ∷ []; way = a.way ++ answer_to piece named ∷ [] })
+pub run_open : (issued : List (List ℕ)) (s : SenderData) (linked : Bool) (last : ℕ) (a : Wires) (piece : Piece) (queue : List Piece) (named : Bool) →
+    linked ≡ true → Printed issued a.ran a.dropped last (piece ∷ queue) a.log → Phase issued s linked (record a { queue = piece ∷ queue }) →
+    Replies s linked a.dropped a.log a.way →
+    IsRan issued s linked (record a { ran = true; queue = queue; log = a.log ++ piece ∷ []; way = a.way ++ answer_to piece named ∷ [] })
 run_open issued s linked last a piece queue named on printed (shut closed none idle) r = absurd (cc)
 run_open issued s linked last a (command place text) queue named on (before b) (early opened unready e) r = absurd (b.greetings.0)
 run_open issued s linked last a greeting queue named on (before b) (early opened unready e) r = record {
@@ -182,7 +196,9 @@ run_open issued s linked last a (command place text) queue named on (after p) (l
     }
 
 -- over a closed link nothing is said
-pub run_shut : (issued : List (List ℕ)) (s : SenderData) (linked : Bool) (a : Wires) (piece : Piece) (queue : List Piece) → linked ≡ false → Phase issued s linked (record a { queue = piece ∷ queue }) → Replies s linked a.dropped a.log a.way → IsRan issued s linked (record a { ran = true; queue = queue; log = a.log ++ piece ∷ [] })
+pub run_shut : (issued : List (List ℕ)) (s : SenderData) (linked : Bool) (a : Wires) (piece : Piece) (queue : List Piece) → linked ≡ false →
+    Phase issued s linked (record a { queue = piece ∷ queue }) → Replies s linked a.dropped a.log a.way →
+    IsRan issued s linked (record a { ran = true; queue = queue; log = a.log ++ piece ∷ [] })
 run_shut issued s linked a piece queue off (early opened unready e) r = absurd (cc)
 run_shut issued s linked a piece queue off (late opened ready ran ups) r = absurd (cc)
 run_shut issued s linked a piece queue off (shut closed none idle) r = record {

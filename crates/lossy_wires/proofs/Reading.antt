@@ -1,20 +1,20 @@
 -- How the printer reads the lines of a session, and what its replies are to a sender.
-use Rattle.std.proofs.Common.{◌≡◌, ◌≢◌, inl, inr, ℕ, ◌+◌, ◌<◌, ◌≤◌, ◌^◌, min, Bool, true, false, List, [], ◌∷◌, codes, refl, sym, ◌∙◌, ap, arith}
-use Rattle.std.specs.Prelude.{Option, Some, None, Ok, Err, Result, bytes_eq, cond}
+use Rattle.std.proofs.Common.{◌≡◌, ◌≢◌, inl, inr, ℕ, ◌+◌, ◌<◌, ◌≤◌, ◌^◌, Bool, true, false, List, codes, refl, sym, ◌∙◌, ap, arith}
+use Rattle.std.specs.Prelude.{Some, None, Ok, Err, Result, bytes_eq, cond}
 use Rattle.byte_text.specs.Marks.{has_m110}
-use Rattle.marlin_frame.specs.Frame.{frame_of, fails, lead_of, begins_with_n, line_number_of}
+use Rattle.marlin_frame.specs.Frame.{frame_of, line_number_of}
 use Rattle.marlin_frame.specs.Numbering.{hello_number, wire_number, hello_text, hello_frame}
 use Rattle.marlin_frame.proofs.FrameLaws.{sum_of, sum_of-lt, numbered_line, lead_of-frame, begins_with_n-frame, line_number_of-frame, has_m110-frame}
 use Rattle.marlin_frame.proofs.HelloLaws.{hello_lead, hello_line, hello_sets_number}
 use Rattle.marlin_reply.specs.Kind.{kind_of, is_talk, is_chatter}
 use Rattle.marlin_reply.specs.declared.reply.Reply.{Reply}
 use Rattle.marlin_reply.specs.declared.reply.Reply.TheVariants as reply
-use Rattle.printer_model.specs.Printer.{Entry, judged, last_after, last_behind}
+use Rattle.printer_model.specs.Printer.{Entry, judged, last_after}
 use Rattle.printer_model.specs.Replies.{asked_after, error_line, ok_line, resend_line, run_reply, start_line}
 use Rattle.printer_model.specs.declared.printer.Reason.{Reason}
 use Rattle.printer_model.specs.declared.printer.Reason.TheVariants.{WrongNumber}
 use Rattle.printer_model.proofs.Judging.{judged-numbered, judged-out_of_turn, kind_of-error_line, kind_of-resend_line, kind_of-ok_line, kind_of-start_line, kind_of-temperatures_line, kind_of-named, run_reply-temperatures, run_reply-numbered, run_reply-plain}
-use Rattle.lossy_wires.specs.Pieces.{Piece, greeting, command, entry_in, bytes_in, front_in, text_in, IsFit, Heard, ok_heard, resend_heard, start_heard, talk_heard, heard_of, heard_in, named_by}
+use Rattle.lossy_wires.specs.Pieces.{greeting, command, entry_in, bytes_in, IsFit, ok_heard, resend_heard, start_heard, talk_heard, heard_of, heard_in, named_by}
 
 -- a text's frame is read back
 small : (place : ℕ) → place ≤ 1999999999 → wire_number place < 2 ^ 32
@@ -24,7 +24,8 @@ frame_sum : (place : ℕ) (text : List ℕ) → place ≤ 1999999999 → IsFit t
 frame_sum place text few fit = sum_of-lt (wire_number place) text (small place few) fit.bytes
 
 -- a line in turn is accepted
-pub line_accepted : (last place : ℕ) (text : List ℕ) → place ≤ 1999999999 → IsFit text → wire_number place ≡ last + 1 → judged last (bytes_in (command place text)) ≡ Ok (entry_in (command place text))
+pub line_accepted : (last place : ℕ) (text : List ℕ) → place ≤ 1999999999 → IsFit text → wire_number place ≡ last + 1 →
+    judged last (bytes_in (command place text)) ≡ Ok (entry_in (command place text))
 line_accepted last place text few fit turn =
     let n = wire_number place in
     let line = frame_of n text in
@@ -34,7 +35,8 @@ line_accepted last place text few fit turn =
     ∙ ap (λ (lead : ℕ). taken (record { number = Some n; lead = Some lead; text = text })) (lead_of-frame n text (small place few))
 
 -- another one is refused
-pub line_refused : (last place : ℕ) (text : List ℕ) → place ≤ 1999999999 → IsFit text → wire_number place ≢ last + 1 → judged last (bytes_in (command place text)) ≡ Err WrongNumber
+pub line_refused : (last place : ℕ) (text : List ℕ) → place ≤ 1999999999 → IsFit text → wire_number place ≢ last + 1 →
+    judged last (bytes_in (command place text)) ≡ Err WrongNumber
 line_refused last place text few fit other =
     let n = wire_number place in
     let line = frame_of n text in
@@ -94,7 +96,8 @@ pub record IsRunReply (bytes : List ℕ) (front : ℕ) : Type 0 where
   pub named : Bool
   pub heard : heard_in bytes ≡ ok_heard (named_by named front)
 
-run_heard_by : (advanced asks : Bool) (front free : ℕ) (text : List ℕ) → front < 2 ^ 32 → free < 2 ^ 32 → bytes_eq text (codes "M105") ≡ asks → IsRunReply (run_reply advanced (Some front) text free) front
+run_heard_by : (advanced asks : Bool) (front free : ℕ) (text : List ℕ) → front < 2 ^ 32 → free < 2 ^ 32 → bytes_eq text (codes "M105") ≡ asks →
+    IsRunReply (run_reply advanced (Some front) text free) front
 run_heard_by advanced true front free text low few asks =
     record { named = false; heard = ap heard_in (run_reply-temperatures advanced (Some front) text free asks) ∙ ap heard_of kind_of-temperatures_line }
 run_heard_by true false front free text low few asks =
@@ -102,5 +105,6 @@ run_heard_by true false front free text low few asks =
 run_heard_by false false front free text low few asks =
     record { named = false; heard = ap heard_in (run_reply-plain (Some front) text free asks) ∙ heard_ok }
 
-pub run_heard : (advanced : Bool) (front free : ℕ) (text : List ℕ) → front < 2 ^ 32 → free < 2 ^ 32 → IsRunReply (run_reply advanced (Some front) text free) front
+pub run_heard : (advanced : Bool) (front free : ℕ) (text : List ℕ) → front < 2 ^ 32 → free < 2 ^ 32 →
+    IsRunReply (run_reply advanced (Some front) text free) front
 run_heard advanced front free text low few = run_heard_by advanced (bytes_eq text (codes "M105")) front free text low few refl

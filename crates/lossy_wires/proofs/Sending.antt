@@ -1,6 +1,6 @@
 -- What the host does leaves a sender and a world that fit together: it opens and closes a link, issues and sends lines,
 -- and its clock ticks.
-use Rattle.std.proofs.Common.{◌≡◌, ℕ, suc, ◌+◌, ◌-◌, ◌<◌, ◌≤◌, Bool, true, false, not, ◌&&◌, List, [], ◌∷◌, ◌++◌, length, map, refl, sym, ◌∙◌, ap, subst, append-nil, length-append, arith}
+use Rattle.std.proofs.Common.{◌≡◌, ℕ, ◌+◌, ◌<◌, ◌≤◌, Bool, true, false, not, List, [], ◌∷◌, ◌++◌, length, map, refl, sym, ◌∙◌, ap, subst, append-nil, length-append, arith}
 use Rattle.std.specs.Prelude.{Option, Some, None}
 use Rattle.std.proofs.lemmas.Grind.{common_steps}
 use Rattle.std.proofs.lemmas.List.{map-append}
@@ -12,13 +12,13 @@ use Rattle.printer_model.specs.declared.event.WorldEvent.TheVariants.{Opened, Cl
 use Rattle.printer_model.proofs.Laws.{both_right}
 use Rattle.send_window.specs.Data.{SenderData, IsSound, begun}
 use Rattle.send_window.specs.Hearing.{tick_step}
-use Rattle.send_window.specs.Sending.{hello, line, next_of, room_of, frame_step, push_step}
+use Rattle.send_window.specs.Sending.{room_of, frame_step, push_step}
 use Rattle.send_window.specs.Session.{HoldsIssued, ticks, issues, gives}
 use Rattle.send_window.proofs.Ending.{tick_ends}
 use Rattle.send_window.proofs.Issued.{step_holds}
 use Rattle.send_window.proofs.Soundness.{begun_sound, ticks_sound, issues_sound, gives_sound}
-use Rattle.lossy_wires.specs.Pieces.{Piece, Sent, Answer, bytes_on, Each, IsFit, IsIssued, IsFailing, IsSentEarly, IsSentLate}
-use Rattle.lossy_wires.specs.Wires.{Wires, Shows, Printed, before, after, lines_run, weights, Answers, IsEarly, Phase, shut, early, late, IsFair, IsRead, Replies, Numbers, Meets}
+use Rattle.lossy_wires.specs.Pieces.{Piece, Sent, Answer, bytes_on, IsFit, IsSentEarly, IsSentLate}
+use Rattle.lossy_wires.specs.Wires.{Wires, Printed, before, after, lines_run, weights, Answers, IsEarly, Phase, shut, early, late, IsFair, Replies, Meets}
 use Rattle.lossy_wires.proofs.Lists.{each_push, each_so, sent_more, lines_more}
 use Rattle.lossy_wires.proofs.Ways.{answers_more}
 
@@ -32,7 +32,8 @@ pub record SameFlags (s t : SenderData) : Type 0 where
   pub running : t.ended ≡ None → s.ended ≡ None
   pub fair : IsFair s.ended → IsFair t.ended
 
-flags_early : (s t : SenderData) (ran d : Bool) (queue : List Piece) (up : List Sent) (way : List Answer) → SameFlags s t → IsEarly s ran d queue up way → IsEarly t ran d queue up way
+flags_early : (s t : SenderData) (ran d : Bool) (queue : List Piece) (up : List Sent) (way : List Answer) → SameFlags s t → IsEarly s ran d queue up way →
+    IsEarly t ran d queue up way
 flags_early s t ran d queue up way same e = record {
   ups = e.ups;
   one = e.one;
@@ -49,7 +50,8 @@ flags_phase issued s t linked a same (shut closed none idle) = shut closed none 
 flags_phase issued s t linked a same (early opened unready e) = early opened (same.ready ∙ unready) (flags_early s t a.ran a.dropped a.queue a.up a.way same e)
 flags_phase issued s t linked a same (late opened ready ran ups) = late opened (same.ready ∙ ready) ran ups
 
-flags_replies : (s t : SenderData) (linked d : Bool) (log : List Piece) (way : List Answer) → SameFlags s t → Replies s linked d log way → Replies t linked d log way
+flags_replies : (s t : SenderData) (linked d : Bool) (log : List Piece) (way : List Answer) → SameFlags s t → Replies s linked d log way →
+    Replies t linked d log way
 flags_replies s t linked d log way same r = record {
   fair = same.fair r.fair;
   acked_run = omega (arith, same.acked, r.acked_run);
@@ -60,7 +62,8 @@ flags_replies s t linked d log way same r = record {
       record { swallows = same.swallow ∙ read.swallows; answers = subst N (sym same.issued) (subst A (sym same.acked) read.answers) });
 }
 
-pub flags_meets : (start : List Logged) (issued : List (List ℕ)) (s t : SenderData) (w : WorldData) → SameFlags s t → IsSound t → HoldsIssued issued t → Meets start issued s w → Meets start issued t w
+pub flags_meets : (start : List Logged) (issued : List (List ℕ)) (s t : SenderData) (w : WorldData) → SameFlags s t → IsSound t → HoldsIssued issued t →
+    Meets start issued s w → Meets start issued t w
 flags_meets start issued s t w same sound holds m =
     let n = m.numbers in
     record {
@@ -105,7 +108,8 @@ tick_flags moment s = record {
 }
 
 -- the clock ticks
-pub tick_meets : (start : List Logged) (issued : List (List ℕ)) (moment : ℕ) (s : SenderData) (w : WorldData) → Meets start issued s w → Meets start issued (tick_step moment s) w
+pub tick_meets : (start : List Logged) (issued : List (List ℕ)) (moment : ℕ) (s : SenderData) (w : WorldData) → Meets start issued s w →
+    Meets start issued (tick_step moment s) w
 tick_meets start issued moment s w m =
     let Holds : List (List ℕ) → Type 0 = λ texts. HoldsIssued texts (tick_step moment s) in
     flags_meets start issued s (tick_step moment s) w (tick_flags moment s) (ticks_sound moment s m.numbers.sound)
@@ -126,7 +130,8 @@ give_flags moment s = record {
 }
 
 -- a line is given out; what becomes of it comes later
-pub give_meets : (start : List Logged) (issued : List (List ℕ)) (moment : ℕ) (s : SenderData) (w : WorldData) → Meets start issued s w → Meets start issued (frame_step moment s) w
+pub give_meets : (start : List Logged) (issued : List (List ℕ)) (moment : ℕ) (s : SenderData) (w : WorldData) → Meets start issued s w →
+    Meets start issued (frame_step moment s) w
 give_meets start issued moment s w m =
     let Holds : List (List ℕ) → Type 0 = λ texts. HoldsIssued texts (frame_step moment s) in
     flags_meets start issued s (frame_step moment s) w (give_flags moment s) (gives_sound moment s m.numbers.sound)
@@ -137,7 +142,8 @@ pub record MaySend (issued : List (List ℕ)) (s : SenderData) (sent : Sent) : T
   pub early_so : s.ready ≡ false → IsSentEarly sent × (s.hello_due ≡ true)
   pub late_so : s.ready ≡ true → IsSentLate issued sent
 
-phase_sent : (issued : List (List ℕ)) (s t : SenderData) (linked : Bool) (a : Wires) (sent : Sent) → linked ≡ true → SameFlags s t → t.hello_due ≡ false → MaySend issued s sent → Phase issued s linked a → Phase issued t linked (record a { up = a.up ++ sent ∷ [] })
+phase_sent : (issued : List (List ℕ)) (s t : SenderData) (linked : Bool) (a : Wires) (sent : Sent) → linked ≡ true → SameFlags s t → t.hello_due ≡ false →
+    MaySend issued s sent → Phase issued s linked a → Phase issued t linked (record a { up = a.up ++ sent ∷ [] })
 phase_sent issued s t linked a sent on same undue may (shut closed none idle) = absurd (cc)
 phase_sent issued s t linked a sent on same undue may (early opened unready e) =
     let so = may.early_so unready in
@@ -156,7 +162,9 @@ phase_sent issued s t linked a sent on same undue may (late opened ready ran ups
     late opened (same.ready ∙ ready) ran (each_push (IsSentLate issued) a.up sent ups (may.late_so ready))
 
 -- a line is given out and sent, as it is or failing
-pub sent_meets : (start : List Logged) (issued : List (List ℕ)) (moment : ℕ) (s : SenderData) (w : WorldData) (sent : Sent) (bytes : List ℕ) → w.linked ≡ true → bytes ≡ bytes_on sent → (frame_step moment s).hello_due ≡ false → MaySend issued s sent → Meets start issued s w → Meets start issued (frame_step moment s) (record w { up = w.up ++ bytes ∷ [] })
+pub sent_meets : (start : List Logged) (issued : List (List ℕ)) (moment : ℕ) (s : SenderData) (w : WorldData) (sent : Sent) (bytes : List ℕ) → w.linked ≡ true →
+    bytes ≡ bytes_on sent → (frame_step moment s).hello_due ≡ false → MaySend issued s sent → Meets start issued s w →
+    Meets start issued (frame_step moment s) (record w { up = w.up ++ bytes ∷ [] })
 sent_meets start issued moment s w sent bytes on is undue may m =
     let t = frame_step moment s in
     let given = (give_meets start issued moment s w m).numbers in
@@ -181,7 +189,8 @@ sent_meets start issued moment s w sent bytes on is undue may m =
       };
     }
 
-printed_more : (issued : List (List ℕ)) (text : List ℕ) (ran d : Bool) (last : ℕ) (queue log : List Piece) → Printed issued ran d last queue log → Printed (issued ++ text ∷ []) ran d last queue log
+printed_more : (issued : List (List ℕ)) (text : List ℕ) (ran d : Bool) (last : ℕ) (queue log : List Piece) → Printed issued ran d last queue log →
+    Printed (issued ++ text ∷ []) ran d last queue log
 printed_more issued text ran d last queue log (before b) = before b
 printed_more issued text ran d last queue log (after p) = after (record {
   lines = p.lines;
@@ -192,13 +201,15 @@ printed_more issued text ran d last queue log (after p) = after (record {
   emptied = p.emptied;
 })
 
-phase_more : (issued : List (List ℕ)) (text : List ℕ) (s : SenderData) (linked : Bool) (a : Wires) → s.ready ≡ true → Phase issued s linked a → Phase (issued ++ text ∷ []) (push_step text s) linked a
+phase_more : (issued : List (List ℕ)) (text : List ℕ) (s : SenderData) (linked : Bool) (a : Wires) → s.ready ≡ true → Phase issued s linked a →
+    Phase (issued ++ text ∷ []) (push_step text s) linked a
 phase_more issued text s linked a is (shut closed none idle) = shut closed none idle
 phase_more issued text s linked a is (early opened unready e) = absurd (cc)
 phase_more issued text s linked a is (late opened ready ran ups) =
     late opened ready ran (each_so (IsSentLate issued) (IsSentLate (issued ++ text ∷ [])) (sent_more issued (text ∷ [])) a.up ups)
 
-replies_more : (text : List ℕ) (s : SenderData) (linked d : Bool) (log : List Piece) (way : List Answer) → Replies s linked d log way → Replies (push_step text s) linked d log way
+replies_more : (text : List ℕ) (s : SenderData) (linked d : Bool) (log : List Piece) (way : List Answer) → Replies s linked d log way →
+    Replies (push_step text s) linked d log way
 replies_more text s linked d log way r = record {
   fair = r.fair;
   acked_run = r.acked_run;
@@ -212,7 +223,8 @@ room_ready : (s : SenderData) → 0 < room_of s → s.ready ≡ true
 room_ready s room = grind (arith, common_steps)
 
 -- a line is issued
-pub issue_meets : (start : List Logged) (issued : List (List ℕ)) (text : List ℕ) (s : SenderData) (w : WorldData) → IsFit text → 0 < room_of s → Meets start issued s w → Meets start (issued ++ text ∷ []) (push_step text s) w
+pub issue_meets : (start : List Logged) (issued : List (List ℕ)) (text : List ℕ) (s : SenderData) (w : WorldData) → IsFit text → 0 < room_of s →
+    Meets start issued s w → Meets start (issued ++ text ∷ []) (push_step text s) w
 issue_meets start issued text s w fit room m =
     let n = m.numbers in
     record {
@@ -233,7 +245,8 @@ none_of [] is = refl
 none_of (x ∷ xs) is = absurd (cc)
 
 -- a link is made: a session begins
-pub opened_meets : (s : SenderData) (w : WorldData) (last : ℕ) → IsSound s → w.printer.places ≤ 16 → can_happen w (Opened last) ≡ true → Meets w.log [] (begun s) (happen w (Opened last))
+pub opened_meets : (s : SenderData) (w : WorldData) (last : ℕ) → IsSound s → w.printer.places ≤ 16 → can_happen w (Opened last) ≡ true →
+    Meets w.log [] (begun s) (happen w (Opened last))
 opened_meets s w last sound few can = record {
   wires = record { ran = false; dropped = false; queue = []; log = []; up = []; way = [] };
   shows = record {
@@ -267,7 +280,8 @@ opened_meets s w last sound few can = record {
 }
 
 -- the link is closed
-pub closed_meets : (start : List Logged) (issued : List (List ℕ)) (s : SenderData) (w : WorldData) → Meets start issued s w → Meets start issued s (happen w Closed)
+pub closed_meets : (start : List Logged) (issued : List (List ℕ)) (s : SenderData) (w : WorldData) → Meets start issued s w →
+    Meets start issued s (happen w Closed)
 closed_meets start issued s w m =
     let a = m.wires in
     let sh = m.shows in

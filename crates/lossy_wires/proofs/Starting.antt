@@ -1,20 +1,20 @@
 -- A `start` on the wire from the printer comes of a restart in the session.
-use Rattle.std.proofs.Common.{◌≡◌, ℕ, ◌-◌, ◌<◌, ◌≤◌, ◌^◌, Bool, true, false, not, ◌&&◌, ◌||◌, List, [], ◌∷◌, ◌++◌, length, map, drop, refl, sym, ◌∙◌, ap, subst, append_assoc, append-nil, arith}
-use Rattle.std.specs.Prelude.{Option, Some, Ok, Err, Result, if◌then◌else◌}
+use Rattle.std.proofs.Common.{◌≡◌, ℕ, ◌-◌, ◌≤◌, Bool, true, false, not, List, [], ◌∷◌, ◌++◌, length, map, drop, refl, sym, ◌∙◌, ap, subst, append_assoc, append-nil, arith}
+use Rattle.std.specs.Prelude.{Some, Ok, Err, Result, if◌then◌else◌}
 use Rattle.std.specs.List.{list_any, list_all}
 use Rattle.std.proofs.lemmas.Bool.{or_left, or_right, cond_both}
 use Rattle.std.proofs.lemmas.List.Folds.{list_any-append}
 use Rattle.marlin_reply.specs.Kind.{is_chatter}
-use Rattle.printer_model.specs.Printer.{Entry, Logged, PrinterData, is_full, take_judged, take_line, judged, run_queue}
+use Rattle.printer_model.specs.Printer.{Entry, Logged, PrinterData, is_full, take_judged, take_line, judged}
 use Rattle.printer_model.specs.Replies.{error_line, resend_line, ok_line, run_reply, taken_replies}
-use Rattle.printer_model.specs.World.{WorldData, is_empty, is_free, can_happen, happen, apply, world_from, arrive_front, after_run, replied}
+use Rattle.printer_model.specs.World.{WorldData, is_empty, is_free, can_happen, apply, world_from, arrive_front, replied}
 use Rattle.printer_model.specs.declared.event.WorldEvent.{WorldEvent}
 use Rattle.printer_model.specs.declared.event.WorldEvent.TheVariants.{Opened, Send, Arrive, Lose, Garble, Run, Restart, Chatter, Recv, Closed}
 use Rattle.printer_model.specs.declared.printer.Reason.{Reason}
 use Rattle.printer_model.specs.declared.printer.Taken.TheVariants.{Full}
 use Rattle.printer_model.proofs.Laws.{after_event, stays, both_left, both_right, run_queue_of}
 use Rattle.send_window.specs.Data.{SenderData}
-use Rattle.lossy_wires.specs.Pieces.{Piece, Each, heard_in, start_heard, talk_heard, ok_heard, resend_heard, named_by, entry_in, front_in, text_in}
+use Rattle.lossy_wires.specs.Pieces.{Piece, Each, heard_in, talk_heard, ok_heard, named_by, entry_in, front_in, text_in}
 use Rattle.lossy_wires.specs.Wires.{Wires, Shows, Numbers, Meets}
 use Rattle.lossy_wires.specs.Traces.{is_restart, IsStartKnown}
 use Rattle.lossy_wires.proofs.Lists.{each_push, each_so}
@@ -57,12 +57,14 @@ taken_starts : (events : List WorldEvent) (p : PrinterData) (line : List ℕ) �
 taken_starts events p line =
     cond_both (is_full p) (Full, p) (take_judged p (judged p.last line)) (λ t. Each (IsStartKnown events) (taken_replies t.0)) (λ _. tt) (λ _. judged_starts events p (judged p.last line))
 
-arrived_starts : (events : List WorldEvent) (w : WorldData) (up : List (List ℕ)) → Each (IsStartKnown events) w.down → Each (IsStartKnown events) (arrive_front w up).down
+arrived_starts : (events : List WorldEvent) (w : WorldData) (up : List (List ℕ)) → Each (IsStartKnown events) w.down →
+    Each (IsStartKnown events) (arrive_front w up).down
 arrived_starts events w [] all = all
 arrived_starts events w (line ∷ behind) all = each_append (IsStartKnown events) w.down (taken_replies (take_line w.printer line).0) all (taken_starts events w.printer line)
 
 module _ (start : List Logged) (issued : List (List ℕ)) (s : SenderData) (events : List WorldEvent) where
-  replied_starts : (w : WorldData) (reply : List ℕ) (on : Bool) → w.linked ≡ on → IsStartKnown events reply → Each (IsStartKnown events) w.down → Each (IsStartKnown events) (replied w reply)
+  replied_starts : (w : WorldData) (reply : List ℕ) (on : Bool) → w.linked ≡ on → IsStartKnown events reply → Each (IsStartKnown events) w.down →
+      Each (IsStartKnown events) (replied w reply)
   replied_starts w reply true on known all =
       let E : List (List ℕ) → Type 0 = λ l. Each (IsStartKnown events) l in
       subst E (sym (ap (λ (b : Bool). if b then w.down ++ reply ∷ [] else w.down) on)) (each_push (IsStartKnown events) w.down reply all known)
@@ -70,7 +72,8 @@ module _ (start : List Logged) (issued : List (List ℕ)) (s : SenderData) (even
       let E : List (List ℕ) → Type 0 = λ l. Each (IsStartKnown events) l in
       subst E (sym (ap (λ (b : Bool). if b then w.down ++ reply ∷ [] else w.down) off)) all
 
-  run_starts : (w : WorldData) (a : Wires) (queue : List Piece) → Shows start (record a { queue = queue }) w → Numbers issued s w.linked w.printer.last (record a { queue = queue }) → Each (IsStartKnown events) w.down → Each (IsStartKnown events) (apply w Run).down
+  run_starts : (w : WorldData) (a : Wires) (queue : List Piece) → Shows start (record a { queue = queue }) w →
+      Numbers issued s w.linked w.printer.last (record a { queue = queue }) → Each (IsStartKnown events) w.down → Each (IsStartKnown events) (apply w Run).down
   run_starts w a [] sh n all =
       let E : WorldData → Type 0 = λ v. Each (IsStartKnown events) v.down in
       let cannot : can_happen w Run ≡ false = ap (λ (q : List Entry). not (is_empty q)) sh.queue in
@@ -85,7 +88,8 @@ module _ (start : List Logged) (issued : List (List ℕ)) (s : SenderData) (even
       subst E (sym (run_queue_of w (entry_in piece) (map entry_in queue) sh.queue)) (replied_starts w reply w.linked refl known all)
 
   -- an event of the line or the printer
-  event_starts : (w : WorldData) (event : WorldEvent) → is_free event ≡ true → Meets start issued s w → Each (IsStartKnown events) w.down → Each (IsStartKnown (events ++ event ∷ [])) (apply w event).down
+  event_starts : (w : WorldData) (event : WorldEvent) → is_free event ≡ true → Meets start issued s w → Each (IsStartKnown events) w.down →
+      Each (IsStartKnown (events ++ event ∷ [])) (apply w event).down
   event_starts w (Opened last) free m all = absurd (cc)
   event_starts w (Send line) free m all = absurd (cc)
   event_starts w Arrive free m all =
@@ -106,7 +110,8 @@ module _ (start : List Logged) (issued : List (List ℕ)) (s : SenderData) (even
   event_starts w Closed free m all = absurd (cc)
 
 -- several of them
-pub free_starts : (start : List Logged) (issued : List (List ℕ)) (s : SenderData) (w : WorldData) (events more : List WorldEvent) → list_all is_free more ≡ true → Meets start issued s w → Each (IsStartKnown events) w.down → Each (IsStartKnown (events ++ more)) (world_from w more).down
+pub free_starts : (start : List Logged) (issued : List (List ℕ)) (s : SenderData) (w : WorldData) (events more : List WorldEvent) →
+    list_all is_free more ≡ true → Meets start issued s w → Each (IsStartKnown events) w.down → Each (IsStartKnown (events ++ more)) (world_from w more).down
 free_starts start issued s w events [] free m all =
     let E : List WorldEvent → Type 0 = λ es. Each (IsStartKnown es) w.down in
     subst E (sym (append-nil events)) all

@@ -1,31 +1,28 @@
 -- How the events of a session join, one after another.
-use Rattle.std.proofs.Common.{◌≡◌, ◌⊎◌, inl, inr, ℕ, ◌+◌, ◌<◌, ◌≤◌, Bool, true, false, not, ◌&&◌, ◌||◌, List, [], ◌∷◌, ◌++◌, map, drop, refl, sym, ◌∙◌, ap, subst, append_assoc, append-nil, arith}
-use Rattle.std.specs.Prelude.{None, Some, if◌then◌else◌}
+use Rattle.std.proofs.Common.{◌≡◌, inl, inr, ℕ, Bool, true, false, not, ◌&&◌, ◌||◌, List, [], ◌∷◌, ◌++◌, map, drop, refl, sym, ◌∙◌, ap, subst, append_assoc, append-nil, arith}
+use Rattle.std.specs.Prelude.{None, if◌then◌else◌}
 use Rattle.std.specs.List.{list_all}
 use Rattle.std.proofs.lemmas.List.{map-append}
-use Rattle.marlin_frame.specs.Frame.{fails}
 use Rattle.marlin_reply.specs.Kind.{kind_of}
 use Rattle.marlin_reply.specs.declared.reply.Reply.{Reply}
 use Rattle.printer_model.specs.Printer.{Logged}
-use Rattle.printer_model.specs.World.{WorldData, is_empty, is_free, fits_wire, can_happen, happen, apply, world_from}
+use Rattle.printer_model.specs.World.{WorldData, is_empty, is_free, can_happen, apply, world_from}
 use Rattle.printer_model.specs.Executed.{opens}
 use Rattle.printer_model.specs.Exchanged.{front_line, received_by, received_from, is_closed, closes_next}
 use Rattle.printer_model.specs.declared.event.WorldEvent.{WorldEvent}
-use Rattle.printer_model.specs.declared.event.WorldEvent.TheVariants.{Opened, Send, Arrive, Lose, Garble, Run, Restart, Chatter, Recv, Closed}
+use Rattle.printer_model.specs.declared.event.WorldEvent.TheVariants.{Send, Recv}
 use Rattle.printer_model.proofs.Laws.{happens, world_from-append, both_left, both_right}
 use Rattle.printer_model.proofs.Sessions.{opens-append}
 use Rattle.printer_model.proofs.Starts.{opens-free, received_from-append, received_from-free}
-use Rattle.send_window.specs.Data.{SenderData, IsSound}
+use Rattle.send_window.specs.Data.{SenderData}
 use Rattle.send_window.specs.Counting.{acked_of}
 use Rattle.send_window.specs.Hearing.{hear_step}
-use Rattle.send_window.specs.Sending.{frame_step}
 use Rattle.lossy_wires.specs.Pieces.{Each}
 use Rattle.lossy_wires.specs.Wires.{Meets}
-use Rattle.lossy_wires.specs.Traces.{replies_from, oks_of, IsTallied, IsLineAbove, IsSendFit, IsEventFit, AreSendsFit, IsStartKnown, IsTraced}
+use Rattle.lossy_wires.specs.Traces.{replies_from, oks_of, IsTallied, IsLineAbove, IsSendFit, IsEventFit, AreSendsFit, IsStartKnown}
 use Rattle.lossy_wires.proofs.Lists.{issued_more}
 use Rattle.lossy_wires.proofs.Free.{all_free_meets}
 use Rattle.lossy_wires.proofs.Hearing.{hear_meets}
-use Rattle.lossy_wires.proofs.Sending.{MaySend, sent_meets, closed_meets, SameFlags}
 use Rattle.lossy_wires.proofs.Counting.{hear_counted, tally_heard}
 use Rattle.lossy_wires.proofs.Starting.{starts_more, each_behind, free_starts}
 
@@ -47,12 +44,14 @@ closes_more : (xs ys : List WorldEvent) → closes_next xs ≡ true → closes_n
 closes_more [] ys closes = absurd (cc)
 closes_more (event ∷ xs) ys closes = closes_by (is_closed event) (is_free event) closes (closes_more xs ys)
   where
-    closes_by : (a b : Bool) → (a || (b && closes_next xs)) ≡ true → (closes_next xs ≡ true → closes_next (xs ++ ys) ≡ true) → (a || (b && closes_next (xs ++ ys))) ≡ true
+    closes_by : (a b : Bool) → (a || (b && closes_next xs)) ≡ true → (closes_next xs ≡ true → closes_next (xs ++ ys) ≡ true) →
+        (a || (b && closes_next (xs ++ ys))) ≡ true
     closes_by true b closes later = refl
     closes_by false true closes later = later closes
     closes_by false false closes later = absurd (cc)
 
-line_above_more : (issued more : List (List ℕ)) (acked : ℕ) (bytes : List ℕ) → Extends issued more → IsLineAbove issued acked bytes → IsLineAbove more acked bytes
+line_above_more : (issued more : List (List ℕ)) (acked : ℕ) (bytes : List ℕ) → Extends issued more → IsLineAbove issued acked bytes →
+    IsLineAbove more acked bytes
 line_above_more issued more acked bytes ext line =
     let L : List (List ℕ) → Type 0 = λ texts. IsLineAbove texts acked bytes in
     subst L (sym ext.is) (record {
@@ -63,22 +62,26 @@ line_above_more issued more acked bytes ext line =
       framed = line.framed;
     })
 
-send_more : (issued more : List (List ℕ)) (acked : ℕ) (bytes : List ℕ) (xs ys : List WorldEvent) → Extends issued more → IsSendFit issued acked bytes xs → IsSendFit more acked bytes (xs ++ ys)
+send_more : (issued more : List (List ℕ)) (acked : ℕ) (bytes : List ℕ) (xs ys : List WorldEvent) → Extends issued more → IsSendFit issued acked bytes xs →
+    IsSendFit more acked bytes (xs ++ ys)
 send_more issued more acked bytes xs ys ext (inl greets) = inl greets
 send_more issued more acked bytes xs ys ext (inr (inl line)) = inr (inl (line_above_more issued more acked bytes ext line))
 send_more issued more acked bytes xs ys ext (inr (inr failed)) = inr (inr (failed.0, closes_more xs ys failed.1))
 
-event_more : (issued more : List (List ℕ)) (acked : ℕ) (event : WorldEvent) (xs ys : List WorldEvent) → Extends issued more → IsEventFit issued acked event xs → IsEventFit more acked event (xs ++ ys)
+event_more : (issued more : List (List ℕ)) (acked : ℕ) (event : WorldEvent) (xs ys : List WorldEvent) → Extends issued more → IsEventFit issued acked event xs →
+    IsEventFit more acked event (xs ++ ys)
 event_more issued more acked (Send line) xs ys ext fit = send_more issued more acked line.items xs ys ext fit
 event_more issued more acked _ xs ys ext fit = tt
 
-replies_first : (replies : List Reply) (w : WorldData) (event : WorldEvent) (xs : List WorldEvent) → replies ++ replies_from w (event ∷ xs) ≡ (replies ++ map kind_of (received_by w event)) ++ replies_from (apply w event) xs
+replies_first : (replies : List Reply) (w : WorldData) (event : WorldEvent) (xs : List WorldEvent) →
+    replies ++ replies_from w (event ∷ xs) ≡ (replies ++ map kind_of (received_by w event)) ++ replies_from (apply w event) xs
 replies_first replies w event xs =
     ap (λ (l : List Reply). replies ++ l) (map-append kind_of (received_by w event) (received_from (apply w event) xs))
     ∙ sym (append_assoc replies (map kind_of (received_by w event)) (replies_from (apply w event) xs))
 
 -- the lines sent in two parts
-pub fits_append : (issued more : List (List ℕ)) (replies : List Reply) (w : WorldData) (xs ys : List WorldEvent) → Extends issued more → AreSendsFit issued replies w xs → AreSendsFit more (replies ++ replies_from w xs) (world_from w xs) ys → AreSendsFit more replies w (xs ++ ys)
+pub fits_append : (issued more : List (List ℕ)) (replies : List Reply) (w : WorldData) (xs ys : List WorldEvent) → Extends issued more →
+    AreSendsFit issued replies w xs → AreSendsFit more (replies ++ replies_from w xs) (world_from w xs) ys → AreSendsFit more replies w (xs ++ ys)
 fits_append issued more replies w [] ys ext first second =
     let F : List Reply → Type 0 = λ l. AreSendsFit more l w ys in
     subst F (append-nil replies) second
@@ -92,7 +95,8 @@ free_event_fits : (issued : List (List ℕ)) (acked : ℕ) (event : WorldEvent) 
 free_event_fits issued acked (Send line) xs free = absurd (cc)
 free_event_fits issued acked _ xs free = tt
 
-fits_free : (issued : List (List ℕ)) (replies : List Reply) (w : WorldData) (events : List WorldEvent) → list_all is_free events ≡ true → AreSendsFit issued replies w events
+fits_free : (issued : List (List ℕ)) (replies : List Reply) (w : WorldData) (events : List WorldEvent) → list_all is_free events ≡ true →
+    AreSendsFit issued replies w events
 fits_free issued replies w [] free = tt
 fits_free issued replies w (event ∷ events) free = (
   free_event_fits issued (acked_of replies) event events (both_left (is_free event) (list_all is_free events) free),
@@ -112,7 +116,8 @@ pub replies_from-append : (w : WorldData) (xs ys : List WorldEvent) → replies_
 replies_from-append w xs ys = ap (map kind_of) (received_from-append w xs ys) ∙ map-append kind_of (received_from w xs) (received_from (world_from w xs) ys)
 
 module _ (start : List Logged) where
-  pub leads_then : (a b c : List (List ℕ)) (t u : SenderData) (w : WorldData) (replies : List Reply) (xs ys : List WorldEvent) → Leads start a b t w replies xs → Leads start b c u (world_from w xs) (replies ++ replies_from w xs) ys → Leads start a c u w replies (xs ++ ys)
+  pub leads_then : (a b c : List (List ℕ)) (t u : SenderData) (w : WorldData) (replies : List Reply) (xs ys : List WorldEvent) →
+      Leads start a b t w replies xs → Leads start b c u (world_from w xs) (replies ++ replies_from w xs) ys → Leads start a c u w replies (xs ++ ys)
   leads_then a b c t u w replies xs ys first second =
       let M : WorldData → Type 0 = λ v. Meets start c u v in
       let T : List Reply → Type 0 = λ l. IsTallied l u in
@@ -132,13 +137,15 @@ module _ (start : List Logged) where
       }
 
   -- no event
-  pub leads_none : (issued more : List (List ℕ)) (t : SenderData) (w : WorldData) (replies : List Reply) → Extends issued more → Meets start more t w → IsTallied replies t → Leads start issued more t w replies []
+  pub leads_none : (issued more : List (List ℕ)) (t : SenderData) (w : WorldData) (replies : List Reply) → Extends issued more → Meets start more t w →
+      IsTallied replies t → Leads start issued more t w replies []
   leads_none issued more t w replies ext m tallied =
       let T : List Reply → Type 0 = λ l. IsTallied l t in
       record { same_session = refl; extends = ext; meets = m; tallied = subst T (sym (append-nil replies)) tallied; sends = tt; starts = λ events all. starts_more events [] w.down all }
 
   -- what the line and the printer do
-  pub leads_free : (issued : List (List ℕ)) (s : SenderData) (w : WorldData) (replies : List Reply) (events : List WorldEvent) → list_all is_free events ≡ true → Meets start issued s w → IsTallied replies s → Leads start issued issued s w replies events
+  pub leads_free : (issued : List (List ℕ)) (s : SenderData) (w : WorldData) (replies : List Reply) (events : List WorldEvent) →
+      list_all is_free events ≡ true → Meets start issued s w → IsTallied replies s → Leads start issued issued s w replies events
   leads_free issued s w replies events free m tallied =
       let T : List Reply → Type 0 = λ l. IsTallied l s in
       let none : replies ≡ replies ++ replies_from w events = sym (append-nil replies) ∙ ap (λ (l : List (List ℕ)). replies ++ map kind_of l) (sym (received_from-free w events free)) in
@@ -152,7 +159,9 @@ module _ (start : List Logged) where
       }
 
   -- a reply is received and heard
-  pub leads_recv : (issued : List (List ℕ)) (moment : ℕ) (s : SenderData) (w : WorldData) (replies : List Reply) (line : List ℕ) (rest : List (List ℕ)) → w.linked ≡ true → s.ended ≡ None → w.down ≡ line ∷ rest → Meets start issued s w → IsTallied replies s → Leads start issued issued (hear_step (kind_of line) moment s) w replies (Recv ∷ [])
+  pub leads_recv : (issued : List (List ℕ)) (moment : ℕ) (s : SenderData) (w : WorldData) (replies : List Reply) (line : List ℕ) (rest : List (List ℕ)) →
+      w.linked ≡ true → s.ended ≡ None → w.down ≡ line ∷ rest → Meets start issued s w → IsTallied replies s →
+      Leads start issued issued (hear_step (kind_of line) moment s) w replies (Recv ∷ [])
   leads_recv issued moment s w replies line rest on running front m tallied =
       let can : can_happen w Recv ≡ true = ap (λ (b : Bool). b && not (is_empty w.down)) on ∙ ap (λ (l : List (List ℕ)). not (is_empty l)) front in
       let M : WorldData → Type 0 = λ v. Meets start issued (hear_step (kind_of line) moment s) v in
@@ -169,7 +178,8 @@ module _ (start : List Logged) where
       }
 
   -- a sender that gave a line out has counted as before
-  pub tally_same : (replies : List Reply) (s t : SenderData) → t.swallow ≡ s.swallow → t.ready ≡ s.ready → t.acked ≡ s.acked → IsTallied replies s → IsTallied replies t
+  pub tally_same : (replies : List Reply) (s t : SenderData) → t.swallow ≡ s.swallow → t.ready ≡ s.ready → t.acked ≡ s.acked → IsTallied replies s →
+      IsTallied replies t
   tally_same replies s t swallow ready acked old = record {
     pending = swallow ∙ old.pending;
     counted = ap (λ (b : Bool). oks_of b t.acked) ready ∙ ap (λ (n : ℕ). oks_of s.ready n) acked ∙ old.counted;

@@ -36,7 +36,8 @@ closing_push (closing ∷ way) x other = refl
 closing_push (chat ∷ way) x other = refl
 closing_push (restart ∷ way) x other = refl
 
-pub early_push : (first : Bool) (way : List Answer) (x : Answer) → ((f : Bool) → IsEarlyWay f (x ∷ [])) → IsEarlyWay first way → IsEarlyWay first (way ++ x ∷ [])
+pub early_push : (first : Bool) (way : List Answer) (x : Answer) → ((f : Bool) → IsEarlyWay f (x ∷ [])) → IsEarlyWay first way →
+    IsEarlyWay first (way ++ x ∷ [])
 early_push first [] x so e = so first
 early_push first (greeting_ok named ∷ way) x so e = early_push false way x so e
 early_push first (command_ok place named ∷ way) x so e = absurd e
@@ -67,7 +68,8 @@ early_unclosing (closing ∷ way) e = absurd (cc (e.0))
 early_unclosing (chat ∷ way) e = refl
 early_unclosing (restart ∷ way) e = refl
 
-pub known_push : (d d' : Bool) (way : List Answer) (x : Answer) → (d ≡ false → IsRestartKnown d' (x ∷ [])) → IsRestartKnown d way → IsRestartKnown d' (way ++ x ∷ [])
+pub known_push : (d d' : Bool) (way : List Answer) (x : Answer) → (d ≡ false → IsRestartKnown d' (x ∷ [])) → IsRestartKnown d way →
+    IsRestartKnown d' (way ++ x ∷ [])
 known_push d d' [] x so k = so k
 known_push d d' (greeting_ok named ∷ way) x so k = known_push d d' way x so k
 known_push d d' (command_ok place named ∷ way) x so k = known_push d d' way x so k
@@ -77,7 +79,8 @@ known_push d d' (closing ∷ way) x so k = known_push d d' way x so k
 known_push d d' (chat ∷ way) x so k = known_push d d' way x so k
 known_push d d' (restart ∷ way) x so k = tt
 
-pub begun_push : (d d' : Bool) (way : List Answer) (x : Answer) → (d ≡ false → IsRestartKnown d' (x ∷ [])) → IsBegun d' (x ∷ []) → IsBegun d way → IsBegun d' (way ++ x ∷ [])
+pub begun_push : (d d' : Bool) (way : List Answer) (x : Answer) → (d ≡ false → IsRestartKnown d' (x ∷ [])) → IsBegun d' (x ∷ []) → IsBegun d way →
+    IsBegun d' (way ++ x ∷ [])
 begun_push d d' [] x so one b = one
 begun_push d d' (greeting_ok named ∷ way) x so one b = known_push d d' way x so b
 begun_push d d' (command_ok place named ∷ way) x so one b = begun_push d d' way x so one b
@@ -88,7 +91,8 @@ begun_push d d' (chat ∷ way) x so one b = begun_push d d' way x so one b
 begun_push d d' (restart ∷ way) x so one b = begun_push d d' way x so one b
 
 -- one more answer, by what it is at the end, where all lines that ran have theirs
-pub answers_push : (f d d' : Bool) (n a k k' : ℕ) (way : List Answer) (x : Answer) → k ≤ k' → ((g : Bool) (m : ℕ) → d ≡ false → m ≡ k → Answers g d' n m (x ∷ []) k') → Answers f d n a way k → Answers f d' n a (way ++ x ∷ []) k'
+pub answers_push : (f d d' : Bool) (n a k k' : ℕ) (way : List Answer) (x : Answer) → k ≤ k' →
+    ((g : Bool) (m : ℕ) → d ≡ false → m ≡ k → Answers g d' n m (x ∷ []) k') → Answers f d n a way k → Answers f d' n a (way ++ x ∷ []) k'
 answers_push f d d' n a k k' [] x le so h = so f a h.0 h.1
 answers_push f d d' n a k k' (greeting_ok named ∷ way) x le so h = absurd h
 answers_push f d d' n a k k' (command_ok place named ∷ way) x le so h = (h.0, answers_push false d d' n (suc a) k k' way x le so h.1)
@@ -159,7 +163,8 @@ pub replies_push : (way : List Answer) (x : Answer) → replies_on (way ++ x ∷
 replies_push [] x = append-nil (replies_in x)
 replies_push (y ∷ way) x = ap (λ (l : List Heard). replies_in y ++ l) (replies_push way x) ∙ sym (append_assoc (replies_in y) (replies_on way) (replies_in x))
 
-pub down_push : (down lines : List (List ℕ)) (way : List Answer) (x : Answer) → map heard_in down ≡ replies_on way → map heard_in lines ≡ replies_in x → map heard_in (down ++ lines) ≡ replies_on (way ++ x ∷ [])
+pub down_push : (down lines : List (List ℕ)) (way : List Answer) (x : Answer) → map heard_in down ≡ replies_on way → map heard_in lines ≡ replies_in x →
+    map heard_in (down ++ lines) ≡ replies_on (way ++ x ∷ [])
 down_push down lines way x old new =
     map-append heard_in down lines
     ∙ ap (λ (l : List Heard). l ++ map heard_in lines) old

@@ -1,5 +1,5 @@
 -- The lines and replies of a session without their bytes: what is on the wires and in the printer.
-use Rattle.std.specs.Prelude.{◌≡◌, ℕ, suc, ◌+◌, ◌-◌, ◌<◌, ◌≤◌, ◌^◌, Bool, true, false, List, [], ◌∷◌, ◌++◌, length, map, slice_get, Option, Some, None, All}
+use Rattle.std.specs.Prelude.{◌≡◌, ℕ, suc, ◌-◌, ◌<◌, ◌≤◌, ◌^◌, Bool, true, false, List, [], ◌∷◌, ◌++◌, slice_get, Option, Some, None, All}
 use Rattle.byte_text.specs.Sendable.{IsSendable}
 use Rattle.marlin_frame.specs.Frame.{frame_of, fails}
 use Rattle.marlin_frame.specs.Numbering.{hello_number, wire_number, hello_text}

@@ -1,5 +1,5 @@
 -- What holds of a sender, its two wires and the printer through a session, whatever the line does.
-use Rattle.std.specs.Prelude.{◌≡◌, ℕ, suc, ◌+◌, ◌<◌, ◌≤◌, Bool, true, false, List, [], ◌∷◌, ◌++◌, length, map, drop, Option, Some, None}
+use Rattle.std.specs.Prelude.{◌≡◌, ℕ, suc, ◌+◌, ◌<◌, ◌≤◌, Bool, true, false, List, [], ◌∷◌, ◌++◌, length, map, Option, Some, None}
 use Rattle.marlin_frame.specs.Numbering.{wire_number}
 use Rattle.send_window.specs.declared.session_end.SessionEnd.{SessionEnd}
 use Rattle.send_window.specs.declared.session_end.SessionEnd.TheVariants.{NoAnswer, AskedBack, AskedAhead, Counts, Restarted, NumbersUsed}
@@ -7,7 +7,7 @@ use Rattle.printer_model.specs.Printer.{Logged}
 use Rattle.printer_model.specs.World.{WorldData}
 use Rattle.send_window.specs.Data.{SenderData, IsSound}
 use Rattle.send_window.specs.Session.{HoldsIssued}
-use Rattle.lossy_wires.specs.Pieces.{Piece, greeting, command, Sent, Answer, greeting_ok, command_ok, refusal, asking, closing, chat, restart, heard_in, replies_on, entry_in, logged_in, bytes_on, Each, IsFit, IsGreeting, IsSentEarly, IsSentLate, AreLinesFrom}
+use Rattle.lossy_wires.specs.Pieces.{Piece, greeting, Sent, Answer, greeting_ok, command_ok, refusal, asking, closing, chat, restart, heard_in, replies_on, entry_in, logged_in, bytes_on, Each, IsFit, IsGreeting, IsSentEarly, IsSentLate, AreLinesFrom}
 
 -- the session as the printer and the wires have it
 pub record Wires : Type 0 where

@@ -19,7 +19,8 @@ pub fn ok_law()
 
 /// A request with a number of 32 bits is that request, and `Error:` and `start` are what they say.
 pub fn request_law()
-    ensures resend { (number : ℕ) → number < 2 ^ 32 → kind_of (codes "Resend: " ++ decimal number) ≡ reply.Resend number }
+    ensures resend { (number : ℕ) → number < 2 ^ 32
+        → kind_of (codes "Resend: " ++ decimal number) ≡ reply.Resend number }
     ensures error { (rest : List ℕ) → kind_of (codes "Error:" ++ rest) ≡ reply.Error }
     ensures start { kind_of (codes "start") ≡ reply.Start }
 {}

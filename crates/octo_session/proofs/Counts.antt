@@ -141,17 +141,20 @@ counts_fact fact.Failed moment d e = counts_fail d (ended d) (counts_end d.state
 counts_fact (fact.Ended end) moment d e = counts_fail d (ended d) (counts_end d.state d)
 
 -- a note sets how many lines are acknowledged
-pub counts_note : (acknowledged : ℕ) (f : LinkFact) (moment : ℕ) (d : Data) → begins f ≡ false → Counts (record d { acked = acknowledged }) (note_step acknowledged f moment d).1
+pub counts_note : (acknowledged : ℕ) (f : LinkFact) (moment : ℕ) (d : Data) → begins f ≡ false →
+    Counts (record d { acked = acknowledged }) (note_step acknowledged f moment d).1
 counts_note acknowledged f moment d e =
     let told : Data = record d { acked = acknowledged } in
     let noted : Noted = note_fact f moment told in
     and_then told noted.1 (settled noted.1) (counts_fact f moment told e) (counts_settle noted.1.state noted.1)
 
 -- the same after a call whose clause says so
-pub noted_issued : (acknowledged : ℕ) (f : LinkFact) (moment : ℕ) (d e : Data) → begins f ≡ false → e ≡ (note_step acknowledged f moment d).1 → e.issued ≡ d.issued
+pub noted_issued : (acknowledged : ℕ) (f : LinkFact) (moment : ℕ) (d e : Data) → begins f ≡ false → e ≡ (note_step acknowledged f moment d).1 →
+    e.issued ≡ d.issued
 noted_issued acknowledged f moment d e other is = ap (λ (x : Data). x.issued) is ∙ (counts_note acknowledged f moment d other).issued
 
-pub noted_acked : (acknowledged : ℕ) (f : LinkFact) (moment : ℕ) (d e : Data) → begins f ≡ false → e ≡ (note_step acknowledged f moment d).1 → e.acked ≡ acknowledged
+pub noted_acked : (acknowledged : ℕ) (f : LinkFact) (moment : ℕ) (d e : Data) → begins f ≡ false → e ≡ (note_step acknowledged f moment d).1 →
+    e.acked ≡ acknowledged
 noted_acked acknowledged f moment d e other is = ap (λ (x : Data). x.acked) is ∙ (counts_note acknowledged f moment d other).acked
 
 -- with a new session both counts are 0

@@ -26,7 +26,8 @@ use Rattle.octo_session.proofs.Stepping.{after_steps-append, allowed_then}
 use Rattle.octo_session.proofs.Counts.{Counts}
 
 -- one more pull with a line
-pub pulls_push : (moment : ℕ) (lines : List Line) (line : Line) (old mid : Data) → Pulls moment lines old mid → (pull_step moment mid).0 ≡ Some line → Pulls moment (lines ++ line ∷ []) old (pull_step moment mid).1
+pub pulls_push : (moment : ℕ) (lines : List Line) (line : Line) (old mid : Data) → Pulls moment lines old mid → (pull_step moment mid).0 ≡ Some line →
+    Pulls moment (lines ++ line ∷ []) old (pull_step moment mid).1
 pulls_push moment [] line old mid same some =
     let P : Data → Type 0 = λ d. ((pull_step moment d).0 ≡ Some line) × ((pull_step moment mid).1 ≡ (pull_step moment d).1) in
     subst P same (some, refl)
@@ -34,7 +35,8 @@ pulls_push moment (first ∷ lines) line old mid pulls some =
     (pulls.0, pulls_push moment lines line (pull_step moment old).1 mid pulls.1 some)
 
 -- a pull that gives what it gives
-pub pulls_more : (moment : ℕ) (lines : List Line) (old mid : Data) (got : Option Line) → Pulls moment lines old mid → (pull_step moment mid).0 ≡ got → (got ≡ None → (pull_step moment mid).1 ≡ mid) → Pulls moment (lines ++ drawn got) old (pull_step moment mid).1
+pub pulls_more : (moment : ℕ) (lines : List Line) (old mid : Data) (got : Option Line) → Pulls moment lines old mid → (pull_step moment mid).0 ≡ got →
+    (got ≡ None → (pull_step moment mid).1 ≡ mid) → Pulls moment (lines ++ drawn got) old (pull_step moment mid).1
 pulls_more moment lines old mid None pulls e still =
     let P : List Line → Type 0 = λ all. Pulls moment all old (pull_step moment mid).1 in
     let Q : Data → Type 0 = λ d. Pulls moment lines old d in
@@ -47,7 +49,8 @@ pulls_greatest moment [] old new same = ap (λ (d : Data). d.greatest) same
 pulls_greatest moment (line ∷ lines) old new pulls =
     pulls_greatest moment lines (pull_step moment old).1 new pulls.1 ∙ (steady-pull moment old).greatest
 
-last_greatest : (found : LinkFact) (acknowledged moment : ℕ) (ending : Option Ending) (d : Data) → (last_noted found acknowledged moment (ending, d)).1.greatest ≡ d.greatest
+last_greatest : (found : LinkFact) (acknowledged moment : ℕ) (ending : Option Ending) (d : Data) →
+    (last_noted found acknowledged moment (ending, d)).1.greatest ≡ d.greatest
 last_greatest fact.Quiet acknowledged moment ending d = refl
 last_greatest fact.Opened acknowledged moment ending d = refl
 last_greatest fact.Ready acknowledged moment ending d = refl
@@ -56,7 +59,8 @@ last_greatest fact.NoPort acknowledged moment ending d = refl
 last_greatest fact.Failed acknowledged moment ending d = (steady-note acknowledged fact.Failed moment d).greatest
 last_greatest (fact.Ended end) acknowledged moment ending d = refl
 
-pub noted_greatest : (moment acknowledged : ℕ) (found : LinkFact) (lines : List Line) (old : Data) (ending : Option Ending) (new : Data) → IsNoted moment acknowledged found lines old ending new → new.greatest ≡ old.greatest
+pub noted_greatest : (moment acknowledged : ℕ) (found : LinkFact) (lines : List Line) (old : Data) (ending : Option Ending) (new : Data) →
+    IsNoted moment acknowledged found lines old ending new → new.greatest ≡ old.greatest
 noted_greatest moment acknowledged found lines old ending new noted =
     let first = note_step acknowledged (first_fact found) moment old in
     ap (λ (p : Option Ending × Data). p.1.greatest) noted.is
@@ -78,15 +82,18 @@ pub record Pulled (moment : ℕ) (d : Data) (s t : SenderData) : Type 0 where
   pub drew : (pull_step moment d).0 ≡ Some line
   pub pushed : t ≡ push_step line.text s
 
-pulled_as : (moment : ℕ) (d : Data) (s t : SenderData) (got : Option Line) → (pull_step moment d).0 ≡ got → is_some got ≡ true → Issues moment (texts_in (drawn got)) s t → Pulled moment d s t
+pulled_as : (moment : ℕ) (d : Data) (s t : SenderData) (got : Option Line) → (pull_step moment d).0 ≡ got → is_some got ≡ true →
+    Issues moment (texts_in (drawn got)) s t → Pulled moment d s t
 pulled_as moment d s t None e some after = absurd (cc some)
 pulled_as moment d s t (Some line) e some after = record { line = line; drew = e; pushed = after.sender }
 
-pub pulled_by : (moment : ℕ) (d : Data) (s t : SenderData) → is_some (pull_step moment d).0 ≡ true → Issues moment (texts_in (drawn (pull_step moment d).0)) s t → Pulled moment d s t
+pub pulled_by : (moment : ℕ) (d : Data) (s t : SenderData) → is_some (pull_step moment d).0 ≡ true →
+    Issues moment (texts_in (drawn (pull_step moment d).0)) s t → Pulled moment d s t
 pulled_by moment d s t some after = pulled_as moment d s t (pull_step moment d).0 refl some after
 
 -- it joins those before it
-pub pulls_next : (moment : ℕ) (lines more : List Line) (old d e : Data) (line : Line) → Pulls moment lines old d → (pull_step moment d).0 ≡ Some line → e ≡ (pull_step moment d).1 → more ≡ lines ++ drawn (pull_step moment d).0 → Pulls moment more old e
+pub pulls_next : (moment : ℕ) (lines more : List Line) (old d e : Data) (line : Line) → Pulls moment lines old d → (pull_step moment d).0 ≡ Some line →
+    e ≡ (pull_step moment d).1 → more ≡ lines ++ drawn (pull_step moment d).0 → Pulls moment more old e
 pulls_next moment lines more old d e line pulls drew after joined =
     let all : more ≡ lines ++ line ∷ [] = joined ∙ ap (λ (got : Option Line). lines ++ drawn got) drew in
     let P : Data → Type 0 = λ x. Pulls moment more old x in
@@ -94,7 +101,8 @@ pulls_next moment lines more old d e line pulls drew after joined =
     subst P (sym after) (subst Q (sym all) (pulls_push moment lines line old d pulls drew))
 
 -- the issuing of one line more
-pub issuing_next : (moment : ℕ) (lines more : List Line) (d : Data) (s t u : SenderData) → Issues moment (texts_in lines) s t → Issues moment (texts_in (drawn (pull_step moment d).0)) t u → more ≡ lines ++ drawn (pull_step moment d).0 → Issues moment (texts_in more) s u
+pub issuing_next : (moment : ℕ) (lines more : List Line) (d : Data) (s t u : SenderData) → Issues moment (texts_in lines) s t →
+    Issues moment (texts_in (drawn (pull_step moment d).0)) t u → more ≡ lines ++ drawn (pull_step moment d).0 → Issues moment (texts_in more) s u
 issuing_next moment lines more d s t u first second joined =
     let new = drawn (pull_step moment d).0 in
     let parts : issuing (texts_in (lines ++ new)) ≡ issuing (texts_in lines) ++ issuing (texts_in new) =
@@ -127,14 +135,18 @@ pub note_settles : (acknowledged : ℕ) (f : LinkFact) (moment : ℕ) (d e : Dat
 note_settles acknowledged f moment d e after = ap settled after ∙ settled_by_steps.by_note acknowledged f moment d ∙ sym after
 
 -- a turn that notes Quiet and pulls
-pub noted_quiet : (moment a b : ℕ) (lines : List Line) (old mid new : Data) (ending : Option Ending) → b ≡ a → ending ≡ (note_step a fact.Quiet moment old).0 → mid ≡ (note_step a fact.Quiet moment old).1 → Pulls moment lines mid new → IsNoted moment b fact.Quiet lines old ending new
+pub noted_quiet : (moment a b : ℕ) (lines : List Line) (old mid new : Data) (ending : Option Ending) → b ≡ a → ending ≡ (note_step a fact.Quiet moment old).0 →
+    mid ≡ (note_step a fact.Quiet moment old).1 → Pulls moment lines mid new → IsNoted moment b fact.Quiet lines old ending new
 noted_quiet moment a b lines old mid new ending same gave after pulls =
     let P : Data → Type 0 = λ d. Pulls moment lines d new in
     let Q : ℕ → Type 0 = λ n. IsNoted moment n fact.Quiet lines old ending new in
     subst Q (sym same) (record { pulled = new; pulls = subst P after pulls; is = ap (λ (e : Option Ending). (e, new)) gave })
 
 -- a turn that notes Quiet, pulls and notes Failed
-pub noted_failed : (moment a b : ℕ) (lines : List Line) (old mid pulled new : Data) (first last ending : Option Ending) → b ≡ a → first ≡ (note_step a fact.Quiet moment old).0 → mid ≡ (note_step a fact.Quiet moment old).1 → Pulls moment lines mid pulled → last ≡ (note_step a fact.Failed moment pulled).0 → new ≡ (note_step a fact.Failed moment pulled).1 → ending ≡ option_or first last → IsNoted moment b fact.Failed lines old ending new
+pub noted_failed : (moment a b : ℕ) (lines : List Line) (old mid pulled new : Data) (first last ending : Option Ending) → b ≡ a →
+    first ≡ (note_step a fact.Quiet moment old).0 → mid ≡ (note_step a fact.Quiet moment old).1 → Pulls moment lines mid pulled →
+    last ≡ (note_step a fact.Failed moment pulled).0 → new ≡ (note_step a fact.Failed moment pulled).1 → ending ≡ option_or first last →
+    IsNoted moment b fact.Failed lines old ending new
 noted_failed moment a b lines old mid pulled new first last ending same gave after pulls gave_last after_last or =
     let P : Data → Type 0 = λ d. Pulls moment lines d pulled in
     let Q : ℕ → Type 0 = λ n. IsNoted moment n fact.Failed lines old ending new in
@@ -156,7 +168,9 @@ once moment a fact.NoPort old other = record { pulled = (note_step a fact.NoPort
 once moment a fact.Failed old other = absurd (cc other)
 once moment a (fact.Ended end) old other = record { pulled = (note_step a (fact.Ended end) moment old).1; pulls = refl; is = refl }
 
-pub noted_once : (moment a b : ℕ) (f found : LinkFact) (issued : List Issued) (old new : Data) (gave ending : Option Ending) → is_unbroken f ≡ true → found ≡ f → issued ≡ [] → b ≡ a → ending ≡ gave → gave ≡ (note_step a f moment old).0 → new ≡ (note_step a f moment old).1 → IsNoted moment b found (map line_of issued) old ending new
+pub noted_once : (moment a b : ℕ) (f found : LinkFact) (issued : List Issued) (old new : Data) (gave ending : Option Ending) → is_unbroken f ≡ true →
+    found ≡ f → issued ≡ [] → b ≡ a → ending ≡ gave → gave ≡ (note_step a f moment old).0 → new ≡ (note_step a f moment old).1 →
+    IsNoted moment b found (map line_of issued) old ending new
 noted_once moment a b f found issued old new gave ending other is none same ends gives after =
     let first = note_step a f moment old in
     let B : ℕ → Type 0 = λ n. IsNoted moment n found (map line_of issued) old ending new in

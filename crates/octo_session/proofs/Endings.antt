@@ -1,5 +1,5 @@
 -- How a print ends in a turn.
-use Rattle.std.proofs.Common.{◌≡◌, ◌⊎◌, inl, inr, ℕ, ◌≤◌, true, false, List, [], ◌∷◌, Option, None, Some, refl, sym, ◌∙◌, ap, subst}
+use Rattle.std.proofs.Common.{◌≡◌, inl, inr, ℕ, ◌≤◌, true, List, [], ◌∷◌, Option, None, Some, refl, sym, ◌∙◌, ap, subst}
 use Rattle.std.specs.Prelude.{IfSome}
 use Rattle.std.specs.Option.{option_or}
 use Rattle.std.proofs.lemmas.Bool.{false≢true}
@@ -78,7 +78,8 @@ module _ (moment acked : ℕ) (found : LinkFact) (old : Data) where
   }
 
 -- an ending of the last note, which says that the link failed
-fails_last : (acked : ℕ) (how : Outcome) (pulled new : Data) → new.acked ≡ acked → EndsAs how acked fact.Failed pulled → LeavesFree how acked fact.Failed new → EndsSo how fact.Failed new
+fails_last : (acked : ℕ) (how : Outcome) (pulled new : Data) → new.acked ≡ acked → EndsAs how acked fact.Failed pulled → LeavesFree how acked fact.Failed new →
+    EndsSo how fact.Failed new
 fails_last acked outcome.Active pulled new is by leaves = by
 fails_last acked outcome.Done pulled new is by leaves = run_out acked new is leaves
 fails_last acked outcome.Cancelled pulled new is by (inl free) = inl (run_out acked new is free)
@@ -94,7 +95,8 @@ last_ends acked old pulled (Some ending) new is before greatest ends = record {
   by = fails_last acked ending.outcome pulled new is ends.0.by ends.1;
 }
 
-either_ends : (moment acked : ℕ) (lines : List Line) (old mid pulled : Data) (first : Option Ending) (last : Noted) → last ≡ note_step acked fact.Failed moment pulled →
+either_ends : (moment acked : ℕ) (lines : List Line) (old mid pulled : Data) (first : Option Ending) (last : Noted) →
+    last ≡ note_step acked fact.Failed moment pulled →
     last.1.acked ≡ acked → IsActive old → Goes old mid → Pulls moment lines mid pulled → EndsIn acked fact.Quiet old first mid →
     IfSome (option_or first last.0) (λ ending. IsTurnEnding fact.Failed old last.1 ending)
 either_ends moment acked lines old mid pulled (Some ending) last is counted going goes pulls ends =
@@ -137,7 +139,8 @@ module _ (moment acked : ℕ) (lines : List Line) (old : Data) (ending : Option 
       (either_ends moment acked lines old first.1 noted.pulled first.0 last refl (ap (λ (d : Data). d.acked) (sym after) ∙ is) going
       (goes_note acked fact.Quiet moment old) noted.pulls (note_ends acked moment old going fact.Quiet)))
 
-  pub turn_ends : (doing_now : Doing) (found : LinkFact) → IsDeskTurn doing_now moment acked found lines old ending new → IfSome ending (λ e. IsTurnEnding found old new e)
+  pub turn_ends : (doing_now : Doing) (found : LinkFact) → IsDeskTurn doing_now moment acked found lines old ending new →
+      IfSome ending (λ e. IsTurnEnding found old new e)
   turn_ends Dialling found desk = noted_ends found desk
   turn_ends HangingUp found desk = noted_ends found desk
   turn_ends Talking found desk = noted_ends found desk

@@ -2,12 +2,11 @@
 use Rattle.std.proofs.Common.{◌≡◌, ◌≢◌, ◌⊎◌, ℕ, ◌+◌, ◌-◌, ◌<◌, ◌≤◌, zero, suc, Bool, true, false, List, [], ◌∷◌, refl, sym, ◌∙◌, subst, arith}
 use Rattle.std.specs.Prelude.{None}
 use Rattle.std.proofs.lemmas.Grind.{common_steps}
-use Rattle.byte_text.specs.Sendable.{IsSendable}
 use Rattle.marlin_reply.specs.declared.reply.Reply.{Reply}
 use Rattle.marlin_reply.specs.declared.reply.Reply.TheVariants as reply
 use Rattle.send_window.specs.Data.{SenderData, IsSound}
 use Rattle.send_window.specs.Hearing.{hear_step, tick_step}
-use Rattle.send_window.specs.Sending.{IsFramable, next_of, room_of, frame_step, push_step}
+use Rattle.send_window.specs.Sending.{next_of, room_of, frame_step, push_step}
 use Rattle.desk_steps.specs.Data.{Data}
 use Rattle.desk_steps.specs.Pull.{pull_step}
 use Rattle.octo_session.specs.Turn.{IsSpent}
@@ -67,7 +66,8 @@ pub record Said (s p q : SenderData) : Type 0 where
   pub issued : q.issued ≡ p.issued
   pub room : room_of q ≡ room_of p
 
-pub said : (moment : ℕ) (texts : List (List ℕ)) (all : Bool) (count : ℕ) (s p q : SenderData) → p ≡ after_steps moment (issuing texts) s → q ≡ after_steps moment (sends all count) p → Said s p q
+pub said : (moment : ℕ) (texts : List (List ℕ)) (all : Bool) (count : ℕ) (s p q : SenderData) → p ≡ after_steps moment (issuing texts) s →
+    q ≡ after_steps moment (sends all count) p → Said s p q
 said moment texts all count s p q first second =
     let K : SenderData → Type 0 = λ t. Keeps s t in
     let U : SenderData → Type 0 = λ t. Unmoved p t in
@@ -93,11 +93,9 @@ unsent s = unsent_hello s.hello_due + (s.issued + 1 - s.cursor)
 pub unsent_falls : (moment : ℕ) (s : SenderData) → next_of s ≢ None → unsent (frame_step moment s) < unsent s
 unsent_falls moment s some = grind (arith, common_steps)
 
-pub framable : (text : List ℕ) → IsSendable text → IsFramable text
-framable text h = record { some = h.some; short = h.short; no_star = h.no_star; no_line_feed = h.no_line_feed }
-
 -- a reply that makes the session ready doesn't end it, nor does the clock then
-pub ready_goes_on : (line : Reply) (moment : ℕ) (s : SenderData) → s.ended ≡ None → s.ready ≡ false → (hear_step line moment s).ready ≡ true → (tick_step moment (hear_step line moment s)).ended ≡ None
+pub ready_goes_on : (line : Reply) (moment : ℕ) (s : SenderData) → s.ended ≡ None → s.ready ≡ false → (hear_step line moment s).ready ≡ true →
+    (tick_step moment (hear_step line moment s)).ended ≡ None
 ready_goes_on (reply.Ok number _ _ _) moment s running not_ready ready = grind (arith, common_steps)
 ready_goes_on (reply.Resend number) moment s running not_ready ready = grind (arith, common_steps)
 ready_goes_on reply.Start moment s running not_ready ready = grind (arith, common_steps)
@@ -145,7 +143,8 @@ pub ticked_keeps : (moment : ℕ) (s : SenderData) → Ticked s (tick_step momen
 ticked_keeps moment s = grind (arith, common_steps)
 
 -- what is spent before the frames are sent is spent after it
-pub spent_after : (moment : ℕ) (d : Data) (p q : SenderData) → room_of q ≡ room_of p → (room_of p ≡ 0) ⊎ ((pull_step moment d).0 ≡ None) → next_of q ≡ None → IsSpent moment d q
+pub spent_after : (moment : ℕ) (d : Data) (p q : SenderData) → room_of q ≡ room_of p → (room_of p ≡ 0) ⊎ ((pull_step moment d).0 ≡ None) → next_of q ≡ None →
+    IsSpent moment d q
 spent_after moment d p q room spent sent =
     let P : ℕ → Type 0 = λ n. (n ≡ 0) ⊎ ((pull_step moment d).0 ≡ None) in
     record { issued = subst P (sym room) spent; sent = sent }

@@ -7,7 +7,6 @@ use Rattle.printer_model.specs.declared.event.WorldEvent.{WorldEvent}
 use Rattle.printer_link.specs.Link.{LinkKind}
 use Rattle.desk_steps.specs.Data.{Data, Line}
 use Rattle.desk_steps.specs.Issued.{line_of}
-use Rattle.desk_steps.specs.Note.{note_step}
 use Rattle.desk_steps.specs.Endings.{IsActive}
 use Rattle.desk_steps.specs.declared.issued.Note.{Note}
 use Rattle.desk_steps.specs.declared.link_fact.LinkFact.{LinkFact}
@@ -84,7 +83,8 @@ stays_speech moment all texts count s =
     subst P (sym (after_steps-append moment (issuing texts) (sends all count) s))
     (stays_then s mid (after_steps moment (sends all count) mid) (record { acked = first.acked; ready = first.ready }) (record { acked = second.acked; ready = second.ready }))
 
-stays_clock : (moment : ℕ) (found : LinkFact) (texts : List (List ℕ)) (count : ℕ) (s : SenderData) → Stays s (after_steps moment (clock_steps found texts count) s)
+stays_clock : (moment : ℕ) (found : LinkFact) (texts : List (List ℕ)) (count : ℕ) (s : SenderData) →
+    Stays s (after_steps moment (clock_steps found texts count) s)
 stays_clock moment fact.Quiet texts count s = stays_then s (tick_step moment s) _ (stays_tick moment s) (stays_speech moment true texts count (tick_step moment s))
 stays_clock moment fact.Opened texts count s = record { acked = refl; ready = refl }
 stays_clock moment fact.Ready texts count s = stays_tick moment s
@@ -104,7 +104,8 @@ rises_heard moment bytes s sound =
       lasts = ready_lasts (kind_of bytes) moment s;
     }
 
-rises_talk : (moment : ℕ) (got : Got) (found : LinkFact) (texts : List (List ℕ)) (count : ℕ) (s : SenderData) → IsSound s → Rises s (after_steps moment (talk_steps got found texts count) s)
+rises_talk : (moment : ℕ) (got : Got) (found : LinkFact) (texts : List (List ℕ)) (count : ℕ) (s : SenderData) → IsSound s →
+    Rises s (after_steps moment (talk_steps got found texts count) s)
 rises_talk moment unasked found texts count s sound = rises_same s sound
 rises_talk moment lost found texts count s sound = rises_same s sound
 rises_talk moment nothing found texts count s sound = rises_stays s s _ (rises_same s sound) (stays_clock moment found texts count s)
@@ -145,7 +146,8 @@ ready_stays true is lasts never = lasts refl
 ready_stays false true lasts never = absurd (never (refl, refl))
 ready_stays false false lasts never = refl
 
-ready_as : (found : LinkFact) (was is : Bool) → found ≢ fact.Opened → (was ≡ true → is ≡ true) → (found ≡ fact.Ready) ↔ ((was ≡ false) × (is ≡ true)) → is ≡ ready_after found was
+ready_as : (found : LinkFact) (was is : Bool) → found ≢ fact.Opened → (was ≡ true → is ≡ true) → (found ≡ fact.Ready) ↔ ((was ≡ false) × (is ≡ true)) →
+    is ≡ ready_after found was
 ready_as fact.Opened was is other lasts readies = absurd (other refl)
 ready_as fact.Ready was is other lasts readies = (readies.0 refl).1
 ready_as fact.Quiet was is other lasts readies = ready_stays was is lasts (λ both. (let no : fact.Quiet ≡ fact.Ready = readies.1 both in cc no))
@@ -195,7 +197,8 @@ module _ (moment : ℕ) (kind : LinkKind) (old_past new_past : Option (List Worl
       let Q : LinkFact → Type 0 = λ f. RisesIn f old.sender (after_steps moment (turn_steps (doing old) old.up t.got t.found (texts_in t.lines) t.steps.count) old.sender) in
       subst P (sym t.steps.takes.sender) (subst Q (sym found_is) (turn_rises moment (doing old) old.up t.got t.found (texts_in t.lines) t.steps.count old.sender (subst F found_is finds) sound))
 
-  pub turn_ready : IsSound old.sender → (fact_of turned.note ≡ fact.Ready) ↔ ((old.sender.ready ≡ false) × (new.sender.ready ≡ true)) → new.sender.ready ≡ ready_after (fact_of turned.note) old.sender.ready
+  pub turn_ready : IsSound old.sender → (fact_of turned.note ≡ fact.Ready) ↔ ((old.sender.ready ≡ false) × (new.sender.ready ≡ true)) →
+      new.sender.ready ≡ ready_after (fact_of turned.note) old.sender.ready
   turn_ready sound readies = by (rises_in sound)
     where
       by : RisesIn (fact_of turned.note) old.sender new.sender → new.sender.ready ≡ ready_after (fact_of turned.note) old.sender.ready
@@ -252,7 +255,8 @@ module _ (moment : ℕ) (kind : LinkKind) (old_past new_past : Option (List Worl
   pub turn_noted : IfSome turned.note (λ note. IsNoteOn moment new.sender.acked old.desk new.desk turned.ending note)
   turn_noted = by turned.note refl t.some
     where
-      by : (note : Option Note) → turned.note ≡ note → IfSome note (λ n. IsNoteOf moment new.sender.acked t.lines t.got t.found n) → IfSome note (λ n. IsNoteOn moment new.sender.acked old.desk new.desk turned.ending n)
+      by : (note : Option Note) → turned.note ≡ note → IfSome note (λ n. IsNoteOf moment new.sender.acked t.lines t.got t.found n) →
+          IfSome note (λ n. IsNoteOn moment new.sender.acked old.desk new.desk turned.ending n)
       by None is some = tt
       by (Some note) is some =
           let noted = desk_noted (doing old) moment new.sender.acked t.found t.lines old.desk turned.ending new.desk

@@ -29,12 +29,15 @@ calls_after-append [] ys a = refl
 calls_after-append (x ∷ xs) ys a = calls_after-append xs ys (calls_by x a)
 
 -- steps one behind the other are allowed one behind the other
-pub allowed_then : (moment : ℕ) (xs ys : List Step) (s : SenderData) → AreAllowed moment xs s → AreAllowed moment ys (after_steps moment xs s) → AreAllowed moment (xs ++ ys) s
+pub allowed_then : (moment : ℕ) (xs ys : List Step) (s : SenderData) → AreAllowed moment xs s → AreAllowed moment ys (after_steps moment xs s) →
+    AreAllowed moment (xs ++ ys) s
 allowed_then moment [] ys s one more = more
 allowed_then moment (x ∷ xs) ys s one more = (one.0, allowed_then moment xs ys (after_step moment x s) one.1 more)
 
 -- and what they add stands one behind the other
-pub added_then : (moment : ℕ) (is_prompt : Bool) (xs ys : List Step) (s : SenderData) (w : WorldData) (a b : List WorldEvent) → AreAdded moment is_prompt xs s w a → AreAdded moment is_prompt ys (after_steps moment xs s) (world_from w a) b → AreAdded moment is_prompt (xs ++ ys) s w (a ++ b)
+pub added_then : (moment : ℕ) (is_prompt : Bool) (xs ys : List Step) (s : SenderData) (w : WorldData) (a b : List WorldEvent) →
+    AreAdded moment is_prompt xs s w a → AreAdded moment is_prompt ys (after_steps moment xs s) (world_from w a) b →
+    AreAdded moment is_prompt (xs ++ ys) s w (a ++ b)
 added_then moment is_prompt [] ys s w a b none more =
     let P : List WorldEvent → Type 0 = λ es. AreAdded moment is_prompt ys s (world_from w es) b in
     let Q : List WorldEvent → Type 0 = λ es. AreAdded moment is_prompt ys s w (es ++ b) in
@@ -47,11 +50,13 @@ added_then moment is_prompt (x ∷ xs) ys s w a b one more =
     (first, rest ++ b, ap (λ (es : List WorldEvent). es ++ b) one.2 ∙ append_assoc first rest b, one.3, added_then moment is_prompt xs ys (after_step moment x s) (world_from w first) rest b one.4 (subst P here more))
 
 -- one step alone
-added_one : (moment : ℕ) (is_prompt : Bool) (x : Step) (s : SenderData) (w : WorldData) (added : List WorldEvent) → IsAdded is_prompt x s w added → AreAdded moment is_prompt (x ∷ []) s w added
+added_one : (moment : ℕ) (is_prompt : Bool) (x : Step) (s : SenderData) (w : WorldData) (added : List WorldEvent) → IsAdded is_prompt x s w added →
+    AreAdded moment is_prompt (x ∷ []) s w added
 added_one moment is_prompt x s w added is = (added, [], sym (append-nil added), is, refl)
 
 -- two words for one addition, the second of which holds under a premise
-pub grows_both : (kind : LinkKind) (old new : Option (List WorldEvent)) (F : Type 0) (K J : WorldData → List WorldEvent → Type 0) → Grows kind old new K → (F → Grows kind old new J) → Grows kind old new (λ w added. K w added × (F → J w added))
+pub grows_both : (kind : LinkKind) (old new : Option (List WorldEvent)) (F : Type 0) (K J : WorldData → List WorldEvent → Type 0) → Grows kind old new K →
+    (F → Grows kind old new J) → Grows kind old new (λ w added. K w added × (F → J w added))
 grows_both kind old new F K J first second = record {
   stays = first.stays;
   grew = λ now e. (
@@ -77,7 +82,8 @@ grows_both kind old new F K J first second = record {
 }
 
 module _ (moment : ℕ) (kind : LinkKind) where
-  pub takes_then : (old mid new : Option (List WorldEvent)) (a b c : Option ℕ) (xs ys : List Step) (s t u : SenderData) → Takes moment kind old mid a b xs s t → Takes moment kind mid new b c ys t u → Takes moment kind old new a c (xs ++ ys) s u
+  pub takes_then : (old mid new : Option (List WorldEvent)) (a b c : Option ℕ) (xs ys : List Step) (s t u : SenderData) → Takes moment kind old mid a b xs s t →
+      Takes moment kind mid new b c ys t u → Takes moment kind old new a c (xs ++ ys) s u
   takes_then old mid new a b c xs ys s t u first second =
       let Allowed : SenderData → Type 0 = λ v. AreAllowed moment ys v in
       record {
@@ -104,7 +110,8 @@ module _ (moment : ℕ) (kind : LinkKind) where
   }
 
   -- one step
-  pub takes_one : (old new : Option (List WorldEvent)) (a b : Option ℕ) (x : Step) (s t : SenderData) → t ≡ after_step moment x s → IsAllowed x s → b ≡ calls_by x a → Grows kind old new (IsAdded kind.prompt x s) → Takes moment kind old new a b (x ∷ []) s t
+  pub takes_one : (old new : Option (List WorldEvent)) (a b : Option ℕ) (x : Step) (s t : SenderData) → t ≡ after_step moment x s → IsAllowed x s →
+      b ≡ calls_by x a → Grows kind old new (IsAdded kind.prompt x s) → Takes moment kind old new a b (x ∷ []) s t
   takes_one old new a b x s t after may called grew = record {
     sender = after;
     allowed = (may, tt);
@@ -115,12 +122,15 @@ module _ (moment : ℕ) (kind : LinkKind) where
   }
 
   -- one step by the two words of a link
-  pub takes_both : (old new : Option (List WorldEvent)) (a b : Option ℕ) (x : Step) (s t : SenderData) → t ≡ after_step moment x s → IsAllowed x s → b ≡ calls_by x a → Grows kind old new (IsDone x s) → (kind.prompt ≡ true → Grows kind old new (IsDonePromptly x s)) → Takes moment kind old new a b (x ∷ []) s t
+  pub takes_both : (old new : Option (List WorldEvent)) (a b : Option ℕ) (x : Step) (s t : SenderData) → t ≡ after_step moment x s → IsAllowed x s →
+      b ≡ calls_by x a → Grows kind old new (IsDone x s) → (kind.prompt ≡ true → Grows kind old new (IsDonePromptly x s)) →
+      Takes moment kind old new a b (x ∷ []) s t
   takes_both old new a b x s t after may called grew promptly =
       takes_one old new a b x s t after may called (grows_both kind old new (kind.prompt ≡ true) (IsDone x s) (IsDonePromptly x s) grew promptly)
 
   -- the same steps under equal names
-  pub takes_as : (old new : Option (List WorldEvent)) (a b : Option ℕ) (xs ys : List Step) (s t : SenderData) → xs ≡ ys → Takes moment kind old new a b xs s t → Takes moment kind old new a b ys s t
+  pub takes_as : (old new : Option (List WorldEvent)) (a b : Option ℕ) (xs ys : List Step) (s t : SenderData) → xs ≡ ys → Takes moment kind old new a b xs s t →
+      Takes moment kind old new a b ys s t
   takes_as old new a b xs ys s t same takes =
       let P : List Step → Type 0 = λ zs. Takes moment kind old new a b zs s t in
       subst P same takes
@@ -135,7 +145,8 @@ calls_issuing : (texts : List (List ℕ)) (a : Option ℕ) → calls_after (issu
 calls_issuing [] a = refl
 calls_issuing (text ∷ texts) a = calls_issuing texts a
 
-pub takes_issuing : (moment : ℕ) (kind : LinkKind) (old : Option (List WorldEvent)) (a : Option ℕ) (texts : List (List ℕ)) (s t : SenderData) → Issues moment texts s t → Takes moment kind old old a a (issuing texts) s t
+pub takes_issuing : (moment : ℕ) (kind : LinkKind) (old : Option (List WorldEvent)) (a : Option ℕ) (texts : List (List ℕ)) (s t : SenderData) →
+    Issues moment texts s t → Takes moment kind old old a a (issuing texts) s t
 takes_issuing moment kind old a texts s t issued_all = record {
   sender = issued_all.sender;
   allowed = issued_all.allowed;
@@ -145,7 +156,8 @@ takes_issuing moment kind old a texts s t issued_all = record {
 }
 
 -- a printer of the same places
-pub takes_at : (moment : ℕ) (kind kind' : LinkKind) (old new : Option (List WorldEvent)) (a b : Option ℕ) (xs : List Step) (s t : SenderData) → kind' ≡ kind → Takes moment kind' old new a b xs s t → Takes moment kind old new a b xs s t
+pub takes_at : (moment : ℕ) (kind kind' : LinkKind) (old new : Option (List WorldEvent)) (a b : Option ℕ) (xs : List Step) (s t : SenderData) → kind' ≡ kind →
+    Takes moment kind' old new a b xs s t → Takes moment kind old new a b xs s t
 takes_at moment kind kind' old new a b xs s t same takes =
     let P : LinkKind → Type 0 = λ k. Takes moment k old new a b xs s t in
     subst P same takes
@@ -156,21 +168,25 @@ replicate-push zero = refl
 replicate-push (suc count) = ap (λ (xs : List Step). gives ∷ xs) (replicate-push count)
 
 -- further frames behind some
-pub takes_more : (moment : ℕ) (kind : LinkKind) (old mid new : Option (List WorldEvent)) (a b c : Option ℕ) (s t u : SenderData) → TakesSome moment kind old mid a b (sends true) s t → Takes moment kind mid new b c (gives ∷ []) t u → TakesSome moment kind old new a c (sends true) s u
+pub takes_more : (moment : ℕ) (kind : LinkKind) (old mid new : Option (List WorldEvent)) (a b c : Option ℕ) (s t u : SenderData) →
+    TakesSome moment kind old mid a b (sends true) s t → Takes moment kind mid new b c (gives ∷ []) t u → TakesSome moment kind old new a c (sends true) s u
 takes_more moment kind old mid new a b c s t u some one = record {
   count = suc some.count;
   takes = takes_as moment kind old new a c _ _ s u (replicate-push some.count) (takes_then moment kind old mid new a b c _ (gives ∷ []) s t u some.takes one);
 }
 
 -- the last one's sending fails
-pub takes_last : (moment : ℕ) (kind : LinkKind) (old mid new : Option (List WorldEvent)) (a b c : Option ℕ) (s t u : SenderData) → TakesSome moment kind old mid a b (sends true) s t → Takes moment kind mid new b c (fails_to_send ∷ []) t u → TakesSome moment kind old new a c (sends false) s u
+pub takes_last : (moment : ℕ) (kind : LinkKind) (old mid new : Option (List WorldEvent)) (a b c : Option ℕ) (s t u : SenderData) →
+    TakesSome moment kind old mid a b (sends true) s t → Takes moment kind mid new b c (fails_to_send ∷ []) t u →
+    TakesSome moment kind old new a c (sends false) s u
 takes_last moment kind old mid new a b c s t u some one = record {
   count = some.count;
   takes = takes_then moment kind old mid new a b c _ (fails_to_send ∷ []) s t u some.takes one;
 }
 
 -- texts are issued, and then frames sent
-pub takes_said : (moment : ℕ) (kind : LinkKind) (old new : Option (List WorldEvent)) (a b : Option ℕ) (all : Bool) (texts : List (List ℕ)) (s t u : SenderData) → Issues moment texts s t → TakesSome moment kind old new a b (sends all) t u → TakesSome moment kind old new a b (speech all texts) s u
+pub takes_said : (moment : ℕ) (kind : LinkKind) (old new : Option (List WorldEvent)) (a b : Option ℕ) (all : Bool) (texts : List (List ℕ)) (s t u : SenderData) →
+    Issues moment texts s t → TakesSome moment kind old new a b (sends all) t u → TakesSome moment kind old new a b (speech all texts) s u
 takes_said moment kind old new a b all texts s t u issued_all some = record {
   count = some.count;
   takes = takes_then moment kind old old new a a b (issuing texts) (sends all some.count) s t u
@@ -178,7 +194,9 @@ takes_said moment kind old new a b all texts s t u issued_all some = record {
 }
 
 -- a receiving that didn't fail, and then the rest of the turn
-pub takes_talk : (moment : ℕ) (kind kind' : LinkKind) (old mid new : Option (List WorldEvent)) (a b c : Option ℕ) (got : Got) (found : LinkFact) (texts : List (List ℕ)) (s t u : SenderData) → is_got got ≡ true → kind' ≡ kind → Takes moment kind old mid a b (received_by got) s t → TakesSome moment kind' mid new b c (clock_steps found texts) t u → TakesSome moment kind old new a c (talk_steps got found texts) s u
+pub takes_talk : (moment : ℕ) (kind kind' : LinkKind) (old mid new : Option (List WorldEvent)) (a b c : Option ℕ) (got : Got) (found : LinkFact) (texts : List (List ℕ)) (s t u : SenderData) →
+    is_got got ≡ true → kind' ≡ kind → Takes moment kind old mid a b (received_by got) s t → TakesSome moment kind' mid new b c (clock_steps found texts) t u →
+    TakesSome moment kind old new a c (talk_steps got found texts) s u
 takes_talk moment kind kind' old mid new a b c unasked found texts s t u is same first some = absurd (cc is)
 takes_talk moment kind kind' old mid new a b c lost found texts s t u is same first some = absurd (cc is)
 takes_talk moment kind kind' old mid new a b c nothing found texts s t u is same first some = record {
@@ -191,7 +209,8 @@ takes_talk moment kind kind' old mid new a b c (whole bytes) found texts s t u i
 }
 
 -- how the session ends by what was received
-pub end_by_is : (got : Got) (moment : ℕ) (s t : SenderData) → is_got got ≡ true → t ≡ after_steps moment (received_by got) s → end_by got moment s ≡ (tick_step moment t).ended
+pub end_by_is : (got : Got) (moment : ℕ) (s t : SenderData) → is_got got ≡ true → t ≡ after_steps moment (received_by got) s →
+    end_by got moment s ≡ (tick_step moment t).ended
 end_by_is unasked moment s t is after = absurd (cc is)
 end_by_is lost moment s t is after = absurd (cc is)
 end_by_is nothing moment s t is after = ap (λ (x : SenderData). (tick_step moment x).ended) (sym after)
@@ -215,14 +234,16 @@ pub none_said : (got kept : Got) (found : LinkFact) → kept ≡ got → is_got 
 none_said got kept found same is none = sym (ap (λ (b : Bool). b && is_said found) (ap is_got same ∙ is)) ∙ none
 
 -- a link whose printer keeps 1 to 16 lines waiting is made
-pub opens_placed : (kind : LinkKind) (old new : Option (List WorldEvent)) (s : SenderData) → HasSlots kind → Grows kind old new IsDial → Grows kind old new (IsDone opens s)
+pub opens_placed : (kind : LinkKind) (old new : Option (List WorldEvent)) (s : SenderData) → HasSlots kind → Grows kind old new IsDial →
+    Grows kind old new (IsDone opens s)
 opens_placed kind old new s has grew =
     recorded_so old new (λ past added. IsDial (world_in kind past) added) (λ past added. IsDone opens s (world_in kind past) added) grew
     (λ past added dial. (let same : (world_in kind past).printer.places ≡ kind.slots = (world_from-IsSameKind (new_world kind.slots kind.numbered) past).places in
     (dial, record { some = omega (arith, same, has.some); few = omega (arith, same, has.few) })))
 
 -- a turn that does nothing
-pub takes_rest : (moment : ℕ) (kind : LinkKind) (old : Option (List WorldEvent)) (a : Option ℕ) (doing_now : Doing) (was_up : Bool) (got : Got) (found : LinkFact) (texts : List (List ℕ)) (s : SenderData) → doing_now ≡ Resting → TakesSome moment kind old old a a (turn_steps doing_now was_up got found texts) s s
+pub takes_rest : (moment : ℕ) (kind : LinkKind) (old : Option (List WorldEvent)) (a : Option ℕ) (doing_now : Doing) (was_up : Bool) (got : Got) (found : LinkFact) (texts : List (List ℕ)) (s : SenderData) →
+    doing_now ≡ Resting → TakesSome moment kind old old a a (turn_steps doing_now was_up got found texts) s s
 takes_rest moment kind old a doing_now was_up got found texts s rests =
     let P : Doing → Type 0 = λ d. TakesSome moment kind old old a a (turn_steps d was_up got found texts) s s in
     subst P (sym rests) (record { count = 0; takes = takes_none moment kind old a s })
@@ -233,7 +254,9 @@ pub record Gives (kind : LinkKind) (old new : Option (List WorldEvent)) (next : 
   pub grew : Grows kind old new (λ w added. IsGiven next w added)
   pub promptly : kind.prompt ≡ true → Grows kind old new (λ w added. IsGivenAlone next added)
 
-pub gives_written : (kind : LinkKind) (old new : Option (List WorldEvent)) (next : Option Outgoing) (number : ℕ) (bytes : List ℕ) → Some number ≡ option_map number_of_outgoing next → IfSome next (λ o. bytes ≡ bytes_of_outgoing o) → Grows kind old new (IsSend bytes) → (kind.prompt ≡ true → Grows kind old new (λ w added. (sent : WorldEvent) × (added ≡ sent ∷ []) × IsSendOf bytes sent)) → Gives kind old new next
+pub gives_written : (kind : LinkKind) (old new : Option (List WorldEvent)) (next : Option Outgoing) (number : ℕ) (bytes : List ℕ) →
+    Some number ≡ option_map number_of_outgoing next → IfSome next (λ o. bytes ≡ bytes_of_outgoing o) → Grows kind old new (IsSend bytes) →
+    (kind.prompt ≡ true → Grows kind old new (λ w added. (sent : WorldEvent) × (added ≡ sent ∷ []) × IsSendOf bytes sent)) → Gives kind old new next
 gives_written kind old new None number bytes some written grew promptly = absurd (cc some)
 gives_written kind old new (Some next) number bytes some written grew promptly =
     let P : List ℕ → Type 0 = λ b. Grows kind old new (IsSend b) in
@@ -300,7 +323,8 @@ dial_calls fact.Failed a b can is = begins_calling [] a b is
 dial_calls (fact.Ended end) a b can is = absurd (cc can)
 
 -- and one that talks
-pub talk_calls : (got : Got) (found : LinkFact) (texts : List (List ℕ)) (count : ℕ) (a b : Option ℕ) → (got ≡ unasked → ⊥) → b ≡ calls_after (talk_steps got found texts count) a → RoseBy 1 a b
+pub talk_calls : (got : Got) (found : LinkFact) (texts : List (List ℕ)) (count : ℕ) (a b : Option ℕ) → (got ≡ unasked → ⊥) →
+    b ≡ calls_after (talk_steps got found texts count) a → RoseBy 1 a b
 talk_calls unasked found texts count a b asked is = absurd (asked refl)
 talk_calls lost found texts count a b asked is = begins_calling [] a b is
 talk_calls nothing found texts count a b asked is = begins_calling (clock_steps found texts count) a b is

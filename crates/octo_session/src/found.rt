@@ -1,4 +1,4 @@
-//! What a turn does, finds and gives.
+//! What a turn does, finds and returns.
 ghost use Rattle.std.specs.Prelude.{◌≡◌, ◌↔◌, ℕ, List, [], map, None, IfSome};
 ghost use Rattle.desk_steps.specs.Issued.{line_of};
 ghost use Rattle.octo_session.specs.Found.{got_of, is_whole, temps_kept};
@@ -77,7 +77,7 @@ impl Found {
     }
 }
 
-/// What one turn did: a note where something happened, the print that ended, and whether a line was received.
+/// What one turn did: a note if something happened, the print that ended, and whether a line was received.
 #[derive(Drop)]
 pub struct Turned {
     pub note: Option<Note>,
@@ -85,7 +85,7 @@ pub struct Turned {
     pub heard: bool,
 }
 
-/// What a turn at this moment gives; before it so many lines were acknowledged.
+/// What a turn at this moment returns; `before` lines were acknowledged before it.
 pub fn tell(found: Found, moment: u64, before: u32, acked: u32) -> Turned
     ensures none { (result.note ≡ None) ↔ IsStill found before acked }
     ensures some { IfSome result.note (λ note. IsKeptIn found moment acked note) }

@@ -1,31 +1,25 @@
 //! The session: a desk and a sender, and the turns that join them with a link.
-ghost use Rattle.std.specs.Prelude.{◌≡◌, ◌≢◌, ◌↔◌, ◌⊎◌, ◌≤◌, ℕ, [], ◌∷◌, map, true, false, is_some, IfSome, None, OnOk, OnErr, IsErrOf};
+ghost use Rattle.std.specs.Prelude.{◌≡◌, ◌↔◌, ◌⊎◌, ◌≤◌, [], true, false, IfSome, None};
 ghost use Rattle.octo_outside.specs.Told.{Rose};
 ghost use Rattle.desk_steps.specs.Data.{new_desk};
 ghost use Rattle.desk_steps.specs.Endings.{IsActive};
-ghost use Rattle.desk_steps.specs.Table.{is_closable_at};
-ghost use Rattle.desk_steps.specs.Issued.{line_of};
 ghost use Rattle.desk_steps.specs.declared.link_fact.LinkFact.TheVariants as fact;
-ghost use Rattle.send_window.specs.declared.session_end.SessionEnd.{SessionEnd};
-ghost use Rattle.printer_link.specs.Link.{HasSlots, Grows, IsDial, IsNothing, IsRuns, RoseBy, counted_one, dial_events};
-ghost use Rattle.printer_link.specs.declared.link.LinkFault.TheVariants as fault;
-ghost use Rattle.send_window.specs.Data.{IsSound, new_sender, begun};
+ghost use Rattle.printer_link.specs.Link.{RoseBy};
+ghost use Rattle.send_window.specs.Data.{IsSound, new_sender};
 ghost use Rattle.send_window.specs.Sending.{next_of};
 ghost use Rattle.octo_session.specs.Data.{IsSession, doing, is_calling, port_of};
-ghost use Rattle.octo_session.specs.DeskTurn.{IsNoted, IsQuietTurn, IsTurnEnding};
-ghost use Rattle.octo_session.specs.Found.{got_of, temps_in, temps_kept, end_by, may_issue, up_after, ready_after, can_find, lost, unasked};
-ghost use Rattle.octo_session.specs.Steps.{Takes, TakesSome, hangs_up, dial_steps, talk_steps, turn_steps};
-ghost use Rattle.octo_session.specs.Turn.{fact_of, lines_of, texts_in, IsDeskTurn, IsNoteOn, IsSpent, IsTurn};
+ghost use Rattle.octo_session.specs.DeskTurn.{IsQuietTurn, IsTurnEnding};
+ghost use Rattle.octo_session.specs.Found.{up_after, ready_after, can_find};
+ghost use Rattle.octo_session.specs.Turn.{fact_of, lines_of, IsNoteOn, IsSpent, IsTurn};
 ghost use Rattle.octo_session.specs.declared.found.Doing.TheVariants as now_doing;
-ghost use Rattle.octo_session.specs.declared.found.Received.TheVariants as received;
 
 mod calls;
+mod turns;
 
-use crate::found::{Doing, Found, Received, Turned, tell};
-use crate::talk::{fail, talk};
+use crate::found::{Turned, tell};
 use byte_text::ReplyLine;
-use job_desk::{Desk, LinkFact, State};
-use printer_link::{Link, LinkFault};
+use job_desk::Desk;
+use printer_link::Link;
 use send_window::Sender;
 use std::marker::Model;
 
@@ -48,28 +42,6 @@ impl Model for Session {
     ghost view = { session_of };
 
     ghost invariant = { IsKept };
-}
-
-// Dials the port of the desk.
-fn dial_port<L: Link>(desk: &Desk, link: &mut L) -> Result<(), LinkFault>
-    requires { L.up link.old ≡ false }
-    ensures past { OnOk result (Grows (L.kind link.old) (L.past link.old) (L.past link.new) IsDial) }
-    ensures past_no_port { IsErrOf result fault.NoPort → Grows (L.kind link.old) (L.past link.old) (L.past link.new) IsNothing }
-    ensures past_prompt { (L.kind link.old).prompt ≡ true → OnOk result (Grows (L.kind link.old) (L.past link.old) (L.past link.new) (λ w added. (last : ℕ) × (added ≡ dial_events w last))) }
-    ensures past_failed { IsErrOf result fault.Failed → Grows (L.kind link.old) (L.past link.old) (L.past link.new) IsRuns }
-    ensures no_port { IsErrOf result fault.NoPort ↔ ((L.kind link.old).listed (port_of desk.now) ≡ false) }
-    ensures calls { L.calls link.new ≡ counted_one (L.calls link.old) }
-    ensures up { OnOk result (L.up link.new ≡ true) }
-    ensures down { OnErr result (L.up link.new ≡ false) }
-    ensures slots { HasSlots (L.kind link.old) }
-    ensures kind { L.kind link.new ≡ L.kind link.old }
-    ensures counted { L.faults link.old ≤ L.faults link.new }
-    ensures failed { IsErrOf result fault.Failed → Rose (L.faults link.old) (L.faults link.new) }
-{
-    match desk.port() {
-        Some(port) => link.dial(port.as_str()),
-        None => link.dial(""),
-    }
 }
 
 // What holds of a sender between its calls: stated for proofs.
@@ -127,193 +99,53 @@ impl Session {
         self.sender.acked()
     }
 
-    // What the next turn does.
-    fn doing(&self) -> Doing
-        ensures is { result ≡ doing self.now }
-        ensures shut { result ≡ now_doing.Dialling → self.now.up ≡ false }
-        ensures open { result ≡ now_doing.Talking → self.now.up ≡ true }
-        ensures joined { IsSession self.now }
-    {
-        if !self.up && self.desk.state() == State::Connecting {
-            return Doing::Dialling;
-        }
-        if self.desk.closable() {
-            return Doing::HangingUp;
-        }
-        if self.up {
-            return Doing::Talking;
-        }
-        Doing::Resting
-    }
-
-    // The link was made: the session begins.
-    fn open(&mut self, moment: u64) -> Found
-        requires { self.old.up ≡ false }
-        ensures finds { result.fact ≡ fact.Opened }
-        ensures silent { result.issued.items ≡ [] }
-        ensures unasked { result.received ≡ received.Unasked }
-        ensures noted { IsNoted moment self.new.sender.acked fact.Opened [] self.old.desk result.ending self.new.desk }
-        ensures joined { IsSession self.new }
-        ensures up { self.new.up ≡ true }
-        ensures sender { self.new.sender ≡ begun self.old.sender }
-    {
-        self.sender.hello();
-        self.up = true;
-        let ending = self.desk.note(0, &LinkFact::Opened, moment);
-        Found::silent(LinkFact::Opened, Received::Unasked, ending)
-    }
-
-    // Dials, and opens the session where the link is made.
-    fn dial<L: Link>(&mut self, link: &mut L, moment: u64) -> Found
-        requires shut { self.old.up ≡ false }
-        requires down { L.up link.old ≡ false }
-        ensures finds { can_find now_doing.Dialling result.fact ≡ true }
-        ensures silent { result.issued.items ≡ [] }
-        ensures unasked { result.received ≡ received.Unasked }
-        ensures noted { IsNoted moment self.new.sender.acked result.fact [] self.old.desk result.ending self.new.desk }
-        ensures joined { IsSession self.new }
-        ensures up { self.new.up ≡ up_after result.fact false }
-        ensures link { L.up link.new ≡ self.new.up }
-        ensures no_port { (result.fact ≡ fact.NoPort) ↔ ((L.kind link.old).listed (port_of self.old.desk) ≡ false) }
-        ensures ready { self.new.sender.ready ≡ true → self.old.sender.ready ≡ true }
-        ensures steps { Takes moment (L.kind link.old) (L.past link.old) (L.past link.new) (L.calls link.old) (L.calls link.new) (dial_steps result.fact) self.old.sender self.new.sender }
-        ensures kind { L.kind link.new ≡ L.kind link.old }
-        ensures counted { L.faults link.old ≤ L.faults link.new }
-        ensures failed { result.fact ≡ fact.Failed → Rose (L.faults link.old) (L.faults link.new) }
-    {
-        match dial_port(&self.desk, link) {
-            Ok(()) => self.open(moment),
-            Err(LinkFault::NoPort) => {
-                let ending = self
-                    .desk
-                    .note(self.sender.acked(), &LinkFact::NoPort, moment);
-                Found::silent(LinkFact::NoPort, Received::Unasked, ending)
-            }
-            Err(LinkFault::Failed) => {
-                let ending = fail(&mut self.desk, self.sender.acked(), moment);
-                Found::silent(LinkFact::Failed, Received::Unasked, ending)
-            }
-        }
-    }
-
-    // Hangs up, where the link is up.
-    fn hang_up<L: Link>(&mut self, link: &mut L, moment: u64) -> Found
-        requires { L.up link.old ≡ self.old.up }
-        ensures finds { result.fact ≡ fact.Closed }
-        ensures silent { result.issued.items ≡ [] }
-        ensures unasked { result.received ≡ received.Unasked }
-        ensures noted { IsNoted moment self.new.sender.acked fact.Closed [] self.old.desk result.ending self.new.desk }
-        ensures joined { IsSession self.new }
-        ensures up { self.new.up ≡ false }
-        ensures link { L.up link.new ≡ false }
-        ensures sender { self.new.sender ≡ self.old.sender }
-        ensures steps { Takes moment (L.kind link.old) (L.past link.old) (L.past link.new) (L.calls link.old) (L.calls link.new) (hangs_up self.old.up ∷ []) self.old.sender self.new.sender }
-        ensures kind { L.kind link.new ≡ L.kind link.old }
-        ensures counted { L.faults link.old ≤ L.faults link.new }
-    {
-        link.hang_up();
-        self.up = false;
-        let ending = self
-            .desk
-            .note(self.sender.acked(), &LinkFact::Closed, moment);
-        Found::silent(LinkFact::Closed, Received::Unasked, ending)
-    }
-
-    // Talks over the open link.
-    fn exchange<L: Link>(&mut self, link: &mut L, moment: u64, line: &mut ReplyLine) -> Found
-        requires open { self.old.up ≡ true }
-        requires up { L.up link.old ≡ true }
-        ensures finds { can_find now_doing.Talking result.fact ≡ true }
-        ensures asked { (got_of result.received line.new.items) ≢ unasked }
-        ensures temps { temps_kept result.received ≡ temps_in (got_of result.received line.new.items) }
-        ensures noted { IsNoted moment self.new.sender.acked result.fact (map line_of result.issued.items) self.old.desk result.ending self.new.desk }
-        ensures ended { (end : SessionEnd) → (result.fact ≡ fact.Ended end) ↔ (end_by (got_of result.received line.new.items) moment self.old.sender ≡ Some end) }
-        ensures ready { (result.fact ≡ fact.Ready) ↔ ((self.old.sender.ready ≡ false) × (self.new.sender.ready ≡ true)) }
-        ensures broken { got_of result.received line.new.items ≡ lost → result.fact ≡ fact.Failed }
-        ensures none_issued { may_issue (got_of result.received line.new.items) result.fact ≡ false → result.issued.items ≡ [] }
-        ensures silent { result.fact ≡ fact.Ready → result.issued.items ≡ [] }
-        ensures sent { result.fact ≡ fact.Ready → next_of self.new.sender ≡ None }
-        ensures spent { result.fact ≡ fact.Quiet → IsSpent moment self.new.desk self.new.sender }
-        ensures joined { IsSession self.new }
-        ensures up { self.new.up ≡ up_after result.fact true }
-        ensures link { L.up link.new ≡ self.new.up }
-        ensures steps { TakesSome moment (L.kind link.old) (L.past link.old) (L.past link.new) (L.calls link.old) (L.calls link.new) (talk_steps (got_of result.received line.new.items) result.fact (texts_in (map line_of result.issued.items))) self.old.sender self.new.sender }
-        ensures kind { L.kind link.new ≡ L.kind link.old }
-        ensures counted { L.faults link.old ≤ L.faults link.new }
-        ensures failed { result.fact ≡ fact.Failed → Rose (L.faults link.old) (L.faults link.new) }
-    {
-        let found = talk(&mut self.desk, &mut self.sender, link, moment, line);
-        self.up = match found.fact {
-            LinkFact::Quiet | LinkFact::Ready => true,
-            _ => false,
-        };
-        found
-    }
-
-    // Makes the turn; what it receives is left in `line`.
-    fn act<L: Link>(&mut self, link: &mut L, moment: u64, line: &mut ReplyLine) -> Found
-        requires { L.up link.old ≡ self.old.up }
-        ensures finds { can_find (doing self.old) result.fact ≡ true }
-        ensures asked { ((got_of result.received line.new.items) ≡ unasked) ↔ (doing self.old ≢ now_doing.Talking) }
-        ensures temps { temps_kept result.received ≡ temps_in (got_of result.received line.new.items) }
-        ensures desk { IsDeskTurn (doing self.old) moment self.new.sender.acked result.fact (map line_of result.issued.items) self.old.desk result.ending self.new.desk }
-        ensures ended { (end : SessionEnd) → (result.fact ≡ fact.Ended end) ↔ (end_by (got_of result.received line.new.items) moment self.old.sender ≡ Some end) }
-        ensures ready { (result.fact ≡ fact.Ready) ↔ ((self.old.sender.ready ≡ false) × (self.new.sender.ready ≡ true)) }
-        ensures broken { got_of result.received line.new.items ≡ lost → result.fact ≡ fact.Failed }
-        ensures none_issued { may_issue (got_of result.received line.new.items) result.fact ≡ false → result.issued.items ≡ [] }
-        ensures silent { result.fact ≡ fact.Ready → result.issued.items ≡ [] }
-        ensures sent { result.fact ≡ fact.Ready → next_of self.new.sender ≡ None }
-        ensures spent { self.new.up ≡ true → result.fact ≡ fact.Quiet → IsSpent moment self.new.desk self.new.sender }
-        ensures joined { IsSession self.new }
-        ensures up { self.new.up ≡ up_after result.fact self.old.up }
-        ensures link { L.up link.new ≡ self.new.up }
-        ensures greatest { self.new.desk.greatest ≡ self.old.desk.greatest }
-        ensures no_port { (result.fact ≡ fact.NoPort) ↔ ((doing self.old ≡ now_doing.Dialling) × ((L.kind link.old).listed (port_of self.old.desk) ≡ false)) }
-        ensures steps { TakesSome moment (L.kind link.old) (L.past link.old) (L.past link.new) (L.calls link.old) (L.calls link.new) (turn_steps (doing self.old) self.old.up (got_of result.received line.new.items) result.fact (texts_in (map line_of result.issued.items))) self.old.sender self.new.sender }
-        ensures kind { L.kind link.new ≡ L.kind link.old }
-        ensures counted { L.faults link.old ≤ L.faults link.new }
-        ensures calls { is_calling (doing self.old) ≡ true → RoseBy 1 (L.calls link.old) (L.calls link.new) }
-        ensures failed { result.fact ≡ fact.Failed → Rose (L.faults link.old) (L.faults link.new) }
-    {
-        match self.doing() {
-            Doing::Dialling => self.dial(link, moment),
-            Doing::HangingUp => self.hang_up(link, moment),
-            Doing::Talking => self.exchange(link, moment, line),
-            Doing::Resting => Found::silent(LinkFact::Quiet, Received::Unasked, None),
-        }
-    }
-
     /// One turn at a moment that isn't before the last one. It does the first of these that applies:
     ///
-    /// 1. Where the desk begins to connect and the link is down, it dials the desk's port.
-    /// 2. Where the desk may close the connection, it hangs up.
-    /// 3. Where the link is up, it receives at most one reply line, has the sender hear it and the clock tick, and tells
+    /// 1. If the desk begins to connect and the link is down, it dials the desk's port.
+    /// 2. If the desk may close the connection, it hangs up.
+    /// 3. If the link is up, it receives at most one reply line, has the sender hear it and the clock tick, and notes at
     ///    the desk what is acknowledged. Then it issues lines while there is room, and sends every frame. In the turn in
     ///    which the hello is acknowledged it issues nothing.
     ///
-    /// Where a call of the link fails the desk first takes what was acknowledged, and the failure at the end. It takes no
-    /// memory.
+    /// If a call of the link fails the desk first takes what was acknowledged, and the failure at the end. It takes no
+    /// memory. The moment is in milliseconds.
     pub fn turn<L: Link>(&mut self, link: &mut L, moment: u64) -> Turned
         requires { L.up link.old ≡ self.old.up }
-        ensures turn { IsTurn moment (L.kind link.old) (L.past link.old) (L.past link.new) (L.calls link.old) (L.calls link.new) self.old self.new result }
+        ensures turn { IsTurn moment (L.kind link.old) (L.past link.old) (L.past link.new)
+            (L.calls link.old) (L.calls link.new) self.old self.new result }
+
+        // What it found, by the note: the link's state and the hello.
         ensures finds { can_find (doing self.old) (fact_of result.note) ≡ true }
         ensures up { self.new.up ≡ up_after (fact_of result.note) self.old.up }
         ensures link { L.up link.new ≡ self.new.up }
-        ensures no_port { (fact_of result.note ≡ fact.NoPort) ↔ ((doing self.old ≡ now_doing.Dialling) × ((L.kind link.old).listed (port_of self.old.desk) ≡ false)) }
-        ensures ready { (fact_of result.note ≡ fact.Ready) ↔ ((self.old.sender.ready ≡ false) × (self.new.sender.ready ≡ true)) }
+        ensures no_port { (fact_of result.note ≡ fact.NoPort)
+            ↔ ((doing self.old ≡ now_doing.Dialling)
+            × ((L.kind link.old).listed (port_of self.old.desk) ≡ false)) }
+        ensures ready { (fact_of result.note ≡ fact.Ready)
+            ↔ ((self.old.sender.ready ≡ false) × (self.new.sender.ready ≡ true)) }
+
+        // In the turn in which the hello is acknowledged nothing is issued; a quiet turn leaves nothing to issue or send.
         ensures silent { fact_of result.note ≡ fact.Ready → lines_of result.note ≡ [] }
         ensures sent { fact_of result.note ≡ fact.Ready → next_of self.new.sender ≡ None }
-        ensures spent { self.new.up ≡ true → fact_of result.note ≡ fact.Quiet → IsSpent moment self.new.desk self.new.sender }
+        ensures spent { self.new.up ≡ true → fact_of result.note ≡ fact.Quiet
+            → IsSpent moment self.new.desk self.new.sender }
+
+        // What stays, and what holds between turns.
         ensures greatest { self.new.desk.greatest ≡ self.old.desk.greatest }
         ensures before { IsSession self.old }
         ensures joined { IsSession self.new }
         ensures kind { L.kind link.new ≡ L.kind link.old }
-        ensures counted { L.faults link.old ≤ L.faults link.new }
-        ensures calls { is_calling (doing self.old) ≡ true → RoseBy 1 (L.calls link.old) (L.calls link.new) }
-        ensures failed { fact_of result.note ≡ fact.Failed → Rose (L.faults link.old) (L.faults link.new) }
 
-        // The hello and the acknowledged lines, by the note: acked falls only where a link is made, to 0.
-        ensures ready_is { self.new.sender.ready ≡ ready_after (fact_of result.note) self.old.sender.ready }
+        // Counts: of the link's faults and calls.
+        ensures counted { L.faults link.old ≤ L.faults link.new }
+        ensures calls { is_calling (doing self.old) ≡ true
+            → RoseBy 1 (L.calls link.old) (L.calls link.new) }
+        ensures failed { fact_of result.note ≡ fact.Failed
+            → Rose (L.faults link.old) (L.faults link.new) }
+
+        // The hello and the acknowledged lines, by the note: their count falls only if a link is made, to 0.
+        ensures ready_is { self.new.sender.ready
+            ≡ ready_after (fact_of result.note) self.old.sender.ready }
         ensures not_fallen { (fact_of result.note ≡ fact.Opened)
             ⊎ (self.old.sender.acked ≤ self.new.sender.acked) }
         ensures within { self.new.sender.acked ≤ self.old.sender.issued }

@@ -53,13 +53,16 @@ fn receive<L: Link>(
     line: &mut ReplyLine,
 ) -> Received
     requires { L.up link.old ≡ true }
-    ensures steps { Takes moment (L.kind link.old) (L.past link.old) (L.past link.new) (L.calls link.old) (L.calls link.new) (received_by (got_of result line.new.items)) sender.old sender.new }
+    ensures steps { Takes moment (L.kind link.old) (L.past link.old) (L.past link.new)
+        (L.calls link.old) (L.calls link.new) (received_by (got_of result line.new.items))
+        sender.old sender.new }
     ensures asked { got_of result line.new.items ≢ unasked }
     ensures temps { temps_kept result ≡ temps_in (got_of result line.new.items) }
     ensures up { L.up link.new ≡ is_got (got_of result line.new.items) }
     ensures kind { L.kind link.new ≡ L.kind link.old }
     ensures counted { L.faults link.old ≤ L.faults link.new }
-    ensures failed { is_got (got_of result line.new.items) ≡ false → Rose (L.faults link.old) (L.faults link.new) }
+    ensures failed { is_got (got_of result line.new.items) ≡ false
+        → Rose (L.faults link.old) (L.faults link.new) }
 {
     match link.recv(line) {
         Ok(Heard::Line) => {
@@ -91,9 +94,11 @@ fn pull_one(
     requires sound { IsSound sender.old }
     ensures answer { result ≡ is_some (pull_step moment desk.old).0 }
     ensures after { desk.new ≡ (pull_step moment desk.old).1 }
-    ensures lines { map line_of lines.new.items ≡ map line_of lines.old.items ++ drawn (pull_step moment desk.old).0 }
+    ensures lines { map line_of lines.new.items
+        ≡ map line_of lines.old.items ++ drawn (pull_step moment desk.old).0 }
     ensures count { result ≡ true → length lines.new.items ≡ length lines.old.items + 1 }
-    ensures steps { Issues moment (texts_in (drawn (pull_step moment desk.old).0)) sender.old sender.new }
+    ensures steps { Issues moment (texts_in (drawn (pull_step moment desk.old).0)) sender.old
+        sender.new }
     ensures sound { IsSound sender.new }
 {
     match desk.pull(moment) {
@@ -127,10 +132,11 @@ fn pull_all(desk: &mut Desk, sender: &mut Sender, moment: u64) -> ArrayVec<Issue
     lines
 }
 
-// Sends the next frame, where there is one.
+// Sends the next frame, if there is one.
 fn send_one<L: Link>(sender: &mut Sender, link: &mut L, moment: u64) -> Gave
     requires { L.up link.old ≡ true }
-    ensures steps { Takes moment (L.kind link.old) (L.past link.old) (L.past link.new) (L.calls link.old) (L.calls link.new) (given_by result) sender.old sender.new }
+    ensures steps { Takes moment (L.kind link.old) (L.past link.old) (L.past link.new)
+        (L.calls link.old) (L.calls link.new) (given_by result) sender.old sender.new }
     ensures nothing { (result ≡ gave.Nothing) ↔ (next_of sender.old ≡ None) }
     ensures up { L.up link.new ≡ is_up_by result }
     ensures kind { L.kind link.new ≡ L.kind link.old }
@@ -147,10 +153,11 @@ fn send_one<L: Link>(sender: &mut Sender, link: &mut L, moment: u64) -> Gave
     }
 }
 
-// Sends every frame, and answers whether no sending failed.
+// Sends every frame, and returns whether no sending failed.
 fn send_all<L: Link>(sender: &mut Sender, link: &mut L, moment: u64) -> bool
     requires { L.up link.old ≡ true }
-    ensures steps { TakesSome moment (L.kind link.old) (L.past link.old) (L.past link.new) (L.calls link.old) (L.calls link.new) (sends result) sender.old sender.new }
+    ensures steps { TakesSome moment (L.kind link.old) (L.past link.old) (L.past link.new)
+        (L.calls link.old) (L.calls link.new) (sends result) sender.old sender.new }
     ensures sent { result ≡ true → next_of sender.new ≡ None }
     ensures up { L.up link.new ≡ result }
     ensures kind { L.kind link.new ≡ L.kind link.old }
@@ -192,12 +199,16 @@ fn speak<L: Link>(
     requires counted { desk.old.issued ≡ sender.old.issued }
     requires not_fallen { desk.old.acked ≤ sender.old.acked }
     ensures finds { (result.fact ≡ fact.Quiet) ⊎ (result.fact ≡ fact.Failed) }
-    ensures noted { IsNoted moment sender.new.acked result.fact (map line_of result.issued.items) desk.old result.ending desk.new }
+    ensures noted { IsNoted moment sender.new.acked result.fact (map line_of result.issued.items)
+        desk.old result.ending desk.new }
     ensures received { result.received ≡ received }
     ensures spent { result.fact ≡ fact.Quiet → IsSpent moment desk.new sender.new }
     ensures joined { IsJoined desk.new sender.new (up_after result.fact true) }
     ensures ready { sender.new.ready ≡ sender.old.ready }
-    ensures steps { TakesSome moment (L.kind link.old) (L.past link.old) (L.past link.new) (L.calls link.old) (L.calls link.new) (speech (is_unbroken result.fact) (texts_in (map line_of result.issued.items))) sender.old sender.new }
+    ensures steps { TakesSome moment (L.kind link.old) (L.past link.old) (L.past link.new)
+        (L.calls link.old) (L.calls link.new)
+        (speech (is_unbroken result.fact) (texts_in (map line_of result.issued.items))) sender.old
+        sender.new }
     ensures up { L.up link.new ≡ up_after result.fact true }
     ensures kind { L.kind link.new ≡ L.kind link.old }
     ensures counted { L.faults link.old ≤ L.faults link.new }
@@ -223,7 +234,7 @@ fn speak<L: Link>(
     }
 }
 
-// Goes on behind the receiving: the clock ticks, and the session ends, becomes ready or speaks.
+// Goes on after the receiving: the clock ticks, and the session ends, becomes ready or speaks.
 fn proceed<L: Link>(
     desk: &mut Desk,
     sender: &mut Sender,
@@ -236,19 +247,25 @@ fn proceed<L: Link>(
     requires counted { desk.old.issued ≡ sender.old.issued }
     requires not_fallen { desk.old.acked ≤ sender.old.acked }
     requires stays_ready { was_ready ≡ true → sender.old.ready ≡ true }
-    requires goes_on { was_ready ≡ false → sender.old.ready ≡ true → (tick_step moment sender.old).ended ≡ None }
+    requires goes_on { was_ready ≡ false → sender.old.ready ≡ true
+        → (tick_step moment sender.old).ended ≡ None }
     requires fresh { was_ready ≡ false → sender.old.issued ≡ 0 }
     ensures finds { can_find doing_now.Talking result.fact ≡ true }
-    ensures noted { IsNoted moment sender.new.acked result.fact (map line_of result.issued.items) desk.old result.ending desk.new }
+    ensures noted { IsNoted moment sender.new.acked result.fact (map line_of result.issued.items)
+        desk.old result.ending desk.new }
     ensures received { result.received ≡ received }
-    ensures ended { (end : SessionEnd) → (result.fact ≡ fact.Ended end) ↔ ((tick_step moment sender.old).ended ≡ Some end) }
+    ensures ended { (end : SessionEnd)
+        → (result.fact ≡ fact.Ended end) ↔ ((tick_step moment sender.old).ended ≡ Some end) }
     ensures ready { (result.fact ≡ fact.Ready) ↔ ((was_ready ≡ false) × (sender.new.ready ≡ true)) }
     ensures none_issued { is_said result.fact ≡ false → result.issued.items ≡ [] }
     ensures silent { result.fact ≡ fact.Ready → result.issued.items ≡ [] }
     ensures sent { result.fact ≡ fact.Ready → next_of sender.new ≡ None }
     ensures spent { result.fact ≡ fact.Quiet → IsSpent moment desk.new sender.new }
     ensures joined { IsJoined desk.new sender.new (up_after result.fact true) }
-    ensures steps { TakesSome moment (L.kind link.old) (L.past link.old) (L.past link.new) (L.calls link.old) (L.calls link.new) (clock_steps result.fact (texts_in (map line_of result.issued.items))) sender.old sender.new }
+    ensures steps { TakesSome moment (L.kind link.old) (L.past link.old) (L.past link.new)
+        (L.calls link.old) (L.calls link.new)
+        (clock_steps result.fact (texts_in (map line_of result.issued.items))) sender.old
+        sender.new }
     ensures up { L.up link.new ≡ up_after result.fact true }
     ensures kind { L.kind link.new ≡ L.kind link.old }
     ensures counted { L.faults link.old ≤ L.faults link.new }
@@ -280,16 +297,24 @@ pub fn talk<L: Link>(
     ensures finds { can_find doing_now.Talking result.fact ≡ true }
     ensures asked { got_of result.received line.new.items ≢ unasked }
     ensures temps { temps_kept result.received ≡ temps_in (got_of result.received line.new.items) }
-    ensures noted { IsNoted moment sender.new.acked result.fact (map line_of result.issued.items) desk.old result.ending desk.new }
-    ensures ended { (end : SessionEnd) → (result.fact ≡ fact.Ended end) ↔ (end_by (got_of result.received line.new.items) moment sender.old ≡ Some end) }
-    ensures ready { (result.fact ≡ fact.Ready) ↔ ((sender.old.ready ≡ false) × (sender.new.ready ≡ true)) }
+    ensures noted { IsNoted moment sender.new.acked result.fact (map line_of result.issued.items)
+        desk.old result.ending desk.new }
+    ensures ended { (end : SessionEnd)
+        → (result.fact ≡ fact.Ended end)
+        ↔ (end_by (got_of result.received line.new.items) moment sender.old ≡ Some end) }
+    ensures ready { (result.fact ≡ fact.Ready)
+        ↔ ((sender.old.ready ≡ false) × (sender.new.ready ≡ true)) }
     ensures broken { got_of result.received line.new.items ≡ lost → result.fact ≡ fact.Failed }
-    ensures none_issued { may_issue (got_of result.received line.new.items) result.fact ≡ false → result.issued.items ≡ [] }
+    ensures none_issued { may_issue (got_of result.received line.new.items) result.fact ≡ false
+        → result.issued.items ≡ [] }
     ensures silent { result.fact ≡ fact.Ready → result.issued.items ≡ [] }
     ensures sent { result.fact ≡ fact.Ready → next_of sender.new ≡ None }
     ensures spent { result.fact ≡ fact.Quiet → IsSpent moment desk.new sender.new }
     ensures joined { IsJoined desk.new sender.new (up_after result.fact true) }
-    ensures steps { TakesSome moment (L.kind link.old) (L.past link.old) (L.past link.new) (L.calls link.old) (L.calls link.new) (talk_steps (got_of result.received line.new.items) result.fact (texts_in (map line_of result.issued.items))) sender.old sender.new }
+    ensures steps { TakesSome moment (L.kind link.old) (L.past link.old) (L.past link.new)
+        (L.calls link.old) (L.calls link.new)
+        (talk_steps (got_of result.received line.new.items) result.fact
+        (texts_in (map line_of result.issued.items))) sender.old sender.new }
     ensures up { L.up link.new ≡ up_after result.fact true }
     ensures kind { L.kind link.new ≡ L.kind link.old }
     ensures counted { L.faults link.old ≤ L.faults link.new }

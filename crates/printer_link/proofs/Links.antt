@@ -6,7 +6,7 @@ use Rattle.std.proofs.lemmas.Bool.{cond_both}
 use Rattle.std.proofs.lemmas.Bool.Decides.{nat_tests}
 use Rattle.std.proofs.lemmas.List.Folds.{list_all-append}
 use Rattle.arrayvec.specs.ArrayVec.{ArrayVec}
-use Rattle.printer_model.specs.World.{WorldData, fits_wire, world_of, world_from, apply, can_happen, is_empty, is_free}
+use Rattle.printer_model.specs.World.{WorldData, fits_wire, world_from, apply, can_happen, is_empty, is_free}
 use Rattle.printer_link.specs.Link.{Grows, IsDial, IsRuns, IsSend, IsSendLoss, IsHeard, IsSilence, IsLoss, arrivals, dial_events, due_run, printer_events}
 use Rattle.printer_link.specs.Memory.{MemoryLinkData, before_reply, called, closing_events, failed, grown, harm_events, heard, link_kind, link_world, send_events, LinkRan, LinkMoved, LinkHeard, LinkQuiet, LinkReceived}
 use Rattle.printer_link.specs.declared.schedule.Fate.{Fate}

@@ -49,9 +49,13 @@ pub trait Link {
     fn dial(&mut self, name: &str) -> Result<(), LinkFault>
         requires { up self.old ≡ false }
         ensures past { OnOk result (Grows (kind self.old) (past self.old) (past self.new) IsDial) }
-        ensures past_no_port { IsErrOf result fault.NoPort → Grows (kind self.old) (past self.old) (past self.new) IsNothing }
-        ensures past_failed { IsErrOf result fault.Failed → Grows (kind self.old) (past self.old) (past self.new) IsRuns }
-        ensures past_prompt { (kind self.old).prompt ≡ true → OnOk result (Grows (kind self.old) (past self.old) (past self.new) (λ w added. (last : ℕ) × (added ≡ dial_events w last))) }
+        ensures past_no_port { IsErrOf result fault.NoPort
+            → Grows (kind self.old) (past self.old) (past self.new) IsNothing }
+        ensures past_failed { IsErrOf result fault.Failed
+            → Grows (kind self.old) (past self.old) (past self.new) IsRuns }
+        ensures past_prompt { (kind self.old).prompt ≡ true
+            → OnOk result (Grows (kind self.old) (past self.old) (past self.new)
+            (λ w added. (last : ℕ) × (added ≡ dial_events w last))) }
         ensures no_port { IsErrOf result fault.NoPort ↔ ((kind self.old).listed name.now ≡ false) }
         ensures up { OnOk result (up self.new ≡ true) }
         ensures down { OnErr result (up self.new ≡ false) }
@@ -66,9 +70,13 @@ pub trait Link {
     fn send(&mut self, line: &Line) -> Result<(), LinkFault>
         requires open { up self.old ≡ true }
         requires short { length line.now.items ≤ 95 }
-        ensures past { OnOk result (Grows (kind self.old) (past self.old) (past self.new) (IsSend line.now.items)) }
-        ensures past_failed { OnErr result (Grows (kind self.old) (past self.old) (past self.new) IsSendLoss) }
-        ensures past_prompt { (kind self.old).prompt ≡ true → OnOk result (Grows (kind self.old) (past self.old) (past self.new) (λ w added. (sent : WorldEvent) × (added ≡ sent ∷ []) × IsSendOf line.now.items sent)) }
+        ensures past { OnOk result (Grows (kind self.old) (past self.old) (past self.new)
+            (IsSend line.now.items)) }
+        ensures past_failed { OnErr result
+            (Grows (kind self.old) (past self.old) (past self.new) IsSendLoss) }
+        ensures past_prompt { (kind self.old).prompt ≡ true
+            → OnOk result (Grows (kind self.old) (past self.old) (past self.new)
+            (λ w added. (sent : WorldEvent) × (added ≡ sent ∷ []) × IsSendOf line.now.items sent)) }
         ensures no_port { IsErrOf result fault.NoPort → ⊥ }
         ensures up { OnOk result (up self.new ≡ true) }
         ensures down { OnErr result (up self.new ≡ false) }
@@ -81,10 +89,16 @@ pub trait Link {
     /// Receives a reply line without its line end, cut to 256 bytes, or finds that nothing has come.
     fn recv(&mut self, into: &mut ReplyLine) -> Result<Heard, LinkFault>
         requires { up self.old ≡ true }
-        ensures past { IfOk result (λ got. got ≡ heard.Line → Grows (kind self.old) (past self.old) (past self.new) (IsHeard into.new.items)) }
-        ensures past_nothing { IfOk result (λ got. got ≡ heard.Nothing → Grows (kind self.old) (past self.old) (past self.new) IsSilence) }
-        ensures past_failed { OnErr result (Grows (kind self.old) (past self.old) (past self.new) IsLoss) }
-        ensures past_prompt { (kind self.old).prompt ≡ true → OnOk result (Grows (kind self.old) (past self.old) (past self.new) (λ w added. added ≡ recv_events true w)) }
+        ensures past { IfOk result (λ got. got ≡ heard.Line
+            → Grows (kind self.old) (past self.old) (past self.new) (IsHeard into.new.items)) }
+        ensures past_nothing { IfOk result
+            (λ got. got ≡ heard.Nothing
+            → Grows (kind self.old) (past self.old) (past self.new) IsSilence) }
+        ensures past_failed { OnErr result
+            (Grows (kind self.old) (past self.old) (past self.new) IsLoss) }
+        ensures past_prompt { (kind self.old).prompt ≡ true
+            → OnOk result (Grows (kind self.old) (past self.old) (past self.new)
+            (λ w added. added ≡ recv_events true w)) }
         ensures no_port { IsErrOf result fault.NoPort → ⊥ }
         ensures up { OnOk result (up self.new ≡ true) }
         ensures down { OnErr result (up self.new ≡ false) }
@@ -96,7 +110,8 @@ pub trait Link {
 
     /// Closes the link where it is up.
     fn hang_up(&mut self)
-        ensures past { Grows (kind self.old) (past self.old) (past self.new) (IsHangUp (up self.old)) }
+        ensures past { Grows (kind self.old) (past self.old) (past self.new)
+            (IsHangUp (up self.old)) }
         ensures down { up self.new ≡ false }
         ensures kind { kind self.new ≡ kind self.old }
         ensures calls { calls self.new ≡ calls self.old }

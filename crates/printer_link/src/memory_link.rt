@@ -1,10 +1,9 @@
 //! A link to the printer in memory, which loses, garbles and fails by a schedule.
-ghost use Rattle.std.specs.Prelude.{◌≡◌, ◌≤◌, ◌∷◌, ◌++◌, [], true, false, IfOk, OnOk, OnErr, ◌↔◌, ℕ, IsErr, IsErrOf, Err, is_some, Some, length, count_by};
+ghost use Rattle.std.specs.Prelude.{◌≡◌, ◌≤◌, ◌∷◌, [], true, false, IfOk, OnOk, OnErr, ◌↔◌, ℕ, IsErrOf, Err, Some, length, count_by};
 ghost use Rattle.octo_outside.specs.Memory.{one_more, is_listed};
 ghost use Rattle.octo_outside.specs.Told.{Rose};
 ghost use Rattle.printer_model.specs.Executed.{executed, is_loss};
-ghost use Rattle.printer_model.specs.World.{IsFrontReply};
-ghost use Rattle.printer_link.specs.Memory.{before_reply, called, closing_events, failed, grown, heard, is_due, is_prompt, link_kind, lists_name, link_world, new_link, next_fate, opening_last, send_events, sends, LinkMoved, LinkRan, LinkReceived};
+ghost use Rattle.printer_link.specs.Memory.{called, closing_events, failed, grown, heard, is_due, is_prompt, link_kind, lists_name, link_world, new_link, next_fate, opening_last, send_events, sends, LinkReceived};
 ghost use Rattle.printer_link.specs.Link.{HasSlots, Grows, IsDial, IsHangUp, IsHeard, IsLoss, IsNothing, IsOpenAs, IsRuns, IsSend, IsSendLoss, IsSendOf, IsSilence, counted_one, dial_events, recv_events};
 ghost use Rattle.printer_model.specs.declared.event.WorldEvent.{WorldEvent};
 ghost use Rattle.printer_model.specs.declared.event.WorldEvent.TheVariants as event;
@@ -20,7 +19,9 @@ use printer_model::Executed;
 use std::alloc::{AllocError, Global};
 use std::marker::Model;
 
-/// A link to a printer in memory. It tells its past.
+mod parts;
+
+/// A link to a printer in memory. It records its history.
 #[derive(Drop)]
 pub struct MemoryLink {
     alloc: Global,
@@ -108,7 +109,8 @@ impl MemoryLink {
 
     /// The lines that the printer ran in a session, counted from 1, without those of the hello's number.
     pub fn executed(&self, session: u32) -> Result<Executed, AllocError>
-        ensures { IfOk result (λ e. e ≡ executed self.now.story.places self.now.story.advanced self.now.story.past session) }
+        ensures { IfOk result (λ e. e ≡ executed self.now.story.places self.now.story.advanced
+            self.now.story.past session) }
     {
         Executed::of_session(
             self.alloc,
@@ -117,120 +119,6 @@ impl MemoryLink {
             self.story.past(),
             session,
         )
-    }
-
-    /// Counts a call, and says whether it is one of those that fail.
-    fn begin(&mut self) -> bool
-        ensures fails { result ≡ is_listed self.old.fail_at (one_more self.old.calls) }
-        ensures counts { self.new ≡ called self.old }
-    {
-        self.calls = self.calls.saturating_add(1);
-        let call = self.calls;
-        self.fail_at.as_slice().iter().any(|listed| *listed == call)
-    }
-
-    /// Counts a receiving, and says whether the printer runs a line at it.
-    fn begin_recv(&mut self) -> bool
-        ensures due { result ≡ is_due self.old.slow (one_more self.old.recvs) }
-        ensures counts { self.new ≡ heard self.old }
-    {
-        self.recvs = self.recvs.saturating_add(1);
-        self.recvs % (u64::from(self.slow) + 1) == 0
-    }
-
-    /// Whether the printer restarts at this receiving.
-    fn restarts(&self) -> bool
-        ensures { result ≡ is_listed self.now.restart_at self.now.recvs }
-    {
-        let recv = self.recvs;
-        self.restart_at
-            .as_slice()
-            .iter()
-            .any(|listed| *listed == recv)
-    }
-
-    /// Counts a failure, and closes the link where one is made.
-    fn fail(&mut self) -> LinkFault
-        ensures fault { result ≡ fault.Failed }
-        ensures after { self.new ≡ failed self.old }
-        ensures counted { self.old.faults ≤ self.new.faults }
-        ensures rose { Rose self.old.faults self.new.faults }
-    {
-        self.story.close();
-        self.faults = self.faults.saturating_add(1);
-        LinkFault::Failed
-    }
-
-    /// Whether a name is listed.
-    fn lists(&self, name: &str) -> bool
-        ensures lists { result ≡ lists_name self.now.names name.now }
-        ensures some { 1 ≤ self.now.story.places }
-        ensures few { self.now.story.places ≤ 16 }
-    {
-        self.names
-            .as_slice()
-            .iter()
-            .any(|listed| listed.as_str() == name)
-    }
-
-    /// The printer runs all that waits, and a link is made; `fails` gives up at once.
-    fn make_link(&mut self, fails: bool) -> Result<(), AllocError>
-        ensures ok { OnOk result (self.new ≡ grown self.old (dial_events (link_world self.old) (opening_last self.old.story self.old.last))) }
-        ensures err { OnErr result (LinkRan self.old self.new) }
-        ensures fails { fails ≡ true → IsErr result × (self.new ≡ self.old) }
-    {
-        if fails {
-            return Err(AllocError);
-        }
-        self.story.dial(self.last)
-    }
-
-    /// A line is sent and meets its fate; `fails` gives up at once.
-    fn transmit(&mut self, fails: bool, line: &Line) -> Result<(), AllocError>
-        ensures ok { OnOk result (self.new ≡ grown self.old (send_events (link_world self.old) line.now (next_fate self.old.story))) }
-        ensures err { OnErr result (self.new ≡ self.old) }
-        ensures fails { fails ≡ true → IsErr result }
-    {
-        if fails {
-            return Err(AllocError);
-        }
-        self.story.send(line)
-    }
-
-    /// What happens before a reply is received.
-    fn before_reply(&mut self, restarts: bool, due: bool) -> Result<(), AllocError>
-        ensures ok { OnOk result (self.new ≡ grown self.old (before_reply restarts due (link_world self.old))) }
-        ensures err { OnErr result (LinkMoved self.old self.new) }
-    {
-        self.story.before_reply(restarts, due)
-    }
-
-    /// Takes the front of the wire from the printer, where there is one.
-    fn take_front(&mut self, into: &mut ReplyLine) -> Result<Heard, AllocError>
-        ensures line { IfOk result (λ got. got ≡ heard_as.Line → (self.new ≡ grown self.old (event.Recv ∷ [])) × IsFrontReply into.new.items (link_world self.old).down) }
-        ensures nothing { IfOk result (λ got. got ≡ heard_as.Nothing → (self.new ≡ self.old) × ((link_world self.old).down ≡ [])) }
-        ensures err { OnErr result (self.new ≡ self.old) }
-    {
-        self.story.receive(into)
-    }
-
-    /// What happens before a reply is received, and then the next one is taken; `fails` gives up at once.
-    fn take_reply(
-        &mut self,
-        fails: bool,
-        restarts: bool,
-        due: bool,
-        into: &mut ReplyLine,
-    ) -> Result<Heard, AllocError>
-        ensures ok { IfOk result (λ got. LinkReceived restarts due into.new.items got self.old self.new) }
-        ensures err { OnErr result (LinkMoved self.old self.new) }
-        ensures fails { fails ≡ true → IsErr result × (self.new ≡ self.old) }
-    {
-        if fails {
-            return Err(AllocError);
-        }
-        self.before_reply(restarts, due)?;
-        self.take_front(into)
     }
 }
 
@@ -247,17 +135,30 @@ impl Link for MemoryLink {
 
     fn dial(&mut self, name: &str) -> Result<(), LinkFault>
         requires { (link_world self.old).linked ≡ false }
-        ensures adds { OnOk result (self.new ≡ grown (called self.old) (dial_events (link_world self.old) (opening_last self.old.story self.old.last))) }
+        ensures adds { OnOk result (self.new
+            ≡ grown (called self.old) (dial_events (link_world self.old)
+            (opening_last self.old.story self.old.last))) }
         ensures adds_nothing { IsErrOf result fault.NoPort → self.new ≡ called self.old }
-        ensures fails { is_listed self.old.fail_at (one_more self.old.calls) ≡ true → lists_name self.old.names name.now ≡ true → (result ≡ Err fault.Failed) × (self.new ≡ failed (called self.old)) }
-        ensures past { OnOk result (Grows (link_kind self.old) (Some self.old.story.past) (Some self.new.story.past) IsDial) }
-        ensures past_no_port { IsErrOf result fault.NoPort → Grows (link_kind self.old) (Some self.old.story.past) (Some self.new.story.past) IsNothing }
-        ensures past_failed { IsErrOf result fault.Failed → Grows (link_kind self.old) (Some self.old.story.past) (Some self.new.story.past) IsRuns }
-        ensures past_prompt { is_prompt self.old ≡ true → OnOk result (Grows (link_kind self.old) (Some self.old.story.past) (Some self.new.story.past) (λ w added. (last : ℕ) × (added ≡ dial_events w last))) }
-        ensures no_port { IsErrOf result fault.NoPort ↔ (lists_name self.old.names name.now ≡ false) }
+        ensures fails { is_listed self.old.fail_at (one_more self.old.calls) ≡ true
+            → lists_name self.old.names name.now ≡ true
+            → (result ≡ Err fault.Failed) × (self.new ≡ failed (called self.old)) }
+        ensures past { OnOk result (Grows (link_kind self.old) (Some self.old.story.past)
+            (Some self.new.story.past) IsDial) }
+        ensures past_no_port { IsErrOf result fault.NoPort
+            → Grows (link_kind self.old) (Some self.old.story.past) (Some self.new.story.past)
+            IsNothing }
+        ensures past_failed { IsErrOf result fault.Failed
+            → Grows (link_kind self.old) (Some self.old.story.past) (Some self.new.story.past)
+            IsRuns }
+        ensures past_prompt { is_prompt self.old ≡ true
+            → OnOk result (Grows (link_kind self.old) (Some self.old.story.past)
+            (Some self.new.story.past) (λ w added. (last : ℕ) × (added ≡ dial_events w last))) }
+        ensures no_port { IsErrOf result fault.NoPort
+            ↔ (lists_name self.old.names name.now ≡ false) }
         ensures up { OnOk result ((link_world self.new).linked ≡ true) }
         ensures down { OnErr result ((link_world self.new).linked ≡ false) }
-        ensures open { IsOpenAs (link_kind self.new) (Some self.new.story.past) (link_world self.new).linked }
+        ensures open { IsOpenAs (link_kind self.new) (Some self.new.story.past)
+            (link_world self.new).linked }
         ensures slots { HasSlots (link_kind self.new) }
         ensures kind { link_kind self.new ≡ link_kind self.old }
         ensures calls { Some self.new.calls ≡ counted_one (Some self.old.calls) }
@@ -277,16 +178,26 @@ impl Link for MemoryLink {
     fn send(&mut self, line: &Line) -> Result<(), LinkFault>
         requires open { (link_world self.old).linked ≡ true }
         requires short { length line.now.items ≤ 95 }
-        ensures adds { OnOk result (self.new ≡ grown (called self.old) (send_events (link_world self.old) line.now (next_fate self.old.story))) }
+        ensures adds { OnOk result (self.new
+            ≡ grown (called self.old) (send_events (link_world self.old) line.now
+            (next_fate self.old.story))) }
         ensures adds_closed { OnErr result (self.new ≡ failed (called self.old)) }
-        ensures fails { is_listed self.old.fail_at (one_more self.old.calls) ≡ true → result ≡ Err fault.Failed }
-        ensures past { OnOk result (Grows (link_kind self.old) (Some self.old.story.past) (Some self.new.story.past) (IsSend line.now.items)) }
-        ensures past_failed { OnErr result (Grows (link_kind self.old) (Some self.old.story.past) (Some self.new.story.past) IsSendLoss) }
-        ensures past_prompt { is_prompt self.old ≡ true → OnOk result (Grows (link_kind self.old) (Some self.old.story.past) (Some self.new.story.past) (λ w added. (sent : WorldEvent) × (added ≡ sent ∷ []) × IsSendOf line.now.items sent)) }
+        ensures fails { is_listed self.old.fail_at (one_more self.old.calls) ≡ true
+            → result ≡ Err fault.Failed }
+        ensures past { OnOk result (Grows (link_kind self.old) (Some self.old.story.past)
+            (Some self.new.story.past) (IsSend line.now.items)) }
+        ensures past_failed { OnErr result
+            (Grows (link_kind self.old) (Some self.old.story.past) (Some self.new.story.past)
+            IsSendLoss) }
+        ensures past_prompt { is_prompt self.old ≡ true
+            → OnOk result (Grows (link_kind self.old) (Some self.old.story.past)
+            (Some self.new.story.past) (λ w added. (sent : WorldEvent) × (added ≡ sent ∷ [])
+            × IsSendOf line.now.items sent)) }
         ensures no_port { IsErrOf result fault.NoPort → ⊥ }
         ensures up { OnOk result ((link_world self.new).linked ≡ true) }
         ensures down { OnErr result ((link_world self.new).linked ≡ false) }
-        ensures open { IsOpenAs (link_kind self.new) (Some self.new.story.past) (link_world self.new).linked }
+        ensures open { IsOpenAs (link_kind self.new) (Some self.new.story.past)
+            (link_world self.new).linked }
         ensures kind { link_kind self.new ≡ link_kind self.old }
         ensures calls { Some self.new.calls ≡ counted_one (Some self.old.calls) }
         ensures counted { self.old.faults ≤ self.new.faults }
@@ -301,16 +212,30 @@ impl Link for MemoryLink {
 
     fn recv(&mut self, into: &mut ReplyLine) -> Result<Heard, LinkFault>
         requires { (link_world self.old).linked ≡ true }
-        ensures adds { IfOk result (λ got. LinkReceived (is_listed self.old.restart_at (one_more self.old.recvs)) (is_due self.old.slow (one_more self.old.recvs)) into.new.items got (heard (called self.old)) self.new) }
-        ensures fails { is_listed self.old.fail_at (one_more self.old.calls) ≡ true → (result ≡ Err fault.Failed) × (self.new ≡ failed (heard (called self.old))) }
-        ensures past { IfOk result (λ got. got ≡ heard_as.Line → Grows (link_kind self.old) (Some self.old.story.past) (Some self.new.story.past) (IsHeard into.new.items)) }
-        ensures past_nothing { IfOk result (λ got. got ≡ heard_as.Nothing → Grows (link_kind self.old) (Some self.old.story.past) (Some self.new.story.past) IsSilence) }
-        ensures past_failed { OnErr result (Grows (link_kind self.old) (Some self.old.story.past) (Some self.new.story.past) IsLoss) }
-        ensures past_prompt { is_prompt self.old ≡ true → OnOk result (Grows (link_kind self.old) (Some self.old.story.past) (Some self.new.story.past) (λ w added. added ≡ recv_events true w)) }
+        ensures adds { IfOk result (λ got.
+            LinkReceived (is_listed self.old.restart_at (one_more self.old.recvs))
+            (is_due self.old.slow (one_more self.old.recvs)) into.new.items got
+            (heard (called self.old)) self.new) }
+        ensures fails { is_listed self.old.fail_at (one_more self.old.calls) ≡ true
+            → (result ≡ Err fault.Failed) × (self.new ≡ failed (heard (called self.old))) }
+        ensures past { IfOk result (λ got. got ≡ heard_as.Line
+            → Grows (link_kind self.old) (Some self.old.story.past) (Some self.new.story.past)
+            (IsHeard into.new.items)) }
+        ensures past_nothing { IfOk result
+            (λ got. got ≡ heard_as.Nothing
+            → Grows (link_kind self.old) (Some self.old.story.past) (Some self.new.story.past)
+            IsSilence) }
+        ensures past_failed { OnErr result
+            (Grows (link_kind self.old) (Some self.old.story.past) (Some self.new.story.past)
+            IsLoss) }
+        ensures past_prompt { is_prompt self.old ≡ true
+            → OnOk result (Grows (link_kind self.old) (Some self.old.story.past)
+            (Some self.new.story.past) (λ w added. added ≡ recv_events true w)) }
         ensures no_port { IsErrOf result fault.NoPort → ⊥ }
         ensures up { OnOk result ((link_world self.new).linked ≡ true) }
         ensures down { OnErr result ((link_world self.new).linked ≡ false) }
-        ensures open { IsOpenAs (link_kind self.new) (Some self.new.story.past) (link_world self.new).linked }
+        ensures open { IsOpenAs (link_kind self.new) (Some self.new.story.past)
+            (link_world self.new).linked }
         ensures kind { link_kind self.new ≡ link_kind self.old }
         ensures calls { Some self.new.calls ≡ counted_one (Some self.old.calls) }
         ensures counted { self.old.faults ≤ self.new.faults }
@@ -327,7 +252,8 @@ impl Link for MemoryLink {
 
     fn hang_up(&mut self)
         ensures adds { self.new ≡ grown self.old (closing_events (link_world self.old)) }
-        ensures past { Grows (link_kind self.old) (Some self.old.story.past) (Some self.new.story.past) (IsHangUp (link_world self.old).linked) }
+        ensures past { Grows (link_kind self.old) (Some self.old.story.past)
+            (Some self.new.story.past) (IsHangUp (link_world self.old).linked) }
         ensures down { (link_world self.new).linked ≡ false }
         ensures kind { link_kind self.new ≡ link_kind self.old }
         ensures calls { self.new.calls ≡ self.old.calls }

@@ -44,7 +44,12 @@ impl Story {
     pub(crate) fn new(alloc: Global, places: u8, advanced: bool, fates: FateList) -> Self
         requires some { 1 ≤ places }
         requires few { places ≤ 16 }
-        ensures { result ≡ record { places = places; advanced = advanced; fates = fates; past = [] } }
+        ensures { result ≡ record {
+          places = places;
+          advanced = advanced;
+          fates = fates;
+          past = [];
+        } }
     {
         Story {
             places,
@@ -109,7 +114,8 @@ impl Story {
 
     /// The printer runs all that waits; without memory it ran a part of it.
     pub(crate) fn run_all(&mut self) -> Result<(), AllocError>
-        ensures ok { OnOk result (self.new ≡ with_events self.old (queue_runs (story_world self.old))) }
+        ensures ok { OnOk result (self.new
+            ≡ with_events self.old (queue_runs (story_world self.old))) }
         ensures err { OnErr result (RunsOnly self.old self.new) }
     {
         let waiting = self.world().waiting();
@@ -121,7 +127,9 @@ impl Story {
 
     /// The printer runs all that waits, and then a link is made: at the first with the given last number, later with the printer's.
     pub(crate) fn dial(&mut self, first: u32) -> Result<(), AllocError>
-        ensures ok { OnOk result (self.new ≡ with_events self.old (dial_events (story_world self.old) (opening_last self.old first))) }
+        ensures ok { OnOk result (self.new
+            ≡ with_events self.old (dial_events (story_world self.old)
+            (opening_last self.old first))) }
         ensures err { OnErr result (RunsOnly self.old self.new) }
     {
         let opened = has_opened(self.past());
@@ -139,7 +147,8 @@ impl Story {
 
     /// All that is on the wire arrives, until the printer is full; without memory a part of it.
     fn arrive_all(&mut self) -> Result<(), AllocError>
-        ensures ok { OnOk result (self.new ≡ with_events self.old (arrivals (story_world self.old) (story_world self.old).up)) }
+        ensures ok { OnOk result (self.new
+            ≡ with_events self.old (arrivals (story_world self.old) (story_world self.old).up)) }
         ensures err { OnErr result (FreeOnly self.old self.new) }
     {
         let coming = self.world().coming();
@@ -154,7 +163,8 @@ impl Story {
 
     /// The printer runs a line where that is due and one waits.
     fn run_due(&mut self, due: bool) -> Result<(), AllocError>
-        ensures ok { OnOk result (self.new ≡ with_events self.old (due_run due (story_world self.old))) }
+        ensures ok { OnOk result (self.new
+            ≡ with_events self.old (due_run due (story_world self.old))) }
         ensures err { OnErr result (self.new ≡ self.old) }
     {
         if !due || self.world().waiting() == 0 {
@@ -176,7 +186,8 @@ impl Story {
 
     /// What happens before a reply is received; without memory a part of it.
     pub(crate) fn before_reply(&mut self, restarts: bool, due: bool) -> Result<(), AllocError>
-        ensures ok { OnOk result (self.new ≡ with_events self.old (before_reply restarts due (story_world self.old))) }
+        ensures ok { OnOk result (self.new
+            ≡ with_events self.old (before_reply restarts due (story_world self.old))) }
         ensures err { OnErr result (FreeOnly self.old self.new) }
     {
         self.restart_due(restarts)?;
@@ -185,7 +196,8 @@ impl Story {
 
     /// What arrives and what the printer runs at a receiving; without memory a part of it.
     fn let_print(&mut self, due: bool) -> Result<(), AllocError>
-        ensures ok { OnOk result (self.new ≡ with_events self.old (printer_events due (story_world self.old))) }
+        ensures ok { OnOk result (self.new
+            ≡ with_events self.old (printer_events due (story_world self.old))) }
         ensures err { OnErr result (FreeOnly self.old self.new) }
     {
         self.arrive_all()?;
@@ -194,8 +206,11 @@ impl Story {
 
     /// Takes the front of the wire from the printer, where there is one.
     pub(crate) fn receive(&mut self, into: &mut ReplyLine) -> Result<Heard, AllocError>
-        ensures line { IfOk result (λ got. got ≡ heard.Line → (self.new ≡ with_events self.old (event.Recv ∷ [])) × IsFrontReply into.new.items (story_world self.old).down) }
-        ensures nothing { IfOk result (λ got. got ≡ heard.Nothing → (self.new ≡ self.old) × ((story_world self.old).down ≡ [])) }
+        ensures line { IfOk result (λ got. got ≡ heard.Line
+            → (self.new ≡ with_events self.old (event.Recv ∷ []))
+            × IsFrontReply into.new.items (story_world self.old).down) }
+        ensures nothing { IfOk result (λ got. got ≡ heard.Nothing
+            → (self.new ≡ self.old) × ((story_world self.old).down ≡ [])) }
         ensures err { OnErr result (self.new ≡ self.old) }
     {
         match self.world().front_reply() {
@@ -210,7 +225,9 @@ impl Story {
 
     /// Sends a line, which then meets the next fate; without memory nothing is sent.
     pub(crate) fn send(&mut self, line: &Line) -> Result<(), AllocError>
-        ensures ok { OnOk result (self.new ≡ with_events self.old (send_events (story_world self.old) line.now (next_fate self.old))) }
+        ensures ok { OnOk result (self.new
+            ≡ with_events self.old (send_events (story_world self.old) line.now
+            (next_fate self.old))) }
         ensures err { OnErr result (self.new ≡ self.old) }
     {
         self.past.reserve(3)?;

@@ -1,5 +1,5 @@
 -- A history from an Opened on: its last session, and what was executed and received in it.
-use Rattle.std.proofs.Common.{◌≡◌, ℕ, zero, suc, pred, ◌+◌, ◌≤◌, Bool, true, false, ◌&&◌, List, [], ◌∷◌, ◌++◌, length, drop, refl, sym, ◌∙◌, ap, append_assoc, arith}
+use Rattle.std.proofs.Common.{◌≡◌, ℕ, zero, suc, pred, ◌≤◌, Bool, true, false, ◌&&◌, List, [], ◌∷◌, ◌++◌, length, drop, refl, sym, ◌∙◌, ap, append_assoc, arith}
 use Rattle.std.specs.Prelude.{filter}
 use Rattle.std.specs.List.{list_all}
 use Rattle.std.proofs.Math.Seq.{drop-append_seam}
@@ -10,7 +10,7 @@ use Rattle.printer_model.specs.Exchanged.{session_of, received_by, received_from
 use Rattle.printer_model.specs.declared.event.WorldEvent.{WorldEvent}
 use Rattle.printer_model.specs.declared.event.WorldEvent.TheVariants.{Opened, Send, Arrive, Lose, Garble, Run, Restart, Chatter, Recv, Closed}
 use Rattle.printer_model.proofs.Laws.{both_left, both_right}
-use Rattle.printer_model.proofs.Sessions.{till-append, till-all, opens-append}
+use Rattle.printer_model.proofs.Sessions.{till-all, opens-append}
 
 free_opens_none : (event : WorldEvent) (past : List WorldEvent) → is_free event ≡ true → opens (event ∷ past) ≡ opens past
 free_opens_none (Opened last) past free = absurd (cc)

@@ -88,7 +88,12 @@ impl Printer {
     pub fn new(last: u32, places: u8, advanced: bool) -> Self
         requires some { 1 ≤ places }
         requires few { places ≤ 16 }
-        ensures { result ≡ record { last = last; places = places; advanced = advanced; queue = [] } }
+        ensures { result ≡ record {
+          last = last;
+          places = places;
+          advanced = advanced;
+          queue = [];
+        } }
     {
         Printer {
             last,
@@ -206,7 +211,12 @@ impl Printer {
 
 /// What running an entry tells, with this many free places.
 fn ran_line(advanced: bool, free: u8, entry: &Waiting) -> Ran
-    ensures { result ≡ record { number = entry.now.number; text = entry.now.text; reply = run_reply advanced entry.now.lead entry.now.text free } }
+    ensures { result ≡ record {
+      number = entry.now.number;
+      text = entry.now.text;
+      reply = run_reply
+          advanced entry.now.lead entry.now.text free;
+    } }
 {
     Ran {
         number: entry.number,

@@ -12,32 +12,51 @@ ghost use Rattle.printer_model.specs.declared.printer.Reason.TheVariants as reas
 ghost use Rattle.printer_model.specs.Exchanged.{session_of};
 ghost use Rattle.printer_model.specs.Executed.{executed, is_counted, opens};
 ghost use Rattle.printer_model.specs.World.{is_run};
-ghost use Rattle.printer_model.specs.Printer.{IsInTurn, IsRefusal, IsSameKind, Logged, PrinterData, judged, plain_entry, take_line};
+ghost use Rattle.printer_model.specs.Printer.{IsInTurn, IsRefusal, IsSameKind, Logged, judged, plain_entry};
 ghost use Rattle.printer_model.specs.World.{Grew, IsTidy, WorldData, accepted_lines, apply, is_free, moves_down, moves_printer, moves_up, world_from, world_of};
 ghost use Rattle.printer_model.specs.declared.event.WorldEvent.{WorldEvent};
 ghost use Rattle.printer_model.specs.declared.event.WorldEvent.TheVariants as event;
-ghost use Rattle.printer_model.specs.declared.printer.Taken.TheVariants as taken;
 
 /// What one event, or several, leave of a world.
 pub fn world_law()
-    ensures log { (w : WorldData) (event : WorldEvent) → is_run event ≡ false → (apply w event).log ≡ w.log }
-    ensures log_grows { (w : WorldData) (events : List WorldEvent) → Grew w.log (world_from w events).log }
+    ensures log { (w : WorldData) (event : WorldEvent) → is_run event ≡ false
+        → (apply w event).log ≡ w.log }
+    ensures log_grows { (w : WorldData) (events : List WorldEvent)
+        → Grew w.log (world_from w events).log }
     ensures accepted { (w : WorldData) → accepted_lines (apply w event.Run) ≡ accepted_lines w }
-    ensures printer { (w : WorldData) (event : WorldEvent) → moves_printer event ≡ false → (apply w event).printer ≡ w.printer }
-    ensures same_kind { (w : WorldData) (events : List WorldEvent) → IsSameKind w.printer (world_from w events).printer }
-    ensures up { (w : WorldData) (event : WorldEvent) → moves_up event ≡ false → (apply w event).up ≡ w.up }
-    ensures down { (w : WorldData) (event : WorldEvent) → moves_down event ≡ false → (apply w event).down ≡ w.down }
-    ensures linked { (w : WorldData) (events : List WorldEvent) → list_all is_free events ≡ true → (world_from w events).linked ≡ w.linked }
-    ensures tidy { (places : ℕ) (advanced : Bool) (past : List WorldEvent) → IsTidy (world_of places advanced past) }
+    ensures printer { (w : WorldData) (event : WorldEvent) → moves_printer event ≡ false
+        → (apply w event).printer ≡ w.printer }
+    ensures same_kind { (w : WorldData) (events : List WorldEvent)
+        → IsSameKind w.printer (world_from w events).printer }
+    ensures up { (w : WorldData) (event : WorldEvent) → moves_up event ≡ false
+        → (apply w event).up ≡ w.up }
+    ensures down { (w : WorldData) (event : WorldEvent) → moves_down event ≡ false
+        → (apply w event).down ≡ w.down }
+    ensures linked { (w : WorldData) (events : List WorldEvent) → list_all is_free events ≡ true
+        → (world_from w events).linked ≡ w.linked }
+    ensures tidy { (places : ℕ) (advanced : Bool) (past : List WorldEvent)
+        → IsTidy (world_of places advanced past) }
 {}
 
 /// What the printer makes of a line at a last number, by the first rule that the line breaks.
 pub fn line_law()
-    ensures plain { (last : ℕ) (line : List ℕ) → begins_with_n line ≡ false → judged last line ≡ Ok (plain_entry line) }
-    ensures wrong_number { (last : ℕ) (line : List ℕ) → begins_with_n line ≡ true → line_number_of line ≢ last + 1 → has_m110 line ≡ false → judged last line ≡ Err reason.WrongNumber }
-    ensures no_checksum { (last : ℕ) (line : List ℕ) → begins_with_n line ≡ true → IsInTurn last line → has_checksum line ≡ false → judged last line ≡ Err reason.NoChecksum }
-    ensures mismatch { (last : ℕ) (line : List ℕ) → begins_with_n line ≡ true → IsInTurn last line → has_checksum line ≡ true → fails line ≡ true → judged last line ≡ Err reason.Mismatch }
-    ensures accepted { (last n : ℕ) (text line : List ℕ) → IsNumberedLine n text line → IsInTurn last line → judged last line ≡ Ok (record { number = Some n; lead = Some (lead_of line); text = text }) }
+    ensures plain { (last : ℕ) (line : List ℕ) → begins_with_n line ≡ false
+        → judged last line ≡ Ok (plain_entry line) }
+    ensures wrong_number { (last : ℕ) (line : List ℕ) → begins_with_n line ≡ true
+        → line_number_of line ≢ last + 1 → has_m110 line ≡ false
+        → judged last line ≡ Err reason.WrongNumber }
+    ensures no_checksum { (last : ℕ) (line : List ℕ) → begins_with_n line ≡ true
+        → IsInTurn last line → has_checksum line ≡ false
+        → judged last line ≡ Err reason.NoChecksum }
+    ensures mismatch { (last : ℕ) (line : List ℕ) → begins_with_n line ≡ true → IsInTurn last line
+        → has_checksum line ≡ true → fails line ≡ true → judged last line ≡ Err reason.Mismatch }
+    ensures accepted { (last n : ℕ) (text line : List ℕ) → IsNumberedLine n text line
+        → IsInTurn last line
+        → judged last line ≡ Ok (record {
+          number = Some n;
+          lead = Some (lead_of line);
+          text = text;
+        }) }
     ensures failing { (last : ℕ) (line : List ℕ) → fails line ≡ true → IsRefusal last line }
 {}
 
@@ -47,28 +66,34 @@ pub fn reply_law()
     ensures resend { (last : ℕ) → kind_of (resend_line last) ≡ reply.Resend (asked_after last) }
     ensures ok { kind_of ok_line ≡ reply.Ok None None None None }
     ensures start { kind_of start_line ≡ reply.Start }
-    ensures temperatures { (advanced : Bool) (lead : Option ℕ) (text : List ℕ) (free : ℕ) → bytes_eq text (codes "M105") ≡ true
+    ensures temperatures { (advanced : Bool) (lead : Option ℕ) (text : List ℕ) (free : ℕ)
+        → bytes_eq text (codes "M105") ≡ true
         → kind_of (run_reply advanced lead text free) ≡ reply.Ok None None None (Some (record {
           tool = Some (record { actual = pos 21300000; target = pos 0 });
           bed = Some (record { actual = pos 21220000; target = pos 0 });
         })) }
-    ensures plain { (lead : Option ℕ) (text : List ℕ) (free : ℕ) → bytes_eq text (codes "M105") ≡ false
+    ensures plain { (lead : Option ℕ) (text : List ℕ) (free : ℕ)
+        → bytes_eq text (codes "M105") ≡ false
         → kind_of (run_reply false lead text free) ≡ reply.Ok None None None None }
-    ensures named { (lead : ℕ) (text : List ℕ) (free : ℕ) → bytes_eq text (codes "M105") ≡ false → lead < 2 ^ 32 → free < 2 ^ 32
+    ensures named { (lead : ℕ) (text : List ℕ) (free : ℕ) → bytes_eq text (codes "M105") ≡ false
+        → lead < 2 ^ 32 → free < 2 ^ 32
         → kind_of (run_reply true (Some lead) text free) ≡ reply.Ok (Some lead) (Some 15) (Some free) None }
-    ensures unnamed { (text : List ℕ) (free : ℕ) → bytes_eq text (codes "M105") ≡ false → free < 2 ^ 32
+    ensures unnamed { (text : List ℕ) (free : ℕ) → bytes_eq text (codes "M105") ≡ false
+        → free < 2 ^ 32
         → kind_of (run_reply true None text free) ≡ reply.Ok None (Some 15) (Some free) None }
-{}
-
-/// What is accepted, and only that, changes the printer.
-pub fn refusal_law()
-    ensures { (p : PrinterData) (line : List ℕ) → (take_line p line).0 ≢ taken.Accepted → (take_line p line).1 ≡ p }
 {}
 
 /// What further events leave of what a session executed and add to it, and the last session by itself.
 pub fn session_law()
-    ensures over { (places : ℕ) (advanced : Bool) (past added : List WorldEvent) (s : ℕ) → s < opens past → executed places advanced (past ++ added) s ≡ executed places advanced past s }
-    ensures grows { (places : ℕ) (advanced : Bool) (past added : List WorldEvent) (s : ℕ) (lines : List Logged) → 0 < s → opens past ≡ s → opens added ≡ 0 → (world_of places advanced (past ++ added)).log ≡ (world_of places advanced past).log ++ lines → executed places advanced (past ++ added) s ≡ executed places advanced past s ++ filter is_counted lines }
+    ensures over { (places : ℕ) (advanced : Bool) (past added : List WorldEvent) (s : ℕ)
+        → s < opens past
+        → executed places advanced (past ++ added) s ≡ executed places advanced past s }
+    ensures grows { (places : ℕ) (advanced : Bool) (past added : List WorldEvent) (s : ℕ)
+        (lines : List Logged) → 0 < s → opens past ≡ s → opens added ≡ 0
+        → (world_of places advanced (past ++ added)).log
+        ≡ (world_of places advanced past).log ++ lines
+        → executed places advanced (past ++ added) s
+        ≡ executed places advanced past s ++ filter is_counted lines }
 
     // A further session leaves those before it. What it executes is what the log gains from its Opened on.
     ensures before { (places : ℕ) (advanced : Bool) (past rest : List WorldEvent) (last s : ℕ)

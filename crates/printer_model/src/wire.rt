@@ -61,7 +61,8 @@ impl<const N: usize> Wire<N> {
         second: ArrayVec<u8, N>,
         third: ArrayVec<u8, N>,
     ) -> Result<(), AllocError>
-        ensures ok { OnOk result (self.new ≡ self.old ++ first.entry.items ∷ second.entry.items ∷ third.entry.items ∷ []) }
+        ensures ok { OnOk result (self.new
+            ≡ self.old ++ first.entry.items ∷ second.entry.items ∷ third.entry.items ∷ []) }
         ensures err { OnErr result (self.new ≡ self.old) }
     {
         self.lines.reserve(3)?;

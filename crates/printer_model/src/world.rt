@@ -87,7 +87,8 @@ impl World {
 
     /// The line at the front of the wire from the printer.
     pub fn front_reply(&self) -> Option<ReplyLine>
-        ensures { MatchOption result (self.now.down ≡ []) (λ reply. IsFrontReply reply.items self.now.down) }
+        ensures { MatchOption result (self.now.down ≡ [])
+            (λ reply. IsFrontReply reply.items self.now.down) }
     {
         match self.down.front() {
             None => None,
@@ -258,7 +259,8 @@ impl World {
 
 /// Puts a reply on the wire from the printer where a link is made.
 fn answer(down: &mut Wire<256>, linked: bool, reply: ReplyLine) -> Result<(), AllocError>
-    ensures ok { OnOk result (down.new ≡ (if linked then down.old ++ reply.items ∷ [] else down.old)) }
+    ensures ok { OnOk result (down.new
+        ≡ (if linked then down.old ++ reply.items ∷ [] else down.old)) }
     ensures err { OnErr result (down.new ≡ down.old) }
 {
     if linked {

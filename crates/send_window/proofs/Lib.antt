@@ -1,6 +1,7 @@
 pub mod Ending
 pub mod Issued
 pub mod OwnOks
+pub mod Sending
 pub mod Silence
 pub mod Soundness
 pub mod Tally

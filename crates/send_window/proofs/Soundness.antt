@@ -8,6 +8,7 @@ use Rattle.send_window.specs.declared.session_end.SessionEnd.{SessionEnd}
 use Rattle.send_window.specs.Data.{SenderData, IsSound, new_sender, begun}
 use Rattle.send_window.specs.Hearing.{hear_step, tick_step, heard_reply, heard_ok, heard_resend, heard_start, marked, unless_ended}
 use Rattle.send_window.specs.Sending.{room_of}
+use Rattle.send_window.specs.Laws.{StaysSound}
 use Rattle.send_window.specs.Session.{Step, hears, ticks, issues, gives, after_step, IsAllowed}
 
 pub new_sound : (w l : ℕ) → 1 ≤ w → w ≤ 16 → 1 ≤ l → IsSound (new_sender w l)
@@ -59,3 +60,7 @@ step_sound (hears heard_line moment) s allowed sound = hears_sound heard_line mo
 step_sound (ticks moment) s allowed sound = ticks_sound moment s sound
 step_sound (issues text) s allowed sound = issues_sound text s allowed sound
 step_sound (gives moment) s allowed sound = gives_sound moment s sound
+
+-- the law
+pub stays_sound : StaysSound
+stays_sound = (new_sound, begun_sound, step_sound)

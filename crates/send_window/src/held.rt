@@ -82,7 +82,7 @@ impl Held {
         self.lines.clear();
     }
 
-    /// Adds a line behind the others.
+    /// Adds a line after the others.
     pub(crate) fn push(&mut self, text: &[u8])
         requires room { length self.old < 16 }
         requires framable { IsFramable text.now }

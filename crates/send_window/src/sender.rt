@@ -1,10 +1,10 @@
 //! The sender of one session after another.
-ghost use Rattle.std.specs.Prelude.{◌≡◌, ◌<◌, ◌≤◌, ◌+◌, length, map, IfOk, IfSome, IsNone, None, Some, option_map, unwrap_or, true, false};
+ghost use Rattle.std.specs.Prelude.{◌≡◌, ◌<◌, ◌≤◌, ◌+◌, length, IfOk, IfSome, IsNone, None, option_map, true, false};
 ghost use Rattle.byte_text.specs.Marks.{has_byte};
 ghost use Rattle.marlin_frame.specs.Numbering.{wire_number, hello_frame};
 ghost use Rattle.send_window.specs.Data.{IsSound, new_sender, begun};
-ghost use Rattle.send_window.specs.Hearing.{later, deadline_at, end_of_numbers, acknowledged, line_ok, named_ok, heard_ok, hello_asked, is_repeated, line_asked, resend_asked, heard_resend, heard_start, heard_reply, hear_step, is_past, silent_limits, limit_passed, ticked, tick_step, answer_of};
-ghost use Rattle.send_window.specs.Sending.{IsFramable, room_of, push_step, next_line, next_of, hello, number_of_outgoing, bytes_of_outgoing, given, frame_step};
+ghost use Rattle.send_window.specs.Hearing.{hear_step, tick_step, answer_of};
+ghost use Rattle.send_window.specs.Sending.{IsFramable, room_of, push_step, next_of, number_of_outgoing, bytes_of_outgoing, frame_step};
 
 use crate::held::Held;
 use crate::session_end::SessionEnd;
@@ -14,13 +14,15 @@ use marlin_reply::Reply;
 use std::alloc::{AllocError, Global};
 use std::marker::Model;
 
+mod clock;
+mod hearing;
 #[cfg(test)]
 mod tests;
 
 /// The most lines of a session.
 const MOST_LINES: u32 = 1_999_999_999;
 
-/// After so many limits in a row in which nothing was heard, the session ends.
+/// After this number of limits in a row in which nothing was received the session ends.
 const MOST_SILENT: u8 = 5;
 
 /// Sends the lines of a session in order, as Marlin's serial protocol asks: each has a number from 2 and a checksum,
@@ -110,9 +112,9 @@ impl Sender {
         self.ended = None;
     }
 
-    /// Takes a reply of the printer that came at `moment`: an `ok` acknowledges the next line unless it stands behind
-    /// a Resend, and a Resend has its line sent again with all behind it. What fits no line of the session ends it.
-    /// After an end it changes nothing and answers that end.
+    /// Takes a reply of the printer that was received at `moment`, in milliseconds: an `ok` acknowledges the next line unless
+    /// it follows a Resend, and a Resend has its line sent again with all that follow it. What fits no line of the session
+    /// ends it. After an end it changes nothing and returns that end.
     pub fn hear(&mut self, reply: &Reply, moment: u64) -> Result<(), SessionEnd>
         ensures state { self.new ≡ hear_step reply.now moment self.old }
         ensures answer { result ≡ answer_of self.new.ended }
@@ -124,8 +126,8 @@ impl Sender {
         self.answer()
     }
 
-    /// Notes that it is `moment`: where the limit has passed, all that is unacknowledged is sent again, and the session
-    /// ends when five limits in a row have passed in silence. After an end it changes nothing and answers that end.
+    /// Notes that it is `moment`, in milliseconds: if the limit has passed, all that is unacknowledged is sent again, and the
+    /// session ends when five limits in a row have passed in silence. After an end it changes nothing and returns that end.
     pub fn tick(&mut self, moment: u64) -> Result<(), SessionEnd>
         ensures state { self.new ≡ tick_step moment self.old }
         ensures answer { result ≡ answer_of self.new.ended }
@@ -191,7 +193,8 @@ impl Sender {
     /// If nothing is, it writes nothing. Whoever calls it at `moment` sends the line then: that starts the time limit.
     pub fn next_frame(&mut self, moment: u64, into: &mut Line) -> Option<u32>
         ensures number { result ≡ option_map number_of_outgoing (next_of self.old) }
-        ensures bytes { IfSome (next_of self.old) (λ next. into.new.items ≡ bytes_of_outgoing next) }
+        ensures bytes { IfSome (next_of self.old)
+            (λ next. into.new.items ≡ bytes_of_outgoing next) }
         ensures short { IfSome (next_of self.old) (λ _. length into.new.items ≤ 95) }
         ensures one_line { IfSome (next_of self.old) (λ _. has_byte 10 into.new.items ≡ false) }
         ensures nothing { IsNone (next_of self.old) → into.new ≡ into.old }
@@ -216,28 +219,6 @@ impl Sender {
         Some(number)
     }
 
-    fn give_hello(&mut self, moment: u64)
-        requires { self.old.hello_due ≡ true }
-        ensures state { self.new ≡ given (Some hello) moment self.old }
-        ensures sound { IsSound self.new }
-    {
-        self.hello_due = false;
-        self.heard = self.deadline.is_some() && self.heard;
-        self.deadline = Some(deadline_from(self.deadline, moment, self.limit));
-    }
-
-    fn give_line(&mut self, moment: u64)
-        requires hello_given { self.old.hello_due ≡ false }
-        requires issued { self.old.cursor ≤ self.old.issued }
-        ensures state { self.new ≡ given (next_line self.old) moment self.old }
-        ensures sound { IsSound self.new }
-    {
-        self.sent = self.sent.max(self.cursor);
-        self.cursor += 1;
-        self.heard = self.deadline.is_some() && self.heard;
-        self.deadline = Some(deadline_from(self.deadline, moment, self.limit));
-    }
-
     fn answer(&self) -> Result<(), SessionEnd>
         ensures answer { result ≡ answer_of self.now.ended }
         ensures sound { IsSound self.now }
@@ -246,213 +227,5 @@ impl Sender {
             Some(end) => Err(end),
             None => Ok(()),
         }
-    }
-
-    fn hear_reply(&mut self, reply: &Reply, moment: u64)
-        requires { self.old.ended ≡ None }
-        ensures { self.new ≡ heard_reply reply.now moment self.old }
-    {
-        match reply {
-            Reply::Ok { number, .. } => self.hear_ok(*number, moment),
-            Reply::Resend { number } => self.hear_resend(*number, moment),
-            Reply::Start => self.hear_start(),
-            Reply::Busy | Reply::Temps(_) | Reply::Error | Reply::Other => self.heard = true,
-        }
-    }
-
-    fn hear_ok(&mut self, number: Option<u32>, moment: u64)
-        requires { self.old.ended ≡ None }
-        ensures { self.new ≡ heard_ok self.old.swallow self.old.ready number moment self.old }
-    {
-        if self.swallow {
-            self.swallow = false;
-            self.heard = true;
-        } else if self.ready {
-            self.hear_named_ok(number, moment);
-        } else {
-            self.ready = true;
-            self.hello_due = false;
-            self.deadline = None;
-            self.silent = 0;
-            self.heard = false;
-        }
-    }
-
-    fn hear_named_ok(&mut self, number: Option<u32>, moment: u64)
-        requires open { self.old.ended ≡ None }
-        requires ready { self.old.ready ≡ true }
-        ensures { self.new ≡ named_ok number moment self.old }
-    {
-        let expected = wire_number(self.acked + 1);
-        match number {
-            Some(number) if number != expected => {
-                self.ended = Some(SessionEnd::Counts { number, expected });
-            }
-            _ => self.hear_line_ok(moment),
-        }
-    }
-
-    fn hear_line_ok(&mut self, moment: u64)
-        requires open { self.old.ended ≡ None }
-        requires ready { self.old.ready ≡ true }
-        ensures { self.new ≡ line_ok moment self.old }
-    {
-        if self.acked < self.issued {
-            self.acknowledge(moment);
-        } else {
-            self.heard = true;
-        }
-    }
-
-    fn acknowledge(&mut self, moment: u64)
-        requires open { self.old.ended ≡ None }
-        requires ready { self.old.ready ≡ true }
-        requires awaited { self.old.acked < self.old.issued }
-        ensures { self.new ≡ acknowledged moment self.old }
-    {
-        self.held.drop_front();
-        self.acked += 1;
-        self.cursor = self.cursor.max(self.acked + 1);
-        self.deadline = deadline_of(moment, self.limit, self.acked, self.issued);
-        self.silent = 0;
-        self.heard = false;
-        self.ended = end_of(self.acked, self.issued);
-    }
-
-    fn hear_resend(&mut self, number: u32, moment: u64)
-        requires { self.old.ended ≡ None }
-        ensures { self.new ≡ heard_resend self.old.ready number moment self.old }
-    {
-        if self.ready {
-            self.hear_line_resend(number, moment);
-        } else {
-            self.swallow = true;
-            self.hello_due = true;
-            self.deadline = deadline_of(moment, self.limit, self.acked, self.issued);
-            self.silent = 0;
-            self.heard = false;
-        }
-    }
-
-    fn hear_line_resend(&mut self, number: u32, moment: u64)
-        requires open { self.old.ended ≡ None }
-        requires ready { self.old.ready ≡ true }
-        ensures { self.new ≡ resend_asked number moment self.old }
-    {
-        if number <= wire_number(self.acked) {
-            self.swallow = true;
-            self.ended = Some(SessionEnd::AskedBack {
-                asked: number,
-                acked: wire_number(self.acked),
-            });
-        } else if number > wire_number(self.issued + 1) {
-            self.swallow = true;
-            self.ended = Some(SessionEnd::AskedAhead {
-                asked: number,
-                issued: wire_number(self.issued),
-            });
-        } else {
-            self.go_to(number - HELLO_NUMBER, moment);
-        }
-    }
-
-    fn go_to(&mut self, place: u32, moment: u64)
-        requires open { self.old.ended ≡ None }
-        requires ready { self.old.ready ≡ true }
-        requires unacknowledged { self.old.acked < place }
-        requires issued { place ≤ self.old.issued + 1 }
-        ensures { self.new ≡ line_asked place moment self.old }
-    {
-        if place == self.asked && self.left > 0 {
-            self.left -= 1;
-        } else {
-            self.cursor = place;
-            self.asked = place;
-            self.left = self.sent.saturating_sub(place);
-        }
-        self.swallow = true;
-        self.deadline = deadline_of(moment, self.limit, self.acked, self.issued);
-        self.silent = 0;
-        self.heard = false;
-    }
-
-    fn hear_start(&mut self)
-        requires { self.old.ended ≡ None }
-        ensures { self.new ≡ heard_start self.old.ready self.old }
-    {
-        if self.ready {
-            self.ended = Some(SessionEnd::Restarted);
-        } else {
-            self.heard = true;
-        }
-    }
-
-    fn tick_open(&mut self, moment: u64)
-        requires { self.old.ended ≡ None }
-        ensures { self.new ≡ ticked moment self.old }
-    {
-        match self.deadline {
-            Some(deadline) if deadline <= moment => self.pass_limit(moment),
-            _ => {}
-        }
-    }
-
-    fn pass_limit(&mut self, moment: u64)
-        requires open { self.old.ended ≡ None }
-        requires late { is_past self.old.deadline moment ≡ true }
-        ensures { self.new ≡ limit_passed moment self.old }
-    {
-        let silent = if self.heard { 0 } else { self.silent + 1 };
-        self.silent = silent;
-        if silent == MOST_SILENT {
-            self.ended = Some(SessionEnd::NoAnswer { silent });
-            return;
-        }
-        if self.ready {
-            self.cursor = self.acked + 1;
-            self.left = 0;
-        }
-        self.heard = false;
-        self.deadline = Some(later_by(moment, self.limit));
-    }
-}
-
-// The moment `span` milliseconds later, at most the greatest one.
-#[tactic(auto, unfolding(crate::specs::Hearing::later))]
-fn later_by(moment: u64, span: u64) -> u64
-    ensures { result ≡ later moment span }
-{
-    moment.saturating_add(span)
-}
-
-// The deadline at a moment, none where all lines are acknowledged.
-fn deadline_of(moment: u64, span: u64, acknowledged: u32, all: u32) -> Option<u64>
-    ensures { result ≡ deadline_at moment span acknowledged all }
-{
-    if acknowledged == all {
-        None
-    } else {
-        Some(later_by(moment, span))
-    }
-}
-
-// The end of a session that has had the most lines.
-fn end_of(acknowledged: u32, all: u32) -> Option<SessionEnd>
-    ensures { result ≡ end_of_numbers acknowledged all }
-{
-    if acknowledged == MOST_LINES {
-        Some(SessionEnd::NumbersUsed { issued: all })
-    } else {
-        None
-    }
-}
-
-// The deadline that stands, or else the one from a moment on.
-fn deadline_from(standing: Option<u64>, moment: u64, span: u64) -> u64
-    ensures { result ≡ unwrap_or standing (later moment span) }
-{
-    match standing {
-        Some(deadline) => deadline,
-        None => later_by(moment, span),
     }
 }

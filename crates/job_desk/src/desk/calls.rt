@@ -36,7 +36,7 @@ impl Desk {
         }
     }
 
-    /// Ends the connection, after the script for it where there was one.
+    /// Ends the connection, after the script for it if there was a connection.
     pub fn disconnect(&mut self)
         ensures { self.new ≡ disconnect_at self.old.state self.old }
     {
@@ -54,7 +54,8 @@ impl Desk {
 
     /// Selects a file. A refusal hands the job back.
     pub fn select(&mut self, name: &Name, job: Job) -> Result<(), NotSelected>
-        ensures answer { let selected = select_at self.old.state (named_file name.now job) self.old in MatchResult result
+        ensures answer { let selected = select_at self.old.state (named_file name.now job) self.old
+            in MatchResult result
             (λ _. selected.0 ≡ Ok tt)
             (λ refused. (selected.0 ≡ Err refused.refusal) × (refused.job ≡ job)) }
         ensures after { self.new ≡ (select_at self.old.state (named_file name.now job) self.old).1 }
@@ -131,7 +132,7 @@ impl Desk {
         Ok(())
     }
 
-    /// Ends the paused print as cancelled and starts a new one. Answers the ended print.
+    /// Ends the paused print as cancelled and starts a new one. Returns the ended print.
     pub fn restart(&mut self, print: u32) -> Result<u32, Refusal>
         requires { self.old.greatest < print }
         ensures answer { result ≡ (restart_at self.old.state print self.old).0 }
@@ -237,7 +238,7 @@ impl Desk {
     }
 }
 
-/// Puts copies of texts behind those that wait.
+/// Puts copies of texts after those that wait.
 fn push_all(waiting: &mut HeapCircularBuffer<Text>, lines: &[Text])
     requires sendable { All IsSendable (bytes_of lines.now) }
     requires room { length waiting.old.items + length lines.now ≤ waiting.old.capacity }

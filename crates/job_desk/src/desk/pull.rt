@@ -27,7 +27,8 @@ impl Desk {
 
     /// A line gets the next number of the session, which its print or the poll keeps.
     fn number(&mut self, tag: Tag)
-        ensures { self.new ≡ keep_number tag (next_number self.old.issued) (record self.old { issued = next_number self.old.issued }) }
+        ensures { self.new ≡ keep_number tag (next_number self.old.issued)
+            (record self.old { issued = next_number self.old.issued }) }
     {
         let number = self.lines.issued.saturating_add(1);
         self.lines.issued = number;
@@ -45,7 +46,8 @@ impl Desk {
 
     /// The first line of the scripts that wait.
     fn take_script(&mut self) -> Option<Issued>
-        ensures drawn { DrawsFrom (from_scripts self.old.waiting self.old) result self.old self.new }
+        ensures drawn { DrawsFrom (from_scripts self.old.waiting self.old) result self.old
+            self.new }
         ensures sendable { IfSome result (λ issued. IsSendable issued.text.items) }
     {
         let line = self.waiting.next()?;
@@ -91,8 +93,10 @@ impl Desk {
 
     /// The file command at the cursor, which moves on.
     fn take_command(&mut self) -> Option<Issued>
-        ensures line { option_map line_of result ≡ (from_file (slice_get (commands_of self.old.file) self.old.cursor) self.old).0 }
-        ensures after { self.new ≡ (from_file (slice_get (commands_of self.old.file) self.old.cursor) self.old).1 }
+        ensures line { option_map line_of result
+            ≡ (from_file (slice_get (commands_of self.old.file) self.old.cursor) self.old).0 }
+        ensures after { self.new ≡ (from_file
+            (slice_get (commands_of self.old.file) self.old.cursor) self.old).1 }
         ensures sendable { IfSome result (λ issued. IsSendable issued.text.items) }
     {
         let file = self.file.as_ref()?;
@@ -154,7 +158,7 @@ impl Desk {
         }
     }
 
-    /// The next line to issue, which then counts as issued and may be sent; None where there is none. The moment is in
+    /// The next line to issue, which then counts as issued and may be sent; None if there is none. The moment is in
     /// milliseconds.
     pub fn pull(&mut self, moment: u64) -> Option<Issued>
         ensures line { option_map line_of result ≡ (pull_step moment self.old).0 }

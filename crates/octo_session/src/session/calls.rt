@@ -16,15 +16,17 @@ impl Session {
     /// Begins to connect to a port.
     pub fn connect(&mut self, port: &Name) -> Result<(), Refusal>
         ensures answer { result ≡ (connect_at self.old.desk.state port.now self.old.desk).0 }
-        ensures after { self.new ≡ record self.old { desk = (connect_at self.old.desk.state port.now self.old.desk).1 } }
+        ensures after { self.new
+            ≡ record self.old { desk = (connect_at self.old.desk.state port.now self.old.desk).1 } }
         ensures joined { IsSession self.new }
     {
         self.desk.connect(port)
     }
 
-    /// Ends the connection, after the script for it where there was one.
+    /// Ends the connection, after the script for it if there was a connection.
     pub fn disconnect(&mut self)
-        ensures after { self.new ≡ record self.old { desk = (disconnect_at self.old.desk.state self.old.desk) } }
+        ensures after { self.new
+            ≡ record self.old { desk = (disconnect_at self.old.desk.state self.old.desk) } }
         ensures joined { IsSession self.new }
     {
         self.desk.disconnect();
@@ -32,10 +34,15 @@ impl Session {
 
     /// Selects a file. A refusal hands the job back.
     pub fn select(&mut self, name: &Name, job: Job) -> Result<(), NotSelected>
-        ensures answer { let selected = select_at self.old.desk.state (named_file name.now job) self.old.desk in MatchResult result
+        ensures answer { let selected = select_at self.old.desk.state (named_file name.now job)
+            self.old.desk in MatchResult result
             (λ _. selected.0 ≡ Ok tt)
             (λ refused. (selected.0 ≡ Err refused.refusal) × (refused.job ≡ job)) }
-        ensures after { self.new ≡ record self.old { desk = (select_at self.old.desk.state (named_file name.now job) self.old.desk).1 } }
+        ensures after { self.new
+            ≡ record self.old {
+              desk = (select_at self.old.desk.state (named_file name.now job)
+                  self.old.desk).1;
+            } }
         ensures joined { IsSession self.new }
     {
         self.desk.select(name, job)
@@ -44,7 +51,8 @@ impl Session {
     /// The file of this name is no longer selected, unless it is being printed.
     pub fn drop_file(&mut self, name: &Name) -> Result<(), Refusal>
         ensures answer { result ≡ (drop_file_step name.now self.old.desk).0 }
-        ensures after { self.new ≡ record self.old { desk = (drop_file_step name.now self.old.desk).1 } }
+        ensures after { self.new
+            ≡ record self.old { desk = (drop_file_step name.now self.old.desk).1 } }
         ensures joined { IsSession self.new }
     {
         self.desk.drop_file(name)
@@ -54,17 +62,19 @@ impl Session {
     pub fn start(&mut self, print: u32) -> Result<(), Refusal>
         requires { self.old.desk.greatest < print }
         ensures answer { result ≡ (start_at self.old.desk.state print self.old.desk).0 }
-        ensures after { self.new ≡ record self.old { desk = (start_at self.old.desk.state print self.old.desk).1 } }
+        ensures after { self.new
+            ≡ record self.old { desk = (start_at self.old.desk.state print self.old.desk).1 } }
         ensures joined { IsSession self.new }
     {
         self.desk.start(print)
     }
 
-    /// Ends the paused print as cancelled and starts a new one. Answers the ended print.
+    /// Ends the paused print as cancelled and starts a new one. Returns the ended print.
     pub fn restart(&mut self, print: u32) -> Result<u32, Refusal>
         requires { self.old.desk.greatest < print }
         ensures answer { result ≡ (restart_at self.old.desk.state print self.old.desk).0 }
-        ensures after { self.new ≡ record self.old { desk = (restart_at self.old.desk.state print self.old.desk).1 } }
+        ensures after { self.new
+            ≡ record self.old { desk = (restart_at self.old.desk.state print self.old.desk).1 } }
         ensures joined { IsSession self.new }
     {
         self.desk.restart(print)
@@ -73,7 +83,8 @@ impl Session {
     /// Pauses the print, once the lines that are on their way are acknowledged.
     pub fn pause(&mut self) -> Result<(), Refusal>
         ensures answer { result ≡ (pause_at self.old.desk.state self.old.desk).0 }
-        ensures after { self.new ≡ record self.old { desk = (pause_at self.old.desk.state self.old.desk).1 } }
+        ensures after { self.new
+            ≡ record self.old { desk = (pause_at self.old.desk.state self.old.desk).1 } }
         ensures joined { IsSession self.new }
     {
         self.desk.pause()
@@ -82,7 +93,8 @@ impl Session {
     /// Goes on with a paused print.
     pub fn resume(&mut self) -> Result<(), Refusal>
         ensures answer { result ≡ (resume_at self.old.desk.state self.old.desk).0 }
-        ensures after { self.new ≡ record self.old { desk = (resume_at self.old.desk.state self.old.desk).1 } }
+        ensures after { self.new
+            ≡ record self.old { desk = (resume_at self.old.desk.state self.old.desk).1 } }
         ensures joined { IsSession self.new }
     {
         self.desk.resume()
@@ -91,7 +103,8 @@ impl Session {
     /// Pauses a print that goes on, and goes on with one that is paused.
     pub fn toggle(&mut self) -> Result<(), Refusal>
         ensures answer { result ≡ (toggle_at self.old.desk.state self.old.desk).0 }
-        ensures after { self.new ≡ record self.old { desk = (toggle_at self.old.desk.state self.old.desk).1 } }
+        ensures after { self.new
+            ≡ record self.old { desk = (toggle_at self.old.desk.state self.old.desk).1 } }
         ensures joined { IsSession self.new }
     {
         self.desk.toggle()
@@ -100,7 +113,8 @@ impl Session {
     /// Cancels the print: no further file command is issued.
     pub fn cancel(&mut self) -> Result<(), Refusal>
         ensures answer { result ≡ (cancel_at self.old.desk.state self.old.desk).0 }
-        ensures after { self.new ≡ record self.old { desk = (cancel_at self.old.desk.state self.old.desk).1 } }
+        ensures after { self.new
+            ≡ record self.old { desk = (cancel_at self.old.desk.state self.old.desk).1 } }
         ensures joined { IsSession self.new }
     {
         self.desk.cancel()
@@ -109,8 +123,13 @@ impl Session {
     /// Takes the lines of a user, all or none; at most 256 may wait.
     pub fn manual(&mut self, lines: &[Text]) -> Result<(), Refusal>
         requires { All IsSendable (bytes_of lines.now) }
-        ensures answer { result ≡ (manual_at self.old.desk.state (bytes_of lines.now) self.old.desk).0 }
-        ensures after { self.new ≡ record self.old { desk = (manual_at self.old.desk.state (bytes_of lines.now) self.old.desk).1 } }
+        ensures answer { result
+            ≡ (manual_at self.old.desk.state (bytes_of lines.now) self.old.desk).0 }
+        ensures after { self.new
+            ≡ record self.old {
+              desk = (manual_at self.old.desk.state (bytes_of lines.now)
+                  self.old.desk).1;
+            } }
         ensures joined { IsSession self.new }
     {
         self.desk.manual(lines)

@@ -329,8 +329,15 @@ fn ample(rt: HostRuntime) -> Result<(), Fail> {
 // What replies alone acknowledge, the first `ok` being the hello's: a line garbled once, a line lost with two behind
 // it, and a garbled hello.
 fn counted_replies()
-    ensures garbled_line { acked_of (Reply.Ok None None None None ∷ Reply.Error ∷ Reply.Resend 2 ∷ Reply.Ok None None None None ∷ Reply.Ok None None None None ∷ []) ≡ 1 }
-    ensures lost_line { acked_of (Reply.Ok None None None None ∷ Reply.Ok None None None None ∷ Reply.Resend 3 ∷ Reply.Ok None None None None ∷ Reply.Resend 3 ∷ Reply.Ok None None None None ∷ Reply.Ok None None None None ∷ Reply.Ok None None None None ∷ Reply.Ok None None None None ∷ []) ≡ 4 }
-    ensures garbled_hello { acked_of (Reply.Error ∷ Reply.Resend 5 ∷ Reply.Ok None None None None ∷ Reply.Ok None None None None ∷ Reply.Busy ∷ Reply.Ok None None None None ∷ []) ≡ 1 }
+    ensures garbled_line { acked_of
+        (Reply.Ok None None None None ∷ Reply.Error ∷ Reply.Resend 2 ∷ Reply.Ok None None None None
+        ∷ Reply.Ok None None None None ∷ []) ≡ 1 }
+    ensures lost_line { acked_of (Reply.Ok None None None None ∷ Reply.Ok None None None None
+        ∷ Reply.Resend 3 ∷ Reply.Ok None None None None ∷ Reply.Resend 3
+        ∷ Reply.Ok None None None None ∷ Reply.Ok None None None None ∷ Reply.Ok None None None None
+        ∷ Reply.Ok None None None None ∷ []) ≡ 4 }
+    ensures garbled_hello { acked_of
+        (Reply.Error ∷ Reply.Resend 5 ∷ Reply.Ok None None None None ∷ Reply.Ok None None None None
+        ∷ Reply.Busy ∷ Reply.Ok None None None None ∷ []) ≡ 1 }
     ensures nothing { acked_of [] ≡ 0 }
 {}

@@ -1,4 +1,4 @@
-use Rattle.std.proofs.Common.{◌≡◌, sym, subst}
+use Rattle.std.proofs.Common.{sym, subst}
 use Rattle.printer_link.specs.Link.{LinkKind}
 use Rattle.octo_session.specs.Turn.{fact_of, lines_of, texts_in}
 use Rattle.lossy_line.specs.Issuing.{issued_in}

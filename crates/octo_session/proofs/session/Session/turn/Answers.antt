@@ -19,7 +19,9 @@ none_listed [] none = refl
 none_listed (line ∷ lines) none = absurd (cc)
 
 -- nothing happened, by what was kept and by what was received
-uneventful : (found : Found) (before acked old new : ℕ) (bytes : List ℕ) (noted : Option Note) → (noted ≡ None) ↔ IsStill found before acked → before ≡ old → acked ≡ new → temps_kept found.received ≡ temps_in (got_of found.received bytes) → (noted ≡ None) ↔ IsUneventful (map line_of found.issued.items) old new (got_of found.received bytes) found.fact
+uneventful : (found : Found) (before acked old new : ℕ) (bytes : List ℕ) (noted : Option Note) → (noted ≡ None) ↔ IsStill found before acked → before ≡ old →
+    acked ≡ new → temps_kept found.received ≡ temps_in (got_of found.received bytes) →
+    (noted ≡ None) ↔ IsUneventful (map line_of found.issued.items) old new (got_of found.received bytes) found.fact
 uneventful found before acked old new bytes noted still b a temps = (
   λ none. (let is = still.0 none in record {
     no_line = ap (map line_of) is.no_line;

@@ -1,4 +1,3 @@
-use Rattle.printer_link.specs.Memory.{StoryData, before_reply, story_world, with_events}
 use Rattle.printer_link.proofs.Stories.{on_err_so, on_ok_so, restarted_free, restarted_then}
 use Rattle.printer_link.proofs.story.Story.before_reply.Goals as goal
 

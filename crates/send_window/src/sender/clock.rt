@@ -1,0 +1,101 @@
+//! What the clock makes of a sender, and the moments by which an answer is due.
+ghost use Rattle.std.specs.Prelude.{◌≡◌, ◌≤◌, None, Some, unwrap_or, true, false};
+ghost use Rattle.send_window.specs.Data.{IsSound};
+ghost use Rattle.send_window.specs.Hearing.{deadline_at, end_of_numbers, is_past, later, limit_passed, silent_limits, ticked};
+ghost use Rattle.send_window.specs.Sending.{given, hello, next_line};
+
+use super::{MOST_LINES, MOST_SILENT, Sender};
+use crate::session_end::SessionEnd;
+
+impl Sender {
+    pub(super) fn give_hello(&mut self, moment: u64)
+        requires { self.old.hello_due ≡ true }
+        ensures state { self.new ≡ given (Some hello) moment self.old }
+        ensures sound { IsSound self.new }
+    {
+        self.hello_due = false;
+        self.heard = self.deadline.is_some() && self.heard;
+        self.deadline = Some(deadline_from(self.deadline, moment, self.limit));
+    }
+
+    pub(super) fn give_line(&mut self, moment: u64)
+        requires hello_given { self.old.hello_due ≡ false }
+        requires issued { self.old.cursor ≤ self.old.issued }
+        ensures state { self.new ≡ given (next_line self.old) moment self.old }
+        ensures sound { IsSound self.new }
+    {
+        self.sent = self.sent.max(self.cursor);
+        self.cursor += 1;
+        self.heard = self.deadline.is_some() && self.heard;
+        self.deadline = Some(deadline_from(self.deadline, moment, self.limit));
+    }
+
+    pub(super) fn tick_open(&mut self, moment: u64)
+        requires { self.old.ended ≡ None }
+        ensures { self.new ≡ ticked moment self.old }
+    {
+        match self.deadline {
+            Some(deadline) if deadline <= moment => self.pass_limit(moment),
+            _ => {}
+        }
+    }
+
+    fn pass_limit(&mut self, moment: u64)
+        requires open { self.old.ended ≡ None }
+        requires late { is_past self.old.deadline moment ≡ true }
+        ensures { self.new ≡ limit_passed moment self.old }
+    {
+        let silent = if self.heard { 0 } else { self.silent + 1 };
+        self.silent = silent;
+        if silent == MOST_SILENT {
+            self.ended = Some(SessionEnd::NoAnswer { silent });
+            return;
+        }
+        if self.ready {
+            self.cursor = self.acked + 1;
+            self.left = 0;
+        }
+        self.heard = false;
+        self.deadline = Some(later_by(moment, self.limit));
+    }
+}
+
+// The moment `span` milliseconds later, at most the greatest one.
+#[tactic(auto, unfolding(crate::specs::Hearing::later))]
+fn later_by(moment: u64, span: u64) -> u64
+    ensures { result ≡ later moment span }
+{
+    moment.saturating_add(span)
+}
+
+// The deadline at a moment, none if all lines are acknowledged.
+pub(super) fn deadline_of(moment: u64, span: u64, acknowledged: u32, all: u32) -> Option<u64>
+    ensures { result ≡ deadline_at moment span acknowledged all }
+{
+    if acknowledged == all {
+        None
+    } else {
+        Some(later_by(moment, span))
+    }
+}
+
+// The end of a session that has had the most lines.
+pub(super) fn end_of(acknowledged: u32, all: u32) -> Option<SessionEnd>
+    ensures { result ≡ end_of_numbers acknowledged all }
+{
+    if acknowledged == MOST_LINES {
+        Some(SessionEnd::NumbersUsed { issued: all })
+    } else {
+        None
+    }
+}
+
+// The deadline that is set, or else the one from a moment on.
+fn deadline_from(standing: Option<u64>, moment: u64, span: u64) -> u64
+    ensures { result ≡ unwrap_or standing (later moment span) }
+{
+    match standing {
+        Some(deadline) => deadline,
+        None => later_by(moment, span),
+    }
+}

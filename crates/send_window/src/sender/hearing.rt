@@ -1,0 +1,151 @@
+//! What a reply makes of a sender.
+ghost use Rattle.std.specs.Prelude.{◌≡◌, ◌<◌, ◌≤◌, ◌+◌, None, true};
+ghost use Rattle.marlin_frame.specs.Numbering.{wire_number};
+ghost use Rattle.send_window.specs.Hearing.{acknowledged, deadline_at, end_of_numbers, heard_ok, heard_reply, heard_resend, heard_start, hello_asked, is_repeated, line_asked, line_ok, named_ok, resend_asked};
+
+use super::Sender;
+use super::clock::{deadline_of, end_of};
+use crate::session_end::SessionEnd;
+use marlin_frame::{HELLO_NUMBER, wire_number};
+use marlin_reply::Reply;
+
+impl Sender {
+    pub(super) fn hear_reply(&mut self, reply: &Reply, moment: u64)
+        requires { self.old.ended ≡ None }
+        ensures { self.new ≡ heard_reply reply.now moment self.old }
+    {
+        match reply {
+            Reply::Ok { number, .. } => self.hear_ok(*number, moment),
+            Reply::Resend { number } => self.hear_resend(*number, moment),
+            Reply::Start => self.hear_start(),
+            Reply::Busy | Reply::Temps(_) | Reply::Error | Reply::Other => self.heard = true,
+        }
+    }
+
+    fn hear_ok(&mut self, number: Option<u32>, moment: u64)
+        requires { self.old.ended ≡ None }
+        ensures { self.new ≡ heard_ok self.old.swallow self.old.ready number moment self.old }
+    {
+        if self.swallow {
+            self.swallow = false;
+            self.heard = true;
+        } else if self.ready {
+            self.hear_named_ok(number, moment);
+        } else {
+            self.ready = true;
+            self.hello_due = false;
+            self.deadline = None;
+            self.silent = 0;
+            self.heard = false;
+        }
+    }
+
+    fn hear_named_ok(&mut self, number: Option<u32>, moment: u64)
+        requires open { self.old.ended ≡ None }
+        requires ready { self.old.ready ≡ true }
+        ensures { self.new ≡ named_ok number moment self.old }
+    {
+        let expected = wire_number(self.acked + 1);
+        match number {
+            Some(number) if number != expected => {
+                self.ended = Some(SessionEnd::Counts { number, expected });
+            }
+            _ => self.hear_line_ok(moment),
+        }
+    }
+
+    fn hear_line_ok(&mut self, moment: u64)
+        requires open { self.old.ended ≡ None }
+        requires ready { self.old.ready ≡ true }
+        ensures { self.new ≡ line_ok moment self.old }
+    {
+        if self.acked < self.issued {
+            self.acknowledge(moment);
+        } else {
+            self.heard = true;
+        }
+    }
+
+    fn acknowledge(&mut self, moment: u64)
+        requires open { self.old.ended ≡ None }
+        requires ready { self.old.ready ≡ true }
+        requires awaited { self.old.acked < self.old.issued }
+        ensures { self.new ≡ acknowledged moment self.old }
+    {
+        self.held.drop_front();
+        self.acked += 1;
+        self.cursor = self.cursor.max(self.acked + 1);
+        self.deadline = deadline_of(moment, self.limit, self.acked, self.issued);
+        self.silent = 0;
+        self.heard = false;
+        self.ended = end_of(self.acked, self.issued);
+    }
+
+    fn hear_resend(&mut self, number: u32, moment: u64)
+        requires { self.old.ended ≡ None }
+        ensures { self.new ≡ heard_resend self.old.ready number moment self.old }
+    {
+        if self.ready {
+            self.hear_line_resend(number, moment);
+        } else {
+            self.swallow = true;
+            self.hello_due = true;
+            self.deadline = deadline_of(moment, self.limit, self.acked, self.issued);
+            self.silent = 0;
+            self.heard = false;
+        }
+    }
+
+    fn hear_line_resend(&mut self, number: u32, moment: u64)
+        requires open { self.old.ended ≡ None }
+        requires ready { self.old.ready ≡ true }
+        ensures { self.new ≡ resend_asked number moment self.old }
+    {
+        if number <= wire_number(self.acked) {
+            self.swallow = true;
+            self.ended = Some(SessionEnd::AskedBack {
+                asked: number,
+                acked: wire_number(self.acked),
+            });
+        } else if number > wire_number(self.issued + 1) {
+            self.swallow = true;
+            self.ended = Some(SessionEnd::AskedAhead {
+                asked: number,
+                issued: wire_number(self.issued),
+            });
+        } else {
+            self.go_to(number - HELLO_NUMBER, moment);
+        }
+    }
+
+    fn go_to(&mut self, place: u32, moment: u64)
+        requires open { self.old.ended ≡ None }
+        requires ready { self.old.ready ≡ true }
+        requires unacknowledged { self.old.acked < place }
+        requires issued { place ≤ self.old.issued + 1 }
+        ensures { self.new ≡ line_asked place moment self.old }
+    {
+        if place == self.asked && self.left > 0 {
+            self.left -= 1;
+        } else {
+            self.cursor = place;
+            self.asked = place;
+            self.left = self.sent.saturating_sub(place);
+        }
+        self.swallow = true;
+        self.deadline = deadline_of(moment, self.limit, self.acked, self.issued);
+        self.silent = 0;
+        self.heard = false;
+    }
+
+    fn hear_start(&mut self)
+        requires { self.old.ended ≡ None }
+        ensures { self.new ≡ heard_start self.old.ready self.old }
+    {
+        if self.ready {
+            self.ended = Some(SessionEnd::Restarted);
+        } else {
+            self.heard = true;
+        }
+    }
+}
