@@ -10,17 +10,22 @@ use Rattle.desk_steps.specs.Table.{connect_at, select_at, start_at, start_file, 
 use Rattle.desk_steps.specs.declared.state.State.TheVariants.{Offline, Operational, Printing, Closing}
 use Rattle.desk_steps.specs.declared.state.Point.TheVariants as point
 use Rattle.desk_steps.specs.declared.state.Tag.TheVariants.{Script}
-use Rattle.print_course.specs.Plan.{PrintData, empty, connected_lines, started_lines, printed_lines, done_lines, plan_lines}
+use Rattle.print_course.specs.Plan.{PrintData, print_commands, empty, connected_lines, started_lines, printed_lines, done_lines, plan_lines}
 use Rattle.print_course.specs.Underway.{standing, IsLast, IsUnderway}
 use Rattle.print_course.specs.Underway as phase
 use Rattle.print_course.proofs.Phases.{connected_of, ended_of}
 
--- a new desk connects: nothing was issued
-pub connect-underway : (scripts : ScriptTexts) (limits : Limits) (commands : List (List ℕ)) (poll_ms : ℕ) (port : List ℕ)
-    → IsUnderway (record { scripts = scripts; limits = limits; commands = commands }) (connect_at Offline port (new_desk scripts limits poll_ms)).1 []
-connect-underway scripts limits commands poll_ms port = record {
+-- a desk that connects to a port, and on which a file is selected
+abbrev pub after_select : List ℕ → File → Data → Data
+after_select port file d = let connected = (connect_at d.state port d).1 in (select_at connected.state file connected).1
+
+-- a new desk connects, and a file is selected: nothing was issued
+new_underway : (scripts : ScriptTexts) (limits : Limits) (poll_ms : ℕ) (port : List ℕ) (file : File)
+    → IsUnderway (record { scripts = scripts; limits = limits; file = file }) (after_select port file (new_desk scripts limits poll_ms)) []
+new_underway scripts limits poll_ms port file = record {
   scripts_are = refl;
   limits_are = refl;
+  file_is = refl;
   no_manual = refl;
   lines = [];
   phase = phase.connecting refl (record { print_is = refl; active_is = refl });
@@ -31,8 +36,9 @@ connect-underway scripts limits commands poll_ms port = record {
   acknowledged = λ off. omega arith;
 }
 
-commands_are : (file : File) (d : Data) → d.file ≡ Some file → commands_of d.file ≡ texts_of file.job
-commands_are file d is = ap commands_of is
+pub select-underway : (d : Data) (port : List ℕ) (file : File) → d ≡ new_desk d.scripts d.limits d.poll_ms → IsUnderway (record { scripts = d.scripts; limits = d.limits; file = file }) (after_select port file d) []
+select-underway d port file e =
+    subst (λ (x : Data). IsUnderway (record { scripts = x.scripts; limits = x.limits; file = file }) (after_select port file x) []) (sym e) (new_underway d.scripts d.limits d.poll_ms port file)
 
 none_printed : (p : PrintData) → printed_lines p 0 ≡ started_lines p
 none_printed p = append-nil (started_lines p)
@@ -45,30 +51,9 @@ last_script : (p : PrintData) → All IsLast (script_lines p.scripts point.Disco
 last_script p = last_texts p.scripts.disconnect
 
 module _ (p : PrintData) where
-  -- what a print selects before it starts changes nothing of what is issued
-  pub select-underway : (file : File) (d : Data) (issued : List (List ℕ)) → d.state ≡ Operational → d.greatest ≡ 0 → IsUnderway p d issued
-      → (select_at d.state file d ≡ (Ok tt, record d { file = Some file })) × IsUnderway p (record d { file = Some file }) issued
-  select-underway file d issued at new h =
-      let on = connected_of p (standing d) h.lines h.phase at new in
-      let answer : select_at d.state file d ≡ (Ok tt, record d { file = Some file }) = ap (λ s. select_at s file d) at in (
-        answer,
-        record {
-          scripts_are = h.scripts_are;
-          limits_are = h.limits_are;
-          no_manual = h.no_manual;
-          lines = connected_lines p;
-          phase = phase.connected (record { its_state = on.opened.its_state; ready_is = on.opened.ready_is }) (record { print_is = on.free.print_is; active_is = on.free.active_is });
-          sent = h.sent;
-          parted = h.parted ∙ on.are;
-          woven = h.woven;
-          counted = λ below. (let c = h.counted below in record { all = c.all; print = c.print });
-          acknowledged = h.acknowledged;
-        },
-      )
-
   -- the desk after the start of print 1
-  begins : (file : File) (d : Data) (issued : List (List ℕ)) → d.state ≡ Operational → d.greatest ≡ 0 → d.file ≡ Some file → texts_of file.job ≡ p.commands → IsUnderway p d issued → IsUnderway p (printing 1 d) issued
-  begins file d issued at new is texts h =
+  begins : (d : Data) (issued : List (List ℕ)) → d.state ≡ Operational → d.greatest ≡ 0 → IsUnderway p d issued → IsUnderway p (printing 1 d) issued
+  begins d issued at new h =
       let on = connected_of p (standing d) h.lines h.phase at new in
       let script : script_lines d.scripts point.Started 1 ≡ script_lines p.scripts point.Started 1 = ap (λ s. script_lines s point.Started 1) h.scripts_are in
       let before : h.sent ++ (d.waiting ++ script_lines d.scripts point.Started 1) ≡ started_lines p =
@@ -76,9 +61,10 @@ module _ (p : PrintData) where
       record {
         scripts_are = h.scripts_are;
         limits_are = h.limits_are;
+        file_is = h.file_is;
         no_manual = h.no_manual;
         lines = printed_lines p 0;
-        phase = phase.printing (record { its_state = refl; ready_is = on.opened.ready_is }) (record { print_is = refl; active_is = refl; commands_are = commands_are file d is ∙ texts }) (omega arith);
+        phase = phase.printing (record { its_state = refl; ready_is = on.opened.ready_is }) (record { print_is = refl; active_is = refl }) (omega arith);
         sent = h.sent;
         parted = before ∙ sym (none_printed p);
         woven = h.woven;
@@ -87,14 +73,14 @@ module _ (p : PrintData) where
       }
 
   -- no command of the file is too hot, so it starts
-  pub start-underway : (file : File) (d : Data) (issued : List (List ℕ)) → d.state ≡ Operational → d.greatest ≡ 0 → d.file ≡ Some file → texts_of file.job ≡ p.commands → first_hot_of p.limits file.job.commands ≡ None → IsUnderway p d issued
+  pub start-underway : (d : Data) (issued : List (List ℕ)) → d.state ≡ Operational → d.greatest ≡ 0 → first_hot_of p.limits p.file.job.commands ≡ None → IsUnderway p d issued
       → (start_at d.state 1 d ≡ (Ok tt, printing 1 d)) × IsUnderway p (printing 1 d) issued
-  start-underway file d issued at new is texts cool h =
+  start-underway d issued at new cool h =
       let by_state : start_at d.state 1 d ≡ start_file d.file 1 d = ap (λ s. start_at s 1 d) at in
-      let by_file : start_file d.file 1 d ≡ start_checked (first_hot_of d.limits file.job.commands) 1 d = ap (λ f. start_file f 1 d) is in
-      let allowed : first_hot_of d.limits file.job.commands ≡ None = ap (λ l. first_hot_of l file.job.commands) h.limits_are ∙ cool in
-      let by_limits : start_checked (first_hot_of d.limits file.job.commands) 1 d ≡ (Ok tt, printing 1 d) = ap (λ hot. start_checked hot 1 d) allowed in
-      (by_state ∙ by_file ∙ by_limits, begins file d issued at new is texts h)
+      let by_file : start_file d.file 1 d ≡ start_checked (first_hot_of d.limits p.file.job.commands) 1 d = ap (λ f. start_file f 1 d) h.file_is in
+      let allowed : first_hot_of d.limits p.file.job.commands ≡ None = ap (λ l. first_hot_of l p.file.job.commands) h.limits_are ∙ cool in
+      let by_limits : start_checked (first_hot_of d.limits p.file.job.commands) 1 d ≡ (Ok tt, printing 1 d) = ap (λ hot. start_checked hot 1 d) allowed in
+      (by_state ∙ by_file ∙ by_limits, begins d issued at new h)
 
   -- the print is over, and its connection ends
   pub disconnect-underway : (d : Data) (issued : List (List ℕ)) → d.state ≡ Operational → d.greatest ≡ 1 → IsUnderway p d issued → IsUnderway p (disconnect_at d.state d) issued
@@ -106,6 +92,7 @@ module _ (p : PrintData) where
       let closed : IsUnderway p (closing d) issued = record {
         scripts_are = h.scripts_are;
         limits_are = h.limits_are;
+        file_is = h.file_is;
         no_manual = refl;
         lines = plan_lines p;
         phase = phase.closing (record { its_state = refl; ready_is = on.opened.ready_is }) (record { print_is = on.free.print_is; active_is = on.free.active_is }) (subst (λ (w : List Line). All IsLast w) (sym script) (last_script p));

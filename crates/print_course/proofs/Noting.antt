@@ -16,7 +16,7 @@ use Rattle.print_records.specs.declared.ending.Ending.{Ending}
 use Rattle.print_records.specs.declared.ending.Outcome.{Outcome}
 use Rattle.print_records.specs.declared.ending.Outcome.TheVariants as outcome
 use Rattle.desk_steps.proofs.Noted.{no_lines, and_first}
-use Rattle.print_course.specs.Plan.{PrintData, Weave, empty, IsPart, connected_lines, done_lines, plan_lines, line_texts}
+use Rattle.print_course.specs.Plan.{PrintData, print_commands, Weave, empty, IsPart, connected_lines, done_lines, plan_lines, line_texts}
 use Rattle.print_course.specs.Underway.{Standing, standing, IsOpen, IsFree, IsPrinting, Phase, IsCounted, IsUnderway, Suits, IsPrinted, ComesTo, EndsAs}
 use Rattle.print_course.specs.Underway as phase
 use Rattle.print_course.proofs.Weaves.{part_self, part_of, part_behind}
@@ -48,6 +48,7 @@ module _ (p : PrintData) where
         record {
           scripts_are = h.scripts_are;
           limits_are = h.limits_are;
+          file_is = h.file_is;
           no_manual = h.no_manual;
           lines = done_lines p;
           phase = phase.ended (record { its_state = refl; ready_is = on.opened.ready_is }) (record { print_is = on.on.print_is; active_is = refl }) none;
@@ -90,6 +91,7 @@ module _ (p : PrintData) where
       record {
         scripts_are = h.scripts_are;
         limits_are = h.limits_are;
+        file_is = h.file_is;
         no_manual = h.no_manual;
         lines = [];
         phase = phase.connecting at (record { print_is = on.free.print_is; active_is = on.free.active_is });
@@ -110,6 +112,7 @@ module _ (p : PrintData) where
       record {
         scripts_are = h.scripts_are;
         limits_are = h.limits_are;
+        file_is = h.file_is;
         no_manual = h.no_manual;
         lines = connected_lines p;
         phase = phase.connected (record { its_state = refl; ready_is = is }) (record { print_is = on.free.print_is; active_is = on.free.active_is });
@@ -124,8 +127,8 @@ module _ (p : PrintData) where
   stays_ready s _ (phase.connecting at f) = phase.connecting at (record { print_is = f.print_is; active_is = f.active_is })
   stays_ready s _ (phase.connected o f) = phase.connected (record { its_state = o.its_state; ready_is = refl }) (record { print_is = f.print_is; active_is = f.active_is })
   stays_ready s _ (phase.printing o f below) =
-      phase.printing (record { its_state = o.its_state; ready_is = refl }) (record { print_is = f.print_is; active_is = f.active_is; commands_are = f.commands_are }) below
-  stays_ready s _ (phase.finishing o f) = phase.finishing (record { its_state = o.its_state; ready_is = refl }) (record { print_is = f.print_is; active_is = f.active_is; commands_are = f.commands_are })
+      phase.printing (record { its_state = o.its_state; ready_is = refl }) (record { print_is = f.print_is; active_is = f.active_is }) below
+  stays_ready s _ (phase.finishing o f) = phase.finishing (record { its_state = o.its_state; ready_is = refl }) (record { print_is = f.print_is; active_is = f.active_is })
   stays_ready s _ (phase.ended o f w) = phase.ended (record { its_state = o.its_state; ready_is = refl }) (record { print_is = f.print_is; active_is = f.active_is }) w
   stays_ready s _ (phase.closing o f w) = phase.closing (record { its_state = o.its_state; ready_is = refl }) (record { print_is = f.print_is; active_is = f.active_is }) w
   stays_ready s _ (phase.offline at i w) = phase.offline at i w
@@ -136,6 +139,7 @@ module _ (p : PrintData) where
   hears d issued h = record {
     scripts_are = h.scripts_are;
     limits_are = h.limits_are;
+    file_is = h.file_is;
     no_manual = h.no_manual;
     lines = h.lines;
     phase = stays_ready (standing d) h.lines h.phase;
@@ -169,6 +173,7 @@ module _ (p : PrintData) where
     record {
       scripts_are = h.scripts_are;
       limits_are = h.limits_are;
+      file_is = h.file_is;
       no_manual = refl;
       lines = h.sent;
       phase = phase.failed refl refl h.sent (part_of h.sent (h.sent ++ d.waiting) (plan_lines p) (part_behind h.sent d.waiting) (subst (λ (l : List Line). IsPart l (plan_lines p)) (sym h.parted) (in_plan p (standing d) h.lines h.phase)));
@@ -242,6 +247,7 @@ module _ (p : PrintData) where
         record {
           scripts_are = h.scripts_are;
           limits_are = h.limits_are;
+          file_is = h.file_is;
           no_manual = refl;
           lines = plan_lines p;
           phase = phase.offline refl refl refl;
@@ -259,6 +265,7 @@ module _ (p : PrintData) where
   acked_more acked d issued more h = record {
     scripts_are = h.scripts_are;
     limits_are = h.limits_are;
+    file_is = h.file_is;
     no_manual = h.no_manual;
     lines = h.lines;
     phase = h.phase;

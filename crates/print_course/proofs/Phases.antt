@@ -5,7 +5,7 @@ use Rattle.std.proofs.lemmas.List.Elements.{All-tail}
 use Rattle.desk_steps.specs.Data.{Line}
 use Rattle.desk_steps.specs.declared.state.State.{State}
 use Rattle.desk_steps.specs.declared.state.State.TheVariants.{Offline, Connecting, Operational, Printing, Pausing, Paused, Cancelling, Finishing, Closing, Fault}
-use Rattle.print_course.specs.Plan.{PrintData, IsPart, connected_lines, printed_lines, done_lines, plan_lines}
+use Rattle.print_course.specs.Plan.{PrintData, print_commands, IsPart, connected_lines, printed_lines, done_lines, plan_lines}
 use Rattle.print_course.specs.Underway.{Standing, IsOpen, IsFree, IsPrinting, IsLast, Phase}
 use Rattle.print_course.specs.Underway as phase
 use Rattle.print_course.proofs.Weaves.{part_self, part_behind, part_of, printed_in_done, done_in_plan, connected_in_plan}
@@ -38,9 +38,9 @@ next_waits p s _ line rest e (phase.connecting at f) = phase.connecting at (reco
 next_waits p s _ line rest e (phase.connected o f) =
     phase.connected (record { its_state = o.its_state; ready_is = o.ready_is }) (record { print_is = f.print_is; active_is = f.active_is })
 next_waits p s _ line rest e (phase.printing o f below) =
-    phase.printing (record { its_state = o.its_state; ready_is = o.ready_is }) (record { print_is = f.print_is; active_is = f.active_is; commands_are = f.commands_are }) below
+    phase.printing (record { its_state = o.its_state; ready_is = o.ready_is }) (record { print_is = f.print_is; active_is = f.active_is }) below
 next_waits p s _ line rest e (phase.finishing o f) =
-    phase.finishing (record { its_state = o.its_state; ready_is = o.ready_is }) (record { print_is = f.print_is; active_is = f.active_is; commands_are = f.commands_are })
+    phase.finishing (record { its_state = o.its_state; ready_is = o.ready_is }) (record { print_is = f.print_is; active_is = f.active_is })
 next_waits p s _ line rest e (phase.ended o f w) = let none : [] ≡ line ∷ rest = sym w ∙ e in absurd (cc none)
 next_waits p s _ line rest e (phase.closing o f w) =
     let all : All IsLast (line ∷ rest) = subst (λ l. All IsLast l) e w in
@@ -56,13 +56,13 @@ pub record IsConnecting (p : PrintData) (s : Standing) (lines : List Line) : Typ
 
 pub record IsPrinting1 (p : PrintData) (s : Standing) (lines : List Line) : Type 0 where
   pub opened : IsOpen Printing s
-  pub on : IsPrinting p s
-  pub below : s.cursor ≤ length p.commands
+  pub on : IsPrinting s
+  pub below : s.cursor ≤ length (print_commands p)
   pub are : lines ≡ printed_lines p s.cursor
 
 pub record IsFinishing (p : PrintData) (s : Standing) (lines : List Line) : Type 0 where
   pub opened : IsOpen Finishing s
-  pub on : IsPrinting p s
+  pub on : IsPrinting s
   pub are : lines ≡ done_lines p
 
 pub record IsClosing (p : PrintData) (s : Standing) (lines : List Line) : Type 0 where

@@ -7,7 +7,7 @@ use Rattle.desk_steps.specs.Data.{Data, Line, moment_after}
 use Rattle.desk_steps.specs.Pull.{Drawn, talk, nothing, issue, from_scripts, from_manual, poll_is_due, draw_at, pull_step}
 use Rattle.desk_steps.specs.declared.state.State.TheVariants.{Offline}
 use Rattle.desk_steps.specs.declared.state.Tag.TheVariants.{Poll}
-use Rattle.print_course.specs.Plan.{PrintData, plan, Weave, IsPart, WeavesPart, plan_lines, line_texts}
+use Rattle.print_course.specs.Plan.{PrintData, print_commands, plan, Weave, IsPart, WeavesPart, plan_lines, line_texts}
 use Rattle.print_course.specs.Underway.{Standing, standing, IsLast, Phase, IsUnderway, IsWhole}
 use Rattle.print_course.specs.Underway as phase
 use Rattle.print_course.proofs.Weaves.{part_of, part_behind, texts_part, plan_is}
@@ -15,7 +15,7 @@ use Rattle.print_course.proofs.Phases.{in_plan, whole_offline, none_offline}
 
 module _ (p : PrintData) where
   -- what was issued is a weave of a first part of the plan
-  pub underway-part : (d : Data) (issued : List (List ℕ)) → IsUnderway p d issued → WeavesPart issued (plan p.scripts p.commands)
+  pub underway-part : (d : Data) (issued : List (List ℕ)) → IsUnderway p d issued → WeavesPart issued (plan p.scripts (print_commands p))
   underway-part d issued h =
       let part : IsPart h.sent (plan_lines p) = part_of h.sent (h.sent ++ d.waiting) (plan_lines p) (part_behind h.sent d.waiting) (subst (λ (l : List Line). IsPart l (plan_lines p)) (sym h.parted) (in_plan p (standing d) h.lines h.phase)) in
       record {

@@ -6,7 +6,7 @@ use Rattle.desk_steps.specs.Course.{job_line}
 use Rattle.desk_steps.specs.Plain.{numbered}
 use Rattle.desk_steps.specs.declared.state.Point.TheVariants as point
 use Rattle.desk_steps.specs.declared.state.Tag.{Tag}
-use Rattle.print_course.specs.Plan.{plan, poll, Weave, empty, planned, polled, IsPart, PrintData, connected_lines, started_lines, printed_lines, done_lines, plan_lines, line_texts}
+use Rattle.print_course.specs.Plan.{plan, poll, Weave, empty, planned, polled, IsPart, PrintData, print_commands, connected_lines, started_lines, printed_lines, done_lines, plan_lines, line_texts}
 
 -- the plan's next text is issued
 pub weave_planned : (list plan : List (List ℕ)) (text : List ℕ) → Weave list plan → Weave (list ++ text ∷ []) (plan ++ text ∷ [])
@@ -48,19 +48,19 @@ pub texts_part : (xs ys : List Line) → IsPart xs ys → IsPart (line_texts xs)
 texts_part xs ys part = record { rest = line_texts part.rest; joined = sym (texts_append xs part.rest) ∙ ap line_texts part.joined }
 
 -- the tagged lines are the plan
-pub plan_is : (p : PrintData) → line_texts (plan_lines p) ≡ plan p.scripts p.commands
+pub plan_is : (p : PrintData) → line_texts (plan_lines p) ≡ plan p.scripts (print_commands p)
 plan_is p =
     let s : ScriptTexts = p.scripts in
     let c : line_texts (connected_lines p) ≡ s.connected = texts_tagged _ s.connected in
     let b : line_texts (started_lines p) ≡ s.connected ++ s.started =
     texts_append (connected_lines p) (script_lines s point.Started 1) ∙ ap (λ l. l ++ line_texts (script_lines s point.Started 1)) c ∙ ap (λ l. s.connected ++ l) (texts_tagged _ s.started) in
-    let n : line_texts (started_lines p ++ numbered 1 0 p.commands) ≡ s.connected ++ s.started ++ p.commands =
-    texts_append (started_lines p) (numbered 1 0 p.commands) ∙ ap (λ l. l ++ line_texts (numbered 1 0 p.commands)) b ∙ ap (λ l. s.connected ++ s.started ++ l) (texts_numbered 0 p.commands) in
-    let d : line_texts (done_lines p) ≡ s.connected ++ s.started ++ p.commands ++ s.done =
-    texts_append (started_lines p ++ numbered 1 0 p.commands) (script_lines s point.Done 1) ∙ ap (λ l. l ++ line_texts (script_lines s point.Done 1)) n
-    ∙ ap (λ l. s.connected ++ s.started ++ p.commands ++ l) (texts_tagged _ s.done) in
+    let n : line_texts (started_lines p ++ numbered 1 0 (print_commands p)) ≡ s.connected ++ s.started ++ print_commands p =
+    texts_append (started_lines p) (numbered 1 0 (print_commands p)) ∙ ap (λ l. l ++ line_texts (numbered 1 0 (print_commands p))) b ∙ ap (λ l. s.connected ++ s.started ++ l) (texts_numbered 0 (print_commands p)) in
+    let d : line_texts (done_lines p) ≡ s.connected ++ s.started ++ print_commands p ++ s.done =
+    texts_append (started_lines p ++ numbered 1 0 (print_commands p)) (script_lines s point.Done 1) ∙ ap (λ l. l ++ line_texts (script_lines s point.Done 1)) n
+    ∙ ap (λ l. s.connected ++ s.started ++ print_commands p ++ l) (texts_tagged _ s.done) in
     texts_append (done_lines p) (script_lines s point.Disconnect 0) ∙ ap (λ l. l ++ line_texts (script_lines s point.Disconnect 0)) d
-    ∙ ap (λ l. s.connected ++ s.started ++ p.commands ++ s.done ++ l) (texts_tagged _ s.disconnect)
+    ∙ ap (λ l. s.connected ++ s.started ++ print_commands p ++ s.done ++ l) (texts_tagged _ s.disconnect)
 
 length-numbered : (index : ℕ) (texts : List (List ℕ)) → length (numbered 1 index texts) ≡ length texts
 length-numbered index [] = refl
@@ -82,11 +82,11 @@ get_below [] n text e = absurd (cc e)
 get_below (first ∷ texts) zero text e = omega arith
 get_below (first ∷ texts) (suc n) text e = let below = get_below texts n text e in omega arith
 
-pub printed_more : (p : PrintData) (n : ℕ) (text : List ℕ) → slice_get p.commands n ≡ Some text → printed_lines p (n + 1) ≡ printed_lines p n ++ job_line 1 n text ∷ []
+pub printed_more : (p : PrintData) (n : ℕ) (text : List ℕ) → slice_get (print_commands p) n ≡ Some text → printed_lines p (n + 1) ≡ printed_lines p n ++ job_line 1 n text ∷ []
 printed_more p n text e =
     let one : n + 1 ≡ suc n = omega arith in
-    ap (λ (k : ℕ). printed_lines p k) one ∙ ap (λ (l : List Line). started_lines p ++ l) (take_numbered 0 n n p.commands text e (omega arith))
-    ∙ sym (append_assoc (started_lines p) (take n (numbered 1 0 p.commands)) (job_line 1 n text ∷ []))
+    ap (λ (k : ℕ). printed_lines p k) one ∙ ap (λ (l : List Line). started_lines p ++ l) (take_numbered 0 n n (print_commands p) text e (omega arith))
+    ∙ sym (append_assoc (started_lines p) (take n (numbered 1 0 (print_commands p))) (job_line 1 n text ∷ []))
 
 take_whole : {X : Type 0} (xs : List X) (n : ℕ) → n ≡ length xs → take n xs ≡ xs
 take_whole [] zero e = refl
@@ -94,15 +94,15 @@ take_whole [] (suc n) e = refl
 take_whole (x ∷ xs) zero e = let clash : ⊥ = omega arith in absurd clash
 take_whole (x ∷ xs) (suc n) e = ap (λ l. x ∷ l) (take_whole xs n (omega arith))
 
-pub printed_all : (p : PrintData) (n : ℕ) → n ≡ length p.commands → printed_lines p n ≡ started_lines p ++ numbered 1 0 p.commands
+pub printed_all : (p : PrintData) (n : ℕ) → n ≡ length (print_commands p) → printed_lines p n ≡ started_lines p ++ numbered 1 0 (print_commands p)
 printed_all p n e =
-    let long : n ≡ length (numbered 1 0 p.commands) = e ∙ sym (length-numbered 0 p.commands) in
-    ap (λ (l : List Line). started_lines p ++ l) (take_whole (numbered 1 0 p.commands) n long)
+    let long : n ≡ length (numbered 1 0 (print_commands p)) = e ∙ sym (length-numbered 0 (print_commands p)) in
+    ap (λ (l : List Line). started_lines p ++ l) (take_whole (numbered 1 0 (print_commands p)) n long)
 
 -- each stage begins the next one
 pub printed_in_done : (p : PrintData) (n : ℕ) → IsPart (printed_lines p n) (done_lines p)
 printed_in_done p n =
-    let all : List Line = numbered 1 0 p.commands in
+    let all : List Line = numbered 1 0 (print_commands p) in
     let some : IsPart (printed_lines p n) (started_lines p ++ all) = record {
       rest = drop n all;
       joined = append_assoc (started_lines p) (take n all) (drop n all) ∙ ap (λ (l : List Line). started_lines p ++ l) (take-append-drop n all);
@@ -111,7 +111,7 @@ printed_in_done p n =
 
 pub started_in_done : (p : PrintData) → IsPart (started_lines p) (done_lines p)
 started_in_done p =
-    part_of (started_lines p) (started_lines p ++ numbered 1 0 p.commands) (done_lines p) (part_behind (started_lines p) (numbered 1 0 p.commands)) (part_behind (started_lines p ++ numbered 1 0 p.commands) (script_lines p.scripts point.Done 1))
+    part_of (started_lines p) (started_lines p ++ numbered 1 0 (print_commands p)) (done_lines p) (part_behind (started_lines p) (numbered 1 0 (print_commands p))) (part_behind (started_lines p ++ numbered 1 0 (print_commands p)) (script_lines p.scripts point.Done 1))
 
 pub done_in_plan : (p : PrintData) → IsPart (done_lines p) (plan_lines p)
 done_in_plan p = part_behind (done_lines p) (script_lines p.scripts point.Disconnect 0)

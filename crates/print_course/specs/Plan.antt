@@ -1,7 +1,8 @@
 -- What one print issues, in order.
 use Rattle.std.specs.Prelude.{◌≡◌, ℕ, codes, List, [], ◌∷◌, ◌++◌, map, take}
+use Rattle.gcode_lines.specs.Job.{texts_of}
 use Rattle.temp_rules.specs.declared.limits.Limits.{Limits}
-use Rattle.desk_steps.specs.Data.{ScriptTexts, Line, script_lines}
+use Rattle.desk_steps.specs.Data.{ScriptTexts, File, Line, script_lines}
 use Rattle.desk_steps.specs.Plain.{numbered}
 use Rattle.desk_steps.specs.declared.state.Point.TheVariants as point
 
@@ -30,11 +31,15 @@ pub record WeavesPart (list plan : List (List ℕ)) : Type 0 where
   pub is_part : IsPart part plan
   pub woven : Weave list part
 
--- what a print is made of, and the limits that its commands keep
+-- what a print is made of: its scripts, the limits of its commands, and its file
 pub record PrintData : Type 0 where
   pub scripts : ScriptTexts
   pub limits : Limits
-  pub commands : List (List ℕ)
+  pub file : File
+
+-- the file's commands
+abbrev pub print_commands : PrintData → List (List ℕ)
+print_commands p = texts_of p.file.job
 
 -- The plan as the desk tags its lines. The only print of the connection has the number 1.
 
@@ -46,10 +51,10 @@ started_lines p = connected_lines p ++ script_lines p.scripts point.Started 1
 
 -- up to so many file commands
 abbrev pub printed_lines : PrintData → ℕ → List Line
-printed_lines p count = started_lines p ++ take count (numbered 1 0 p.commands)
+printed_lines p count = started_lines p ++ take count (numbered 1 0 (print_commands p))
 
 abbrev pub done_lines : PrintData → List Line
-done_lines p = started_lines p ++ numbered 1 0 p.commands ++ script_lines p.scripts point.Done 1
+done_lines p = started_lines p ++ numbered 1 0 (print_commands p) ++ script_lines p.scripts point.Done 1
 
 abbrev pub plan_lines : PrintData → List Line
 plan_lines p = done_lines p ++ script_lines p.scripts point.Disconnect 0

@@ -1,6 +1,6 @@
 -- How far a print is: what of its plan was issued, and what its desk holds ready.
 use Rattle.std.specs.Prelude.{◌≡◌, ℕ, ◌<◌, ◌≤◌, Bool, true, false, List, [], ◌++◌, length, All, Option, None, Some}
-use Rattle.desk_steps.specs.Data.{Data, Line, commands_of}
+use Rattle.desk_steps.specs.Data.{Data, Line}
 use Rattle.desk_steps.specs.Table.{is_closable_at}
 use Rattle.desk_steps.specs.declared.state.State.{State}
 use Rattle.desk_steps.specs.declared.state.State.TheVariants.{Offline, Connecting, Operational, Printing, Finishing, Closing, Fault}
@@ -11,16 +11,15 @@ use Rattle.marlin_reply.specs.declared.session.LinkFact.TheVariants as fact
 use Rattle.print_records.specs.declared.ending.Ending.{Ending}
 use Rattle.print_records.specs.declared.ending.Outcome.{Outcome}
 use Rattle.print_records.specs.declared.ending.Outcome.TheVariants as outcome
-use Rattle.print_course.specs.Plan.{PrintData, plan, Weave, IsPart, connected_lines, printed_lines, done_lines, plan_lines, line_texts}
+use Rattle.print_course.specs.Plan.{PrintData, print_commands, plan, Weave, IsPart, connected_lines, printed_lines, done_lines, plan_lines, line_texts}
 
 -- what of a desk says how far its print is
 pub record Standing : Type 0 where
   pub state : State
   pub ready : Bool
-  -- the greatest print so far, whether it's active, its commands, and the index of the next one
+  -- the greatest print so far, whether it's active, and the index of its next command
   pub print : ℕ
   pub active : Bool
-  pub commands : List (List ℕ)
   pub cursor : ℕ
   -- the script lines that wait
   pub waiting : List Line
@@ -31,7 +30,6 @@ standing d = record {
   ready = d.ready;
   print = d.greatest;
   active = d.active;
-  commands = commands_of d.file;
   cursor = d.cursor;
   waiting = d.waiting;
 }
@@ -46,11 +44,10 @@ pub record IsFree (started : ℕ) (s : Standing) : Type 0 where
   pub print_is : s.print ≡ started
   pub active_is : s.active ≡ false
 
--- print 1 goes on with these commands
-pub record IsPrinting (p : PrintData) (s : Standing) : Type 0 where
+-- print 1 goes on
+pub record IsPrinting (s : Standing) : Type 0 where
   pub print_is : s.print ≡ 1
   pub active_is : s.active ≡ true
-  pub commands_are : s.commands ≡ p.commands
 
 -- a line of the Disconnect script
 abbrev pub IsLast : Line → Type 0
@@ -60,8 +57,8 @@ IsLast line = line.tag ≡ Script point.Disconnect 0
 pub data Phase (p : PrintData) (s : Standing) : List Line → Type 0 where
   connecting : s.state ≡ Connecting → IsFree 0 s → Phase p s []
   connected : IsOpen Operational s → IsFree 0 s → Phase p s (connected_lines p)
-  printing : IsOpen Printing s → IsPrinting p s → s.cursor ≤ length p.commands → Phase p s (printed_lines p s.cursor)
-  finishing : IsOpen Finishing s → IsPrinting p s → Phase p s (done_lines p)
+  printing : IsOpen Printing s → IsPrinting s → s.cursor ≤ length (print_commands p) → Phase p s (printed_lines p s.cursor)
+  finishing : IsOpen Finishing s → IsPrinting s → Phase p s (done_lines p)
   -- the print is done, and its Done script issued
   ended : IsOpen Operational s → IsFree 1 s → s.waiting ≡ [] → Phase p s (done_lines p)
   closing : IsOpen Closing s → IsFree 1 s → All IsLast s.waiting → Phase p s (plan_lines p)
@@ -78,6 +75,7 @@ pub record IsCounted (d : Data) (issued : List (List ℕ)) : Type 0 where
 pub record IsUnderway (p : PrintData) (d : Data) (issued : List (List ℕ)) : Type 0 where
   pub scripts_are : d.scripts ≡ p.scripts
   pub limits_are : d.limits ≡ p.limits
+  pub file_is : d.file ≡ Some p.file
   pub no_manual : d.manual ≡ []
   -- the lines of the plan that were issued or wait, and those that were issued
   pub lines : List Line
@@ -92,7 +90,7 @@ pub record IsUnderway (p : PrintData) (d : Data) (issued : List (List ℕ)) : Ty
 
 -- the whole plan was issued, and all of it was acknowledged
 pub record IsWhole (p : PrintData) (d : Data) (issued : List (List ℕ)) : Type 0 where
-  pub woven : Weave issued (plan p.scripts p.commands)
+  pub woven : Weave issued (plan p.scripts (print_commands p))
   pub acknowledged : d.issued ≤ d.acked
   pub all : d.issued < 18446744073709551615 → d.issued ≡ length issued
 
