@@ -5,3 +5,4 @@ pub mod Noting
 pub mod Calls
 pub mod Results
 pub mod Turning
+pub mod Remaining

@@ -10,8 +10,8 @@ use Rattle.desk_steps.specs.Note.{Noted, ended, is_over, end_at, finish, leave, 
 use Rattle.desk_steps.specs.declared.state.State.{State}
 use Rattle.desk_steps.specs.declared.state.State.TheVariants.{Offline, Connecting, Operational, Printing, Pausing, Paused, Cancelling, Finishing, Closing, Fault}
 use Rattle.desk_steps.specs.declared.state.Point.TheVariants as point
-use Rattle.marlin_reply.specs.declared.session.LinkFact.{LinkFact}
-use Rattle.marlin_reply.specs.declared.session.LinkFact.TheVariants as fact
+use Rattle.desk_steps.specs.declared.link_fact.LinkFact.{LinkFact}
+use Rattle.desk_steps.specs.declared.link_fact.LinkFact.TheVariants as fact
 use Rattle.print_records.specs.declared.ending.Ending.{Ending}
 use Rattle.print_records.specs.declared.ending.Outcome.{Outcome}
 use Rattle.print_records.specs.declared.ending.Outcome.TheVariants as outcome
@@ -61,7 +61,7 @@ module _ (p : PrintData) where
         (on.on.print_is, record { first = issued; is_part = part_self issued; woven = subst (λ (l : List Line). Weave issued (line_texts l)) all h.woven }),
       )
 
-  ends : (s : State) (d : Data) (issued : List (List ℕ)) → d.state ≡ s → IsUnderway p d issued → NotedSo issued (end_at s d)
+  pub ends : (s : State) (d : Data) (issued : List (List ℕ)) → d.state ≡ s → IsUnderway p d issued → NotedSo issued (end_at s d)
   ends Finishing d issued at h = finishes (is_over d) d issued refl at h
   ends Pausing d issued at h = impossible _ p (standing d) h.lines Pausing h.phase at refl
   ends Cancelling d issued at h = impossible _ p (standing d) h.lines Cancelling h.phase at refl
@@ -78,13 +78,13 @@ module _ (p : PrintData) where
   both_empty (x ∷ xs) ys e = absurd (cc e)
 
   -- nothing is issued before the connection is ready
-  nothing_sent : (d : Data) (issued : List (List ℕ)) (h : IsUnderway p d issued) → d.state ≡ Connecting → (h.sent ≡ []) × (d.waiting ≡ [])
+  pub nothing_sent : (d : Data) (issued : List (List ℕ)) (h : IsUnderway p d issued) → d.state ≡ Connecting → (h.sent ≡ []) × (d.waiting ≡ [])
   nothing_sent d issued h at =
       let on = connecting_of p (standing d) h.lines h.phase at in
       let both : h.sent ++ d.waiting ≡ [] = h.parted ∙ on.are in
       both_empty h.sent d.waiting both
 
-  opens : (d : Data) (issued : List (List ℕ)) → d.state ≡ Connecting → IsUnderway p d issued → IsUnderway p (opened d) []
+  pub opens : (d : Data) (issued : List (List ℕ)) → d.state ≡ Connecting → IsUnderway p d issued → IsUnderway p (opened d) []
   opens d issued at h =
       let on = connecting_of p (standing d) h.lines h.phase at in
       let n = nothing_sent d issued h at in
@@ -135,7 +135,7 @@ module _ (p : PrintData) where
   stays_ready s _ (phase.failed at i lines part) = phase.failed at i lines part
 
   -- the hello's acknowledgement says nothing new later on
-  hears : (d : Data) (issued : List (List ℕ)) → IsUnderway p d issued → IsUnderway p (record d { ready = true }) issued
+  pub hears : (d : Data) (issued : List (List ℕ)) → IsUnderway p d issued → IsUnderway p (record d { ready = true }) issued
   hears d issued h = record {
     scripts_are = h.scripts_are;
     limits_are = h.limits_are;
@@ -150,7 +150,7 @@ module _ (p : PrintData) where
     acknowledged = h.acknowledged;
   }
 
-  ready_from : (s : State) (moment : ℕ) (d : Data) (issued : List (List ℕ)) → d.state ≡ s → d.ready ≡ true → IsUnderway p d issued → IsUnderway p (ready_at s moment d) issued
+  pub ready_from : (s : State) (moment : ℕ) (d : Data) (issued : List (List ℕ)) → d.state ≡ s → d.ready ≡ true → IsUnderway p d issued → IsUnderway p (ready_at s moment d) issued
   ready_from Connecting moment d issued at is h = readies d moment issued at is h
   ready_from Offline moment d issued at is h = h
   ready_from Operational moment d issued at is h = h
@@ -276,7 +276,7 @@ module _ (p : PrintData) where
     acknowledged = λ off. (let all = h.acknowledged off in let rises = more off in omega (arith, all, rises));
   }
 
-  not_offline : (d : Data) (acked : ℕ) → d.state ≡ Connecting → d.state ≡ Offline → d.acked ≤ acked
+  pub not_offline : (d : Data) (acked : ℕ) → d.state ≡ Connecting → d.state ≡ Offline → d.acked ≤ acked
   not_offline d acked at off = let clash : Connecting ≡ Offline = sym at ∙ off in absurd (cc clash)
 
   facts : (f : LinkFact) (acked moment : ℕ) (d : Data) (issued : List (List ℕ)) → Suits f acked d → IsUnderway p d issued → NotedSo (after_fact f issued) (note_fact f moment (record d { acked = acked }))

@@ -43,6 +43,9 @@ issue_tag (Job print index) d = record { scripts = refl; limits = refl; file = r
 issue_tag Manual d = record { scripts = refl; limits = refl; file = refl; manual = refl; stands = refl; number = refl; print = inl refl }
 issue_tag Poll d = record { scripts = refl; limits = refl; file = refl; manual = refl; stands = refl; number = refl; print = inl refl }
 
+pub issue_stands : (line : Line) (d : Data) → standing (issue line d).1 ≡ standing d
+issue_stands line d = (issue_tag line.tag d).stands
+
 pub issue_state : (line : Line) (d : Data) → (issue line d).1.state ≡ d.state
 issue_state line d = ap (λ (s : Standing). s.state) (issue_tag line.tag d).stands
 
@@ -63,6 +66,20 @@ counts_on d e issued text i before below =
 -- the desk's file is the print's
 pub file_commands : (p : PrintData) (d : Data) → d.file ≡ Some p.file → commands_of d.file ≡ print_commands p
 file_commands p d e = ap commands_of e
+
+and_second : (a b : Bool) → (a && b) ≡ true → b ≡ true
+and_second true b e = e
+and_second false b e = absurd (cc e)
+
+same_number : (a b : ℕ) → nat_eq a b ≡ true → a ≡ b
+same_number a b e = grind (arith, nat_tests)
+
+-- all lines but those of the Done script were issued
+pub issued_all : (p : PrintData) (d : Data) → d.file ≡ Some p.file → is_issued d ≡ true → (d.waiting ≡ []) × (d.cursor ≡ length (print_commands p))
+issued_all p d e t =
+    let none : d.waiting ≡ [] = no_lines d.waiting (and_first (length d.waiting == 0) (d.cursor == length (commands_of d.file)) t) in
+    let last : d.cursor ≡ length (commands_of d.file) = same_number d.cursor (length (commands_of d.file)) (and_second (length d.waiting == 0) (d.cursor == length (commands_of d.file)) t) in
+    (none, last ∙ ap (λ (l : List (List ℕ)). length l) (file_commands p d e))
 
 module _ (p : PrintData) where
   -- the print after a draw
@@ -127,7 +144,7 @@ module _ (p : PrintData) where
       after (subst (λ part. Weave (issued ++ text ∷ []) part) (sym more) (weave_planned issued (line_texts h.sent) text h.woven))
       (λ below. (let c = h.counted below in record { all = c.all; print = c.print })) (λ off. (let clash : Printing ≡ Offline = sym at ∙ off in absurd (cc clash)))
 
-  draws : (s : State) (moment : ℕ) (d : Data) (issued : List (List ℕ)) → d.state ≡ s → IsUnderway p d issued → Kept issued (draw_at s moment d)
+  pub draws : (s : State) (moment : ℕ) (d : Data) (issued : List (List ℕ)) → d.state ≡ s → IsUnderway p d issued → Kept issued (draw_at s moment d)
   draws Offline moment d issued at h = h
   draws Connecting moment d issued at h = h
   draws Fault moment d issued at h = h
@@ -140,20 +157,13 @@ module _ (p : PrintData) where
   draws Cancelling moment d issued at h = talks moment d (nothing d) issued (λ off. (let clash : Cancelling ≡ Offline = sym at ∙ off in absurd (cc clash))) h (λ none. h)
   draws Finishing moment d issued at h = talks moment d (nothing d) issued (λ off. (let clash : Finishing ≡ Offline = sym at ∙ off in absurd (cc clash))) h (λ none. h)
 
-  and_second : (a b : Bool) → (a && b) ≡ true → b ≡ true
-  and_second true b e = e
-  and_second false b e = absurd (cc e)
-
-  same_number : (a b : ℕ) → nat_eq a b ≡ true → a ≡ b
-  same_number a b e = grind (arith, nat_tests)
-
   settles_to : (b : Bool) (d : Data) (issued : List (List ℕ)) → is_issued d ≡ b → d.state ≡ Printing → IsUnderway p d issued → IsUnderway p (cond b (with_script point.Done d.greatest (record d { state = Finishing })) d) issued
   settles_to false d issued t at h = h
   settles_to true d issued t at h =
       let on = printing_of p (standing d) h.lines h.phase at in
-      let none : d.waiting ≡ [] = no_lines d.waiting (and_first (length d.waiting == 0) (d.cursor == length (commands_of d.file)) t) in
-      let last : d.cursor ≡ length (commands_of d.file) = same_number d.cursor (length (commands_of d.file)) (and_second (length d.waiting == 0) (d.cursor == length (commands_of d.file)) t) in
-      let whole : d.cursor ≡ length (print_commands p) = last ∙ ap (λ (l : List (List ℕ)). length l) (file_commands p d h.file_is) in
+      let all = issued_all p d h.file_is t in
+      let none : d.waiting ≡ [] = all.0 in
+      let whole : d.cursor ≡ length (print_commands p) = all.1 in
       let before : h.sent ≡ started_lines p ++ numbered 1 0 (print_commands p) = sym (append-nil h.sent) ∙ ap (λ (w : List Line). h.sent ++ w) (sym none) ∙ h.parted ∙ on.are ∙ printed_all p d.cursor whole in
       let script : d.waiting ++ script_lines d.scripts point.Done d.greatest ≡ script_lines p.scripts point.Done 1 =
       ap (λ (w : List Line). w ++ script_lines d.scripts point.Done d.greatest) none ∙ ap (λ s. script_lines s point.Done d.greatest) h.scripts_are ∙ ap (λ (k : ℕ). script_lines p.scripts point.Done k) on.on.print_is in

@@ -1,11 +1,10 @@
 -- The print over a whole turn of its session.
-use Rattle.std.proofs.Common.{◌≡◌, ℕ, zero, suc, ◌≤◌, Bool, true, false, cond, not, codes, ◌&&◌, List, [], ◌∷◌, ◌++◌, Option, None, Some, refl, sym, ◌∙◌, ap, subst, arith, append_assoc}
+use Rattle.std.proofs.Common.{◌≡◌, ◌⊎◌, inl, inr, ℕ, ◌≤◌, Bool, true, false, cond, not, codes, ◌&&◌, List, [], ◌∷◌, ◌++◌, Option, None, Some, refl, sym, ◌∙◌, ap, subst, arith, append_assoc}
 use Rattle.std.specs.Option.{option_or}
 use Rattle.std.proofs.lemmas.List.{append-nil}
 use Rattle.std.proofs.lemmas.Bool.{false≢true}
-use Rattle.marlin_reply.specs.Kind.{kind_of}
-use Rattle.marlin_reply.specs.declared.session.LinkFact.{LinkFact}
-use Rattle.marlin_reply.specs.declared.session.LinkFact.TheVariants as fact
+use Rattle.desk_steps.specs.declared.link_fact.LinkFact.{LinkFact}
+use Rattle.desk_steps.specs.declared.link_fact.LinkFact.TheVariants as fact
 use Rattle.print_records.specs.declared.ending.Ending.{Ending}
 use Rattle.print_records.specs.declared.ending.Outcome.{Outcome}
 use Rattle.print_records.specs.declared.ending.Outcome.TheVariants as outcome
@@ -18,19 +17,16 @@ use Rattle.desk_steps.specs.declared.state.State.TheVariants.{Offline, Connectin
 use Rattle.desk_steps.specs.declared.state.Tag.TheVariants.{Manual, Poll}
 use Rattle.printer_link.specs.Link.{LinkKind}
 use Rattle.printer_model.specs.declared.event.WorldEvent.{WorldEvent}
-use Rattle.send_window.specs.Data.{SenderData}
 use Rattle.octo_session.specs.Data.{SessionData, IsSession, is_connecting, doing}
 use Rattle.octo_session.specs.DeskTurn.{Pulls, first_fact, last_noted, IsNoted}
 use Rattle.octo_session.specs.Found.{Got, unasked, lost, nothing as silence, whole, can_find, may_issue}
-use Rattle.octo_session.specs.Steps.{Step, opens, hears, ticks, gives, fails_to_send, after_step, after_steps, issuing, sends, speech, clock_steps, talk_steps, dial_steps, turn_steps}
-use Rattle.octo_session.specs.Turn.{fact_of, lines_of, texts_in, IsTurn, IsDeskTurn}
+use Rattle.octo_session.specs.Turn.{fact_of, lines_of, IsTurn, IsDeskTurn}
 use Rattle.octo_session.specs.declared.found.Doing.{Doing}
 use Rattle.octo_session.specs.declared.found.Doing.TheVariants.{Dialling, HangingUp, Talking, Resting}
-use Rattle.octo_session.proofs.Keeping.{acked_heard, ticked_keeps, keeps_frame}
 use Rattle.octo_session.proofs.Desk.{noted_greatest}
 use Rattle.octo_session.proofs.Counts.{begins, counts_note, counted_pull}
 use Rattle.lossy_line.specs.Issuing.{issued_in}
-use Rattle.lossy_line.proofs.Told.{noted_fact, noted_lines}
+use Rattle.octo_session.proofs.Noting.{noted_fact, noted_lines}
 use Rattle.octo_session.specs.declared.found.Turned.{Turned}
 use Rattle.print_course.specs.Plan.{PrintData, line_texts}
 use Rattle.print_course.specs.Underway.{standing, IsUnderway, Suits, ComesTo, EndsAs}
@@ -39,80 +35,6 @@ use Rattle.print_course.proofs.Weaves.{part_of, part_behind}
 use Rattle.print_course.proofs.Phases.{finishing_of, impossible}
 use Rattle.print_course.proofs.Pulling.{after_pull, issue_state, pull-underway}
 use Rattle.print_course.proofs.Noting.{after_fact, NotedSo, still_so, acked_more, note-underway}
-
--- What a turn does to the acknowledged lines.
-
--- no link is made
-abbrev OpensNot : Step → Type 0
-OpensNot opens = ⊥
-OpensNot _ = Unit {0}
-
-abbrev NoneOpens : List Step → Type 0
-NoneOpens [] = Unit {0}
-NoneOpens (step ∷ steps) = OpensNot step × NoneOpens steps
-
-rises_step : (moment : ℕ) (step : Step) (s : SenderData) → OpensNot step → s.acked ≤ (after_step moment step s).acked
-rises_step moment opens s none = absurd none
-rises_step moment (hears bytes) s none = acked_heard (kind_of bytes) moment s
-rises_step moment ticks s none = let same = (ticked_keeps moment s).acked in omega (arith, same)
-rises_step moment gives s none = let same = (keeps_frame moment s).acked in omega (arith, same)
-rises_step moment fails_to_send s none = let same = (keeps_frame moment s).acked in omega (arith, same)
-rises_step moment _ s none = omega arith
-
-rises : (moment : ℕ) (steps : List Step) (s : SenderData) → NoneOpens steps → s.acked ≤ (after_steps moment steps s).acked
-rises moment [] s none = omega arith
-rises moment (step ∷ steps) s none =
-    let first = rises_step moment step s none.0 in
-    let rest = rises moment steps (after_step moment step s) none.1 in
-    omega (arith, first, rest)
-
-issuing_none : (texts : List (List ℕ)) (rest : List Step) → NoneOpens rest → NoneOpens (issuing texts ++ rest)
-issuing_none [] rest none = none
-issuing_none (text ∷ texts) rest none = (tt, issuing_none texts rest none)
-
-sending_none : (all : Bool) (count : ℕ) → NoneOpens (sends all count)
-sending_none true zero = tt
-sending_none false zero = (tt, tt)
-sending_none true (suc count) = (tt, sending_none true count)
-sending_none false (suc count) = (tt, sending_none false count)
-
-speech_none : (all : Bool) (texts : List (List ℕ)) (count : ℕ) → NoneOpens (speech all texts count)
-speech_none all texts count = issuing_none texts (sends all count) (sending_none all count)
-
-clock_none : (found : LinkFact) (texts : List (List ℕ)) (count : ℕ) → NoneOpens (clock_steps found texts count)
-clock_none fact.Quiet texts count = (tt, speech_none true texts count)
-clock_none fact.Opened texts count = tt
-clock_none fact.Ready texts count = (tt, tt)
-clock_none fact.Closed texts count = tt
-clock_none fact.NoPort texts count = tt
-clock_none fact.Failed texts count = (tt, speech_none false texts count)
-clock_none (fact.Ended end) texts count = (tt, (tt, tt))
-
--- whether a link is made
-abbrev is_opened : LinkFact → Bool
-is_opened fact.Opened = true
-is_opened _ = false
-
-dial_none : (found : LinkFact) → is_opened found ≡ false → NoneOpens (dial_steps found)
-dial_none fact.Opened e = absurd (false≢true (sym e))
-dial_none fact.Quiet e = tt
-dial_none fact.Ready e = tt
-dial_none fact.Closed e = tt
-dial_none fact.NoPort e = (tt, tt)
-dial_none fact.Failed e = (tt, tt)
-dial_none (fact.Ended end) e = tt
-
-talk_none : (got : Got) (found : LinkFact) (texts : List (List ℕ)) (count : ℕ) → NoneOpens (talk_steps got found texts count)
-talk_none unasked found texts count = tt
-talk_none lost found texts count = (tt, tt)
-talk_none silence found texts count = (tt, clock_none found texts count)
-talk_none (whole bytes) found texts count = (tt, clock_none found texts count)
-
-turn_none : (now : Doing) (up : Bool) (got : Got) (found : LinkFact) (texts : List (List ℕ)) (count : ℕ) → is_opened found ≡ false → NoneOpens (turn_steps now up got found texts count)
-turn_none Dialling up got found texts count e = dial_none found e
-turn_none HangingUp up got found texts count e = (tt, tt)
-turn_none Talking up got found texts count e = talk_none got found texts count
-turn_none Resting up got found texts count e = tt
 
 -- What a turn does, by the desk.
 
@@ -150,7 +72,7 @@ dials_at x e = connects_at x.desk.state (is_second (not x.up) (is_connecting x.d
 hangs_up_at : (x : SessionData) → doing x ≡ HangingUp → is_closable_at x.desk.state x.desk ≡ true
 hangs_up_at x e = chosen_second (not x.up && is_connecting x.desk.state) (is_closable_at x.desk.state x.desk) x.up e
 
-suits : (now : Doing) (found : LinkFact) (x : SessionData) (acked : ℕ) → doing x ≡ now → can_find now found ≡ true → (is_opened found ≡ false → x.desk.acked ≤ acked) → Suits (first_fact found) acked x.desk
+suits : (now : Doing) (found : LinkFact) (x : SessionData) (acked : ℕ) → doing x ≡ now → can_find now found ≡ true → (begins found ≡ false → x.desk.acked ≤ acked) → Suits (first_fact found) acked x.desk
 suits Dialling fact.Opened x acked at can more = dials_at x at
 suits Dialling fact.NoPort x acked at can more = more refl
 suits Dialling fact.Failed x acked at can more = more refl
@@ -243,7 +165,7 @@ failed_state : (noted : Noted) → (settled (fail noted).1).state ≡ Fault
 failed_state (None, d) = refl
 failed_state (Some ending, d) = refl
 
-opened_last : (f : LinkFact) → is_opened f ≡ true → f ≡ fact.Opened
+opened_last : (f : LinkFact) → begins f ≡ true → f ≡ fact.Opened
 opened_last fact.Opened e = refl
 opened_last fact.Quiet e = absurd (false≢true e)
 opened_last fact.Ready e = absurd (false≢true e)
@@ -253,7 +175,7 @@ opened_last fact.Failed e = absurd (false≢true e)
 opened_last (fact.Ended end) e = absurd (false≢true e)
 
 -- the texts of a turn
-texts_after : (found : LinkFact) (lines : List Line) (issued : List (List ℕ)) → (is_opened found ≡ true → lines ≡ []) → after_fact (first_fact found) issued ++ line_texts lines ≡ issued_in found (line_texts lines) issued
+texts_after : (found : LinkFact) (lines : List Line) (issued : List (List ℕ)) → (begins found ≡ true → lines ≡ []) → after_fact (first_fact found) issued ++ line_texts lines ≡ issued_in found (line_texts lines) issued
 texts_after fact.Opened lines issued none = ap line_texts (none refl)
 texts_after fact.Quiet lines issued none = refl
 texts_after fact.Ready lines issued none = refl
@@ -262,7 +184,7 @@ texts_after fact.NoPort lines issued none = refl
 texts_after fact.Failed lines issued none = refl
 texts_after (fact.Ended end) lines issued none = refl
 
-not_begun : (found : LinkFact) → is_opened found ≡ false → begins (first_fact found) ≡ false
+not_begun : (found : LinkFact) → begins found ≡ false → begins (first_fact found) ≡ false
 not_begun fact.Opened e = absurd (false≢true (sym e))
 not_begun fact.Quiet e = refl
 not_begun fact.Ready e = refl
@@ -303,7 +225,7 @@ module _ (p : PrintData) where
   either_end (Some ending) last state issued h g = (h.0, still_so p ending.outcome state issued h.1)
 
   -- a failure is noted last
-  noted_last : (found : LinkFact) (acked moment : ℕ) (issued : List (List ℕ)) (noted : Noted) → (is_opened found ≡ false → noted.1.acked ≤ acked) → NotedSo p issued noted → NotedSo p issued (last_noted found acked moment noted)
+  noted_last : (found : LinkFact) (acked moment : ℕ) (issued : List (List ℕ)) (noted : Noted) → (begins found ≡ false → noted.1.acked ≤ acked) → NotedSo p issued noted → NotedSo p issued (last_noted found acked moment noted)
   noted_last fact.Quiet acked moment issued noted below h = h
   noted_last fact.Opened acked moment issued noted below h = h
   noted_last fact.Ready acked moment issued noted below h = h
@@ -369,14 +291,14 @@ module _ (p : PrintData) where
       (ap (λ (x : Noted). x.1.state) n.is ∙ pulls_open moment lines (note_step acked fact.Quiet moment old).1 n.pulled first n.pulls, noted_greatest moment acked fact.Quiet lines old ending new n ∙ so.1)
 
   -- a whole turn, as the desk notes it
-  pub noted-turn : (moment acked : ℕ) (found : LinkFact) (lines : List Line) (issued : List (List ℕ)) (old : Data) (ending : Option Ending) (new : Data) → Suits (first_fact found) acked old → (is_opened found ≡ false → old.acked ≤ acked) → (is_opened found ≡ true → lines ≡ [])
+  pub noted-turn : (moment acked : ℕ) (found : LinkFact) (lines : List Line) (issued : List (List ℕ)) (old : Data) (ending : Option Ending) (new : Data) → Suits (first_fact found) acked old → (begins found ≡ false → old.acked ≤ acked) → (begins found ≡ true → lines ≡ [])
       → IsNoted moment acked found lines old ending new → IsUnderway p old issued → IsTurnOf p found lines issued old ending new
   noted-turn moment acked found lines issued old ending new s rises none n h =
       let first : Noted = note_step acked (first_fact found) moment old in
       let texts : List (List ℕ) = after_fact (first_fact found) issued in
       let so : NotedSo p texts first = note-underway p (first_fact found) acked moment old issued s h in
       let pulled : NotedSo p (texts ++ line_texts lines) (first.0, n.pulled) = (pulls-underway moment lines first.1 n.pulled texts n.pulls so.0, ends_more first.0 moment lines first.1 n.pulled texts n.pulls so.1) in
-      let below : is_opened found ≡ false → n.pulled.acked ≤ acked = λ e.
+      let below : begins found ≡ false → n.pulled.acked ≤ acked = λ e.
       (let same : n.pulled.acked ≡ acked = acked_pulls moment lines first.1 n.pulled n.pulls ∙ (counts_note acked (first_fact found) moment old (not_begun found e)).acked in omega (arith, same)) in
       let last : NotedSo p (texts ++ line_texts lines) (ending, new) = subst (λ x. NotedSo p (texts ++ line_texts lines) x) (sym n.is) (noted_last found acked moment (texts ++ line_texts lines) (first.0, n.pulled) below pulled) in
       let all : NotedSo p (issued_in found (line_texts lines) issued) (ending, new) = subst (λ l. NotedSo p l (ending, new)) (texts_after found lines issued none) last in
@@ -408,8 +330,8 @@ module _ (p : PrintData) where
   rests fact.Failed issued old can h = absurd (false≢true can)
   rests (fact.Ended end) issued old can h = absurd (false≢true can)
 
-  desk_turn : (now : Doing) (moment acked : ℕ) (found : LinkFact) (lines : List Line) (issued : List (List ℕ)) (old : Data) (ending : Option Ending) (new : Data) → can_find now found ≡ true → Suits (first_fact found) acked old → (is_opened found ≡ false → old.acked ≤ acked)
-      → (is_opened found ≡ true → lines ≡ []) → IsDeskTurn now moment acked found lines old ending new → IsUnderway p old issued → IsTurnOf p found lines issued old ending new
+  desk_turn : (now : Doing) (moment acked : ℕ) (found : LinkFact) (lines : List Line) (issued : List (List ℕ)) (old : Data) (ending : Option Ending) (new : Data) → can_find now found ≡ true → Suits (first_fact found) acked old → (begins found ≡ false → old.acked ≤ acked)
+      → (begins found ≡ true → lines ≡ []) → IsDeskTurn now moment acked found lines old ending new → IsUnderway p old issued → IsTurnOf p found lines issued old ending new
   desk_turn Dialling moment acked found lines issued old ending new can s more none t h = noted-turn moment acked found lines issued old ending new s more none t h
   desk_turn HangingUp moment acked found lines issued old ending new can s more none t h = noted-turn moment acked found lines issued old ending new s more none t h
   desk_turn Talking moment acked found lines issued old ending new can s more none t h = noted-turn moment acked found lines issued old ending new s more none t h
@@ -417,18 +339,18 @@ module _ (p : PrintData) where
       subst (λ l. IsTurnOf p found l issued old ending new) (sym t.0) (subst (λ e. IsTurnOf p found [] issued old e new) (sym t.1) (subst (λ (d : Data). IsTurnOf p found [] issued old None d) (sym t.2) (rests found issued old can h)))
 
   -- a whole turn of a session
-  pub turn-underway : (moment : ℕ) (kind : LinkKind) (old_past new_past : Option (List WorldEvent)) (old_calls new_calls : Option ℕ) (old new : SessionData) (turned : Turned) (issued : List (List ℕ)) → IsSession old → can_find (doing old) (fact_of turned.note) ≡ true
+  pub turn-underway : (moment : ℕ) (kind : LinkKind) (old_past new_past : Option (List WorldEvent)) (old_calls new_calls : Option ℕ) (old new : SessionData) (turned : Turned) (issued : List (List ℕ)) → IsSession old → can_find (doing old) (fact_of turned.note) ≡ true → (fact_of turned.note ≡ fact.Opened) ⊎ (old.sender.acked ≤ new.sender.acked)
       → IsTurn moment kind old_past new_past old_calls new_calls old new turned → IsUnderway p old.desk issued → IsTurnOf p (fact_of turned.note) (lines_of turned.note) issued old.desk turned.ending new.desk
-  turn-underway moment kind old_past new_past old_calls new_calls old new turned issued joined can t h =
+  turn-underway moment kind old_past new_past old_calls new_calls old new turned issued joined can not_fallen t h =
       let found : fact_of turned.note ≡ t.found = noted_fact turned.note moment old.sender.acked new.sender.acked t.lines t.got t.found t.none t.some in
       let lines : lines_of turned.note ≡ t.lines = noted_lines turned.note moment old.sender.acked new.sender.acked t.lines t.got t.found t.none t.some in
       let may : can_find (doing old) t.found ≡ true = subst (λ f. can_find (doing old) f ≡ true) found can in
-      let more : is_opened t.found ≡ false → old.desk.acked ≤ new.sender.acked = λ e.
-      (let steps = t.steps.takes.sender in
-      let up = rises moment (turn_steps (doing old) old.up t.got t.found (texts_in t.lines) t.steps.count) old.sender (turn_none (doing old) old.up t.got t.found (texts_in t.lines) t.steps.count e) in
-      let is : new.sender.acked ≡ (after_steps moment (turn_steps (doing old) old.up t.got t.found (texts_in t.lines) t.steps.count) old.sender).acked = ap (λ (x : SenderData). x.acked) steps in
-      omega (arith, up, is, joined.acked)) in
-      let none : is_opened t.found ≡ true → t.lines ≡ [] = λ e.
+      let more : begins t.found ≡ false → old.desk.acked ≤ new.sender.acked = λ e.
+      (elim not_fallen [
+        | inl opened_now ↦ absurd (false≢true (sym e ∙ ap begins (sym found ∙ opened_now)))
+        | inr up ↦ omega (arith, up, joined.acked)
+      ]) in
+      let none : begins t.found ≡ true → t.lines ≡ [] = λ e.
       t.none_issued (ap (λ f. may_issue t.got f) (opened_last t.found e) ∙ quiet_may_not t.got) in
       let s : Suits (first_fact t.found) new.sender.acked old.desk = suits (doing old) t.found old new.sender.acked refl may more in
       let so : IsTurnOf p t.found t.lines issued old.desk turned.ending new.desk = desk_turn (doing old) moment new.sender.acked t.found t.lines issued old.desk turned.ending new.desk may s more none t.desk h in

@@ -1,3 +1,4 @@
 pub mod Plan
+pub mod Remaining
 pub mod Turned
 pub mod Underway
