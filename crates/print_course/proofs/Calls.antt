@@ -5,21 +5,18 @@ use Rattle.std.proofs.lemmas.List.Elements.{All-cons}
 use Rattle.temp_rules.specs.Hot.{first_hot_of}
 use Rattle.temp_rules.specs.declared.limits.Limits.{Limits}
 use Rattle.desk_steps.specs.Data.{Data, File, Line, ScriptTexts, new_desk, tagged, script_lines}
-use Rattle.desk_steps.specs.Table.{connect_at, select_at, start_at, start_file, start_checked, printing, closing, disconnect_at}
+use Rattle.desk_steps.specs.Table.{start_at, start_file, start_checked, printing, closing, disconnect_at}
 use Rattle.desk_steps.specs.declared.state.State.TheVariants.{Offline, Operational, Printing, Closing}
 use Rattle.desk_steps.specs.declared.state.Point.TheVariants as point
 use Rattle.desk_steps.specs.declared.state.Tag.TheVariants.{Script}
 use Rattle.print_course.specs.Plan.{PrintData, empty, connected_lines, started_lines, printed_lines, done_lines, plan_lines}
 use Rattle.print_course.specs.Underway.{standing, IsLast, IsUnderway}
 use Rattle.print_course.specs.Underway as phase
+use Rattle.print_course.specs.Progress.{after_select}
 use Rattle.print_course.proofs.Phases.{connected_of, ended_of}
 
--- a desk that connects to a port, and on which a file is selected
-abbrev pub after_select : List ℕ → File → Data → Data
-after_select port file d = let connected = (connect_at d.state port d).1 in (select_at connected.state file connected).1
-
 -- a new desk connects, and a file is selected: nothing was issued
-new_underway : (scripts : ScriptTexts) (limits : Limits) (poll_ms : ℕ) (port : List ℕ) (file : File)
+pub new_underway : (scripts : ScriptTexts) (limits : Limits) (poll_ms : ℕ) (port : List ℕ) (file : File)
     → IsUnderway (record { scripts = scripts; limits = limits; file = file }) (after_select port file (new_desk scripts limits poll_ms)) []
 new_underway scripts limits poll_ms port file = record {
   scripts_are = refl;

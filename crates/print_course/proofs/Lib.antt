@@ -6,3 +6,4 @@ pub mod Calls
 pub mod Results
 pub mod Turning
 pub mod Remaining
+pub mod Runs

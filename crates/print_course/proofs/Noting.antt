@@ -19,19 +19,10 @@ use Rattle.desk_steps.proofs.Noted.{no_lines, and_first}
 use Rattle.print_course.specs.Plan.{PrintData, Weave, empty, IsPart, connected_lines, done_lines, plan_lines, line_texts}
 use Rattle.print_course.specs.Underway.{Standing, standing, IsOpen, IsFree, IsPrinting, Phase, IsCounted, IsUnderway, Suits, IsPrinted, ComesTo, EndsAs}
 use Rattle.print_course.specs.Underway as phase
+use Rattle.print_course.specs.Progress.{after_fact}
 use Rattle.print_course.proofs.Weaves.{part_self, part_of, part_behind}
 use Rattle.print_course.proofs.Phases.{in_plan, print_of, connecting_of, finishing_of, closing_of, impossible}
 use Rattle.print_course.proofs.Pulling.{settle-underway}
-
--- the texts after a note of this fact: a connection that is made begins with none
-abbrev pub after_fact : LinkFact → List (List ℕ) → List (List ℕ)
-after_fact fact.Quiet issued = issued
-after_fact fact.Opened issued = []
-after_fact fact.Ready issued = issued
-after_fact fact.Closed issued = issued
-after_fact fact.NoPort issued = issued
-after_fact fact.Failed issued = issued
-after_fact (fact.Ended end) issued = issued
 
 module _ (p : PrintData) where
   -- the print after a note

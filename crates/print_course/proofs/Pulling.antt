@@ -15,13 +15,9 @@ use Rattle.desk_steps.proofs.Noted.{no_lines, and_first}
 use Rattle.print_course.specs.Plan.{PrintData, print_commands, Weave, started_lines, printed_lines, done_lines, line_texts}
 use Rattle.print_course.specs.Underway.{Standing, standing, IsOpen, IsPrinting, Phase, IsCounted, IsUnderway}
 use Rattle.print_course.specs.Underway as phase
+use Rattle.print_course.specs.Progress.{after_pull}
 use Rattle.print_course.proofs.Weaves.{weave_planned, weave_polled, texts_append, printed_more, printed_all, get_below}
 use Rattle.print_course.proofs.Phases.{next_waits, printing_of}
-
--- the texts after a pull that gave this
-abbrev pub after_pull : Option Line → List (List ℕ) → List (List ℕ)
-after_pull None issued = issued
-after_pull (Some line) issued = issued ++ line.text ∷ []
 
 -- an issued line changes the desk's numbers alone
 pub record IsIssue (d e : Data) : Type 0 where

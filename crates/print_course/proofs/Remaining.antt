@@ -19,10 +19,11 @@ use Rattle.desk_steps.specs.declared.link_fact.LinkFact.TheVariants as fact
 use Rattle.print_records.specs.declared.ending.Outcome.TheVariants as outcome
 use Rattle.print_course.specs.Plan.{PrintData, print_commands, plan, IsPart, connected_lines, started_lines, done_lines, plan_lines}
 use Rattle.print_course.specs.Underway.{standing, IsUnderway, Suits}
+use Rattle.print_course.specs.Progress.{after_pull}
 use Rattle.print_course.specs.Remaining.{remaining_at, remaining, is_giving, planned_tag, planned_in}
 use Rattle.print_course.proofs.Weaves.{get_below}
 use Rattle.print_course.proofs.Phases.{in_plan, printing_of, finishing_of, connecting_of, impossible}
-use Rattle.print_course.proofs.Pulling.{after_pull, issue_stands, file_commands, issued_all, draws}
+use Rattle.print_course.proofs.Pulling.{issue_stands, file_commands, issued_all, draws}
 use Rattle.print_course.proofs.Noting.{acked_more, ends, opens, hears, ready_from, nothing_sent, not_offline}
 
 -- The plan's lines aren't polls.

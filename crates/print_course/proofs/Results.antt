@@ -1,5 +1,5 @@
 -- What a print that is underway has issued.
-use Rattle.std.proofs.Common.{◌≡◌, ◌⊎◌, inl, inr, ℕ, Bool, true, false, cond, codes, List, [], ◌∷◌, ◌++◌, All, Some, sym, ◌∙◌, ap, subst, arith}
+use Rattle.std.proofs.Common.{◌≡◌, inl, inr, ℕ, Bool, true, false, cond, codes, List, [], ◌∷◌, ◌++◌, All, sym, ◌∙◌, ap, subst, arith}
 use Rattle.std.proofs.lemmas.List.{append-nil}
 use Rattle.std.proofs.lemmas.Bool.{false≢true}
 use Rattle.std.proofs.lemmas.List.Elements.{All-head}
@@ -10,6 +10,7 @@ use Rattle.desk_steps.specs.declared.state.Tag.TheVariants.{Poll}
 use Rattle.print_course.specs.Plan.{PrintData, print_commands, plan, Weave, IsPart, WeavesPart, plan_lines, line_texts}
 use Rattle.print_course.specs.Underway.{Standing, standing, IsLast, Phase, IsUnderway, IsWhole}
 use Rattle.print_course.specs.Underway as phase
+use Rattle.print_course.specs.Progress.{IsLate}
 use Rattle.print_course.proofs.Weaves.{part_of, part_behind, texts_part, plan_is}
 use Rattle.print_course.proofs.Phases.{in_plan, whole_offline, none_offline}
 
@@ -34,10 +35,6 @@ module _ (p : PrintData) where
         acknowledged = h.acknowledged off;
         all = λ below. ((h.counted below).all);
       }
-
-  -- a line that is pulled after the end of the print
-  abbrev pub IsLate : Drawn → Type 0
-  IsLate drawn = (line : Line) → drawn.0 ≡ Some line → (line.tag ≡ Poll) ⊎ IsLast line
 
   none_late : (d : Data) → IsLate (nothing d)
   none_late d line e = absurd (cc e)

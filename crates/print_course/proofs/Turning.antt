@@ -30,11 +30,12 @@ use Rattle.octo_session.proofs.Noting.{noted_fact, noted_lines}
 use Rattle.octo_session.specs.declared.found.Turned.{Turned}
 use Rattle.print_course.specs.Plan.{PrintData, line_texts}
 use Rattle.print_course.specs.Underway.{standing, IsUnderway, Suits, ComesTo, EndsAs}
+use Rattle.print_course.specs.Progress.{after_pull, after_fact}
 use Rattle.print_course.specs.Turned.{IsTurnOf}
 use Rattle.print_course.proofs.Weaves.{part_of, part_behind}
 use Rattle.print_course.proofs.Phases.{finishing_of, impossible}
-use Rattle.print_course.proofs.Pulling.{after_pull, issue_state, pull-underway}
-use Rattle.print_course.proofs.Noting.{after_fact, NotedSo, still_so, acked_more, note-underway}
+use Rattle.print_course.proofs.Pulling.{issue_state, pull-underway}
+use Rattle.print_course.proofs.Noting.{NotedSo, still_so, acked_more, note-underway}
 
 -- What a turn does, by the desk.
 
