@@ -1,0 +1,9 @@
+pub mod Weaves
+pub mod Phases
+pub mod Pulling
+pub mod Noting
+pub mod Calls
+pub mod Results
+pub mod Turning
+pub mod Remaining
+pub mod Runs

@@ -1,0 +1,5 @@
+pub mod Plan
+pub mod Progress
+pub mod Remaining
+pub mod Turned
+pub mod Underway
