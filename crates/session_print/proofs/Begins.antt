@@ -11,7 +11,7 @@ use Rattle.octo_session.specs.declared.found.Doing.TheVariants.{Dialling}
 use Rattle.session_print.specs.Ends.{IsNew, prepared}
 use Rattle.session_print.specs.Patience.{IsPatient, IsOnTime}
 use Rattle.session_print.specs.Printed.{HasPrinted, IsOver}
-use Rattle.session_print.specs.UnderWay.{IsDialling}
+use Rattle.session_print.specs.BetweenTurns.{IsDialling}
 use Rattle.session_print.specs.declared.end.PrintEnd.{PrintEnd}
 use Rattle.session_print.specs.declared.end.PrintEnd.TheVariants as end
 use Rattle.session_print.proofs.Sessions.{none_printed}

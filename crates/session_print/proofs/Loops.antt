@@ -9,7 +9,7 @@ use Rattle.octo_session.specs.Data.{SessionData, doing, port_of}
 use Rattle.octo_session.specs.declared.found.Doing.TheVariants.{Dialling}
 use Rattle.lossy_line.proofs.Turned.{dials_down}
 use Rattle.session_print.specs.Printed.{HasPrinted, IsOver}
-use Rattle.session_print.specs.UnderWay.{IsDialling, IsMade, IsTalking, IsUnderWay}
+use Rattle.session_print.specs.BetweenTurns.{IsDialling, IsMade, IsTalking, IsBetweenTurns}
 use Rattle.session_print.specs.declared.end.PrintEnd.{PrintEnd}
 use Rattle.session_print.specs.declared.end.PrintEnd.TheVariants as end
 use Rattle.session_print.proofs.Sessions.{none_printed}
@@ -24,10 +24,11 @@ turns_of (end.TurnsUsed turns) = turns
 turns_of _ = 0
 
 pub same_turns : (a b : ℕ) → end.TurnsUsed a ≡ end.TurnsUsed b → a ≡ b
+unfolding turns_of
 same_turns a b is = ap turns_of is
 
 module _ (count : ℕ) (kind : LinkKind) (port : List ℕ) (first now : Option (List WorldEvent)) (x : SessionData) where
-  pub under : IsAfter count kind port first now x → IsUnderWay kind port first now x
+  pub under : IsAfter count kind port first now x → IsBetweenTurns kind port first now x
   under (inl d) = inl d.1
   under (inr l) = inr l
 

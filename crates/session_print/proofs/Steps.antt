@@ -15,15 +15,16 @@ use Rattle.printer_model.specs.declared.event.WorldEvent.{WorldEvent}
 use Rattle.printer_link.specs.Link.{LinkKind, Recorded, world_in}
 use Rattle.printer_link.proofs.Grown.{recorded_then, recorded_so}
 use Rattle.send_window.specs.Data.{SenderData, IsSound}
-use Rattle.send_window.specs.Hearing.{hear_step}
-use Rattle.octo_session.specs.Data.{SessionData, doing, port_of}
+use Rattle.send_window.specs.Hearing.{hear_step, tick_step}
+use Rattle.send_window.specs.Sending.{frame_step}
+use Rattle.octo_session.specs.Data.{SessionData, doing, is_calling, port_of}
 use Rattle.octo_session.specs.Found.{Got, unasked, lost, nothing, whole, can_find, up_after}
-use Rattle.octo_session.specs.Steps.{Step, opens as makes_link, finds_no_port, fails_to_dial, hears, listens, fails_to_receive, ticks, issues, gives, fails_to_send, hangs_up, after_step, after_steps, clock_steps, talk_steps, turn_steps}
+use Rattle.octo_session.specs.Steps.{Step, opens as makes_link, finds_no_port, fails_to_dial, hears, listens, fails_to_receive, ticks, issues, gives, fails_to_send, hangs_up, after_step, after_steps, clock_steps, dial_steps, talk_steps, turn_steps}
 use Rattle.octo_session.specs.Turn.{IsTurn, fact_of, lines_of, texts_in}
 use Rattle.octo_session.specs.declared.found.Doing.{Doing}
 use Rattle.octo_session.specs.declared.found.Doing.TheVariants.{Dialling, HangingUp, Talking, Resting}
 use Rattle.octo_session.specs.declared.found.Turned.{Turned}
-use Rattle.octo_session.proofs.Keeping.{ready_lasts, ticked_keeps, keeps_frame}
+use Rattle.octo_session.proofs.Keeping.{ready_lasts, acked_heard, ticked_keeps, keeps_frame}
 use Rattle.lossy_wires.specs.Pieces.{Each}
 use Rattle.lossy_line.specs.Issuing.{issued_in}
 use Rattle.lossy_line.specs.Linked.{IsOpened, IsLinked, LinkedAs, opened}
@@ -31,48 +32,78 @@ use Rattle.lossy_line.specs.Tied.{EndCausedAs}
 use Rattle.lossy_line.proofs.Speech.{plain_clock}
 use Rattle.lossy_line.proofs.Stepping.{IsPlain}
 use Rattle.lossy_line.proofs.Told.{IsKept, noted_fact}
-use Rattle.lossy_line.proofs.Turned.{IsTurned, dials_down, opens_dialling}
+use Rattle.lossy_line.proofs.Turned.{IsTurned, dials_down, rests_down, opens_dialling}
 use Rattle.session_print.specs.Ends.{IsUnsent, end_of, desk_after, left_after}
 use Rattle.session_print.specs.Printed.{HasPrinted, IsOver}
-use Rattle.session_print.specs.UnderWay.{IsDialling, IsMade, IsTalking, IsUnderWay, GoesOn}
+use Rattle.session_print.specs.BetweenTurns.{IsDialling, IsMade, IsTalking, IsBetweenTurns, GoesOn}
 use Rattle.session_print.specs.declared.end.PrintEnd.{PrintEnd}
 use Rattle.session_print.specs.declared.end.PrintEnd.TheVariants as end
 use Rattle.session_print.proofs.Sessions.{none_printed, nothing_added}
 use Rattle.session_print.proofs.Turns.{ports_dialling, turned_all, made_on, made_now, none_made, none_added, made_printed}
 
--- the hello stays acknowledged
-ready_step : (moment : ℕ) (step : Step) (s : SenderData) → IsPlain step → s.ready ≡ true → (after_step moment step s).ready ≡ true
-ready_step moment makes_link s plain ready = absurd plain
-ready_step moment finds_no_port s plain ready = ready
-ready_step moment fails_to_dial s plain ready = ready
-ready_step moment (hears bytes) s plain ready = absurd plain
-ready_step moment listens s plain ready = ready
-ready_step moment fails_to_receive s plain ready = ready
-ready_step moment ticks s plain ready = (ticked_keeps moment s).ready ∙ ready
-ready_step moment (issues text) s plain ready = ready
-ready_step moment gives s plain ready = (keeps_frame moment s).ready ∙ ready
-ready_step moment fails_to_send s plain ready = (keeps_frame moment s).ready ∙ ready
-ready_step moment (hangs_up was_up) s plain ready = ready
+-- what no step of an open session takes back
+pub record Lasts (s t : SenderData) : Type 0 where
+  pub ready : s.ready ≡ true → t.ready ≡ true
+  pub acked : s.acked ≤ t.acked
 
-ready_steps : (moment : ℕ) (steps : List Step) (s : SenderData) → Each IsPlain steps → s.ready ≡ true →
-    (after_steps moment steps s).ready ≡ true
-ready_steps moment [] s plain ready = ready
-ready_steps moment (step ∷ steps) s plain ready = ready_steps moment steps (after_step moment step s) plain.1 (ready_step moment step s plain.0 ready)
+lasts_same : (s : SenderData) → Lasts s s
+lasts_same s = record { ready = λ is. is; acked = omega arith }
 
-ready_talk : (moment : ℕ) (got : Got) (found : LinkFact) (texts : List (List ℕ)) (count : ℕ) (s : SenderData) → s.ready ≡ true →
-    (after_steps moment (talk_steps got found texts count) s).ready ≡ true
-ready_talk moment unasked found texts count s ready = ready
-ready_talk moment lost found texts count s ready = ready
-ready_talk moment nothing found texts count s ready = ready_steps moment (clock_steps found texts count) s (plain_clock found texts count) ready
-ready_talk moment (whole bytes) found texts count s ready =
-    ready_steps moment (clock_steps found texts count) (hear_step (kind_of bytes) moment s) (plain_clock found texts count) (ready_lasts (kind_of bytes) moment s ready)
+lasts_then : (s t u : SenderData) → Lasts s t → Lasts t u → Lasts s u
+lasts_then s t u a b = record { ready = λ is. b.ready (a.ready is); acked = omega (arith, a.acked, b.acked) }
 
-ready_turn : (moment : ℕ) (d : Doing) (was_up : Bool) (got : Got) (found : LinkFact) (texts : List (List ℕ)) (count : ℕ) (s : SenderData) →
-    (d ≡ Dialling → ⊥) → s.ready ≡ true → (after_steps moment (turn_steps d was_up got found texts count) s).ready ≡ true
-ready_turn moment Dialling was_up got found texts count s other ready = absurd (other refl)
-ready_turn moment HangingUp was_up got found texts count s other ready = ready
-ready_turn moment Talking was_up got found texts count s other ready = ready_talk moment got found texts count s ready
-ready_turn moment Resting was_up got found texts count s other ready = ready
+lasts_frame : (moment : ℕ) (s : SenderData) → Lasts s (frame_step moment s)
+lasts_frame moment s = (let kept = keeps_frame moment s in record { ready = λ is. kept.ready ∙ is; acked = omega (arith, kept.acked) })
+
+lasts_tick : (moment : ℕ) (s : SenderData) → Lasts s (tick_step moment s)
+lasts_tick moment s = (let kept = ticked_keeps moment s in record { ready = λ is. kept.ready ∙ is; acked = omega (arith, kept.acked) })
+
+lasts_step : (moment : ℕ) (step : Step) (s : SenderData) → IsPlain step → Lasts s (after_step moment step s)
+lasts_step moment makes_link s plain = absurd plain
+lasts_step moment finds_no_port s plain = lasts_same s
+lasts_step moment fails_to_dial s plain = lasts_same s
+lasts_step moment (hears bytes) s plain = absurd plain
+lasts_step moment listens s plain = lasts_same s
+lasts_step moment fails_to_receive s plain = lasts_same s
+lasts_step moment ticks s plain = lasts_tick moment s
+lasts_step moment (issues text) s plain = record { ready = λ is. is; acked = omega arith }
+lasts_step moment gives s plain = lasts_frame moment s
+lasts_step moment fails_to_send s plain = lasts_frame moment s
+lasts_step moment (hangs_up was_up) s plain = lasts_same s
+
+lasts_steps : (moment : ℕ) (steps : List Step) (s : SenderData) → Each IsPlain steps → Lasts s (after_steps moment steps s)
+lasts_steps moment [] s plain = lasts_same s
+lasts_steps moment (step ∷ steps) s plain =
+    let t : SenderData = after_step moment step s in
+    lasts_then s t (after_steps moment steps t) (lasts_step moment step s plain.0) (lasts_steps moment steps t plain.1)
+
+lasts_talk : (moment : ℕ) (got : Got) (found : LinkFact) (texts : List (List ℕ)) (count : ℕ) (s : SenderData) →
+    Lasts s (after_steps moment (talk_steps got found texts count) s)
+lasts_talk moment unasked found texts count s = lasts_same s
+lasts_talk moment lost found texts count s = lasts_same s
+lasts_talk moment nothing found texts count s = lasts_steps moment (clock_steps found texts count) s (plain_clock found texts count)
+lasts_talk moment (whole bytes) found texts count s =
+    let t : SenderData = hear_step (kind_of bytes) moment s in
+    lasts_then s t (after_steps moment (clock_steps found texts count) t)
+    (record { ready = ready_lasts (kind_of bytes) moment s; acked = acked_heard (kind_of bytes) moment s })
+    (lasts_steps moment (clock_steps found texts count) t (plain_clock found texts count))
+
+lasts_dial : (moment : ℕ) (found : LinkFact) (s : SenderData) → (found ≡ fact.Opened → ⊥) → Lasts s (after_steps moment (dial_steps found) s)
+lasts_dial moment fact.Opened s other = absurd (other refl)
+lasts_dial moment fact.Quiet s other = lasts_same s
+lasts_dial moment fact.Ready s other = lasts_same s
+lasts_dial moment fact.Closed s other = lasts_same s
+lasts_dial moment fact.NoPort s other = lasts_same s
+lasts_dial moment fact.Failed s other = lasts_same s
+lasts_dial moment (fact.Ended why) s other = lasts_same s
+
+-- a turn that makes no link
+lasts_turn : (moment : ℕ) (d : Doing) (was_up : Bool) (got : Got) (found : LinkFact) (texts : List (List ℕ)) (count : ℕ) (s : SenderData) →
+    (found ≡ fact.Opened → ⊥) → Lasts s (after_steps moment (turn_steps d was_up got found texts count) s)
+lasts_turn moment Dialling was_up got found texts count s other = lasts_dial moment found s other
+lasts_turn moment HangingUp was_up got found texts count s other = lasts_same s
+lasts_turn moment Talking was_up got found texts count s other = lasts_talk moment got found texts count s
+lasts_turn moment Resting was_up got found texts count s other = lasts_same s
 
 -- which end it is
 why_of : SessionEnd → PrintEnd → SessionEnd
@@ -81,6 +112,7 @@ why_of other _ = other
 
 -- a print that ended with its session found so
 pub fact_by : (f : LinkFact) (why : SessionEnd) → end_of f ≡ Some (end.Ended why) → f ≡ fact.Ended why
+unfolding why_of
 fact_by (fact.Ended other) why is = ap fact.Ended (ap (why_of other) (same_Some (end.Ended other) (end.Ended why) is))
 fact_by fact.Quiet why is = absurd (cc)
 fact_by fact.Opened why is = absurd (cc)
@@ -206,12 +238,11 @@ module _ (moment : ℕ) (kind : LinkKind) (old_past new_past : Option (List Worl
     unsent = λ none. absurd (sent none);
   }
 
-  stays_ready : IsTalking kind port first old_past old → old.sender.ready ≡ true → mid.sender.ready ≡ true
-  stays_ready l ready =
-      let steps : SenderData = after_steps moment (turn_steps (doing old) old.up h.turn.got h.turn.found (texts_in h.turn.lines) h.turn.steps.count) old.sender in
-      let R : SenderData → Type 0 = λ s. s.ready ≡ true in
-      subst R (sym h.turn.steps.takes.sender) (ready_turn moment (doing old) old.up h.turn.got h.turn.found (texts_in h.turn.lines) h.turn.steps.count old.sender
-      (λ dials. (let down : old.up ≡ false = dials_down old dials in let up : old.up ≡ true = l.up in absurd (cc))) ready)
+  lasts : (fact_of turned.note ≡ fact.Opened → ⊥) → Lasts old.sender mid.sender
+  lasts other =
+      let L : SenderData → Type 0 = λ s. Lasts old.sender s in
+      subst L (sym h.turn.steps.takes.sender) (lasts_turn moment (doing old) old.up h.turn.got h.turn.found (texts_in h.turn.lines) h.turn.steps.count old.sender
+      (λ opens. other (its_fact ∙ opens)))
 
   talk_on : (l : IsTalking kind port first old_past old) → mid.up ≡ true → IsTalking kind port first new_past mid
   talk_on l up = record {
@@ -224,9 +255,10 @@ module _ (moment : ℕ) (kind : LinkKind) (old_past new_past : Option (List Worl
     where
       was_unready : (r : Bool) → old.sender.ready ≡ r → mid.sender.ready ≡ false → old.sender.ready ≡ false
       was_unready false e unready = e
-      was_unready true e unready = (let ready : mid.sender.ready ≡ true = stays_ready l e in absurd (cc))
+      was_unready true e unready = (let ready : mid.sender.ready ≡ true = (lasts (talks l)).ready e in absurd (cc))
 
   talk_goes : IsTalking kind port first old_past old → (f : LinkFact) → fact_of turned.note ≡ f → GoesOn kind port (end_of f) first new_past mid
+  unfolding why_of
   talk_goes l fact.Quiet is = talk_on l (h.kept.up ∙ ap (λ (f : LinkFact). up_after f old.up) is ∙ l.up)
   talk_goes l fact.Ready is = talk_on l (h.kept.up ∙ ap (λ (f : LinkFact). up_after f old.up) is)
   talk_goes l fact.Opened is = absurd (talks l is)
@@ -236,9 +268,29 @@ module _ (moment : ℕ) (kind : LinkKind) (old_past new_past : Option (List Worl
   talk_goes l (fact.Ended ends) is = talk_over (end.Ended ends) l (λ why e. is ∙ ap fact.Ended (ap (why_of ends) e)) (λ none. none)
 
   -- a turn leads a print on, or ends it
-  pub turn_goes : IsUnderWay kind port first old_past old → GoesOn kind port (end_of (fact_of turned.note)) first new_past mid
+  pub turn_goes : IsBetweenTurns kind port first old_past old → GoesOn kind port (end_of (fact_of turned.note)) first new_past mid
   turn_goes (inl d) = dial_goes d (fact_of turned.note) refl
   turn_goes (inr l) = talk_goes l (fact_of turned.note) refl
+
+-- a turn of a print that goes on calls the link
+pub calls_of : (x : SessionData) (f : LinkFact) → (x.up ≡ false → doing x ≡ Dialling) → can_find (doing x) f ≡ true → end_of f ≡ None →
+    is_calling (doing x) ≡ true
+calls_of x f awake can none = by_doing (doing x) refl can
+  where
+    hangs : (f : LinkFact) → can_find HangingUp f ≡ true → end_of f ≡ None → ⊥
+    hangs fact.Closed can none = absurd (cc)
+    hangs fact.Quiet can none = absurd (cc)
+    hangs fact.Opened can none = absurd (cc)
+    hangs fact.Ready can none = absurd (cc)
+    hangs fact.NoPort can none = absurd (cc)
+    hangs fact.Failed can none = absurd (cc)
+    hangs (fact.Ended why) can none = absurd (cc)
+
+    by_doing : (d : Doing) → doing x ≡ d → can_find d f ≡ true → is_calling (doing x) ≡ true
+    by_doing Dialling is can = ap is_calling is
+    by_doing HangingUp is can = absurd (hangs f can none)
+    by_doing Talking is can = ap is_calling is
+    by_doing Resting is can = (let no : Dialling ≡ Resting = sym (awake (rests_down x is)) ∙ is in absurd (cc))
 
 -- what the end of the connection leaves
 greatest_left : (ending : Option Ending) (d : Data) → (left_after ending d).greatest ≡ d.greatest

@@ -37,7 +37,7 @@ use Rattle.lossy_line.proofs.Turning.{opening, going_on}
 use Rattle.lossy_line.proofs.Tying.{tied_at, opened_tied}
 use Rattle.lossy_line.specs.Tied.{IsTied}
 use Rattle.session_print.specs.Printed.{HasPrinted}
-use Rattle.session_print.specs.UnderWay.{IsMade}
+use Rattle.session_print.specs.BetweenTurns.{IsMade}
 use Rattle.session_print.proofs.Sessions.{none_printed}
 
 -- only a turn that dials finds no port

@@ -160,20 +160,28 @@ module _ (moment : ℕ) (kind : LinkKind) (old_past new_past : Option (List Worl
       let U : SenderData → Type 0 = λ s. IsUnanswered s in
       (w.0, subst U (sym sender) w.1)
 
+-- the moment of a turn is one that the clock has shown
+shown_by : (a b c : Option ℕ) (at shown next moment : ℕ) → b ≡ a → NotBefore b c → c ≡ Some at → IfSome a (λ was. shown ≡ was) →
+    ((was : ℕ) → a ≡ Some was → moment ≤ was) → next ≡ max shown moment → next ≤ at
+shown_by None b c at shown next moment is goes e shows below greater =
+    let N : Option ℕ → Type 0 = λ x. NotBefore x c in
+    let M : Option ℕ → Type 0 = λ x. NotBefore None x in
+    absurd (subst M e (subst N is goes))
+shown_by (Some was) b c at shown next moment is goes e shows below greater =
+    let N : Option ℕ → Type 0 = λ x. NotBefore x c in
+    let M : Option ℕ → Type 0 = λ x. NotBefore (Some was) x in
+    let later : was ≤ at = subst M e (subst N is goes) in
+    omega (arith, greater, shows, below was refl, later)
+
 module _ (began before between after : Option ℕ) (moment limit shown next : ℕ) (s t : SenderData) where
   -- a turn at the greater one of the moment that the clock shows and the last one
-  pub on_time_next : IsOnTime began before moment limit s → IfSome before (λ at. shown ≡ at) → between ≡ before → NotBefore between after →
-      next ≡ max shown moment → ((start : ℕ) → start ≤ next → IsPatient start limit s → IsPatient start limit t) →
-      IsOnTime began after next limit t
-  on_time_next o shows stays goes greater turn = record {
-    patient = turn 0 (omega arith) o.patient;
-    since = λ start at is_began is_after. (let was = told before between after at stays goes is_after in
-        turn start (omega (arith, greater, o.later start was.0 is_began was.1, shown_at before was.0 was.1 shows)) (o.since start was.0 is_began was.1));
-    later = λ start at is_began is_after. (let was = told before between after at stays goes is_after in
-        omega (arith, o.later start was.0 is_began was.1, was.2));
-    shown = λ at is_after. (let was = told before between after at stays goes is_after in
-        omega (arith, greater, o.shown was.0 was.1, shown_at before was.0 was.1 shows, was.2));
-  }
+  pub in_time : IsOnTime began before moment limit s → IfSome before (λ at. shown ≡ at) → between ≡ before → NotBefore between after →
+      next ≡ max shown moment → (start at : ℕ) → began ≡ Some start → after ≡ Some at →
+      (start ≤ next) × (next ≤ at) × IsPatient start limit s
+  in_time o shows stays goes greater start at is_began is_after =
+      let was = told before between after at stays goes is_after in
+      let same : shown ≡ was.0 = shown_at before was.0 was.1 shows in
+      (omega (arith, greater, o.later start was.0 is_began was.1, same), omega (arith, greater, o.shown was.0 was.1, same, was.2), o.since start was.0 is_began was.1)
     where
       told : (a b c : Option ℕ) (at : ℕ) → b ≡ a → NotBefore b c → c ≡ Some at → (was : ℕ) × (a ≡ Some was) × (was ≤ at)
       told None b c at is goes e =
@@ -189,6 +197,20 @@ module _ (began before between after : Option ℕ) (moment limit shown next : �
       shown_at a was is shows =
           let I : Option ℕ → Type 0 = λ x. IfSome x (λ at. shown ≡ at) in
           subst I is shows
+
+  pub on_time_next : IsOnTime began before moment limit s → IfSome before (λ at. shown ≡ at) → between ≡ before → NotBefore between after →
+      next ≡ max shown moment → ((start : ℕ) → start ≤ next → IsPatient start limit s → IsPatient start limit t) →
+      IsOnTime began after next limit t
+  on_time_next o shows stays goes greater turn = record {
+    patient = turn 0 (omega arith) o.patient;
+    since = λ start at is_began is_after. (let so = in_time o shows stays goes greater start at is_began is_after in turn start so.0 so.2);
+    later = λ start at is_began is_after. (let so = in_time o shows stays goes greater start at is_began is_after in omega (arith, so.0, so.1));
+    shown = λ at is_after. on_show at is_after o shows stays goes greater;
+  }
+    where
+      on_show : (at : ℕ) → after ≡ Some at → IsOnTime began before moment limit s → IfSome before (λ at. shown ≡ at) → between ≡ before →
+          NotBefore between after → next ≡ max shown moment → next ≤ at
+      on_show at is_after o shows stays goes greater = shown_by before between after at shown next moment stays goes is_after shows o.shown greater
 
 -- the moment of the turn that ended the print
 pub waited_by : (how : PrintEnd) (began now : Option ℕ) (limit : ℕ) →

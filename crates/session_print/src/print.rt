@@ -17,7 +17,7 @@ ghost use Rattle.octo_session.specs.declared.found.Doing.TheVariants as now_doin
 ghost use Rattle.session_print.specs.Ends.{IsNew, IsTooHot, IsUnlisted, end_of, prepared, desk_after, left_after};
 ghost use Rattle.session_print.specs.Patience.{IsPatient, IsUnanswered, IsOnTime, HasWaited};
 ghost use Rattle.session_print.specs.Printed.{IsOver};
-ghost use Rattle.session_print.specs.UnderWay.{IsDialling, IsUnderWay, GoesOn};
+ghost use Rattle.session_print.specs.BetweenTurns.{IsDialling, IsBetweenTurns, GoesOn};
 ghost use Rattle.session_print.specs.declared.end.PrintEnd.TheVariants as end;
 
 use crate::end::PrintEnd;
@@ -134,7 +134,7 @@ fn make_turn<L: Link, T: Clock>(
     requires as_up { L.up link.old ≡ session.old.up }
     requires unstarted { session.old.sender.ready ≡ false → session.old.desk.greatest ≡ 0 }
     ensures goes { (port : List ℕ) (first : Option (List WorldEvent))
-        → IsUnderWay (L.kind link.old) port first (L.past link.old) session.old
+        → IsBetweenTurns (L.kind link.old) port first (L.past link.old) session.old
         → GoesOn (L.kind link.old) port result first (L.past link.new) session.new }
     ensures no_port { (result ≡ Some end.NoPort) ↔ ((doing session.old ≡ now_doing.Dialling)
         × ((L.kind link.old).listed (port_of session.old.desk) ≡ false)) }

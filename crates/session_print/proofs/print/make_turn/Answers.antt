@@ -13,20 +13,20 @@ use Rattle.lossy_line.proofs.Told.{noted_fact}
 use Rattle.session_print.specs.Patience.{IsPatient, IsUnanswered}
 use Rattle.session_print.proofs.Waits.{turn_patient, turn_unanswered}
 use Rattle.session_print.specs.Ends.{end_of, desk_after}
-use Rattle.session_print.specs.UnderWay.{GoesOn}
+use Rattle.session_print.specs.BetweenTurns.{GoesOn}
 use Rattle.session_print.specs.declared.end.PrintEnd.{PrintEnd}
-use Rattle.session_print.proofs.Steps.{HasTurned, turn_goes, follows, fact_by}
+use Rattle.session_print.proofs.Steps.{HasTurned, turn_goes, follows, fact_by, calls_of}
 use Rattle.session_print.proofs.print.make_turn.Goals as goal
 
 pub returns-clause-goes : goal.returns-clause-goes
 returns-clause-goes g c port first way =
-    let e = c.turn_over_link.ensures in
-    let turned = c.turn_over_link.result in
+    let e = c.turn_over_link-turned.ensures in
+    let turned = c.turn_over_link-turned.result in
     let old : SessionData = c.args.session.now in
-    let mid : SessionData = c.turn_over_link.new.session in
+    let mid : SessionData = c.turn_over_link-turned.new.session in
     let kind : LinkKind = g.L.Link.kind c.args.link.now in
-    let now = g.L.Link.past c.turn_over_link.new.link in
-    let h : HasTurned c.args.moment kind (g.L.Link.past c.args.link.now) now (g.L.Link.calls c.args.link.now) (g.L.Link.calls c.turn_over_link.new.link) old mid turned =
+    let now = g.L.Link.past c.turn_over_link-turned.new.link in
+    let h : HasTurned c.args.moment kind (g.L.Link.past c.args.link.now) now (g.L.Link.calls c.args.link.now) (g.L.Link.calls c.turn_over_link-turned.new.link) old mid turned =
     record {
       turn = e.turn;
       kept = record { before = e.before; finds = e.finds; up = e.up; sent = e.sent; spent = e.spent };
@@ -40,23 +40,28 @@ returns-clause-goes g c port first way =
     let F : LinkFact → Type 0 = λ f. GoesOn kind port (end_of f) first now (record mid { desk = desk_after f turned.ending mid.desk }) in
     let R : Option PrintEnd → Type 0 = λ r. GoesOn kind port r first now (record mid { desk = desk_after c.fact_of_turn.result turned.ending mid.desk }) in
     let S : SessionData → Type 0 = λ x. GoesOn kind port c.go_on.result first now x in
-    let K : LinkKind → Type 0 = λ k. GoesOn k port c.go_on.result first now c.go_on.new.session in
-    subst K (sym e.kind) (subst S (sym c.go_on.ensures.after) (subst R (sym c.go_on.ensures.end) (subst F (sym c.fact_of_turn.ensures) on)))
+    subst S (sym c.go_on.ensures.after) (subst R (sym c.go_on.ensures.end) (subst F (sym c.fact_of_turn.ensures) on))
 
 pub returns-clause-waits : goal.returns-clause-waits
 returns-clause-waits g c start limit since p =
     let S : SessionData → Type 0 = λ x. IsPatient start limit x.sender in
-    subst S (sym c.go_on.ensures.after) (turn_patient c.args.moment _ _ _ _ _ c.args.session.now c.turn_over_link.new.session c.turn_over_link.result c.turn_over_link.ensures.turn start limit since p)
+    subst S (sym c.go_on.ensures.after) (turn_patient c.args.moment _ _ _ _ _ c.args.session.now c.turn_over_link-turned.new.session c.turn_over_link-turned.result c.turn_over_link-turned.ensures.turn start limit since p)
 
 pub returns-clause-waited : goal.returns-clause-waited
 returns-clause-waited g c start limit count since p is =
-    let e = c.turn_over_link.ensures in
+    let e = c.turn_over_link-turned.ensures in
     let t = e.turn in
     let old : SessionData = c.args.session.now in
-    let note = c.turn_over_link.result.note in
-    let found : fact_of note ≡ t.found = noted_fact note c.args.moment old.sender.acked c.turn_over_link.new.session.sender.acked t.lines t.got t.found t.none t.some in
+    let note = c.turn_over_link-turned.result.note in
+    let found : fact_of note ≡ t.found = noted_fact note c.args.moment old.sender.acked c.turn_over_link-turned.new.session.sender.acked t.lines t.got t.found t.none t.some in
     let ends : fact_of note ≡ fact.Ended (NoAnswer count) = fact_by (fact_of note) (NoAnswer count) (ap end_of (sym c.fact_of_turn.ensures) ∙ sym c.go_on.ensures.end ∙ is) in
     let F : LinkFact → Type 0 = λ f. can_find (doing old) f ≡ true in
-    let w = turn_unanswered c.args.moment _ _ _ _ _ old c.turn_over_link.new.session c.turn_over_link.result t start limit since count e.before p (sym found ∙ ends) (subst F found e.finds) in
+    let w = turn_unanswered c.args.moment _ _ _ _ _ old c.turn_over_link-turned.new.session c.turn_over_link-turned.result t start limit since count e.before p (sym found ∙ ends) (subst F found e.finds) in
     let S : SessionData → Type 0 = λ x. IsUnanswered x.sender in
     (w.0, subst S (sym c.go_on.ensures.after) w.1)
+
+pub returns-clause-calls : goal.returns-clause-calls
+returns-clause-calls g c awake is =
+    let e = c.turn_over_link-turned.ensures in
+    let note = c.turn_over_link-turned.result.note in
+    e.calls (calls_of c.args.session.now (fact_of note) awake e.finds (ap end_of (sym c.fact_of_turn.ensures) ∙ sym c.go_on.ensures.end ∙ is))

@@ -5,8 +5,10 @@ use Rattle.printer_link.specs.Link.{LinkKind, RoseBy, Grows, IsHangUp}
 use Rattle.printer_link.proofs.Calls.{rose_none, rose_then}
 use Rattle.octo_session.specs.Data.{port_of}
 use Rattle.session_print.specs.Printed.{IsOver}
+use Rattle.session_print.specs.BetweenTurns.{IsTalking}
 use Rattle.session_print.specs.declared.end.PrintEnd.{PrintEnd}
-use Rattle.session_print.proofs.Waits.{on_time_next, waited_by}
+use Rattle.session_print.specs.declared.end.PrintEnd.TheVariants as end
+use Rattle.session_print.proofs.Waits.{in_time, on_time_next, waited_by}
 use Rattle.session_print.proofs.Loops.{under, awake, unstarted_in, found_unlisted, unlisted_first, same_turns, hung_over}
 use Rattle.session_print.proofs.print.make_turns.Goals as goal
 
@@ -20,8 +22,8 @@ loop-init g c = record {
   counted = omega arith;
 }
 
-pub make_turn-requires-unstarted : goal.make_turn-requires-unstarted
-make_turn-requires-unstarted g c unready =
+pub make_turn-requires-clause-unstarted : goal.make_turn-requires-clause-unstarted
+make_turn-requires-clause-unstarted g c unready =
     unstarted_in c.loop.counter (g.L.Link.kind c.loop.link) _ _ _ c.loop.session c.loop.invariant.way unready
 
 pub loop-preserved : goal.loop-preserved
@@ -30,12 +32,13 @@ loop-preserved g c =
     let kind = g.L.Link.kind c.loop.link in
     let first = g.L.Link.past c.args.link.now in
     let port = port_of c.args.session.now.desk in
+    let K : LinkKind → Type 0 = λ k. IsTalking k port first (g.L.Link.past c.make_turn.new.link) c.make_turn.new.session in
     record {
       up = c.in-None.ensures.up refl;
-      way = inr (c.in-None.ensures.goes port first (under c.loop.counter kind port first _ c.loop.session i.way));
+      way = inr (subst K (sym c.make_turn.ensures.kind) (c.in-None.ensures.goes port first (under c.loop.counter kind port first _ c.loop.session i.way)));
       kind = c.make_turn.ensures.kind ∙ i.kind;
       calls = rose_then c.loop.counter 1 (g.L.Link.calls c.args.link.now) (g.L.Link.calls c.loop.link) _ i.calls (c.in-None.ensures.calls (awake c.loop.counter kind port first _ c.loop.session i.way) refl);
-      on_time = on_time_next _ _ _ _ _ _ _ _ _ _ i.on_time c.now.ensures.now c.now.ensures.stays c.make_turn.ensures.clock refl
+      on_time = on_time_next _ _ _ _ _ _ _ _ _ _ i.on_time c.now.ensures.now c.now.ensures.stays c.make_turn.ensures.clock c.max-moment.ensures
           (λ start since p. c.make_turn.ensures.waits start c.args.session.now.sender.limit since p);
       counted = omega (arith, i.counted, c.make_turn.ensures.counted);
     }
@@ -48,7 +51,7 @@ returns-in-Some-clause-over g c =
     let port = port_of c.args.session.now.desk in
     let over = c.in-Some.ensures.goes port first (under c.loop.counter kind port first _ c.loop.session i.way) in
     let K : LinkKind → Type 0 = λ k. IsOver k c.in-Some.end first (g.L.Link.past c.make_turn.new.link) c.make_turn.new.session in
-    subst K (c.make_turn.ensures.kind ∙ i.kind) over
+    subst K i.kind over
 
 pub returns-in-Some-clause-no_port : goal.returns-in-Some-clause-no_port
 returns-in-Some-clause-no_port g c =
@@ -79,7 +82,7 @@ returns-clause-over g c =
     let port = port_of c.args.session.now.desk in
     let B : Bool → Type 0 = λ b. Grows kind (g.L.Link.past c.loop.link) (g.L.Link.past c.hang_up.new.self) (IsHangUp b) in
     let over = hung_over c.loop.counter kind port first _ c.loop.session c.args.turns _ i.way (subst B i.up c.hang_up.ensures.past) in
-    let K : LinkKind → Type 0 = λ k. IsOver k _ first (g.L.Link.past c.hang_up.new.self) c.loop.session in
+    let K : LinkKind → Type 0 = λ k. IsOver k (end.TurnsUsed c.args.turns) first (g.L.Link.past c.hang_up.new.self) c.loop.session in
     subst K i.kind over
 
 pub returns-clause-no_port : goal.returns-clause-no_port
@@ -104,3 +107,12 @@ returns-clause-used g c made is =
 pub returns-in-Some-clause-unanswered : goal.returns-in-Some-clause-unanswered
 returns-in-Some-clause-unanswered g c count is =
     (c.in-Some.ensures.waited 0 c.args.session.now.sender.limit count (omega arith) c.loop.invariant.on_time.patient (ap Some is)).1
+
+pub returns-in-Some-clause-waited : goal.returns-in-Some-clause-waited
+returns-in-Some-clause-waited g c =
+    let limit = c.args.session.now.sender.limit in
+    waited_by c.in-Some.end (g.T.Clock.moment c.args.clock.now) (g.T.Clock.moment c.make_turn.new.clock) limit
+    (λ count start at is began now.
+    (let so = in_time _ _ _ _ _ _ _ _ _ c.loop.session.sender c.loop.invariant.on_time c.now.ensures.now c.now.ensures.stays c.make_turn.ensures.clock c.max-moment.ensures start at began now in
+    let waited = c.in-Some.ensures.waited start limit count so.0 so.2 (ap Some is) in
+    omega (arith, waited.0, so.1)))

@@ -33,8 +33,8 @@ pub record IsTalking (kind : LinkKind) (port : List ℕ) (first now : Option (Li
   pub unstarted : x.sender.ready ≡ false → x.desk.greatest ≡ 0
 
 -- a print is between two turns
-abbrev pub IsUnderWay : LinkKind → List ℕ → Option (List WorldEvent) → Option (List WorldEvent) → SessionData → Type 0
-IsUnderWay kind port first now x = IsDialling port first now x ⊎ IsTalking kind port first now x
+abbrev pub IsBetweenTurns : LinkKind → List ℕ → Option (List WorldEvent) → Option (List WorldEvent) → SessionData → Type 0
+IsBetweenTurns kind port first now x = IsDialling port first now x ⊎ IsTalking kind port first now x
 
 -- what a turn has left: a print that goes on or that ended so
 abbrev pub GoesOn : LinkKind → List ℕ → Option PrintEnd → Option (List WorldEvent) → Option (List WorldEvent) → SessionData → Type 0
