@@ -8,6 +8,7 @@ use Rattle.print_records.specs.declared.ending.Ending.{Ending}
 use Rattle.send_window.specs.Data.{IsSound, new_sender}
 use Rattle.octo_session.specs.Data.{SessionData}
 use Rattle.temp_rules.specs.declared.job.HotLine.{HotLine}
+use Rattle.print_course.specs.Plan.{PrintData}
 use Rattle.session_print.specs.declared.end.PrintEnd.{PrintEnd}
 use Rattle.session_print.specs.declared.end.PrintEnd.TheVariants as end
 
@@ -23,6 +24,10 @@ abbrev pub prepared : List ℕ → File → Data → Data
 prepared port file d =
     let connected = (connect_at d.state port d).1 in
     (select_at connected.state file connected).1
+
+-- what a desk prints of a file
+abbrev pub print_of : Data → File → PrintData
+print_of d file = record { scripts = d.scripts; limits = d.limits; file = file }
 
 -- a print ends as too hot exactly if a command is, and names the first one
 abbrev pub IsTooHot : Option HotLine → PrintEnd → Type 0

@@ -14,10 +14,11 @@ ghost use Rattle.temp_rules.specs.Hot.{first_hot_of};
 ghost use Rattle.octo_session.specs.Data.{IsSession, doing, port_of};
 ghost use Rattle.octo_session.specs.Turn.{fact_of};
 ghost use Rattle.octo_session.specs.declared.found.Doing.TheVariants as now_doing;
+ghost use Rattle.print_course.specs.Plan.{PrintData, print_commands, plan};
 ghost use Rattle.session_print.specs.Ends.{IsNew, IsTooHot, IsUnlisted, end_of, prepared, desk_after, left_after};
 ghost use Rattle.session_print.specs.Patience.{IsPatient, IsUnanswered, IsOnTime, HasWaited};
 ghost use Rattle.session_print.specs.Printed.{IsOver};
-ghost use Rattle.session_print.specs.BetweenTurns.{IsDialling, IsBetweenTurns, GoesOn};
+ghost use Rattle.session_print.specs.BetweenTurns.{IsDialling, HasBegun, IsBetweenTurns, GoesOn};
 ghost use Rattle.session_print.specs.declared.end.PrintEnd.TheVariants as end;
 
 use crate::end::PrintEnd;
@@ -49,8 +50,9 @@ pub fn run_print<L: Link, T: Clock>(
     requires new { IsNew session.old }
     requires down { L.up link.old ≡ false }
 
-    // The history of the link.
-    ensures over { IsOver (L.kind link.old) result (L.past link.old) (L.past link.new) session.new }
+    // What was printed, by the history of the link.
+    ensures over { IsOver (L.kind link.old) (plan session.old.desk.scripts (texts_of job)) result
+        (L.past link.old) (L.past link.new) session.new }
 
     // Each end by its cause.
     ensures too_hot { IsTooHot (first_hot_of session.old.desk.limits job.commands) result }
@@ -97,9 +99,12 @@ fn make_turns<L: Link, T: Clock>(
     turns: u64,
 ) -> PrintEnd
     requires as_up { L.up link.old ≡ session.old.up }
-    requires begins { IsDialling (port_of session.old.desk) (L.past link.old) (L.past link.old) session.old }
+    requires begins { HasBegun (L.past link.old) session.old }
     requires on_time { IsOnTime (T.moment clock.old) (T.moment clock.old) 0 session.old.sender.limit session.old.sender }
-    ensures over { IsOver (L.kind link.old) result (L.past link.old) (L.past link.new) session.new }
+    ensures over { (p : PrintData)
+        → IsDialling p (port_of session.old.desk) (L.past link.old) (L.past link.old) session.old
+        → IsOver (L.kind link.old) (plan p.scripts (print_commands p)) result
+        (L.past link.old) (L.past link.new) session.new }
     ensures no_port { (result ≡ end.NoPort)
         ↔ ((1 ≤ turns) × ((L.kind link.old).listed (port_of session.old.desk) ≡ false)) }
     ensures down { L.up link.new ≡ false }
@@ -133,9 +138,9 @@ fn make_turn<L: Link, T: Clock>(
 ) -> Option<PrintEnd>
     requires as_up { L.up link.old ≡ session.old.up }
     requires unstarted { session.old.sender.ready ≡ false → session.old.desk.greatest ≡ 0 }
-    ensures goes { (port : List ℕ) (first : Option (List WorldEvent))
-        → IsBetweenTurns (L.kind link.old) port first (L.past link.old) session.old
-        → GoesOn (L.kind link.old) port result first (L.past link.new) session.new }
+    ensures goes { (p : PrintData) (port : List ℕ) (first : Option (List WorldEvent))
+        → IsBetweenTurns (L.kind link.old) p port first (L.past link.old) session.old
+        → GoesOn (L.kind link.old) p port result first (L.past link.new) session.new }
     ensures no_port { (result ≡ Some end.NoPort) ↔ ((doing session.old ≡ now_doing.Dialling)
         × ((L.kind link.old).listed (port_of session.old.desk) ≡ false)) }
     ensures up { result ≡ None → L.up link.new ≡ session.new.up }
