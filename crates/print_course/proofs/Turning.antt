@@ -4,8 +4,8 @@ use Rattle.std.specs.Option.{option_or}
 use Rattle.std.proofs.lemmas.List.{append-nil}
 use Rattle.std.proofs.lemmas.Bool.{false≢true}
 use Rattle.marlin_reply.specs.Kind.{kind_of}
-use Rattle.marlin_reply.specs.declared.session.LinkFact.{LinkFact}
-use Rattle.marlin_reply.specs.declared.session.LinkFact.TheVariants as fact
+use Rattle.desk_steps.specs.declared.link_fact.LinkFact.{LinkFact}
+use Rattle.desk_steps.specs.declared.link_fact.LinkFact.TheVariants as fact
 use Rattle.print_records.specs.declared.ending.Ending.{Ending}
 use Rattle.print_records.specs.declared.ending.Outcome.{Outcome}
 use Rattle.print_records.specs.declared.ending.Outcome.TheVariants as outcome
@@ -30,7 +30,7 @@ use Rattle.octo_session.proofs.Keeping.{acked_heard, ticked_keeps, keeps_frame}
 use Rattle.octo_session.proofs.Desk.{noted_greatest}
 use Rattle.octo_session.proofs.Counts.{begins, counts_note, counted_pull}
 use Rattle.lossy_line.specs.Issuing.{issued_in}
-use Rattle.lossy_line.proofs.Told.{noted_fact, noted_lines}
+use Rattle.octo_session.proofs.Noting.{noted_fact, noted_lines}
 use Rattle.octo_session.specs.declared.found.Turned.{Turned}
 use Rattle.print_course.specs.Plan.{PrintData, line_texts}
 use Rattle.print_course.specs.Underway.{standing, IsUnderway, Suits, ComesTo, EndsAs}

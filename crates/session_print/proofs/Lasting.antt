@@ -7,9 +7,9 @@ use Rattle.desk_steps.specs.Table.{disconnect_at}
 use Rattle.desk_steps.specs.declared.state.State.{State}
 use Rattle.desk_steps.specs.declared.state.State.TheVariants.{Offline, Connecting, Operational, Printing, Pausing, Paused, Cancelling, Finishing, Closing, Fault}
 use Rattle.marlin_reply.specs.Kind.{kind_of}
-use Rattle.marlin_reply.specs.declared.session.LinkFact.{LinkFact}
-use Rattle.marlin_reply.specs.declared.session.LinkFact.TheVariants as fact
-use Rattle.marlin_reply.specs.declared.session.SessionEnd.{SessionEnd}
+use Rattle.desk_steps.specs.declared.link_fact.LinkFact.{LinkFact}
+use Rattle.desk_steps.specs.declared.link_fact.LinkFact.TheVariants as fact
+use Rattle.send_window.specs.declared.session_end.SessionEnd.{SessionEnd}
 use Rattle.print_records.specs.declared.ending.Ending.{Ending}
 use Rattle.printer_model.specs.declared.event.WorldEvent.{WorldEvent}
 use Rattle.printer_link.specs.Link.{LinkKind, Recorded, world_in}
@@ -32,7 +32,8 @@ use Rattle.lossy_line.specs.Linked.{IsOpened, IsLinked, LinkedAs, opened}
 use Rattle.lossy_line.specs.Tied.{EndCausedAs}
 use Rattle.lossy_line.proofs.Speech.{plain_clock}
 use Rattle.lossy_line.proofs.Stepping.{IsPlain}
-use Rattle.lossy_line.proofs.Told.{IsKept, noted_fact}
+use Rattle.octo_session.proofs.Noting.{noted_fact}
+use Rattle.lossy_line.proofs.Told.{IsKept}
 use Rattle.lossy_line.proofs.Turned.{IsTurned, dials_down, rests_down, opens_dialling}
 use Rattle.session_print.specs.Ends.{IsUnsent, end_of, desk_after, left_after}
 use Rattle.session_print.specs.Printed.{HasIssued, IsOver}

@@ -2,8 +2,8 @@
 use Rattle.std.specs.Prelude.{◌≡◌, ◌≢◌, ◌≤◌, ℕ, Bool, false, List, Option, None, Some}
 use Rattle.desk_steps.specs.Data.{Data, File, new_desk}
 use Rattle.desk_steps.specs.Table.{connect_at, disconnect_at, select_at, start_at}
-use Rattle.marlin_reply.specs.declared.session.LinkFact.{LinkFact}
-use Rattle.marlin_reply.specs.declared.session.LinkFact.TheVariants as fact
+use Rattle.desk_steps.specs.declared.link_fact.LinkFact.{LinkFact}
+use Rattle.desk_steps.specs.declared.link_fact.LinkFact.TheVariants as fact
 use Rattle.print_records.specs.declared.ending.Ending.{Ending}
 use Rattle.send_window.specs.Data.{IsSound, new_sender}
 use Rattle.octo_session.specs.Data.{SessionData}

@@ -1,15 +1,15 @@
 use Rattle.std.proofs.Common.{◌≡◌, true, sym, ◌∙◌, subst, refl, ap}
 use Rattle.std.specs.Prelude.{Option, Some}
-use Rattle.marlin_reply.specs.declared.session.LinkFact.{LinkFact}
-use Rattle.marlin_reply.specs.declared.session.LinkFact.TheVariants as fact
+use Rattle.desk_steps.specs.declared.link_fact.LinkFact.{LinkFact}
+use Rattle.desk_steps.specs.declared.link_fact.LinkFact.TheVariants as fact
 use Rattle.printer_link.specs.Link.{LinkKind}
 use Rattle.octo_session.specs.Data.{SessionData}
 use Rattle.octo_session.specs.Turn.{fact_of}
 use Rattle.lossy_line.specs.Tied.{EndCausedAs}
-use Rattle.marlin_reply.specs.declared.session.SessionEnd.TheVariants.{NoAnswer}
+use Rattle.send_window.specs.declared.session_end.SessionEnd.TheVariants.{NoAnswer}
 use Rattle.octo_session.specs.Data.{doing}
 use Rattle.octo_session.specs.Found.{can_find}
-use Rattle.lossy_line.proofs.Told.{noted_fact}
+use Rattle.octo_session.proofs.Noting.{noted_fact}
 use Rattle.session_print.specs.Patience.{IsPatient, IsUnanswered}
 use Rattle.session_print.proofs.Waits.{turn_patient, turn_unanswered}
 use Rattle.session_print.specs.Ends.{end_of, desk_after}
