@@ -51,9 +51,9 @@ refused kind plan past x line asked limit new =
     let how : PrintEnd = end.TooHot line asked limit in
     let A : ℕ → Type 0 = λ n. (before : List WorldEvent) → HasPrinted kind plan how n before [] in
     record {
-      history = recorded_same past (λ before added. HasPrinted kind plan how x.sender.acked before added)
+      printed = recorded_same past (HasPrinted kind plan how x.sender.acked)
           (subst A (sym (new_acked x new)) (λ before. printed_of kind plan how [] 0 before [] (part_none plan) (λ is. absurd (cc)) (none_printed kind before [] refl)));
-      caused = λ why is. absurd (cc);
+      ended = λ why is. absurd (cc);
       unsent = λ none. refl;
     }
 

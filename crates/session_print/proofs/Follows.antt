@@ -123,7 +123,7 @@ module _ (kind : LinkKind) (p : PrintData) (port : List ℕ) (first now : Option
 
   over_stays : (how : PrintEnd) → IsOver kind (plan p.scripts (print_commands p)) how first now x →
       IsOver kind (plan p.scripts (print_commands p)) how first now (record x { desk = x.desk })
-  over_stays how over = record { history = over.history; caused = over.caused; unsent = over.unsent }
+  over_stays how over = record { printed = over.printed; ended = over.ended; unsent = over.unsent }
 
   -- what follows of a turn
   pub follows : (f : LinkFact) (ending : Option Ending) → (f ≡ fact.Ready → (x.sender.ready ≡ true) × (x.desk.greatest ≡ 0)) →

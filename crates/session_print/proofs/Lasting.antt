@@ -19,7 +19,7 @@ use Rattle.send_window.specs.Hearing.{hear_step, tick_step}
 use Rattle.send_window.specs.Sending.{frame_step}
 use Rattle.send_window.proofs.Soundness.{begun_sound, hears_sound, ticks_sound, issues_sound, gives_sound}
 use Rattle.octo_session.specs.Data.{SessionData, doing, is_calling, port_of}
-use Rattle.octo_session.specs.Found.{Got, unasked, lost, nothing, whole, can_find, up_after}
+use Rattle.octo_session.specs.Found.{Got, unasked, lost, nothing, whole, end_by, can_find}
 use Rattle.octo_session.specs.Steps.{Step, opens as makes_link, finds_no_port, fails_to_dial, hears, listens, fails_to_receive, ticks, issues, gives, fails_to_send, hangs_up, after_step, after_steps, IsAllowed, AreAllowed, clock_steps, dial_steps, talk_steps, turn_steps}
 use Rattle.octo_session.specs.Turn.{IsTurn, fact_of, lines_of, texts_in}
 use Rattle.octo_session.specs.declared.found.Doing.{Doing}
@@ -124,3 +124,19 @@ sound_step moment (hangs_up was_up) s can sound = sound
 pub sound_steps : (moment : ℕ) (steps : List Step) (s : SenderData) → AreAllowed moment steps s → IsSound s → IsSound (after_steps moment steps s)
 sound_steps moment [] s can sound = sound
 sound_steps moment (step ∷ steps) s can sound = sound_steps moment steps (after_step moment step s) can.1 (sound_step moment step s can.0 sound)
+
+-- a turn that ends the session ends its sender so
+ended_talk : (moment : ℕ) (why : SessionEnd) (got : Got) (texts : List (List ℕ)) (count : ℕ) (s : SenderData) → end_by got moment s ≡ Some why →
+    (after_steps moment (talk_steps got (fact.Ended why) texts count) s).ended ≡ Some why
+ended_talk moment why unasked texts count s ends = absurd (cc)
+ended_talk moment why lost texts count s ends = absurd (cc)
+ended_talk moment why nothing texts count s ends = ends
+ended_talk moment why (whole bytes) texts count s ends = ends
+
+pub ended_turn : (moment : ℕ) (why : SessionEnd) (d : Doing) (was_up : Bool) (got : Got) (texts : List (List ℕ)) (count : ℕ) (s : SenderData) →
+    can_find d (fact.Ended why) ≡ true → end_by got moment s ≡ Some why →
+    (after_steps moment (turn_steps d was_up got (fact.Ended why) texts count) s).ended ≡ Some why
+ended_turn moment why Talking was_up got texts count s can ends = ended_talk moment why got texts count s ends
+ended_turn moment why Dialling was_up got texts count s can ends = absurd (cc)
+ended_turn moment why HangingUp was_up got texts count s can ends = absurd (cc)
+ended_turn moment why Resting was_up got texts count s can ends = absurd (cc)

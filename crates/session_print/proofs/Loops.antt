@@ -70,20 +70,20 @@ module _ (count : ℕ) (kind : LinkKind) (p : PrintData) (port : List ℕ) (firs
       subst A (sym dial.none_acked) (printed_of kind whole (end.TurnsUsed turns) [] 0 past added (part_none whole) (λ is. absurd (cc)) (none_printed kind past added (ap opens none))))
       in
       record {
-        history = subst F dial.nothing (recorded_so now last (λ past added. added ≡ []) P (subst B (dials_down x dial.dials) hung) printed);
-        caused = λ why is. absurd (cc);
+        printed = subst F dial.nothing (recorded_so now last (λ past added. added ≡ []) P (subst B (dials_down x dial.dials) hung) printed);
+        ended = λ why is. absurd (cc);
         unsent = λ none. absurd none;
       }
   hung_over turns last (inr l) hung =
       let whole : List (List ℕ) = plan p.scripts (print_commands p) in
       let B : Bool → Type 0 = λ b. Grows kind now last (IsHangUp b) in
       record {
-        history = recorded_then first now last (λ past added. IsMade kind l.issued x past added)
+        printed = recorded_then first now last (λ past added. IsMade kind l.issued x past added)
             (λ past added. IsHangUp true (world_in kind past) added)
             (λ past added. HasPrinted kind whole (end.TurnsUsed turns) x.sender.acked past added)
             l.history (subst B l.up hung)
             (λ past added more made hangs. printed_of kind whole (end.TurnsUsed turns) l.issued x.sender.acked past (added ++ more) (underway-part p x.desk l.issued l.on.course) (λ is. absurd (cc))
             (hung_printed kind l.issued x past added more made hangs));
-        caused = λ why is. absurd (cc);
+        ended = λ why is. absurd (cc);
         unsent = λ none. absurd none;
       }

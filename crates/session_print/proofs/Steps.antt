@@ -47,7 +47,7 @@ use Rattle.session_print.proofs.Sessions.{none_printed, nothing_added, printed_o
 use Rattle.session_print.proofs.Turns.{ports_dialling, turned_all, made_on, made_now, none_made, none_added, made_printed}
 
 use Rattle.session_print.proofs.Course.{LeadsCourse, leads_course, opens_course, dials_connecting, hangs_closable}
-use Rattle.session_print.proofs.Lasting.{Lasts, lasts_turn, sound_steps}
+use Rattle.session_print.proofs.Lasting.{Lasts, lasts_turn, sound_steps, ended_turn}
 
 -- what a turn promises of a print
 pub record HasTurned (moment : ℕ) (kind : LinkKind) (old_past new_past : Option (List WorldEvent)) (old_calls new_calls : Option ℕ) (old mid : SessionData) (turned : Turned) : Type 0 where
@@ -129,9 +129,9 @@ module _ (moment : ℕ) (kind : LinkKind) (old_past new_past : Option (List Worl
       (printed_of kind whole how [] 0 past added (part_none whole) (λ is. absurd (undone is)) (none_printed kind past added none.0)))
       in
       record {
-        history = subst F d.nothing (recorded_so old_past new_past
+        printed = subst F d.nothing (recorded_so old_past new_past
             (λ past added. IsTurned moment kind old mid h.turn.got h.turn.found texts (world_in kind past) added) P all printed);
-        caused = λ why is. absurd (unended why is);
+        ended = λ why is. absurd (unended why is);
         unsent = λ none. nothing_added old_past new_past (recorded_so old_past new_past
             (λ past added. IsTurned moment kind old mid h.turn.got h.turn.found texts (world_in kind past) added)
             (λ past added. added ≡ []) all
@@ -225,6 +225,14 @@ module _ (moment : ℕ) (kind : LinkKind) (old_past new_past : Option (List Worl
       (λ closed. (hangs_closable old (hangs_closing (doing old) (subst F closed can)), no_lines (ap is_said closed))) more
       (noted (λ rests. up_clash l (rests_down old rests))) l.on.course
 
+  -- a turn that ends the session ends its sender so
+  talk_ended : (why : SessionEnd) → h.turn.found ≡ fact.Ended why → mid.sender.ended ≡ Some why
+  talk_ended why found =
+      let F : LinkFact → Type 0 = λ f. can_find (doing old) f ≡ true in
+      ap (λ (s : SenderData). s.ended) h.turn.steps.takes.sender
+      ∙ ap (λ (f : LinkFact). (after_steps moment (turn_steps (doing old) old.up h.turn.got f texts h.turn.steps.count) old.sender).ended) found
+      ∙ ended_turn moment why (doing old) old.up h.turn.got texts h.turn.steps.count old.sender (subst F found can) ((h.turn.ended why).0 found)
+
   -- a print that is done has issued the whole plan, and all of it is acknowledged
   talk_whole : (l : IsTalking kind p port first old_past old) → h.turn.found ≡ fact.Closed →
       Weave (issued_in h.turn.found texts l.issued) whole × (mid.sender.acked ≡ length (issued_in h.turn.found texts l.issued))
@@ -242,11 +250,11 @@ module _ (moment : ℕ) (kind : LinkKind) (old_past new_past : Option (List Worl
   talk_over how l closed ends sent =
       let now : List (List ℕ) = issued_in h.turn.found texts l.issued in
       record {
-        history = recorded_so first new_past (λ past added. IsMade kind now mid past added)
+        printed = recorded_so first new_past (λ past added. IsMade kind now mid past added)
             (λ past added. HasPrinted kind whole how mid.sender.acked past added) (talk_made l)
             (λ past added made. printed_of kind whole how now mid.sender.acked past added (underway-part p mid.desk now (talk_course l).underway)
             (λ done. talk_whole l (closed done)) (made_printed kind now mid past added made));
-        caused = λ why is. h.caused why (ends why is) l.issued (talk_linked l);
+        ended = λ why is. record { its_end = talk_ended why (sym its_fact ∙ ends why is); caused = h.caused why (ends why is) l.issued (talk_linked l) };
         unsent = λ none. absurd (sent none);
       }
 

@@ -1,5 +1,5 @@
 -- What follows of a turn of a print.
-use Rattle.std.specs.Prelude.{◌≡◌, ◌≢◌, ◌≤◌, ℕ, Bool, false, List, Option, None, Some}
+use Rattle.std.specs.Prelude.{◌≡◌, ◌≢◌, ◌≤◌, ℕ, Bool, true, false, List, Option, None, Some}
 use Rattle.desk_steps.specs.Data.{Data, File, new_desk}
 use Rattle.desk_steps.specs.Table.{connect_at, disconnect_at, select_at, start_at}
 use Rattle.desk_steps.specs.declared.link_fact.LinkFact.{LinkFact}
@@ -45,6 +45,11 @@ abbrev pub IsUnsent : PrintEnd → Type 0
 IsUnsent (end.TooHot line asked limit) = Unit {0}
 IsUnsent end.NoPort = Unit {0}
 IsUnsent _ = ⊥
+
+-- a print that was refused for a command that is too hot
+abbrev pub is_too_hot : PrintEnd → Bool
+is_too_hot (end.TooHot line asked limit) = true
+is_too_hot _ = false
 
 -- how a turn that found this ends the print, if it does
 abbrev pub end_of : LinkFact → Option PrintEnd

@@ -1,9 +1,10 @@
 -- What a print has made of the history of its link.
-use Rattle.std.specs.Prelude.{◌≡◌, ◌≤◌, ℕ, suc, List, ◌++◌, length, Option}
+use Rattle.std.specs.Prelude.{◌≡◌, ◌≤◌, ℕ, suc, List, ◌++◌, length, Option, Some}
 use Rattle.printer_model.specs.Executed.{opens, executed}
 use Rattle.printer_model.specs.declared.event.WorldEvent.{WorldEvent}
 use Rattle.printer_link.specs.Link.{LinkKind, Recorded}
 use Rattle.send_window.specs.declared.session_end.SessionEnd.{SessionEnd}
+use Rattle.send_window.specs.Data.{SenderData}
 use Rattle.octo_session.specs.Data.{SessionData}
 use Rattle.lossy_line.specs.Tied.{IsTied, EndCausedAs, logged_from}
 use Rattle.print_course.specs.Plan.{Weave, WeavesPart}
@@ -33,10 +34,14 @@ pub record HasPrinted (kind : LinkKind) (plan : List (List ℕ)) (how : PrintEnd
   -- a print that is done has made the whole of it
   pub done : how ≡ end.Done → IsWhole kind plan issued acked past added
 
+-- a session ended so: its sender has, and the history shows the cause
+pub record HasEnded (kind : LinkKind) (now : Option (List WorldEvent)) (s : SenderData) (why : SessionEnd) : Type 0 where
+  pub its_end : s.ended ≡ Some why
+  pub caused : EndCausedAs kind now why
+
 -- a print of this plan ended so
 pub record IsOver (kind : LinkKind) (plan : List (List ℕ)) (how : PrintEnd) (first now : Option (List WorldEvent)) (x : SessionData) : Type 0 where
-  pub history : Recorded first now (λ past added. HasPrinted kind plan how x.sender.acked past added)
-  -- a session that ended has a cause in the history
-  pub caused : (why : SessionEnd) → how ≡ end.Ended why → EndCausedAs kind now why
+  pub printed : Recorded first now (HasPrinted kind plan how x.sender.acked)
+  pub ended : (why : SessionEnd) → how ≡ end.Ended why → HasEnded kind now x.sender why
   -- a print that was refused or had no port added nothing
   pub unsent : IsUnsent how → now ≡ first
