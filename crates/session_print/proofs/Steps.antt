@@ -1,0 +1,298 @@
+-- How a turn leads a print on.
+use Rattle.std.proofs.Common.{◌≡◌, ◌≢◌, ◌↔◌, ◌⊎◌, inl, inr, ℕ, suc, ◌+◌, ◌≤◌, Bool, true, false, List, [], ◌∷◌, ◌++◌, refl, sym, ◌∙◌, ap, subst, arith}
+use Rattle.std.specs.Prelude.{Option, None, Some, ◌&&◌, length}
+use Rattle.std.proofs.lemmas.Option.{same_Some}
+use Rattle.desk_steps.specs.Data.{Data, Line}
+use Rattle.desk_steps.specs.Table.{disconnect_at}
+use Rattle.desk_steps.specs.declared.state.State.{State}
+use Rattle.desk_steps.specs.declared.state.State.TheVariants.{Offline, Connecting, Operational, Printing, Pausing, Paused, Cancelling, Finishing, Closing, Fault}
+use Rattle.marlin_reply.specs.Kind.{kind_of}
+use Rattle.desk_steps.specs.declared.link_fact.LinkFact.{LinkFact}
+use Rattle.desk_steps.specs.declared.link_fact.LinkFact.TheVariants as fact
+use Rattle.send_window.specs.declared.session_end.SessionEnd.{SessionEnd}
+use Rattle.print_records.specs.declared.ending.Ending.{Ending}
+use Rattle.printer_model.specs.declared.event.WorldEvent.{WorldEvent}
+use Rattle.printer_link.specs.Link.{LinkKind, Recorded, world_in}
+use Rattle.printer_link.proofs.Grown.{recorded_then, recorded_so}
+use Rattle.send_window.specs.Data.{SenderData, IsSound}
+use Rattle.send_window.specs.Hearing.{hear_step, tick_step}
+use Rattle.send_window.specs.Sending.{frame_step}
+use Rattle.octo_session.specs.Data.{SessionData, IsSession, doing, port_of}
+use Rattle.octo_session.specs.DeskTurn.{IsNoted}
+use Rattle.octo_session.specs.Found.{Got, unasked, lost, nothing, whole as whole_line, is_got, is_said, can_find, up_after}
+use Rattle.octo_session.specs.Steps.{Step, opens as makes_link, finds_no_port, fails_to_dial, hears, listens, fails_to_receive, ticks, issues, gives, fails_to_send, hangs_up, after_step, after_steps, clock_steps, dial_steps, talk_steps, turn_steps}
+use Rattle.octo_session.specs.Turn.{IsTurn, IsDeskTurn, fact_of, texts_in}
+use Rattle.octo_session.specs.declared.found.Doing.{Doing}
+use Rattle.octo_session.specs.declared.found.Doing.TheVariants.{Dialling, HangingUp, Talking, Resting}
+use Rattle.octo_session.specs.declared.found.Turned.{Turned}
+use Rattle.octo_session.proofs.Keeping.{ready_lasts, acked_heard, ticked_keeps, keeps_frame}
+use Rattle.lossy_wires.specs.Pieces.{Each}
+use Rattle.print_course.specs.Plan.{PrintData, print_commands, plan, Weave}
+use Rattle.print_course.specs.Underway.{IsUnderway}
+use Rattle.print_course.proofs.Results.{underway-part, underway-whole}
+use Rattle.lossy_line.specs.Issuing.{issued_in}
+use Rattle.lossy_line.specs.Linked.{IsOpened, IsLinked, LinkedAs, opened}
+use Rattle.lossy_line.specs.Tied.{EndCausedAs}
+use Rattle.lossy_line.proofs.Speech.{plain_clock}
+use Rattle.lossy_line.proofs.Stepping.{IsPlain}
+use Rattle.octo_session.proofs.Noting.{noted_fact}
+use Rattle.lossy_line.proofs.Told.{IsKept}
+use Rattle.lossy_line.proofs.Turned.{IsTurned, dials_down, rests_down, opens_dialling}
+use Rattle.session_print.specs.Ends.{IsUnsent, end_of}
+use Rattle.session_print.specs.Printed.{HasPrinted, IsOver}
+use Rattle.session_print.specs.BetweenTurns.{IsDialling, IsMade, IsTalking, IsBetweenTurns, GoesOn}
+use Rattle.session_print.specs.declared.end.PrintEnd.{PrintEnd}
+use Rattle.session_print.specs.declared.end.PrintEnd.TheVariants as end
+use Rattle.session_print.proofs.Sessions.{none_printed, nothing_added, printed_of, part_none}
+use Rattle.session_print.proofs.Turns.{ports_dialling, turned_all, made_on, made_now, none_made, none_added, made_printed}
+
+use Rattle.session_print.proofs.Course.{LeadsCourse, leads_course, opens_course, dials_connecting, hangs_closable}
+use Rattle.session_print.proofs.Lasting.{Lasts, lasts_turn, sound_steps, ended_turn}
+
+-- what a turn promises of a print
+pub record HasTurned (moment : ℕ) (kind : LinkKind) (old_past new_past : Option (List WorldEvent)) (old_calls new_calls : Option ℕ) (old mid : SessionData) (turned : Turned) : Type 0 where
+  pub turn : IsTurn moment kind old_past new_past old_calls new_calls old mid turned
+  pub kept : IsKept moment old mid turned
+  pub joined : IsSession mid
+  pub greatest : mid.desk.greatest ≡ old.desk.greatest
+  pub no_port : (fact_of turned.note ≡ fact.NoPort) ↔ ((doing old ≡ Dialling) × (kind.listed (port_of old.desk) ≡ false))
+  pub caused : (why : SessionEnd) → fact_of turned.note ≡ fact.Ended why → (issued : List (List ℕ)) → LinkedAs kind old_past issued old → EndCausedAs kind new_past why
+
+-- which end it is
+why_of : SessionEnd → PrintEnd → SessionEnd
+why_of other (end.Ended why) = why
+why_of other _ = other
+
+and_off : (b : Bool) → (b && false) ≡ false
+and_off true = refl
+and_off false = refl
+
+-- only a turn that hangs up closes the link
+hangs_closing : (x : Doing) → can_find x fact.Closed ≡ true → x ≡ HangingUp
+hangs_closing HangingUp can = refl
+hangs_closing Dialling can = absurd (cc)
+hangs_closing Talking can = absurd (cc)
+hangs_closing Resting can = absurd (cc)
+
+-- a turn that doesn't rest notes what it found
+noted_by : (x : Doing) (moment acked : ℕ) (found : LinkFact) (lines : List Line) (d : Data) (ending : Option Ending) (e : Data) →
+    (x ≡ Resting → ⊥) → IsDeskTurn x moment acked found lines d ending e → IsNoted moment acked found lines d ending e
+noted_by Dialling moment acked found lines d ending e awake is = is
+noted_by HangingUp moment acked found lines d ending e awake is = is
+noted_by Talking moment acked found lines d ending e awake is = is
+noted_by Resting moment acked found lines d ending e awake is = absurd (awake refl)
+
+module _ (moment : ℕ) (kind : LinkKind) (old_past new_past : Option (List WorldEvent)) (old_calls new_calls : Option ℕ) (old mid : SessionData) (turned : Turned) (h : HasTurned moment kind old_past new_past old_calls new_calls old mid turned) (p : PrintData) (port : List ℕ) (first : Option (List WorldEvent)) where
+  -- the plan of the print
+  abbrev whole : List (List ℕ)
+  whole = plan p.scripts (print_commands p)
+
+  abbrev texts : List (List ℕ)
+  texts = texts_in h.turn.lines
+
+  its_fact : fact_of turned.note ≡ h.turn.found
+  its_fact = noted_fact turned.note moment old.sender.acked mid.sender.acked h.turn.lines h.turn.got h.turn.found h.turn.none h.turn.some
+
+  all : Recorded old_past new_past (λ past added. IsTurned moment kind old mid h.turn.got h.turn.found texts (world_in kind past) added)
+  all = turned_all moment kind old_past new_past old_calls new_calls old mid turned h.turn h.kept
+
+  can : can_find (doing old) h.turn.found ≡ true
+  can = (let F : LinkFact → Type 0 = λ f. can_find (doing old) f ≡ true in subst F its_fact h.kept.finds)
+
+  -- a turn that may not issue has issued nothing
+  no_lines : is_said h.turn.found ≡ false → h.turn.lines ≡ []
+  no_lines unsaid = h.turn.none_issued (ap (λ (b : Bool). is_got h.turn.got && b) unsaid ∙ and_off (is_got h.turn.got))
+
+  noted : (doing old ≡ Resting → ⊥) → IsNoted moment mid.sender.acked h.turn.found h.turn.lines old.desk turned.ending mid.desk
+  noted awake = noted_by (doing old) moment mid.sender.acked h.turn.found h.turn.lines old.desk turned.ending mid.desk awake h.turn.desk
+
+  lasts : (h.turn.found ≡ fact.Opened → ⊥) → Lasts old.sender mid.sender
+  lasts other =
+      let L : SenderData → Type 0 = λ s. Lasts old.sender s in
+      subst L (sym h.turn.steps.takes.sender) (lasts_turn moment (doing old) old.up h.turn.got h.turn.found texts h.turn.steps.count old.sender other)
+
+  sound : IsSound old.sender → IsSound mid.sender
+  sound was =
+      let S : SenderData → Type 0 = λ s. IsSound s in
+      subst S (sym h.turn.steps.takes.sender) (sound_steps moment (turn_steps (doing old) old.up h.turn.got h.turn.found texts h.turn.steps.count) old.sender h.turn.steps.takes.allowed was)
+
+  -- the turn dials, and makes no link
+  dial_over : (how : PrintEnd) → IsDialling p port first old_past old → (h.turn.found ≡ fact.Opened → ⊥) → (how ≡ end.Done → ⊥) →
+      ((why : SessionEnd) → how ≡ end.Ended why → ⊥) → (IsUnsent how → h.turn.found ≡ fact.NoPort) → IsOver kind whole how first new_past mid
+  dial_over how d other undone unended none_sent =
+      let P : List WorldEvent → List WorldEvent → Type 0 = λ past added. HasPrinted kind whole how mid.sender.acked past added in
+      let F : Option (List WorldEvent) → Type 0 = λ f. Recorded f new_past P in
+      let printed : (past added : List WorldEvent) → IsTurned moment kind old mid h.turn.got h.turn.found texts (world_in kind past) added → P past added =
+      λ past added t. (let none = none_made moment kind old mid h.turn.got h.turn.found texts past added other d.dials t in
+      let A : ℕ → Type 0 = λ n. HasPrinted kind whole how n past added in
+      subst A (sym (ap (λ (s : SenderData). s.acked) none.1 ∙ d.none_acked))
+      (printed_of kind whole how [] 0 past added (part_none whole) (λ is. absurd (undone is)) (none_printed kind past added none.0)))
+      in
+      record {
+        printed = subst F d.nothing (recorded_so old_past new_past
+            (λ past added. IsTurned moment kind old mid h.turn.got h.turn.found texts (world_in kind past) added) P all printed);
+        ended = λ why is. absurd (unended why is);
+        unsent = λ none. nothing_added old_past new_past (recorded_so old_past new_past
+            (λ past added. IsTurned moment kind old mid h.turn.got h.turn.found texts (world_in kind past) added)
+            (λ past added. added ≡ []) all
+            (λ past added t. none_added moment kind old mid h.turn.got h.turn.found texts past added (none_sent none) t)) ∙ d.nothing;
+      }
+
+  awake_dial : IsDialling p port first old_past old → doing old ≡ Resting → ⊥
+  awake_dial d rests = (let no : Dialling ≡ Resting = sym d.dials ∙ rests in absurd (cc))
+
+  -- the course of a turn that makes the link
+  dial_course : IsDialling p port first old_past old → fact_of turned.note ≡ fact.Opened → IsUnderway p mid.desk [] × (turned.ending ≡ None)
+  dial_course d is =
+      let found : h.turn.found ≡ fact.Opened = sym its_fact ∙ is in
+      let N : LinkFact → Type 0 = λ f. IsNoted moment mid.sender.acked f h.turn.lines old.desk turned.ending mid.desk in
+      opens_course p moment mid.sender.acked h.turn.lines old.desk mid.desk turned.ending [] (dials_connecting old d.dials) (no_lines (ap is_said found)) (subst N found (noted (awake_dial d))) d.on.course
+
+  -- the turn makes the link
+  dial_made : IsDialling p port first old_past old → fact_of turned.note ≡ fact.Opened → IsTalking kind p port first new_past mid
+  dial_made d is =
+      let found : h.turn.found ≡ fact.Opened = sym its_fact ∙ is in
+      let P : List WorldEvent → List WorldEvent → Type 0 = λ past added. IsMade kind [] mid past added in
+      let F : Option (List WorldEvent) → Type 0 = λ f. Recorded f new_past P in
+      record {
+        issued = [];
+        on = record { course = (dial_course d is).0; cool = d.on.cool; sound = sound d.on.sound };
+        up = h.kept.up ∙ ap (λ (f : LinkFact). up_after f old.up) is;
+        listed = listed_by (kind.listed port) refl;
+        history = subst F d.nothing (recorded_so old_past new_past
+            (λ past added. IsTurned moment kind old mid h.turn.got h.turn.found texts (world_in kind past) added) P all
+            (λ past added t. made_now moment kind old mid h.turn.got h.turn.found texts past added found d.on.sound d.dials t));
+        unstarted = λ unready. h.greatest ∙ d.unstarted;
+      }
+    where
+      listed_by : (b : Bool) → kind.listed port ≡ b → kind.listed port ≡ true
+      listed_by true e = e
+      listed_by false e =
+          let none : fact_of turned.note ≡ fact.NoPort = h.no_port.1 (d.dials, ap kind.listed d.its_port ∙ e) in
+          let no : fact.Opened ≡ fact.NoPort = sym is ∙ none in
+          absurd (cc)
+
+  can_not : IsDialling p port first old_past old → (f : LinkFact) → fact_of turned.note ≡ f → can_find Dialling f ≡ false → ⊥
+  can_not d f is none =
+      let yes : can_find Dialling f ≡ true = ap (λ (x : Doing). can_find x f) (sym d.dials) ∙ ap (can_find (doing old)) (sym is) ∙ h.kept.finds in
+      let no : true ≡ false = sym yes ∙ none in
+      absurd (cc)
+
+  dial_goes : IsDialling p port first old_past old → (f : LinkFact) → fact_of turned.note ≡ f → GoesOn kind p port (end_of f) first new_past mid
+  dial_goes d fact.Opened is = dial_made d is
+  dial_goes d fact.NoPort is = dial_over end.NoPort d (λ opens. (let no : fact.NoPort ≡ fact.Opened = sym is ∙ its_fact ∙ opens in absurd (cc))) (λ e. absurd (cc)) (λ why e. absurd (cc)) (λ none. sym its_fact ∙ is)
+  dial_goes d fact.Failed is = dial_over end.LinkFailed d (λ opens. (let no : fact.Failed ≡ fact.Opened = sym is ∙ its_fact ∙ opens in absurd (cc))) (λ e. absurd (cc)) (λ why e. absurd (cc)) (λ none. absurd none)
+  dial_goes d fact.Quiet is = absurd (can_not d fact.Quiet is refl)
+  dial_goes d fact.Ready is = absurd (can_not d fact.Ready is refl)
+  dial_goes d fact.Closed is = absurd (can_not d fact.Closed is refl)
+  dial_goes d (fact.Ended why) is = absurd (can_not d (fact.Ended why) is refl)
+
+  -- the link was made in a turn before
+  up_clash : {X : Type 0} → IsTalking kind p port first old_past old → old.up ≡ false → X
+  up_clash l down = (let up : old.up ≡ true = l.up in absurd (cc))
+
+  talks : IsTalking kind p port first old_past old → h.turn.found ≡ fact.Opened → ⊥
+  talks l is =
+      let F : LinkFact → Type 0 = λ f. can_find (doing old) f ≡ true in
+      up_clash l (dials_down old (opens_dialling (doing old) (subst F is can)))
+
+  listens_not : IsTalking kind p port first old_past old → fact_of turned.note ≡ fact.NoPort → ⊥
+  listens_not l is =
+      let F : LinkFact → Type 0 = λ f. can_find (doing old) f ≡ true in
+      up_clash l (dials_down old (ports_dialling (doing old) (subst F is h.kept.finds)))
+
+  talk_made : (l : IsTalking kind p port first old_past old) →
+      Recorded first new_past (λ past added. IsMade kind (issued_in h.turn.found texts l.issued) mid past added)
+  talk_made l =
+      recorded_then first old_past new_past (λ past added. IsMade kind l.issued old past added)
+      (λ past added. IsTurned moment kind old mid h.turn.got h.turn.found texts (world_in kind past) added)
+      (λ past added. IsMade kind (issued_in h.turn.found texts l.issued) mid past added)
+      l.history all
+      (λ past added more made t. made_on moment kind old mid h.turn.got h.turn.found texts l.issued past added more (talks l) made t)
+
+  talk_linked : (l : IsTalking kind p port first old_past old) → LinkedAs kind old_past l.issued old
+  talk_linked l now is =
+      let grew = l.history.grew now is in
+      let L : List WorldEvent → Type 0 = λ es. IsLinked kind l.issued old es in
+      subst L (sym grew.3) (opened grew.4.opened)
+
+  -- the course of a turn over the link
+  talk_course : (l : IsTalking kind p port first old_past old) → LeadsCourse p h.turn.found texts l.issued turned.ending mid.desk
+  talk_course l =
+      let F : LinkFact → Type 0 = λ f. can_find (doing old) f ≡ true in
+      let more : old.desk.acked ≤ mid.sender.acked = omega (arith, h.kept.before.acked, (lasts (talks l)).acked) in
+      leads_course p moment mid.sender.acked h.turn.lines old.desk mid.desk turned.ending l.issued h.turn.found (talks l)
+      (λ closed. (hangs_closable old (hangs_closing (doing old) (subst F closed can)), no_lines (ap is_said closed))) more
+      (noted (λ rests. up_clash l (rests_down old rests))) l.on.course
+
+  -- a turn that ends the session ends its sender so
+  talk_ended : (why : SessionEnd) → h.turn.found ≡ fact.Ended why → mid.sender.ended ≡ Some why
+  talk_ended why found =
+      let F : LinkFact → Type 0 = λ f. can_find (doing old) f ≡ true in
+      ap (λ (s : SenderData). s.ended) h.turn.steps.takes.sender
+      ∙ ap (λ (f : LinkFact). (after_steps moment (turn_steps (doing old) old.up h.turn.got f texts h.turn.steps.count) old.sender).ended) found
+      ∙ ended_turn moment why (doing old) old.up h.turn.got texts h.turn.steps.count old.sender (subst F found can) ((h.turn.ended why).0 found)
+
+  -- a print that is done has issued the whole plan, and all of it is acknowledged
+  talk_whole : (l : IsTalking kind p port first old_past old) → h.turn.found ≡ fact.Closed →
+      Weave (issued_in h.turn.found texts l.issued) whole × (mid.sender.acked ≡ length (issued_in h.turn.found texts l.issued))
+  talk_whole l closed =
+      let leads = talk_course l in
+      let done = underway-whole p mid.desk (issued_in h.turn.found texts l.issued) (leads.off closed) leads.underway in
+      let s : IsSound mid.sender = sound l.on.sound in
+      (
+        done.woven,
+        omega (arith, done.acknowledged, done.all (omega (arith, h.joined.issued, s.few)), h.joined.issued, h.joined.acked, s.counted),
+      )
+
+  talk_over : (how : PrintEnd) → IsTalking kind p port first old_past old → (how ≡ end.Done → h.turn.found ≡ fact.Closed) →
+      ((why : SessionEnd) → how ≡ end.Ended why → fact_of turned.note ≡ fact.Ended why) → (IsUnsent how → ⊥) → IsOver kind whole how first new_past mid
+  talk_over how l closed ends sent =
+      let now : List (List ℕ) = issued_in h.turn.found texts l.issued in
+      record {
+        printed = recorded_so first new_past (λ past added. IsMade kind now mid past added)
+            (λ past added. HasPrinted kind whole how mid.sender.acked past added) (talk_made l)
+            (λ past added made. printed_of kind whole how now mid.sender.acked past added (underway-part p mid.desk now (talk_course l).underway)
+            (λ done. talk_whole l (closed done)) (made_printed kind now mid past added made));
+        ended = λ why is. record { its_end = talk_ended why (sym its_fact ∙ ends why is); caused = h.caused why (ends why is) l.issued (talk_linked l) };
+        unsent = λ none. absurd (sent none);
+      }
+
+  talk_on : (l : IsTalking kind p port first old_past old) → mid.up ≡ true → IsTalking kind p port first new_past mid
+  talk_on l up = record {
+    issued = issued_in h.turn.found texts l.issued;
+    on = record { course = (talk_course l).underway; cool = l.on.cool; sound = sound l.on.sound };
+    up = up;
+    listed = l.listed;
+    history = talk_made l;
+    unstarted = λ unready. h.greatest ∙ l.unstarted (was_unready old.sender.ready refl unready);
+  }
+    where
+      was_unready : (r : Bool) → old.sender.ready ≡ r → mid.sender.ready ≡ false → old.sender.ready ≡ false
+      was_unready false e unready = e
+      was_unready true e unready = (let ready : mid.sender.ready ≡ true = (lasts (talks l)).ready e in absurd (cc))
+
+  talk_goes : IsTalking kind p port first old_past old → (f : LinkFact) → fact_of turned.note ≡ f → GoesOn kind p port (end_of f) first new_past mid
+  unfolding why_of
+  talk_goes l fact.Quiet is = talk_on l (h.kept.up ∙ ap (λ (f : LinkFact). up_after f old.up) is ∙ l.up)
+  talk_goes l fact.Ready is = talk_on l (h.kept.up ∙ ap (λ (f : LinkFact). up_after f old.up) is)
+  talk_goes l fact.Opened is = absurd (talks l (sym its_fact ∙ is))
+  talk_goes l fact.Closed is = talk_over end.Done l (λ e. sym its_fact ∙ is) (λ why e. absurd (cc)) (λ none. none)
+  talk_goes l fact.NoPort is = absurd (listens_not l is)
+  talk_goes l fact.Failed is = talk_over end.LinkFailed l (λ e. absurd (cc)) (λ why e. absurd (cc)) (λ none. none)
+  talk_goes l (fact.Ended ends) is = talk_over (end.Ended ends) l (λ e. absurd (cc)) (λ why e. is ∙ ap fact.Ended (ap (why_of ends) e)) (λ none. none)
+
+  -- a turn leads a print on, or ends it
+  pub turn_goes : IsBetweenTurns kind p port first old_past old → GoesOn kind p port (end_of (fact_of turned.note)) first new_past mid
+  turn_goes (inl d) = dial_goes d (fact_of turned.note) refl
+  turn_goes (inr l) = talk_goes l (fact_of turned.note) refl
+
+  -- what its ending says of the desk
+  pub turn_free : IsBetweenTurns kind p port first old_past old → fact_of turned.note ≡ fact.Quiet → (x : Ending) → turned.ending ≡ Some x →
+      (mid.desk.state ≡ Operational) × (mid.desk.greatest ≡ 1)
+  turn_free (inl d) is x ends = absurd (can_not d fact.Quiet is refl)
+  turn_free (inr l) is x ends = (talk_course l).free (sym its_fact ∙ is) x ends
+
+  pub turn_begins : IsBetweenTurns kind p port first old_past old → fact_of turned.note ≡ fact.Opened → turned.ending ≡ None
+  turn_begins (inl d) is = (dial_course d is).1
+  turn_begins (inr l) is = absurd (talks l (sym its_fact ∙ is))
