@@ -71,8 +71,8 @@ grown-of name groups next (Err fault) h = absurd (cc)
 
 grown-by : (name : List ℕ) (value : Data) (groups next : List GroupData) (b : Bool)
     → cond b
-        (and_then (permissions_of (group_key name) value) (λ permissions. Ok (groups ++ record { name = name; permissions = permissions } ∷ [])))
-        (Err (OutOfRange (codes "groups")))
+    (and_then (permissions_of (group_key name) value) (λ permissions. Ok (groups ++ record { name = name; permissions = permissions } ∷ [])))
+    (Err (OutOfRange (codes "groups")))
     ≡ Ok next
     → length next ≡ length groups + 1
 grown-by name value groups next true h = grown-of name groups next (permissions_of (group_key name) value) h

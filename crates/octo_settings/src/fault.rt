@@ -2,6 +2,7 @@
 ghost use Rattle.std.specs.Prelude.{◌≡◌, ◌≤◌, length};
 ghost use Rattle.octo_settings.specs.declared.fault.SettingsFault.TheVariants as fault;
 
+use crate::names::text_name;
 use byte_text::Name;
 use job_desk::Point;
 use thiserror::Error;
@@ -32,34 +33,29 @@ pub enum SettingsFault {
     NoMemory,
 }
 
-/// A key as a name.
-fn name_of(key: &str) -> Name
-    requires { length key.now ≤ 100 }
-    ensures { result ≡ key.now }
-{
-    match Name::from_text(key) {
-        Some(name) => name,
-        None => unreachable!(),
-    }
-}
-
 pub(crate) fn missing(key: &str) -> SettingsFault
     requires { length key.now ≤ 100 }
     ensures { result ≡ fault.Missing key.now }
 {
-    SettingsFault::Missing { key: name_of(key) }
+    SettingsFault::Missing {
+        key: text_name(key),
+    }
 }
 
 pub(crate) fn wrong_kind(key: &str) -> SettingsFault
     requires { length key.now ≤ 100 }
     ensures { result ≡ fault.WrongKind key.now }
 {
-    SettingsFault::WrongKind { key: name_of(key) }
+    SettingsFault::WrongKind {
+        key: text_name(key),
+    }
 }
 
 pub(crate) fn out_of_range(key: &str) -> SettingsFault
     requires { length key.now ≤ 100 }
     ensures { result ≡ fault.OutOfRange key.now }
 {
-    SettingsFault::OutOfRange { key: name_of(key) }
+    SettingsFault::OutOfRange {
+        key: text_name(key),
+    }
 }

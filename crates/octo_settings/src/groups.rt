@@ -9,8 +9,8 @@ ghost use Rattle.octo_settings.specs.Seen.{seen};
 ghost use Rattle.octo_settings.specs.Values.{Reads, each, members_list};
 ghost use Rattle.octo_settings.specs.declared.fault.SettingsFault.TheVariants.{NoMemory, OutOfRange};
 
-use crate::ascii::ascii_name;
 use crate::fault::{SettingsFault, out_of_range};
+use crate::names::ascii_name;
 use crate::texts::read_texts;
 use crate::values::read_section;
 use arrayvec::ArrayVec;

@@ -1,9 +1,9 @@
 //! The settings of a print host, read from TOML: its ports, how it sends, its limits, its admin, its groups and its scripts.
 #![tactic(auto)]
 
-mod ascii;
 mod fault;
 mod groups;
+mod names;
 mod scripts;
 mod sections;
 mod settings;

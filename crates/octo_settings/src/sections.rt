@@ -7,6 +7,7 @@ ghost use Rattle.octo_settings.specs.Seen.{members_or, seen};
 ghost use Rattle.octo_settings.specs.Values.{Reads, each, in_range};
 
 use crate::fault::{SettingsFault, missing, out_of_range, wrong_kind};
+use crate::names::text_name;
 use crate::texts::read_texts;
 use crate::values::{at, read_section, read_whole};
 use byte_text::Name;
@@ -102,10 +103,7 @@ fn read_material(key: &str, value: Option<&Value>) -> Result<Name, SettingsFault
 pub(crate) fn any_material() -> Name
     ensures { result ≡ codes "any" }
 {
-    match Name::from_text("any") {
-        Some(name) => name,
-        None => unreachable!(),
-    }
+    text_name("any")
 }
 
 fn read_printer_in(alloc: Global, table: Option<&Table>) -> Result<Printer, SettingsFault>

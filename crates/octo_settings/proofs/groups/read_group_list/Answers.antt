@@ -25,7 +25,7 @@ loop-name-preserved c =
     let name = string_bytes c.in-Some.name.now in
     let value = view c.in-Some.value.now in
     let left : members_list (members_view c.loop-name.name-iterator) ≡ (name, value) ∷ members_list (members_view c.next.new.self) =
-      ap (λ es. members_list (members_view es)) c.in-Some.ensures.steps in
+    ap (λ es. members_list (members_view es)) c.in-Some.ensures.steps in
     let shorter : length c.loop-name.name-iterator ≡ suc (length c.next.new.self) = ap length c.in-Some.ensures.steps in
     let read : with_group name value c.loop-name.groups ≡ Ok c.read_group.new.groups = search rules in
     let grown : length c.read_group.new.groups ≡ length c.loop-name.groups + 1 = group-grown name value c.loop-name.groups c.read_group.new.groups read in (
@@ -39,7 +39,7 @@ pub returns-in_err-read_group : goal.returns-in_err-read_group
 returns-in_err-read_group c =
     let p = err_from_is_err_and c.from_residual.result c.from_residual.ensures.1 in
     let left : members_list (members_view c.loop-name.name-iterator) ≡ (string_bytes c.in-Some.name.now, view c.in-Some.value.now) ∷ members_list (members_view c.next.new.self) =
-      ap (λ es. members_list (members_view es)) c.in-Some.ensures.steps in
+    ap (λ es. members_list (members_view es)) c.in-Some.ensures.steps in
     rw (p.1, p.2) (groups-fault (string_bytes c.in-Some.name.now) (view c.in-Some.value.now) (members_list (members_view c.loop-name.name-iterator))
     (members_list (members_view c.next.new.self)) c.loop-name.groups (with_groups (members_list (table_view c.args.table.now)) []) c.in_err-read_group.field-0.0
     c.loop-name.invariant.0 left c.in_err-read_group.ensures)

@@ -1,4 +1,4 @@
-//! Names put together of bytes that are ASCII.
+//! Names that are made here: of keys, and of bytes that are ASCII.
 ghost use Rattle.std.specs.Prelude.{◌≡◌, ◌≤◌, length};
 ghost use Rattle.std.specs.Str.{IsAscii};
 
@@ -17,7 +17,8 @@ pub(crate) fn ascii_name(bytes: &[u8]) -> Name
     }
 }
 
-fn text_name(text: &str) -> Name
+/// A short text as a name.
+pub(crate) fn text_name(text: &str) -> Name
     requires { length text.now ≤ 100 }
     ensures { result ≡ text.now }
 {
