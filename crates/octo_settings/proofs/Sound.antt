@@ -22,7 +22,7 @@ use Rattle.octo_access.specs.declared.row.Admin.{Admin}
 use Rattle.octo_settings.specs.Config.{document_of, settings_in, settings_or, config, plain_settings}
 use Rattle.octo_settings.specs.Groups.{groups_of}
 use Rattle.octo_settings.specs.Scripts.{script_name, script_key, is_template, cool, command_in, command_of, with_lines, with_texts, with_script, scripts_at, scripts_of, all_points}
-use Rattle.octo_settings.specs.Sections.{ports_of, material_of, printer_in, printer_of, limits_of, admin_of, patience_of}
+use Rattle.octo_settings.specs.Sections.{ports_of, material_of, printer_in, printer_of, limits_of, admin_of, patience_in, patience_of}
 use Rattle.octo_settings.specs.Sound.{IsScriptLine, AreScripts, IsSettings}
 use Rattle.octo_settings.specs.Values.{Reads, and_then, section, whole, texts_of}
 use Rattle.octo_settings.specs.declared.fault.SettingsFault.{SettingsFault}
@@ -52,7 +52,7 @@ whole-within key least most default (Some (float x)) n low high h = absurd (cc)
 whole-within key least most default (Some (boolean b)) n low high h = absurd (cc)
 whole-within key least most default (Some (datetime d)) n low high h = absurd (cc)
 whole-within key least most default (Some (array items)) n low high h = absurd (cc)
-whole-within key least most default (Some (table members)) n low high h = absurd (cc)
+whole-within key least most default (Some (table _)) n low high h = absurd (cc)
 
 -- the one command of a line may be sent
 one-sendable : (line text : List ℕ) (ends empty sets long control : Bool)
@@ -104,13 +104,76 @@ more : (limits : Limits) (text : List ℕ) (texts : List (List ℕ)) → IsScrip
 more limits text texts line all = All-append (IsScriptLine limits) texts (text ∷ []) all (All-cons (IsScriptLine limits) text [] line (All-nil (IsScriptLine limits)))
 
 more-sound : (limits : Limits) (p : Point) (text : List ℕ) (s : ScriptTexts) → IsScriptLine limits text → AreSound limits s → AreSound limits (with_text p text s)
-more-sound limits point.Connected text s line h = record h { connected = more limits text s.connected line h.connected }
-more-sound limits point.Disconnect text s line h = record h { disconnect = more limits text s.disconnect line h.disconnect }
-more-sound limits point.Started text s line h = record h { started = more limits text s.started line h.started }
-more-sound limits point.Paused text s line h = record h { paused = more limits text s.paused line h.paused }
-more-sound limits point.Resumed text s line h = record h { resumed = more limits text s.resumed line h.resumed }
-more-sound limits point.Cancelled text s line h = record h { cancelled = more limits text s.cancelled line h.cancelled }
-more-sound limits point.Done text s line h = record h { done = more limits text s.done line h.done }
+more-sound limits point.Connected text s line h =
+    record {
+      connected = more limits text s.connected line h.connected;
+      disconnect = h.disconnect;
+      started = h.started;
+      paused = h.paused;
+      resumed = h.resumed;
+      cancelled = h.cancelled;
+      done = h.done;
+    }
+more-sound limits point.Disconnect text s line h =
+    record {
+      connected = h.connected;
+      disconnect = more limits text s.disconnect line h.disconnect;
+      started = h.started;
+      paused = h.paused;
+      resumed = h.resumed;
+      cancelled = h.cancelled;
+      done = h.done;
+    }
+more-sound limits point.Started text s line h =
+    record {
+      connected = h.connected;
+      disconnect = h.disconnect;
+      started = more limits text s.started line h.started;
+      paused = h.paused;
+      resumed = h.resumed;
+      cancelled = h.cancelled;
+      done = h.done;
+    }
+more-sound limits point.Paused text s line h =
+    record {
+      connected = h.connected;
+      disconnect = h.disconnect;
+      started = h.started;
+      paused = more limits text s.paused line h.paused;
+      resumed = h.resumed;
+      cancelled = h.cancelled;
+      done = h.done;
+    }
+more-sound limits point.Resumed text s line h =
+    record {
+      connected = h.connected;
+      disconnect = h.disconnect;
+      started = h.started;
+      paused = h.paused;
+      resumed = more limits text s.resumed line h.resumed;
+      cancelled = h.cancelled;
+      done = h.done;
+    }
+more-sound limits point.Cancelled text s line h =
+    record {
+      connected = h.connected;
+      disconnect = h.disconnect;
+      started = h.started;
+      paused = h.paused;
+      resumed = h.resumed;
+      cancelled = more limits text s.cancelled line h.cancelled;
+      done = h.done;
+    }
+more-sound limits point.Done text s line h =
+    record {
+      connected = h.connected;
+      disconnect = h.disconnect;
+      started = h.started;
+      paused = h.paused;
+      resumed = h.resumed;
+      cancelled = h.cancelled;
+      done = more limits text s.done line h.done;
+    }
 
 none-sound : (limits : Limits) → AreSound limits no_scripts
 none-sound limits =
@@ -149,11 +212,11 @@ script-sound limits p (Some value) s next h sound =
     let m = made (texts_of (script_key p) value) (λ lines. with_texts limits p lines s) next h in
     texts-by limits p m.0 s next (nat_le (length (texts_at p s) + length m.0) 64) m.2 sound
 
-scripts-sound : (limits : Limits) (members : Members) (points : List Point) (s next : ScriptTexts) → scripts_at limits members points s ≡ Ok next → AreSound limits s → AreSound limits next
-scripts-sound limits members [] s next h sound = let same : s ≡ next = cc in subst (AreSound limits) same sound
-scripts-sound limits members (p ∷ points) s next h sound =
-    let m = made (with_script limits p (get_member (script_name p) members) s) (scripts_at limits members points) next h in
-    scripts-sound limits members points m.0 next m.2 (script-sound limits p (get_member (script_name p) members) s m.0 m.1 sound)
+scripts-sound : (limits : Limits) (entries : Members) (points : List Point) (s next : ScriptTexts) → scripts_at limits entries points s ≡ Ok next → AreSound limits s → AreSound limits next
+scripts-sound limits entries [] s next h sound = let same : s ≡ next = cc in subst (AreSound limits) same sound
+scripts-sound limits entries (p ∷ points) s next h sound =
+    let m = made (with_script limits p (get_member (script_name p) entries) s) (scripts_at limits entries points) next h in
+    scripts-sound limits entries points m.0 next m.2 (script-sound limits p (get_member (script_name p) entries) s m.0 m.1 sound)
 
 all-scripts-sound : (limits : Limits) (value : Option Data) (scripts : ScriptTexts) → scripts_of limits value ≡ Ok scripts → AreScripts limits scripts
 all-scripts-sound limits value scripts h =

@@ -69,9 +69,9 @@ with_script limits p (Some value) scripts = and_then (texts_of (script_key p) va
 
 -- the scripts of settings, one after the other
 abbrev pub scripts_at : Limits → Members → List Point → ScriptTexts → Result ScriptTexts SettingsFault
-scripts_at limits members [] scripts = Ok scripts
-scripts_at limits members (p ∷ points) scripts =
-    and_then (with_script limits p (get_member (script_name p) members) scripts) (scripts_at limits members points)
+scripts_at limits entries [] scripts = Ok scripts
+scripts_at limits entries (p ∷ points) scripts =
+    and_then (with_script limits p (get_member (script_name p) entries) scripts) (scripts_at limits entries points)
 
 abbrev pub scripts_of : Limits → Option Data → Result ScriptTexts SettingsFault
 scripts_of limits value = and_then (section (codes "scripts") value) (λ members. scripts_at limits members all_points no_scripts)
