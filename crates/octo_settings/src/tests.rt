@@ -15,14 +15,19 @@ key_sha256 = '3d6dc258f967781f8598c11af4d699e0a7f3f5f52f6b1a0f0931150933a2d5ae'\
 /// A printer of one port; lines that follow belong to it.
 const PRINTER: &str = "[printer]\nports = ['p']\n";
 
-/// Settings of some parts, one after the other, each with a line end.
-fn read(alloc: Global, parts: &[&str]) -> Result<Result<Settings, SettingsFault>, Fail> {
-    let mut text = String::new(alloc);
-    for part in parts {
-        text.push_str(part)?;
-        text.push_str("\n")?;
-    }
-    Ok(read_settings(alloc, text.as_bytes()))
+/// Settings of three parts, one after the other, each with a line end.
+fn read(
+    alloc: Global,
+    head: &str,
+    text: &str,
+    tail: &str,
+) -> Result<Result<Settings, SettingsFault>, Fail> {
+    let mut whole = String::from_str(alloc, head)?;
+    whole.push_str("\n")?;
+    whole.push_str(text)?;
+    whole.push_str("\n")?;
+    whole.push_str(tail)?;
+    Ok(read_settings(alloc, whole.as_bytes()))
 }
 
 /// A hundred bytes.
@@ -55,10 +60,8 @@ fn faults(
     cases: &[(&str, Why, &str)],
 ) -> Result<(), Fail> {
     for (text, why, wanted) in cases {
-        match read(alloc, &[head, text, tail])? {
-            Ok(_) => assert!(rt; false, "no fault"),
-            Err(fault) => assert!(rt; is_fault(&fault, *why, wanted)),
-        }
+        let fault = read(alloc, head, text, tail)?.err();
+        assert!(rt; fault.is_some_and(|fault| is_fault(&fault, *why, wanted)));
     }
     Ok(())
 }

@@ -49,7 +49,7 @@ fn ports(rt: HostRuntime) -> Result<(), Fail> {
     text.push_str(HUNDRED)?;
     let mut long = text.clone()?;
     text.push_str("']")?;
-    assert!(&rt; read(rt.alloc(), &[text.as_str(), ADMIN])?.is_ok());
+    assert!(&rt; read(rt.alloc(), text.as_str(), ADMIN, "")?.is_ok());
     long.push_str("x']")?;
     faults(
         &rt,
@@ -72,6 +72,10 @@ fn many_ports(rt: HostRuntime) -> Result<(), Fail> {
         &[("", Why::Range, "printer.ports")],
     )
 }
+
+/// A printer and an admin.
+const PRINTER_AND_ADMIN: &str = "[printer]\nports = ['p']\n[admin]\nname = 'root'\n\
+key_sha256 = '3d6dc258f967781f8598c11af4d699e0a7f3f5f52f6b1a0f0931150933a2d5ae'\n";
 
 /// The other sections: not a table, out of range, of the wrong kind, missing.
 const SECTIONS: [(&str, Why, &str); 16] = [
@@ -112,16 +116,13 @@ const SECTIONS: [(&str, Why, &str); 16] = [
 
 #[test]
 fn sections(rt: HostRuntime) -> Result<(), Fail> {
-    for (text, why, wanted) in SECTIONS {
-        match read(rt.alloc(), &[text, "[printer]\nports = ['p']", ADMIN])? {
-            Ok(_) => assert!(&rt; false, "no fault"),
-            Err(fault) => assert!(&rt; is_fault(&fault, why, wanted)),
-        }
-    }
-    Ok(())
+    faults(&rt, rt.alloc(), "", PRINTER_AND_ADMIN, &SECTIONS)
 }
 
 const KEY: &str = "key_sha256 = '3d6dc258f967781f8598c11af4d699e0a7f3f5f52f6b1a0f0931150933a2d5ae'";
+
+/// A printer, and an admin; lines that follow belong to him.
+const IN_ADMIN: &str = "[printer]\nports = ['p']\n[admin]";
 
 /// The admin: his name, and then his key.
 const ADMINS: [(&str, Why, &str); 8] = [
@@ -149,41 +150,24 @@ const ADMINS: [(&str, Why, &str); 8] = [
 
 #[test]
 fn admins(rt: HostRuntime) -> Result<(), Fail> {
-    faults(
-        &rt,
-        rt.alloc(),
-        "[printer]\nports = ['p']\n[admin]",
-        "",
-        &ADMINS,
-    )?;
-    faults(
-        &rt,
-        rt.alloc(),
-        PRINTER,
-        "",
-        &[("", Why::Missing, "admin.name")],
-    )?;
-    faults(
-        &rt,
-        rt.alloc(),
-        "admin = 1",
-        PRINTER,
-        &[("", Why::Kind, "admin")],
-    )?;
-    let mut long = String::from_str(rt.alloc(), "name = '")?;
-    long.push_str(HUNDRED)?;
-    let mut longer = long.clone()?;
-    long.push_str("'\n")?;
-    assert!(&rt; read(rt.alloc(), &[PRINTER, "[admin]", long.as_str(), KEY])?.is_ok());
+    faults(&rt, rt.alloc(), IN_ADMIN, "", &ADMINS)?;
+    let missing = [("", Why::Missing, "admin.name")];
+    faults(&rt, rt.alloc(), PRINTER, "", &missing)?;
+    let no_table = [("", Why::Kind, "admin")];
+    faults(&rt, rt.alloc(), "admin = 1", PRINTER, &no_table)
+}
+
+// A name of 100 bytes, and one of 101.
+#[test]
+fn long_admin(rt: HostRuntime) -> Result<(), Fail> {
+    let mut text = String::from_str(rt.alloc(), "name = '")?;
+    text.push_str(HUNDRED)?;
+    let mut longer = text.clone()?;
+    text.push_str("'")?;
+    assert!(&rt; read(rt.alloc(), IN_ADMIN, text.as_str(), KEY)?.is_ok());
     longer.push_str("x'")?;
-    let head = "[printer]\nports = ['p']\n[admin]";
-    faults(
-        &rt,
-        rt.alloc(),
-        head,
-        KEY,
-        &[(longer.as_str(), Why::Range, "admin.name")],
-    )
+    let long = [(longer.as_str(), Why::Range, "admin.name")];
+    faults(&rt, rt.alloc(), IN_ADMIN, KEY, &long)
 }
 
 #[test]

@@ -26,7 +26,7 @@ i = []\nj = []\nk = []\nl = []\nm = []\nn = []\no = []\np = []";
 fn groups(rt: HostRuntime) -> Result<(), Fail> {
     let head = "[printer]\nports = ['p']\n[groups]";
     faults(&rt, rt.alloc(), head, ADMIN, &GROUPS)?;
-    assert!(&rt; read(rt.alloc(), &[head, MANY, ADMIN])?.is_ok());
+    assert!(&rt; read(rt.alloc(), head, MANY, ADMIN)?.is_ok());
     // Their number is tested before their names.
     faults(
         &rt,
@@ -119,7 +119,7 @@ fn scripts(rt: HostRuntime) -> Result<(), Fail> {
 
 /// Settings with these scripts.
 fn script_fault(alloc: Global, scripts: &str) -> Result<Option<SettingsFault>, Fail> {
-    Ok(read(alloc, &[PRINTER, ADMIN, "[scripts]", scripts])?.err())
+    Ok(read(alloc, "[printer]\nports = ['p']\n[scripts]", scripts, ADMIN)?.err())
 }
 
 #[test]
@@ -173,8 +173,8 @@ fn templates(rt: HostRuntime) -> Result<(), Fail> {
 fn too_hot(rt: HostRuntime) -> Result<(), Fail> {
     let scripts = "[scripts]\nafterPrintPaused = ['M104 S200']\n\
 afterPrintDone = ['G28', 'M104 S250', 'M109 R260']\n";
-    let limits = "[limits]\ntool = 250\n";
-    let fault = read(rt.alloc(), &[PRINTER, limits, ADMIN, scripts])?.err();
+    let limits = "[printer]\nports = ['p']\n[limits]\ntool = 250";
+    let fault = read(rt.alloc(), limits, ADMIN, scripts)?.err();
     let hot = matches!(
         fault,
         Some(SettingsFault::TooHot {
@@ -183,6 +183,6 @@ afterPrintDone = ['G28', 'M104 S250', 'M109 R260']\n";
         })
     );
     assert!(&rt; hot);
-    assert!(&rt; read(rt.alloc(), &[PRINTER, ADMIN, scripts])?.is_ok());
+    assert!(&rt; read(rt.alloc(), PRINTER, ADMIN, scripts)?.is_ok());
     Ok(())
 }

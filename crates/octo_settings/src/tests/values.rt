@@ -29,7 +29,7 @@ fn has(rt: &impl Abort, scripts: &Scripts, point: Point, wanted: &[&str]) {
 
 #[test]
 fn least(rt: HostRuntime) -> Result<(), Fail> {
-    let settings = read(rt.alloc(), &[LEAST, ADMIN])??;
+    let settings = read(rt.alloc(), LEAST, ADMIN, "")??;
     assert_eq!(&rt; settings.ports.as_slice().len(), 1);
     assert_eq!(&rt; settings.window, 1);
     assert_eq!(&rt; (settings.limit_ms, settings.poll_ms), (1_000, 1_000));
@@ -41,7 +41,7 @@ fn least(rt: HostRuntime) -> Result<(), Fail> {
 
 #[test]
 fn greatest(rt: HostRuntime) -> Result<(), Fail> {
-    let settings = read(rt.alloc(), &[GREATEST, ADMIN])??;
+    let settings = read(rt.alloc(), GREATEST, ADMIN, "")??;
     assert_eq!(&rt; settings.ports.as_slice().len(), 2);
     assert_eq!(&rt; settings.window, 16);
     assert_eq!(&rt; (settings.limit_ms, settings.poll_ms), (600_000, 600_000));
@@ -62,10 +62,10 @@ fn are_defaults(rt: &impl Abort, settings: &Settings) {
 
 #[test]
 fn defaults(rt: HostRuntime) -> Result<(), Fail> {
-    are_defaults(&rt, &read(rt.alloc(), &[PRINTER, ADMIN])??);
+    are_defaults(&rt, &read(rt.alloc(), PRINTER, ADMIN, "")??);
     // Keys that aren't named, and scripts by other names, are passed over.
     let other = "colour = 'red'\n[scripts]\nbeforeToolChange = ['{{x}}']\n[slicer]\nlayers = 1\n";
-    are_defaults(&rt, &read(rt.alloc(), &[PRINTER, ADMIN, other])??);
+    are_defaults(&rt, &read(rt.alloc(), PRINTER, ADMIN, other)??);
     Ok(())
 }
 
@@ -83,7 +83,7 @@ fn admin(rt: HostRuntime) -> Result<(), Fail> {
     let capitals = "[admin]\nname = 'root'\n\
 key_sha256 = '3D6DC258F967781F8598C11AF4D699E0A7F3F5F52F6B1A0F0931150933A2D5AE'\n";
     for text in [ADMIN, capitals] {
-        let settings = read(rt.alloc(), &[PRINTER, text])??;
+        let settings = read(rt.alloc(), PRINTER, text, "")??;
         let admin = settings.admin.ok_or("no admin")?;
         assert_eq!(&rt; admin.name.as_str(), "root");
         assert_eq!(&rt; admin.digest, digest_of(b"ana-key-0123456789"));
@@ -107,7 +107,7 @@ fn member(group: &str) -> Result<UserRow, Fail> {
 fn groups(rt: HostRuntime) -> Result<(), Fail> {
     let text =
         "[groups]\nprinters = ['PRINT', 'STATUS']\nselectors = ['FILES_SELECT']\nidle = []\n";
-    let settings = read(rt.alloc(), &[PRINTER, ADMIN, text])??;
+    let settings = read(rt.alloc(), PRINTER, ADMIN, text)??;
     let policy = Policy::new(settings.groups, settings.admin);
     assert!(&rt; policy.allowed(&member("printers")?, Permission::Print));
     assert!(&rt; !policy.allowed(&member("printers")?, Permission::Control));
@@ -123,7 +123,7 @@ fn scripts(rt: HostRuntime) -> Result<(), Fail> {
         "[scripts]\nbeforePrintStarted = ['M107']\nafterPrintDone = [' M84 ; off', 'N1 G28']\n\
 afterPrinterConnected = ['M115']\nbeforePrinterDisconnected = ['M18']\nafterPrintPaused = ['G91']\n\
 beforePrintResumed = ['G90']\nafterPrintCancelled = ['M104 S0']\n";
-    let scripts = read(rt.alloc(), &[PRINTER, ADMIN, text])??.scripts;
+    let scripts = read(rt.alloc(), PRINTER, ADMIN, text)??.scripts;
     has(&rt, &scripts, Point::Started, &["M107"]);
     has(&rt, &scripts, Point::Done, &["M84", "G28"]);
     has(&rt, &scripts, Point::Connected, &["M115"]);

@@ -24,10 +24,10 @@ pub loop-name-preserved : goal.loop-name-preserved
 loop-name-preserved c =
     let named : c.as_str.result.now ≡ string_bytes c.in-Some.name.now = search rules in
     let left : members_list (members_view c.loop-name.name-iterator) ≡ (c.as_str.result.now, view c.in-Some.value.now) ∷ members_list (members_view c.next.new.self) =
-      rw named (ap (λ es. members_list (members_view es)) c.in-Some.ensures.steps) in
+    rw named (ap (λ es. members_list (members_view es)) c.in-Some.ensures.steps) in
     let shorter : length c.loop-name.name-iterator ≡ suc (length c.next.new.self) = ap length c.in-Some.ensures.steps in
     let grown : length c.read_group.new.groups ≡ length c.loop-name.groups + 1 =
-      group-grown c.as_str.result.now (view c.in-Some.value.now) c.loop-name.groups c.read_group.new.groups c.in_ok-read_group.ensures in (
+    group-grown c.as_str.result.now (view c.in-Some.value.now) c.loop-name.groups c.read_group.new.groups c.in_ok-read_group.ensures in (
       c.loop-name.invariant.0
           ∙ groups-ok c.as_str.result.now (view c.in-Some.value.now) (members_list (members_view c.loop-name.name-iterator))
           (members_list (members_view c.next.new.self)) c.loop-name.groups c.read_group.new.groups left c.in_ok-read_group.ensures,
@@ -39,7 +39,7 @@ returns-in_err-read_group c =
     let p = err_from_is_err_and c.from_residual.result c.from_residual.ensures.1 in
     let named : c.as_str.result.now ≡ string_bytes c.in-Some.name.now = search rules in
     let left : members_list (members_view c.loop-name.name-iterator) ≡ (c.as_str.result.now, view c.in-Some.value.now) ∷ members_list (members_view c.next.new.self) =
-      rw named (ap (λ es. members_list (members_view es)) c.in-Some.ensures.steps) in
+    rw named (ap (λ es. members_list (members_view es)) c.in-Some.ensures.steps) in
     rw (p.1, p.2) (groups-fault c.as_str.result.now (view c.in-Some.value.now) (members_list (members_view c.loop-name.name-iterator))
     (members_list (members_view c.next.new.self)) c.loop-name.groups (with_groups (members_list (table_view c.args.table.now)) []) c.in_err-read_group.field-0.0
     c.loop-name.invariant.0 left c.in_err-read_group.ensures)
