@@ -133,14 +133,3 @@ beforePrintResumed = ['G90']\nafterPrintCancelled = ['M104 S0']\n";
     has(&rt, &scripts, Point::Cancelled, &["M104 S0"]);
     Ok(())
 }
-
-// Each call that allocates, with ample memory.
-#[test]
-fn ample(rt: HostRuntime) -> Result<(), Fail> {
-    let text = b"[printer]\nports = ['p']\n[admin]\nname = 'root'\n\
-key_sha256 = '470dc872b1b47dac8456c9f0800583d1176d1a2f194b626000379d1d7d7fc920'\n\
-[groups]\nprinters = ['PRINT']\n[scripts]\nbeforePrintStarted = ['M107']\n";
-    let settings = read_settings(rt.alloc(), text)?;
-    has(&rt, &settings.scripts, Point::Started, &["M107"]);
-    Ok(())
-}
