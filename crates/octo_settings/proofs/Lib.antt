@@ -1,0 +1,4 @@
+pub mod Each
+pub mod Lines
+pub mod NameBytes
+pub mod Sound

@@ -1,0 +1,65 @@
+-- The settings that a text says, or the first of its faults in the order of the keys.
+use Rattle.std.specs.Prelude.{ℕ, nat_le, if◌then◌else◌, List, [], length, codes, Option, None, Some, Result, Ok, Err}
+use Rattle.toml.specs.Data.{Members, get_member}
+use Rattle.toml.specs.Parse.{parse_document}
+use Rattle.octo_settings.specs.Groups.{groups_of}
+use Rattle.octo_settings.specs.Scripts.{scripts_of}
+use Rattle.octo_settings.specs.Sections.{printer_of, limits_of, admin_of, patience_of}
+use Rattle.octo_settings.specs.Values.{and_then}
+use Rattle.octo_settings.specs.declared.fault.SettingsFault.{SettingsFault}
+use Rattle.octo_settings.specs.declared.fault.SettingsFault.TheVariants.{NotToml}
+use Rattle.octo_settings.specs.declared.settings.Settings.{Settings}
+use Rattle.job_desk.specs.Scripts.{no_scripts}
+
+-- the most bytes of settings
+abbrev pub most_bytes : ℕ
+most_bytes = 1048576
+
+-- the table that a text is, none if it isn't TOML or is too long
+abbrev pub document_of : List ℕ → Option Members
+document_of text = if nat_le (length text) most_bytes then parse_document text else None
+
+-- the settings of a table
+abbrev pub settings_in : Members → Result Settings SettingsFault
+settings_in members =
+    and_then (printer_of (get_member (codes "printer") members)) (λ printer.
+    and_then (limits_of (get_member (codes "limits") members)) (λ limits.
+    and_then (admin_of (get_member (codes "admin") members)) (λ admin.
+    and_then (patience_of (get_member (codes "serve") members)) (λ patience.
+    and_then (groups_of (get_member (codes "groups") members)) (λ groups.
+    and_then (scripts_of limits (get_member (codes "scripts") members)) (λ scripts.
+    Ok (record {
+      ports = printer.ports;
+      window = printer.window;
+      limit_ms = printer.limit_ms;
+      poll_ms = printer.poll_ms;
+      material = printer.material;
+      limits = limits;
+      admin = Some admin;
+      patience = patience;
+      groups = groups;
+      scripts = scripts;
+    })))))))
+
+abbrev pub settings_or : Option Members → Result Settings SettingsFault
+settings_or None = Err NotToml
+settings_or (Some members) = settings_in members
+
+-- the settings of a text
+abbrev pub config : List ℕ → Result Settings SettingsFault
+config text = settings_or (document_of text)
+
+-- without settings: the defaults, no port, no admin and no script
+abbrev pub plain_settings : Settings
+plain_settings = record {
+  ports = [];
+  window = 4;
+  limit_ms = 30000;
+  poll_ms = 5000;
+  material = codes "any";
+  limits = record { tool = 300; bed = 120 };
+  admin = None;
+  patience = 6000;
+  groups = [];
+  scripts = no_scripts;
+}

@@ -1,0 +1,76 @@
+-- The sections of settings: the printer, its limits, the admin, and how long serving is patient.
+use Rattle.std.specs.Prelude.{ℕ, Bool, ◌&&◌, nat_le, if◌then◌else◌, List, length, codes, Option, None, Some, Result, Ok, Err}
+use Rattle.toml.specs.Data.{Data, Members, get_member}
+use Rattle.hex.specs.Hex.{decode_sized}
+use Rattle.hex.specs.declared.error.FromHexError.{FromHexError}
+use Rattle.octo_access.specs.Names.{name_of}
+use Rattle.octo_access.specs.declared.row.Admin.{Admin}
+use Rattle.temp_rules.specs.declared.limits.Limits.{Limits}
+use Rattle.octo_settings.specs.Values.{and_then, each, in_range, section, whole, text_of, required_text, texts_of}
+use Rattle.octo_settings.specs.declared.fault.SettingsFault.{SettingsFault}
+use Rattle.octo_settings.specs.declared.fault.SettingsFault.TheVariants.{Missing, OutOfRange}
+use Rattle.octo_settings.specs.declared.sections.Printer.{Printer}
+
+-- a port's name: 1 to 100 bytes
+abbrev pub port_of : List ℕ → List ℕ → Result (List ℕ) SettingsFault
+port_of key text = if nat_le 1 (length text) && nat_le (length text) 100 then Ok text else Err (OutOfRange key)
+
+-- 1 to 16 ports
+abbrev pub ports_in : List ℕ → List (List ℕ) → Result (List (List ℕ)) SettingsFault
+ports_in key texts = if nat_le 1 (length texts) && nat_le (length texts) 16 then each (port_of key) texts else Err (OutOfRange key)
+
+abbrev pub ports_of : List ℕ → Option Data → Result (List (List ℕ)) SettingsFault
+ports_of key None = Err (Missing key)
+ports_of key (Some value) = and_then (texts_of key value) (ports_in key)
+
+-- a material's name, `any` if it is missing
+abbrev pub material_of : List ℕ → Option Data → Result (List ℕ) SettingsFault
+material_of key None = Ok (codes "any")
+material_of key (Some value) = and_then (text_of key value) (λ text. in_range key (name_of text))
+
+abbrev pub printer_in : Members → Result Printer SettingsFault
+printer_in members =
+    and_then (ports_of (codes "printer.ports") (get_member (codes "ports") members)) (λ ports.
+    and_then (whole (codes "printer.window") 1 16 4 (get_member (codes "window") members)) (λ window.
+    and_then (whole (codes "printer.limit_ms") 1000 600000 30000 (get_member (codes "limit_ms") members)) (λ limit_ms.
+    and_then (whole (codes "printer.poll_ms") 1000 600000 5000 (get_member (codes "poll_ms") members)) (λ poll_ms.
+    and_then (material_of (codes "printer.material") (get_member (codes "material") members)) (λ material.
+    Ok (record { ports = ports; window = window; limit_ms = limit_ms; poll_ms = poll_ms; material = material }))))))
+
+abbrev pub printer_of : Option Data → Result Printer SettingsFault
+printer_of value = and_then (section (codes "printer") value) printer_in
+
+abbrev pub limits_in : Members → Result Limits SettingsFault
+limits_in members =
+    and_then (whole (codes "limits.tool") 0 500 300 (get_member (codes "tool") members)) (λ tool.
+    and_then (whole (codes "limits.bed") 0 200 120 (get_member (codes "bed") members)) (λ bed.
+    Ok (record { tool = tool; bed = bed })))
+
+abbrev pub limits_of : Option Data → Result Limits SettingsFault
+limits_of value = and_then (section (codes "limits") value) limits_in
+
+-- a digest, of 64 hexadecimal digits
+abbrev pub digest_in : List ℕ → Result (List ℕ) FromHexError → Result (List ℕ) SettingsFault
+digest_in key (Ok digest) = Ok digest
+digest_in key (Err fault) = Err (OutOfRange key)
+
+abbrev pub digest_of : List ℕ → Option Data → Result (List ℕ) SettingsFault
+digest_of key value = and_then (required_text key value) (λ text. digest_in key (decode_sized text 32))
+
+abbrev pub admin_name_of : List ℕ → Option Data → Result (List ℕ) SettingsFault
+admin_name_of key value = and_then (required_text key value) (λ text. in_range key (name_of text))
+
+abbrev pub admin_in : Members → Result Admin SettingsFault
+admin_in members =
+    and_then (admin_name_of (codes "admin.name") (get_member (codes "name") members)) (λ name.
+    and_then (digest_of (codes "admin.key_sha256") (get_member (codes "key_sha256") members)) (λ digest.
+    Ok (record { name = name; digest = digest })))
+
+abbrev pub admin_of : Option Data → Result Admin SettingsFault
+admin_of value = and_then (section (codes "admin") value) admin_in
+
+abbrev pub patience_in : Members → Result ℕ SettingsFault
+patience_in members = whole (codes "serve.patience") 1 4000000000 6000 (get_member (codes "patience") members)
+
+abbrev pub patience_of : Option Data → Result ℕ SettingsFault
+patience_of value = and_then (section (codes "serve") value) patience_in

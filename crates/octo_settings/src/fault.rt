@@ -1,0 +1,61 @@
+//! Why settings are refused.
+ghost use Rattle.std.specs.Prelude.{◌≡◌, ◌≤◌, length};
+ghost use Rattle.octo_settings.specs.declared.fault.SettingsFault.TheVariants as fault;
+
+use crate::names::text_name;
+use byte_text::Name;
+use job_desk::Point;
+use thiserror::Error;
+
+/// Why settings are refused: the first fault in the order of the keys.
+#[derive(Debug, Drop, Error)]
+pub enum SettingsFault {
+    /// They are over 1,048,576 bytes, or aren't TOML.
+    #[error("not TOML")]
+    NotToml,
+    /// A key that has to be there is missing.
+    #[error("missing")]
+    Missing { key: Name },
+    /// A key's value is of the wrong kind.
+    #[error("wrong kind")]
+    WrongKind { key: Name },
+    /// A key's value is out of its range.
+    #[error("out of range")]
+    OutOfRange { key: Name },
+    /// A script has a template, which isn't carried out.
+    #[error("template")]
+    Template { script: Point },
+    /// A script has a command that is too hot, in that line, counted from 1.
+    #[error("line {line}: too hot")]
+    TooHot { script: Point, line: u32 },
+    /// Out of memory.
+    #[error("out of memory")]
+    NoMemory,
+}
+
+pub(crate) fn missing(key: &str) -> SettingsFault
+    requires { length key.now ≤ 100 }
+    ensures { result ≡ fault.Missing key.now }
+{
+    SettingsFault::Missing {
+        key: text_name(key),
+    }
+}
+
+pub(crate) fn wrong_kind(key: &str) -> SettingsFault
+    requires { length key.now ≤ 100 }
+    ensures { result ≡ fault.WrongKind key.now }
+{
+    SettingsFault::WrongKind {
+        key: text_name(key),
+    }
+}
+
+pub(crate) fn out_of_range(key: &str) -> SettingsFault
+    requires { length key.now ≤ 100 }
+    ensures { result ≡ fault.OutOfRange key.now }
+{
+    SettingsFault::OutOfRange {
+        key: text_name(key),
+    }
+}

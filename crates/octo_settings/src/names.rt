@@ -1,0 +1,29 @@
+//! Names that are made here: of keys, and of bytes that are ASCII.
+ghost use Rattle.std.specs.Prelude.{◌≡◌, ◌≤◌, length};
+ghost use Rattle.std.specs.Str.{IsAscii};
+
+use byte_text::Name;
+use std::str;
+
+/// A name of bytes below 128.
+pub(crate) fn ascii_name(bytes: &[u8]) -> Name
+    requires short { length bytes.now ≤ 100 }
+    requires ascii { IsAscii bytes.now }
+    ensures { result ≡ bytes.now }
+{
+    match str::from_utf8(bytes) {
+        Ok(text) => text_name(text),
+        Err(_) => unreachable!(),
+    }
+}
+
+/// A short text as a name.
+pub(crate) fn text_name(text: &str) -> Name
+    requires { length text.now ≤ 100 }
+    ensures { result ≡ text.now }
+{
+    match Name::from_text(text) {
+        Some(name) => name,
+        None => unreachable!(),
+    }
+}

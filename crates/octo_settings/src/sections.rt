@@ -1,0 +1,236 @@
+//! The sections of settings: the printer, its limits, the admin, and how long serving is patient.
+ghost use Rattle.std.specs.Prelude.{◌≡◌, ◌≤◌, length, codes};
+ghost use Rattle.hex.specs.Hex.{decode_sized};
+ghost use Rattle.octo_access.specs.Names.{name_of};
+ghost use Rattle.octo_settings.specs.Sections.{port_of, ports_in, ports_of, material_of, printer_in, printer_of, limits_in, limits_of, admin_name_of, digest_in, digest_of, admin_in, admin_of, patience_in, patience_of};
+ghost use Rattle.octo_settings.specs.Seen.{members_or, seen};
+ghost use Rattle.octo_settings.specs.Values.{Reads, each, in_range};
+
+use crate::fault::{SettingsFault, missing, out_of_range, wrong_kind};
+use crate::names::text_name;
+use crate::texts::read_texts;
+use crate::values::{at, read_section, read_whole};
+use byte_text::Name;
+use hex::FromHex;
+use octo_access::{Admin, Digest, read_name};
+use octo_outside::{NameList, WordList};
+use std::alloc::Global;
+use temp_rules::Limits;
+use toml::{Table, Value};
+
+/// What the section `printer` says.
+#[derive(Drop)]
+pub(crate) struct Printer {
+    pub(crate) ports: NameList,
+    pub(crate) window: u8,
+    pub(crate) limit_ms: u64,
+    pub(crate) poll_ms: u64,
+    pub(crate) material: Name,
+}
+
+fn read_port(key: &str, text: &str) -> Result<Name, SettingsFault>
+    requires { length key.now ≤ 100 }
+    ensures { result ≡ port_of key.now text.now }
+{
+    if text.is_empty() {
+        return Err(out_of_range(key));
+    }
+    match Name::from_text(text) {
+        Some(port) => Ok(port),
+        None => Err(out_of_range(key)),
+    }
+}
+
+fn read_port_list(alloc: Global, key: &str, texts: &WordList) -> Result<NameList, SettingsFault>
+    requires { length key.now ≤ 100 }
+    ensures { Reads result (each (port_of key.now) texts.now) }
+{
+    let mut ports = NameList::new(alloc);
+    for i in 0..texts.count() {
+        let port = read_port(key, texts.get(i))?;
+        if ports.push(port).is_err() {
+            return Err(SettingsFault::NoMemory);
+        }
+    }
+    Ok(ports)
+}
+
+fn read_ports_in(alloc: Global, key: &str, texts: &WordList) -> Result<NameList, SettingsFault>
+    requires { length key.now ≤ 100 }
+    ensures { Reads result (ports_in key.now texts.now) }
+{
+    let count = texts.count();
+    if count < 1 || count > 16 {
+        return Err(out_of_range(key));
+    }
+    read_port_list(alloc, key, texts)
+}
+
+fn read_ports(alloc: Global, key: &str, value: Option<&Value>) -> Result<NameList, SettingsFault>
+    requires { length key.now ≤ 100 }
+    ensures { Reads result (ports_of key.now (seen value.entry)) }
+{
+    let Some(value) = value else {
+        return Err(missing(key));
+    };
+    let texts = read_texts(alloc, key, value)?;
+    read_ports_in(alloc, key, &texts)
+}
+
+/// A text as a name.
+fn read_named(key: &str, text: &str) -> Result<Name, SettingsFault>
+    requires { length key.now ≤ 100 }
+    ensures { result ≡ in_range key.now (name_of text.now) }
+{
+    match read_name(text) {
+        Some(name) => Ok(name),
+        None => Err(out_of_range(key)),
+    }
+}
+
+fn read_material(key: &str, value: Option<&Value>) -> Result<Name, SettingsFault>
+    requires { length key.now ≤ 100 }
+    ensures { result ≡ material_of key.now (seen value.entry) }
+{
+    match value {
+        None => Ok(any_material()),
+        Some(Value::String(text)) => read_named(key, text.as_str()),
+        Some(_) => Err(wrong_kind(key)),
+    }
+}
+
+/// The material of a printer that takes every entry.
+pub(crate) fn any_material() -> Name
+    ensures { result ≡ codes "any" }
+{
+    text_name("any")
+}
+
+fn read_printer_in(alloc: Global, table: Option<&Table>) -> Result<Printer, SettingsFault>
+    ensures { Reads result (printer_in (members_or table.entry)) }
+{
+    let ports = read_ports(alloc, "printer.ports", at(table, "ports"))?;
+    let window = read_whole("printer.window", 1, 16, 4, at(table, "window"))?;
+    let limit_ms = read_whole(
+        "printer.limit_ms",
+        1_000,
+        600_000,
+        30_000,
+        at(table, "limit_ms"),
+    )?;
+    let poll_ms = read_whole(
+        "printer.poll_ms",
+        1_000,
+        600_000,
+        5_000,
+        at(table, "poll_ms"),
+    )?;
+    let material = read_material("printer.material", at(table, "material"))?;
+    Ok(Printer {
+        ports,
+        window: window as u8,
+        limit_ms,
+        poll_ms,
+        material,
+    })
+}
+
+pub(crate) fn read_printer(alloc: Global, value: Option<&Value>) -> Result<Printer, SettingsFault>
+    ensures { Reads result (printer_of (seen value.entry)) }
+{
+    match read_section("printer", value) {
+        Ok(table) => read_printer_in(alloc, table),
+        Err(fault) => Err(fault),
+    }
+}
+
+fn read_limits_in(table: Option<&Table>) -> Result<Limits, SettingsFault>
+    ensures { result ≡ limits_in (members_or table.entry) }
+{
+    let tool = read_whole("limits.tool", 0, 500, 300, at(table, "tool"))?;
+    let bed = read_whole("limits.bed", 0, 200, 120, at(table, "bed"))?;
+    Ok(Limits {
+        tool: tool as u16,
+        bed: bed as u16,
+    })
+}
+
+pub(crate) fn read_limits(value: Option<&Value>) -> Result<Limits, SettingsFault>
+    ensures { result ≡ limits_of (seen value.entry) }
+{
+    match read_section("limits", value) {
+        Ok(table) => read_limits_in(table),
+        Err(fault) => Err(fault),
+    }
+}
+
+fn read_digest(key: &str, value: Option<&Value>) -> Result<Digest, SettingsFault>
+    requires { length key.now ≤ 100 }
+    ensures { result ≡ digest_of key.now (seen value.entry) }
+{
+    match value {
+        None => Err(missing(key)),
+        Some(Value::String(text)) => digest_in(key, text.as_str()),
+        Some(_) => Err(wrong_kind(key)),
+    }
+}
+
+fn digest_in(key: &str, text: &str) -> Result<Digest, SettingsFault>
+    requires { length key.now ≤ 100 }
+    ensures { result ≡ digest_in key.now (decode_sized text.now 32) }
+{
+    match <[u8; 32] as FromHex>::from_hex(text) {
+        Ok(digest) => Ok(digest),
+        Err(_) => Err(out_of_range(key)),
+    }
+}
+
+fn read_admin_name(key: &str, value: Option<&Value>) -> Result<Name, SettingsFault>
+    requires { length key.now ≤ 100 }
+    ensures { result ≡ admin_name_of key.now (seen value.entry) }
+{
+    match value {
+        None => Err(missing(key)),
+        Some(Value::String(text)) => read_named(key, text.as_str()),
+        Some(_) => Err(wrong_kind(key)),
+    }
+}
+
+fn read_admin_in(table: Option<&Table>) -> Result<Admin, SettingsFault>
+    ensures { result ≡ admin_in (members_or table.entry) }
+{
+    let name = read_admin_name("admin.name", at(table, "name"))?;
+    let digest = read_digest("admin.key_sha256", at(table, "key_sha256"))?;
+    Ok(Admin { name, digest })
+}
+
+pub(crate) fn read_admin(value: Option<&Value>) -> Result<Admin, SettingsFault>
+    ensures { result ≡ admin_of (seen value.entry) }
+{
+    match read_section("admin", value) {
+        Ok(table) => read_admin_in(table),
+        Err(fault) => Err(fault),
+    }
+}
+
+fn read_patience_in(table: Option<&Table>) -> Result<u32, SettingsFault>
+    ensures { result ≡ patience_in (members_or table.entry) }
+{
+    let patience = read_whole(
+        "serve.patience",
+        1,
+        4_000_000_000,
+        6_000,
+        at(table, "patience"),
+    )?;
+    Ok(patience as u32)
+}
+
+pub(crate) fn read_patience(value: Option<&Value>) -> Result<u32, SettingsFault>
+    ensures { result ≡ patience_of (seen value.entry) }
+{
+    match read_section("serve", value) {
+        Ok(table) => read_patience_in(table),
+        Err(fault) => Err(fault),
+    }
+}

@@ -1,0 +1,37 @@
+//! Texts and lists of texts among the values of a TOML document.
+ghost use Rattle.std.specs.Prelude.{◌≤◌, length};
+ghost use Rattle.toml.specs.View.{view, items_view};
+ghost use Rattle.octo_settings.specs.Values.{Reads, text_of, each, items_list, texts_of};
+
+use crate::fault::{SettingsFault, wrong_kind};
+use octo_outside::WordList;
+use std::alloc::Global;
+use toml::Value;
+
+/// Copies of texts.
+fn copy_texts(alloc: Global, key: &str, items: &[Value]) -> Result<WordList, SettingsFault>
+    requires { length key.now ≤ 100 }
+    ensures { Reads result (each (text_of key.now) (items_list (items_view items.now))) }
+{
+    let mut texts = WordList::new(alloc);
+    for item in items {
+        let Value::String(text) = item else {
+            return Err(wrong_kind(key));
+        };
+        if texts.push(text.as_str()).is_err() {
+            return Err(SettingsFault::NoMemory);
+        }
+    }
+    Ok(texts)
+}
+
+/// A value as a list of texts.
+pub(crate) fn read_texts(alloc: Global, key: &str, value: &Value) -> Result<WordList, SettingsFault>
+    requires { length key.now ≤ 100 }
+    ensures { Reads result (texts_of key.now (view value.now)) }
+{
+    let Value::Array(items) = value else {
+        return Err(wrong_kind(key));
+    };
+    copy_texts(alloc, key, items.as_slice())
+}

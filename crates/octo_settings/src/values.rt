@@ -1,0 +1,67 @@
+//! Values of a TOML document as settings have them.
+ghost use Rattle.std.specs.Prelude.{◌≡◌, ◌≤◌, ◌<◌, length, IfOk, MatchResult, Ok, Err};
+ghost use Rattle.toml.specs.Data.{get_member};
+ghost use Rattle.toml.specs.View.{table_view};
+ghost use Rattle.octo_settings.specs.Seen.{members_or, seen};
+ghost use Rattle.octo_settings.specs.Values.{section, whole};
+
+use crate::fault::{SettingsFault, out_of_range, wrong_kind};
+use toml::{Table, Value};
+
+/// The value at a key of a table.
+fn value_of<'a>(table: &'a Table, key: &str) -> Option<&'a Value>
+    ensures { seen result ≡ get_member key.now (table_view table.now) }
+{
+    table.get(key)
+}
+
+/// The value at a key of a table that may be missing.
+pub(crate) fn at<'a>(table: Option<&'a Table>, key: &str) -> Option<&'a Value>
+    ensures { seen result ≡ get_member key.now (members_or table.entry) }
+{
+    match table {
+        Some(table) => value_of(table, key),
+        None => None,
+    }
+}
+
+/// A value as a table, `None` if it is missing.
+pub(crate) fn read_section<'a>(
+    key: &str,
+    value: Option<&'a Value>,
+) -> Result<Option<&'a Table>, SettingsFault>
+    requires { length key.now ≤ 100 }
+    ensures { MatchResult result
+        (λ table. section key.now (seen value.entry) ≡ Ok (members_or table))
+        (λ fault. section key.now (seen value.entry) ≡ Err fault) }
+{
+    match value {
+        None => Ok(None),
+        Some(Value::Table(table)) => Ok(Some(table)),
+        Some(_) => Err(wrong_kind(key)),
+    }
+}
+
+/// A whole number from `least` to `most`, `default` if it is missing.
+pub(crate) fn read_whole(
+    key: &str,
+    least: u64,
+    most: u64,
+    default: u64,
+    value: Option<&Value>,
+) -> Result<u64, SettingsFault>
+    requires short { length key.now ≤ 100 }
+    requires default { default ≤ most }
+    ensures value { result ≡ whole key.now least most default (seen value.entry) }
+    ensures within { IfOk result (λ number. number ≤ most) }
+{
+    let number = match value {
+        None => return Ok(default),
+        Some(Value::Integer(number)) => *number,
+        Some(_) => return Err(wrong_kind(key)),
+    };
+    match u64::try_from(number) {
+        Ok(number) if least <= number && number <= most => Ok(number),
+        _ => Err(out_of_range(key)),
+    }
+}
