@@ -1,0 +1,4 @@
+pub mod Draws
+pub mod File
+pub mod Fates
+pub mod Summary
