@@ -47,6 +47,14 @@ bare_app = record (new_app (codes "octo")) {
   };
 }
 
+-- a program with further commands
+abbrev pub with_commands : App → List App → App
+with_commands app commands = fold (λ all command. with_subcommand all command.top) app commands
+
+-- the program with the commands that print and check
+abbrev pub printing_app : App
+printing_app = with_commands bare_app (print_app ∷ check_app ∷ demo_app ∷ [])
+
 -- the program with all its commands
 abbrev pub octo_app : App
-octo_app = fold (λ app command. with_subcommand app command.top) bare_app (print_app ∷ check_app ∷ demo_app ∷ measure_app ∷ rest_app ∷ [])
+octo_app = with_commands printing_app (measure_app ∷ rest_app ∷ [])

@@ -2,7 +2,7 @@
 ghost use Rattle.std.specs.Prelude.{◌≡◌, false, true, IfOk};
 ghost use Rattle.clap.specs.Words.{app_of, rule_of};
 ghost use Rattle.clap.specs.declared.builder.command.Command.TheViews.{out-Command};
-ghost use Rattle.octo_words.specs.Apps.{operand, option, print_app, check_app, demo_app, measure_app, rest_app, bare_app, octo_app};
+ghost use Rattle.octo_words.specs.Apps.{operand, option, print_app, check_app, demo_app, measure_app, rest_app, bare_app, printing_app, octo_app};
 
 use clap::{Arg, ArgAction, Command};
 use std::alloc::{AllocError, Global};
@@ -81,14 +81,21 @@ fn bare_app<'a>(alloc: Global) -> Command<'a>
         .subcommand_required(true)
 }
 
-/// The program with all its commands.
-pub(crate) fn octo_app<'a>(alloc: Global) -> Result<Command<'a>, AllocError>
-    ensures { IfOk result (λ c. app_of c ≡ octo_app) }
+// The program with the commands that print and check.
+fn printing_app<'a>(alloc: Global) -> Result<Command<'a>, AllocError>
+    ensures { IfOk result (λ c. app_of c ≡ printing_app) }
 {
     bare_app(alloc)
         .subcommand(print_app(alloc)?)?
         .subcommand(check_app(alloc)?)?
-        .subcommand(demo_app(alloc)?)?
+        .subcommand(demo_app(alloc)?)
+}
+
+/// The program with all its commands.
+pub(crate) fn octo_app<'a>(alloc: Global) -> Result<Command<'a>, AllocError>
+    ensures { IfOk result (λ c. app_of c ≡ octo_app) }
+{
+    printing_app(alloc)?
         .subcommand(measure_app(alloc)?)?
         .subcommand(rest_app(alloc)?)
 }
