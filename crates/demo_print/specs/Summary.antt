@@ -1,6 +1,6 @@
 -- What a demo prints.
 use Rattle.std.specs.Prelude.{ℕ, List, ◌++◌, codes, decimal}
-use Rattle.demo_print.specs.declared.summary.DemoCounts.{DemoCounts}
+use Rattle.demo_print.specs.declared.report.DemoCounts.{DemoCounts}
 
 -- the five lines
 abbrev pub summary_of : (seed commands : ℕ) → DemoCounts → (status : ℕ) → List ℕ

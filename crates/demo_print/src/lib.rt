@@ -3,12 +3,14 @@
 
 mod draws;
 mod file;
+mod job;
+mod report;
 mod schedule;
-mod summary;
 
 pub use file::demo_file;
+pub use job::demo_job;
+pub use report::{DemoCounts, SummaryText, summary};
 pub use schedule::demo_schedule;
-pub use summary::{DemoCounts, SummaryText, summary};
 
 #[cfg(test)]
 mod tests;
