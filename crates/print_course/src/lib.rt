@@ -1,0 +1,2 @@
+//! What one print issues.
+#![tactic(auto)]

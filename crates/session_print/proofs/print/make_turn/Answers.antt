@@ -1,0 +1,67 @@
+use Rattle.std.proofs.Common.{◌≡◌, true, sym, ◌∙◌, subst, refl, ap}
+use Rattle.std.specs.Prelude.{Option, Some}
+use Rattle.marlin_reply.specs.declared.session.LinkFact.{LinkFact}
+use Rattle.marlin_reply.specs.declared.session.LinkFact.TheVariants as fact
+use Rattle.printer_link.specs.Link.{LinkKind}
+use Rattle.octo_session.specs.Data.{SessionData}
+use Rattle.octo_session.specs.Turn.{fact_of}
+use Rattle.lossy_line.specs.Tied.{EndCausedAs}
+use Rattle.marlin_reply.specs.declared.session.SessionEnd.TheVariants.{NoAnswer}
+use Rattle.octo_session.specs.Data.{doing}
+use Rattle.octo_session.specs.Found.{can_find}
+use Rattle.lossy_line.proofs.Told.{noted_fact}
+use Rattle.session_print.specs.Patience.{IsPatient, IsUnanswered}
+use Rattle.session_print.proofs.Waits.{turn_patient, turn_unanswered}
+use Rattle.session_print.specs.Ends.{end_of, desk_after}
+use Rattle.session_print.specs.BetweenTurns.{GoesOn}
+use Rattle.session_print.specs.declared.end.PrintEnd.{PrintEnd}
+use Rattle.session_print.proofs.Steps.{HasTurned, turn_goes, follows, fact_by, calls_of}
+use Rattle.session_print.proofs.print.make_turn.Goals as goal
+
+pub returns-clause-goes : goal.returns-clause-goes
+returns-clause-goes g c port first way =
+    let e = c.turn_over_link-turned.ensures in
+    let turned = c.turn_over_link-turned.result in
+    let old : SessionData = c.args.session.now in
+    let mid : SessionData = c.turn_over_link-turned.new.session in
+    let kind : LinkKind = g.L.Link.kind c.args.link.now in
+    let now = g.L.Link.past c.turn_over_link-turned.new.link in
+    let h : HasTurned c.args.moment kind (g.L.Link.past c.args.link.now) now (g.L.Link.calls c.args.link.now) (g.L.Link.calls c.turn_over_link-turned.new.link) old mid turned =
+    record {
+      turn = e.turn;
+      kept = record { before = e.before; finds = e.finds; up = e.up; sent = e.sent; spent = e.spent };
+      greatest = e.greatest;
+      no_port = e.no_port;
+      caused = λ why is issued linked. (let K : LinkKind → Type 0 = λ k. EndCausedAs k now why in subst K e.kind (e.caused why is issued linked));
+    }
+    in
+    let went = turn_goes c.args.moment kind _ _ _ _ old mid turned h port first way in
+    let on = follows kind port first now mid (fact_of turned.note) turned.ending (λ is. (e.ready.0 is).1) went in
+    let F : LinkFact → Type 0 = λ f. GoesOn kind port (end_of f) first now (record mid { desk = desk_after f turned.ending mid.desk }) in
+    let R : Option PrintEnd → Type 0 = λ r. GoesOn kind port r first now (record mid { desk = desk_after c.fact_of_turn.result turned.ending mid.desk }) in
+    let S : SessionData → Type 0 = λ x. GoesOn kind port c.go_on.result first now x in
+    subst S (sym c.go_on.ensures.after) (subst R (sym c.go_on.ensures.end) (subst F (sym c.fact_of_turn.ensures) on))
+
+pub returns-clause-waits : goal.returns-clause-waits
+returns-clause-waits g c start limit since p =
+    let S : SessionData → Type 0 = λ x. IsPatient start limit x.sender in
+    subst S (sym c.go_on.ensures.after) (turn_patient c.args.moment _ _ _ _ _ c.args.session.now c.turn_over_link-turned.new.session c.turn_over_link-turned.result c.turn_over_link-turned.ensures.turn start limit since p)
+
+pub returns-clause-waited : goal.returns-clause-waited
+returns-clause-waited g c start limit count since p is =
+    let e = c.turn_over_link-turned.ensures in
+    let t = e.turn in
+    let old : SessionData = c.args.session.now in
+    let note = c.turn_over_link-turned.result.note in
+    let found : fact_of note ≡ t.found = noted_fact note c.args.moment old.sender.acked c.turn_over_link-turned.new.session.sender.acked t.lines t.got t.found t.none t.some in
+    let ends : fact_of note ≡ fact.Ended (NoAnswer count) = fact_by (fact_of note) (NoAnswer count) (ap end_of (sym c.fact_of_turn.ensures) ∙ sym c.go_on.ensures.end ∙ is) in
+    let F : LinkFact → Type 0 = λ f. can_find (doing old) f ≡ true in
+    let w = turn_unanswered c.args.moment _ _ _ _ _ old c.turn_over_link-turned.new.session c.turn_over_link-turned.result t start limit since count e.before p (sym found ∙ ends) (subst F found e.finds) in
+    let S : SessionData → Type 0 = λ x. IsUnanswered x.sender in
+    (w.0, subst S (sym c.go_on.ensures.after) w.1)
+
+pub returns-clause-calls : goal.returns-clause-calls
+returns-clause-calls g c awake is =
+    let e = c.turn_over_link-turned.ensures in
+    let note = c.turn_over_link-turned.result.note in
+    e.calls (calls_of c.args.session.now (fact_of note) awake e.finds (ap end_of (sym c.fact_of_turn.ensures) ∙ sym c.go_on.ensures.end ∙ is))

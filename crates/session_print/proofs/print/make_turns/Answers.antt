@@ -1,0 +1,118 @@
+use Rattle.std.proofs.Common.{◌≡◌, ◌≢◌, ◌≤◌, inl, inr, ℕ, Bool, true, false, List, Option, Some, None, refl, sym, ◌∙◌, ap, subst, arith}
+use Rattle.std.proofs.lemmas.Option.{same_Some}
+use Rattle.octo_outside.proofs.Told.{rose_after}
+use Rattle.printer_link.specs.Link.{LinkKind, RoseBy, Grows, IsHangUp}
+use Rattle.printer_link.proofs.Calls.{rose_none, rose_then}
+use Rattle.octo_session.specs.Data.{port_of}
+use Rattle.session_print.specs.Printed.{IsOver}
+use Rattle.session_print.specs.BetweenTurns.{IsTalking}
+use Rattle.session_print.specs.declared.end.PrintEnd.{PrintEnd}
+use Rattle.session_print.specs.declared.end.PrintEnd.TheVariants as end
+use Rattle.session_print.proofs.Waits.{in_time, on_time_next, waited_by}
+use Rattle.session_print.proofs.Loops.{under, awake, unstarted_in, found_unlisted, unlisted_first, same_turns, hung_over}
+use Rattle.session_print.proofs.print.make_turns.Goals as goal
+
+pub loop-init : goal.loop-init
+loop-init g c = record {
+  up = c.requires.as_up;
+  way = inl (refl, c.requires.begins);
+  kind = refl;
+  calls = rose_none (g.L.Link.calls c.args.link.now);
+  on_time = c.requires.on_time;
+  counted = omega arith;
+}
+
+pub make_turn-requires-clause-unstarted : goal.make_turn-requires-clause-unstarted
+make_turn-requires-clause-unstarted g c unready =
+    unstarted_in c.loop.counter (g.L.Link.kind c.loop.link) _ _ _ c.loop.session c.loop.invariant.way unready
+
+pub loop-preserved : goal.loop-preserved
+loop-preserved g c =
+    let i = c.loop.invariant in
+    let kind = g.L.Link.kind c.loop.link in
+    let first = g.L.Link.past c.args.link.now in
+    let port = port_of c.args.session.now.desk in
+    let K : LinkKind → Type 0 = λ k. IsTalking k port first (g.L.Link.past c.make_turn.new.link) c.make_turn.new.session in
+    record {
+      up = c.in-None.ensures.up refl;
+      way = inr (subst K (sym c.make_turn.ensures.kind) (c.in-None.ensures.goes port first (under c.loop.counter kind port first _ c.loop.session i.way)));
+      kind = c.make_turn.ensures.kind ∙ i.kind;
+      calls = rose_then c.loop.counter 1 (g.L.Link.calls c.args.link.now) (g.L.Link.calls c.loop.link) _ i.calls (c.in-None.ensures.calls (awake c.loop.counter kind port first _ c.loop.session i.way) refl);
+      on_time = on_time_next _ _ _ _ _ _ _ _ _ _ i.on_time c.now.ensures.now c.now.ensures.stays c.make_turn.ensures.clock c.max-moment.ensures
+          (λ start since p. c.make_turn.ensures.waits start c.args.session.now.sender.limit since p);
+      counted = omega (arith, i.counted, c.make_turn.ensures.counted);
+    }
+
+pub returns-in-Some-clause-over : goal.returns-in-Some-clause-over
+returns-in-Some-clause-over g c =
+    let i = c.loop.invariant in
+    let kind = g.L.Link.kind c.loop.link in
+    let first = g.L.Link.past c.args.link.now in
+    let port = port_of c.args.session.now.desk in
+    let over = c.in-Some.ensures.goes port first (under c.loop.counter kind port first _ c.loop.session i.way) in
+    let K : LinkKind → Type 0 = λ k. IsOver k c.in-Some.end first (g.L.Link.past c.make_turn.new.link) c.make_turn.new.session in
+    subst K i.kind over
+
+pub returns-in-Some-clause-no_port : goal.returns-in-Some-clause-no_port
+returns-in-Some-clause-no_port g c =
+    let i = c.loop.invariant in
+    let kind = g.L.Link.kind c.loop.link in
+    let first = g.L.Link.past c.args.link.now in
+    let port = port_of c.args.session.now.desk in
+    let same : kind.listed port ≡ (g.L.Link.kind c.args.link.now).listed port = ap (λ (k : LinkKind). k.listed port) i.kind in (
+      λ is. (let none = c.in-Some.ensures.no_port.0 (ap Some is) in
+          (omega (arith, c.loop-test.true), sym same ∙ found_unlisted c.loop.counter kind port first _ c.loop.session i.way none.0 none.1)),
+      λ none. (let dials = unlisted_first c.loop.counter kind port first _ c.loop.session i.way (same ∙ none.1) in
+          same_Some _ _ (c.in-Some.ensures.no_port.1 (dials.1, dials.2))),
+    )
+
+pub returns-in-Some-clause-failed : goal.returns-in-Some-clause-failed
+returns-in-Some-clause-failed g c is =
+    let i = c.loop.invariant in
+    rose_after _ (g.L.Link.faults c.loop.link) _ i.counted c.make_turn.ensures.counted (c.in-Some.ensures.failed (ap Some is))
+
+pub returns-in-Some-clause-used : goal.returns-in-Some-clause-used
+returns-in-Some-clause-used g c made is = absurd (c.in-Some.ensures.unused made (ap Some is))
+
+pub returns-clause-over : goal.returns-clause-over
+returns-clause-over g c =
+    let i = c.loop.invariant in
+    let kind = g.L.Link.kind c.loop.link in
+    let first = g.L.Link.past c.args.link.now in
+    let port = port_of c.args.session.now.desk in
+    let B : Bool → Type 0 = λ b. Grows kind (g.L.Link.past c.loop.link) (g.L.Link.past c.hang_up.new.self) (IsHangUp b) in
+    let over = hung_over c.loop.counter kind port first _ c.loop.session c.args.turns _ i.way (subst B i.up c.hang_up.ensures.past) in
+    let K : LinkKind → Type 0 = λ k. IsOver k (end.TurnsUsed c.args.turns) first (g.L.Link.past c.hang_up.new.self) c.loop.session in
+    subst K i.kind over
+
+pub returns-clause-no_port : goal.returns-clause-no_port
+returns-clause-no_port g c =
+    let i = c.loop.invariant in
+    let kind = g.L.Link.kind c.loop.link in
+    let first = g.L.Link.past c.args.link.now in
+    let port = port_of c.args.session.now.desk in (
+      λ is. absurd (cc),
+      λ none. (let dials = unlisted_first c.loop.counter kind port first _ c.loop.session i.way (ap (λ (k : LinkKind). k.listed port) i.kind ∙ none.1) in
+          absurd (omega (arith, none.0, dials.0, c.loop-test.false))),
+    )
+
+pub returns-clause-used : goal.returns-clause-used
+returns-clause-used g c made is =
+    let i = c.loop.invariant in
+    let all : c.loop.counter ≡ c.args.turns = omega (arith, c.loop-test.false) in
+    let P : ℕ → Type 0 = λ n. RoseBy n (g.L.Link.calls c.args.link.now) (g.L.Link.calls c.hang_up.new.self) in
+    let Q : Option ℕ → Type 0 = λ calls. RoseBy c.loop.counter (g.L.Link.calls c.args.link.now) calls in
+    (sym (same_turns c.args.turns made is), subst P all (subst Q (sym c.hang_up.ensures.calls) i.calls))
+
+pub returns-in-Some-clause-unanswered : goal.returns-in-Some-clause-unanswered
+returns-in-Some-clause-unanswered g c count is =
+    (c.in-Some.ensures.waited 0 c.args.session.now.sender.limit count (omega arith) c.loop.invariant.on_time.patient (ap Some is)).1
+
+pub returns-in-Some-clause-waited : goal.returns-in-Some-clause-waited
+returns-in-Some-clause-waited g c =
+    let limit = c.args.session.now.sender.limit in
+    waited_by c.in-Some.end (g.T.Clock.moment c.args.clock.now) (g.T.Clock.moment c.make_turn.new.clock) limit
+    (λ count start at is began now.
+    (let so = in_time _ _ _ _ _ _ _ _ _ c.loop.session.sender c.loop.invariant.on_time c.now.ensures.now c.now.ensures.stays c.make_turn.ensures.clock c.max-moment.ensures start at began now in
+    let waited = c.in-Some.ensures.waited start limit count so.0 so.2 (ap Some is) in
+    omega (arith, waited.0, so.1)))

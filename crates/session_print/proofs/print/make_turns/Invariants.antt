@@ -1,0 +1,16 @@
+use Rattle.std.proofs.Common.{◌≡◌, ◌≤◌, ℕ}
+use Rattle.printer_link.specs.Link.{RoseBy}
+use Rattle.octo_session.specs.Data.{port_of}
+use Rattle.session_print.specs.Patience.{IsOnTime}
+use Rattle.session_print.proofs.Loops.{IsAfter}
+use Rattle.session_print.proofs.print.make_turns.Given as goal
+
+abbrev pub invariant-loop : goal.invariant-loop
+invariant-loop g l = record {
+  up : g.L.Link.up l.link ≡ l.session.up;
+  way : IsAfter l.counter (g.L.Link.kind l.link) (port_of l.initial.session.desk) (g.L.Link.past l.initial.link) (g.L.Link.past l.link) l.session;
+  kind : g.L.Link.kind l.link ≡ g.L.Link.kind l.initial.link;
+  calls : RoseBy l.counter (g.L.Link.calls l.initial.link) (g.L.Link.calls l.link);
+  on_time : IsOnTime (g.T.Clock.moment l.initial.clock) (g.T.Clock.moment l.clock) l.moment l.initial.session.sender.limit l.session.sender;
+  counted : g.L.Link.faults l.initial.link ≤ g.L.Link.faults l.link;
+}

@@ -1,0 +1,10 @@
+//! A whole print over a session and its link.
+#![tactic(auto)]
+
+mod end;
+mod print;
+#[cfg(test)]
+mod tests;
+
+pub use end::PrintEnd;
+pub use print::run_print;

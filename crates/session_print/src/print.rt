@@ -1,0 +1,210 @@
+//! The turns of a print, from the dial to the hang-up.
+ghost use Rattle.std.specs.Prelude.{◌≡◌, ◌≢◌, ◌↔◌, ◌≤◌, ◌*◌, ℕ, List, true, false, Option, Some, None, is_some};
+ghost use Rattle.octo_outside.specs.Told.{Rose};
+ghost use Rattle.octo_outside.specs.Traits.{NotBefore};
+ghost use Rattle.desk_steps.specs.Table.{connect_at, select_at, disconnect_at, start_at};
+ghost use Rattle.gcode_lines.specs.Job.{texts_of};
+ghost use Rattle.job_desk.specs.DeskViews.{named_file};
+ghost use Rattle.marlin_reply.specs.declared.session.LinkFact.TheVariants as fact;
+ghost use Rattle.marlin_reply.specs.declared.session.SessionEnd.TheVariants.{NoAnswer};
+ghost use Rattle.send_window.specs.Hearing.{later};
+ghost use Rattle.printer_link.specs.Link.{RoseBy};
+ghost use Rattle.printer_model.specs.declared.event.WorldEvent.{WorldEvent};
+ghost use Rattle.temp_rules.specs.Hot.{first_hot_of};
+ghost use Rattle.octo_session.specs.Data.{IsSession, doing, port_of};
+ghost use Rattle.octo_session.specs.Turn.{fact_of};
+ghost use Rattle.octo_session.specs.declared.found.Doing.TheVariants as now_doing;
+ghost use Rattle.session_print.specs.Ends.{IsNew, IsTooHot, IsUnlisted, end_of, prepared, desk_after, left_after};
+ghost use Rattle.session_print.specs.Patience.{IsPatient, IsUnanswered, IsOnTime, HasWaited};
+ghost use Rattle.session_print.specs.Printed.{IsOver};
+ghost use Rattle.session_print.specs.BetweenTurns.{IsDialling, IsBetweenTurns, GoesOn};
+ghost use Rattle.session_print.specs.declared.end.PrintEnd.TheVariants as end;
+
+use crate::end::PrintEnd;
+use byte_text::Name;
+use gcode_lines::Job;
+use lossy_line::turn_over_link;
+use octo_outside::Clock;
+use octo_session::{Ending, LinkFact, Session, Turned};
+use printer_link::Link;
+use temp_rules::first_hot;
+
+/// The number of the only print of a session.
+const PRINT: u32 = 1;
+
+/// Prints a job as the file of this name over the port of that name, in at most so many turns.
+///
+/// It refuses a command that is too hot. Else it connects, selects the file, starts the print at once when the printer is
+/// ready, and disconnects when the print has ended. It rests the clock after each turn that received nothing, and uses the
+/// greatest moment that the clock has shown, in milliseconds. The link isn't up afterwards. It takes no memory.
+pub fn run_print<L: Link, T: Clock>(
+    session: &mut Session,
+    link: &mut L,
+    clock: &mut T,
+    port: &Name,
+    name: &Name,
+    job: Job,
+    turns: u64,
+) -> PrintEnd
+    requires new { IsNew session.old }
+    requires down { L.up link.old ≡ false }
+
+    // The history of the link.
+    ensures over { IsOver (L.kind link.old) result (L.past link.old) (L.past link.new) session.new }
+
+    // Each end by its cause.
+    ensures too_hot { IsTooHot (first_hot_of session.old.desk.limits job.commands) result }
+    ensures no_port { (result ≡ end.NoPort) ↔ IsUnlisted (first_hot_of session.old.desk.limits job.commands)
+        turns ((L.kind link.old).listed port.now) }
+    ensures failed { result ≡ end.LinkFailed → Rose (L.faults link.old) (L.faults link.new) }
+    ensures used { (made : ℕ) → result ≡ end.TurnsUsed made
+        → (made ≡ turns) × RoseBy turns (L.calls link.old) (L.calls link.new) }
+    ensures waited { HasWaited result (T.moment clock.old) session.old.sender.limit (T.moment clock.new) }
+    ensures unanswered { (count : ℕ) → result ≡ end.Ended (NoAnswer count) → IsUnanswered session.new.sender }
+
+    // The link afterwards.
+    ensures down { L.up link.new ≡ false }
+    ensures kind { L.kind link.new ≡ L.kind link.old }
+    ensures counted { L.faults link.old ≤ L.faults link.new }
+{
+    if let Some(hot) = first_hot(&job, session.desk().limits()) {
+        return PrintEnd::TooHot {
+            line: hot.line,
+            asked: hot.asked,
+            limit: hot.limit,
+        };
+    }
+    prepare(session, port, name, job);
+    make_turns(session, link, clock, turns)
+}
+
+// Begins to connect, and selects the file.
+fn prepare(session: &mut Session, port: &Name, name: &Name, job: Job)
+    requires { IsNew session.old }
+    ensures sender { session.new.sender ≡ session.old.sender }
+    ensures up { session.new.up ≡ false }
+    ensures desk { session.new.desk ≡ prepared port.now (named_file name.now job) session.old.desk }
+{
+    let _ = session.connect(port);
+    let _ = session.select(name, job);
+}
+
+// Makes turns until the print is over.
+fn make_turns<L: Link, T: Clock>(
+    session: &mut Session,
+    link: &mut L,
+    clock: &mut T,
+    turns: u64,
+) -> PrintEnd
+    requires as_up { L.up link.old ≡ session.old.up }
+    requires begins { IsDialling (port_of session.old.desk) (L.past link.old) (L.past link.old) session.old }
+    requires on_time { IsOnTime (T.moment clock.old) (T.moment clock.old) 0 session.old.sender.limit session.old.sender }
+    ensures over { IsOver (L.kind link.old) result (L.past link.old) (L.past link.new) session.new }
+    ensures no_port { (result ≡ end.NoPort)
+        ↔ ((1 ≤ turns) × ((L.kind link.old).listed (port_of session.old.desk) ≡ false)) }
+    ensures down { L.up link.new ≡ false }
+    ensures kind { L.kind link.new ≡ L.kind link.old }
+    ensures counted { L.faults link.old ≤ L.faults link.new }
+    ensures failed { result ≡ end.LinkFailed → Rose (L.faults link.old) (L.faults link.new) }
+    ensures used { (made : ℕ) → result ≡ end.TurnsUsed made
+        → (made ≡ turns) × RoseBy turns (L.calls link.old) (L.calls link.new) }
+    ensures waited { HasWaited result (T.moment clock.old) session.old.sender.limit (T.moment clock.new) }
+    ensures unanswered { (count : ℕ) → result ≡ end.Ended (NoAnswer count) → IsUnanswered session.new.sender }
+    ensures passes { (line asked limit : ℕ) → result ≢ end.TooHot line asked limit }
+{
+    let mut moment = 0;
+    for _ in 0..turns {
+        moment = clock.now().max(moment);
+        match make_turn(session, link, clock, moment) {
+            Some(end) => return end,
+            None => {}
+        }
+    }
+    link.hang_up();
+    PrintEnd::TurnsUsed { turns }
+}
+
+// Makes a turn, and does what follows of it; `Some` if the print is over.
+fn make_turn<L: Link, T: Clock>(
+    session: &mut Session,
+    link: &mut L,
+    clock: &mut T,
+    moment: u64,
+) -> Option<PrintEnd>
+    requires as_up { L.up link.old ≡ session.old.up }
+    requires unstarted { session.old.sender.ready ≡ false → session.old.desk.greatest ≡ 0 }
+    ensures goes { (port : List ℕ) (first : Option (List WorldEvent))
+        → IsBetweenTurns (L.kind link.old) port first (L.past link.old) session.old
+        → GoesOn (L.kind link.old) port result first (L.past link.new) session.new }
+    ensures no_port { (result ≡ Some end.NoPort) ↔ ((doing session.old ≡ now_doing.Dialling)
+        × ((L.kind link.old).listed (port_of session.old.desk) ≡ false)) }
+    ensures up { result ≡ None → L.up link.new ≡ session.new.up }
+    ensures down { is_some result ≡ true → L.up link.new ≡ false }
+    ensures kind { L.kind link.new ≡ L.kind link.old }
+    ensures counted { L.faults link.old ≤ L.faults link.new }
+    ensures failed { result ≡ Some end.LinkFailed → Rose (L.faults link.old) (L.faults link.new) }
+    ensures calls { (session.old.up ≡ false → doing session.old ≡ now_doing.Dialling)
+        → result ≡ None → RoseBy 1 (L.calls link.old) (L.calls link.new) }
+    ensures unused { (made : ℕ) → result ≢ Some (end.TurnsUsed made) }
+    ensures waits { (start limit : ℕ) → start ≤ moment → IsPatient start limit session.old.sender
+        → IsPatient start limit session.new.sender }
+    ensures waited { (start limit count : ℕ) → start ≤ moment → IsPatient start limit session.old.sender
+        → result ≡ Some (end.Ended (NoAnswer count))
+        → (later start (5 * limit) ≤ moment) × IsUnanswered session.new.sender }
+    ensures clock { NotBefore (T.moment clock.old) (T.moment clock.new) }
+    ensures passes { (line asked limit : ℕ) → result ≢ Some (end.TooHot line asked limit) }
+{
+    let turned = turn_over_link(session, link, moment);
+    rest_unless(turned.heard, clock);
+    go_on(session, fact_of_turn(&turned), turned.ending)
+}
+
+// Rests the clock, unless something was heard.
+fn rest_unless<T: Clock>(heard: bool, clock: &mut T)
+    ensures later { NotBefore (T.moment clock.old) (T.moment clock.new) }
+{
+    if !heard {
+        clock.rest();
+    }
+}
+
+// What a turn found.
+fn fact_of_turn(turned: &Turned) -> LinkFact
+    ensures { result ≡ fact_of turned.now.note }
+{
+    match &turned.note {
+        Some(note) => note.fact,
+        None => LinkFact::Quiet,
+    }
+}
+
+// What follows of a turn that found this and with which a print ended, if one did.
+fn go_on(session: &mut Session, found: LinkFact, ending: Option<Ending>) -> Option<PrintEnd>
+    requires { found ≡ fact.Ready → session.old.desk.greatest ≡ 0 }
+    ensures end { result ≡ end_of found }
+    ensures after { session.new ≡ record session.old { desk = desk_after found ending session.old.desk } }
+{
+    match found {
+        LinkFact::Quiet | LinkFact::Opened => {
+            leave(session, ending);
+            None
+        }
+        LinkFact::Ready => {
+            let _ = session.start(PRINT);
+            None
+        }
+        LinkFact::Closed => Some(PrintEnd::Done),
+        LinkFact::NoPort => Some(PrintEnd::NoPort),
+        LinkFact::Failed => Some(PrintEnd::LinkFailed),
+        LinkFact::Ended(end) => Some(PrintEnd::Ended(end)),
+    }
+}
+
+// Ends the connection if the print has ended.
+fn leave(session: &mut Session, ending: Option<Ending>)
+    ensures { session.new ≡ record session.old { desk = left_after ending session.old.desk } }
+{
+    if ending.is_some() {
+        session.disconnect();
+    }
+}
