@@ -5,11 +5,13 @@ mod draws;
 mod file;
 mod job;
 mod report;
+mod run;
 mod schedule;
 
 pub use file::demo_file;
 pub use job::demo_job;
 pub use report::{DemoCounts, SummaryText, summary};
+pub use run::{Demo, run_demo};
 pub use schedule::demo_schedule;
 
 #[cfg(test)]

@@ -1,7 +1,10 @@
 //! Files, fates and summaries of demos.
+ghost use Rattle.std.specs.Prelude.{◌≤◌};
+
 use super::*;
 use crate::draws::Draws;
 use printer_link::{Fate, Schedule};
+use session_print::PrintEnd;
 use std::alloc::Global;
 use std::process::Abort;
 use std::test::Fail;
@@ -67,4 +70,37 @@ fn all_commands(rt: HostRuntime) -> Result<(), Fail> {
     let wanted = b"G4 P47\nG4 P7\nG1 Y165\nG1 X112\nG1 E22\n";
     assert!(rt; file.as_slice() == wanted.as_slice());
     Ok(())
+}
+
+// The demo of a seed executes, sends and loses so many lines, and is printed.
+fn comes_to(
+    rt: &impl Abort,
+    alloc: Global,
+    seed: u32,
+    commands: u32,
+    wanted: (u64, u64, u64),
+) -> Result<(), Fail>
+    requires seed { seed ≤ 2147483647 }
+    requires commands { commands ≤ 200000 }
+{
+    let demo = run_demo(alloc, seed, commands)?;
+    let counts = demo.counts()?;
+    assert_eq!(rt; (counts.executed, counts.sent, counts.faults), wanted);
+    assert_eq!(rt; demo.end, PrintEnd::Done);
+    Ok(())
+}
+
+#[test]
+fn short_demos(rt: HostRuntime) -> Result<(), Fail> {
+    comes_to(&rt, rt.alloc(), 1, 0, (0, 1, 0))?;
+    comes_to(&rt, rt.alloc(), 1, 3, (3, 8, 2))?;
+    comes_to(&rt, rt.alloc(), 2, 1, (1, 2, 0))?;
+    comes_to(&rt, rt.alloc(), 3, 10, (11, 19, 4))
+}
+
+#[test]
+fn long_demos(rt: HostRuntime) -> Result<(), Fail> {
+    comes_to(&rt, rt.alloc(), 42, 100, (101, 168, 26))?;
+    comes_to(&rt, rt.alloc(), 2_147_483_647, 57, (57, 105, 19))?;
+    comes_to(&rt, rt.alloc(), 7, 1000, (1001, 1793, 330))
 }
