@@ -4,8 +4,8 @@ ghost use Rattle.demo_print.specs.Draws.{next_number, drawn};
 
 use std::marker::Model;
 
-/// A linear congruential generator of 31 bits, seen as its number. Source: `rand` of the C standard's example and its
-/// constants.
+/// A linear congruential generator of 31 bits, seen as its number. Source: the example of `rand` in the C standard,
+/// ISO C 7.22.2.
 #[derive(Drop)]
 pub(crate) struct Draws {
     number: u32,
