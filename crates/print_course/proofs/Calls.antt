@@ -1,16 +1,15 @@
 -- The calls of a print on its desk.
-use Rattle.std.proofs.Common.{◌≡◌, ℕ, List, [], ◌∷◌, ◌++◌, All, None, Some, Ok, refl, sym, ◌∙◌, ap, subst, arith, append_assoc}
+use Rattle.std.proofs.Common.{◌≡◌, ℕ, List, [], ◌∷◌, ◌++◌, All, None, Ok, refl, sym, ◌∙◌, ap, subst, arith, append_assoc}
 use Rattle.std.proofs.lemmas.List.{append-nil}
 use Rattle.std.proofs.lemmas.List.Elements.{All-cons}
-use Rattle.gcode_lines.specs.Job.{texts_of}
 use Rattle.temp_rules.specs.Hot.{first_hot_of}
 use Rattle.temp_rules.specs.declared.limits.Limits.{Limits}
-use Rattle.desk_steps.specs.Data.{Data, File, Line, ScriptTexts, new_desk, tagged, script_lines, commands_of}
+use Rattle.desk_steps.specs.Data.{Data, File, Line, ScriptTexts, new_desk, tagged, script_lines}
 use Rattle.desk_steps.specs.Table.{connect_at, select_at, start_at, start_file, start_checked, printing, closing, disconnect_at}
 use Rattle.desk_steps.specs.declared.state.State.TheVariants.{Offline, Operational, Printing, Closing}
 use Rattle.desk_steps.specs.declared.state.Point.TheVariants as point
 use Rattle.desk_steps.specs.declared.state.Tag.TheVariants.{Script}
-use Rattle.print_course.specs.Plan.{PrintData, print_commands, empty, connected_lines, started_lines, printed_lines, done_lines, plan_lines}
+use Rattle.print_course.specs.Plan.{PrintData, empty, connected_lines, started_lines, printed_lines, done_lines, plan_lines}
 use Rattle.print_course.specs.Underway.{standing, IsLast, IsUnderway}
 use Rattle.print_course.specs.Underway as phase
 use Rattle.print_course.proofs.Phases.{connected_of, ended_of}

@@ -4,3 +4,4 @@ pub mod Pulling
 pub mod Noting
 pub mod Calls
 pub mod Results
+pub mod Turning

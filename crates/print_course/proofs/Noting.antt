@@ -10,13 +10,13 @@ use Rattle.desk_steps.specs.Note.{Noted, ended, is_over, end_at, finish, leave, 
 use Rattle.desk_steps.specs.declared.state.State.{State}
 use Rattle.desk_steps.specs.declared.state.State.TheVariants.{Offline, Connecting, Operational, Printing, Pausing, Paused, Cancelling, Finishing, Closing, Fault}
 use Rattle.desk_steps.specs.declared.state.Point.TheVariants as point
-use Rattle.marlin_reply.specs.declared.session.LinkFact.{LinkFact}
-use Rattle.marlin_reply.specs.declared.session.LinkFact.TheVariants as fact
+use Rattle.desk_steps.specs.declared.link_fact.LinkFact.{LinkFact}
+use Rattle.desk_steps.specs.declared.link_fact.LinkFact.TheVariants as fact
 use Rattle.print_records.specs.declared.ending.Ending.{Ending}
 use Rattle.print_records.specs.declared.ending.Outcome.{Outcome}
 use Rattle.print_records.specs.declared.ending.Outcome.TheVariants as outcome
 use Rattle.desk_steps.proofs.Noted.{no_lines, and_first}
-use Rattle.print_course.specs.Plan.{PrintData, print_commands, Weave, empty, IsPart, connected_lines, done_lines, plan_lines, line_texts}
+use Rattle.print_course.specs.Plan.{PrintData, Weave, empty, IsPart, connected_lines, done_lines, plan_lines, line_texts}
 use Rattle.print_course.specs.Underway.{Standing, standing, IsOpen, IsFree, IsPrinting, Phase, IsCounted, IsUnderway, Suits, IsPrinted, ComesTo, EndsAs}
 use Rattle.print_course.specs.Underway as phase
 use Rattle.print_course.proofs.Weaves.{part_self, part_of, part_behind}
@@ -187,7 +187,7 @@ module _ (p : PrintData) where
   )
 
   -- what was done stays so in a failure
-  still_so : (how : Outcome) (state : State) (issued : List (List ℕ)) → ComesTo p how state issued → ComesTo p how Fault issued
+  pub still_so : (how : Outcome) (state : State) (issued : List (List ℕ)) → ComesTo p how state issued → ComesTo p how Fault issued
   still_so outcome.Active state issued h = h
   still_so outcome.Done state issued h = h
   still_so outcome.Cancelled state issued h = h
@@ -261,7 +261,7 @@ module _ (p : PrintData) where
       )
 
   -- acknowledgements alone change nothing of it
-  acked_more : (acked : ℕ) (d : Data) (issued : List (List ℕ)) → (d.state ≡ Offline → d.acked ≤ acked) → IsUnderway p d issued → IsUnderway p (record d { acked = acked }) issued
+  pub acked_more : (acked : ℕ) (d : Data) (issued : List (List ℕ)) → (d.state ≡ Offline → d.acked ≤ acked) → IsUnderway p d issued → IsUnderway p (record d { acked = acked }) issued
   acked_more acked d issued more h = record {
     scripts_are = h.scripts_are;
     limits_are = h.limits_are;

@@ -43,6 +43,9 @@ issue_tag (Job print index) d = record { scripts = refl; limits = refl; file = r
 issue_tag Manual d = record { scripts = refl; limits = refl; file = refl; manual = refl; stands = refl; number = refl; print = inl refl }
 issue_tag Poll d = record { scripts = refl; limits = refl; file = refl; manual = refl; stands = refl; number = refl; print = inl refl }
 
+pub issue_state : (line : Line) (d : Data) → (issue line d).1.state ≡ d.state
+issue_state line d = ap (λ (s : Standing). s.state) (issue_tag line.tag d).stands
+
 long : (issued : List (List ℕ)) (text : List ℕ) → length (issued ++ text ∷ []) ≡ length issued + 1
 long issued text = length-append issued (text ∷ [])
 

@@ -8,46 +8,52 @@ use Rattle.printer_link.proofs.Grown.{recorded_same}
 use Rattle.send_window.specs.Data.{SenderData, IsSound}
 use Rattle.octo_session.specs.Data.{SessionData, doing, port_of}
 use Rattle.octo_session.specs.declared.found.Doing.TheVariants.{Dialling}
-use Rattle.session_print.specs.Ends.{IsNew, prepared}
+use Rattle.temp_rules.specs.Hot.{first_hot_of}
+use Rattle.print_course.specs.Underway.{IsUnderway}
+use Rattle.print_course.proofs.Calls.{select-underway}
+use Rattle.session_print.specs.Ends.{IsNew, prepared, print_of}
 use Rattle.session_print.specs.Patience.{IsPatient, IsOnTime}
 use Rattle.session_print.specs.Printed.{HasPrinted, IsOver}
 use Rattle.session_print.specs.BetweenTurns.{IsDialling}
 use Rattle.session_print.specs.declared.end.PrintEnd.{PrintEnd}
 use Rattle.session_print.specs.declared.end.PrintEnd.TheVariants as end
-use Rattle.session_print.proofs.Sessions.{none_printed}
+use Rattle.session_print.proofs.Sessions.{none_printed, printed_of, part_none}
 
 new_acked : (x : SessionData) → IsNew x → x.sender.acked ≡ 0
 new_acked x new = ap (λ (s : SenderData). s.acked) new.its_sender
 
--- a desk that was prepared is about to dial its port
-pub its_port : (port : List ℕ) (file : File) (x y : SessionData) → IsNew x → y.desk ≡ prepared port file x.desk → port_of y.desk ≡ port
-its_port port file x y new desk = ap port_of desk ∙ ap (λ (d : Data). port_of (prepared port file d)) new.its_desk
-
+-- a desk that was prepared is about to dial
 pub begins : (port : List ℕ) (file : File) (past : Option (List WorldEvent)) (x y : SessionData) → IsNew x →
-    y.desk ≡ prepared port file x.desk → y.sender ≡ x.sender → y.up ≡ false → IsDialling (port_of y.desk) past past y
-begins port file past x y new desk sender up =
+    first_hot_of x.desk.limits file.job.commands ≡ None → y.desk ≡ prepared port file x.desk → y.sender ≡ x.sender → y.up ≡ false →
+    IsDialling (print_of x.desk file) (port_of y.desk) past past y
+begins port file past x y new cool desk sender up =
     let d0 : Data = new_desk x.desk.scripts x.desk.limits x.desk.poll_ms in
     let ready : y.desk ≡ prepared port file d0 = desk ∙ ap (prepared port file) new.its_desk in
     let S : SenderData → Type 0 = λ s. IsSound s in
+    let D : Data → Type 0 = λ d. IsUnderway (print_of x.desk file) d [] in
     record {
       dials = ap (λ (d : Data). doing (record y { desk = d })) ready ∙ ap (λ (b : Bool). doing (record y { desk = prepared port file d0; up = b })) up;
       its_port = refl;
       nothing = refl;
       none_acked = ap (λ (s : SenderData). s.acked) sender ∙ new_acked x new;
-      sound = subst S (sym sender) new.sound;
+      on = record {
+        course = subst D (sym desk) (select-underway x.desk port file new.its_desk);
+        cool = cool;
+        sound = subst S (sym sender) new.sound;
+      };
       unstarted = ap (λ (d : Data). d.greatest) ready;
     }
 
 -- a print that is refused
-pub refused : (kind : LinkKind) (past : Option (List WorldEvent)) (x : SessionData) (line asked limit : ℕ) → IsNew x →
-    IsOver kind (end.TooHot line asked limit) past past x
-refused kind past x line asked limit new =
-    let A : ℕ → Type 0 = λ n. (before : List WorldEvent) → HasPrinted kind [] n before [] in
+pub refused : (kind : LinkKind) (plan : List (List ℕ)) (past : Option (List WorldEvent)) (x : SessionData) (line asked limit : ℕ) → IsNew x →
+    IsOver kind plan (end.TooHot line asked limit) past past x
+refused kind plan past x line asked limit new =
+    let how : PrintEnd = end.TooHot line asked limit in
+    let A : ℕ → Type 0 = λ n. (before : List WorldEvent) → HasPrinted kind plan how n before [] in
     record {
-      issued = [];
-      history = recorded_same past (λ before added. HasPrinted kind [] x.sender.acked before added)
-          (subst A (sym (new_acked x new)) (λ before. none_printed kind before [] refl));
-      caused = λ why is. absurd (cc);
+      printed = recorded_same past (HasPrinted kind plan how x.sender.acked)
+          (subst A (sym (new_acked x new)) (λ before. printed_of kind plan how [] 0 before [] (part_none plan) (λ is. absurd (cc)) (none_printed kind before [] refl)));
+      ended = λ why is. absurd (cc);
       unsent = λ none. refl;
     }
 

@@ -12,8 +12,8 @@ use Rattle.desk_steps.specs.declared.state.State.{State}
 use Rattle.desk_steps.specs.declared.state.State.TheVariants.{Offline, Connecting, Operational, Printing, Pausing, Paused, Cancelling, Finishing, Closing, Fault}
 use Rattle.desk_steps.specs.declared.state.Tag.{Tag}
 use Rattle.desk_steps.specs.declared.state.Tag.TheVariants.{Script, Job, Manual, Poll}
-use Rattle.marlin_reply.specs.declared.session.LinkFact.{LinkFact}
-use Rattle.marlin_reply.specs.declared.session.LinkFact.TheVariants as fact
+use Rattle.desk_steps.specs.declared.link_fact.LinkFact.{LinkFact}
+use Rattle.desk_steps.specs.declared.link_fact.LinkFact.TheVariants as fact
 use Rattle.print_records.specs.declared.ending.Ending.{Ending}
 use Rattle.print_records.specs.declared.ending.Outcome.TheVariants as outcome
 use Rattle.octo_session.specs.Data.{SessionData, doing, is_connecting}
@@ -93,17 +93,17 @@ pulls_underway p moment (line ∷ lines) d e issued pulls h =
     let on : IsUnderway p next (issued ++ line.text ∷ []) = subst O pulls.0 (pull-underway p moment d issued h) in
     subst I (append_assoc issued (line.text ∷ []) (texts_in lines)) (pulls_underway p moment lines next e (issued ++ line.text ∷ []) pulls.1 on)
 
+never : (x : Ending) (b : Bool) (p q : Noted) → p.0 ≡ None → q.0 ≡ None → (cond b p q).0 ≡ Some x → ⊥
+never x true p q first second is = (let no : None ≡ Some x = sym first ∙ is in absurd (cc))
+never x false p q first second is = (let no : None ≡ Some x = sym second ∙ is in absurd (cc))
+
 -- a print that ends in a quiet note leaves the desk free
 ended_free : (s : State) (d : Data) (x : Ending) → (end_at s d).0 ≡ Some x → ((end_at s d).1.state ≡ Operational) × (x.print ≡ d.greatest)
 ended_free Offline d x is = absurd (cc)
 ended_free Connecting d x is = absurd (cc)
 ended_free Operational d x is = absurd (cc)
 ended_free Printing d x is = absurd (cc)
-ended_free Pausing d x is = absurd (by_over (is_over d) is)
-  where
-    by_over : (b : Bool) → (cond {X = Noted} b (None, record d { state = Paused }) (None, d)).0 ≡ Some x → ⊥
-    by_over true is = absurd (cc)
-    by_over false is = absurd (cc)
+ended_free Pausing d x is = absurd (never x (is_over d) (None, record d { state = Paused }) (None, d) refl refl is)
 ended_free Paused d x is = absurd (cc)
 ended_free Cancelling d x is = by_over (is_over d) is
   where

@@ -1,6 +1,9 @@
 pub mod Sessions
 pub mod Turns
+pub mod Lasting
+pub mod Course
 pub mod Steps
+pub mod Follows
 pub mod Loops
-pub mod Begins
 pub mod Waits
+pub mod Begins

@@ -2,9 +2,9 @@
 use Rattle.std.proofs.Common.{◌≡◌, ◌≢◌, ◌⊎◌, inl, inr, ℕ, suc, ◌+◌, ◌≤◌, Bool, true, false, List, [], ◌∷◌, ◌++◌, refl, sym, ◌∙◌, ap, subst, append_assoc, append-nil, arith}
 use Rattle.std.specs.Prelude.{Option, None, Some, not, ◌&&◌}
 use Rattle.std.proofs.lemmas.Grind.{common_steps}
-use Rattle.marlin_reply.specs.declared.session.LinkFact.{LinkFact}
-use Rattle.marlin_reply.specs.declared.session.LinkFact.TheVariants as fact
-use Rattle.marlin_reply.specs.declared.session.SessionEnd.{SessionEnd}
+use Rattle.desk_steps.specs.declared.link_fact.LinkFact.{LinkFact}
+use Rattle.desk_steps.specs.declared.link_fact.LinkFact.TheVariants as fact
+use Rattle.send_window.specs.declared.session_end.SessionEnd.{SessionEnd}
 use Rattle.marlin_reply.specs.declared.reply.Reply.{Reply}
 use Rattle.printer_model.specs.Printer.{Logged}
 use Rattle.printer_model.specs.World.{WorldData, can_happen, apply, world_from}
@@ -36,7 +36,7 @@ use Rattle.lossy_line.proofs.Turned.{IsTurned, talks_up, dials_down, opens_diall
 use Rattle.lossy_line.proofs.Turning.{opening, going_on}
 use Rattle.lossy_line.proofs.Tying.{tied_at, opened_tied}
 use Rattle.lossy_line.specs.Tied.{IsTied}
-use Rattle.session_print.specs.Printed.{HasPrinted}
+use Rattle.session_print.specs.Printed.{HasIssued}
 use Rattle.session_print.specs.BetweenTurns.{IsMade}
 use Rattle.session_print.proofs.Sessions.{none_printed}
 
@@ -151,7 +151,7 @@ module _ (moment : ℕ) (kind : LinkKind) (old new : SessionData) (got : Got) (f
 
 -- what was made is what a print leaves
 pub made_printed : (kind : LinkKind) (issued : List (List ℕ)) (x : SessionData) (past added : List WorldEvent) →
-    IsMade kind issued x past added → HasPrinted kind issued x.sender.acked past added
+    IsMade kind issued x past added → HasIssued kind issued x.sender.acked past added
 made_printed kind issued x past added made =
     let number : opens (past ++ added) ≡ suc (opens past) = omega (arith, opens-append past added, made.once) in
     let N : ℕ → Type 0 = λ n. IsTied kind issued x.sender.acked (past ++ added) n in
@@ -160,7 +160,7 @@ made_printed kind issued x past added made =
 -- the link of a print is hung up
 pub hung_printed : (kind : LinkKind) (issued : List (List ℕ)) (x : SessionData) (past added more : List WorldEvent) →
     IsMade kind issued x past added → IsHangUp true (world_in kind (past ++ added)) more →
-    HasPrinted kind issued x.sender.acked past (added ++ more)
+    HasIssued kind issued x.sender.acked past (added ++ more)
 hung_printed kind issued x past added more made hung =
     let o = made.opened in
     let start : List Logged = (world_in kind o.front).log in

@@ -1,13 +1,14 @@
 -- What follows of a turn of a print.
-use Rattle.std.specs.Prelude.{◌≡◌, ◌≢◌, ◌≤◌, ℕ, Bool, false, List, Option, None, Some}
+use Rattle.std.specs.Prelude.{◌≡◌, ◌≢◌, ◌≤◌, ℕ, Bool, true, false, List, Option, None, Some}
 use Rattle.desk_steps.specs.Data.{Data, File, new_desk}
 use Rattle.desk_steps.specs.Table.{connect_at, disconnect_at, select_at, start_at}
-use Rattle.marlin_reply.specs.declared.session.LinkFact.{LinkFact}
-use Rattle.marlin_reply.specs.declared.session.LinkFact.TheVariants as fact
+use Rattle.desk_steps.specs.declared.link_fact.LinkFact.{LinkFact}
+use Rattle.desk_steps.specs.declared.link_fact.LinkFact.TheVariants as fact
 use Rattle.print_records.specs.declared.ending.Ending.{Ending}
 use Rattle.send_window.specs.Data.{IsSound, new_sender}
 use Rattle.octo_session.specs.Data.{SessionData}
 use Rattle.temp_rules.specs.declared.job.HotLine.{HotLine}
+use Rattle.print_course.specs.Plan.{PrintData}
 use Rattle.session_print.specs.declared.end.PrintEnd.{PrintEnd}
 use Rattle.session_print.specs.declared.end.PrintEnd.TheVariants as end
 
@@ -23,6 +24,10 @@ abbrev pub prepared : List ℕ → File → Data → Data
 prepared port file d =
     let connected = (connect_at d.state port d).1 in
     (select_at connected.state file connected).1
+
+-- what a desk prints of a file
+abbrev pub print_of : Data → File → PrintData
+print_of d file = record { scripts = d.scripts; limits = d.limits; file = file }
 
 -- a print ends as too hot exactly if a command is, and names the first one
 abbrev pub IsTooHot : Option HotLine → PrintEnd → Type 0
@@ -40,6 +45,11 @@ abbrev pub IsUnsent : PrintEnd → Type 0
 IsUnsent (end.TooHot line asked limit) = Unit {0}
 IsUnsent end.NoPort = Unit {0}
 IsUnsent _ = ⊥
+
+-- a print that was refused for a command that is too hot
+abbrev pub is_too_hot : PrintEnd → Bool
+is_too_hot (end.TooHot line asked limit) = true
+is_too_hot _ = false
 
 -- how a turn that found this ends the print, if it does
 abbrev pub end_of : LinkFact → Option PrintEnd

@@ -1,6 +1,6 @@
 -- How long a session waits for an answer.
 use Rattle.std.specs.Prelude.{◌≡◌, ◌⊎◌, ℕ, ◌*◌, ◌<◌, ◌≤◌, false, Option, None, Some}
-use Rattle.marlin_reply.specs.declared.session.SessionEnd.TheVariants.{NoAnswer}
+use Rattle.send_window.specs.declared.session_end.SessionEnd.TheVariants.{NoAnswer}
 use Rattle.send_window.specs.Data.{SenderData, IsSound}
 use Rattle.send_window.specs.Hearing.{later}
 use Rattle.send_window.specs.Session.{WaitsSince}

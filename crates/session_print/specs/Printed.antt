@@ -1,27 +1,47 @@
 -- What a print has made of the history of its link.
-use Rattle.std.specs.Prelude.{◌≡◌, ◌≤◌, ℕ, suc, List, ◌++◌, Option}
-use Rattle.marlin_reply.specs.declared.session.SessionEnd.{SessionEnd}
-use Rattle.printer_model.specs.Executed.{opens}
+use Rattle.std.specs.Prelude.{◌≡◌, ◌≤◌, ℕ, suc, List, ◌++◌, length, Option, Some}
+use Rattle.printer_model.specs.Executed.{opens, executed}
 use Rattle.printer_model.specs.declared.event.WorldEvent.{WorldEvent}
 use Rattle.printer_link.specs.Link.{LinkKind, Recorded}
+use Rattle.send_window.specs.declared.session_end.SessionEnd.{SessionEnd}
+use Rattle.send_window.specs.Data.{SenderData}
 use Rattle.octo_session.specs.Data.{SessionData}
-use Rattle.lossy_line.specs.Tied.{IsTied, EndCausedAs}
+use Rattle.lossy_line.specs.Tied.{IsTied, EndCausedAs, logged_from}
+use Rattle.print_course.specs.Plan.{Weave, WeavesPart}
 use Rattle.session_print.specs.Ends.{IsUnsent}
 use Rattle.session_print.specs.declared.end.PrintEnd.{PrintEnd}
 use Rattle.session_print.specs.declared.end.PrintEnd.TheVariants as end
 
--- a print that issued lines of these texts, of which so many were acknowledged, added these events
-pub record HasPrinted (kind : LinkKind) (issued : List (List ℕ)) (acked : ℕ) (past added : List WorldEvent) : Type 0 where
+-- lines of these texts were issued, and so many of them acknowledged, in a history that grew by these events
+pub record HasIssued (kind : LinkKind) (issued : List (List ℕ)) (acked : ℕ) (past added : List WorldEvent) : Type 0 where
   -- at most one session was opened
   pub once : opens added ≤ 1
   -- what was executed in it are the first of these lines, in order and each once, the acknowledged ones among them
   pub tied : IsTied kind issued acked (past ++ added) (suc (opens past))
 
--- a print ended so
-pub record IsOver (kind : LinkKind) (how : PrintEnd) (first now : Option (List WorldEvent)) (x : SessionData) : Type 0 where
+-- the whole plan was issued, and all of it was executed and acknowledged
+pub record IsWhole (kind : LinkKind) (plan issued : List (List ℕ)) (acked : ℕ) (past added : List WorldEvent) : Type 0 where
+  pub woven : Weave issued plan
+  pub all_executed : executed kind.slots kind.numbered (past ++ added) (suc (opens past)) ≡ logged_from 1 issued
+  pub all_acked : acked ≡ length issued
+
+-- what a print of this plan that ended so has made of a history
+pub record HasPrinted (kind : LinkKind) (plan : List (List ℕ)) (how : PrintEnd) (acked : ℕ) (past added : List WorldEvent) : Type 0 where
+  -- the texts of its lines: the first of the plan, with polls for temperatures between them
   pub issued : List (List ℕ)
-  pub history : Recorded first now (λ past added. HasPrinted kind issued x.sender.acked past added)
-  -- a session that ended has a cause in the history
-  pub caused : (why : SessionEnd) → how ≡ end.Ended why → EndCausedAs kind now why
+  pub of_plan : WeavesPart issued plan
+  pub history : HasIssued kind issued acked past added
+  -- a print that is done has made the whole of it
+  pub done : how ≡ end.Done → IsWhole kind plan issued acked past added
+
+-- a session ended so: its sender has, and the history shows the cause
+pub record HasEnded (kind : LinkKind) (now : Option (List WorldEvent)) (s : SenderData) (why : SessionEnd) : Type 0 where
+  pub its_end : s.ended ≡ Some why
+  pub caused : EndCausedAs kind now why
+
+-- a print of this plan ended so
+pub record IsOver (kind : LinkKind) (plan : List (List ℕ)) (how : PrintEnd) (first now : Option (List WorldEvent)) (x : SessionData) : Type 0 where
+  pub printed : Recorded first now (HasPrinted kind plan how x.sender.acked)
+  pub ended : (why : SessionEnd) → how ≡ end.Ended why → HasEnded kind now x.sender why
   -- a print that was refused or had no port added nothing
   pub unsent : IsUnsent how → now ≡ first

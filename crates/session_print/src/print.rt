@@ -5,19 +5,21 @@ ghost use Rattle.octo_outside.specs.Traits.{NotBefore};
 ghost use Rattle.desk_steps.specs.Table.{connect_at, select_at, disconnect_at, start_at};
 ghost use Rattle.gcode_lines.specs.Job.{texts_of};
 ghost use Rattle.job_desk.specs.DeskViews.{named_file};
-ghost use Rattle.marlin_reply.specs.declared.session.LinkFact.TheVariants as fact;
-ghost use Rattle.marlin_reply.specs.declared.session.SessionEnd.TheVariants.{NoAnswer};
+ghost use Rattle.desk_steps.specs.declared.link_fact.LinkFact.TheVariants as fact;
+ghost use Rattle.send_window.specs.declared.session_end.SessionEnd.{SessionEnd};
+ghost use Rattle.send_window.specs.declared.session_end.SessionEnd.TheVariants.{NoAnswer};
 ghost use Rattle.send_window.specs.Hearing.{later};
-ghost use Rattle.printer_link.specs.Link.{RoseBy};
+ghost use Rattle.printer_link.specs.Link.{Recorded, RoseBy};
 ghost use Rattle.printer_model.specs.declared.event.WorldEvent.{WorldEvent};
 ghost use Rattle.temp_rules.specs.Hot.{first_hot_of};
 ghost use Rattle.octo_session.specs.Data.{IsSession, doing, port_of};
 ghost use Rattle.octo_session.specs.Turn.{fact_of};
 ghost use Rattle.octo_session.specs.declared.found.Doing.TheVariants as now_doing;
-ghost use Rattle.session_print.specs.Ends.{IsNew, IsTooHot, IsUnlisted, end_of, prepared, desk_after, left_after};
+ghost use Rattle.print_course.specs.Plan.{PrintData, print_commands, plan};
+ghost use Rattle.session_print.specs.Ends.{IsNew, IsTooHot, IsUnlisted, IsUnsent, is_too_hot, end_of, prepared, desk_after, left_after};
 ghost use Rattle.session_print.specs.Patience.{IsPatient, IsUnanswered, IsOnTime, HasWaited};
-ghost use Rattle.session_print.specs.Printed.{IsOver};
-ghost use Rattle.session_print.specs.BetweenTurns.{IsDialling, IsBetweenTurns, GoesOn};
+ghost use Rattle.session_print.specs.Printed.{HasPrinted, HasEnded, IsOver};
+ghost use Rattle.session_print.specs.BetweenTurns.{IsDialling, HasBegun, IsBetweenTurns, GoesOn};
 ghost use Rattle.session_print.specs.declared.end.PrintEnd.TheVariants as end;
 
 use crate::end::PrintEnd;
@@ -49,23 +51,28 @@ pub fn run_print<L: Link, T: Clock>(
     requires new { IsNew session.old }
     requires down { L.up link.old ≡ false }
 
-    // The history of the link.
-    ensures over { IsOver (L.kind link.old) result (L.past link.old) (L.past link.new) session.new }
+    // The first lines of the plan were printed, in one session at most; all of it if the print is done.
+    ensures printed { Recorded (L.past link.old) (L.past link.new)
+        (HasPrinted (L.kind link.old) (plan session.old.desk.scripts (texts_of job)) result session.new.sender.acked) }
 
     // Each end by its cause.
     ensures too_hot { IsTooHot (first_hot_of session.old.desk.limits job.commands) result }
     ensures no_port { (result ≡ end.NoPort) ↔ IsUnlisted (first_hot_of session.old.desk.limits job.commands)
         turns ((L.kind link.old).listed port.now) }
     ensures failed { result ≡ end.LinkFailed → Rose (L.faults link.old) (L.faults link.new) }
-    ensures used { (made : ℕ) → result ≡ end.TurnsUsed made
-        → (made ≡ turns) × RoseBy turns (L.calls link.old) (L.calls link.new) }
+    ensures ended { (why : SessionEnd) → result ≡ end.Ended why
+        → HasEnded (L.kind link.old) (L.past link.new) session.new.sender why }
     ensures waited { HasWaited result (T.moment clock.old) session.old.sender.limit (T.moment clock.new) }
     ensures unanswered { (count : ℕ) → result ≡ end.Ended (NoAnswer count) → IsUnanswered session.new.sender }
+    ensures used { (made : ℕ) → result ≡ end.TurnsUsed made
+        → (made ≡ turns) × RoseBy turns (L.calls link.old) (L.calls link.new) }
 
-    // The link afterwards.
+    // The link afterwards, and what a print leaves that sent nothing.
     ensures down { L.up link.new ≡ false }
     ensures kind { L.kind link.new ≡ L.kind link.old }
     ensures counted { L.faults link.old ≤ L.faults link.new }
+    ensures unsent { IsUnsent result → L.past link.new ≡ L.past link.old }
+    ensures refused { is_too_hot result ≡ true → session.new ≡ session.old }
 {
     if let Some(hot) = first_hot(&job, session.desk().limits()) {
         return PrintEnd::TooHot {
@@ -97,9 +104,12 @@ fn make_turns<L: Link, T: Clock>(
     turns: u64,
 ) -> PrintEnd
     requires as_up { L.up link.old ≡ session.old.up }
-    requires begins { IsDialling (port_of session.old.desk) (L.past link.old) (L.past link.old) session.old }
+    requires begins { HasBegun (L.past link.old) session.old }
     requires on_time { IsOnTime (T.moment clock.old) (T.moment clock.old) 0 session.old.sender.limit session.old.sender }
-    ensures over { IsOver (L.kind link.old) result (L.past link.old) (L.past link.new) session.new }
+    ensures over { (p : PrintData)
+        → IsDialling p (port_of session.old.desk) (L.past link.old) (L.past link.old) session.old
+        → IsOver (L.kind link.old) (plan p.scripts (print_commands p)) result
+        (L.past link.old) (L.past link.new) session.new }
     ensures no_port { (result ≡ end.NoPort)
         ↔ ((1 ≤ turns) × ((L.kind link.old).listed (port_of session.old.desk) ≡ false)) }
     ensures down { L.up link.new ≡ false }
@@ -133,9 +143,9 @@ fn make_turn<L: Link, T: Clock>(
 ) -> Option<PrintEnd>
     requires as_up { L.up link.old ≡ session.old.up }
     requires unstarted { session.old.sender.ready ≡ false → session.old.desk.greatest ≡ 0 }
-    ensures goes { (port : List ℕ) (first : Option (List WorldEvent))
-        → IsBetweenTurns (L.kind link.old) port first (L.past link.old) session.old
-        → GoesOn (L.kind link.old) port result first (L.past link.new) session.new }
+    ensures goes { (p : PrintData) (port : List ℕ) (first : Option (List WorldEvent))
+        → IsBetweenTurns (L.kind link.old) p port first (L.past link.old) session.old
+        → GoesOn (L.kind link.old) p port result first (L.past link.new) session.new }
     ensures no_port { (result ≡ Some end.NoPort) ↔ ((doing session.old ≡ now_doing.Dialling)
         × ((L.kind link.old).listed (port_of session.old.desk) ≡ false)) }
     ensures up { result ≡ None → L.up link.new ≡ session.new.up }

@@ -1,25 +1,26 @@
 use Rattle.std.proofs.Common.{◌≡◌, true, sym, ◌∙◌, subst, refl, ap}
 use Rattle.std.specs.Prelude.{Option, Some}
-use Rattle.marlin_reply.specs.declared.session.LinkFact.{LinkFact}
-use Rattle.marlin_reply.specs.declared.session.LinkFact.TheVariants as fact
+use Rattle.desk_steps.specs.declared.link_fact.LinkFact.{LinkFact}
+use Rattle.desk_steps.specs.declared.link_fact.LinkFact.TheVariants as fact
 use Rattle.printer_link.specs.Link.{LinkKind}
 use Rattle.octo_session.specs.Data.{SessionData}
 use Rattle.octo_session.specs.Turn.{fact_of}
 use Rattle.lossy_line.specs.Tied.{EndCausedAs}
-use Rattle.marlin_reply.specs.declared.session.SessionEnd.TheVariants.{NoAnswer}
+use Rattle.send_window.specs.declared.session_end.SessionEnd.TheVariants.{NoAnswer}
 use Rattle.octo_session.specs.Data.{doing}
 use Rattle.octo_session.specs.Found.{can_find}
-use Rattle.lossy_line.proofs.Told.{noted_fact}
+use Rattle.octo_session.proofs.Noting.{noted_fact}
 use Rattle.session_print.specs.Patience.{IsPatient, IsUnanswered}
 use Rattle.session_print.proofs.Waits.{turn_patient, turn_unanswered}
 use Rattle.session_print.specs.Ends.{end_of, desk_after}
 use Rattle.session_print.specs.BetweenTurns.{GoesOn}
 use Rattle.session_print.specs.declared.end.PrintEnd.{PrintEnd}
-use Rattle.session_print.proofs.Steps.{HasTurned, turn_goes, follows, fact_by, calls_of}
+use Rattle.session_print.proofs.Steps.{HasTurned, turn_goes, turn_free, turn_begins}
+use Rattle.session_print.proofs.Follows.{follows, fact_by, calls_of}
 use Rattle.session_print.proofs.print.make_turn.Goals as goal
 
 pub returns-clause-goes : goal.returns-clause-goes
-returns-clause-goes g c port first way =
+returns-clause-goes g c p port first way =
     let e = c.turn_over_link-turned.ensures in
     let turned = c.turn_over_link-turned.result in
     let old : SessionData = c.args.session.now in
@@ -30,16 +31,21 @@ returns-clause-goes g c port first way =
     record {
       turn = e.turn;
       kept = record { before = e.before; finds = e.finds; up = e.up; sent = e.sent; spent = e.spent };
+      joined = e.joined;
       greatest = e.greatest;
       no_port = e.no_port;
       caused = λ why is issued linked. (let K : LinkKind → Type 0 = λ k. EndCausedAs k now why in subst K e.kind (e.caused why is issued linked));
     }
     in
-    let went = turn_goes c.args.moment kind _ _ _ _ old mid turned h port first way in
-    let on = follows kind port first now mid (fact_of turned.note) turned.ending (λ is. (e.ready.0 is).1) went in
-    let F : LinkFact → Type 0 = λ f. GoesOn kind port (end_of f) first now (record mid { desk = desk_after f turned.ending mid.desk }) in
-    let R : Option PrintEnd → Type 0 = λ r. GoesOn kind port r first now (record mid { desk = desk_after c.fact_of_turn.result turned.ending mid.desk }) in
-    let S : SessionData → Type 0 = λ x. GoesOn kind port c.go_on.result first now x in
+    let went = turn_goes c.args.moment kind _ _ _ _ old mid turned h p port first way in
+    let on = follows kind p port first now mid (fact_of turned.note) turned.ending
+    (λ is. ((e.ready.0 is).1, e.greatest ∙ c.requires.unstarted (e.ready.0 is).0))
+    (turn_free c.args.moment kind _ _ _ _ old mid turned h p port first way)
+    (turn_begins c.args.moment kind _ _ _ _ old mid turned h p port first way) went
+    in
+    let F : LinkFact → Type 0 = λ f. GoesOn kind p port (end_of f) first now (record mid { desk = desk_after f turned.ending mid.desk }) in
+    let R : Option PrintEnd → Type 0 = λ r. GoesOn kind p port r first now (record mid { desk = desk_after c.fact_of_turn.result turned.ending mid.desk }) in
+    let S : SessionData → Type 0 = λ x. GoesOn kind p port c.go_on.result first now x in
     subst S (sym c.go_on.ensures.after) (subst R (sym c.go_on.ensures.end) (subst F (sym c.fact_of_turn.ensures) on))
 
 pub returns-clause-waits : goal.returns-clause-waits

@@ -4,6 +4,7 @@ use Rattle.octo_outside.proofs.Told.{rose_after}
 use Rattle.printer_link.specs.Link.{LinkKind, RoseBy, Grows, IsHangUp}
 use Rattle.printer_link.proofs.Calls.{rose_none, rose_then}
 use Rattle.octo_session.specs.Data.{port_of}
+use Rattle.print_course.specs.Plan.{PrintData, print_commands, plan}
 use Rattle.session_print.specs.Printed.{IsOver}
 use Rattle.session_print.specs.BetweenTurns.{IsTalking}
 use Rattle.session_print.specs.declared.end.PrintEnd.{PrintEnd}
@@ -15,7 +16,7 @@ use Rattle.session_print.proofs.print.make_turns.Goals as goal
 pub loop-init : goal.loop-init
 loop-init g c = record {
   up = c.requires.as_up;
-  way = inl (refl, c.requires.begins);
+  way = λ p dialling. inl (refl, dialling);
   kind = refl;
   calls = rose_none (g.L.Link.calls c.args.link.now);
   on_time = c.requires.on_time;
@@ -24,7 +25,8 @@ loop-init g c = record {
 
 pub make_turn-requires-clause-unstarted : goal.make_turn-requires-clause-unstarted
 make_turn-requires-clause-unstarted g c unready =
-    unstarted_in c.loop.counter (g.L.Link.kind c.loop.link) _ _ _ c.loop.session c.loop.invariant.way unready
+    let b = c.requires.begins in
+    unstarted_in c.loop.counter (g.L.Link.kind c.loop.link) b.print (port_of c.args.session.now.desk) (g.L.Link.past c.args.link.now) (g.L.Link.past c.loop.link) c.loop.session (c.loop.invariant.way b.print b.dialling) unready
 
 pub loop-preserved : goal.loop-preserved
 loop-preserved g c =
@@ -32,25 +34,27 @@ loop-preserved g c =
     let kind = g.L.Link.kind c.loop.link in
     let first = g.L.Link.past c.args.link.now in
     let port = port_of c.args.session.now.desk in
-    let K : LinkKind → Type 0 = λ k. IsTalking k port first (g.L.Link.past c.make_turn.new.link) c.make_turn.new.session in
+    let now = g.L.Link.past c.loop.link in
+    let b = c.requires.begins in
     record {
       up = c.in-None.ensures.up refl;
-      way = inr (subst K (sym c.make_turn.ensures.kind) (c.in-None.ensures.goes port first (under c.loop.counter kind port first _ c.loop.session i.way)));
+      way = λ p dialling. (let K : LinkKind → Type 0 = λ k. IsTalking k p port first (g.L.Link.past c.make_turn.new.link) c.make_turn.new.session in
+          inr (subst K (sym c.make_turn.ensures.kind) (c.in-None.ensures.goes p port first (under c.loop.counter kind p port first now c.loop.session (i.way p dialling)))));
       kind = c.make_turn.ensures.kind ∙ i.kind;
-      calls = rose_then c.loop.counter 1 (g.L.Link.calls c.args.link.now) (g.L.Link.calls c.loop.link) _ i.calls (c.in-None.ensures.calls (awake c.loop.counter kind port first _ c.loop.session i.way) refl);
+      calls = rose_then c.loop.counter 1 (g.L.Link.calls c.args.link.now) (g.L.Link.calls c.loop.link) _ i.calls (c.in-None.ensures.calls (awake c.loop.counter kind b.print port first now c.loop.session (i.way b.print b.dialling)) refl);
       on_time = on_time_next _ _ _ _ _ _ _ _ _ _ i.on_time c.now.ensures.now c.now.ensures.stays c.make_turn.ensures.clock c.max-moment.ensures
           (λ start since p. c.make_turn.ensures.waits start c.args.session.now.sender.limit since p);
       counted = omega (arith, i.counted, c.make_turn.ensures.counted);
     }
 
 pub returns-in-Some-clause-over : goal.returns-in-Some-clause-over
-returns-in-Some-clause-over g c =
+returns-in-Some-clause-over g c p dialling =
     let i = c.loop.invariant in
     let kind = g.L.Link.kind c.loop.link in
     let first = g.L.Link.past c.args.link.now in
     let port = port_of c.args.session.now.desk in
-    let over = c.in-Some.ensures.goes port first (under c.loop.counter kind port first _ c.loop.session i.way) in
-    let K : LinkKind → Type 0 = λ k. IsOver k c.in-Some.end first (g.L.Link.past c.make_turn.new.link) c.make_turn.new.session in
+    let over = c.in-Some.ensures.goes p port first (under c.loop.counter kind p port first (g.L.Link.past c.loop.link) c.loop.session (i.way p dialling)) in
+    let K : LinkKind → Type 0 = λ k. IsOver k (plan p.scripts (print_commands p)) c.in-Some.end first (g.L.Link.past c.make_turn.new.link) c.make_turn.new.session in
     subst K i.kind over
 
 pub returns-in-Some-clause-no_port : goal.returns-in-Some-clause-no_port
@@ -59,10 +63,12 @@ returns-in-Some-clause-no_port g c =
     let kind = g.L.Link.kind c.loop.link in
     let first = g.L.Link.past c.args.link.now in
     let port = port_of c.args.session.now.desk in
+    let b = c.requires.begins in
+    let now = g.L.Link.past c.loop.link in
     let same : kind.listed port ≡ (g.L.Link.kind c.args.link.now).listed port = ap (λ (k : LinkKind). k.listed port) i.kind in (
       λ is. (let none = c.in-Some.ensures.no_port.0 (ap Some is) in
-          (omega (arith, c.loop-test.true), sym same ∙ found_unlisted c.loop.counter kind port first _ c.loop.session i.way none.0 none.1)),
-      λ none. (let dials = unlisted_first c.loop.counter kind port first _ c.loop.session i.way (same ∙ none.1) in
+          (omega (arith, c.loop-test.true), sym same ∙ found_unlisted c.loop.counter kind b.print port first now c.loop.session (i.way b.print b.dialling) none.0 none.1)),
+      λ none. (let dials = unlisted_first c.loop.counter kind b.print port first now c.loop.session (i.way b.print b.dialling) (same ∙ none.1) in
           same_Some _ _ (c.in-Some.ensures.no_port.1 (dials.1, dials.2))),
     )
 
@@ -75,14 +81,14 @@ pub returns-in-Some-clause-used : goal.returns-in-Some-clause-used
 returns-in-Some-clause-used g c made is = absurd (c.in-Some.ensures.unused made (ap Some is))
 
 pub returns-clause-over : goal.returns-clause-over
-returns-clause-over g c =
+returns-clause-over g c p dialling =
     let i = c.loop.invariant in
     let kind = g.L.Link.kind c.loop.link in
     let first = g.L.Link.past c.args.link.now in
     let port = port_of c.args.session.now.desk in
     let B : Bool → Type 0 = λ b. Grows kind (g.L.Link.past c.loop.link) (g.L.Link.past c.hang_up.new.self) (IsHangUp b) in
-    let over = hung_over c.loop.counter kind port first _ c.loop.session c.args.turns _ i.way (subst B i.up c.hang_up.ensures.past) in
-    let K : LinkKind → Type 0 = λ k. IsOver k (end.TurnsUsed c.args.turns) first (g.L.Link.past c.hang_up.new.self) c.loop.session in
+    let over = hung_over c.loop.counter kind p port first _ c.loop.session c.args.turns _ (i.way p dialling) (subst B i.up c.hang_up.ensures.past) in
+    let K : LinkKind → Type 0 = λ k. IsOver k (plan p.scripts (print_commands p)) (end.TurnsUsed c.args.turns) first (g.L.Link.past c.hang_up.new.self) c.loop.session in
     subst K i.kind over
 
 pub returns-clause-no_port : goal.returns-clause-no_port
@@ -90,9 +96,11 @@ returns-clause-no_port g c =
     let i = c.loop.invariant in
     let kind = g.L.Link.kind c.loop.link in
     let first = g.L.Link.past c.args.link.now in
-    let port = port_of c.args.session.now.desk in (
+    let port = port_of c.args.session.now.desk in
+    let b = c.requires.begins in
+    let now = g.L.Link.past c.loop.link in (
       λ is. absurd (cc),
-      λ none. (let dials = unlisted_first c.loop.counter kind port first _ c.loop.session i.way (ap (λ (k : LinkKind). k.listed port) i.kind ∙ none.1) in
+      λ none. (let dials = unlisted_first c.loop.counter kind b.print port first now c.loop.session (i.way b.print b.dialling) (ap (λ (k : LinkKind). k.listed port) i.kind ∙ none.1) in
           absurd (omega (arith, none.0, dials.0, c.loop-test.false))),
     )
 

@@ -1,6 +1,8 @@
 use Rattle.std.proofs.Common.{◌≡◌, ◌≤◌, ℕ}
 use Rattle.printer_link.specs.Link.{RoseBy}
 use Rattle.octo_session.specs.Data.{port_of}
+use Rattle.print_course.specs.Plan.{PrintData}
+use Rattle.session_print.specs.BetweenTurns.{IsDialling}
 use Rattle.session_print.specs.Patience.{IsOnTime}
 use Rattle.session_print.proofs.Loops.{IsAfter}
 use Rattle.session_print.proofs.print.make_turns.Given as goal
@@ -8,7 +10,8 @@ use Rattle.session_print.proofs.print.make_turns.Given as goal
 abbrev pub invariant-loop : goal.invariant-loop
 invariant-loop g l = record {
   up : g.L.Link.up l.link ≡ l.session.up;
-  way : IsAfter l.counter (g.L.Link.kind l.link) (port_of l.initial.session.desk) (g.L.Link.past l.initial.link) (g.L.Link.past l.link) l.session;
+  way : (p : PrintData) → IsDialling p (port_of l.initial.session.desk) (g.L.Link.past l.initial.link) (g.L.Link.past l.initial.link) l.initial.session →
+      IsAfter l.counter (g.L.Link.kind l.link) p (port_of l.initial.session.desk) (g.L.Link.past l.initial.link) (g.L.Link.past l.link) l.session;
   kind : g.L.Link.kind l.link ≡ g.L.Link.kind l.initial.link;
   calls : RoseBy l.counter (g.L.Link.calls l.initial.link) (g.L.Link.calls l.link);
   on_time : IsOnTime (g.T.Clock.moment l.initial.clock) (g.T.Clock.moment l.clock) l.moment l.initial.session.sender.limit l.session.sender;
