@@ -1,0 +1,5 @@
+pub mod Draws
+pub mod File
+pub mod Fates
+pub mod Summary
+pub mod Run

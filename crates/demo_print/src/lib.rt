@@ -1,0 +1,18 @@
+//! A print made from a number: its file, what becomes of each line that is sent, and what it reports.
+#![tactic(auto)]
+
+mod draws;
+mod file;
+mod job;
+mod report;
+mod run;
+mod schedule;
+
+pub use file::demo_file;
+pub use job::demo_job;
+pub use report::{DemoCounts, SummaryText, summary};
+pub use run::{Demo, run_demo};
+pub use schedule::demo_schedule;
+
+#[cfg(test)]
+mod tests;

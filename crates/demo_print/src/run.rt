@@ -1,0 +1,106 @@
+//! The run of a demo.
+ghost use Rattle.std.specs.Prelude.{◌≡◌, ◌≤◌, length, false, IfOk};
+ghost use Rattle.desk_steps.specs.Data.{new_desk};
+ghost use Rattle.send_window.specs.Data.{new_sender, IsSound};
+ghost use Rattle.session_print.specs.Ends.{IsNew};
+ghost use Rattle.demo_print.specs.Run.{IsDemo, counts_of};
+
+use crate::job::demo_job;
+use crate::report::DemoCounts;
+use crate::schedule::demo_schedule;
+use byte_text::Name;
+use job_desk::{Desk, Scripts};
+use octo_outside::MemoryClock;
+use octo_session::Session;
+use printer_link::MemoryLink;
+use send_window::Sender;
+use session_print::{PrintEnd, run_print};
+use std::alloc::{AllocError, Global};
+use temp_rules::Limits;
+
+const WINDOW: u8 = 4;
+
+// How long an answer may take, and when a poll is due, in milliseconds.
+const LIMIT: u64 = 30_000;
+
+const POLL: u64 = 5_000;
+
+// How long a rest takes, in milliseconds.
+const REST: u64 = 100;
+
+const TURNS: u64 = 1_000_000_000;
+
+/// A demo that was run.
+#[derive(Drop)]
+pub struct Demo {
+    /// The link as the run left it.
+    pub link: MemoryLink,
+    /// How the print ended.
+    pub end: PrintEnd,
+}
+
+// A short name.
+fn name(text: &str) -> Name
+    requires { length text.now ≤ 100 }
+    ensures { result ≡ text.now }
+{
+    match Name::from_text(text) {
+        Some(name) => name,
+        None => unreachable!(),
+    }
+}
+
+// A session without scripts.
+fn plain_session(alloc: Global) -> Result<Session, AllocError>
+    ensures { IfOk result IsNew }
+{
+    let limits = Limits {
+        tool: 300,
+        bed: 120,
+    };
+    let desk = Desk::new(alloc, Scripts::new(alloc), limits, POLL)?;
+    let sender = Sender::new(alloc, WINDOW, LIMIT)?;
+    Ok(Session::new(desk, sender))
+}
+
+/// Prints the file of a demo over a link in memory of its own, for a seed of at most 2,147,483,647 and at most 200,000
+/// commands. The printer has 4 places and the last line number 4; the window is 4, and a rest takes 100 ms.
+///
+/// # Errors
+///
+/// Out of memory, also if it is the link's.
+pub fn run_demo(alloc: Global, seed: u32, commands: u32) -> Result<Demo, AllocError>
+    requires seed { seed ≤ 2147483647 }
+    requires commands { commands ≤ 200000 }
+    ensures { IfOk result (IsDemo seed commands) }
+{
+    let job = demo_job(alloc, seed, commands)?;
+    let mut link = MemoryLink::new(alloc, demo_schedule(alloc, seed, commands)?)?;
+    let mut session = plain_session(alloc)?;
+    let end = run_print(
+        &mut session,
+        &mut link,
+        &mut MemoryClock::new(0, REST),
+        &name("demo"),
+        &name("file"),
+        job,
+        TURNS,
+    );
+    if end == PrintEnd::LinkFailed {
+        return Err(AllocError);
+    }
+    Ok(Demo { link, end })
+}
+
+impl Demo {
+    /// What happened on the link.
+    pub fn counts(&self) -> Result<DemoCounts, AllocError>
+        ensures { IfOk result (λ counts. counts ≡ counts_of self.now.link) }
+    {
+        Ok(DemoCounts {
+            executed: self.link.executed(1)?.as_slice().len() as u64,
+            sent: self.link.sends(),
+            faults: self.link.losses(),
+        })
+    }
+}

@@ -1,0 +1,60 @@
+-- The literal command line of the host: its commands, their operands and their options.
+use Rattle.std.specs.Prelude.{List, [], ◌∷◌, fold, codes, true, Some}
+use Rattle.clap.specs.Words.{App, Rule, Shape, Text, new_app, new_rule, with_rule, with_subcommand}
+use Rattle.clap.specs.declared.builder.action.ArgAction.TheVariants.{Set}
+
+-- an argument that has its place and must be given
+abbrev pub operand : Text → Rule
+operand id = record (new_rule id) { required = true; action = Some Set }
+
+-- an option `--id VALUE`, which may be left out
+abbrev pub option : Text → Rule
+option id = record (new_rule id) { long = Some id; action = Some Set }
+
+-- a command of that name with those arguments
+abbrev pub command_app : Text → List Rule → App
+command_app name rules = fold with_rule (new_app name) rules
+
+-- `print PORT FILE [--turns N] [--settings FILE]`
+abbrev pub print_app : App
+print_app = command_app (codes "print") (operand (codes "port") ∷ operand (codes "file") ∷ option (codes "turns") ∷ option (codes "settings") ∷ [])
+
+-- `check FILE [--settings FILE]`
+abbrev pub check_app : App
+check_app = command_app (codes "check") (operand (codes "file") ∷ option (codes "settings") ∷ [])
+
+-- `demo SEED COMMANDS`
+abbrev pub demo_app : App
+demo_app = command_app (codes "demo") (operand (codes "seed") ∷ operand (codes "commands") ∷ [])
+
+-- `measure FILE`
+abbrev pub measure_app : App
+measure_app = command_app (codes "measure") (operand (codes "file") ∷ [])
+
+-- `rest FILE COMMAND`
+abbrev pub rest_app : App
+rest_app = command_app (codes "rest") (operand (codes "file") ∷ operand (codes "command") ∷ [])
+
+-- the program without its commands: the arguments come without its name, one command is wanted, and none shows help
+abbrev pub bare_app : App
+bare_app = record (new_app (codes "octo")) {
+  top = record (new_app (codes "octo")).top {
+    no_binary_name = true;
+    disable_help_flag = true;
+    disable_help_subcommand = true;
+    disable_version_flag = true;
+    subcommand_required = true;
+  };
+}
+
+-- a program with further commands
+abbrev pub with_commands : App → List App → App
+with_commands app commands = fold (λ all command. with_subcommand all command.top) app commands
+
+-- the program with the commands that print and check
+abbrev pub printing_app : App
+printing_app = with_commands bare_app (print_app ∷ check_app ∷ demo_app ∷ [])
+
+-- the program with all its commands
+abbrev pub octo_app : App
+octo_app = with_commands printing_app (measure_app ∷ rest_app ∷ [])

@@ -1,0 +1,94 @@
+-- Which command the arguments are.
+use Rattle.std.specs.Prelude.{ℕ, Bool, ◌&&◌, ◌≡◌, nat_le, if◌then◌else◌, List, [], ◌∷◌, length, codes, Option, Some, None, option_and_then, option_map, Result, MatchResult}
+use Rattle.std.specs.Str.{bytes_eq}
+use Rattle.clap.specs.Words.{Kinds, Row, Text, fault_of, first_of, subcommand_of, subcommand_rows_of}
+use Rattle.clap.specs.declared.parser.matches.ArgMatches.{ArgMatches}
+use Rattle.byte_text.specs.Number.{whole_number}
+use Rattle.octo_words.specs.Apps.{octo_app}
+use Rattle.octo_words.specs.declared.command.Command.{Command}
+use Rattle.octo_words.specs.declared.command.Command.TheVariants.{Print, Check, Demo, Measure, Rest}
+use Rattle.octo_words.specs.declared.command.WordsFault.{WordsFault}
+use Rattle.octo_words.specs.declared.command.WordsFault.TheVariants.{BadWords}
+
+-- what is there unless the arguments are faulty
+abbrev pub unless : Kinds → Option (Text × List Row) → Option (Text × List Row)
+unless [] rows = rows
+unless (fault ∷ faults) rows = None
+
+-- the command's name and its arguments by their ids, by the literal command line
+unfoldable pub rows_named : List Text → Option (Text × List Row)
+rows_named words = unless (fault_of octo_app words) (subcommand_of octo_app words)
+
+-- whether a text may name a port: 1 to 100 bytes
+abbrev pub is_port : Text → Bool
+is_port text = nat_le 1 (length text) && nat_le (length text) 100
+
+-- a text as a port
+abbrev pub port_of : Text → Option Text
+port_of text = if is_port text then Some text else None
+
+-- a number from least to most
+abbrev pub in_range : (least most : ℕ) → ℕ → Option ℕ
+in_range least most number = if nat_le least number && nat_le number most then Some number else None
+
+-- a text of 1 to 13 digits as a number from least to most
+abbrev pub number_of : (least most : ℕ) → Text → Option ℕ
+number_of least most text = option_and_then (in_range least most) (whole_number text 13)
+
+-- the turns of a print: 1,000,000,000 unless the option names them
+abbrev pub turns_of : Option Text → Option ℕ
+turns_of None = Some 1000000000
+turns_of (Some text) = number_of 1 4000000000000 text
+
+-- `print`, by its arguments
+abbrev pub print_of : List Row → Option Command
+print_of rows =
+    option_and_then (λ port. option_and_then (λ file. option_map (λ turns.
+    Print port file turns (first_of (codes "settings") rows))
+    (turns_of (first_of (codes "turns") rows)))
+    (first_of (codes "file") rows))
+    (option_and_then port_of (first_of (codes "port") rows))
+
+-- `check`
+abbrev pub check_of : List Row → Option Command
+check_of rows = option_map (λ file. Check file (first_of (codes "settings") rows)) (first_of (codes "file") rows)
+
+-- `demo`
+abbrev pub demo_of : List Row → Option Command
+demo_of rows =
+    option_and_then (λ seed. option_map (λ commands. Demo seed commands)
+    (option_and_then (number_of 0 200000) (first_of (codes "commands") rows)))
+    (option_and_then (number_of 0 2147483647) (first_of (codes "seed") rows))
+
+-- `measure`
+abbrev pub measure_of : List Row → Option Command
+measure_of rows = option_map (λ file. Measure file) (first_of (codes "file") rows)
+
+-- `rest`
+abbrev pub rest_of : List Row → Option Command
+rest_of rows =
+    option_and_then (λ file. option_map (λ command. Rest file command)
+    (option_and_then (number_of 0 9999999999999) (first_of (codes "command") rows)))
+    (first_of (codes "file") rows)
+
+-- the command of that name
+abbrev pub command_named : Text → List Row → Option Command
+command_named name rows =
+    if bytes_eq name (codes "print") then print_of rows
+    else if bytes_eq name (codes "check") then check_of rows
+    else if bytes_eq name (codes "demo") then demo_of rows
+    else if bytes_eq name (codes "measure") then measure_of rows
+    else if bytes_eq name (codes "rest") then rest_of rows
+    else None
+
+-- the command that arguments are, if they are one
+unfoldable pub command_of : List Text → Option Command
+command_of words = option_and_then (λ named. command_named named.0 named.1) (rows_named words)
+
+-- a reading of what is wanted: it is returned, and BadWords comes only if there is nothing such
+abbrev pub Reads : {T : Type 0} → Option T → Result T WordsFault → Type 0
+Reads wanted result = MatchResult result (λ value. wanted ≡ Some value) (λ fault. fault ≡ BadWords → wanted ≡ None)
+
+-- a parse: it has the rows that are wanted, and BadWords comes only if there are none
+abbrev pub Matches : Option (Text × List Row) → Result ArgMatches WordsFault → Type 0
+Matches wanted result = MatchResult result (λ matches. wanted ≡ subcommand_rows_of matches) (λ fault. fault ≡ BadWords → wanted ≡ None)

@@ -1,0 +1,14 @@
+//! The command line of the print host: which command its arguments are.
+#![tactic(auto)]
+
+mod apps;
+mod command;
+mod fields;
+mod parse;
+mod read;
+
+pub use command::{Command, FilePath, WordsFault};
+pub use read::read_words;
+
+#[cfg(test)]
+mod tests;

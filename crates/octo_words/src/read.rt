@@ -1,0 +1,108 @@
+//! The command that the arguments are.
+ghost use Rattle.std.specs.Prelude.{◌≡◌, map};
+ghost use Rattle.clap.specs.Words.{found_of, rows_of};
+ghost use Rattle.octo_words.specs.Words.{Reads, print_of, check_of, demo_of, measure_of, rest_of, command_named, command_of};
+
+use crate::command::{Command, WordsFault};
+use crate::fields::{file_in, number_in, optional_file_in, port_in, turns_in};
+use crate::parse::{parse, texts_of};
+use clap::ArgMatches;
+use octo_outside::WordList;
+use std::alloc::Global;
+
+const MOST_SEED: u64 = 2_147_483_647;
+
+const MOST_COMMANDS: u64 = 200_000;
+
+const MOST_PLACE: u64 = 9_999_999_999_999;
+
+fn read_print(alloc: Global, found: &ArgMatches<'_>) -> Result<Command, WordsFault>
+    ensures { Reads (print_of (rows_of (found_of found.now))) result }
+{
+    let port = port_in(found, "port")?;
+    let file = file_in(alloc, found, "file")?;
+    let turns = turns_in(found, "turns")?;
+    let settings = optional_file_in(alloc, found, "settings")?;
+    Ok(Command::Print {
+        port,
+        file,
+        turns,
+        settings,
+    })
+}
+
+fn read_check(alloc: Global, found: &ArgMatches<'_>) -> Result<Command, WordsFault>
+    ensures { Reads (check_of (rows_of (found_of found.now))) result }
+{
+    let file = file_in(alloc, found, "file")?;
+    let settings = optional_file_in(alloc, found, "settings")?;
+    Ok(Command::Check { file, settings })
+}
+
+fn read_demo(found: &ArgMatches<'_>) -> Result<Command, WordsFault>
+    ensures { Reads (demo_of (rows_of (found_of found.now))) result }
+{
+    let seed = number_in(found, "seed", 0, MOST_SEED)?;
+    let commands = number_in(found, "commands", 0, MOST_COMMANDS)?;
+    Ok(Command::Demo {
+        seed: seed as u32,
+        commands: commands as u32,
+    })
+}
+
+fn read_measure(alloc: Global, found: &ArgMatches<'_>) -> Result<Command, WordsFault>
+    ensures { Reads (measure_of (rows_of (found_of found.now))) result }
+{
+    let file = file_in(alloc, found, "file")?;
+    Ok(Command::Measure { file })
+}
+
+fn read_rest(alloc: Global, found: &ArgMatches<'_>) -> Result<Command, WordsFault>
+    ensures { Reads (rest_of (rows_of (found_of found.now))) result }
+{
+    let file = file_in(alloc, found, "file")?;
+    let command = number_in(found, "command", 0, MOST_PLACE)?;
+    Ok(Command::Rest { file, command })
+}
+
+// The command of that name.
+fn read_named(alloc: Global, name: &str, found: &ArgMatches<'_>) -> Result<Command, WordsFault>
+    ensures { Reads (command_named name.now (rows_of (found_of found.now))) result }
+{
+    match name {
+        "print" => read_print(alloc, found),
+        "check" => read_check(alloc, found),
+        "demo" => read_demo(found),
+        "measure" => read_measure(alloc, found),
+        "rest" => read_rest(alloc, found),
+        _ => Err(WordsFault::BadWords),
+    }
+}
+
+// The command that these texts are.
+#[tactic(auto, unfolding(crate::specs::Words::command_of))]
+fn read_texts<'a>(alloc: Global, texts: &'a [&'a str]) -> Result<Command, WordsFault>
+    ensures { Reads (command_of (map (λ w. w.now) texts.entry.now)) result }
+{
+    match parse(alloc, texts)?.subcommand() {
+        Some((name, found)) => read_named(alloc, name, found),
+        None => Err(WordsFault::BadWords),
+    }
+}
+
+/// The command that the arguments are, without the program's name: one of those of `Command`.
+///
+/// Options stand anywhere after the command's name, also as `--x=v`, each at most once; `--` ends them. A value that
+/// begins with `-`, other than `-` alone, follows `--` or `=`. A number has 1 to 13 digits.
+///
+/// # Errors
+///
+/// `BadWords` exactly if the arguments are no command, and `NoMemory`.
+///
+/// Source: the command lines that the Rust crate `clap` reads.
+pub fn read_words(alloc: Global, words: &WordList) -> Result<Command, WordsFault>
+    ensures { Reads (command_of words.now) result }
+{
+    let texts = texts_of(alloc, words)?;
+    read_texts(alloc, texts.as_slice())
+}

@@ -1,0 +1,204 @@
+//! Command lines, each a text whose words are parted at its spaces.
+use crate::{Command, WordsFault, read_words};
+use octo_outside::WordList;
+use std::alloc::Global;
+use std::process::Abort;
+use std::test::Fail;
+
+// The command of a command line.
+fn read(alloc: Global, line: &str) -> Result<Result<Command, WordsFault>, Fail> {
+    let mut words = WordList::new(alloc);
+    if line != "" {
+        for word in line.split(' ') {
+            words.push(word)?;
+        }
+    }
+    Ok(read_words(alloc, &words))
+}
+
+// A command with its operands and options in the order of its row.
+fn shown(alloc: Global, command: &Command) -> Result<String, Fail> {
+    Ok(match command {
+        Command::Print {
+            port,
+            file,
+            turns,
+            settings,
+        } => {
+            let settings = settings.as_ref().map_or("none", |path| path.as_str());
+            format!(in alloc;
+                "print {} {} {turns} {settings}",
+                port.as_str(),
+                file.as_str()
+            )?
+        }
+        Command::Check { file, settings } => {
+            let settings = settings.as_ref().map_or("none", |path| path.as_str());
+            format!(in alloc; "check {} {settings}", file.as_str())?
+        }
+        Command::Demo { seed, commands } => format!(in alloc; "demo {seed} {commands}")?,
+        Command::Measure { file } => format!(in alloc; "measure {}", file.as_str())?,
+        Command::Rest { file, command } => {
+            format!(in alloc; "rest {} {command}", file.as_str())?
+        }
+    })
+}
+
+// Each line gives the command on its right.
+fn reads(rt: &impl Abort, alloc: Global, rows: &[(&str, &str)]) -> Result<(), Fail> {
+    for (line, wanted) in rows {
+        match read(alloc, line)? {
+            Ok(command) => {
+                let text = shown(alloc, &command)?;
+                assert!(rt; text.as_str() == *wanted, "{line}: {text}");
+            }
+            Err(fault) => assert!(rt; false, "{line}: {fault}"),
+        }
+    }
+    Ok(())
+}
+
+// Each line is no command.
+fn refuses(rt: &impl Abort, alloc: Global, lines: &[&str]) -> Result<(), Fail> {
+    for line in lines {
+        assert!(rt;
+            read(alloc, line)?.is_err_and(|fault| fault == WordsFault::BadWords),
+            "{line}"
+        );
+    }
+    Ok(())
+}
+
+#[test]
+fn ample(rt: HostRuntime) -> Result<(), Fail> {
+    reads(&rt, rt.alloc(), &[("measure a", "measure a")])
+}
+
+#[test]
+fn options_anywhere(rt: HostRuntime) -> Result<(), Fail> {
+    let rows = [
+        ("print p a", "print p a 1000000000 none"),
+        ("print p a --turns 5", "print p a 5 none"),
+        ("print --turns=5 p a", "print p a 5 none"),
+        ("print p --turns=5 a", "print p a 5 none"),
+        ("print p a --turns=5", "print p a 5 none"),
+        ("print p a --settings s", "print p a 1000000000 s"),
+        ("print --settings s --turns 7 p a", "print p a 7 s"),
+        ("check a", "check a none"),
+        ("check --settings=s a", "check a s"),
+        ("check a --settings s", "check a s"),
+    ];
+    reads(&rt, rt.alloc(), rows.as_slice())
+}
+
+#[test]
+fn hyphens_taken(rt: HostRuntime) -> Result<(), Fail> {
+    let rows = [
+        ("print p a --settings -", "print p a 1000000000 -"),
+        ("print p a --settings=-s", "print p a 1000000000 -s"),
+        ("print p a --settings=a=b", "print p a 1000000000 a=b"),
+        ("print p -", "print p - 1000000000 none"),
+        ("print p -- -x", "print p -x 1000000000 none"),
+        ("print p -- --turns", "print p --turns 1000000000 none"),
+        ("print p a --", "print p a 1000000000 none"),
+        ("print help help", "print help help 1000000000 none"),
+        ("print p a --settings=", "print p a 1000000000 "),
+        ("print p ", "print p  1000000000 none"),
+    ];
+    reads(&rt, rt.alloc(), rows.as_slice())
+}
+
+#[test]
+fn ends_of_ranges(rt: HostRuntime) -> Result<(), Fail> {
+    let rows = [
+        ("print p a --turns 1", "print p a 1 none"),
+        ("print p a --turns 0000000000001", "print p a 1 none"),
+        (
+            "print p a --turns 4000000000000",
+            "print p a 4000000000000 none",
+        ),
+        ("demo 0 0", "demo 0 0"),
+        ("demo 2147483647 200000", "demo 2147483647 200000"),
+        ("rest a 0", "rest a 0"),
+        ("rest a 9999999999999", "rest a 9999999999999"),
+    ];
+    reads(&rt, rt.alloc(), rows.as_slice())
+}
+
+#[test]
+fn out_of_ranges(rt: HostRuntime) -> Result<(), Fail> {
+    let lines = [
+        "print p a --turns 0",
+        "print p a --turns 4000000000001",
+        "print p a --turns 00000000000001",
+        "print p a --turns=",
+        "print p a --turns 5x",
+        "print p a --turns +5",
+        "print  a",
+        "demo 2147483648 0",
+        "demo 0 200001",
+        "demo x 0",
+        "demo 1 ",
+        "rest a 10000000000000",
+        "rest a x",
+    ];
+    refuses(&rt, rt.alloc(), lines.as_slice())
+}
+
+#[test]
+fn options_refused(rt: HostRuntime) -> Result<(), Fail> {
+    let lines = [
+        "print p a --turns=5 --turns=6",
+        "print p a --turns 5 --turns 5",
+        "print p a --settings s --settings s",
+        "print p a --turns -5",
+        "print p a --settings -s",
+        "print p a --turns",
+        "print p -x",
+        "print p a --speed 5",
+        "print p a -t 5",
+        "--turns 5 print p a",
+        "check a --turns 5",
+        "demo 1 -5",
+        "measure a --settings s",
+    ];
+    refuses(&rt, rt.alloc(), lines.as_slice())
+}
+
+#[test]
+fn operands_refused(rt: HostRuntime) -> Result<(), Fail> {
+    let lines = [
+        "",
+        "print",
+        "print p",
+        "print p a b",
+        "check",
+        "check a b",
+        "demo 1",
+        "demo 1 2 3",
+        "measure",
+        "rest a",
+        "-- print p a",
+        "print -- p a --turns=5",
+        "Print p a",
+        "begin a",
+        "--help",
+        "-h",
+        "help",
+        "-V",
+        "print --help",
+        "print -h",
+    ];
+    refuses(&rt, rt.alloc(), lines.as_slice())
+}
+
+// A port of 100 bytes is taken, and one of 101 isn't.
+#[test]
+fn long_ports(rt: HostRuntime) -> Result<(), Fail> {
+    let alloc = rt.alloc();
+    let port = "0123456789".repeat(alloc, 10)?;
+    let line = format!(in alloc; "print {port} a")?;
+    assert!(rt; read(alloc, line.as_str())?.is_ok());
+    let line = format!(in alloc; "print {port}x a")?;
+    refuses(&rt, alloc, &[line.as_str()])
+}
