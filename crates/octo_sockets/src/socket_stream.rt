@@ -1,5 +1,6 @@
 //! A stream of the system, over TCP or over a Unix socket.
 ghost use Rattle.std.specs.Prelude.{◌≡◌, ◌++◌, codes, IfSome};
+ghost use Rattle.octo_sockets.specs.Streams.{of_stream};
 
 use std::io;
 use std::io::{Read, Write};
@@ -23,6 +24,8 @@ pub enum SocketStream<S: Drop> {
 }
 
 impl<S: Read + Drop> Read for SocketStream<S> {
+    ghost remaining = { of_stream S.remaining };
+
     fn read(&mut self, into: &mut [u8]) -> io::Result<usize> {
         match self {
             SocketStream::Tcp(stream) => stream.read(into),
@@ -32,6 +35,8 @@ impl<S: Read + Drop> Read for SocketStream<S> {
 }
 
 impl<S: Write + Drop> Write for SocketStream<S> {
+    ghost contents = { of_stream S.contents };
+
     fn write(&mut self, bytes: &[u8]) -> io::Result<usize> {
         match self {
             SocketStream::Tcp(stream) => stream.write(bytes),

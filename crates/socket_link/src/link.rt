@@ -1,9 +1,12 @@
 //! A link to a printer over TCP or a Unix socket.
-ghost use Rattle.std.specs.Prelude.{◌≡◌, ◌+◌, ◌≤◌, ◌⊎◌, ◌++◌, ◌∷◌, [], length, true, false, is_some, Some, None, Ok, OnOk, OnErr, IsOk, IsErrOf};
+ghost use Rattle.std.specs.Prelude.{◌≡◌, ◌+◌, ◌<◌, ◌≤◌, ◌⊎◌, ◌↔◌, ◌++◌, ◌∷◌, [], length, true, false, is_some, Some, None, Ok, OnOk, OnErr, IsOk, IsErrOf, IsTrue, MatchResult};
+ghost use Rattle.std.specs.IoError.{error_kind};
 ghost use Rattle.std.specs.List.{list_any, before_first, after_first};
 ghost use Rattle.octo_outside.specs.Told.{Rose};
 ghost use Rattle.socket_link.specs.Address.{names_port};
+ghost use Rattle.octo_sockets.specs.Streams.{of_stream};
 ghost use Rattle.socket_link.specs.Lines.{cut, ends_line};
+ghost use Rattle.socket_link.specs.Sent.{Joins, Wrote, WroteFirst};
 ghost use Rattle.printer_link.specs.declared.link.Heard.TheVariants as heard;
 ghost use Rattle.printer_link.specs.declared.link.LinkFault.TheVariants as fault;
 
@@ -15,6 +18,8 @@ use libc::net::{POLLIN, poll};
 use libc::types::pollfd;
 use octo_sockets::{SocketStream, linger, may_come_later, prepare, unix_path};
 use printer_link::{Heard, Link, LinkFault};
+use std::io;
+use std::io::ErrorKind;
 use std::net::{Net, TcpStream, ToSocketAddrs};
 use std::os::fd::AsRawFd;
 use std::os::unix::net::UnixStream;
@@ -75,6 +80,19 @@ fn may_read<S: AsRawFd>(stream: &S) -> bool {
     poll(&mut asked, WAIT) != 0
 }
 
+// Whether a peer is open after a read: one that has closed gives no byte.
+fn is_open_after(read: &io::Result<usize>) -> bool
+    ensures { MatchResult read.now
+        (λ n. IsTrue result ↔ (0 < n))
+        (λ error. IsTrue result ↔ (error_kind error ≡ ErrorKind.WouldBlock)
+        ⊎ (error_kind error ≡ ErrorKind.TimedOut) ⊎ (error_kind error ≡ ErrorKind.Interrupted)) }
+{
+    match read {
+        Ok(n) => *n > 0,
+        Err(error) => may_come_later(error),
+    }
+}
+
 impl<R: Net + Copy> SocketLink<R> {
     /// No link is made yet.
     pub fn new(rt: &R) -> Self
@@ -117,6 +135,8 @@ impl<R: Net + Drop> SocketLink<R> {
     fn write_out(&mut self) -> bool
         ensures stream { result ≡ is_some self.new.stream }
         ensures emptied { self.new.unsent ≡ [] }
+        ensures written { result ≡ true
+            → Wrote (of_stream R.Stream.contents) self.old.stream self.new.stream self.old.unsent }
         ensures up { self.new.up ≡ self.old.up }
         ensures faults { self.new.faults ≡ self.old.faults }
         ensures lines { self.new.lines ≡ self.old.lines }
@@ -137,7 +157,8 @@ impl<R: Net + Drop> SocketLink<R> {
     fn gather(&mut self, line: &Line) -> bool
         requires { length line.now.items ≤ 95 }
         ensures room { length self.old.unsent + length line.now.items + 1 ≤ 1552 → result ≡ true }
-        ensures joined { result ≡ true → (self.new.unsent ≡ self.old.unsent ++ line.now.items ++ 10 ∷ []) ⊎ (self.new.unsent ≡ line.now.items ++ 10 ∷ []) }
+        ensures joined { result ≡ true → Joins (of_stream R.Stream.contents) line.now.items
+            self.old.unsent self.new.unsent self.old.stream self.new.stream }
         ensures up { self.new.up ≡ self.old.up }
         ensures faults { self.new.faults ≡ self.old.faults }
     {
@@ -150,9 +171,10 @@ impl<R: Net + Drop> SocketLink<R> {
         written
     }
 
-    // Reads what comes within about a millisecond; `false` where the stream failed or the peer has closed.
+    // Reads what comes within about a millisecond; `false` if the stream failed or the peer has closed.
     fn read_in(&mut self) -> bool
         requires { self.old.lines.waiting ≡ [] }
+        ensures unsent { self.new.unsent ≡ self.old.unsent }
         ensures up { self.new.up ≡ self.old.up }
         ensures faults { self.new.faults ≡ self.old.faults }
     {
@@ -165,18 +187,22 @@ impl<R: Net + Drop> SocketLink<R> {
         }
         let read = self.lines.fill(&mut stream);
         self.stream = Some(stream);
-        match read {
-            Ok(n) => n > 0,
-            Err(error) => may_come_later(&error),
-        }
+        is_open_after(&read)
     }
 
     // Takes the next reply that was read; where there is none, writes what is unsent and waits for more. `None` where
     // the link failed.
+    #[tactic(auto, using(crate::proofs::Sent::wrote_first))]
     fn hear(&mut self, into: &mut ReplyLine) -> Option<Heard>
         ensures at_once { list_any ends_line self.old.lines.waiting ≡ true → result ≡ Some heard.Line }
         ensures line { list_any ends_line self.old.lines.waiting ≡ true → into.new.items ≡ cut (self.old.lines.begun ++ before_first ends_line self.old.lines.waiting) }
         ensures behind { list_any ends_line self.old.lines.waiting ≡ true → self.new.lines ≡ record { begun = []; waiting = after_first ends_line self.old.lines.waiting } }
+
+        // If no reply waited, what is unsent was written before more was read.
+        ensures emptied { list_any ends_line self.old.lines.waiting ≡ false → is_some result ≡ true
+            → self.new.unsent ≡ [] }
+        ensures written { list_any ends_line self.old.lines.waiting ≡ false → is_some result ≡ true
+            → WroteFirst (of_stream R.Stream.contents) self.old.stream self.old.unsent }
         ensures up { self.new.up ≡ self.old.up }
         ensures faults { self.new.faults ≡ self.old.faults }
     {
@@ -221,7 +247,8 @@ impl<R: Net + Clock + Drop> Link for SocketLink<R> {
     fn send(&mut self, line: &Line) -> Result<(), LinkFault>
         requires open { self.old.up ≡ true }
         requires short { length line.now.items ≤ 95 }
-        ensures kept { OnOk result ((self.new.unsent ≡ self.old.unsent ++ line.now.items ++ 10 ∷ []) ⊎ (self.new.unsent ≡ line.now.items ++ 10 ∷ [])) }
+        ensures joined { OnOk result (Joins (of_stream R.Stream.contents) line.now.items
+            self.old.unsent self.new.unsent self.old.stream self.new.stream) }
         ensures room { length self.old.unsent + length line.now.items + 1 ≤ 1552 → IsOk result }
         ensures no_port { IsErrOf result fault.NoPort → ⊥ }
         ensures up { OnOk result (self.new.up ≡ true) }
@@ -241,6 +268,13 @@ impl<R: Net + Clock + Drop> Link for SocketLink<R> {
         ensures at_once { list_any ends_line self.old.lines.waiting ≡ true → result ≡ Ok heard.Line }
         ensures line { list_any ends_line self.old.lines.waiting ≡ true → into.new.items ≡ cut (self.old.lines.begun ++ before_first ends_line self.old.lines.waiting) }
         ensures behind { list_any ends_line self.old.lines.waiting ≡ true → self.new.lines ≡ record { begun = []; waiting = after_first ends_line self.old.lines.waiting } }
+
+        // If no reply waited and the call didn't fail, what was unsent was written before more was read.
+        ensures emptied { list_any ends_line self.old.lines.waiting ≡ false
+            → OnOk result (self.new.unsent ≡ []) }
+        ensures written { list_any ends_line self.old.lines.waiting ≡ false
+            → OnOk result (WroteFirst (of_stream R.Stream.contents) self.old.stream self.old.unsent) }
+
         ensures no_port { IsErrOf result fault.NoPort → ⊥ }
         ensures up { OnOk result (self.new.up ≡ true) }
         ensures down { OnErr result (self.new.up ≡ false) }

@@ -1,0 +1,17 @@
+use Rattle.std.proofs.Common.{sym, subst}
+use Rattle.std.specs.Prelude.{Option, IfSome}
+use Rattle.desk_steps.specs.Data.{Data}
+use Rattle.desk_steps.specs.Endings.{IsEnding}
+use Rattle.desk_steps.proofs.Endings.{ending_is}
+use Rattle.print_records.specs.declared.ending.Ending.{Ending}
+use Rattle.job_desk.specs.DeskViews.{desk_data}
+use Rattle.job_desk.proofs.desk.Desk.note.Goals as goal
+
+pub returns-clause-of_print : goal.returns-clause-of_print
+returns-clause-of_print c =
+    let acked = c.args.acked in
+    let found = c.args.fact.now in
+    let d : Data = desk_data c.self.inside in
+    let P : Data → Type 0 = λ x. IfSome c.take_fact-ending.result (λ ending. IsEnding acked found x ending) in
+    let Q : Option Ending → Type 0 = λ gave. IfSome gave (λ ending. IsEnding acked found d ending) in
+    subst P c.self.view_is (subst Q (sym c.take_fact-ending.ensures.ending) (ending_is acked found c.args.moment d c.self.invariant.going))
