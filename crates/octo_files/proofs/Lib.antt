@@ -1,2 +1,3 @@
+pub mod Cool
 pub mod Gives
 pub mod TooLarge

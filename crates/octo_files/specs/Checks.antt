@@ -4,9 +4,13 @@ use Rattle.gcode_lines.specs.Job.{JobData, texts_of}
 use Rattle.octo_files.specs.Jobs.{job_in, reported, is_refusal}
 use Rattle.octo_report.specs.declared.report.Report.{Report}
 use Rattle.octo_report.specs.declared.report.Report.TheVariants as report
-use Rattle.temp_rules.specs.Most.{hottest}
+use Rattle.temp_rules.specs.Most.{TargetsData, hottest}
 use Rattle.temp_rules.specs.declared.heater.Heater.TheVariants.{Tool, Bed}
 use Rattle.temp_rules.specs.declared.limits.Limits.{Limits}
+
+-- the greatest temperatures that texts ask for
+abbrev pub targets_in : List (List ℕ) → TargetsData
+targets_in texts = record { tool = hottest Tool texts; bed = hottest Bed texts }
 
 -- the check of a job
 abbrev pub checked : JobData → Report

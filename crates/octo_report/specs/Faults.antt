@@ -4,8 +4,8 @@ use Rattle.gcode_lines.specs.declared.fault.FileFault.{FileFault}
 use Rattle.gcode_lines.specs.declared.fault.FileFault.TheVariants as file
 use Rattle.gcode_measure.specs.declared.fault.MeasureFault.{MeasureFault}
 use Rattle.gcode_measure.specs.declared.fault.MeasureFault.TheVariants.{Inches, TooFar}
-use Rattle.marlin_reply.specs.declared.session.SessionEnd.{SessionEnd}
-use Rattle.marlin_reply.specs.declared.session.SessionEnd.TheVariants.{NoAnswer, AskedBack, AskedAhead, Counts, Restarted, NumbersUsed}
+use Rattle.send_window.specs.declared.session_end.SessionEnd.{SessionEnd}
+use Rattle.send_window.specs.declared.session_end.SessionEnd.TheVariants.{NoAnswer, AskedBack, AskedAhead, Counts, Restarted, NumbersUsed}
 use Rattle.octo_settings.specs.Scripts.{script_key}
 use Rattle.octo_settings.specs.declared.fault.SettingsFault.{SettingsFault}
 use Rattle.octo_settings.specs.declared.fault.SettingsFault.TheVariants as settings

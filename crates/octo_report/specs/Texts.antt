@@ -2,7 +2,6 @@
 use Rattle.std.specs.Prelude.{ℕ, Bool, true, false, List, ◌++◌, codes, decimal}
 use Rattle.gcode_measure.specs.Shown.{measure_text}
 use Rattle.octo_report.specs.Faults.{settings_text, file_text, hot_text, measure_fault_text, end_text}
-use Rattle.octo_report.specs.declared.report.DemoCounts.{DemoCounts}
 use Rattle.octo_report.specs.declared.report.Report.{Report}
 use Rattle.octo_report.specs.declared.report.Report.TheVariants as report
 
@@ -18,16 +17,6 @@ checked_text commands skipped tool bed =
     ++ codes "\nskipped " ++ decimal skipped
     ++ codes "\nhottest tool " ++ decimal tool
     ++ codes "\nhottest bed " ++ decimal bed
-    ++ codes "\n"
-
--- what a print of a made-up file counted
-abbrev pub demo_text : DemoCounts → List ℕ
-demo_text counts =
-    codes "demo seed " ++ decimal counts.seed ++ codes " commands " ++ decimal counts.commands
-    ++ codes "\nexecuted " ++ decimal counts.executed
-    ++ codes "\nsent " ++ decimal counts.sent
-    ++ codes "\nfaults " ++ decimal counts.faults
-    ++ codes "\nstatus " ++ decimal counts.status
     ++ codes "\n"
 
 -- a file that ends before a command
@@ -48,7 +37,7 @@ text_of (report.Printed commands skipped) = printed_text commands skipped
 text_of (report.Checked commands skipped tool bed) = checked_text commands skipped tool bed
 text_of (report.Measured measure) = measure_text measure
 text_of (report.Rest text) = text
-text_of (report.Demo counts) = demo_text counts
+text_of (report.Demo text status) = text.items
 text_of report.BadWords = codes "octo: bad words\n"
 text_of (report.BadSettings fault) = settings_text fault
 text_of (report.BadFile fault) = file_text fault

@@ -7,8 +7,8 @@ use crate::page::{Page, append_whole};
 use byte_text::append;
 use gcode_lines::FileFault;
 use gcode_measure::MeasureFault;
-use marlin_reply::SessionEnd;
 use octo_settings::{SettingsFault, script_key};
+use send_window::SessionEnd;
 use temp_rules::HotLine;
 
 /// Puts what is wrong with a key of the settings.

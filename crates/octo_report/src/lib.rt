@@ -8,7 +8,7 @@ mod shown;
 mod texts;
 mod writing;
 
-pub use report::{DemoCounts, Report};
+pub use report::Report;
 pub use writing::write_report;
 
 #[cfg(test)]

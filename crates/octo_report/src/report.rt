@@ -2,30 +2,14 @@
 ghost use Rattle.std.specs.Prelude.{◌≡◌};
 ghost use Rattle.octo_report.specs.Status.{settings_code, file_code};
 
+use arrayvec::ArrayVec;
 use byte_text::Name;
 use gcode_lines::FileFault;
 use gcode_measure::{Measure, MeasureFault};
-use marlin_reply::SessionEnd;
 use octo_outside::Blob;
 use octo_settings::SettingsFault;
+use send_window::SessionEnd;
 use temp_rules::HotLine;
-
-/// What a print of a made-up file over a link in memory counted.
-#[derive(Clone, Copy, Debug, PartialEq, Eq)]
-pub struct DemoCounts {
-    /// The number that the file and the losses were made from.
-    pub seed: u32,
-    /// How many commands the file has.
-    pub commands: u32,
-    /// How many lines the printer executed, without the hello.
-    pub executed: u64,
-    /// How many lines were sent.
-    pub sent: u64,
-    /// How many of them were lost or corrupted.
-    pub faults: u64,
-    /// The exit status of such a print, and of the command.
-    pub status: u8,
-}
 
 /// How a command ended. Temperatures are in whole degrees Celsius.
 #[derive(Drop)]
@@ -46,8 +30,11 @@ pub enum Report {
     Measured(Measure),
     /// The file that goes on at a command.
     Rest(Blob),
-    /// What a print of a made-up file counted.
-    Demo(DemoCounts),
+    /// What is told of a demo's print, and the exit status of that print.
+    Demo {
+        text: ArrayVec<u8, 256>,
+        status: u8,
+    },
     /// The arguments are no command.
     BadWords,
     /// The settings are refused.
@@ -112,7 +99,7 @@ impl Report {
             | Report::Checked { .. }
             | Report::Measured(_)
             | Report::Rest(_) => 0,
-            Report::Demo(counts) => counts.status,
+            Report::Demo { status, .. } => *status,
             Report::BadWords => 2,
             Report::BadSettings(fault) => settings_code(fault),
             Report::BadFile(fault) => file_code(*fault),

@@ -1,11 +1,11 @@
 use super::*;
-use byte_text::Name;
+use byte_text::{Name, bounded_text};
 use desk_steps::Point;
 use gcode_lines::FileFault;
 use gcode_measure::{Extent, Measure, MeasureFault};
-use marlin_reply::SessionEnd;
 use octo_outside::{Blob, CallList, MemorySink};
 use octo_settings::SettingsFault;
+use send_window::SessionEnd;
 use std::alloc::Global;
 use std::process::Abort;
 use std::test::Fail;
@@ -69,16 +69,12 @@ fn measures(rt: HostRuntime) -> Result<(), Fail> {
 
 #[test]
 fn demos(rt: HostRuntime) -> Result<(), Fail> {
-    let counts = DemoCounts {
-        seed: 1,
-        commands: 3,
-        executed: 3,
-        sent: 8,
-        faults: 2,
+    let text = b"demo seed 1 commands 3\nexecuted 3\nsent 8\nfaults 2\nstatus 6\n";
+    let demo = Report::Demo {
+        text: bounded_text(text),
         status: 6,
     };
-    let text = b"demo seed 1 commands 3\nexecuted 3\nsent 8\nfaults 2\nstatus 6\n";
-    assert_report(&rt, &Report::Demo(counts), 6, text)
+    assert_report(&rt, &demo, 6, text)
 }
 
 #[test]

@@ -1,10 +1,10 @@
 //! The text of each report but the file that goes on at a command.
 ghost use Rattle.std.specs.Prelude.{◌≡◌, ◌++◌, [], codes, decimal, false};
-ghost use Rattle.octo_report.specs.Texts.{printed_text, checked_text, demo_text, port_text, past_text, turns_text, is_rest, text_of};
+ghost use Rattle.octo_report.specs.Texts.{printed_text, checked_text, port_text, past_text, turns_text, is_rest, text_of};
 
 use crate::faults::{put_end, put_file, put_hot, put_measure_fault, put_settings};
 use crate::page::{Page, append_whole};
-use crate::report::{DemoCounts, Report};
+use crate::report::Report;
 use crate::shown::put_measure;
 use byte_text::{Name, append};
 
@@ -31,25 +31,6 @@ fn put_checked(page: &mut Page, commands: u32, skipped: u32, tool: u64, bed: u64
     append_whole(page, u128::from(tool));
     append(page, b"\nhottest bed ");
     append_whole(page, u128::from(bed));
-    append(page, b"\n");
-}
-
-fn put_demo(page: &mut Page, counts: &DemoCounts)
-    requires { page.old.items ≡ [] }
-    ensures { page.new.items ≡ demo_text counts.now }
-{
-    append(page, b"demo seed ");
-    append_whole(page, u128::from(counts.seed));
-    append(page, b" commands ");
-    append_whole(page, u128::from(counts.commands));
-    append(page, b"\nexecuted ");
-    append_whole(page, u128::from(counts.executed));
-    append(page, b"\nsent ");
-    append_whole(page, u128::from(counts.sent));
-    append(page, b"\nfaults ");
-    append_whole(page, u128::from(counts.faults));
-    append(page, b"\nstatus ");
-    append_whole(page, u128::from(counts.status));
     append(page, b"\n");
 }
 
@@ -96,7 +77,7 @@ pub(crate) fn put_report(page: &mut Page, report: &Report)
         } => put_checked(page, *commands, *skipped, *tool, *bed),
         Report::Measured(measure) => put_measure(page, measure),
         Report::Rest(_) => unreachable!(),
-        Report::Demo(counts) => put_demo(page, counts),
+        Report::Demo { text, .. } => append(page, text.as_slice()),
         Report::BadWords => append(page, b"octo: bad words\n"),
         Report::BadSettings(fault) => put_settings(page, fault),
         Report::BadFile(fault) => put_file(page, *fault),
