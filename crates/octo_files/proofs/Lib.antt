@@ -1,0 +1,3 @@
+pub mod Cool
+pub mod Gives
+pub mod TooLarge

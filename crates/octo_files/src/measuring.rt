@@ -1,0 +1,81 @@
+//! The measure of a file, and its rest.
+ghost use Rattle.std.specs.Prelude.{◌≡◌, ◌≢◌, ◌⊎◌, ◌≤◌, Ok, true};
+ghost use Rattle.octo_outside.specs.Told.{Rose};
+ghost use Rattle.gcode_lines.specs.Commands.{job_of};
+ghost use Rattle.octo_report.specs.declared.report.Report.TheVariants as report;
+ghost use Rattle.octo_files.specs.Measures.{measured, measure_report, is_measure, rested, is_rest, GoesOnFrom, IsRestReport};
+ghost use Rattle.octo_files.specs.Reading.{FileGives, IsTrouble};
+
+use crate::jobs::read_any_job;
+use gcode_lines::Job;
+use gcode_measure::{RestFault, measure, rest};
+use octo_outside::Source;
+use octo_report::Report;
+use std::alloc::Global;
+
+/// What a job measures.
+fn measure_job(job: &Job) -> Report
+    ensures exact { result ≡ measured job.now }
+    ensures kind { is_measure result ≡ true }
+    ensures source { result ≢ report.SourceFailed }
+{
+    match measure(job) {
+        Ok(measure) => Report::Measured(measure),
+        Err(fault) => Report::BadMeasure(fault),
+    }
+}
+
+/// Measures the file of that name, whatever temperatures it asks for: the filament that its moves feed and draw back, and
+/// where they end. Refused is a file that `read_job` refuses for its lines, and its first command that sets inches or goes
+/// too far.
+pub fn measure_file<F: Source>(alloc: Global, files: &mut F, file: &str) -> Report
+    // result
+    ensures exact { IsTrouble result
+        ⊎ FileGives (F.files files.old) file.now (λ bytes. result ≡ measure_report bytes) }
+    ensures kind { is_measure result ≡ true }
+
+    // the source
+    ensures files { F.files files.new ≡ F.files files.old }
+    ensures counted { F.faults files.old ≤ F.faults files.new }
+    ensures failed { result ≡ report.SourceFailed → Rose (F.faults files.old) (F.faults files.new) }
+{
+    match read_any_job(alloc, files, file) {
+        Ok(job) => measure_job(&job),
+        Err(report) => report,
+    }
+}
+
+/// The file that goes on with a job at a command.
+fn rest_of_job(alloc: Global, job: &Job, from: usize) -> Report
+    ensures exact { (result ≡ report.NoMemory) ⊎ (result ≡ rested from job.now) }
+    ensures goes_on { GoesOnFrom job.now from result }
+    ensures kind { is_rest result ≡ true }
+    ensures source { result ≢ report.SourceFailed }
+{
+    match rest(alloc, job, from) {
+        Ok(text) => Report::Rest(text),
+        Err(RestFault::Measure(fault)) => Report::BadMeasure(fault),
+        Err(RestFault::Past { count }) => Report::Past { count },
+        Err(RestFault::NoMemory) => Report::NoMemory,
+    }
+}
+
+/// The file that goes on with the file of that name at a command, counted from 0, after a print that failed. It sets modes
+/// and positions as the commands before leave them, and neither heats nor homes. Refused is what `measure_file` refuses
+/// among these commands, and a command past the last one.
+pub fn rest_of_file<F: Source>(alloc: Global, files: &mut F, file: &str, from: usize) -> Report
+    // result
+    ensures exact { IsTrouble result
+        ⊎ FileGives (F.files files.old) file.now (λ bytes. IsRestReport from bytes result) }
+    ensures kind { is_rest result ≡ true }
+
+    // the source
+    ensures files { F.files files.new ≡ F.files files.old }
+    ensures counted { F.faults files.old ≤ F.faults files.new }
+    ensures failed { result ≡ report.SourceFailed → Rose (F.faults files.old) (F.faults files.new) }
+{
+    match read_any_job(alloc, files, file) {
+        Ok(job) => rest_of_job(alloc, &job, from),
+        Err(report) => report,
+    }
+}

@@ -1,0 +1,256 @@
+use super::*;
+use octo_outside::{CallList, MemorySink, MemorySource};
+use octo_report::{Report, write_report};
+use octo_settings::Settings;
+use std::alloc::Global;
+use std::process::Abort;
+use std::test::Fail;
+use temp_rules::Limits;
+
+/// A short file with both extruder modes, a `G92` and a relative move.
+const SHORT: &[u8] = b"G28\nM83\nG1 X10 Y5 E2.5\nG1 X20 E-1\nG92 E0\nG91\nG1 Z0.2 E1\n";
+
+const LIMITS: Limits = Limits {
+    tool: 300,
+    bed: 120,
+};
+
+/// A source that holds one file.
+fn source(alloc: Global, name: &str, bytes: &[u8]) -> Result<MemorySource, Fail> {
+    let mut files = MemorySource::new(alloc, CallList::new(alloc));
+    files.put(name, bytes)?;
+    Ok(files)
+}
+
+/// Compares the exit status and the text of a report.
+fn assert_report(
+    rt: &(impl Abort + Alloc<A = Global>),
+    report: &Report,
+    code: u8,
+    text: &[u8],
+) -> Result<(), Fail> {
+    let mut out = MemorySink::new(rt.alloc(), CallList::new(rt.alloc()));
+    assert!(rt; write_report(&mut out, report).is_ok());
+    assert_eq!(rt; out.written().unwrap_or(&[]), text);
+    assert_eq!(rt; report.code(), code);
+    Ok(())
+}
+
+#[test]
+fn ample(rt: HostRuntime) -> Result<(), Fail> {
+    let mut files = source(rt.alloc(), "a.gcode", SHORT)?;
+    let Ok(job) = read_job(rt.alloc(), &mut files, "a.gcode", &LIMITS) else {
+        return Err(Fail::from("refused"));
+    };
+    assert_eq!(rt; job.count(), 7);
+    let report = check_file(rt.alloc(), &mut files, "a.gcode", &LIMITS);
+    let text = b"commands 7\nskipped 0\nhottest tool 0\nhottest bed 0\n";
+    assert_report(&rt, &report, 0, text)
+}
+
+#[test]
+fn measures(rt: HostRuntime) -> Result<(), Fail> {
+    let mut files = source(rt.alloc(), "a.gcode", SHORT)?;
+    let report = measure_file(rt.alloc(), &mut files, "a.gcode");
+    let text =
+        b"commands 7\nmoves 3\nfed 3.500000\ndrawn 1.000000\nX 10.000000 20.000000\nY 5.000000 5.000000\nZ 0.000000 0.200000\n";
+    assert_report(&rt, &report, 0, text)
+}
+
+#[test]
+fn goes_on_at_a_command(rt: HostRuntime) -> Result<(), Fail> {
+    let mut files = source(rt.alloc(), "a.gcode", SHORT)?;
+    let rows = [
+        (
+            4,
+            0,
+            b"G90\nM83\nG92 X20.000000 Y5.000000 Z0.000000 E1.500000\nG92 E0\nG91\nG1 Z0.2 E1\n".as_slice(),
+        ),
+        (
+            7,
+            0,
+            b"G91\nM83\nG92 X20.000000 Y5.000000 Z0.200000 E1.000000\n",
+        ),
+        (8, 3, b"file: 7 commands\n"),
+    ];
+    for (from, code, text) in rows {
+        let report = rest_of_file(rt.alloc(), &mut files, "a.gcode", from);
+        assert_report(&rt, &report, code, text)?;
+    }
+    Ok(())
+}
+
+/// Neither a measure nor a rest minds how hot a command is; both refuse inches, the rest only before its command.
+#[test]
+fn measures_hot_commands(rt: HostRuntime) -> Result<(), Fail> {
+    let mut files = source(rt.alloc(), "hot.gcode", b"M104 S999\nG20\n")?;
+    let inches = b"file: line 2: inches\n";
+    let measure = measure_file(rt.alloc(), &mut files, "hot.gcode");
+    assert_report(&rt, &measure, 3, inches)?;
+    let rest = rest_of_file(rt.alloc(), &mut files, "hot.gcode", 2);
+    assert_report(&rt, &rest, 3, inches)?;
+    let before = rest_of_file(rt.alloc(), &mut files, "hot.gcode", 1);
+    let text = b"G90\nM82\nG92 X0.000000 Y0.000000 Z0.000000 E0.000000\nG20\n";
+    assert_report(&rt, &before, 0, text)
+}
+
+/// Checks files, each with its exit status and its text.
+fn assert_checks(
+    rt: &(impl Abort + Alloc<A = Global>),
+    rows: &[(&[u8], u8, &[u8])],
+) -> Result<(), Fail> {
+    for (file, code, text) in rows {
+        let mut files = source(rt.alloc(), "f", file)?;
+        let report = check_file(rt.alloc(), &mut files, "f", &LIMITS);
+        assert_report(rt, &report, *code, text)?;
+    }
+    Ok(())
+}
+
+#[test]
+fn checks_lines(rt: HostRuntime) -> Result<(), Fail> {
+    let rows: [(&[u8], u8, &[u8]); 6] = [
+        (
+            b"",
+            0,
+            b"commands 0\nskipped 0\nhottest tool 0\nhottest bed 0\n",
+        ),
+        (
+            b"\n",
+            0,
+            b"commands 0\nskipped 1\nhottest tool 0\nhottest bed 0\n",
+        ),
+        (
+            b"G28\r\nG1 X10\r\n",
+            0,
+            b"commands 2\nskipped 0\nhottest tool 0\nhottest bed 0\n",
+        ),
+        (
+            b"M110 N4\nG28\n",
+            0,
+            b"commands 1\nskipped 1\nhottest tool 0\nhottest bed 0\n",
+        ),
+        (
+            b"  \t G1 X1 \t ; x\n\n",
+            0,
+            b"commands 1\nskipped 1\nhottest tool 0\nhottest bed 0\n",
+        ),
+        (
+            b"N12\tG1\nN G1\nNaN\n",
+            0,
+            b"commands 3\nskipped 0\nhottest tool 0\nhottest bed 0\n",
+        ),
+    ];
+    assert_checks(&rt, &rows)
+}
+
+#[test]
+fn checks_refused_files(rt: HostRuntime) -> Result<(), Fail> {
+    let rows: [(&[u8], u8, &[u8]); 6] = [
+        (b"G1\x07\n", 3, b"file: line 1: control byte\n"),
+        (b"G1 X1\rG1 X2\n", 3, b"file: line 1: control byte\n"),
+        (b"\x7f\n", 3, b"file: line 1: control byte\n"),
+        (
+            b"G28\n\nG1 X99999999999999999999999999999999999999999999999999999999999999999999999999\n",
+            0,
+            b"commands 2\nskipped 1\nhottest tool 0\nhottest bed 0\n",
+        ),
+        (
+            b"G28\n\nG1 X9999999999999999999999999999999999999999999999999999999999999999999999999999\n",
+            3,
+            b"file: line 3: too long\n",
+        ),
+        (
+            b"G28\nM104 S200\nM109 R300.5\n",
+            3,
+            b"file: line 3: too hot: 301 over 300\n",
+        ),
+    ];
+    assert_checks(&rt, &rows)
+}
+
+#[test]
+fn checks_by_other_limits(rt: HostRuntime) -> Result<(), Fail> {
+    let mut files = source(rt.alloc(), "a.gcode", b"G28\nM104 S200\nM109 R260\n")?;
+    let limits = Limits {
+        tool: 250,
+        bed: 120,
+    };
+    let report = check_file(rt.alloc(), &mut files, "a.gcode", &limits);
+    assert_report(&rt, &report, 3, b"file: line 3: too hot: 260 over 250\n")
+}
+
+#[test]
+fn failing_sources(rt: HostRuntime) -> Result<(), Fail> {
+    let mut calls = CallList::new(rt.alloc());
+    calls.push(2)?;
+    let mut files = MemorySource::new(rt.alloc(), calls);
+    files.put("a.gcode", SHORT)?;
+    let failed = b"source failed\n";
+    let read = check_file(rt.alloc(), &mut files, "a.gcode", &LIMITS);
+    assert_report(&rt, &read, 4, failed)?;
+    let absent = measure_file(rt.alloc(), &mut files, "b.gcode");
+    assert_report(&rt, &absent, 4, failed)?;
+    let absent = rest_of_file(rt.alloc(), &mut files, "b.gcode", 0);
+    assert_report(&rt, &absent, 4, failed)
+}
+
+/// The text of the report that settings are refused with, or of none.
+fn assert_refused(
+    rt: &(impl Abort + Alloc<A = Global>),
+    settings: Result<Settings, Report>,
+    code: u8,
+    text: &[u8],
+) -> Result<(), Fail> {
+    match settings {
+        Ok(_) => Err(Fail::from("read")),
+        Err(report) => assert_report(rt, &report, code, text),
+    }
+}
+
+#[test]
+fn defaults(rt: HostRuntime) -> Result<(), Fail> {
+    let mut files = source(rt.alloc(), "a.gcode", SHORT)?;
+    let Ok(settings) = read_settings_of(rt.alloc(), &mut files, None) else {
+        return Err(Fail::from("refused"));
+    };
+    assert_eq!(rt; settings.limits, LIMITS);
+    assert_eq!(rt; settings.window, 4);
+    Ok(())
+}
+
+/// Settings that name all that has to be there, and one more line.
+fn assert_settings(
+    rt: &(impl Abort + Alloc<A = Global>),
+    text: &[u8],
+    tool: u16,
+) -> Result<(), Fail> {
+    let mut files = source(rt.alloc(), "octo.toml", text)?;
+    let Ok(settings) = read_settings_of(rt.alloc(), &mut files, Some("octo.toml")) else {
+        return Err(Fail::from("refused"));
+    };
+    assert_eq!(rt; settings.limits.tool, tool);
+    Ok(())
+}
+
+#[test]
+fn named_settings(rt: HostRuntime) -> Result<(), Fail> {
+    let text =
+        b"printer.ports = [\"p\"]\nlimits.tool = 250\nadmin.name = \"a\"\nadmin.key_sha256 = \"0123456789abcdef0123456789abcdef0123456789abcdef0123456789abcdef\"\n";
+    assert_settings(&rt, text, 250)
+}
+
+#[test]
+fn refused_settings(rt: HostRuntime) -> Result<(), Fail> {
+    let mut files = source(rt.alloc(), "octo.toml", b"printer = 3\n")?;
+    let kind = read_settings_of(rt.alloc(), &mut files, Some("octo.toml"));
+    assert_refused(&rt, kind, 7, b"settings: printer: wrong kind\n")?;
+    files.put("octo.toml", b"= 3\n")?;
+    let other = read_settings_of(rt.alloc(), &mut files, Some("octo.toml"));
+    assert_refused(&rt, other, 7, b"settings: not toml\n")?;
+    files.put("octo.toml", b"")?;
+    let missing = read_settings_of(rt.alloc(), &mut files, Some("octo.toml"));
+    assert_refused(&rt, missing, 7, b"settings: printer.ports: missing\n")?;
+    let absent = read_settings_of(rt.alloc(), &mut files, Some("other.toml"));
+    assert_refused(&rt, absent, 4, b"source failed\n")
+}

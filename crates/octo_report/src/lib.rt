@@ -1,0 +1,15 @@
+//! What a command of the program reports: its exit status and its text.
+#![tactic(auto)]
+
+mod faults;
+mod page;
+mod report;
+mod shown;
+mod texts;
+mod writing;
+
+pub use report::Report;
+pub use writing::write_report;
+
+#[cfg(test)]
+mod tests;
