@@ -1,8 +1,12 @@
 pub mod Current
+pub mod Endings
 pub mod Foreign
+pub mod Going
+pub mod Known
 pub mod Lines
 pub mod Noted
 pub mod Plain
+pub mod Quiet
 pub mod Runs
 pub mod Settled
 pub mod Steady

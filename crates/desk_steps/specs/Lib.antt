@@ -1,5 +1,7 @@
 pub mod Course
 pub mod Data
+pub mod Endings
+pub mod Issued
 pub mod Note
 pub mod Plain
 pub mod Pull

@@ -3,7 +3,7 @@ use Rattle.std.specs.Prelude.{◌≡◌, ℕ, None}
 use Rattle.desk_steps.specs.Data.{Data}
 use Rattle.desk_steps.specs.Pull.{settled, pull_step}
 use Rattle.desk_steps.specs.Note.{note_step}
-use Rattle.marlin_reply.specs.declared.session.LinkFact.{LinkFact}
+use Rattle.desk_steps.specs.declared.link_fact.LinkFact.{LinkFact}
 
 -- a pull and a note leave nothing to settle, and where nothing is left to settle a pull that gives no line changes nothing
 pub record IsSettledBySteps : Type 0 where

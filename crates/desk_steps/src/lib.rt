@@ -1,14 +1,18 @@
 //! What the desk of a print host does at each call, as steps on plain data, and what a whole run of calls gives.
 #![tactic(auto)]
 
+mod issued;
 mod laws;
+mod link_fact;
 mod state;
 
+pub use issued::{Issued, Note};
 pub use laws::{
     every_beginning_is_in_order, every_course_reads_plainly, every_run_tells_stories,
     nothing_is_left_to_settle,
 };
-pub use marlin_reply::{LinkFact, SessionEnd};
+pub use link_fact::LinkFact;
 pub use print_records::{Ending, Outcome};
+pub use send_window::SessionEnd;
 pub use state::{Point, Refusal, State, Tag};
 pub use temp_rules::{HotLine, Limits};

@@ -1,13 +1,14 @@
 -- The fields of the desk as plain data, and what holds of them.
-use Rattle.std.specs.Prelude.{◌≡◌, ℕ, ◌≤◌, List, All}
+use Rattle.std.specs.Prelude.{◌≡◌, ℕ, ◌≤◌, true, List, All}
 use Rattle.std.specs.Option.{option_map}
 use Rattle.byte_text.specs.Sendable.{IsSendable}
 use Rattle.gcode_lines.specs.Job.{JobData}
 use Rattle.desk_steps.specs.Data.{Data, File}
+use Rattle.desk_steps.specs.Endings.{has_print}
 use Rattle.desk_steps.specs.declared.state.State.{State}
 use Rattle.desk_steps.specs.declared.state.State.TheVariants.{Offline, Connecting, Operational, Printing, Pausing, Paused, Cancelling, Finishing, Closing, Fault}
-use Rattle.marlin_reply.specs.declared.session.LinkFact.{LinkFact}
-use Rattle.marlin_reply.specs.declared.session.LinkFact.TheVariants as fact
+use Rattle.desk_steps.specs.declared.link_fact.LinkFact.{LinkFact}
+use Rattle.desk_steps.specs.declared.link_fact.LinkFact.TheVariants as fact
 use Rattle.job_desk.specs.Views.{bytes_of}
 use Rattle.job_desk.specs.declared.desk.Selected.{Selected}
 use Rattle.job_desk.specs.declared.desk.Desk.TheInside.{Inside}
@@ -54,11 +55,13 @@ most_in Finishing = 1
 most_in Closing = 5
 most_in Fault = 0
 
--- few enough scripts wait, so that the next one finds room, and the users' lines may be sent
+-- few enough scripts wait, so that the next one finds room, the users' lines may be sent, and a print that is going on
+-- is active
 pub record IsDesk (desk : Inside) : Type 0 where
   pub few : desk.waiting.count ≤ most_in desk.state
   pub room : desk.manual.capacity ≡ 256
   pub sendable : All IsSendable (bytes_of desk.manual.items)
+  pub going : has_print desk.state ≡ true → desk.prints.active ≡ true
 
 -- how many lines are acknowledged falls only where a session begins, with 0, and is at most how many were issued
 abbrev pub MayNote : ℕ → LinkFact → Data → Type 0

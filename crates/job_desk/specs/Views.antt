@@ -1,13 +1,10 @@
 -- The values of the desk's calls as plain data.
 use Rattle.std.specs.Prelude.{◌≡◌, ℕ, List, map, Option, None, Some}
 use Rattle.arrayvec.specs.ArrayVec.{ArrayVec}
-use Rattle.desk_steps.specs.Data.{Data, Line}
+use Rattle.desk_steps.specs.Data.{Data}
 use Rattle.desk_steps.specs.Pull.{Drawn}
-use Rattle.job_desk.specs.declared.issued.Issued.{Issued}
-
--- an issued line
-abbrev pub line_of : Issued → Line
-line_of issued = record { text = issued.text.items; tag = issued.tag }
+use Rattle.desk_steps.specs.Issued.{line_of}
+use Rattle.desk_steps.specs.declared.issued.Issued.{Issued}
 
 -- the bytes of texts
 abbrev pub bytes_of : List (ArrayVec ℕ) → List (List ℕ)

@@ -2,6 +2,7 @@
 ghost use Rattle.std.specs.Prelude.{◌≡◌, ◌≤◌, IfOk};
 ghost use Rattle.std.specs.Option.{option_map, option_copied};
 ghost use Rattle.desk_steps.specs.Data.{new_desk};
+ghost use Rattle.desk_steps.specs.Endings.{IsActive};
 ghost use Rattle.desk_steps.specs.Table.{active_print, is_closable_at};
 
 mod calls;
@@ -126,8 +127,10 @@ impl Desk {
         &self.limits
     }
 
+    /// What the desk does with its printer. While a print goes on it is active.
     pub fn state(&self) -> State
-        ensures { result ≡ self.now.state }
+        ensures state { result ≡ self.now.state }
+        ensures going { IsActive self.now }
     {
         self.state
     }

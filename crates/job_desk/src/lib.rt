@@ -2,11 +2,11 @@
 #![tactic(auto)]
 
 mod desk;
-mod issued;
 mod scripts;
 mod waiting;
 
 pub use desk::{Desk, NotSelected};
-pub use desk_steps::{Ending, LinkFact, Outcome, Point, Refusal, SessionEnd, State, Tag};
-pub use issued::{Issued, Note};
+pub use desk_steps::{
+    Ending, Issued, LinkFact, Note, Outcome, Point, Refusal, SessionEnd, State, Tag,
+};
 pub use scripts::{AddFault, Scripts};

@@ -4,13 +4,12 @@ ghost use Rattle.std.specs.Option.{option_map};
 ghost use Rattle.byte_text.specs.Sendable.{IsSendable};
 ghost use Rattle.desk_steps.specs.Data.{script_lines};
 ghost use Rattle.job_desk.specs.Scripts.{most_waiting};
-ghost use Rattle.job_desk.specs.Views.{line_of};
+ghost use Rattle.desk_steps.specs.Issued.{line_of};
 
-use crate::issued::Issued;
 use crate::scripts::Scripts;
 use arrayvec::ArrayVec;
 use byte_text::bounded_text;
-use desk_steps::{Point, Tag};
+use desk_steps::{Issued, Point, Tag};
 use std::marker::Model;
 
 /// A script that waits from one of its lines on.

@@ -2,9 +2,9 @@
 use Rattle.std.proofs.Common.{◌≡◌, ◌≢◌, ◌↔◌, ◌⊎◌, inl, inr, ℕ, ◌-◌, Bool, true, false, List, [], ◌∷◌, ◌++◌, map, refl, sym, ◌∙◌, ap, subst}
 use Rattle.std.specs.Prelude.{Option, None, Some, IfSome}
 use Rattle.desk_steps.specs.Data.{Line}
-use Rattle.job_desk.specs.declared.issued.Note.{Note}
-use Rattle.marlin_reply.specs.declared.session.LinkFact.{LinkFact}
-use Rattle.marlin_reply.specs.declared.session.LinkFact.TheVariants as fact
+use Rattle.desk_steps.specs.declared.issued.Note.{Note}
+use Rattle.desk_steps.specs.declared.link_fact.LinkFact.{LinkFact}
+use Rattle.desk_steps.specs.declared.link_fact.LinkFact.TheVariants as fact
 use Rattle.printer_model.specs.declared.event.WorldEvent.{WorldEvent}
 use Rattle.printer_link.specs.Link.{LinkKind, world_in}
 use Rattle.send_window.specs.Sending.{next_of}
@@ -12,29 +12,17 @@ use Rattle.octo_session.specs.Data.{SessionData, IsSession, doing}
 use Rattle.octo_session.specs.Found.{Got, can_find, up_after}
 use Rattle.octo_session.specs.Turn.{IsTurn, IsUneventful, IsNoteOf, IsSpent, fact_of, lines_of, texts_in}
 use Rattle.octo_session.specs.declared.found.Turned.{Turned}
+use Rattle.octo_session.proofs.Noting.{noted_fact, noted_lines}
 use Rattle.lossy_line.specs.Issuing.{issued_in}
 use Rattle.lossy_line.specs.Linked.{IsUnopened, IsOpened, IsLinked, LinkedAs, OpenedAs, IsOpening}
 use Rattle.lossy_line.specs.Tied.{IsTied, TiedAs, WasUnopened, FormerTiedAs, IsEndCaused, EndCausedAs}
 use Rattle.lossy_line.proofs.Promised.{turn_former, turn_caused}
 use Rattle.lossy_line.proofs.Tying.{opened_tied}
-use Rattle.marlin_reply.specs.declared.session.SessionEnd.{SessionEnd}
+use Rattle.send_window.specs.declared.session_end.SessionEnd.{SessionEnd}
 use Rattle.printer_model.specs.Executed.{opens}
 use Rattle.lossy_line.proofs.Quiet.{StaysUp}
 use Rattle.lossy_line.proofs.Turned.{IsTurned}
 use Rattle.lossy_line.proofs.Turning.{turn_links, turn_keeps, opening}
-
--- the note says what the turn found and issued
-pub noted_fact : (note : Option Note) (moment before acked : ℕ) (lines : List Line) (got : Got) (found : LinkFact) →
-    (note ≡ None) ↔ IsUneventful lines before acked got found → IfSome note (λ n. IsNoteOf moment acked lines got found n) →
-    fact_of note ≡ found
-noted_fact None moment before acked lines got found none some = sym (none.0 refl).quiet
-noted_fact (Some note) moment before acked lines got found none some = some.its_fact
-
-pub noted_lines : (note : Option Note) (moment before acked : ℕ) (lines : List Line) (got : Got) (found : LinkFact) →
-    (note ≡ None) ↔ IsUneventful lines before acked got found → IfSome note (λ n. IsNoteOf moment acked lines got found n) →
-    lines_of note ≡ lines
-noted_lines None moment before acked lines got found none some = sym (none.0 refl).no_line
-noted_lines (Some note) moment before acked lines got found none some = some.its_lines
 
 -- what else a turn promises that this needs
 pub record IsKept (moment : ℕ) (old new : SessionData) (turned : Turned) : Type 0 where

@@ -3,8 +3,8 @@ use Rattle.std.proofs.Common.{◌≡◌, ◌≢◌, ◌↔◌, ◌⊎◌, inl, i
 use Rattle.std.specs.Prelude.{Option, None, Some}
 use Rattle.std.proofs.lemmas.Grind.{common_steps}
 use Rattle.marlin_reply.specs.declared.reply.Reply.{Reply}
-use Rattle.marlin_reply.specs.declared.session.LinkFact.{LinkFact}
-use Rattle.marlin_reply.specs.declared.session.LinkFact.TheVariants as fact
+use Rattle.desk_steps.specs.declared.link_fact.LinkFact.{LinkFact}
+use Rattle.desk_steps.specs.declared.link_fact.LinkFact.TheVariants as fact
 use Rattle.printer_model.specs.Printer.{Logged}
 use Rattle.printer_model.specs.World.{WorldData, can_happen, happen, apply, world_from}
 use Rattle.printer_model.specs.Exchanged.{sends_since}
@@ -19,7 +19,7 @@ use Rattle.send_window.specs.Data.{SenderData, IsSound, begun}
 use Rattle.send_window.specs.Sending.{next_of}
 use Rattle.octo_session.specs.Data.{SessionData, IsSession, doing}
 use Rattle.octo_session.specs.Found.{Got, unasked, lost, nothing, whole, may_issue, end_by, can_find, up_after}
-use Rattle.marlin_reply.specs.declared.session.SessionEnd.{SessionEnd}
+use Rattle.send_window.specs.declared.session_end.SessionEnd.{SessionEnd}
 use Rattle.octo_session.specs.declared.found.Doing.{Doing}
 use Rattle.octo_session.specs.declared.found.Doing.TheVariants.{Dialling, HangingUp, Talking, Resting}
 use Rattle.octo_session.specs.Steps.{opens, after_steps, AreAllowed, IsDone, AreAdded, dial_steps, talk_steps, turn_steps}

@@ -1,17 +1,18 @@
 //! A turn of a session, with what holds of it whatever the line does.
-ghost use Rattle.std.specs.Prelude.{◌≡◌, ◌↔◌, ◌≤◌, ℕ, List, [], true, false, None};
+ghost use Rattle.std.specs.Prelude.{◌≡◌, ◌⊎◌, ◌↔◌, ◌≤◌, ℕ, List, [], true, false, None, IfSome};
 ghost use Rattle.octo_outside.specs.Told.{Rose};
-ghost use Rattle.marlin_reply.specs.declared.session.LinkFact.TheVariants as fact;
+ghost use Rattle.desk_steps.specs.declared.link_fact.LinkFact.TheVariants as fact;
 ghost use Rattle.printer_link.specs.Link.{RoseBy};
 ghost use Rattle.send_window.specs.Sending.{next_of};
 ghost use Rattle.octo_session.specs.Data.{IsSession, doing, is_calling, port_of};
-ghost use Rattle.octo_session.specs.Found.{up_after, can_find};
-ghost use Rattle.octo_session.specs.Turn.{fact_of, lines_of, texts_in, IsSpent, IsTurn};
+ghost use Rattle.octo_session.specs.DeskTurn.{IsQuietTurn, IsTurnEnding};
+ghost use Rattle.octo_session.specs.Found.{up_after, ready_after, can_find};
+ghost use Rattle.octo_session.specs.Turn.{fact_of, lines_of, texts_in, IsNoteOn, IsSpent, IsTurn};
 ghost use Rattle.octo_session.specs.declared.found.Doing.TheVariants as now_doing;
 ghost use Rattle.lossy_line.specs.Issuing.{issued_in};
 ghost use Rattle.lossy_line.specs.Linked.{LinkedAs, OpenedAs, IsOpening};
 ghost use Rattle.lossy_line.specs.Tied.{TiedAs, FormerTiedAs, EndCausedAs};
-ghost use Rattle.marlin_reply.specs.declared.session.SessionEnd.{SessionEnd};
+ghost use Rattle.send_window.specs.declared.session_end.SessionEnd.{SessionEnd};
 
 use octo_session::{Session, Turned};
 use printer_link::Link;
@@ -68,6 +69,17 @@ pub fn turn_over_link<L: Link>(session: &mut Session, link: &mut L, moment: u64)
     ensures counted { L.faults link.old ≤ L.faults link.new }
     ensures calls { is_calling (doing session.old) ≡ true → RoseBy 1 (L.calls link.old) (L.calls link.new) }
     ensures failed { fact_of result.note ≡ fact.Failed → Rose (L.faults link.old) (L.faults link.new) }
+    ensures ready_is { session.new.sender.ready ≡ ready_after (fact_of result.note) session.old.sender.ready }
+    ensures not_fallen { (fact_of result.note ≡ fact.Opened)
+        ⊎ (session.old.sender.acked ≤ session.new.sender.acked) }
+    ensures within { session.new.sender.acked ≤ session.old.sender.issued }
+    ensures none_acked { fact_of result.note ≡ fact.Opened → session.new.sender.acked ≡ 0 }
+    ensures noted { IfSome result.note (λ note. IsNoteOn moment session.new.sender.acked
+        session.old.desk session.new.desk result.ending note) }
+    ensures still { result.note ≡ None
+        → IsQuietTurn (doing session.old) moment session.old.desk result.ending session.new.desk }
+    ensures ends { IfSome result.ending (λ ending.
+        IsTurnEnding (fact_of result.note) session.old.desk session.new.desk ending) }
 {
     session.turn(link, moment)
 }

@@ -6,8 +6,8 @@ use Rattle.marlin_frame.specs.Numbering.{wire_number, place_of}
 use Rattle.marlin_reply.specs.Kind.{kind_of}
 use Rattle.marlin_reply.specs.declared.reply.Reply.{Reply}
 use Rattle.marlin_reply.specs.declared.reply.Reply.TheVariants as reply
-use Rattle.marlin_reply.specs.declared.session.SessionEnd.{SessionEnd}
-use Rattle.marlin_reply.specs.declared.session.SessionEnd.TheVariants.{AskedBack, AskedAhead, Counts, Restarted, NumbersUsed}
+use Rattle.send_window.specs.declared.session_end.SessionEnd.{SessionEnd}
+use Rattle.send_window.specs.declared.session_end.SessionEnd.TheVariants.{AskedBack, AskedAhead, Counts, Restarted, NumbersUsed}
 use Rattle.printer_model.specs.Printer.{Logged}
 use Rattle.printer_model.specs.World.{WorldData, happen}
 use Rattle.printer_model.specs.declared.event.WorldEvent.TheVariants.{Recv}

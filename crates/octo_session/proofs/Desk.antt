@@ -9,16 +9,16 @@ use Rattle.desk_steps.proofs.Settled.{settled_by_steps}
 use Rattle.send_window.specs.Sending.{push_step}
 use Rattle.desk_steps.specs.Note.{note_step}
 use Rattle.desk_steps.proofs.Steady.{steady-pull, steady-note}
-use Rattle.marlin_reply.specs.declared.session.LinkFact.{LinkFact}
-use Rattle.marlin_reply.specs.declared.session.LinkFact.TheVariants as fact
+use Rattle.desk_steps.specs.declared.link_fact.LinkFact.{LinkFact}
+use Rattle.desk_steps.specs.declared.link_fact.LinkFact.TheVariants as fact
 use Rattle.print_records.specs.declared.ending.Ending.{Ending}
 use Rattle.send_window.specs.Data.{SenderData}
 use Rattle.octo_session.specs.Data.{IsJoined}
 use Rattle.octo_session.specs.DeskTurn.{Pulls, IsNoted, first_fact, last_noted}
 use Rattle.octo_session.specs.Steps.{Step, issues, after_steps, AreAllowed, Issues, issuing}
-use Rattle.job_desk.specs.Views.{line_of}
-use Rattle.job_desk.specs.declared.issued.Issued.{Issued}
-use Rattle.marlin_reply.specs.declared.session.SessionEnd.{SessionEnd}
+use Rattle.desk_steps.specs.Issued.{line_of}
+use Rattle.desk_steps.specs.declared.issued.Issued.{Issued}
+use Rattle.send_window.specs.declared.session_end.SessionEnd.{SessionEnd}
 use Rattle.send_window.specs.Hearing.{answer_of}
 use Rattle.octo_session.specs.Found.{up_after}
 use Rattle.octo_session.specs.Turn.{drawn, texts_in, is_unbroken}
@@ -42,7 +42,7 @@ pulls_more moment lines old mid None pulls e still =
 pulls_more moment lines old mid (Some line) pulls e still = pulls_push moment lines line old mid pulls e
 
 -- no pull raises the greatest print, nor does a note
-pulls_greatest : (moment : ℕ) (lines : List Line) (old new : Data) → Pulls moment lines old new → new.greatest ≡ old.greatest
+pub pulls_greatest : (moment : ℕ) (lines : List Line) (old new : Data) → Pulls moment lines old new → new.greatest ≡ old.greatest
 pulls_greatest moment [] old new same = ap (λ (d : Data). d.greatest) same
 pulls_greatest moment (line ∷ lines) old new pulls =
     pulls_greatest moment lines (pull_step moment old).1 new pulls.1 ∙ (steady-pull moment old).greatest

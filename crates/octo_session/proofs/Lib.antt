@@ -1,4 +1,6 @@
 pub mod Counts
 pub mod Desk
+pub mod Endings
 pub mod Keeping
+pub mod Noting
 pub mod Stepping

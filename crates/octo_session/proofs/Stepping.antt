@@ -11,8 +11,8 @@ use Rattle.printer_model.specs.declared.event.WorldEvent.{WorldEvent}
 use Rattle.printer_model.proofs.Laws.{world_from-append, world_of-append, world_from-IsSameKind}
 use Rattle.send_window.specs.Data.{SenderData}
 use Rattle.send_window.specs.Hearing.{tick_step}
-use Rattle.marlin_reply.specs.declared.session.LinkFact.{LinkFact}
-use Rattle.marlin_reply.specs.declared.session.LinkFact.TheVariants as fact
+use Rattle.desk_steps.specs.declared.link_fact.LinkFact.{LinkFact}
+use Rattle.desk_steps.specs.declared.link_fact.LinkFact.TheVariants as fact
 use Rattle.octo_session.specs.Found.{Got, unasked, lost, nothing, whole, is_got, got_of, is_said, may_issue, end_by, can_find}
 use Rattle.octo_session.specs.declared.found.Doing.{Doing}
 use Rattle.octo_session.specs.declared.found.Doing.TheVariants.{Dialling, Resting}

@@ -4,9 +4,9 @@ use Rattle.marlin_reply.specs.Kind.{kind_of}
 use Rattle.marlin_reply.specs.declared.reply.Reply.{Reply}
 use Rattle.marlin_reply.specs.declared.reply.Reply.TheVariants as reply
 use Rattle.marlin_reply.specs.declared.reply.Temps.{Temps}
-use Rattle.marlin_reply.specs.declared.session.SessionEnd.{SessionEnd}
-use Rattle.marlin_reply.specs.declared.session.LinkFact.{LinkFact}
-use Rattle.marlin_reply.specs.declared.session.LinkFact.TheVariants as fact
+use Rattle.send_window.specs.declared.session_end.SessionEnd.{SessionEnd}
+use Rattle.desk_steps.specs.declared.link_fact.LinkFact.{LinkFact}
+use Rattle.desk_steps.specs.declared.link_fact.LinkFact.TheVariants as fact
 use Rattle.send_window.specs.Data.{SenderData}
 use Rattle.send_window.specs.Hearing.{hear_step, tick_step}
 use Rattle.octo_session.specs.declared.found.Doing.{Doing}
@@ -106,6 +106,16 @@ is_said _ = false
 -- whether a turn may have issued lines: its receiving didn't fail, nor did it end the session or make it ready
 abbrev pub may_issue : Got → LinkFact → Bool
 may_issue got found = is_got got && is_said found
+
+-- whether the hello is acknowledged after a turn that found this
+abbrev pub ready_after : LinkFact → Bool → Bool
+ready_after fact.Quiet was_ready = was_ready
+ready_after fact.Opened was_ready = false
+ready_after fact.Ready was_ready = true
+ready_after fact.Closed was_ready = was_ready
+ready_after fact.NoPort was_ready = was_ready
+ready_after fact.Failed was_ready = was_ready
+ready_after (fact.Ended end) was_ready = was_ready
 
 -- whether the link is up after a turn that found this
 abbrev pub up_after : LinkFact → Bool → Bool

@@ -1,12 +1,12 @@
 -- What a turn promises.
 use Rattle.std.specs.Prelude.{◌≡◌, ◌≢◌, ◌⊎◌, ◌↔◌, ℕ, Bool, true, false, List, [], ◌∷◌, map, Option, None, Some, IfSome}
-use Rattle.job_desk.specs.Views.{line_of}
-use Rattle.job_desk.specs.declared.issued.Note.{Note}
+use Rattle.desk_steps.specs.Issued.{line_of}
+use Rattle.desk_steps.specs.declared.issued.Note.{Note}
 use Rattle.desk_steps.specs.Data.{Data, Line}
 use Rattle.desk_steps.specs.Pull.{pull_step}
-use Rattle.marlin_reply.specs.declared.session.SessionEnd.{SessionEnd}
-use Rattle.marlin_reply.specs.declared.session.LinkFact.{LinkFact}
-use Rattle.marlin_reply.specs.declared.session.LinkFact.TheVariants as fact
+use Rattle.send_window.specs.declared.session_end.SessionEnd.{SessionEnd}
+use Rattle.desk_steps.specs.declared.link_fact.LinkFact.{LinkFact}
+use Rattle.desk_steps.specs.declared.link_fact.LinkFact.TheVariants as fact
 use Rattle.print_records.specs.declared.ending.Ending.{Ending}
 use Rattle.printer_model.specs.declared.event.WorldEvent.{WorldEvent}
 use Rattle.send_window.specs.Data.{SenderData}
@@ -64,6 +64,12 @@ pub record IsNoteOf (moment acked : ℕ) (lines : List Line) (got : Got) (found 
   pub its_lines : map line_of note.issued.items ≡ lines
   pub its_temps : note.temps ≡ temps_in got
   pub its_fact : note.fact ≡ found
+
+-- a note of a turn says its moment and how many lines are acknowledged, and this is what it made of the desk
+pub record IsNoteOn (moment acked : ℕ) (old new : Data) (ending : Option Ending) (note : Note) : Type 0 where
+  pub its_moment : note.moment ≡ moment
+  pub its_acked : note.acked ≡ acked
+  pub noted : IsNoted moment acked note.fact (map line_of note.issued.items) old ending new
 
 -- nothing happened, by what is known before a note is made
 pub record IsStill (found : Found) (before acked : ℕ) : Type 0 where

@@ -1,6 +1,6 @@
 //! What a turn does, finds and gives.
 ghost use Rattle.std.specs.Prelude.{◌≡◌, ◌↔◌, ℕ, List, [], map, None, IfSome};
-ghost use Rattle.job_desk.specs.Views.{line_of};
+ghost use Rattle.desk_steps.specs.Issued.{line_of};
 ghost use Rattle.octo_session.specs.Found.{got_of, is_whole, temps_kept};
 ghost use Rattle.octo_session.specs.Turn.{fact_of, lines_of, IsKeptIn, IsStill};
 

@@ -1,20 +1,21 @@
 //! The session: a desk and a sender, and the turns that join them with a link.
-ghost use Rattle.std.specs.Prelude.{◌≡◌, ◌≢◌, ◌↔◌, ◌≤◌, ℕ, [], ◌∷◌, map, true, false, is_some, OnOk, OnErr, IsErrOf};
+ghost use Rattle.std.specs.Prelude.{◌≡◌, ◌≢◌, ◌↔◌, ◌⊎◌, ◌≤◌, ℕ, [], ◌∷◌, map, true, false, is_some, IfSome, None, OnOk, OnErr, IsErrOf};
 ghost use Rattle.octo_outside.specs.Told.{Rose};
 ghost use Rattle.desk_steps.specs.Data.{new_desk};
+ghost use Rattle.desk_steps.specs.Endings.{IsActive};
 ghost use Rattle.desk_steps.specs.Table.{is_closable_at};
-ghost use Rattle.job_desk.specs.Views.{line_of};
-ghost use Rattle.marlin_reply.specs.declared.session.LinkFact.TheVariants as fact;
-ghost use Rattle.marlin_reply.specs.declared.session.SessionEnd.{SessionEnd};
+ghost use Rattle.desk_steps.specs.Issued.{line_of};
+ghost use Rattle.desk_steps.specs.declared.link_fact.LinkFact.TheVariants as fact;
+ghost use Rattle.send_window.specs.declared.session_end.SessionEnd.{SessionEnd};
 ghost use Rattle.printer_link.specs.Link.{HasSlots, Grows, IsDial, IsNothing, IsRuns, RoseBy, counted_one, dial_events};
 ghost use Rattle.printer_link.specs.declared.link.LinkFault.TheVariants as fault;
 ghost use Rattle.send_window.specs.Data.{IsSound, new_sender, begun};
 ghost use Rattle.send_window.specs.Sending.{next_of};
 ghost use Rattle.octo_session.specs.Data.{IsSession, doing, is_calling, port_of};
-ghost use Rattle.octo_session.specs.DeskTurn.{IsNoted};
-ghost use Rattle.octo_session.specs.Found.{got_of, temps_in, temps_kept, end_by, may_issue, up_after, can_find, lost, unasked};
+ghost use Rattle.octo_session.specs.DeskTurn.{IsNoted, IsQuietTurn, IsTurnEnding};
+ghost use Rattle.octo_session.specs.Found.{got_of, temps_in, temps_kept, end_by, may_issue, up_after, ready_after, can_find, lost, unasked};
 ghost use Rattle.octo_session.specs.Steps.{Takes, TakesSome, hangs_up, dial_steps, talk_steps, turn_steps};
-ghost use Rattle.octo_session.specs.Turn.{fact_of, lines_of, texts_in, IsDeskTurn, IsSpent, IsTurn};
+ghost use Rattle.octo_session.specs.Turn.{fact_of, lines_of, texts_in, IsDeskTurn, IsNoteOn, IsSpent, IsTurn};
 ghost use Rattle.octo_session.specs.declared.found.Doing.TheVariants as now_doing;
 ghost use Rattle.octo_session.specs.declared.found.Received.TheVariants as received;
 
@@ -78,6 +79,13 @@ fn is_sound(sender: &Sender)
     sender.ready();
 }
 
+// While a print goes on it is active: stated for proofs.
+fn is_active(desk: &Desk)
+    ensures { IsActive desk.now }
+{
+    desk.state();
+}
+
 impl Session {
     /// A session of a new desk and a new sender. The link is not up.
     pub fn new(desk: Desk, sender: Sender) -> Session
@@ -109,6 +117,14 @@ impl Session {
         ensures { result ≡ self.now.up }
     {
         self.up
+    }
+
+    /// How many lines of the last session are acknowledged.
+    pub fn acked(&self) -> u32
+        ensures value { result ≡ self.now.sender.acked }
+        ensures joined { IsSession self.now }
+    {
+        self.sender.acked()
     }
 
     // What the next turn does.
@@ -295,7 +311,26 @@ impl Session {
         ensures counted { L.faults link.old ≤ L.faults link.new }
         ensures calls { is_calling (doing self.old) ≡ true → RoseBy 1 (L.calls link.old) (L.calls link.new) }
         ensures failed { fact_of result.note ≡ fact.Failed → Rose (L.faults link.old) (L.faults link.new) }
+
+        // The hello and the acknowledged lines, by the note: acked falls only where a link is made, to 0.
+        ensures ready_is { self.new.sender.ready ≡ ready_after (fact_of result.note) self.old.sender.ready }
+        ensures not_fallen { (fact_of result.note ≡ fact.Opened)
+            ⊎ (self.old.sender.acked ≤ self.new.sender.acked) }
+        ensures within { self.new.sender.acked ≤ self.old.sender.issued }
+        ensures none_acked { fact_of result.note ≡ fact.Opened → self.new.sender.acked ≡ 0 }
+
+        // The desk, by the note; without one it took at most a quiet note.
+        ensures noted { IfSome result.note (λ note.
+            IsNoteOn moment self.new.sender.acked self.old.desk self.new.desk result.ending note) }
+        ensures still { result.note ≡ None
+            → IsQuietTurn (doing self.old) moment self.old.desk result.ending self.new.desk }
+
+        // A turn ends only the active print: as Done, and as Cancelled unless it hung up, only once no script line waits
+        // and the last issued line of the print is acknowledged.
+        ensures ends { IfSome result.ending (λ ending.
+            IsTurnEnding (fact_of result.note) self.old.desk self.new.desk ending) }
     {
+        is_active(&self.desk);
         let before = self.sender.acked();
         let mut line = ReplyLine::new();
         let found = self.act(link, moment, &mut line);

@@ -2,9 +2,9 @@
 ghost use Rattle.std.specs.Prelude.{◌≡◌, ◌≢◌, ◌↔◌, ◌⊎◌, ◌<◌, ◌≤◌, ◌+◌, ◌++◌, [], map, length, true, false, None, is_some};
 ghost use Rattle.octo_outside.specs.Told.{Rose};
 ghost use Rattle.desk_steps.specs.Pull.{pull_step, settled};
-ghost use Rattle.job_desk.specs.Views.{line_of};
-ghost use Rattle.marlin_reply.specs.declared.session.LinkFact.TheVariants as fact;
-ghost use Rattle.marlin_reply.specs.declared.session.SessionEnd.{SessionEnd};
+ghost use Rattle.desk_steps.specs.Issued.{line_of};
+ghost use Rattle.desk_steps.specs.declared.link_fact.LinkFact.TheVariants as fact;
+ghost use Rattle.send_window.specs.declared.session_end.SessionEnd.{SessionEnd};
 ghost use Rattle.send_window.specs.Data.{IsSound};
 ghost use Rattle.send_window.specs.Hearing.{tick_step};
 ghost use Rattle.send_window.specs.Sending.{next_of, room_of};

@@ -3,8 +3,8 @@ use Rattle.std.proofs.Common.{◌≡◌, ◌↔◌, ℕ, arith, sym, ap, subst}
 use Rattle.std.specs.Prelude.{Option, None, Some}
 use Rattle.std.proofs.lemmas.Grind.{common_steps}
 use Rattle.marlin_reply.specs.declared.reply.Reply.{Reply}
-use Rattle.marlin_reply.specs.declared.session.SessionEnd.{SessionEnd}
-use Rattle.marlin_reply.specs.declared.session.SessionEnd.TheVariants.{NoAnswer, AskedBack, AskedAhead, Counts, Restarted, NumbersUsed}
+use Rattle.send_window.specs.declared.session_end.SessionEnd.{SessionEnd}
+use Rattle.send_window.specs.declared.session_end.SessionEnd.TheVariants.{NoAnswer, AskedBack, AskedAhead, Counts, Restarted, NumbersUsed}
 use Rattle.send_window.specs.Data.{SenderData}
 use Rattle.send_window.specs.Hearing.{hear_step, tick_step, heard_reply, unless_ended}
 use Rattle.send_window.specs.Laws.{IsEndedBy, IsEndedAt, EndsByRule}

@@ -4,7 +4,7 @@ use Rattle.std.specs.Prelude.{Option, None, Some}
 use Rattle.std.proofs.lemmas.Grind.{common_steps}
 use Rattle.std.proofs.lemmas.List.{drop-drop, drop-append-le, append-nil, length-append}
 use Rattle.marlin_reply.specs.declared.reply.Reply.{Reply}
-use Rattle.marlin_reply.specs.declared.session.SessionEnd.{SessionEnd}
+use Rattle.send_window.specs.declared.session_end.SessionEnd.{SessionEnd}
 use Rattle.send_window.specs.Data.{SenderData, begun}
 use Rattle.send_window.specs.Hearing.{tick_step, heard_reply, unless_ended}
 use Rattle.send_window.specs.Sending.{push_step}

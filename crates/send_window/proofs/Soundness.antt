@@ -4,7 +4,7 @@ use Rattle.std.specs.Prelude.{Option, None, Some}
 use Rattle.std.proofs.lemmas.Grind.{common_steps}
 use Rattle.marlin_reply.specs.declared.reply.Reply.{Reply}
 use Rattle.marlin_reply.specs.declared.reply.Reply.TheVariants as reply
-use Rattle.marlin_reply.specs.declared.session.SessionEnd.{SessionEnd}
+use Rattle.send_window.specs.declared.session_end.SessionEnd.{SessionEnd}
 use Rattle.send_window.specs.Data.{SenderData, IsSound, new_sender, begun}
 use Rattle.send_window.specs.Hearing.{hear_step, tick_step, heard_reply, heard_ok, heard_resend, heard_start, marked, unless_ended}
 use Rattle.send_window.specs.Sending.{room_of}

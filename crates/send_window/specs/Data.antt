@@ -1,6 +1,6 @@
 -- What a sender knows of its session with a printer.
 use Rattle.std.specs.Prelude.{◌≡◌, ℕ, ◌+◌, ◌≤◌, Bool, true, false, List, [], length, Option, None}
-use Rattle.marlin_reply.specs.declared.session.SessionEnd.{SessionEnd}
+use Rattle.send_window.specs.declared.session_end.SessionEnd.{SessionEnd}
 
 -- the most lines of a session
 abbrev pub most_lines : ℕ

@@ -2,8 +2,8 @@
 use Rattle.std.specs.Prelude.{ℕ, ◌+◌, ◌-◌, min, max, Bool, true, false, ◌&&◌, drop, Option, None, Some, Result, Ok, Err, if◌then◌else◌, nat_lt, nat_le, ◌==◌}
 use Rattle.marlin_reply.specs.declared.reply.Reply.{Reply}
 use Rattle.marlin_reply.specs.declared.reply.Reply.TheVariants as reply
-use Rattle.marlin_reply.specs.declared.session.SessionEnd.{SessionEnd}
-use Rattle.marlin_reply.specs.declared.session.SessionEnd.TheVariants.{NoAnswer, AskedBack, AskedAhead, Counts, Restarted, NumbersUsed}
+use Rattle.send_window.specs.declared.session_end.SessionEnd.{SessionEnd}
+use Rattle.send_window.specs.declared.session_end.SessionEnd.TheVariants.{NoAnswer, AskedBack, AskedAhead, Counts, Restarted, NumbersUsed}
 use Rattle.marlin_frame.specs.Numbering.{wire_number, place_of}
 use Rattle.send_window.specs.Data.{SenderData, most_lines}
 

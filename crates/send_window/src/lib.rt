@@ -5,10 +5,11 @@
 mod held;
 mod laws;
 mod sender;
+mod session_end;
 
 pub use laws::{
     acked_law, count_law, counted_law, end_law, ends_law, flags_law, given_law, held_law, kept_law,
     nothing_law, resend_law, sendable_law, silence_law, sound_law, wait_law,
 };
-pub use marlin_reply::{LinkFact, SessionEnd};
 pub use sender::Sender;
+pub use session_end::SessionEnd;

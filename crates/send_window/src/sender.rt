@@ -7,9 +7,10 @@ ghost use Rattle.send_window.specs.Hearing.{later, deadline_at, end_of_numbers, 
 ghost use Rattle.send_window.specs.Sending.{IsFramable, room_of, push_step, next_line, next_of, hello, number_of_outgoing, bytes_of_outgoing, given, frame_step};
 
 use crate::held::Held;
+use crate::session_end::SessionEnd;
 use byte_text::Line;
 use marlin_frame::{HELLO_NUMBER, hello_frame, wire_number};
-use marlin_reply::{Reply, SessionEnd};
+use marlin_reply::Reply;
 use std::alloc::{AllocError, Global};
 use std::marker::Model;
 

@@ -1,5 +1,6 @@
 //! What the desk makes of a turn of the link.
-ghost use Rattle.std.specs.Prelude.{◌≡◌, ◌⊎◌, true, false};
+ghost use Rattle.std.specs.Prelude.{◌≡◌, ◌⊎◌, true, false, IfSome};
+ghost use Rattle.desk_steps.specs.Endings.{IsEnding};
 ghost use Rattle.desk_steps.specs.Note.{ended, fail, leave, note_fact, note_step, opened, ready_at};
 ghost use Rattle.job_desk.specs.DeskViews.{MayNote};
 
@@ -121,11 +122,13 @@ impl Desk {
     }
 
     /// Notes how many lines of the session are acknowledged and what a turn at this moment, in milliseconds, found of the
-    /// link. Answers the end of a print, if this was one.
+    /// link. Returns the ending of the active print if it ends: as Done, and as Cancelled unless the link was hung up, only
+    /// once no script line waits and the last issued line of the print is acknowledged.
     pub fn note(&mut self, acked: u32, fact: &LinkFact, moment: u64) -> Option<Ending>
         requires { MayNote acked fact.now self.old }
         ensures ending { result ≡ (note_step acked fact.now moment self.old).0 }
         ensures after { self.new ≡ (note_step acked fact.now moment self.old).1 }
+        ensures of_print { IfSome result (λ ending. IsEnding acked fact.now self.old ending) }
     {
         self.lines.acked = acked;
         let ending = self.take_fact(fact, moment);

@@ -4,12 +4,12 @@ ghost use Rattle.std.specs.Option.{option_map};
 ghost use Rattle.byte_text.specs.Sendable.{IsSendable};
 ghost use Rattle.desk_steps.specs.Data.{commands_of};
 ghost use Rattle.desk_steps.specs.Pull.{draw_at, from_file, from_manual, from_poll, from_scripts, keep_number, next_number, poll_is_due, pull_step, settled, talk};
-ghost use Rattle.job_desk.specs.Views.{DrawsFrom, line_of};
+ghost use Rattle.desk_steps.specs.Issued.{line_of};
+ghost use Rattle.job_desk.specs.Views.{DrawsFrom};
 
 use super::Desk;
-use crate::issued::Issued;
 use byte_text::bounded_text;
-use desk_steps::{Point, State, Tag};
+use desk_steps::{Issued, Point, State, Tag};
 
 /// Marlin's question for temperatures.
 const POLL: &[u8] = b"M105";

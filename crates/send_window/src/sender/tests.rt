@@ -1,9 +1,9 @@
 ghost use Rattle.std.specs.Prelude.{◌≡◌, [], ◌∷◌, None};
 ghost use Rattle.send_window.specs.Counting.{acked_of};
 
-use crate::Sender;
+use crate::{Sender, SessionEnd};
 use byte_text::{Line, has_byte};
-use marlin_reply::{Reply, SessionEnd};
+use marlin_reply::Reply;
 use std::process::Abort;
 use std::test::*;
 

@@ -1,5 +1,5 @@
 use Rattle.std.proofs.Common.{refl, sym, ap, ◌∙◌}
-use Rattle.marlin_reply.specs.declared.session.LinkFact.TheVariants as fact
+use Rattle.desk_steps.specs.declared.link_fact.LinkFact.TheVariants as fact
 use Rattle.send_window.specs.Data.{SenderData}
 use Rattle.octo_session.proofs.Counts.{noted_issued, noted_acked}
 use Rattle.octo_session.proofs.Desk.{noted_once, answer_none, ended_down}

@@ -1,7 +1,7 @@
 use Rattle.std.proofs.Common.{inr, ◌≡◌, ◌+◌, map, sym, ap, ◌∙◌, arith}
 use Rattle.desk_steps.specs.Data.{Data}
 use Rattle.desk_steps.specs.Pull.{next_number}
-use Rattle.job_desk.specs.Views.{line_of}
+use Rattle.desk_steps.specs.Issued.{line_of}
 use Rattle.send_window.specs.Data.{SenderData}
 use Rattle.send_window.specs.Sending.{room_of, push_step}
 use Rattle.octo_session.proofs.Counts.{counted_pull, pull_some}

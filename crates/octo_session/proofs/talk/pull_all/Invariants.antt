@@ -1,6 +1,6 @@
 use Rattle.std.proofs.Common.{◌≡◌, ◌+◌, length, map}
 use Rattle.desk_steps.specs.Pull.{settled}
-use Rattle.job_desk.specs.Views.{line_of}
+use Rattle.desk_steps.specs.Issued.{line_of}
 use Rattle.send_window.specs.Data.{IsSound}
 use Rattle.send_window.specs.Sending.{room_of}
 use Rattle.octo_session.specs.DeskTurn.{Pulls}

@@ -1,6 +1,6 @@
 use Rattle.std.proofs.Common.{true, false, map, refl, sym, ◌∙◌, arith}
-use Rattle.job_desk.specs.Views.{line_of}
-use Rattle.marlin_reply.specs.declared.session.LinkFact.TheVariants as fact
+use Rattle.desk_steps.specs.Issued.{line_of}
+use Rattle.desk_steps.specs.declared.link_fact.LinkFact.TheVariants as fact
 use Rattle.octo_session.specs.Turn.{texts_in}
 use Rattle.octo_session.proofs.Counts.{noted_issued, noted_acked}
 use Rattle.octo_session.proofs.Desk.{noted_quiet, noted_failed}

@@ -1,6 +1,6 @@
 use Rattle.std.proofs.Common.{◌≡◌, true, map, sym, ap, subst, ◌∙◌, arith}
 use Rattle.octo_outside.proofs.Told.{rose_after}
-use Rattle.job_desk.specs.Views.{line_of}
+use Rattle.desk_steps.specs.Issued.{line_of}
 use Rattle.octo_session.specs.Found.{Got, got_of, temps_in, temps_kept, is_got, end_by}
 use Rattle.octo_session.specs.Steps.{TakesSome, talk_steps}
 use Rattle.octo_session.specs.Turn.{texts_in}

@@ -6,4 +6,5 @@ invariant_of-self-2 c = record {
   few = c.self.invariant.few;
   room = rw c.pop_front.ensures.items c.self.invariant.room;
   sendable = rw c.pop_front.ensures.items (drop_sendable c.self.inside.manual.items c.self.invariant.sendable);
+  going = c.self.invariant.going;
 }

@@ -1,5 +1,5 @@
 use Rattle.std.proofs.Common.{map, sym, ◌∙◌}
-use Rattle.job_desk.specs.Views.{line_of}
+use Rattle.desk_steps.specs.Issued.{line_of}
 use Rattle.octo_session.specs.Data.{doing}
 use Rattle.octo_session.specs.Found.{got_of}
 use Rattle.octo_session.specs.Turn.{texts_in}

@@ -1,5 +1,5 @@
 use Rattle.std.proofs.Common.{◌≡◌, sym, subst}
-use Rattle.marlin_reply.specs.declared.session.LinkFact.{LinkFact}
+use Rattle.desk_steps.specs.declared.link_fact.LinkFact.{LinkFact}
 use Rattle.send_window.specs.Data.{begun}
 use Rattle.octo_session.specs.Steps.{Takes, opens, dial_steps}
 use Rattle.octo_session.proofs.Stepping.{takes_both, opens_placed}

@@ -1,6 +1,6 @@
 use Rattle.std.proofs.Common.{◌≡◌, subst}
 use Rattle.std.specs.Prelude.{Some, ◌↔◌}
-use Rattle.marlin_reply.specs.declared.session.LinkFact.TheVariants as fact
+use Rattle.desk_steps.specs.declared.link_fact.LinkFact.TheVariants as fact
 use Rattle.octo_session.specs.Data.{SessionData}
 use Rattle.octo_session.specs.Found.{got_of, end_by}
 use Rattle.octo_session.proofs.session.Session.exchange.Goals as goal

@@ -1,12 +1,17 @@
-use Rattle.std.proofs.Common.{◌≡◌, ◌↔◌, ℕ, List, [], ◌∷◌, sym, ap, ◌∙◌, refl, rules, map}
+use Rattle.std.proofs.Common.{◌≡◌, ◌↔◌, ℕ, List, [], ◌∷◌, true, false, sym, ap, ◌∙◌, refl, rules, map, subst}
 use Rattle.std.specs.Prelude.{Option, None}
-use Rattle.job_desk.specs.Views.{line_of}
-use Rattle.job_desk.specs.declared.issued.Issued.{Issued}
-use Rattle.job_desk.specs.declared.issued.Note.{Note}
-use Rattle.octo_session.specs.Data.{SessionData}
-use Rattle.octo_session.specs.Found.{got_of, temps_in, temps_kept}
-use Rattle.octo_session.specs.Turn.{IsStill, IsUneventful}
+use Rattle.desk_steps.specs.Issued.{line_of}
+use Rattle.desk_steps.specs.Endings.{IsActive}
+use Rattle.desk_steps.specs.declared.issued.Issued.{Issued}
+use Rattle.desk_steps.specs.declared.link_fact.LinkFact.{LinkFact}
+use Rattle.desk_steps.specs.declared.link_fact.LinkFact.TheVariants as fact
+use Rattle.desk_steps.specs.declared.issued.Note.{Note}
+use Rattle.send_window.specs.Data.{IsSound}
+use Rattle.octo_session.specs.Data.{SessionData, IsSession, doing}
+use Rattle.octo_session.specs.Found.{got_of, temps_in, temps_kept, can_find}
+use Rattle.octo_session.specs.Turn.{IsStill, IsUneventful, fact_of}
 use Rattle.octo_session.specs.declared.found.Found.{Found}
+use Rattle.octo_session.proofs.Noting.{turn_ready, turn_not_fallen, turn_within, turn_none_acked, turn_noted, turn_still, turn_ending}
 use Rattle.octo_session.proofs.session.Session.turn.Goals as goal
 
 none_listed : (issued : List Issued) → map line_of issued ≡ [] → issued ≡ []
@@ -48,3 +53,43 @@ returns-clause-turn g c =
       desk = search rules;
       steps = search rules;
     }
+
+pub returns-clause-ready_is : goal.returns-clause-ready_is
+returns-clause-ready_is g c =
+    let finds : can_find (doing c.args.self.now) (fact_of c.tell.result.note) ≡ true = subst (λ (f : LinkFact). can_find (doing c.args.self.now) f ≡ true) (sym c.tell.ensures.fact) c.act-found.ensures.finds in
+    let sound : IsSound c.args.self.now.sender = subst (λ (x : SessionData). IsSound x.sender) c.self.view_is c.acked-before.ensures.sound in
+    turn_ready c.args.moment _ _ _ _ _ c.args.self.now c.act-found.new.self c.tell.result (returns-clause-turn g c) finds sound
+    (subst (λ (f : LinkFact). (f ≡ fact.Ready) ↔ ((c.args.self.now.sender.ready ≡ false) × (c.act-found.new.self.sender.ready ≡ true))) (sym c.tell.ensures.fact) c.act-found.ensures.ready)
+
+pub returns-clause-not_fallen : goal.returns-clause-not_fallen
+returns-clause-not_fallen g c =
+    let finds : can_find (doing c.args.self.now) (fact_of c.tell.result.note) ≡ true = subst (λ (f : LinkFact). can_find (doing c.args.self.now) f ≡ true) (sym c.tell.ensures.fact) c.act-found.ensures.finds in
+    let sound : IsSound c.args.self.now.sender = subst (λ (x : SessionData). IsSound x.sender) c.self.view_is c.acked-before.ensures.sound in
+    turn_not_fallen c.args.moment _ _ _ _ _ c.args.self.now c.act-found.new.self c.tell.result (returns-clause-turn g c) finds sound
+
+pub returns-clause-within : goal.returns-clause-within
+returns-clause-within g c =
+    let finds : can_find (doing c.args.self.now) (fact_of c.tell.result.note) ≡ true = subst (λ (f : LinkFact). can_find (doing c.args.self.now) f ≡ true) (sym c.tell.ensures.fact) c.act-found.ensures.finds in
+    let sound : IsSound c.args.self.now.sender = subst (λ (x : SessionData). IsSound x.sender) c.self.view_is c.acked-before.ensures.sound in
+    turn_within c.args.moment _ _ _ _ _ c.args.self.now c.act-found.new.self c.tell.result (returns-clause-turn g c) finds sound
+
+pub returns-clause-none_acked : goal.returns-clause-none_acked
+returns-clause-none_acked g c opens =
+    let finds : can_find (doing c.args.self.now) (fact_of c.tell.result.note) ≡ true = subst (λ (f : LinkFact). can_find (doing c.args.self.now) f ≡ true) (sym c.tell.ensures.fact) c.act-found.ensures.finds in
+    let sound : IsSound c.args.self.now.sender = subst (λ (x : SessionData). IsSound x.sender) c.self.view_is c.acked-before.ensures.sound in
+    turn_none_acked c.args.moment _ _ _ _ _ c.args.self.now c.act-found.new.self c.tell.result (returns-clause-turn g c) finds sound opens
+
+pub returns-clause-noted : goal.returns-clause-noted
+returns-clause-noted g c =
+    let finds : can_find (doing c.args.self.now) (fact_of c.tell.result.note) ≡ true = subst (λ (f : LinkFact). can_find (doing c.args.self.now) f ≡ true) (sym c.tell.ensures.fact) c.act-found.ensures.finds in
+    turn_noted c.args.moment _ _ _ _ _ c.args.self.now c.act-found.new.self c.tell.result (returns-clause-turn g c) finds
+
+pub returns-clause-still : goal.returns-clause-still
+returns-clause-still g c none =
+    let finds : can_find (doing c.args.self.now) (fact_of c.tell.result.note) ≡ true = subst (λ (f : LinkFact). can_find (doing c.args.self.now) f ≡ true) (sym c.tell.ensures.fact) c.act-found.ensures.finds in
+    turn_still c.args.moment _ _ _ _ _ c.args.self.now c.act-found.new.self c.tell.result (returns-clause-turn g c) finds (subst IsSession c.self.view_is c.self.invariant) none
+
+pub returns-clause-ends : goal.returns-clause-ends
+returns-clause-ends g c =
+    let finds : can_find (doing c.args.self.now) (fact_of c.tell.result.note) ≡ true = subst (λ (f : LinkFact). can_find (doing c.args.self.now) f ≡ true) (sym c.tell.ensures.fact) c.act-found.ensures.finds in
+    turn_ending c.args.moment _ _ _ _ _ c.args.self.now c.act-found.new.self c.tell.result (returns-clause-turn g c) finds c.act-found.ensures.joined (subst (λ (x : SessionData). IsActive x.desk) c.self.view_is c.is_active.ensures)

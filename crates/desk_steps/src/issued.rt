@@ -1,9 +1,8 @@
 //! Issued lines, and what one turn of the link did.
-ghost use Rattle.std.specs.Prelude.{◌≡◌, ◌≤◌, length};
-
+use crate::link_fact::LinkFact;
+use crate::state::Tag;
 use arrayvec::ArrayVec;
 use byte_text::Text;
-use desk_steps::{LinkFact, Tag};
 use marlin_reply::Temps;
 
 /// A line that was issued, and where it comes from.

@@ -1,0 +1,18 @@
+//! How a session on the line may end.
+
+/// Why a session ended by its own rules. Line numbers are those on the wire, from 2.
+#[derive(Clone, Copy, Debug, PartialEq, Eq)]
+pub enum SessionEnd {
+    /// Nothing was received for this number of time limits in a row.
+    NoAnswer { silent: u8 },
+    /// The printer asked for a line that it had acknowledged.
+    AskedBack { asked: u32, acked: u32 },
+    /// The printer asked for a line after the next one to issue.
+    AskedAhead { asked: u32, issued: u32 },
+    /// An `ok` named another line than the next one to acknowledge.
+    Counts { number: u32, expected: u32 },
+    /// The printer has restarted.
+    Restarted,
+    /// The line numbers of a session are used up.
+    NumbersUsed { issued: u32 },
+}
