@@ -5,9 +5,10 @@ ghost use Rattle.octo_access.specs.Permissions.{permission_name, has_name, all_p
 
 /// What a user may be permitted. Source: OctoPrint's documentation of access control, permissions; which of them there are is this
 /// project's own choice.
-#[derive(Clone, Copy, Debug, PartialEq, Eq)]
+#[derive(Clone, Copy, Debug, PartialEq, Eq, Default)]
 pub enum Permission {
     /// To see the state of the printer, the job and the prints.
+    #[default]
     Status,
     /// To connect and to disconnect.
     Connection,

@@ -1,0 +1,41 @@
+-- The history of a print host, and what a counter and an asker add to it.
+use Rattle.std.specs.Prelude.{◌≡◌, ℕ, Bool, false, ◌==◌, List, [], ◌∷◌, filter, Option, Some, None}
+use Rattle.octo_outside.specs.Told.{Became}
+use Rattle.octo_asks.specs.declared.answer.Answer.{Answer}
+use Rattle.octo_asks.specs.declared.request.Ask.{Ask}
+use Rattle.octo_asks.specs.declared.entry.Entry.{Entry}
+use Rattle.octo_asks.specs.declared.entry.Entry.TheVariants as entry
+use Rattle.octo_asks.specs.declared.counter.Given.{Given}
+use Rattle.octo_asks.specs.declared.counter.Next.{Next}
+use Rattle.octo_asks.specs.declared.counter.Next.TheVariants as next
+
+-- a history, oldest entry first
+abbrev pub History : Type 0
+History = List Entry
+
+-- the entry is a call of this worker
+abbrev pub is_call_of : ℕ → Entry → Bool
+is_call_of worker (entry.Call caller ask moment answer) = caller == worker
+is_call_of worker (entry.Note note) = false
+is_call_of worker entry.Close = false
+
+-- the calls of a worker, in order
+abbrev pub calls_of : ℕ → History → History
+calls_of worker history = filter (is_call_of worker) history
+
+-- the ask that is given out, if there is one
+abbrev pub given_by : Next → Option Given
+given_by next.Nothing = None
+given_by (next.Asked worker ask) = Some (record { worker = worker; ask = ask })
+
+-- this worker's ask is given out and isn't answered
+abbrev pub IsGiven : ℕ → Option Given → Type 0
+IsGiven worker given = (one : Given) × (given ≡ Some one) × (one.worker ≡ worker)
+
+-- the entries are one call, of this ask with this answer
+abbrev pub IsCall : Ask → Answer → List Entry → Type 0
+IsCall ask answer entries = (worker : ℕ) × (moment : ℕ) × (entries ≡ entry.Call worker ask moment answer ∷ [])
+
+-- one finished call more, of this ask with this answer
+abbrev pub Finishes : Ask → Answer → Option History → Option History → Type 0
+Finishes ask answer old new = Became old new (λ _ added. IsCall ask answer added)

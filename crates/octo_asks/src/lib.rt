@@ -1,0 +1,28 @@
+//! What a print host is asked and answers, the history of it, and how asks come in and answers go out.
+#![tactic(auto)]
+
+mod answer;
+mod asked;
+mod asker;
+mod copies;
+mod counter;
+mod entry;
+mod memory_counter;
+mod request;
+mod rights;
+mod shown;
+
+pub use answer::{Answer, StoredCause};
+pub use asker::{Asker, Closed};
+pub use counter::{Counter, Given, Next};
+pub use entry::Entry;
+pub use memory_counter::{AskList, MemoryCounter};
+pub use request::{Ask, BlobList, Request};
+pub use rights::needed;
+pub use shown::{
+    Progress, ShownEntry, ShownEntryList, ShownFile, ShownFileList, ShownHeat, ShownPrint,
+    ShownPrintList, ShownUser, ShownUserList,
+};
+
+#[cfg(test)]
+mod tests;

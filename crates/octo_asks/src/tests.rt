@@ -1,0 +1,254 @@
+//! What requests need, copies of asks, what answers show, and a counter in memory.
+use crate::*;
+use arrayvec::ArrayVec;
+use byte_text::Name;
+use desk_steps::{LinkFact, Note};
+use marlin_reply::Heat;
+use octo_access::{Permission, UserRow};
+use octo_outside::{Blob, ItemList};
+use print_queue::QueueEntry;
+use print_records::{Outcome, PrintRow};
+use std::alloc::Global;
+use std::process::Abort;
+use std::test::Fail;
+
+fn name(text: &str) -> Result<Name, Fail> {
+    Ok(Name::from_text(text).ok_or("a long name")?)
+}
+
+fn names(text: &str) -> Result<ArrayVec<Name, 8>, Fail> {
+    let mut list = ArrayVec::new();
+    list.push(name(text)?);
+    Ok(list)
+}
+
+fn ask(alloc: Global, request: Request) -> Result<Ask, Fail> {
+    Ok(Ask {
+        key: Blob::from_slice(alloc, b"ana-key-0123456789")?,
+        request,
+    })
+}
+
+fn needs(rt: &impl Abort, request: &Request, wanted: &[Permission]) {
+    assert!(rt; needed(request).as_slice() == wanted);
+}
+
+#[test]
+fn reads_need(rt: HostRuntime) -> Result<(), Fail> {
+    needs(&rt, &Request::Version, &[Permission::Status]);
+    needs(&rt, &Request::GetConnection, &[Permission::Status]);
+    needs(&rt, &Request::GetPrinter, &[Permission::Status]);
+    needs(&rt, &Request::GetJob, &[Permission::Status]);
+    needs(&rt, &Request::ListPrints, &[Permission::Status]);
+    needs(&rt, &Request::ListFiles, &[Permission::FilesList]);
+    needs(&rt, &Request::ListUsers, &[Permission::Admin]);
+    needs(&rt, &Request::ListQueue, &[Permission::FilesSelect]);
+    Ok(())
+}
+
+#[test]
+fn files_need(rt: HostRuntime) -> Result<(), Fail> {
+    let file = name("a.gcode")?;
+    needs(
+        &rt,
+        &Request::GetFile { name: file.copy() },
+        &[Permission::FilesList],
+    );
+    needs(
+        &rt,
+        &Request::DeleteFile { name: file.copy() },
+        &[Permission::FilesDelete],
+    );
+    needs(
+        &rt,
+        &Request::Download { name: file.copy() },
+        &[Permission::FilesDownload],
+    );
+    let select = Request::SelectFile {
+        name: file.copy(),
+        print: false,
+    };
+    needs(&rt, &select, &[Permission::FilesSelect]);
+    let print = Request::SelectFile {
+        name: file,
+        print: true,
+    };
+    needs(&rt, &print, &[Permission::FilesSelect, Permission::Print]);
+    Ok(())
+}
+
+#[test]
+fn work_needs(rt: HostRuntime) -> Result<(), Fail> {
+    needs(
+        &rt,
+        &Request::Connect { port: None },
+        &[Permission::Connection],
+    );
+    needs(&rt, &Request::Disconnect, &[Permission::Connection]);
+    needs(
+        &rt,
+        &Request::HeatTool { degrees: 210 },
+        &[Permission::Control],
+    );
+    needs(
+        &rt,
+        &Request::HeatBed { degrees: 60 },
+        &[Permission::Control],
+    );
+    needs(&rt, &Request::Start, &[Permission::Print]);
+    needs(&rt, &Request::Cancel, &[Permission::Print]);
+    needs(&rt, &Request::Restart, &[Permission::Print]);
+    needs(&rt, &Request::Pause, &[Permission::Print]);
+    needs(&rt, &Request::Resume, &[Permission::Print]);
+    needs(&rt, &Request::Toggle, &[Permission::Print]);
+    needs(&rt, &Request::NextEntry, &[Permission::Print]);
+    needs(&rt, &Request::Shutdown, &[Permission::System]);
+    needs(&rt, &Request::Leave, &[]);
+    Ok(())
+}
+
+fn put_file(alloc: Global) -> Result<Request, Fail> {
+    Ok(Request::PutFile {
+        name: name("a.gcode")?,
+        bytes: Blob::from_slice(alloc, b"G28\n")?,
+        select: false,
+        print: true,
+    })
+}
+
+fn lines(alloc: Global) -> Result<Request, Fail> {
+    let mut texts = BlobList::new(alloc);
+    texts.push(Blob::from_slice(alloc, b"G28")?)?;
+    texts.push(Blob::from_slice(alloc, b"M104 S200")?)?;
+    Ok(Request::Lines { texts })
+}
+
+fn change_user(alloc: Global) -> Result<Request, Fail> {
+    Ok(Request::ChangeUser {
+        name: name("ana")?,
+        key: Some(Blob::from_slice(alloc, b"a-new-key-0123456")?),
+        groups: Some(names("users")?),
+        active: Some(false),
+    })
+}
+
+#[test]
+fn ample_copies(rt: HostRuntime) -> Result<(), Fail> {
+    let alloc = rt.alloc();
+    let Request::PutFile { bytes, print, .. } = put_file(alloc)?.copy(alloc)? else {
+        return Err("another request")?;
+    };
+    assert!(rt; bytes.as_slice() == b"G28\n".as_slice() && print);
+    let Request::Lines { texts } = lines(alloc)?.copy(alloc)? else {
+        return Err("another request")?;
+    };
+    assert_eq!(rt; texts.as_slice().len(), 2);
+    let Request::ChangeUser { groups, active, .. } = change_user(alloc)?.copy(alloc)? else {
+        return Err("another request")?;
+    };
+    assert_eq!(rt; groups.map(|groups| groups.len()), Some(1));
+    assert_eq!(rt; active, Some(false));
+    let copy = ask(alloc, Request::Pause)?.copy(alloc)?;
+    assert!(rt; copy.key.as_slice() == b"ana-key-0123456789".as_slice());
+    assert!(rt; matches!(copy.request, Request::Pause));
+    Ok(())
+}
+
+#[test]
+fn heaters(rt: HostRuntime) -> Result<(), Fail> {
+    let shown = ShownHeat::of(&Heat {
+        actual: 21_999_999,
+        target: -1_500_000,
+    });
+    assert_eq!(rt; shown.actual, 21);
+    assert_eq!(rt; shown.target, -1);
+    Ok(())
+}
+
+#[test]
+fn rows(rt: HostRuntime) -> Result<(), Fail> {
+    let user = ShownUser::of(&UserRow {
+        name: name("ana")?,
+        digest: [7; 32],
+        groups: names("users")?,
+        active: true,
+    });
+    assert!(rt; user.name.as_str() == "ana" && user.groups.len() == 1 && user.active);
+    let entry = ShownEntry::of(&QueueEntry {
+        user: name("ana")?,
+        name: name("job-1")?,
+        file: name("a.gcode")?,
+        priority: 5,
+        copies: 2,
+        left: 1,
+        material: name("any")?,
+        arrival: 9,
+    });
+    assert!(rt; entry.name.as_str() == "job-1" && entry.copies == 2 && entry.left == 1);
+    let print = ShownPrint::of(&PrintRow {
+        number: 3,
+        user: name("ana")?,
+        file: name("a.gcode")?,
+        commands: 2,
+        outcome: Outcome::Done,
+    });
+    assert!(rt; print.number == 3 && print.outcome == Outcome::Done);
+    Ok(())
+}
+
+fn two_asks(alloc: Global) -> Result<AskList, Fail> {
+    let mut asks = AskList::new(alloc);
+    asks.push((2, ask(alloc, Request::GetJob)?))?;
+    asks.push((0, ask(alloc, Request::Leave)?))?;
+    Ok(asks)
+}
+
+#[test]
+fn ample(rt: HostRuntime) -> Result<(), Fail> {
+    let alloc = rt.alloc();
+    let mut counter = MemoryCounter::new(alloc, two_asks(alloc)?)?;
+    let Next::Asked { worker, ask } = counter.next() else {
+        return Err("no ask")?;
+    };
+    assert!(rt; worker == 2 && matches!(ask.request, Request::GetJob));
+    counter.answer(worker, 5, Answer::NoFile);
+    let Next::Asked { worker, .. } = counter.next() else {
+        return Err("no second ask")?;
+    };
+    counter.answer(worker, 6, Answer::Accepted);
+    assert!(rt; matches!(counter.next(), Next::Nothing));
+    counter.note(Note {
+        moment: 7,
+        acked: 0,
+        issued: ArrayVec::new(),
+        temps: None,
+        fact: LinkFact::Opened,
+    });
+    counter.close();
+    let entries = counter.entries().ok_or("no history")?;
+    assert_eq!(rt; entries.len(), 4);
+    assert!(rt;
+        matches!(
+            entries[0],
+            Entry::Call {
+                worker: 2,
+                moment: 5,
+                answer: Answer::NoFile,
+                ..
+            }
+        )
+    );
+    assert!(rt;
+        matches!(
+            entries[1],
+            Entry::Call {
+                worker: 0,
+                moment: 6,
+                answer: Answer::Accepted,
+                ..
+            }
+        )
+    );
+    assert!(rt; matches!(entries[3], Entry::Close));
+    Ok(())
+}
