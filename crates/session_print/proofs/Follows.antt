@@ -128,18 +128,15 @@ module _ (kind : LinkKind) (p : PrintData) (port : List ℕ) (first now : Option
   -- what follows of a turn
   pub follows : (f : LinkFact) (ending : Option Ending) → (f ≡ fact.Ready → (x.sender.ready ≡ true) × (x.desk.greatest ≡ 0)) →
       (f ≡ fact.Quiet → (y : Ending) → ending ≡ Some y → (x.desk.state ≡ Operational) × (x.desk.greatest ≡ 1)) →
-      (f ≡ fact.Opened → ending ≡ None) → GoesOn kind p port (end_of f) first now x →
+      GoesOn kind p port (end_of f) first now x →
       GoesOn kind p port (end_of f) first now (record x { desk = desk_after f ending x.desk })
-  follows fact.Quiet ending ready free none l =
+  follows fact.Quiet ending ready free l =
       desk_talks l (left_after ending x.desk) (left_course p ending x.desk l.issued (free refl) l.on.course) (λ unready. greatest_left ending x.desk ∙ l.unstarted unready)
-  follows fact.Opened ending ready free none l =
-      let same : left_after ending x.desk ≡ x.desk = ap (λ (o : Option Ending). left_after o x.desk) (none refl) in
-      let C : Data → Type 0 = λ d. IsUnderway p d l.issued in
-      desk_talks l (left_after ending x.desk) (subst C (sym same) l.on.course) (λ unready. greatest_left ending x.desk ∙ l.unstarted unready)
-  follows fact.Ready ending ready free none l =
+  follows fact.Opened ending ready free l = desk_talks l x.desk l.on.course l.unstarted
+  follows fact.Ready ending ready free l =
       desk_talks l (desk_after fact.Ready ending x.desk) (start_course p x.desk l.issued l.on.cool (ready refl).1 l.on.course)
       (λ unready. (let is : x.sender.ready ≡ true = (ready refl).0 in absurd (cc)))
-  follows fact.Closed ending ready free none over = over_stays end.Done over
-  follows fact.NoPort ending ready free none over = over_stays end.NoPort over
-  follows fact.Failed ending ready free none over = over_stays end.LinkFailed over
-  follows (fact.Ended why) ending ready free none over = over_stays (end.Ended why) over
+  follows fact.Closed ending ready free over = over_stays end.Done over
+  follows fact.NoPort ending ready free over = over_stays end.NoPort over
+  follows fact.Failed ending ready free over = over_stays end.LinkFailed over
+  follows (fact.Ended why) ending ready free over = over_stays (end.Ended why) over

@@ -19,15 +19,17 @@ use Rattle.send_window.specs.Hearing.{hear_step, tick_step}
 use Rattle.send_window.specs.Sending.{frame_step}
 use Rattle.octo_session.specs.Data.{SessionData, IsSession, doing, port_of}
 use Rattle.octo_session.specs.DeskTurn.{IsNoted}
-use Rattle.octo_session.specs.Found.{Got, unasked, lost, nothing, whole as whole_line, is_got, is_said, can_find, up_after}
+use Rattle.octo_session.specs.Found.{Got, unasked, lost, nothing, whole as whole_line, is_got, is_said, can_find, up_after, ready_after}
 use Rattle.octo_session.specs.Steps.{Step, opens as makes_link, finds_no_port, fails_to_dial, hears, listens, fails_to_receive, ticks, issues, gives, fails_to_send, hangs_up, after_step, after_steps, clock_steps, dial_steps, talk_steps, turn_steps}
-use Rattle.octo_session.specs.Turn.{IsTurn, IsDeskTurn, fact_of, texts_in}
+use Rattle.octo_session.specs.Turn.{IsTurn, IsDeskTurn, fact_of, lines_of, texts_in}
 use Rattle.octo_session.specs.declared.found.Doing.{Doing}
 use Rattle.octo_session.specs.declared.found.Doing.TheVariants.{Dialling, HangingUp, Talking, Resting}
 use Rattle.octo_session.specs.declared.found.Turned.{Turned}
 use Rattle.octo_session.proofs.Keeping.{ready_lasts, acked_heard, ticked_keeps, keeps_frame}
 use Rattle.lossy_wires.specs.Pieces.{Each}
-use Rattle.print_course.specs.Plan.{PrintData, print_commands, plan, Weave}
+use Rattle.print_course.specs.Plan.{PrintData, print_commands, plan, Weave, line_texts}
+use Rattle.print_course.specs.Turned.{IsTurnOf}
+use Rattle.print_course.proofs.Turning.{turn-underway}
 use Rattle.print_course.specs.Underway.{IsUnderway}
 use Rattle.print_course.proofs.Results.{underway-part, underway-whole}
 use Rattle.lossy_line.specs.Issuing.{issued_in}
@@ -35,7 +37,7 @@ use Rattle.lossy_line.specs.Linked.{IsOpened, IsLinked, LinkedAs, opened}
 use Rattle.lossy_line.specs.Tied.{EndCausedAs}
 use Rattle.lossy_line.proofs.Speech.{plain_clock}
 use Rattle.lossy_line.proofs.Stepping.{IsPlain}
-use Rattle.octo_session.proofs.Noting.{noted_fact}
+use Rattle.octo_session.proofs.Noting.{noted_fact, noted_lines}
 use Rattle.lossy_line.proofs.Told.{IsKept}
 use Rattle.lossy_line.proofs.Turned.{IsTurned, dials_down, rests_down, opens_dialling}
 use Rattle.session_print.specs.Ends.{IsUnsent, end_of}
@@ -45,9 +47,8 @@ use Rattle.session_print.specs.declared.end.PrintEnd.{PrintEnd}
 use Rattle.session_print.specs.declared.end.PrintEnd.TheVariants as end
 use Rattle.session_print.proofs.Sessions.{none_printed, nothing_added, printed_of, part_none}
 use Rattle.session_print.proofs.Turns.{ports_dialling, turned_all, made_on, made_now, none_made, none_added, made_printed}
-
-use Rattle.session_print.proofs.Course.{LeadsCourse, leads_course, opens_course, dials_connecting, hangs_closable}
-use Rattle.session_print.proofs.Lasting.{Lasts, lasts_turn, sound_steps, ended_turn}
+use Rattle.session_print.proofs.Course.{closed_off}
+use Rattle.session_print.proofs.Lasting.{sound_steps, ended_turn}
 
 -- what a turn promises of a print
 pub record HasTurned (moment : ℕ) (kind : LinkKind) (old_past new_past : Option (List WorldEvent)) (old_calls new_calls : Option ℕ) (old mid : SessionData) (turned : Turned) : Type 0 where
@@ -55,6 +56,8 @@ pub record HasTurned (moment : ℕ) (kind : LinkKind) (old_past new_past : Optio
   pub kept : IsKept moment old mid turned
   pub joined : IsSession mid
   pub greatest : mid.desk.greatest ≡ old.desk.greatest
+  pub ready_is : mid.sender.ready ≡ ready_after (fact_of turned.note) old.sender.ready
+  pub not_fallen : (fact_of turned.note ≡ fact.Opened) ⊎ (old.sender.acked ≤ mid.sender.acked)
   pub no_port : (fact_of turned.note ≡ fact.NoPort) ↔ ((doing old ≡ Dialling) × (kind.listed (port_of old.desk) ≡ false))
   pub caused : (why : SessionEnd) → fact_of turned.note ≡ fact.Ended why → (issued : List (List ℕ)) → LinkedAs kind old_past issued old → EndCausedAs kind new_past why
 
@@ -66,13 +69,6 @@ why_of other _ = other
 and_off : (b : Bool) → (b && false) ≡ false
 and_off true = refl
 and_off false = refl
-
--- only a turn that hangs up closes the link
-hangs_closing : (x : Doing) → can_find x fact.Closed ≡ true → x ≡ HangingUp
-hangs_closing HangingUp can = refl
-hangs_closing Dialling can = absurd (cc)
-hangs_closing Talking can = absurd (cc)
-hangs_closing Resting can = absurd (cc)
 
 -- a turn that doesn't rest notes what it found
 noted_by : (x : Doing) (moment acked : ℕ) (found : LinkFact) (lines : List Line) (d : Data) (ending : Option Ending) (e : Data) →
@@ -106,15 +102,22 @@ module _ (moment : ℕ) (kind : LinkKind) (old_past new_past : Option (List Worl
   noted : (doing old ≡ Resting → ⊥) → IsNoted moment mid.sender.acked h.turn.found h.turn.lines old.desk turned.ending mid.desk
   noted awake = noted_by (doing old) moment mid.sender.acked h.turn.found h.turn.lines old.desk turned.ending mid.desk awake h.turn.desk
 
-  lasts : (h.turn.found ≡ fact.Opened → ⊥) → Lasts old.sender mid.sender
-  lasts other =
-      let L : SenderData → Type 0 = λ s. Lasts old.sender s in
-      subst L (sym h.turn.steps.takes.sender) (lasts_turn moment (doing old) old.up h.turn.got h.turn.found texts h.turn.steps.count old.sender other)
-
   sound : IsSound old.sender → IsSound mid.sender
   sound was =
       let S : SenderData → Type 0 = λ s. IsSound s in
       subst S (sym h.turn.steps.takes.sender) (sound_steps moment (turn_steps (doing old) old.up h.turn.got h.turn.found texts h.turn.steps.count) old.sender h.turn.steps.takes.allowed was)
+
+  -- the course of the turn
+  course : (issued : List (List ℕ)) → IsUnderway p old.desk issued →
+      IsTurnOf p (fact_of turned.note) (lines_of turned.note) issued old.desk turned.ending mid.desk
+  course issued h0 = turn-underway p moment kind old_past new_past old_calls new_calls old mid turned issued h.kept.before h.kept.finds h.not_fallen h.turn h0
+
+  underway : (issued : List (List ℕ)) → IsUnderway p old.desk issued → IsUnderway p mid.desk (issued_in h.turn.found texts issued)
+  underway issued h0 =
+      let F : LinkFact → Type 0 = λ f. IsUnderway p mid.desk (issued_in f (line_texts (lines_of turned.note)) issued) in
+      let L : List Line → Type 0 = λ l. IsUnderway p mid.desk (issued_in h.turn.found (line_texts l) issued) in
+      subst L (noted_lines turned.note moment old.sender.acked mid.sender.acked h.turn.lines h.turn.got h.turn.found h.turn.none h.turn.some)
+      (subst F its_fact (course issued h0).underway)
 
   -- the turn dials, and makes no link
   dial_over : (how : PrintEnd) → IsDialling p port first old_past old → (h.turn.found ≡ fact.Opened → ⊥) → (how ≡ end.Done → ⊥) →
@@ -138,25 +141,17 @@ module _ (moment : ℕ) (kind : LinkKind) (old_past new_past : Option (List Worl
             (λ past added t. none_added moment kind old mid h.turn.got h.turn.found texts past added (none_sent none) t)) ∙ d.nothing;
       }
 
-  awake_dial : IsDialling p port first old_past old → doing old ≡ Resting → ⊥
-  awake_dial d rests = (let no : Dialling ≡ Resting = sym d.dials ∙ rests in absurd (cc))
-
-  -- the course of a turn that makes the link
-  dial_course : IsDialling p port first old_past old → fact_of turned.note ≡ fact.Opened → IsUnderway p mid.desk [] × (turned.ending ≡ None)
-  dial_course d is =
-      let found : h.turn.found ≡ fact.Opened = sym its_fact ∙ is in
-      let N : LinkFact → Type 0 = λ f. IsNoted moment mid.sender.acked f h.turn.lines old.desk turned.ending mid.desk in
-      opens_course p moment mid.sender.acked h.turn.lines old.desk mid.desk turned.ending [] (dials_connecting old d.dials) (no_lines (ap is_said found)) (subst N found (noted (awake_dial d))) d.on.course
-
   -- the turn makes the link
   dial_made : IsDialling p port first old_past old → fact_of turned.note ≡ fact.Opened → IsTalking kind p port first new_past mid
   dial_made d is =
       let found : h.turn.found ≡ fact.Opened = sym its_fact ∙ is in
       let P : List WorldEvent → List WorldEvent → Type 0 = λ past added. IsMade kind [] mid past added in
       let F : Option (List WorldEvent) → Type 0 = λ f. Recorded f new_past P in
+      let I : LinkFact → Type 0 = λ f. IsUnderway p mid.desk (issued_in f texts []) in
+      let opened_course : IsUnderway p mid.desk [] = subst I found (underway [] d.on.course) in
       record {
         issued = [];
-        on = record { course = (dial_course d is).0; cool = d.on.cool; sound = sound d.on.sound };
+        on = record { course = opened_course; cool = d.on.cool; sound = sound d.on.sound };
         up = h.kept.up ∙ ap (λ (f : LinkFact). up_after f old.up) is;
         listed = listed_by (kind.listed port) refl;
         history = subst F d.nothing (recorded_so old_past new_past
@@ -216,15 +211,6 @@ module _ (moment : ℕ) (kind : LinkKind) (old_past new_past : Option (List Worl
       let L : List WorldEvent → Type 0 = λ es. IsLinked kind l.issued old es in
       subst L (sym grew.3) (opened grew.4.opened)
 
-  -- the course of a turn over the link
-  talk_course : (l : IsTalking kind p port first old_past old) → LeadsCourse p h.turn.found texts l.issued turned.ending mid.desk
-  talk_course l =
-      let F : LinkFact → Type 0 = λ f. can_find (doing old) f ≡ true in
-      let more : old.desk.acked ≤ mid.sender.acked = omega (arith, h.kept.before.acked, (lasts (talks l)).acked) in
-      leads_course p moment mid.sender.acked h.turn.lines old.desk mid.desk turned.ending l.issued h.turn.found (talks l)
-      (λ closed. (hangs_closable old (hangs_closing (doing old) (subst F closed can)), no_lines (ap is_said closed))) more
-      (noted (λ rests. up_clash l (rests_down old rests))) l.on.course
-
   -- a turn that ends the session ends its sender so
   talk_ended : (why : SessionEnd) → h.turn.found ≡ fact.Ended why → mid.sender.ended ≡ Some why
   talk_ended why found =
@@ -237,10 +223,11 @@ module _ (moment : ℕ) (kind : LinkKind) (old_past new_past : Option (List Worl
   talk_whole : (l : IsTalking kind p port first old_past old) → h.turn.found ≡ fact.Closed →
       Weave (issued_in h.turn.found texts l.issued) whole × (mid.sender.acked ≡ length (issued_in h.turn.found texts l.issued))
   talk_whole l closed =
-      let leads = talk_course l in
-      let done = underway-whole p mid.desk (issued_in h.turn.found texts l.issued) (leads.off closed) leads.underway in
-      let s : IsSound mid.sender = sound l.on.sound in
-      (
+      let N : LinkFact → Type 0 = λ f. IsNoted moment mid.sender.acked f h.turn.lines old.desk turned.ending mid.desk in
+      let n : IsNoted moment mid.sender.acked fact.Closed h.turn.lines old.desk turned.ending mid.desk = subst N closed (noted (λ rests. up_clash l (rests_down old rests))) in
+      let off : mid.desk.state ≡ Offline = closed_off moment mid.sender.acked h.turn.lines old.desk turned.ending mid.desk (no_lines (ap is_said closed)) n in
+      let done = underway-whole p mid.desk (issued_in h.turn.found texts l.issued) off (underway l.issued l.on.course) in
+      let s : IsSound mid.sender = sound l.on.sound in (
         done.woven,
         omega (arith, done.acknowledged, done.all (omega (arith, h.joined.issued, s.few)), h.joined.issued, h.joined.acked, s.counted),
       )
@@ -252,7 +239,7 @@ module _ (moment : ℕ) (kind : LinkKind) (old_past new_past : Option (List Worl
       record {
         printed = recorded_so first new_past (λ past added. IsMade kind now mid past added)
             (λ past added. HasPrinted kind whole how mid.sender.acked past added) (talk_made l)
-            (λ past added made. printed_of kind whole how now mid.sender.acked past added (underway-part p mid.desk now (talk_course l).underway)
+            (λ past added made. printed_of kind whole how now mid.sender.acked past added (underway-part p mid.desk now (underway l.issued l.on.course))
             (λ done. talk_whole l (closed done)) (made_printed kind now mid past added made));
         ended = λ why is. record { its_end = talk_ended why (sym its_fact ∙ ends why is); caused = h.caused why (ends why is) l.issued (talk_linked l) };
         unsent = λ none. absurd (sent none);
@@ -261,16 +248,23 @@ module _ (moment : ℕ) (kind : LinkKind) (old_past new_past : Option (List Worl
   talk_on : (l : IsTalking kind p port first old_past old) → mid.up ≡ true → IsTalking kind p port first new_past mid
   talk_on l up = record {
     issued = issued_in h.turn.found texts l.issued;
-    on = record { course = (talk_course l).underway; cool = l.on.cool; sound = sound l.on.sound };
+    on = record { course = (underway l.issued l.on.course); cool = l.on.cool; sound = sound l.on.sound };
     up = up;
     listed = l.listed;
     history = talk_made l;
-    unstarted = λ unready. h.greatest ∙ l.unstarted (was_unready old.sender.ready refl unready);
+    unstarted = λ unready. h.greatest ∙ l.unstarted (was_unready (fact_of turned.note) refl (sym h.ready_is ∙ unready));
   }
     where
-      was_unready : (r : Bool) → old.sender.ready ≡ r → mid.sender.ready ≡ false → old.sender.ready ≡ false
-      was_unready false e unready = e
-      was_unready true e unready = (let ready : mid.sender.ready ≡ true = (lasts (talks l)).ready e in absurd (cc))
+      was_unready : (f : LinkFact) → fact_of turned.note ≡ f → ready_after (fact_of turned.note) old.sender.ready ≡ false → old.sender.ready ≡ false
+      was_unready fact.Opened is unready = absurd (talks l (sym its_fact ∙ is))
+      was_unready fact.Ready is unready =
+          let no : true ≡ false = sym (ap (λ (f : LinkFact). ready_after f old.sender.ready) is) ∙ unready in
+          absurd (cc)
+      was_unready fact.Quiet is unready = sym (ap (λ (f : LinkFact). ready_after f old.sender.ready) is) ∙ unready
+      was_unready fact.Closed is unready = sym (ap (λ (f : LinkFact). ready_after f old.sender.ready) is) ∙ unready
+      was_unready fact.NoPort is unready = sym (ap (λ (f : LinkFact). ready_after f old.sender.ready) is) ∙ unready
+      was_unready fact.Failed is unready = sym (ap (λ (f : LinkFact). ready_after f old.sender.ready) is) ∙ unready
+      was_unready (fact.Ended why) is unready = sym (ap (λ (f : LinkFact). ready_after f old.sender.ready) is) ∙ unready
 
   talk_goes : IsTalking kind p port first old_past old → (f : LinkFact) → fact_of turned.note ≡ f → GoesOn kind p port (end_of f) first new_past mid
   unfolding why_of
@@ -291,8 +285,4 @@ module _ (moment : ℕ) (kind : LinkKind) (old_past new_past : Option (List Worl
   pub turn_free : IsBetweenTurns kind p port first old_past old → fact_of turned.note ≡ fact.Quiet → (x : Ending) → turned.ending ≡ Some x →
       (mid.desk.state ≡ Operational) × (mid.desk.greatest ≡ 1)
   turn_free (inl d) is x ends = absurd (can_not d fact.Quiet is refl)
-  turn_free (inr l) is x ends = (talk_course l).free (sym its_fact ∙ is) x ends
-
-  pub turn_begins : IsBetweenTurns kind p port first old_past old → fact_of turned.note ≡ fact.Opened → turned.ending ≡ None
-  turn_begins (inl d) is = (dial_course d is).1
-  turn_begins (inr l) is = absurd (talks l (sym its_fact ∙ is))
+  turn_free (inr l) is x ends = (course l.issued l.on.course).leaves x is ends

@@ -69,7 +69,7 @@ left_after (Some ending) d = disconnect_at d.state d
 -- the desk after what follows of a turn that found this: the print starts as soon as the printer is ready
 abbrev pub desk_after : LinkFact → Option Ending → Data → Data
 desk_after fact.Quiet ending d = left_after ending d
-desk_after fact.Opened ending d = left_after ending d
+desk_after fact.Opened ending d = d
 desk_after fact.Ready ending d = (start_at d.state 1 d).1
 desk_after fact.Closed ending d = d
 desk_after fact.NoPort ending d = d

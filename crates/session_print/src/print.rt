@@ -195,7 +195,8 @@ fn go_on(session: &mut Session, found: LinkFact, ending: Option<Ending>) -> Opti
     ensures after { session.new ≡ record session.old { desk = desk_after found ending session.old.desk } }
 {
     match found {
-        LinkFact::Quiet | LinkFact::Opened => {
+        LinkFact::Opened => None,
+        LinkFact::Quiet => {
             leave(session, ending);
             None
         }

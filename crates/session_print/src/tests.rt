@@ -1,4 +1,8 @@
 //! Whole prints over a link in memory.
+ghost use Rattle.std.specs.Prelude.{◌≡◌, ◌≤◌, false, IfOk};
+ghost use Rattle.printer_link.specs.Memory.{link_world};
+ghost use Rattle.session_print.specs.Ends.{IsNew};
+
 use super::*;
 use byte_text::Name;
 use desk_steps::{Limits, Point};
@@ -8,26 +12,9 @@ use octo_outside::{CallList, MemoryClock, NameList};
 use octo_session::{Session, SessionEnd};
 use printer_link::{Fate, FateList, MemoryLink, Schedule};
 use send_window::Sender;
-use std::alloc::Global;
+use std::alloc::{AllocError, Global};
 use std::process::Abort;
 use std::test::Fail;
-
-/// A print over a link that does as scheduled, with what each rest of the clock adds, and what comes of it: the end, how
-/// many lines were sent, and the texts that were executed.
-struct Case {
-    file: &'static str,
-    fates: &'static [Fate],
-    fail_at: Option<u64>,
-    restart_at: Option<u64>,
-    places: u8,
-    advanced: bool,
-    slow: u32,
-    rest: u64,
-    turns: u64,
-    end: PrintEnd,
-    sends: u64,
-    executed: &'static [&'static str],
-}
 
 const W: Fate = Fate::Whole;
 
@@ -35,127 +22,12 @@ const L: Fate = Fate::Lost;
 
 const G: Fate = Fate::Garbled;
 
-/// The first command alone, printed over a line without faults.
-const PLAIN: Case = Case {
-    file: "G28\n",
-    fates: &[],
-    fail_at: None,
-    restart_at: None,
-    places: 4,
-    advanced: false,
-    slow: 0,
-    rest: 1,
-    turns: 1_000_000,
-    end: PrintEnd::Done,
-    sends: 2,
-    executed: &["G28"],
-};
-
-const TWO: Case = Case {
-    file: "G28\nG1 X10\n",
-    sends: 3,
-    executed: &["G28", "G1 X10"],
-    ..PLAIN
-};
-
-const SIX: Case = Case {
-    file: "G28\nG1 X1\nG1 X2\nG1 X3\nG1 X4\nG1 X5\n",
-    fates: &[W, W, G, L, W, W, G],
-    slow: 2,
-    sends: 13,
-    executed: &["G28", "G1 X1", "G1 X2", "G1 X3", "G1 X4", "G1 X5"],
-    ..PLAIN
-};
-
-const LOSSES: [Case; 4] = [
-    Case {
-        file: "G28\nG1 X10\nG1 X20\nG1 X30\n",
-        fates: &[W, W, L, W],
-        sends: 8,
-        executed: &["G28", "G1 X10", "G1 X20", "G1 X30"],
-        ..PLAIN
-    },
-    Case {
-        fates: &[W, G],
-        sends: 3,
-        ..PLAIN
-    },
-    Case {
-        fates: &[L],
-        rest: 1_000,
-        turns: 160,
-        end: PrintEnd::Ended(SessionEnd::NoAnswer { silent: 5 }),
-        sends: 1,
-        executed: &[],
-        ..PLAIN
-    },
-    Case {
-        fates: &[G],
-        sends: 3,
-        ..PLAIN
-    },
-];
-
-const OTHERS: [Case; 5] = [
-    TWO,
-    Case {
-        file: "",
-        sends: 1,
-        executed: &[],
-        ..PLAIN
-    },
-    SIX,
-    Case {
-        file: "G28\nG1 X1\nG1 X2\n",
-        places: 1,
-        slow: 1,
-        sends: 4,
-        executed: &["G28", "G1 X1", "G1 X2"],
-        ..PLAIN
-    },
-    Case {
-        file: "G1 X1\nG1 X1\nG1 X1\nG1 X1\nG1 X1\n",
-        fates: &[W, L, G, L, W],
-        advanced: true,
-        sends: 10,
-        executed: &["G1 X1", "G1 X1", "G1 X1", "G1 X1", "G1 X1"],
-        ..PLAIN
-    },
-];
-
-const CUT_SHORT: [Case; 3] = [
-    Case { turns: 7, ..TWO },
-    Case {
-        turns: 6,
-        end: PrintEnd::TurnsUsed { turns: 6 },
-        ..TWO
-    },
-    Case {
-        turns: 0,
-        end: PrintEnd::TurnsUsed { turns: 0 },
-        sends: 0,
-        executed: &[],
-        ..TWO
-    },
-];
-
-const BROKEN: [Case; 2] = [
-    Case {
-        file: "G28\nG1 X1\nG1 X2\n",
-        fail_at: Some(6),
-        end: PrintEnd::LinkFailed,
-        sends: 1,
-        executed: &[],
-        ..PLAIN
-    },
-    Case {
-        restart_at: Some(5),
-        end: PrintEnd::Ended(SessionEnd::Restarted),
-        sends: 3,
-        executed: &["G28"],
-        ..TWO
-    },
-];
+/// How a print ended, and the link as it left it.
+#[derive(Drop)]
+struct Printed {
+    end: PrintEnd,
+    link: MemoryLink,
+}
 
 fn name(rt: &impl Abort, text: &str) -> Name {
     match Name::from_text(text) {
@@ -164,38 +36,42 @@ fn name(rt: &impl Abort, text: &str) -> Name {
     }
 }
 
-fn calls(alloc: Global, call: Option<u64>) -> Result<CallList, Fail> {
-    let mut calls = CallList::new(alloc);
-    if let Some(call) = call {
-        calls.push(call)?;
+fn fate_list(alloc: Global, fates: &[Fate]) -> Result<FateList, AllocError> {
+    let mut list = FateList::new(alloc);
+    for fate in fates {
+        list.push(*fate)?;
     }
+    Ok(list)
+}
+
+fn call(alloc: Global, number: u64) -> Result<CallList, AllocError> {
+    let mut calls = CallList::new(alloc);
+    calls.push(number)?;
     Ok(calls)
 }
 
-fn link_of(rt: &impl Abort, alloc: Global, case: &Case) -> Result<MemoryLink, Fail> {
+/// A link to port p of a printer with four slots, whose last line had the number 4.
+fn schedule(rt: &impl Abort, alloc: Global, fates: &[Fate]) -> Result<Schedule, AllocError>
+    ensures { IfOk result (λ schedule. schedule.places ≡ 4) }
+{
     let mut names = NameList::new(alloc);
     names.push(name(rt, "p"))?;
-    let mut fates = FateList::new(alloc);
-    for fate in case.fates {
-        fates.push(*fate)?;
-    }
-    let link = MemoryLink::new(
-        alloc,
-        Schedule {
-            names,
-            last: 4,
-            places: case.places,
-            advanced: case.advanced,
-            fates,
-            slow: case.slow,
-            fail_at: calls(alloc, case.fail_at)?,
-            restart_at: calls(alloc, case.restart_at)?,
-        },
-    )?;
-    Ok(link)
+    let fates = fate_list(alloc, fates)?;
+    Ok(Schedule {
+        names,
+        last: 4,
+        places: 4,
+        advanced: false,
+        fates,
+        slow: 0,
+        fail_at: CallList::new(alloc),
+        restart_at: CallList::new(alloc),
+    })
 }
 
-fn session_with(alloc: Global, scripts: Scripts) -> Result<Session, Fail> {
+fn new_session(alloc: Global, scripts: Scripts) -> Result<Session, AllocError>
+    ensures { IfOk result (λ session. IsNew session) }
+{
     let limits = Limits {
         tool: 250,
         bed: 100,
@@ -205,148 +81,234 @@ fn session_with(alloc: Global, scripts: Scripts) -> Result<Session, Fail> {
     Ok(Session::new(desk, sender))
 }
 
-fn print_at(
+/// Prints a file over port p; each rest of the clock adds so many milliseconds.
+fn print(
     rt: &impl Abort,
     alloc: Global,
-    session: &mut Session,
-    link: &mut MemoryLink,
-    port: &str,
+    schedule: Schedule,
     file: &str,
     rest: u64,
     turns: u64,
-) -> Result<PrintEnd, Fail> {
-    let job = read_commands(alloc, file.as_bytes())?;
+) -> Result<Printed, Fail>
+    requires some { 1 ≤ schedule.places }
+    requires few { schedule.places ≤ 16 }
+{
+    let mut link = MemoryLink::new(alloc, schedule)?;
+    let mut session = new_session(alloc, Scripts::new(alloc))?;
     let mut clock = MemoryClock::new(0, rest);
-    Ok(run_print(
-        session,
-        link,
+    let job = read_commands(alloc, file.as_bytes())?;
+    let end = run_print(
+        &mut session,
+        &mut link,
         &mut clock,
-        &name(rt, port),
+        &name(rt, "p"),
         &name(rt, "a.gcode"),
         job,
         turns,
-    ))
+    );
+    Ok(Printed { end, link })
 }
 
-fn check_ran(rt: &impl Abort, link: &MemoryLink, texts: &[&str]) -> Result<(), Fail> {
-    let ran = link.executed(1)?;
-    assert_eq!(rt; ran.as_slice().len(), texts.len());
-    for (line, text) in ran.as_slice().iter().zip(texts) {
-        assert_eq!(rt; line.text.as_slice(), text.as_bytes());
+fn check(rt: &impl Abort, printed: &Printed, end: PrintEnd, sends: u64, ran: u64) {
+    assert_eq!(rt; printed.end, end);
+    assert_eq!(rt; printed.link.sends(), sends);
+    assert!(rt; !printed.link.is_up());
+    match printed.link.executed(1) {
+        Ok(lines) => assert_eq!(rt; lines.as_slice().len() as u64, ran),
+        Err(_) => panic!(rt; "no memory"),
     }
+}
+
+fn check_text(rt: &impl Abort, link: &MemoryLink, at: usize, text: &str) {
+    match link.executed(1) {
+        Ok(lines) => match lines.as_slice().get(at) {
+            Some(line) => assert_eq!(rt; line.text.as_slice(), text.as_bytes()),
+            None => panic!(rt; "a line that was not executed"),
+        },
+        Err(_) => panic!(rt; "no memory"),
+    }
+}
+
+/// A line without faults; seven turns are enough.
+#[test]
+fn whole(rt: HostRuntime) -> Result<(), Fail> {
+    let schedule = schedule(&rt, rt.alloc(), &[])?;
+    let printed = print(&rt, rt.alloc(), schedule, "G28\nG1 X10\n", 1, 7)?;
+    check(&rt, &printed, PrintEnd::Done, 3, 2);
+    check_text(&rt, &printed.link, 0, "G28");
+    check_text(&rt, &printed.link, 1, "G1 X10");
     Ok(())
 }
 
-fn check(rt: &impl Abort, alloc: Global, case: &Case) -> Result<(), Fail> {
-    let mut link = link_of(rt, alloc, case)?;
-    let mut session = session_with(alloc, Scripts::new(alloc))?;
-    let end = print_at(
-        rt,
-        alloc,
-        &mut session,
-        &mut link,
-        "p",
-        case.file,
-        case.rest,
-        case.turns,
-    )?;
-    assert_eq!(rt; end, case.end);
-    assert!(rt; !link.is_up());
-    assert_eq!(rt; link.sends(), case.sends);
-    check_ran(rt, &link, case.executed)
-}
-
-fn check_all(rt: &impl Abort, alloc: Global, cases: &[Case]) -> Result<(), Fail> {
-    for case in cases {
-        check(rt, alloc, case)?;
-    }
+/// Six turns are one too few, though all was executed.
+#[test]
+fn turns_used(rt: HostRuntime) -> Result<(), Fail> {
+    let schedule = schedule(&rt, rt.alloc(), &[])?;
+    let printed = print(&rt, rt.alloc(), schedule, "G28\nG1 X10\n", 1, 6)?;
+    check(&rt, &printed, PrintEnd::TurnsUsed { turns: 6 }, 3, 2);
     Ok(())
 }
 
+/// An empty file is printed too.
 #[test]
-fn losses(rt: HostRuntime) -> Result<(), Fail> {
-    check_all(&rt, rt.alloc(), &LOSSES)
+fn empty(rt: HostRuntime) -> Result<(), Fail> {
+    let schedule = schedule(&rt, rt.alloc(), &[])?;
+    let printed = print(&rt, rt.alloc(), schedule, "", 1, 1_000)?;
+    check(&rt, &printed, PrintEnd::Done, 1, 0);
+    Ok(())
 }
 
+/// The third line is lost: the last three are sent again, in a window of four lines.
 #[test]
-fn others(rt: HostRuntime) -> Result<(), Fail> {
-    check_all(&rt, rt.alloc(), &OTHERS)
+fn lost(rt: HostRuntime) -> Result<(), Fail> {
+    let schedule = schedule(&rt, rt.alloc(), &[W, W, L, W])?;
+    let file = "G28\nG1 X10\nG1 X20\nG1 X30\n";
+    let printed = print(&rt, rt.alloc(), schedule, file, 1, 1_000)?;
+    check(&rt, &printed, PrintEnd::Done, 8, 4);
+    check_text(&rt, &printed.link, 3, "G1 X30");
+    Ok(())
 }
 
+/// A corrupted line is sent again.
 #[test]
-fn cut_short(rt: HostRuntime) -> Result<(), Fail> {
-    check_all(&rt, rt.alloc(), &CUT_SHORT)
+fn corrupted(rt: HostRuntime) -> Result<(), Fail> {
+    let schedule = schedule(&rt, rt.alloc(), &[W, G])?;
+    let printed = print(&rt, rt.alloc(), schedule, "G28\n", 1, 1_000)?;
+    check(&rt, &printed, PrintEnd::Done, 3, 1);
+    Ok(())
 }
 
+/// A corrupted hello is sent again.
 #[test]
-fn broken(rt: HostRuntime) -> Result<(), Fail> {
-    check_all(&rt, rt.alloc(), &BROKEN)
+fn hello_corrupted(rt: HostRuntime) -> Result<(), Fail> {
+    let schedule = schedule(&rt, rt.alloc(), &[G])?;
+    let printed = print(&rt, rt.alloc(), schedule, "G28\n", 1, 1_000)?;
+    check(&rt, &printed, PrintEnd::Done, 3, 1);
+    Ok(())
 }
 
-fn add(rt: &impl Abort, scripts: &mut Scripts, point: Point, text: &str) {
+/// A lost hello isn't sent again: nobody answers for five limits of 30 seconds.
+#[test]
+fn hello_lost(rt: HostRuntime) -> Result<(), Fail> {
+    let schedule = schedule(&rt, rt.alloc(), &[L])?;
+    let printed = print(&rt, rt.alloc(), schedule, "G28\n", 1_000, 1_000)?;
+    let end = PrintEnd::Ended(SessionEnd::NoAnswer { silent: 5 });
+    check(&rt, &printed, end, 1, 0);
+    Ok(())
+}
+
+/// Losses and corrupted lines at a printer that runs a line at each third receiving.
+#[test]
+fn slow_printer(rt: HostRuntime) -> Result<(), Fail> {
+    let fates = [W, W, G, L, W, W, G];
+    let schedule = Schedule {
+        slow: 2,
+        ..schedule(&rt, rt.alloc(), &fates)?
+    };
+    let file = "G28\nG1 X1\nG1 X2\nG1 X3\nG1 X4\nG1 X5\n";
+    let printed = print(&rt, rt.alloc(), schedule, file, 1, 1_000)?;
+    check(&rt, &printed, PrintEnd::Done, 13, 6);
+    Ok(())
+}
+
+/// Equal lines, numbered acknowledgements.
+#[test]
+fn numbered(rt: HostRuntime) -> Result<(), Fail> {
+    let schedule = Schedule {
+        advanced: true,
+        ..schedule(&rt, rt.alloc(), &[W, L, G, L, W])?
+    };
+    let file = "G1 X1\nG1 X1\nG1 X1\nG1 X1\nG1 X1\n";
+    let printed = print(&rt, rt.alloc(), schedule, file, 1, 1_000)?;
+    check(&rt, &printed, PrintEnd::Done, 10, 5);
+    Ok(())
+}
+
+/// The sixth call of the link fails, which is that of the first line.
+#[test]
+fn failing(rt: HostRuntime) -> Result<(), Fail> {
+    let schedule = Schedule {
+        fail_at: call(rt.alloc(), 6)?,
+        ..schedule(&rt, rt.alloc(), &[])?
+    };
+    let printed = print(&rt, rt.alloc(), schedule, "G28\n", 1, 1_000)?;
+    check(&rt, &printed, PrintEnd::LinkFailed, 1, 0);
+    Ok(())
+}
+
+/// The printer restarts behind its first line.
+#[test]
+fn restarted(rt: HostRuntime) -> Result<(), Fail> {
+    let schedule = Schedule {
+        restart_at: call(rt.alloc(), 5)?,
+        ..schedule(&rt, rt.alloc(), &[])?
+    };
+    let printed = print(&rt, rt.alloc(), schedule, "G28\nG1 X10\n", 1, 1_000)?;
+    let end = PrintEnd::Ended(SessionEnd::Restarted);
+    check(&rt, &printed, end, 3, 1);
+    Ok(())
+}
+
+/// The third line is too hot: nothing is sent.
+#[test]
+fn too_hot(rt: HostRuntime) -> Result<(), Fail> {
+    let schedule = schedule(&rt, rt.alloc(), &[])?;
+    let file = "G28\nM104 S200\nM109 R260\n";
+    let printed = print(&rt, rt.alloc(), schedule, file, 1, 1_000)?;
+    let end = PrintEnd::TooHot {
+        line: 3,
+        asked: 260,
+        limit: 250,
+    };
+    check(&rt, &printed, end, 0, 0);
+    Ok(())
+}
+
+/// The port isn't listed.
+#[test]
+fn no_port(rt: HostRuntime) -> Result<(), Fail> {
+    let schedule = Schedule {
+        names: NameList::new(rt.alloc()),
+        ..schedule(&rt, rt.alloc(), &[])?
+    };
+    let printed = print(&rt, rt.alloc(), schedule, "G28\n", 1, 1_000)?;
+    check(&rt, &printed, PrintEnd::NoPort, 0, 0);
+    Ok(())
+}
+
+fn script(rt: &impl Abort, scripts: &mut Scripts, point: Point, text: &str) {
     match one_command(text.as_bytes()) {
         Ok(text) => assert!(rt; scripts.add(point, &text).is_ok()),
         Err(_) => panic!(rt; "no command"),
     }
 }
 
-/// Each script of a print stands at its place.
+/// Each script of a print has its place.
 #[test]
 fn scripts(rt: HostRuntime) -> Result<(), Fail> {
     let mut scripts = Scripts::new(rt.alloc());
-    for (point, text) in [
-        (Point::Connected, "M155 S0"),
-        (Point::Started, "M107"),
-        (Point::Done, "M84"),
-        (Point::Disconnect, "M140 S0"),
-    ] {
-        add(&rt, &mut scripts, point, text);
-    }
-    let mut link = link_of(&rt, rt.alloc(), &PLAIN)?;
-    let mut session = session_with(rt.alloc(), scripts)?;
-    let end = print_at(
-        &rt,
-        rt.alloc(),
+    script(&rt, &mut scripts, Point::Connected, "M155 S0");
+    script(&rt, &mut scripts, Point::Started, "M107");
+    script(&rt, &mut scripts, Point::Done, "M84");
+    script(&rt, &mut scripts, Point::Disconnect, "M140 S0");
+    let mut session = new_session(rt.alloc(), scripts)?;
+    let mut link = MemoryLink::new(rt.alloc(), schedule(&rt, rt.alloc(), &[])?)?;
+    let mut clock = MemoryClock::new(0, 1);
+    let job = read_commands(rt.alloc(), b"G28\n")?;
+    let end = run_print(
         &mut session,
         &mut link,
-        "p",
-        "G28\n",
-        1,
+        &mut clock,
+        &name(&rt, "p"),
+        &name(&rt, "a.gcode"),
+        job,
         1_000,
-    )?;
+    );
     assert_eq!(&rt; end, PrintEnd::Done);
-    check_ran(&rt, &link, &["M155 S0", "M107", "G28", "M84", "M140 S0"])
-}
-
-/// A hot command, a port that isn't listed, and a print whose calls take no memory.
-#[test]
-fn ample(rt: HostRuntime) -> Result<(), Fail> {
-    for (port, file, end) in [
-        (
-            "p",
-            "G28\nM104 S200\nM109 R260\n",
-            PrintEnd::TooHot {
-                line: 3,
-                asked: 260,
-                limit: 250,
-            },
-        ),
-        ("q", "G28\n", PrintEnd::NoPort),
-        ("p", "G28\n", PrintEnd::Done),
-    ] {
-        let mut link = link_of(&rt, rt.alloc(), &PLAIN)?;
-        let mut session = session_with(rt.alloc(), Scripts::new(rt.alloc()))?;
-        let ended = print_at(
-            &rt,
-            rt.alloc(),
-            &mut session,
-            &mut link,
-            port,
-            file,
-            1,
-            1_000,
-        )?;
-        assert_eq!(&rt; ended, end);
-    }
+    check_text(&rt, &link, 0, "M155 S0");
+    check_text(&rt, &link, 1, "M107");
+    check_text(&rt, &link, 2, "G28");
+    check_text(&rt, &link, 3, "M84");
+    check_text(&rt, &link, 4, "M140 S0");
     Ok(())
 }

@@ -15,7 +15,7 @@ use Rattle.session_print.proofs.Waits.{turn_patient, turn_unanswered}
 use Rattle.session_print.specs.Ends.{end_of, desk_after}
 use Rattle.session_print.specs.BetweenTurns.{GoesOn}
 use Rattle.session_print.specs.declared.end.PrintEnd.{PrintEnd}
-use Rattle.session_print.proofs.Steps.{HasTurned, turn_goes, turn_free, turn_begins}
+use Rattle.session_print.proofs.Steps.{HasTurned, turn_goes, turn_free}
 use Rattle.session_print.proofs.Follows.{follows, fact_by, calls_of}
 use Rattle.session_print.proofs.print.make_turn.Goals as goal
 
@@ -33,6 +33,8 @@ returns-clause-goes g c p port first way =
       kept = record { before = e.before; finds = e.finds; up = e.up; sent = e.sent; spent = e.spent };
       joined = e.joined;
       greatest = e.greatest;
+      ready_is = e.ready_is;
+      not_fallen = e.not_fallen;
       no_port = e.no_port;
       caused = λ why is issued linked. (let K : LinkKind → Type 0 = λ k. EndCausedAs k now why in subst K e.kind (e.caused why is issued linked));
     }
@@ -40,8 +42,7 @@ returns-clause-goes g c p port first way =
     let went = turn_goes c.args.moment kind _ _ _ _ old mid turned h p port first way in
     let on = follows kind p port first now mid (fact_of turned.note) turned.ending
     (λ is. ((e.ready.0 is).1, e.greatest ∙ c.requires.unstarted (e.ready.0 is).0))
-    (turn_free c.args.moment kind _ _ _ _ old mid turned h p port first way)
-    (turn_begins c.args.moment kind _ _ _ _ old mid turned h p port first way) went
+    (turn_free c.args.moment kind _ _ _ _ old mid turned h p port first way) went
     in
     let F : LinkFact → Type 0 = λ f. GoesOn kind p port (end_of f) first now (record mid { desk = desk_after f turned.ending mid.desk }) in
     let R : Option PrintEnd → Type 0 = λ r. GoesOn kind p port r first now (record mid { desk = desk_after c.fact_of_turn.result turned.ending mid.desk }) in
