@@ -32,16 +32,19 @@ new_underway scripts limits poll_ms port file = record {
   acknowledged = λ off. omega arith;
 }
 
-pub select-underway : (d : Data) (port : List ℕ) (file : File) → d ≡ new_desk d.scripts d.limits d.poll_ms → IsUnderway (record { scripts = d.scripts; limits = d.limits; file = file }) (after_select port file d) []
+pub select-underway : (d : Data) (port : List ℕ) (file : File) → d ≡ new_desk d.scripts d.limits d.poll_ms
+    → IsUnderway (record { scripts = d.scripts; limits = d.limits; file = file }) (after_select port file d) []
 select-underway d port file e =
-    subst (λ (x : Data). IsUnderway (record { scripts = x.scripts; limits = x.limits; file = file }) (after_select port file x) []) (sym e) (new_underway d.scripts d.limits d.poll_ms port file)
+    subst (λ (x : Data). IsUnderway (record { scripts = x.scripts; limits = x.limits; file = file }) (after_select port file x) []) (sym e)
+    (new_underway d.scripts d.limits d.poll_ms port file)
 
 none_printed : (p : PrintData) → printed_lines p 0 ≡ started_lines p
 none_printed p = append-nil (started_lines p)
 
 last_texts : (texts : List (List ℕ)) → All IsLast (tagged (Script point.Disconnect 0) texts)
 last_texts [] = λ k d below. (let none : ⊥ = omega (arith, below) in absurd none)
-last_texts (text ∷ texts) = All-cons IsLast (record { text = text; tag = Script point.Disconnect 0 }) (tagged (Script point.Disconnect 0) texts) refl (last_texts texts)
+last_texts (text ∷ texts) = All-cons IsLast (record { text = text; tag = Script point.Disconnect 0 }) (tagged (Script point.Disconnect 0) texts) refl
+    (last_texts texts)
 
 last_script : (p : PrintData) → All IsLast (script_lines p.scripts point.Disconnect 0)
 last_script p = last_texts p.scripts.disconnect
@@ -53,7 +56,8 @@ module _ (p : PrintData) where
       let on = connected_of p (standing d) h.lines h.phase at new in
       let script : script_lines d.scripts point.Started 1 ≡ script_lines p.scripts point.Started 1 = ap (λ s. script_lines s point.Started 1) h.scripts_are in
       let before : h.sent ++ (d.waiting ++ script_lines d.scripts point.Started 1) ≡ started_lines p =
-      sym (append_assoc h.sent d.waiting (script_lines d.scripts point.Started 1)) ∙ ap (λ (l : List Line). l ++ script_lines d.scripts point.Started 1) (h.parted ∙ on.are) ∙ ap (λ (l : List Line). connected_lines p ++ l) script in
+      sym (append_assoc h.sent d.waiting (script_lines d.scripts point.Started 1))
+      ∙ ap (λ (l : List Line). l ++ script_lines d.scripts point.Started 1) (h.parted ∙ on.are) ∙ ap (λ (l : List Line). connected_lines p ++ l) script in
       record {
         scripts_are = h.scripts_are;
         limits_are = h.limits_are;
@@ -69,7 +73,8 @@ module _ (p : PrintData) where
       }
 
   -- no command of the file is too hot, so it starts
-  pub start-underway : (d : Data) (issued : List (List ℕ)) → d.state ≡ Operational → d.greatest ≡ 0 → first_hot_of p.limits p.file.job.commands ≡ None → IsUnderway p d issued
+  pub start-underway : (d : Data) (issued : List (List ℕ)) → d.state ≡ Operational → d.greatest ≡ 0
+      → first_hot_of p.limits p.file.job.commands ≡ None → IsUnderway p d issued
       → (start_at d.state 1 d ≡ (Ok tt, printing 1 d)) × IsUnderway p (printing 1 d) issued
   start-underway d issued at new cool h =
       let by_state : start_at d.state 1 d ≡ start_file d.file 1 d = ap (λ s. start_at s 1 d) at in
@@ -79,7 +84,8 @@ module _ (p : PrintData) where
       (by_state ∙ by_file ∙ by_limits, begins d issued at new h)
 
   -- the print is over, and its connection ends
-  pub disconnect-underway : (d : Data) (issued : List (List ℕ)) → d.state ≡ Operational → d.greatest ≡ 1 → IsUnderway p d issued → IsUnderway p (disconnect_at d.state d) issued
+  pub disconnect-underway : (d : Data) (issued : List (List ℕ)) → d.state ≡ Operational → d.greatest ≡ 1 → IsUnderway p d issued
+      → IsUnderway p (disconnect_at d.state d) issued
   disconnect-underway d issued at over h =
       let on = ended_of p (standing d) h.lines h.phase at over in
       let script : d.waiting ++ script_lines d.scripts point.Disconnect 0 ≡ script_lines p.scripts point.Disconnect 0 =
@@ -91,7 +97,8 @@ module _ (p : PrintData) where
         file_is = h.file_is;
         no_manual = refl;
         lines = plan_lines p;
-        phase = phase.closing (record { its_state = refl; ready_is = on.opened.ready_is }) (record { print_is = on.free.print_is; active_is = on.free.active_is }) (subst (λ (w : List Line). All IsLast w) (sym script) (last_script p));
+        phase = phase.closing (record { its_state = refl; ready_is = on.opened.ready_is })
+            (record { print_is = on.free.print_is; active_is = on.free.active_is }) (subst (λ (w : List Line). All IsLast w) (sym script) (last_script p));
         sent = h.sent;
         parted = ap (λ (w : List Line). h.sent ++ w) script ∙ ap (λ (l : List Line). l ++ script_lines p.scripts point.Disconnect 0) all;
         woven = h.woven;

@@ -30,7 +30,8 @@ module _ (p : PrintData) where
   NotedSo issued noted = IsUnderway p noted.1 issued × EndsAs p noted.0 noted.1.state issued
 
   -- the print is done
-  finishes : (b : Bool) (d : Data) (issued : List (List ℕ)) → is_over d ≡ b → d.state ≡ Finishing → IsUnderway p d issued → NotedSo issued (cond b (finish outcome.Done d) (None, d))
+  finishes : (b : Bool) (d : Data) (issued : List (List ℕ)) → is_over d ≡ b → d.state ≡ Finishing → IsUnderway p d issued
+      → NotedSo issued (cond b (finish outcome.Done d) (None, d))
   finishes false d issued t at h = (h, tt)
   finishes true d issued t at h =
       let on = finishing_of p (standing d) h.lines h.phase at in
@@ -94,7 +95,8 @@ module _ (p : PrintData) where
       }
 
   -- the hello was acknowledged: the Connected script waits
-  readies : (d : Data) (moment : ℕ) (issued : List (List ℕ)) → d.state ≡ Connecting → d.ready ≡ true → IsUnderway p d issued → IsUnderway p (with_script point.Connected 0 (record d { state = Operational; poll_at = moment_after moment d.poll_ms })) issued
+  readies : (d : Data) (moment : ℕ) (issued : List (List ℕ)) → d.state ≡ Connecting → d.ready ≡ true → IsUnderway p d issued
+      → IsUnderway p (with_script point.Connected 0 (record d { state = Operational; poll_at = moment_after moment d.poll_ms })) issued
   readies d moment issued at is h =
       let on = connecting_of p (standing d) h.lines h.phase at in
       let n = nothing_sent d issued h at in
@@ -116,12 +118,16 @@ module _ (p : PrintData) where
 
   stays_ready : (s : Standing) (lines : List Line) → Phase p s lines → Phase p (record s { ready = true }) lines
   stays_ready s _ (phase.connecting at f) = phase.connecting at (record { print_is = f.print_is; active_is = f.active_is })
-  stays_ready s _ (phase.connected o f) = phase.connected (record { its_state = o.its_state; ready_is = refl }) (record { print_is = f.print_is; active_is = f.active_is })
+  stays_ready s _ (phase.connected o f) = phase.connected (record { its_state = o.its_state; ready_is = refl })
+      (record { print_is = f.print_is; active_is = f.active_is })
   stays_ready s _ (phase.printing o f below) =
       phase.printing (record { its_state = o.its_state; ready_is = refl }) (record { print_is = f.print_is; active_is = f.active_is }) below
-  stays_ready s _ (phase.finishing o f) = phase.finishing (record { its_state = o.its_state; ready_is = refl }) (record { print_is = f.print_is; active_is = f.active_is })
-  stays_ready s _ (phase.ended o f w) = phase.ended (record { its_state = o.its_state; ready_is = refl }) (record { print_is = f.print_is; active_is = f.active_is }) w
-  stays_ready s _ (phase.closing o f w) = phase.closing (record { its_state = o.its_state; ready_is = refl }) (record { print_is = f.print_is; active_is = f.active_is }) w
+  stays_ready s _ (phase.finishing o f) = phase.finishing (record { its_state = o.its_state; ready_is = refl })
+      (record { print_is = f.print_is; active_is = f.active_is })
+  stays_ready s _ (phase.ended o f w) = phase.ended (record { its_state = o.its_state; ready_is = refl })
+      (record { print_is = f.print_is; active_is = f.active_is }) w
+  stays_ready s _ (phase.closing o f w) = phase.closing (record { its_state = o.its_state; ready_is = refl })
+      (record { print_is = f.print_is; active_is = f.active_is }) w
   stays_ready s _ (phase.offline at i w) = phase.offline at i w
   stays_ready s _ (phase.failed at i lines part) = phase.failed at i lines part
 
@@ -141,7 +147,8 @@ module _ (p : PrintData) where
     acknowledged = h.acknowledged;
   }
 
-  pub ready_from : (s : State) (moment : ℕ) (d : Data) (issued : List (List ℕ)) → d.state ≡ s → d.ready ≡ true → IsUnderway p d issued → IsUnderway p (ready_at s moment d) issued
+  pub ready_from : (s : State) (moment : ℕ) (d : Data) (issued : List (List ℕ)) → d.state ≡ s → d.ready ≡ true → IsUnderway p d issued
+      → IsUnderway p (ready_at s moment d) issued
   ready_from Connecting moment d issued at is h = readies d moment issued at is h
   ready_from Offline moment d issued at is h = h
   ready_from Operational moment d issued at is h = h
@@ -153,13 +160,17 @@ module _ (p : PrintData) where
   ready_from Closing moment d issued at is h = h
   ready_from Fault moment d issued at is h = h
 
-  failed_print : (b : Bool) (d : Data) (issued : List (List ℕ)) → d.active ≡ b → IsUnderway p d issued → EndsAs p (cond b (Some (record { print = d.greatest; outcome = outcome.Failed })) None) Fault issued
+  failed_print : (b : Bool) (d : Data) (issued : List (List ℕ)) → d.active ≡ b → IsUnderway p d issued
+      → EndsAs p (cond b (Some (record { print = d.greatest; outcome = outcome.Failed })) None) Fault issued
   failed_print false d issued e h = tt
   failed_print true d issued e h = (print_of p (standing d) h.lines h.phase e, refl)
 
   -- the link or the session failed, or the port isn't listed
   fails : (b : Bool) (d : Data) (issued : List (List ℕ)) → d.active ≡ b → IsUnderway p d issued
-      → NotedSo issued (cond b (Some (record { print = d.greatest; outcome = outcome.Failed })) None, record d { state = Fault; active = false; waiting = []; manual = [] })
+      → NotedSo issued (
+        cond b (Some (record { print = d.greatest; outcome = outcome.Failed })) None,
+        record d { state = Fault; active = false; waiting = []; manual = [] },
+      )
   fails b d issued e h = (
     record {
       scripts_are = h.scripts_are;
@@ -167,7 +178,8 @@ module _ (p : PrintData) where
       file_is = h.file_is;
       no_manual = refl;
       lines = h.sent;
-      phase = phase.failed refl refl h.sent (part_of h.sent (h.sent ++ d.waiting) (plan_lines p) (part_behind h.sent d.waiting) (subst (λ (l : List Line). IsPart l (plan_lines p)) (sym h.parted) (in_plan p (standing d) h.lines h.phase)));
+      phase = phase.failed refl refl h.sent (part_of h.sent (h.sent ++ d.waiting) (plan_lines p) (part_behind h.sent d.waiting)
+          (subst (λ (l : List Line). IsPart l (plan_lines p)) (sym h.parted) (in_plan p (standing d) h.lines h.phase)));
       sent = h.sent;
       parted = append-nil h.sent;
       woven = h.woven;
@@ -209,8 +221,10 @@ module _ (p : PrintData) where
 
   waits_none : (d : Data) → (((length d.waiting == 0) && nat_le d.issued d.acked) || not true) ≡ true → (d.waiting ≡ []) × (d.issued ≤ d.acked)
   waits_none d t =
-      let both : ((length d.waiting == 0) && nat_le d.issued d.acked) ≡ true = or_first ((length d.waiting == 0) && nat_le d.issued d.acked) t in
-      (no_lines d.waiting (and_first (length d.waiting == 0) (nat_le d.issued d.acked) both), at_most d.issued d.acked (and_second (length d.waiting == 0) (nat_le d.issued d.acked) both))
+      let both : ((length d.waiting == 0) && nat_le d.issued d.acked) ≡ true = or_first ((length d.waiting == 0) && nat_le d.issued d.acked) t in (
+        no_lines d.waiting (and_first (length d.waiting == 0) (nat_le d.issued d.acked) both),
+        at_most d.issued d.acked (and_second (length d.waiting == 0) (nat_le d.issued d.acked) both),
+      )
 
   may_close : (s : State) (d : Data) (issued : List (List ℕ)) → d.state ≡ s → is_closable_at s d ≡ true → (h : IsUnderway p d issued) → MayClose d h.lines
   may_close Closing d issued at t h =
@@ -231,7 +245,8 @@ module _ (p : PrintData) where
   no_ending false ending state issued e = tt
   no_ending true ending state issued e = absurd (false≢true (sym e))
 
-  closes : (acked : ℕ) (d : Data) (issued : List (List ℕ)) → is_closable_at d.state d ≡ true → d.acked ≤ acked → IsUnderway p d issued → NotedSo issued (leave Offline outcome.Cancelled (record d { acked = acked }))
+  closes : (acked : ℕ) (d : Data) (issued : List (List ℕ)) → is_closable_at d.state d ≡ true → d.acked ≤ acked → IsUnderway p d issued
+      → NotedSo issued (leave Offline outcome.Cancelled (record d { acked = acked }))
   closes acked d issued t more h =
       let m = may_close d.state d issued refl t h in
       let whole : h.sent ≡ plan_lines p = sym (append-nil h.sent) ∙ ap (λ (w : List Line). h.sent ++ w) (sym m.none) ∙ h.parted ∙ m.are in (
@@ -252,7 +267,8 @@ module _ (p : PrintData) where
       )
 
   -- acknowledgements alone change nothing of it
-  pub acked_more : (acked : ℕ) (d : Data) (issued : List (List ℕ)) → (d.state ≡ Offline → d.acked ≤ acked) → IsUnderway p d issued → IsUnderway p (record d { acked = acked }) issued
+  pub acked_more : (acked : ℕ) (d : Data) (issued : List (List ℕ)) → (d.state ≡ Offline → d.acked ≤ acked) → IsUnderway p d issued
+      → IsUnderway p (record d { acked = acked }) issued
   acked_more acked d issued more h = record {
     scripts_are = h.scripts_are;
     limits_are = h.limits_are;
@@ -270,7 +286,8 @@ module _ (p : PrintData) where
   pub not_offline : (d : Data) (acked : ℕ) → d.state ≡ Connecting → d.state ≡ Offline → d.acked ≤ acked
   not_offline d acked at off = let clash : Connecting ≡ Offline = sym at ∙ off in absurd (cc clash)
 
-  facts : (f : LinkFact) (acked moment : ℕ) (d : Data) (issued : List (List ℕ)) → Suits f acked d → IsUnderway p d issued → NotedSo (after_fact f issued) (note_fact f moment (record d { acked = acked }))
+  facts : (f : LinkFact) (acked moment : ℕ) (d : Data) (issued : List (List ℕ)) → Suits f acked d → IsUnderway p d issued
+      → NotedSo (after_fact f issued) (note_fact f moment (record d { acked = acked }))
   facts fact.Quiet acked moment d issued s h = ends d.state (record d { acked = acked }) issued refl (acked_more acked d issued (λ off. s) h)
   facts fact.Opened acked moment d issued s h =
       let told : Data = record d { acked = acked } in
@@ -278,13 +295,16 @@ module _ (p : PrintData) where
   facts fact.Ready acked moment d issued s h =
       let heard : Data = record d { acked = acked; ready = true } in
       let is : Data = ready_at heard.state moment heard in
-      ends is.state is issued refl (ready_from heard.state moment heard issued refl refl (hears (record d { acked = acked }) issued (acked_more acked d issued (λ off. s) h)))
+      ends is.state is issued refl (ready_from heard.state moment heard issued refl refl
+      (hears (record d { acked = acked }) issued (acked_more acked d issued (λ off. s) h)))
   facts fact.Closed acked moment d issued s h = closes acked d issued s.0 s.1 h
   facts fact.NoPort acked moment d issued s h = fails d.active (record d { acked = acked }) issued refl (acked_more acked d issued (λ off. s) h)
   facts fact.Failed acked moment d issued s h =
-      let told : Data = record d { acked = acked } in fails_after (ended told) issued (ends told.state told issued refl (acked_more acked d issued (λ off. s) h))
+      let told : Data = record d { acked = acked } in fails_after (ended told) issued
+      (ends told.state told issued refl (acked_more acked d issued (λ off. s) h))
   facts (fact.Ended end) acked moment d issued s h =
-      let told : Data = record d { acked = acked } in fails_after (ended told) issued (ends told.state told issued refl (acked_more acked d issued (λ off. s) h))
+      let told : Data = record d { acked = acked } in fails_after (ended told) issued
+      (ends told.state told issued refl (acked_more acked d issued (λ off. s) h))
 
   settled_so : (how : Outcome) (d : Data) (issued : List (List ℕ)) → ComesTo p how d.state issued → ComesTo p how (settled d).state issued
   settled_so outcome.Active d issued h = h
@@ -293,12 +313,14 @@ module _ (p : PrintData) where
   settled_so outcome.Failed d issued h = ap (λ s. (settle_at s d).state) h ∙ h
 
   -- a failed print's desk has nothing to settle
-  settled_end : (s : State) (ending : Option Ending) (d : Data) (issued : List (List ℕ)) → EndsAs p ending d.state issued → EndsAs p ending (settled d).state issued
+  settled_end : (s : State) (ending : Option Ending) (d : Data) (issued : List (List ℕ)) → EndsAs p ending d.state issued
+      → EndsAs p ending (settled d).state issued
   settled_end s None d issued h = tt
   settled_end s (Some ending) d issued h = (h.0, settled_so ending.outcome d issued h.1)
 
   -- after a note of a fact that suits the desk the print is underway, and an ending says what it came to
-  pub note-underway : (f : LinkFact) (acked moment : ℕ) (d : Data) (issued : List (List ℕ)) → Suits f acked d → IsUnderway p d issued → NotedSo (after_fact f issued) (note_step acked f moment d)
+  pub note-underway : (f : LinkFact) (acked moment : ℕ) (d : Data) (issued : List (List ℕ)) → Suits f acked d → IsUnderway p d issued
+      → NotedSo (after_fact f issued) (note_step acked f moment d)
   note-underway f acked moment d issued s h =
       let noted : Noted = note_fact f moment (record d { acked = acked }) in
       let so : NotedSo (after_fact f issued) noted = facts f acked moment d issued s h in

@@ -33,7 +33,8 @@ print_of p s _ (phase.offline e i w) a = absurd (false≢true (sym i ∙ a))
 print_of p s _ (phase.failed e i lines part) a = absurd (false≢true (sym i ∙ a))
 
 -- the first waiting line is issued
-pub next_waits : (p : PrintData) (s : Standing) (lines : List Line) (line : Line) (rest : List Line) → s.waiting ≡ line ∷ rest → Phase p s lines → Phase p (record s { waiting = rest }) lines
+pub next_waits : (p : PrintData) (s : Standing) (lines : List Line) (line : Line) (rest : List Line) → s.waiting ≡ line ∷ rest → Phase p s lines
+    → Phase p (record s { waiting = rest }) lines
 next_waits p s _ line rest e (phase.connecting at f) = phase.connecting at (record { print_is = f.print_is; active_is = f.active_is })
 next_waits p s _ line rest e (phase.connected o f) =
     phase.connected (record { its_state = o.its_state; ready_is = o.ready_is }) (record { print_is = f.print_is; active_is = f.active_is })
@@ -44,7 +45,8 @@ next_waits p s _ line rest e (phase.finishing o f) =
 next_waits p s _ line rest e (phase.ended o f w) = let none : [] ≡ line ∷ rest = sym w ∙ e in absurd (cc none)
 next_waits p s _ line rest e (phase.closing o f w) =
     let all : All IsLast (line ∷ rest) = subst (λ l. All IsLast l) e w in
-    phase.closing (record { its_state = o.its_state; ready_is = o.ready_is }) (record { print_is = f.print_is; active_is = f.active_is }) (All-tail IsLast line rest all)
+    phase.closing (record { its_state = o.its_state; ready_is = o.ready_is }) (record { print_is = f.print_is; active_is = f.active_is })
+    (All-tail IsLast line rest all)
 next_waits p s _ line rest e (phase.offline at i w) = let none : [] ≡ line ∷ rest = sym w ∙ e in absurd (cc none)
 next_waits p s _ line rest e (phase.failed at i lines part) = phase.failed at i lines part
 
@@ -182,5 +184,6 @@ possible p s _ (phase.closing o f w) = ap is_possible o.its_state
 possible p s _ (phase.offline is i w) = ap is_possible is
 possible p s _ (phase.failed is i lines part) = ap is_possible is
 
-pub impossible : (X : Type 0) (p : PrintData) (s : Standing) (lines : List Line) (state : State) → Phase p s lines → s.state ≡ state → is_possible state ≡ false → X
+pub impossible : (X : Type 0) (p : PrintData) (s : Standing) (lines : List Line) (state : State) → Phase p s lines → s.state ≡ state
+    → is_possible state ≡ false → X
 impossible X p s lines state h at none = absurd (false≢true (sym none ∙ sym (ap is_possible at) ∙ possible p s lines h))

@@ -18,7 +18,8 @@ module _ (p : PrintData) where
   -- what was issued is a weave of a first part of the plan
   pub underway-part : (d : Data) (issued : List (List ℕ)) → IsUnderway p d issued → WeavesPart issued (plan p.scripts (print_commands p))
   underway-part d issued h =
-      let part : IsPart h.sent (plan_lines p) = part_of h.sent (h.sent ++ d.waiting) (plan_lines p) (part_behind h.sent d.waiting) (subst (λ (l : List Line). IsPart l (plan_lines p)) (sym h.parted) (in_plan p (standing d) h.lines h.phase)) in
+      let part : IsPart h.sent (plan_lines p) = part_of h.sent (h.sent ++ d.waiting) (plan_lines p) (part_behind h.sent d.waiting)
+      (subst (λ (l : List Line). IsPart l (plan_lines p)) (sym h.parted) (in_plan p (standing d) h.lines h.phase)) in
       record {
         part = line_texts h.sent;
         is_part = subst (λ (l : List (List ℕ)). IsPart (line_texts h.sent) l) (plan_is p) (texts_part h.sent (plan_lines p) part);
@@ -29,7 +30,8 @@ module _ (p : PrintData) where
   pub underway-whole : (d : Data) (issued : List (List ℕ)) → d.state ≡ Offline → IsUnderway p d issued → IsWhole p d issued
   underway-whole d issued off h =
       let none : d.waiting ≡ [] = none_offline p (standing d) h.lines h.phase off in
-      let all : h.sent ≡ plan_lines p = sym (append-nil h.sent) ∙ ap (λ (w : List Line). h.sent ++ w) (sym none) ∙ h.parted ∙ whole_offline p (standing d) h.lines h.phase off in
+      let all : h.sent ≡ plan_lines p = sym (append-nil h.sent) ∙ ap (λ (w : List Line). h.sent ++ w) (sym none) ∙ h.parted
+      ∙ whole_offline p (standing d) h.lines h.phase off in
       record {
         woven = subst (λ (l : List (List ℕ)). Weave issued l) (ap line_texts all ∙ plan_is p) h.woven;
         acknowledged = h.acknowledged off;
@@ -51,12 +53,14 @@ module _ (p : PrintData) where
   talk_late moment d none no_manual =
       let asked : Data = record d { poll_at = moment_after moment d.poll_ms } in
       let next : Drawn = cond (poll_is_due moment d) (issue (record { text = codes "M105"; tag = Poll }) asked) (nothing d) in
-      subst (λ (w : List Line). IsLate (from_scripts w d (from_manual d.manual d next))) (sym none) (subst (λ (m : List (List ℕ)). IsLate (from_manual m d next)) (sym no_manual) (poll_late (poll_is_due moment d) asked d))
+      subst (λ (w : List Line). IsLate (from_scripts w d (from_manual d.manual d next))) (sym none)
+      (subst (λ (m : List (List ℕ)). IsLate (from_manual m d next)) (sym no_manual) (poll_late (poll_is_due moment d) asked d))
 
   zero≢one : ◌≡◌ {A = ℕ} 0 1 → ⊥
   zero≢one e = omega (arith, e)
 
-  late_in : (moment : ℕ) (d : Data) (lines : List Line) → d.manual ≡ [] → d.active ≡ false → d.greatest ≡ 1 → Phase p (standing d) lines → IsLate (draw_at d.state moment d)
+  late_in : (moment : ℕ) (d : Data) (lines : List Line) → d.manual ≡ [] → d.active ≡ false → d.greatest ≡ 1 → Phase p (standing d) lines
+      → IsLate (draw_at d.state moment d)
   late_in moment d _ none i n (phase.connecting at f) = absurd (zero≢one (sym f.print_is ∙ n))
   late_in moment d _ none i n (phase.connected o f) = absurd (zero≢one (sym f.print_is ∙ n))
   late_in moment d _ none i n (phase.printing o f below) = absurd (false≢true (sym i ∙ f.active_is))

@@ -12,7 +12,8 @@ use Rattle.print_course.proofs.Calls.{new_underway, start-underway, disconnect-u
 use Rattle.print_course.proofs.Results.{underway-part, underway-whole, late-underway}
 
 module _ (p : PrintData) (cool : first_hot_of p.limits p.file.job.commands ≡ None) where
-  step-underway : (step : PrintStep) (x : Progress) → MayTake step x.desk → IsUnderway p x.desk x.issued → IsUnderway p (after step x).desk (after step x).issued
+  step-underway : (step : PrintStep) (x : Progress) → MayTake step x.desk → IsUnderway p x.desk x.issued
+      → IsUnderway p (after step x).desk (after step x).issued
   step-underway (Note acked found moment) x may h = (note-underway p found acked moment x.desk x.issued may h).0
   step-underway (Pull moment) x may h = pull-underway p moment x.desk x.issued h
   step-underway Start x may h =
@@ -20,7 +21,8 @@ module _ (p : PrintData) (cool : first_hot_of p.limits p.file.job.commands ≡ N
       subst (λ (d : Data). IsUnderway p d x.issued) (sym (ap (λ (a : Answer). a.1) started.0)) started.1
   step-underway Disconnect x may h = disconnect-underway p x.desk x.issued may.0 may.1 h
 
-  all-underway : (steps : List PrintStep) (x : Progress) → MayTakeAll steps x → IsUnderway p x.desk x.issued → IsUnderway p (after_all steps x).desk (after_all steps x).issued
+  all-underway : (steps : List PrintStep) (x : Progress) → MayTakeAll steps x → IsUnderway p x.desk x.issued
+      → IsUnderway p (after_all steps x).desk (after_all steps x).issued
   all-underway [] x may h = h
   all-underway (step ∷ steps) x may h = all-underway steps (after step x) may.1 (step-underway step x may.0 h)
 

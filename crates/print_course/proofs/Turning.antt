@@ -1,5 +1,5 @@
 -- The print over a whole turn of its session.
-use Rattle.std.proofs.Common.{◌≡◌, ◌⊎◌, inl, inr, ℕ, ◌≤◌, Bool, true, false, cond, not, codes, ◌&&◌, List, [], ◌∷◌, ◌++◌, Option, None, Some, refl, sym, ◌∙◌, ap, subst, arith, append_assoc}
+use Rattle.std.proofs.Common.{◌≡◌, ◌⊎◌, inl, inr, ℕ, ◌≤◌, Bool, true, false, cond, not, ◌&&◌, List, [], ◌∷◌, ◌++◌, Option, None, Some, refl, sym, ◌∙◌, ap, subst, arith, append_assoc}
 use Rattle.std.specs.Option.{option_or}
 use Rattle.std.proofs.lemmas.List.{append-nil}
 use Rattle.std.proofs.lemmas.Bool.{false≢true}
@@ -8,13 +8,12 @@ use Rattle.desk_steps.specs.declared.link_fact.LinkFact.TheVariants as fact
 use Rattle.print_records.specs.declared.ending.Ending.{Ending}
 use Rattle.print_records.specs.declared.ending.Outcome.{Outcome}
 use Rattle.print_records.specs.declared.ending.Outcome.TheVariants as outcome
-use Rattle.desk_steps.specs.Data.{Data, Line, moment_after}
+use Rattle.desk_steps.specs.Data.{Data, Line}
 use Rattle.desk_steps.specs.Table.{is_closable_at}
-use Rattle.desk_steps.specs.Pull.{Drawn, nothing, draw_at, settle_at, settled, pull_step, issue, from_scripts, from_manual, poll_is_due}
-use Rattle.desk_steps.specs.Note.{Noted, ended, end_at, is_over, finish, opened, ready_at, fail, note_step}
+use Rattle.desk_steps.specs.Pull.{pull_step}
+use Rattle.desk_steps.specs.Note.{Noted, ended, end_at, is_over, finish, note_step}
 use Rattle.desk_steps.specs.declared.state.State.{State}
 use Rattle.desk_steps.specs.declared.state.State.TheVariants.{Offline, Connecting, Operational, Printing, Pausing, Paused, Cancelling, Finishing, Closing, Fault}
-use Rattle.desk_steps.specs.declared.state.Tag.TheVariants.{Manual, Poll}
 use Rattle.printer_link.specs.Link.{LinkKind}
 use Rattle.printer_model.specs.declared.event.WorldEvent.{WorldEvent}
 use Rattle.octo_session.specs.Data.{SessionData, IsSession, is_connecting, doing}
@@ -24,7 +23,7 @@ use Rattle.octo_session.specs.Turn.{fact_of, lines_of, IsTurn, IsDeskTurn}
 use Rattle.octo_session.specs.declared.found.Doing.{Doing}
 use Rattle.octo_session.specs.declared.found.Doing.TheVariants.{Dialling, HangingUp, Talking, Resting}
 use Rattle.octo_session.proofs.Desk.{noted_greatest}
-use Rattle.octo_session.proofs.Counts.{begins, counts_note, counted_pull}
+use Rattle.octo_session.proofs.Counts.{begins, counts_note}
 use Rattle.lossy_line.specs.Issuing.{issued_in}
 use Rattle.octo_session.proofs.Noting.{noted_fact, noted_lines}
 use Rattle.octo_session.specs.declared.found.Turned.{Turned}
@@ -34,7 +33,8 @@ use Rattle.print_course.specs.Progress.{after_pull, after_fact}
 use Rattle.print_course.specs.Turned.{IsTurnOf}
 use Rattle.print_course.proofs.Weaves.{part_of, part_behind}
 use Rattle.print_course.proofs.Phases.{finishing_of, impossible}
-use Rattle.print_course.proofs.Pulling.{issue_state, pull-underway}
+use Rattle.print_course.proofs.Pulling.{pull-underway}
+use Rattle.print_course.proofs.States.{stays_silent, acked_pulls, pulls_open, settled_open, note_connecting, note_opened, note_ready, failed_state}
 use Rattle.print_course.proofs.Noting.{NotedSo, still_so, acked_more, note-underway}
 
 -- What a turn does, by the desk.
@@ -68,12 +68,14 @@ connects_at Closing e = absurd (false≢true e)
 connects_at Fault e = absurd (false≢true e)
 
 dials_at : (x : SessionData) → doing x ≡ Dialling → x.desk.state ≡ Connecting
-dials_at x e = connects_at x.desk.state (is_second (not x.up) (is_connecting x.desk.state) (chosen_first (not x.up && is_connecting x.desk.state) (is_closable_at x.desk.state x.desk) x.up e))
+dials_at x e = connects_at x.desk.state (is_second (not x.up) (is_connecting x.desk.state)
+    (chosen_first (not x.up && is_connecting x.desk.state) (is_closable_at x.desk.state x.desk) x.up e))
 
 hangs_up_at : (x : SessionData) → doing x ≡ HangingUp → is_closable_at x.desk.state x.desk ≡ true
 hangs_up_at x e = chosen_second (not x.up && is_connecting x.desk.state) (is_closable_at x.desk.state x.desk) x.up e
 
-suits : (now : Doing) (found : LinkFact) (x : SessionData) (acked : ℕ) → doing x ≡ now → can_find now found ≡ true → (begins found ≡ false → x.desk.acked ≤ acked) → Suits (first_fact found) acked x.desk
+suits : (now : Doing) (found : LinkFact) (x : SessionData) (acked : ℕ) → doing x ≡ now → can_find now found ≡ true
+    → (begins found ≡ false → x.desk.acked ≤ acked) → Suits (first_fact found) acked x.desk
 suits Dialling fact.Opened x acked at can more = dials_at x at
 suits Dialling fact.NoPort x acked at can more = more refl
 suits Dialling fact.Failed x acked at can more = more refl
@@ -103,69 +105,6 @@ suits Resting fact.Quiet x acked at can more = more refl
 suits Resting fact.Ready x acked at can more = more refl
 suits Resting (fact.Ended end) x acked at can more = more refl
 
--- What pulls leave as it is.
-
--- a desk that gives no line stays
-stays_silent : (s : State) (moment : ℕ) (lines : List Line) (old new : Data) → ((d : Data) → draw_at s moment d ≡ nothing d) → old.state ≡ s → Pulls moment lines old new → new ≡ old
-stays_silent s moment [] old new none at pulls = pulls
-stays_silent s moment (line ∷ lines) old new none at pulls =
-    let quiet : draw_at old.state moment old ≡ nothing old = ap (λ t. draw_at t moment old) at ∙ none old in
-    let no_line : ◌≡◌ {A = Option Line} None (Some line) = sym (ap (λ (drawn : Drawn). drawn.0) quiet) ∙ pulls.0 in
-    absurd (cc no_line)
-
-acked_pulls : (moment : ℕ) (lines : List Line) (old new : Data) → Pulls moment lines old new → new.acked ≡ old.acked
-acked_pulls moment [] old new pulls = ap (λ (d : Data). d.acked) pulls
-acked_pulls moment (line ∷ lines) old new pulls = acked_pulls moment lines (pull_step moment old).1 new pulls.1 ∙ (counted_pull moment old).acked
-
-kept_scripts : (w : List Line) (d : Data) (next : Drawn) → next.1.state ≡ d.state → (from_scripts w d next).1.state ≡ d.state
-kept_scripts [] d next same = same
-kept_scripts (line ∷ lines) d next same = issue_state line (record d { waiting = lines })
-
-kept_manual : (m : List (List ℕ)) (d : Data) (next : Drawn) → next.1.state ≡ d.state → (from_manual m d next).1.state ≡ d.state
-kept_manual [] d next same = same
-kept_manual (text ∷ texts) d next same = issue_state (record { text = text; tag = Manual }) (record d { manual = texts })
-
-kept_poll : (b : Bool) (at : ℕ) (d : Data) (next : Drawn) → next.1.state ≡ d.state → (cond b (issue (record { text = codes "M105"; tag = Poll }) (record d { poll_at = at })) next).1.state ≡ d.state
-kept_poll true at d next same = issue_state (record { text = codes "M105"; tag = Poll }) (record d { poll_at = at })
-kept_poll false at d next same = same
-
-draw_open : (moment : ℕ) (d : Data) → (draw_at Operational moment d).1.state ≡ d.state
-draw_open moment d = kept_scripts d.waiting d _ (kept_manual d.manual d _ (kept_poll (poll_is_due moment d) (moment_after moment d.poll_ms) d (nothing d) refl))
-
-settled_open : (d : Data) → d.state ≡ Operational → (settled d).state ≡ Operational
-settled_open d at = ap (λ s. (settle_at s d).state) at ∙ at
-
-pull_open : (moment : ℕ) (d : Data) → d.state ≡ Operational → (pull_step moment d).1.state ≡ Operational
-pull_open moment d at =
-    let drawn : Drawn = draw_at d.state moment d in
-    settled_open drawn.1 (ap (λ s. (draw_at s moment d).1.state) at ∙ draw_open moment d ∙ at)
-
-pulls_open : (moment : ℕ) (lines : List Line) (old new : Data) → old.state ≡ Operational → Pulls moment lines old new → new.state ≡ Operational
-pulls_open moment [] old new at pulls = ap (λ (d : Data). d.state) pulls ∙ at
-pulls_open moment (line ∷ lines) old new at pulls = pulls_open moment lines (pull_step moment old).1 new (pull_open moment old at) pulls.1
-
--- What notes make of the state.
-
--- nothing ends while it connects
-none_ends : (d : Data) → d.state ≡ Connecting → (settled (end_at d.state d).1).state ≡ Connecting
-none_ends d at = ap (λ s. (settled (end_at s d).1).state) at ∙ ap (λ s. (settle_at s d).state) at ∙ at
-
-note_connecting : (acked moment : ℕ) (d : Data) → d.state ≡ Connecting → (note_step acked fact.Quiet moment d).1.state ≡ Connecting
-note_connecting acked moment d at = none_ends (record d { acked = acked }) at
-
-note_opened : (acked moment : ℕ) (d : Data) → d.state ≡ Connecting → (note_step acked fact.Opened moment d).1.state ≡ Connecting
-note_opened acked moment d at = none_ends (opened (record d { acked = acked })) at
-
-note_ready : (acked moment : ℕ) (d : Data) → d.state ≡ Connecting → (note_step acked fact.Ready moment d).1.state ≡ Operational
-note_ready acked moment d at =
-    let heard : Data = record d { acked = acked; ready = true } in
-    let is : ready_at d.state moment heard ≡ ready_at Connecting moment heard = ap (λ s. ready_at s moment heard) at in
-    ap (λ (x : Data). (settled (end_at x.state x).1).state) is
-
-failed_state : (noted : Noted) → (settled (fail noted).1).state ≡ Fault
-failed_state (None, d) = refl
-failed_state (Some ending, d) = refl
-
 opened_last : (f : LinkFact) → begins f ≡ true → f ≡ fact.Opened
 opened_last fact.Opened e = refl
 opened_last fact.Quiet e = absurd (false≢true e)
@@ -176,7 +115,8 @@ opened_last fact.Failed e = absurd (false≢true e)
 opened_last (fact.Ended end) e = absurd (false≢true e)
 
 -- the texts of a turn
-texts_after : (found : LinkFact) (lines : List Line) (issued : List (List ℕ)) → (begins found ≡ true → lines ≡ []) → after_fact (first_fact found) issued ++ line_texts lines ≡ issued_in found (line_texts lines) issued
+texts_after : (found : LinkFact) (lines : List Line) (issued : List (List ℕ)) → (begins found ≡ true → lines ≡ [])
+    → after_fact (first_fact found) issued ++ line_texts lines ≡ issued_in found (line_texts lines) issued
 texts_after fact.Opened lines issued none = ap line_texts (none refl)
 texts_after fact.Quiet lines issued none = refl
 texts_after fact.Ready lines issued none = refl
@@ -202,31 +142,43 @@ quiet_may_not (whole bytes) = refl
 
 module _ (p : PrintData) where
   -- successive pulls issue their texts
-  pub pulls-underway : (moment : ℕ) (lines : List Line) (old new : Data) (issued : List (List ℕ)) → Pulls moment lines old new → IsUnderway p old issued → IsUnderway p new (issued ++ line_texts lines)
-  pulls-underway moment [] old new issued pulls h = subst (λ l. IsUnderway p new l) (sym (append-nil issued)) (subst (λ (d : Data). IsUnderway p d issued) (sym pulls) h)
+  pub pulls-underway : (moment : ℕ) (lines : List Line) (old new : Data) (issued : List (List ℕ)) → Pulls moment lines old new
+      → IsUnderway p old issued → IsUnderway p new (issued ++ line_texts lines)
+  pulls-underway moment [] old new issued pulls h = subst (λ l. IsUnderway p new l) (sym (append-nil issued))
+      (subst (λ (d : Data). IsUnderway p d issued) (sym pulls) h)
   pulls-underway moment (line ∷ lines) old new issued pulls h =
       let next : Data = (pull_step moment old).1 in
-      let one : IsUnderway p next (issued ++ line.text ∷ []) = subst (λ (got : Option Line). IsUnderway p next (after_pull got issued)) pulls.0 (pull-underway p moment old issued h) in
-      subst (λ l. IsUnderway p new l) (append_assoc issued (line.text ∷ []) (line_texts lines)) (pulls-underway moment lines next new (issued ++ line.text ∷ []) pulls.1 one)
+      let one : IsUnderway p next (issued ++ line.text ∷ []) =
+      subst (λ (got : Option Line). IsUnderway p next (after_pull got issued)) pulls.0 (pull-underway p moment old issued h) in
+      subst (λ l. IsUnderway p new l) (append_assoc issued (line.text ∷ []) (line_texts lines))
+      (pulls-underway moment lines next new (issued ++ line.text ∷ []) pulls.1 one)
 
-  comes_more : (how : Outcome) (moment : ℕ) (lines : List Line) (old new : Data) (issued : List (List ℕ)) → Pulls moment lines old new → ComesTo p how old.state issued → ComesTo p how new.state (issued ++ line_texts lines)
+  comes_more : (how : Outcome) (moment : ℕ) (lines : List Line) (old new : Data) (issued : List (List ℕ)) → Pulls moment lines old new
+      → ComesTo p how old.state issued → ComesTo p how new.state (issued ++ line_texts lines)
   comes_more outcome.Active moment lines old new issued pulls h = h
   comes_more outcome.Cancelled moment lines old new issued pulls h = h
   comes_more outcome.Done moment lines old new issued pulls h =
-      record { first = h.first; is_part = part_of h.first issued (issued ++ line_texts lines) h.is_part (part_behind issued (line_texts lines)); woven = h.woven }
+      record {
+        first = h.first;
+        is_part = part_of h.first issued (issued ++ line_texts lines) h.is_part (part_behind issued (line_texts lines));
+        woven = h.woven;
+      }
   comes_more outcome.Failed moment lines old new issued pulls h = ap (λ (d : Data). d.state) (stays_silent Fault moment lines old new (λ d. refl) h pulls) ∙ h
 
   -- an ending stays what it was while lines are pulled
-  ends_more : (ending : Option Ending) (moment : ℕ) (lines : List Line) (old new : Data) (issued : List (List ℕ)) → Pulls moment lines old new → EndsAs p ending old.state issued → EndsAs p ending new.state (issued ++ line_texts lines)
+  ends_more : (ending : Option Ending) (moment : ℕ) (lines : List Line) (old new : Data) (issued : List (List ℕ)) → Pulls moment lines old new
+      → EndsAs p ending old.state issued → EndsAs p ending new.state (issued ++ line_texts lines)
   ends_more None moment lines old new issued pulls h = tt
   ends_more (Some ending) moment lines old new issued pulls h = (h.0, comes_more ending.outcome moment lines old new issued pulls h.1)
 
-  either_end : (first last : Option Ending) (state : State) (issued : List (List ℕ)) → EndsAs p first state issued → EndsAs p last Fault issued → EndsAs p (option_or first last) Fault issued
+  either_end : (first last : Option Ending) (state : State) (issued : List (List ℕ)) → EndsAs p first state issued → EndsAs p last Fault issued
+      → EndsAs p (option_or first last) Fault issued
   either_end None last state issued h g = g
   either_end (Some ending) last state issued h g = (h.0, still_so p ending.outcome state issued h.1)
 
   -- a failure is noted last
-  noted_last : (found : LinkFact) (acked moment : ℕ) (issued : List (List ℕ)) (noted : Noted) → (begins found ≡ false → noted.1.acked ≤ acked) → NotedSo p issued noted → NotedSo p issued (last_noted found acked moment noted)
+  noted_last : (found : LinkFact) (acked moment : ℕ) (issued : List (List ℕ)) (noted : Noted) → (begins found ≡ false → noted.1.acked ≤ acked)
+      → NotedSo p issued noted → NotedSo p issued (last_noted found acked moment noted)
   noted_last fact.Quiet acked moment issued noted below h = h
   noted_last fact.Opened acked moment issued noted below h = h
   noted_last fact.Ready acked moment issued noted below h = h
@@ -241,14 +193,16 @@ module _ (p : PrintData) where
       (so.0, subst (λ s. EndsAs p (option_or noted.0 last.0) s issued) (sym down) (either_end noted.0 last.0 noted.1.state issued h.1 its_end))
 
   -- a print that ends in a note leaves its desk for the next one
-  ends_cond : (b : Bool) (d : Data) (end : Ending) → d.greatest ≡ 1 → (cond b (finish outcome.Done d) (None, d)).0 ≡ Some end → ((cond b (finish outcome.Done d) (None, d)).1.state ≡ Operational) × (d.greatest ≡ 1)
+  ends_cond : (b : Bool) (d : Data) (end : Ending) → d.greatest ≡ 1 → (cond b (finish outcome.Done d) (None, d)).0 ≡ Some end
+      → ((cond b (finish outcome.Done d) (None, d)).1.state ≡ Operational) × (d.greatest ≡ 1)
   ends_cond true d end one e = (refl, one)
   ends_cond false d end one e = absurd (cc e)
 
   none_some : (X : Type 0) (end : Ending) → ◌≡◌ {A = Option Ending} None (Some end) → X
   none_some X end e = absurd (cc e)
 
-  ends_open : (s : State) (d : Data) (issued : List (List ℕ)) (end : Ending) → d.state ≡ s → IsUnderway p d issued → (end_at s d).0 ≡ Some end → ((end_at s d).1.state ≡ Operational) × (d.greatest ≡ 1)
+  ends_open : (s : State) (d : Data) (issued : List (List ℕ)) (end : Ending) → d.state ≡ s → IsUnderway p d issued → (end_at s d).0 ≡ Some end
+      → ((end_at s d).1.state ≡ Operational) × (d.greatest ≡ 1)
   ends_open Finishing d issued end at h e = ends_cond (is_over d) d end (finishing_of p (standing d) h.lines h.phase at).on.print_is e
   ends_open Pausing d issued end at h e = impossible _ p (standing d) h.lines Pausing h.phase at refl
   ends_open Cancelling d issued end at h e = impossible _ p (standing d) h.lines Cancelling h.phase at refl
@@ -260,19 +214,22 @@ module _ (p : PrintData) where
   ends_open Closing d issued end at h e = none_some _ end e
   ends_open Fault d issued end at h e = none_some _ end e
 
-  stays_connecting : (moment acked : ℕ) (lines : List Line) (old : Data) (ending : Option Ending) (new : Data) → old.state ≡ Connecting → IsNoted moment acked fact.Quiet lines old ending new → new.state ≡ Connecting
+  stays_connecting : (moment acked : ℕ) (lines : List Line) (old : Data) (ending : Option Ending) (new : Data) → old.state ≡ Connecting
+      → IsNoted moment acked fact.Quiet lines old ending new → new.state ≡ Connecting
   stays_connecting moment acked lines old ending new at n =
       let first : Data = (note_step acked fact.Quiet moment old).1 in
       let there : first.state ≡ Connecting = note_connecting acked moment old at in
       ap (λ (x : Noted). x.1.state) n.is ∙ ap (λ (d : Data). d.state) (stays_silent Connecting moment lines first n.pulled (λ d. refl) there n.pulls) ∙ there
 
-  stays_opened : (moment acked : ℕ) (lines : List Line) (old : Data) (ending : Option Ending) (new : Data) → old.state ≡ Connecting → IsNoted moment acked fact.Opened lines old ending new → new.state ≡ Connecting
+  stays_opened : (moment acked : ℕ) (lines : List Line) (old : Data) (ending : Option Ending) (new : Data) → old.state ≡ Connecting
+      → IsNoted moment acked fact.Opened lines old ending new → new.state ≡ Connecting
   stays_opened moment acked lines old ending new at n =
       let first : Data = (note_step acked fact.Opened moment old).1 in
       let there : first.state ≡ Connecting = note_opened acked moment old at in
       ap (λ (x : Noted). x.1.state) n.is ∙ ap (λ (d : Data). d.state) (stays_silent Connecting moment lines first n.pulled (λ d. refl) there n.pulls) ∙ there
 
-  is_ready : (moment acked : ℕ) (lines : List Line) (old : Data) (ending : Option Ending) (new : Data) → old.state ≡ Connecting → IsNoted moment acked fact.Ready lines old ending new → new.state ≡ Operational
+  is_ready : (moment acked : ℕ) (lines : List Line) (old : Data) (ending : Option Ending) (new : Data) → old.state ≡ Connecting
+      → IsNoted moment acked fact.Ready lines old ending new → new.state ≡ Operational
   is_ready moment acked lines old ending new at n =
       ap (λ (x : Noted). x.1.state) n.is ∙ pulls_open moment lines (note_step acked fact.Ready moment old).1 n.pulled (note_ready acked moment old at) n.pulls
 
@@ -282,39 +239,52 @@ module _ (p : PrintData) where
   quiet_rises : (found : LinkFact) (acked : ℕ) (old : Data) → found ≡ fact.Quiet → Suits (first_fact found) acked old → old.acked ≤ acked
   quiet_rises found acked old e s = subst (λ f. Suits (first_fact f) acked old) e s
 
-  leaves_open : (moment acked : ℕ) (lines : List Line) (issued : List (List ℕ)) (old : Data) (ending : Option Ending) (new : Data) (end : Ending) → old.acked ≤ acked → IsNoted moment acked fact.Quiet lines old ending new → IsUnderway p old issued → ending ≡ Some end → (new.state ≡ Operational) × (new.greatest ≡ 1)
+  leaves_open : (moment acked : ℕ) (lines : List Line) (issued : List (List ℕ)) (old : Data) (ending : Option Ending) (new : Data) (end : Ending)
+      → old.acked ≤ acked → IsNoted moment acked fact.Quiet lines old ending new → IsUnderway p old issued → ending ≡ Some end
+      → (new.state ≡ Operational) × (new.greatest ≡ 1)
   leaves_open moment acked lines issued old ending new end more n h is =
       let told : Data = record old { acked = acked } in
       let done : Noted = end_at told.state told in
       let at_end : done.0 ≡ Some end = sym (ap (λ (x : Noted). x.0) n.is) ∙ is in
       let so = ends_open told.state told issued end refl (acked_more p acked old issued (λ off. more) h) at_end in
-      let first : (note_step acked fact.Quiet moment old).1.state ≡ Operational = settled_open done.1 so.0 in
-      (ap (λ (x : Noted). x.1.state) n.is ∙ pulls_open moment lines (note_step acked fact.Quiet moment old).1 n.pulled first n.pulls, noted_greatest moment acked fact.Quiet lines old ending new n ∙ so.1)
+      let first : (note_step acked fact.Quiet moment old).1.state ≡ Operational = settled_open done.1 so.0 in (
+        ap (λ (x : Noted). x.1.state) n.is ∙ pulls_open moment lines (note_step acked fact.Quiet moment old).1 n.pulled first n.pulls,
+        noted_greatest moment acked fact.Quiet lines old ending new n ∙ so.1,
+      )
 
   -- a whole turn, as the desk notes it
-  pub noted-turn : (moment acked : ℕ) (found : LinkFact) (lines : List Line) (issued : List (List ℕ)) (old : Data) (ending : Option Ending) (new : Data) → Suits (first_fact found) acked old → (begins found ≡ false → old.acked ≤ acked) → (begins found ≡ true → lines ≡ [])
+  pub noted-turn : (moment acked : ℕ) (found : LinkFact) (lines : List Line) (issued : List (List ℕ)) (old : Data) (ending : Option Ending)
+      (new : Data) → Suits (first_fact found) acked old → (begins found ≡ false → old.acked ≤ acked) → (begins found ≡ true → lines ≡ [])
       → IsNoted moment acked found lines old ending new → IsUnderway p old issued → IsTurnOf p found lines issued old ending new
   noted-turn moment acked found lines issued old ending new s rises none n h =
       let first : Noted = note_step acked (first_fact found) moment old in
       let texts : List (List ℕ) = after_fact (first_fact found) issued in
       let so : NotedSo p texts first = note-underway p (first_fact found) acked moment old issued s h in
-      let pulled : NotedSo p (texts ++ line_texts lines) (first.0, n.pulled) = (pulls-underway moment lines first.1 n.pulled texts n.pulls so.0, ends_more first.0 moment lines first.1 n.pulled texts n.pulls so.1) in
+      let pulled : NotedSo p (texts ++ line_texts lines) (first.0, n.pulled) =
+      (pulls-underway moment lines first.1 n.pulled texts n.pulls so.0, ends_more first.0 moment lines first.1 n.pulled texts n.pulls so.1) in
       let below : begins found ≡ false → n.pulled.acked ≤ acked = λ e.
-      (let same : n.pulled.acked ≡ acked = acked_pulls moment lines first.1 n.pulled n.pulls ∙ (counts_note acked (first_fact found) moment old (not_begun found e)).acked in omega (arith, same)) in
-      let last : NotedSo p (texts ++ line_texts lines) (ending, new) = subst (λ x. NotedSo p (texts ++ line_texts lines) x) (sym n.is) (noted_last found acked moment (texts ++ line_texts lines) (first.0, n.pulled) below pulled) in
-      let all : NotedSo p (issued_in found (line_texts lines) issued) (ending, new) = subst (λ l. NotedSo p l (ending, new)) (texts_after found lines issued none) last in
+      (let same : n.pulled.acked ≡ acked = acked_pulls moment lines first.1 n.pulled n.pulls
+      ∙ (counts_note acked (first_fact found) moment old (not_begun found e)).acked in omega (arith, same)) in
+      let last : NotedSo p (texts ++ line_texts lines) (ending, new) =
+      subst (λ x. NotedSo p (texts ++ line_texts lines) x) (sym n.is)
+      (noted_last found acked moment (texts ++ line_texts lines) (first.0, n.pulled) below pulled) in
+      let all : NotedSo p (issued_in found (line_texts lines) issued) (ending, new) =
+      subst (λ l. NotedSo p l (ending, new)) (texts_after found lines issued none) last in
       record {
         underway = all.0;
         ends = all.1;
         same_print = noted_greatest moment acked found lines old ending new n;
         connects = λ at e. stays_connecting moment acked lines old ending new at (subst (λ f. IsNoted moment acked f lines old ending new) e n);
-        opens = λ e. stays_opened moment acked lines old ending new (opening_at found acked old e s) (subst (λ f. IsNoted moment acked f lines old ending new) e n);
+        opens = λ e. stays_opened moment acked lines old ending new (opening_at found acked old e s)
+            (subst (λ f. IsNoted moment acked f lines old ending new) e n);
         readies = λ at e. is_ready moment acked lines old ending new at (subst (λ f. IsNoted moment acked f lines old ending new) e n);
-        leaves = λ end e is. leaves_open moment acked lines issued old ending new end (quiet_rises found acked old e s) (subst (λ f. IsNoted moment acked f lines old ending new) e n) h is;
+        leaves = λ end e is. leaves_open moment acked lines issued old ending new end (quiet_rises found acked old e s)
+            (subst (λ f. IsNoted moment acked f lines old ending new) e n) h is;
       }
 
   -- a turn that does nothing
-  rests : (found : LinkFact) (issued : List (List ℕ)) (old : Data) → can_find Resting found ≡ true → IsUnderway p old issued → IsTurnOf p found [] issued old None old
+  rests : (found : LinkFact) (issued : List (List ℕ)) (old : Data) → can_find Resting found ≡ true → IsUnderway p old issued
+      → IsTurnOf p found [] issued old None old
   rests fact.Quiet issued old can h = record {
     underway = subst (λ l. IsUnderway p old l) (sym (append-nil issued)) h;
     ends = tt;
@@ -331,17 +301,27 @@ module _ (p : PrintData) where
   rests fact.Failed issued old can h = absurd (false≢true can)
   rests (fact.Ended end) issued old can h = absurd (false≢true can)
 
-  desk_turn : (now : Doing) (moment acked : ℕ) (found : LinkFact) (lines : List Line) (issued : List (List ℕ)) (old : Data) (ending : Option Ending) (new : Data) → can_find now found ≡ true → Suits (first_fact found) acked old → (begins found ≡ false → old.acked ≤ acked)
-      → (begins found ≡ true → lines ≡ []) → IsDeskTurn now moment acked found lines old ending new → IsUnderway p old issued → IsTurnOf p found lines issued old ending new
-  desk_turn Dialling moment acked found lines issued old ending new can s more none t h = noted-turn moment acked found lines issued old ending new s more none t h
-  desk_turn HangingUp moment acked found lines issued old ending new can s more none t h = noted-turn moment acked found lines issued old ending new s more none t h
-  desk_turn Talking moment acked found lines issued old ending new can s more none t h = noted-turn moment acked found lines issued old ending new s more none t h
+  desk_turn : (now : Doing) (moment acked : ℕ) (found : LinkFact) (lines : List Line) (issued : List (List ℕ)) (old : Data) (ending : Option Ending)
+      (new : Data) → can_find now found ≡ true → Suits (first_fact found) acked old → (begins found ≡ false → old.acked ≤ acked)
+      → (begins found ≡ true → lines ≡ []) → IsDeskTurn now moment acked found lines old ending new → IsUnderway p old issued
+      → IsTurnOf p found lines issued old ending new
+  desk_turn Dialling moment acked found lines issued old ending new can s more none t h =
+      noted-turn moment acked found lines issued old ending new s more none t h
+  desk_turn HangingUp moment acked found lines issued old ending new can s more none t h =
+      noted-turn moment acked found lines issued old ending new s more none t h
+  desk_turn Talking moment acked found lines issued old ending new can s more none t h =
+      noted-turn moment acked found lines issued old ending new s more none t h
   desk_turn Resting moment acked found lines issued old ending new can s more none t h =
-      subst (λ l. IsTurnOf p found l issued old ending new) (sym t.0) (subst (λ e. IsTurnOf p found [] issued old e new) (sym t.1) (subst (λ (d : Data). IsTurnOf p found [] issued old None d) (sym t.2) (rests found issued old can h)))
+      subst (λ l. IsTurnOf p found l issued old ending new) (sym t.0)
+      (subst (λ e. IsTurnOf p found [] issued old e new) (sym t.1)
+      (subst (λ (d : Data). IsTurnOf p found [] issued old None d) (sym t.2) (rests found issued old can h)))
 
   -- a whole turn of a session
-  pub turn-underway : (moment : ℕ) (kind : LinkKind) (old_past new_past : Option (List WorldEvent)) (old_calls new_calls : Option ℕ) (old new : SessionData) (turned : Turned) (issued : List (List ℕ)) → IsSession old → can_find (doing old) (fact_of turned.note) ≡ true → (fact_of turned.note ≡ fact.Opened) ⊎ (old.sender.acked ≤ new.sender.acked)
-      → IsTurn moment kind old_past new_past old_calls new_calls old new turned → IsUnderway p old.desk issued → IsTurnOf p (fact_of turned.note) (lines_of turned.note) issued old.desk turned.ending new.desk
+  pub turn-underway : (moment : ℕ) (kind : LinkKind) (old_past new_past : Option (List WorldEvent)) (old_calls new_calls : Option ℕ)
+      (old new : SessionData) (turned : Turned) (issued : List (List ℕ)) → IsSession old → can_find (doing old) (fact_of turned.note) ≡ true
+      → (fact_of turned.note ≡ fact.Opened) ⊎ (old.sender.acked ≤ new.sender.acked)
+      → IsTurn moment kind old_past new_past old_calls new_calls old new turned → IsUnderway p old.desk issued
+      → IsTurnOf p (fact_of turned.note) (lines_of turned.note) issued old.desk turned.ending new.desk
   turn-underway moment kind old_past new_past old_calls new_calls old new turned issued joined can not_fallen t h =
       let found : fact_of turned.note ≡ t.found = noted_fact turned.note moment old.sender.acked new.sender.acked t.lines t.got t.found t.none t.some in
       let lines : lines_of turned.note ≡ t.lines = noted_lines turned.note moment old.sender.acked new.sender.acked t.lines t.got t.found t.none t.some in
@@ -354,5 +334,7 @@ module _ (p : PrintData) where
       let none : begins t.found ≡ true → t.lines ≡ [] = λ e.
       t.none_issued (ap (λ f. may_issue t.got f) (opened_last t.found e) ∙ quiet_may_not t.got) in
       let s : Suits (first_fact t.found) new.sender.acked old.desk = suits (doing old) t.found old new.sender.acked refl may more in
-      let so : IsTurnOf p t.found t.lines issued old.desk turned.ending new.desk = desk_turn (doing old) moment new.sender.acked t.found t.lines issued old.desk turned.ending new.desk may s more none t.desk h in
-      subst (λ f. IsTurnOf p f (lines_of turned.note) issued old.desk turned.ending new.desk) (sym found) (subst (λ l. IsTurnOf p t.found l issued old.desk turned.ending new.desk) (sym lines) so)
+      let so : IsTurnOf p t.found t.lines issued old.desk turned.ending new.desk =
+      desk_turn (doing old) moment new.sender.acked t.found t.lines issued old.desk turned.ending new.desk may s more none t.desk h in
+      subst (λ f. IsTurnOf p f (lines_of turned.note) issued old.desk turned.ending new.desk) (sym found)
+      (subst (λ l. IsTurnOf p t.found l issued old.desk turned.ending new.desk) (sym lines) so)

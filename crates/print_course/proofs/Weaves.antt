@@ -1,12 +1,12 @@
 -- Weaves, and the plan as lines and as texts.
-use Rattle.std.proofs.Common.{◌≡◌, ℕ, zero, suc, ◌+◌, ◌≤◌, List, [], ◌∷◌, ◌++◌, length, take, drop, slice_get, Some, refl, sym, ◌∙◌, ap, arith, append_assoc}
+use Rattle.std.proofs.Common.{◌≡◌, cond, ℕ, zero, suc, ◌+◌, ◌≤◌, List, [], ◌∷◌, ◌++◌, length, take, drop, slice_get, Some, refl, sym, ◌∙◌, ap, arith, append_assoc}
 use Rattle.std.proofs.lemmas.List.{append-nil, map-append, take-append-drop}
 use Rattle.desk_steps.specs.Data.{ScriptTexts, Line, tagged, script_lines}
 use Rattle.desk_steps.specs.Course.{job_line}
 use Rattle.desk_steps.specs.Plain.{numbered}
 use Rattle.desk_steps.specs.declared.state.Point.TheVariants as point
 use Rattle.desk_steps.specs.declared.state.Tag.{Tag}
-use Rattle.print_course.specs.Plan.{plan, poll, Weave, empty, planned, polled, IsPart, PrintData, print_commands, connected_lines, started_lines, printed_lines, done_lines, plan_lines, line_texts}
+use Rattle.print_course.specs.Plan.{plan, poll, is_poll, without_polls, Weave, empty, planned, polled, IsPart, PrintData, print_commands, connected_lines, started_lines, printed_lines, done_lines, plan_lines, line_texts}
 
 -- the plan's next text is issued
 pub weave_planned : (list plan : List (List ℕ)) (text : List ℕ) → Weave list plan → Weave (list ++ text ∷ []) (plan ++ text ∷ [])
@@ -19,6 +19,12 @@ pub weave_polled : (list plan : List (List ℕ)) → Weave list plan → Weave (
 weave_polled _ _ empty = polled [] [] empty
 weave_polled _ _ (planned first list plan w) = planned first (list ++ poll ∷ []) plan (weave_polled list plan w)
 weave_polled _ _ (polled list plan w) = polled (list ++ poll ∷ []) plan (weave_polled list plan w)
+
+-- the texts of a weave but for polls are those of its plan
+pub weave_others : (list plan : List (List ℕ)) → Weave list plan → without_polls list ≡ without_polls plan
+weave_others _ _ empty = refl
+weave_others _ _ (planned text list plan w) = ap (λ (l : List (List ℕ)). cond (is_poll text) l (text ∷ l)) (weave_others list plan w)
+weave_others _ _ (polled list plan w) = weave_others list plan w
 
 pub part_self : {X : Type 0} (xs : List X) → IsPart xs xs
 part_self xs = record { rest = []; joined = append-nil xs }
@@ -53,9 +59,11 @@ plan_is p =
     let s : ScriptTexts = p.scripts in
     let c : line_texts (connected_lines p) ≡ s.connected = texts_tagged _ s.connected in
     let b : line_texts (started_lines p) ≡ s.connected ++ s.started =
-    texts_append (connected_lines p) (script_lines s point.Started 1) ∙ ap (λ l. l ++ line_texts (script_lines s point.Started 1)) c ∙ ap (λ l. s.connected ++ l) (texts_tagged _ s.started) in
+    texts_append (connected_lines p) (script_lines s point.Started 1) ∙ ap (λ l. l ++ line_texts (script_lines s point.Started 1)) c
+    ∙ ap (λ l. s.connected ++ l) (texts_tagged _ s.started) in
     let n : line_texts (started_lines p ++ numbered 1 0 (print_commands p)) ≡ s.connected ++ s.started ++ print_commands p =
-    texts_append (started_lines p) (numbered 1 0 (print_commands p)) ∙ ap (λ l. l ++ line_texts (numbered 1 0 (print_commands p))) b ∙ ap (λ l. s.connected ++ s.started ++ l) (texts_numbered 0 (print_commands p)) in
+    texts_append (started_lines p) (numbered 1 0 (print_commands p)) ∙ ap (λ l. l ++ line_texts (numbered 1 0 (print_commands p))) b
+    ∙ ap (λ l. s.connected ++ s.started ++ l) (texts_numbered 0 (print_commands p)) in
     let d : line_texts (done_lines p) ≡ s.connected ++ s.started ++ print_commands p ++ s.done =
     texts_append (started_lines p ++ numbered 1 0 (print_commands p)) (script_lines s point.Done 1) ∙ ap (λ l. l ++ line_texts (script_lines s point.Done 1)) n
     ∙ ap (λ l. s.connected ++ s.started ++ print_commands p ++ l) (texts_tagged _ s.done) in
@@ -82,7 +90,8 @@ get_below [] n text e = absurd (cc e)
 get_below (first ∷ texts) zero text e = omega arith
 get_below (first ∷ texts) (suc n) text e = let below = get_below texts n text e in omega arith
 
-pub printed_more : (p : PrintData) (n : ℕ) (text : List ℕ) → slice_get (print_commands p) n ≡ Some text → printed_lines p (n + 1) ≡ printed_lines p n ++ job_line 1 n text ∷ []
+pub printed_more : (p : PrintData) (n : ℕ) (text : List ℕ) → slice_get (print_commands p) n ≡ Some text
+    → printed_lines p (n + 1) ≡ printed_lines p n ++ job_line 1 n text ∷ []
 printed_more p n text e =
     let one : n + 1 ≡ suc n = omega arith in
     ap (λ (k : ℕ). printed_lines p k) one ∙ ap (λ (l : List Line). started_lines p ++ l) (take_numbered 0 n n (print_commands p) text e (omega arith))
@@ -111,11 +120,15 @@ printed_in_done p n =
 
 pub started_in_done : (p : PrintData) → IsPart (started_lines p) (done_lines p)
 started_in_done p =
-    part_of (started_lines p) (started_lines p ++ numbered 1 0 (print_commands p)) (done_lines p) (part_behind (started_lines p) (numbered 1 0 (print_commands p))) (part_behind (started_lines p ++ numbered 1 0 (print_commands p)) (script_lines p.scripts point.Done 1))
+    part_of (started_lines p) (started_lines p ++ numbered 1 0 (print_commands p)) (done_lines p)
+    (part_behind (started_lines p) (numbered 1 0 (print_commands p)))
+    (part_behind (started_lines p ++ numbered 1 0 (print_commands p)) (script_lines p.scripts point.Done 1))
 
 pub done_in_plan : (p : PrintData) → IsPart (done_lines p) (plan_lines p)
 done_in_plan p = part_behind (done_lines p) (script_lines p.scripts point.Disconnect 0)
 
 pub connected_in_plan : (p : PrintData) → IsPart (connected_lines p) (plan_lines p)
 connected_in_plan p =
-    part_of (connected_lines p) (done_lines p) (plan_lines p) (part_of (connected_lines p) (started_lines p) (done_lines p) (part_behind (connected_lines p) (script_lines p.scripts point.Started 1)) (started_in_done p)) (done_in_plan p)
+    part_of (connected_lines p) (done_lines p) (plan_lines p)
+    (part_of (connected_lines p) (started_lines p) (done_lines p) (part_behind (connected_lines p) (script_lines p.scripts point.Started 1))
+    (started_in_done p)) (done_in_plan p)

@@ -1,5 +1,6 @@
 -- What one print issues, in order.
-use Rattle.std.specs.Prelude.{◌≡◌, ℕ, codes, List, [], ◌∷◌, ◌++◌, map, take}
+use Rattle.std.specs.Prelude.{◌≡◌, ℕ, Bool, nat_eq, codes, List, [], ◌∷◌, ◌++◌, map, take, if◌then◌else◌}
+use Rattle.std.specs.Cmp.Lexicographic.{pointwise}
 use Rattle.gcode_lines.specs.Job.{texts_of}
 use Rattle.temp_rules.specs.declared.limits.Limits.{Limits}
 use Rattle.desk_steps.specs.Data.{ScriptTexts, File, Line, script_lines}
@@ -19,6 +20,14 @@ pub data Weave : List (List ℕ) → List (List ℕ) → Type 0 where
   empty : Weave [] []
   planned : (text : List ℕ) (list plan : List (List ℕ)) → Weave list plan → Weave (text ∷ list) (text ∷ plan)
   polled : (list plan : List (List ℕ)) → Weave list plan → Weave (poll ∷ list) plan
+
+-- the texts but for polls
+abbrev pub is_poll : List ℕ → Bool
+is_poll text = pointwise nat_eq text poll
+
+abbrev pub without_polls : List (List ℕ) → List (List ℕ)
+without_polls [] = []
+without_polls (text ∷ texts) = if is_poll text then without_polls texts else text ∷ without_polls texts
 
 -- a list begins another one
 pub record IsPart {X : Type 0} (part whole : List X) : Type 0 where

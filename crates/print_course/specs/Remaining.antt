@@ -1,6 +1,7 @@
 -- How many lines of its plan a print's desk has still to issue.
-use Rattle.std.specs.Prelude.{ℕ, Bool, true, false, ◌+◌, ◌-◌, ◌==◌, length, Option, None, Some, if◌then◌else◌}
-use Rattle.desk_steps.specs.Data.{Line}
+use Rattle.std.specs.Prelude.{◌≡◌, ◌⊎◌, ◌≤◌, ℕ, Bool, true, false, ◌+◌, ◌-◌, ◌==◌, List, [], ◌∷◌, length, Option, None, Some, if◌then◌else◌}
+use Rattle.desk_steps.specs.Data.{Data, Line, moment_after}
+use Rattle.desk_steps.specs.Pull.{Drawn}
 use Rattle.desk_steps.specs.declared.state.State.{State}
 use Rattle.desk_steps.specs.declared.state.State.TheVariants.{Connecting, Operational, Printing, Finishing, Closing}
 use Rattle.desk_steps.specs.declared.state.Tag.{Tag}
@@ -12,7 +13,10 @@ use Rattle.print_course.specs.Underway.{Standing}
 abbrev pub remaining_at : PrintData → State → ℕ → ℕ → ℕ → ℕ
 remaining_at p Connecting print cursor waits = length (plan p.scripts (print_commands p))
 remaining_at p Operational print cursor waits =
-    waits + (if print == 0 then length p.scripts.started + length (print_commands p) + length p.scripts.done + length p.scripts.disconnect else length p.scripts.disconnect)
+    waits
+    + (if print == 0
+    then length p.scripts.started + length (print_commands p) + length p.scripts.done + length p.scripts.disconnect
+    else length p.scripts.disconnect)
 remaining_at p Printing print cursor waits = waits + (length (print_commands p) - cursor) + length p.scripts.done + length p.scripts.disconnect
 remaining_at p Finishing print cursor waits = waits + length p.scripts.disconnect
 remaining_at p Closing print cursor waits = waits
@@ -40,3 +44,23 @@ is_giving Printing = true
 is_giving Finishing = true
 is_giving Closing = true
 is_giving _ = false
+
+-- how many lines of the plan are among lines
+abbrev pub planned_count : List Line → ℕ
+planned_count [] = 0
+planned_count (line ∷ lines) = planned_tag line.tag + planned_count lines
+
+-- a pull that gave a line: it's the plan's and leaves the poll's moment, or it's a poll that was due and puts off the next
+pub record IsPacedBy (moment : ℕ) (old new : Data) (line : Line) : Type 0 where
+  pub same_ms : new.poll_ms ≡ old.poll_ms
+  pub by_tag : (planned_tag line.tag ≡ 1) × (new.poll_at ≡ old.poll_at)
+      ⊎ (planned_tag line.tag ≡ 0) × (old.poll_at ≤ moment) × (new.poll_at ≡ moment_after moment old.poll_ms)
+
+abbrev pub IsPaced : ℕ → Data → Drawn → Type 0
+IsPaced moment d drawn = (line : Line) → drawn.0 ≡ Some line → IsPacedBy moment d drawn.1 line
+
+-- the lines of successive pulls at one moment: all are the plan's, or all but one, which is a poll that was due
+abbrev pub ArePaced : ℕ → List Line → Data → Data → Type 0
+ArePaced moment lines old new =
+    (length lines ≡ planned_count lines) × (new.poll_at ≡ old.poll_at)
+    ⊎ (length lines ≡ planned_count lines + 1) × (old.poll_at ≤ moment) × (new.poll_at ≡ moment_after moment old.poll_ms)

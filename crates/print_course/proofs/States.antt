@@ -1,0 +1,77 @@
+-- The states that pulls and notes keep or lead to.
+use Rattle.std.proofs.Common.{◌≡◌, ℕ, Bool, true, false, cond, codes, List, [], ◌∷◌, Option, None, Some, refl, sym, ◌∙◌, ap}
+use Rattle.desk_steps.specs.declared.link_fact.LinkFact.TheVariants as fact
+use Rattle.desk_steps.specs.Data.{Data, Line, moment_after}
+use Rattle.desk_steps.specs.Pull.{Drawn, nothing, draw_at, settle_at, settled, pull_step, issue, from_scripts, from_manual, poll_is_due}
+use Rattle.desk_steps.specs.Note.{Noted, end_at, opened, ready_at, fail, note_step}
+use Rattle.desk_steps.specs.declared.state.State.{State}
+use Rattle.desk_steps.specs.declared.state.State.TheVariants.{Connecting, Operational, Fault}
+use Rattle.desk_steps.specs.declared.state.Tag.TheVariants.{Manual, Poll}
+use Rattle.octo_session.specs.DeskTurn.{Pulls}
+use Rattle.octo_session.proofs.Counts.{counted_pull}
+use Rattle.print_course.proofs.Pulling.{issue_state}
+
+-- What pulls leave as it is.
+
+-- a desk that gives no line stays
+pub stays_silent : (s : State) (moment : ℕ) (lines : List Line) (old new : Data) → ((d : Data) → draw_at s moment d ≡ nothing d) → old.state ≡ s
+    → Pulls moment lines old new → new ≡ old
+stays_silent s moment [] old new none at pulls = pulls
+stays_silent s moment (line ∷ lines) old new none at pulls =
+    let quiet : draw_at old.state moment old ≡ nothing old = ap (λ t. draw_at t moment old) at ∙ none old in
+    let no_line : ◌≡◌ {A = Option Line} None (Some line) = sym (ap (λ (drawn : Drawn). drawn.0) quiet) ∙ pulls.0 in
+    absurd (cc no_line)
+
+pub acked_pulls : (moment : ℕ) (lines : List Line) (old new : Data) → Pulls moment lines old new → new.acked ≡ old.acked
+acked_pulls moment [] old new pulls = ap (λ (d : Data). d.acked) pulls
+acked_pulls moment (line ∷ lines) old new pulls = acked_pulls moment lines (pull_step moment old).1 new pulls.1 ∙ (counted_pull moment old).acked
+
+kept_scripts : (w : List Line) (d : Data) (next : Drawn) → next.1.state ≡ d.state → (from_scripts w d next).1.state ≡ d.state
+kept_scripts [] d next same = same
+kept_scripts (line ∷ lines) d next same = issue_state line (record d { waiting = lines })
+
+kept_manual : (m : List (List ℕ)) (d : Data) (next : Drawn) → next.1.state ≡ d.state → (from_manual m d next).1.state ≡ d.state
+kept_manual [] d next same = same
+kept_manual (text ∷ texts) d next same = issue_state (record { text = text; tag = Manual }) (record d { manual = texts })
+
+kept_poll : (b : Bool) (at : ℕ) (d : Data) (next : Drawn) → next.1.state ≡ d.state
+    → (cond b (issue (record { text = codes "M105"; tag = Poll }) (record d { poll_at = at })) next).1.state ≡ d.state
+kept_poll true at d next same = issue_state (record { text = codes "M105"; tag = Poll }) (record d { poll_at = at })
+kept_poll false at d next same = same
+
+draw_open : (moment : ℕ) (d : Data) → (draw_at Operational moment d).1.state ≡ d.state
+draw_open moment d = kept_scripts d.waiting d _ (kept_manual d.manual d _ (kept_poll (poll_is_due moment d) (moment_after moment d.poll_ms) d (nothing d) refl))
+
+pub settled_open : (d : Data) → d.state ≡ Operational → (settled d).state ≡ Operational
+settled_open d at = ap (λ s. (settle_at s d).state) at ∙ at
+
+pull_open : (moment : ℕ) (d : Data) → d.state ≡ Operational → (pull_step moment d).1.state ≡ Operational
+pull_open moment d at =
+    let drawn : Drawn = draw_at d.state moment d in
+    settled_open drawn.1 (ap (λ s. (draw_at s moment d).1.state) at ∙ draw_open moment d ∙ at)
+
+pub pulls_open : (moment : ℕ) (lines : List Line) (old new : Data) → old.state ≡ Operational → Pulls moment lines old new → new.state ≡ Operational
+pulls_open moment [] old new at pulls = ap (λ (d : Data). d.state) pulls ∙ at
+pulls_open moment (line ∷ lines) old new at pulls = pulls_open moment lines (pull_step moment old).1 new (pull_open moment old at) pulls.1
+
+-- What notes make of the state.
+
+-- nothing ends while it connects
+none_ends : (d : Data) → d.state ≡ Connecting → (settled (end_at d.state d).1).state ≡ Connecting
+none_ends d at = ap (λ s. (settled (end_at s d).1).state) at ∙ ap (λ s. (settle_at s d).state) at ∙ at
+
+pub note_connecting : (acked moment : ℕ) (d : Data) → d.state ≡ Connecting → (note_step acked fact.Quiet moment d).1.state ≡ Connecting
+note_connecting acked moment d at = none_ends (record d { acked = acked }) at
+
+pub note_opened : (acked moment : ℕ) (d : Data) → d.state ≡ Connecting → (note_step acked fact.Opened moment d).1.state ≡ Connecting
+note_opened acked moment d at = none_ends (opened (record d { acked = acked })) at
+
+pub note_ready : (acked moment : ℕ) (d : Data) → d.state ≡ Connecting → (note_step acked fact.Ready moment d).1.state ≡ Operational
+note_ready acked moment d at =
+    let heard : Data = record d { acked = acked; ready = true } in
+    let is : ready_at d.state moment heard ≡ ready_at Connecting moment heard = ap (λ s. ready_at s moment heard) at in
+    ap (λ (x : Data). (settled (end_at x.state x).1).state) is
+
+pub failed_state : (noted : Noted) → (settled (fail noted).1).state ≡ Fault
+failed_state (None, d) = refl
+failed_state (Some ending, d) = refl
