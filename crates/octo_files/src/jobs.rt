@@ -1,5 +1,5 @@
 //! A file read into the job of its commands.
-ghost use Rattle.std.specs.Prelude.{◌≡◌, ◌≢◌, ◌⊎◌, ◌≤◌, Err, IfErr, true};
+ghost use Rattle.std.specs.Prelude.{◌≡◌, ◌≢◌, ◌⊎◌, ◌≤◌, Err, IfErr, IfOk, None, true};
 ghost use Rattle.octo_outside.specs.Told.{Rose};
 ghost use Rattle.gcode_lines.specs.Commands.{job_of};
 ghost use Rattle.octo_report.specs.declared.report.Report.TheVariants as report;
@@ -59,6 +59,7 @@ pub(crate) fn read_any_job<F: Source>(
 /// A job, unless one of its commands is too hot.
 fn within(limits: &Limits, job: Job) -> Result<Job, Report>
     ensures exact { result ≡ unless_hot job (first_hot_of limits.now job.commands) }
+    ensures cool { IfOk result (λ job. first_hot_of limits.now job.commands ≡ None) }
     ensures refusal { IfErr result (λ r. is_refusal r ≡ true) }
     ensures source { result ≢ Err report.SourceFailed }
 {
@@ -80,6 +81,7 @@ pub fn read_job<F: Source>(
     // result
     ensures exact { IsTroubled result
         ⊎ FileGives (F.files files.old) name.now (λ bytes. result ≡ job_in limits.now bytes) }
+    ensures cool { IfOk result (λ job. first_hot_of limits.now job.commands ≡ None) }
     ensures refusal { IfErr result (λ r. is_refusal r ≡ true) }
 
     // the source

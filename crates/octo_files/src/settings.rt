@@ -1,8 +1,9 @@
 //! The settings of a command.
-ghost use Rattle.std.specs.Prelude.{◌≡◌, ◌≢◌, ◌⊎◌, ◌≤◌, Err, IfErr, Ok, true, IsUtf8};
+ghost use Rattle.std.specs.Prelude.{◌≡◌, ◌≢◌, ◌⊎◌, ◌≤◌, Err, IfErr, IfOk, Ok, true, IsUtf8};
 ghost use Rattle.octo_outside.specs.Told.{Rose};
 ghost use Rattle.octo_report.specs.declared.report.Report.TheVariants as report;
 ghost use Rattle.octo_settings.specs.Config.{plain_settings};
+ghost use Rattle.octo_settings.specs.Sound.{IsSettings};
 ghost use Rattle.octo_files.specs.Reading.{FileGives, IsTroubled};
 ghost use Rattle.octo_files.specs.Settings.{AreSettings, HaveSettings, is_settings_refusal};
 ghost use Rattle.std.specs.Option.{option_map};
@@ -18,6 +19,7 @@ const MOST_BYTES: usize = 1_048_576;
 /// The settings that bytes say.
 fn settings_of_bytes(alloc: Global, bytes: &[u8]) -> Result<Settings, Report>
     ensures exact { (result ≡ Err report.NoMemory) ⊎ AreSettings bytes.now result }
+    ensures sound { IfOk result IsSettings }
     ensures refusal { IfErr result (λ r. is_settings_refusal r ≡ true) }
     ensures source { result ≢ Err report.SourceFailed }
 {
@@ -37,6 +39,7 @@ fn read_settings_file<F: Source>(
     // result
     ensures exact { IsTroubled result
         ⊎ FileGives (F.files files.old) name.now (λ bytes. AreSettings bytes result) }
+    ensures sound { IfOk result IsSettings }
     ensures refusal { IfErr result (λ r. is_settings_refusal r ≡ true) }
 
     // the source
@@ -61,6 +64,7 @@ pub fn read_settings_of<F: Source>(
 ) -> Result<Settings, Report>
     // result
     ensures exact { HaveSettings (F.files files.old) (option_map (λ n. n.now) name.entry) result }
+    ensures sound { IfOk result IsSettings }
     ensures refusal { IfErr result (λ r. is_settings_refusal r ≡ true) }
 
     // the source
