@@ -7,17 +7,17 @@ use Rattle.printer_link.specs.Link.{LinkKind}
 use Rattle.printer_link.proofs.Grown.{recorded_same}
 use Rattle.send_window.specs.Data.{SenderData, IsSound}
 use Rattle.octo_session.specs.Data.{SessionData, doing, port_of}
-use Rattle.octo_session.specs.declared.found.Doing.TheVariants.{Dialling}
 use Rattle.temp_rules.specs.Hot.{first_hot_of}
 use Rattle.print_course.specs.Underway.{IsUnderway}
 use Rattle.print_course.proofs.Calls.{select-underway}
 use Rattle.session_print.specs.Ends.{IsNew, prepared, print_of}
-use Rattle.session_print.specs.Patience.{IsPatient, IsOnTime}
+use Rattle.lossy_turns.specs.Patience.{IsPatient, IsOnTime}
 use Rattle.session_print.specs.Printed.{HasPrinted, IsOver}
 use Rattle.session_print.specs.BetweenTurns.{IsDialling}
 use Rattle.session_print.specs.declared.end.PrintEnd.{PrintEnd}
 use Rattle.session_print.specs.declared.end.PrintEnd.TheVariants as end
-use Rattle.session_print.proofs.Sessions.{none_printed, printed_of, part_none}
+use Rattle.lossy_turns.proofs.Histories.{none_printed}
+use Rattle.session_print.proofs.Printing.{printed_of, part_none}
 
 new_acked : (x : SessionData) → IsNew x → x.sender.acked ≡ 0
 new_acked x new = ap (λ (s : SenderData). s.acked) new.its_sender

@@ -4,7 +4,7 @@ use Rattle.std.specs.Prelude.{Option, None, Some}
 use Rattle.temp_rules.specs.Hot.{first_hot_of}
 use Rattle.desk_steps.specs.Data.{Data, Line}
 use Rattle.desk_steps.specs.Note.{Noted, note_step}
-use Rattle.desk_steps.specs.Table.{Answer, disconnect_at, start_at}
+use Rattle.desk_steps.specs.Table.{Answer, start_at}
 use Rattle.desk_steps.specs.declared.link_fact.LinkFact.TheVariants as fact
 use Rattle.desk_steps.specs.declared.state.State.{State}
 use Rattle.desk_steps.specs.declared.state.State.TheVariants.{Offline, Connecting, Operational, Printing, Pausing, Paused, Cancelling, Finishing, Closing, Fault}

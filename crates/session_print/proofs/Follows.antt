@@ -1,48 +1,31 @@
 -- What follows of a turn.
-use Rattle.std.proofs.Common.{◌≡◌, ◌≢◌, ◌↔◌, ◌⊎◌, inl, inr, ℕ, suc, ◌+◌, ◌≤◌, Bool, true, false, List, [], ◌∷◌, ◌++◌, refl, sym, ◌∙◌, ap, subst, arith}
+use Rattle.std.proofs.Common.{◌≡◌, ℕ, true, false, List, refl, sym, ◌∙◌, ap}
 use Rattle.std.specs.Prelude.{Option, None, Some}
 use Rattle.std.proofs.lemmas.Option.{same_Some}
 use Rattle.desk_steps.specs.Data.{Data}
 use Rattle.desk_steps.specs.Table.{disconnect_at}
 use Rattle.desk_steps.specs.declared.state.State.{State}
 use Rattle.desk_steps.specs.declared.state.State.TheVariants.{Offline, Connecting, Operational, Printing, Pausing, Paused, Cancelling, Finishing, Closing, Fault}
-use Rattle.marlin_reply.specs.Kind.{kind_of}
 use Rattle.desk_steps.specs.declared.link_fact.LinkFact.{LinkFact}
 use Rattle.desk_steps.specs.declared.link_fact.LinkFact.TheVariants as fact
 use Rattle.send_window.specs.declared.session_end.SessionEnd.{SessionEnd}
 use Rattle.print_records.specs.declared.ending.Ending.{Ending}
 use Rattle.printer_model.specs.declared.event.WorldEvent.{WorldEvent}
-use Rattle.printer_link.specs.Link.{LinkKind, Recorded, world_in}
-use Rattle.printer_link.proofs.Grown.{recorded_then, recorded_so}
-use Rattle.send_window.specs.Data.{SenderData, IsSound}
-use Rattle.send_window.specs.Hearing.{hear_step, tick_step}
-use Rattle.send_window.specs.Sending.{frame_step}
-use Rattle.octo_session.specs.Data.{SessionData, doing, is_calling, port_of}
-use Rattle.octo_session.specs.Found.{Got, unasked, lost, nothing, whole, can_find, up_after}
-use Rattle.octo_session.specs.Steps.{Step, opens as makes_link, finds_no_port, fails_to_dial, hears, listens, fails_to_receive, ticks, issues, gives, fails_to_send, hangs_up, after_step, after_steps, clock_steps, dial_steps, talk_steps, turn_steps}
-use Rattle.octo_session.specs.Turn.{IsTurn, fact_of, lines_of, texts_in}
+use Rattle.printer_link.specs.Link.{LinkKind}
+use Rattle.printer_link.proofs.Grown.{recorded_so}
+use Rattle.octo_session.specs.Data.{SessionData, doing, is_calling}
+use Rattle.octo_session.specs.Found.{can_find}
 use Rattle.octo_session.specs.declared.found.Doing.{Doing}
 use Rattle.octo_session.specs.declared.found.Doing.TheVariants.{Dialling, HangingUp, Talking, Resting}
-use Rattle.octo_session.specs.declared.found.Turned.{Turned}
-use Rattle.octo_session.proofs.Keeping.{ready_lasts, acked_heard, ticked_keeps, keeps_frame}
-use Rattle.lossy_wires.specs.Pieces.{Each}
 use Rattle.print_course.specs.Plan.{PrintData, print_commands, plan}
 use Rattle.print_course.specs.Underway.{IsUnderway}
-use Rattle.lossy_line.specs.Issuing.{issued_in}
-use Rattle.lossy_line.specs.Linked.{IsOpened, IsLinked, LinkedAs, opened}
-use Rattle.lossy_line.specs.Tied.{EndCausedAs}
-use Rattle.lossy_line.proofs.Speech.{plain_clock}
-use Rattle.lossy_line.proofs.Stepping.{IsPlain}
-use Rattle.octo_session.proofs.Noting.{noted_fact}
-use Rattle.lossy_line.proofs.Told.{IsKept}
-use Rattle.lossy_line.proofs.Turned.{IsTurned, dials_down, rests_down, opens_dialling}
-use Rattle.session_print.specs.Ends.{IsUnsent, end_of, desk_after, left_after}
-use Rattle.session_print.specs.Printed.{HasIssued, IsOver}
-use Rattle.session_print.specs.BetweenTurns.{IsDialling, IsMade, IsTalking, IsBetweenTurns, GoesOn}
+use Rattle.lossy_line.proofs.Turned.{rests_down}
+use Rattle.session_print.specs.Ends.{end_of, desk_after, left_after}
+use Rattle.session_print.specs.Printed.{IsOver}
+use Rattle.lossy_turns.specs.History.{IsMade}
+use Rattle.session_print.specs.BetweenTurns.{IsTalking, GoesOn}
 use Rattle.session_print.specs.declared.end.PrintEnd.{PrintEnd}
 use Rattle.session_print.specs.declared.end.PrintEnd.TheVariants as end
-use Rattle.session_print.proofs.Sessions.{none_printed, nothing_added}
-use Rattle.session_print.proofs.Turns.{ports_dialling, turned_all, made_on, made_now, none_made, none_added, made_printed}
 use Rattle.session_print.proofs.Course.{start_course, left_course}
 
 -- which end it is

@@ -1,9 +1,6 @@
-pub mod Sessions
-pub mod Turns
-pub mod Lasting
+pub mod Printing
 pub mod Course
 pub mod Steps
 pub mod Follows
 pub mod Loops
-pub mod Waits
 pub mod Begins

@@ -1,6 +1,5 @@
 -- What a print between two turns says of the next one, and what it leaves if no turn is left.
-use Rattle.std.proofs.Common.{◌≡◌, ◌≢◌, ◌⊎◌, inl, inr, ℕ, ◌≤◌, Bool, true, false, List, [], ◌∷◌, ◌++◌, Option, refl, sym, ◌∙◌, ap, subst}
-use Rattle.send_window.specs.declared.session_end.SessionEnd.{SessionEnd}
+use Rattle.std.proofs.Common.{◌≡◌, ◌⊎◌, inl, inr, ℕ, Bool, true, false, List, [], ◌++◌, Option, sym, ◌∙◌, ap, subst}
 use Rattle.printer_model.specs.declared.event.WorldEvent.{WorldEvent}
 use Rattle.printer_model.specs.Executed.{opens}
 use Rattle.printer_link.specs.Link.{LinkKind, Recorded, Grows, IsHangUp, world_in}
@@ -11,11 +10,13 @@ use Rattle.lossy_line.proofs.Turned.{dials_down}
 use Rattle.print_course.specs.Plan.{PrintData, print_commands, plan}
 use Rattle.print_course.proofs.Results.{underway-part}
 use Rattle.session_print.specs.Printed.{HasPrinted, IsOver}
-use Rattle.session_print.specs.BetweenTurns.{IsDialling, IsMade, IsTalking, IsBetweenTurns}
+use Rattle.lossy_turns.specs.History.{IsMade}
+use Rattle.session_print.specs.BetweenTurns.{IsDialling, IsTalking, IsBetweenTurns}
 use Rattle.session_print.specs.declared.end.PrintEnd.{PrintEnd}
 use Rattle.session_print.specs.declared.end.PrintEnd.TheVariants as end
-use Rattle.session_print.proofs.Sessions.{none_printed, printed_of, part_none}
-use Rattle.session_print.proofs.Turns.{hung_printed}
+use Rattle.lossy_turns.proofs.Histories.{none_printed}
+use Rattle.session_print.proofs.Printing.{printed_of, part_none}
+use Rattle.lossy_turns.proofs.Turns.{hung_printed}
 
 -- a print after so many turns: only the first one dials
 abbrev pub IsAfter : ℕ → LinkKind → PrintData → List ℕ → Option (List WorldEvent) → Option (List WorldEvent) → SessionData → Type 0

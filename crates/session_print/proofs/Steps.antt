@@ -1,12 +1,8 @@
 -- How a turn leads a print on.
-use Rattle.std.proofs.Common.{◌≡◌, ◌≢◌, ◌↔◌, ◌⊎◌, inl, inr, ℕ, suc, ◌+◌, ◌≤◌, Bool, true, false, List, [], ◌∷◌, ◌++◌, refl, sym, ◌∙◌, ap, subst, arith}
-use Rattle.std.specs.Prelude.{Option, None, Some, ◌&&◌, length}
-use Rattle.std.proofs.lemmas.Option.{same_Some}
+use Rattle.std.proofs.Common.{◌≡◌, ◌↔◌, ◌⊎◌, inl, inr, ℕ, ◌≤◌, Bool, true, false, List, [], refl, sym, ◌∙◌, ap, subst, arith}
+use Rattle.std.specs.Prelude.{Option, Some, ◌&&◌, length}
 use Rattle.desk_steps.specs.Data.{Data, Line}
-use Rattle.desk_steps.specs.Table.{disconnect_at}
-use Rattle.desk_steps.specs.declared.state.State.{State}
-use Rattle.desk_steps.specs.declared.state.State.TheVariants.{Offline, Connecting, Operational, Printing, Pausing, Paused, Cancelling, Finishing, Closing, Fault}
-use Rattle.marlin_reply.specs.Kind.{kind_of}
+use Rattle.desk_steps.specs.declared.state.State.TheVariants.{Offline, Operational}
 use Rattle.desk_steps.specs.declared.link_fact.LinkFact.{LinkFact}
 use Rattle.desk_steps.specs.declared.link_fact.LinkFact.TheVariants as fact
 use Rattle.send_window.specs.declared.session_end.SessionEnd.{SessionEnd}
@@ -15,40 +11,36 @@ use Rattle.printer_model.specs.declared.event.WorldEvent.{WorldEvent}
 use Rattle.printer_link.specs.Link.{LinkKind, Recorded, world_in}
 use Rattle.printer_link.proofs.Grown.{recorded_then, recorded_so}
 use Rattle.send_window.specs.Data.{SenderData, IsSound}
-use Rattle.send_window.specs.Hearing.{hear_step, tick_step}
-use Rattle.send_window.specs.Sending.{frame_step}
 use Rattle.octo_session.specs.Data.{SessionData, IsSession, doing, port_of}
 use Rattle.octo_session.specs.DeskTurn.{IsNoted}
-use Rattle.octo_session.specs.Found.{Got, unasked, lost, nothing, whole as whole_line, is_got, is_said, can_find, up_after, ready_after}
-use Rattle.octo_session.specs.Steps.{Step, opens as makes_link, finds_no_port, fails_to_dial, hears, listens, fails_to_receive, ticks, issues, gives, fails_to_send, hangs_up, after_step, after_steps, clock_steps, dial_steps, talk_steps, turn_steps}
+use Rattle.octo_session.specs.Found.{is_got, is_said, can_find, up_after, ready_after}
+use Rattle.octo_session.specs.Steps.{after_steps, turn_steps}
 use Rattle.octo_session.specs.Turn.{IsTurn, IsDeskTurn, fact_of, lines_of, texts_in}
 use Rattle.octo_session.specs.declared.found.Doing.{Doing}
 use Rattle.octo_session.specs.declared.found.Doing.TheVariants.{Dialling, HangingUp, Talking, Resting}
 use Rattle.octo_session.specs.declared.found.Turned.{Turned}
-use Rattle.octo_session.proofs.Keeping.{ready_lasts, acked_heard, ticked_keeps, keeps_frame}
-use Rattle.lossy_wires.specs.Pieces.{Each}
 use Rattle.print_course.specs.Plan.{PrintData, print_commands, plan, Weave, line_texts}
 use Rattle.print_course.specs.Turned.{IsTurnOf}
 use Rattle.print_course.proofs.Turning.{turn-underway}
 use Rattle.print_course.specs.Underway.{IsUnderway}
 use Rattle.print_course.proofs.Results.{underway-part, underway-whole}
 use Rattle.lossy_line.specs.Issuing.{issued_in}
-use Rattle.lossy_line.specs.Linked.{IsOpened, IsLinked, LinkedAs, opened}
+use Rattle.lossy_line.specs.Linked.{IsLinked, LinkedAs, opened}
 use Rattle.lossy_line.specs.Tied.{EndCausedAs}
-use Rattle.lossy_line.proofs.Speech.{plain_clock}
-use Rattle.lossy_line.proofs.Stepping.{IsPlain}
 use Rattle.octo_session.proofs.Noting.{noted_fact, noted_lines}
 use Rattle.lossy_line.proofs.Told.{IsKept}
 use Rattle.lossy_line.proofs.Turned.{IsTurned, dials_down, rests_down, opens_dialling}
 use Rattle.session_print.specs.Ends.{IsUnsent, end_of}
 use Rattle.session_print.specs.Printed.{HasPrinted, IsOver}
-use Rattle.session_print.specs.BetweenTurns.{IsDialling, IsMade, IsTalking, IsBetweenTurns, GoesOn}
+use Rattle.lossy_turns.specs.History.{IsMade}
+use Rattle.session_print.specs.BetweenTurns.{IsDialling, IsTalking, IsBetweenTurns, GoesOn}
 use Rattle.session_print.specs.declared.end.PrintEnd.{PrintEnd}
 use Rattle.session_print.specs.declared.end.PrintEnd.TheVariants as end
-use Rattle.session_print.proofs.Sessions.{none_printed, nothing_added, printed_of, part_none}
-use Rattle.session_print.proofs.Turns.{ports_dialling, turned_all, made_on, made_now, none_made, none_added, made_printed}
+use Rattle.lossy_turns.proofs.Histories.{none_printed, nothing_added}
+use Rattle.session_print.proofs.Printing.{printed_of, part_none}
+use Rattle.lossy_turns.proofs.Turns.{ports_dialling, turned_all, made_on, made_now, none_made, none_added, made_printed}
 use Rattle.session_print.proofs.Course.{closed_off}
-use Rattle.session_print.proofs.Lasting.{sound_steps, ended_turn}
+use Rattle.lossy_turns.proofs.Lasting.{sound_steps, ended_turn}
 
 -- what a turn promises of a print
 pub record HasTurned (moment : ℕ) (kind : LinkKind) (old_past new_past : Option (List WorldEvent)) (old_calls new_calls : Option ℕ) (old mid : SessionData) (turned : Turned) : Type 0 where

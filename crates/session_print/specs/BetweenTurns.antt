@@ -1,15 +1,14 @@
 -- Where a print is between two turns.
-use Rattle.std.specs.Prelude.{◌≡◌, ◌⊎◌, ℕ, Bool, true, false, List, [], ◌++◌, Option, None, Some}
-use Rattle.printer_model.specs.Executed.{opens}
+use Rattle.std.specs.Prelude.{◌≡◌, ◌⊎◌, ℕ, true, false, List, [], Option, None, Some}
 use Rattle.printer_model.specs.declared.event.WorldEvent.{WorldEvent}
 use Rattle.printer_link.specs.Link.{LinkKind, Recorded}
 use Rattle.send_window.specs.Data.{IsSound}
 use Rattle.octo_session.specs.Data.{SessionData, doing, port_of}
 use Rattle.octo_session.specs.declared.found.Doing.TheVariants.{Dialling}
-use Rattle.lossy_line.specs.Linked.{IsOpened}
 use Rattle.temp_rules.specs.Hot.{first_hot_of}
 use Rattle.print_course.specs.Plan.{PrintData, print_commands, plan}
 use Rattle.print_course.specs.Underway.{IsUnderway}
+use Rattle.lossy_turns.specs.History.{IsMade}
 use Rattle.session_print.specs.Printed.{IsOver}
 use Rattle.session_print.specs.declared.end.PrintEnd.{PrintEnd}
 
@@ -33,11 +32,6 @@ pub record IsDialling (p : PrintData) (port : List ℕ) (first now : Option (Lis
 pub record HasBegun (now : Option (List WorldEvent)) (x : SessionData) : Type 0 where
   pub print : PrintData
   pub dialling : IsDialling print (port_of x.desk) now now x
-
--- the one link of the print is made, and lines of these texts were issued since
-pub record IsMade (kind : LinkKind) (issued : List (List ℕ)) (x : SessionData) (past added : List WorldEvent) : Type 0 where
-  pub once : opens added ≡ 1
-  pub opened : IsOpened kind issued x (past ++ added)
 
 -- the next turn talks over the link or hangs up
 pub record IsTalking (kind : LinkKind) (p : PrintData) (port : List ℕ) (first now : Option (List WorldEvent)) (x : SessionData) : Type 0 where

@@ -1,4 +1,4 @@
 pub mod Ends
 pub mod Printed
 pub mod BetweenTurns
-pub mod Patience
+pub mod Waiting

@@ -1,23 +1,17 @@
 -- What a print has made of the history of its link.
-use Rattle.std.specs.Prelude.{◌≡◌, ◌≤◌, ℕ, suc, List, ◌++◌, length, Option, Some}
+use Rattle.std.specs.Prelude.{◌≡◌, ℕ, suc, List, ◌++◌, length, Option, Some}
 use Rattle.printer_model.specs.Executed.{opens, executed}
 use Rattle.printer_model.specs.declared.event.WorldEvent.{WorldEvent}
 use Rattle.printer_link.specs.Link.{LinkKind, Recorded}
 use Rattle.send_window.specs.declared.session_end.SessionEnd.{SessionEnd}
 use Rattle.send_window.specs.Data.{SenderData}
 use Rattle.octo_session.specs.Data.{SessionData}
-use Rattle.lossy_line.specs.Tied.{IsTied, EndCausedAs, logged_from}
+use Rattle.lossy_line.specs.Tied.{EndCausedAs, logged_from}
 use Rattle.print_course.specs.Plan.{Weave, WeavesPart}
+use Rattle.lossy_turns.specs.History.{HasIssued}
 use Rattle.session_print.specs.Ends.{IsUnsent}
 use Rattle.session_print.specs.declared.end.PrintEnd.{PrintEnd}
 use Rattle.session_print.specs.declared.end.PrintEnd.TheVariants as end
-
--- lines of these texts were issued, and so many of them acknowledged, in a history that grew by these events
-pub record HasIssued (kind : LinkKind) (issued : List (List ℕ)) (acked : ℕ) (past added : List WorldEvent) : Type 0 where
-  -- at most one session was opened
-  pub once : opens added ≤ 1
-  -- what was executed in it are the first of these lines, in order and each once, the acknowledged ones among them
-  pub tied : IsTied kind issued acked (past ++ added) (suc (opens past))
 
 -- the whole plan was issued, and all of it was executed and acknowledged
 pub record IsWhole (kind : LinkKind) (plan issued : List (List ℕ)) (acked : ℕ) (past added : List WorldEvent) : Type 0 where

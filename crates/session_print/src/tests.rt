@@ -283,32 +283,46 @@ fn script(rt: &impl Abort, scripts: &mut Scripts, point: Point, text: &str) {
     }
 }
 
-/// Each script of a print has its place.
-#[test]
-fn scripts(rt: HostRuntime) -> Result<(), Fail> {
-    let mut scripts = Scripts::new(rt.alloc());
-    script(&rt, &mut scripts, Point::Connected, "M155 S0");
-    script(&rt, &mut scripts, Point::Started, "M107");
-    script(&rt, &mut scripts, Point::Done, "M84");
-    script(&rt, &mut scripts, Point::Disconnect, "M140 S0");
-    let mut session = new_session(rt.alloc(), scripts)?;
-    let mut link = MemoryLink::new(rt.alloc(), schedule(&rt, rt.alloc(), &[])?)?;
+/// A script of one line at each point of a print.
+fn all_scripts(rt: &impl Abort, alloc: Global) -> Scripts {
+    let mut scripts = Scripts::new(alloc);
+    for (point, text) in [
+        (Point::Connected, "M155 S0"),
+        (Point::Started, "M107"),
+        (Point::Done, "M84"),
+        (Point::Disconnect, "M140 S0"),
+    ] {
+        script(rt, &mut scripts, point, text);
+    }
+    scripts
+}
+
+/// Prints one command with these scripts.
+fn print_scripted(rt: &impl Abort, alloc: Global) -> Result<Printed, Fail> {
+    let mut session = new_session(alloc, all_scripts(rt, alloc))?;
+    let mut link = MemoryLink::new(alloc, schedule(rt, alloc, &[])?)?;
     let mut clock = MemoryClock::new(0, 1);
-    let job = read_commands(rt.alloc(), b"G28\n")?;
+    let job = read_commands(alloc, b"G28\n")?;
     let end = run_print(
         &mut session,
         &mut link,
         &mut clock,
-        &name(&rt, "p"),
-        &name(&rt, "a.gcode"),
+        &name(rt, "p"),
+        &name(rt, "a.gcode"),
         job,
         1_000,
     );
-    assert_eq!(&rt; end, PrintEnd::Done);
-    check_text(&rt, &link, 0, "M155 S0");
-    check_text(&rt, &link, 1, "M107");
-    check_text(&rt, &link, 2, "G28");
-    check_text(&rt, &link, 3, "M84");
-    check_text(&rt, &link, 4, "M140 S0");
+    Ok(Printed { end, link })
+}
+
+/// Each script of a print has its place.
+#[test]
+fn scripts(rt: HostRuntime) -> Result<(), Fail> {
+    let printed = print_scripted(&rt, rt.alloc())?;
+    check(&rt, &printed, PrintEnd::Done, 6, 5);
+    for (at, text) in [(0, "M155 S0"), (1, "M107"), (2, "G28"), (3, "M84")] {
+        check_text(&rt, &printed.link, at, text);
+    }
+    check_text(&rt, &printed.link, 4, "M140 S0");
     Ok(())
 }

@@ -1,5 +1,5 @@
-use Rattle.std.proofs.Common.{◌≡◌, true, sym, ◌∙◌, subst, refl, ap}
-use Rattle.std.specs.Prelude.{Option, Some}
+use Rattle.std.proofs.Common.{◌≡◌, true, sym, ◌∙◌, subst, ap}
+use Rattle.std.specs.Prelude.{Option}
 use Rattle.desk_steps.specs.declared.link_fact.LinkFact.{LinkFact}
 use Rattle.desk_steps.specs.declared.link_fact.LinkFact.TheVariants as fact
 use Rattle.printer_link.specs.Link.{LinkKind}
@@ -10,8 +10,8 @@ use Rattle.send_window.specs.declared.session_end.SessionEnd.TheVariants.{NoAnsw
 use Rattle.octo_session.specs.Data.{doing}
 use Rattle.octo_session.specs.Found.{can_find}
 use Rattle.octo_session.proofs.Noting.{noted_fact}
-use Rattle.session_print.specs.Patience.{IsPatient, IsUnanswered}
-use Rattle.session_print.proofs.Waits.{turn_patient, turn_unanswered}
+use Rattle.lossy_turns.specs.Patience.{IsPatient, IsUnanswered}
+use Rattle.lossy_turns.proofs.Waits.{turn_patient, turn_unanswered}
 use Rattle.session_print.specs.Ends.{end_of, desk_after}
 use Rattle.session_print.specs.BetweenTurns.{GoesOn}
 use Rattle.session_print.specs.declared.end.PrintEnd.{PrintEnd}

@@ -1,15 +1,15 @@
-use Rattle.std.proofs.Common.{◌≡◌, ◌≢◌, ◌≤◌, inl, inr, ℕ, Bool, true, false, List, Option, Some, None, refl, sym, ◌∙◌, ap, subst, arith}
+use Rattle.std.proofs.Common.{◌≡◌, inl, inr, ℕ, Bool, Option, Some, refl, sym, ◌∙◌, ap, subst, arith}
 use Rattle.std.proofs.lemmas.Option.{same_Some}
 use Rattle.octo_outside.proofs.Told.{rose_after}
 use Rattle.printer_link.specs.Link.{LinkKind, RoseBy, Grows, IsHangUp}
 use Rattle.printer_link.proofs.Calls.{rose_none, rose_then}
 use Rattle.octo_session.specs.Data.{port_of}
-use Rattle.print_course.specs.Plan.{PrintData, print_commands, plan}
+use Rattle.print_course.specs.Plan.{print_commands, plan}
 use Rattle.session_print.specs.Printed.{IsOver}
 use Rattle.session_print.specs.BetweenTurns.{IsTalking}
-use Rattle.session_print.specs.declared.end.PrintEnd.{PrintEnd}
 use Rattle.session_print.specs.declared.end.PrintEnd.TheVariants as end
-use Rattle.session_print.proofs.Waits.{in_time, on_time_next, waited_by}
+use Rattle.lossy_turns.proofs.Waits.{in_time, on_time_next}
+use Rattle.session_print.proofs.Printing.{waited_by}
 use Rattle.session_print.proofs.Loops.{under, awake, unstarted_in, found_unlisted, unlisted_first, same_turns, hung_over}
 use Rattle.session_print.proofs.print.make_turns.Goals as goal
 

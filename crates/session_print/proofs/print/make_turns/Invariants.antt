@@ -1,9 +1,9 @@
-use Rattle.std.proofs.Common.{◌≡◌, ◌≤◌, ℕ}
+use Rattle.std.proofs.Common.{◌≡◌, ◌≤◌}
 use Rattle.printer_link.specs.Link.{RoseBy}
 use Rattle.octo_session.specs.Data.{port_of}
 use Rattle.print_course.specs.Plan.{PrintData}
 use Rattle.session_print.specs.BetweenTurns.{IsDialling}
-use Rattle.session_print.specs.Patience.{IsOnTime}
+use Rattle.lossy_turns.specs.Patience.{IsOnTime}
 use Rattle.session_print.proofs.Loops.{IsAfter}
 use Rattle.session_print.proofs.print.make_turns.Given as goal
 

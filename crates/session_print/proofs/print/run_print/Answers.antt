@@ -1,13 +1,11 @@
-use Rattle.std.proofs.Common.{◌≡◌, List, ℕ, None, sym, ◌∙◌, ap}
+use Rattle.std.proofs.Common.{◌≡◌, None, sym, ◌∙◌, ap}
 use Rattle.gcode_lines.specs.Job.{texts_of}
 use Rattle.temp_rules.specs.Hot.{first_hot_of}
 use Rattle.temp_rules.specs.declared.limits.Limits.{Limits}
 use Rattle.desk_steps.specs.Data.{Data}
 use Rattle.job_desk.specs.DeskViews.{named_file}
-use Rattle.octo_session.specs.Data.{port_of}
 use Rattle.print_course.specs.Plan.{plan}
 use Rattle.session_print.specs.Ends.{print_of}
-use Rattle.session_print.specs.BetweenTurns.{IsDialling}
 use Rattle.session_print.proofs.Begins.{refused, begins}
 use Rattle.session_print.specs.Printed.{IsOver}
 use Rattle.session_print.proofs.print.run_print.Given as Given

@@ -1,11 +1,8 @@
 -- How long a session waits for an answer.
-use Rattle.std.specs.Prelude.{◌≡◌, ◌⊎◌, ℕ, ◌*◌, ◌<◌, ◌≤◌, false, Option, None, Some}
-use Rattle.send_window.specs.declared.session_end.SessionEnd.TheVariants.{NoAnswer}
+use Rattle.std.specs.Prelude.{◌≡◌, ◌⊎◌, ℕ, ◌*◌, ◌<◌, ◌≤◌, false, Option, Some}
 use Rattle.send_window.specs.Data.{SenderData, IsSound}
 use Rattle.send_window.specs.Hearing.{later}
 use Rattle.send_window.specs.Session.{WaitsSince}
-use Rattle.session_print.specs.declared.end.PrintEnd.{PrintEnd}
-use Rattle.session_print.specs.declared.end.PrintEnd.TheVariants as end
 
 -- from a moment on a sender waits five limits before it ends with no answer
 pub record IsPatient (start limit : ℕ) (s : SenderData) : Type 0 where
@@ -17,12 +14,7 @@ pub record IsPatient (start limit : ℕ) (s : SenderData) : Type 0 where
 abbrev pub IsUnanswered : SenderData → Type 0
 IsUnanswered s = (s.ready ≡ false) ⊎ (s.acked < s.issued)
 
--- a print that ended with no answer waited five limits, by a clock that shows its moment
-abbrev pub HasWaited : PrintEnd → Option ℕ → ℕ → Option ℕ → Type 0
-HasWaited (end.Ended (NoAnswer count)) (Some began) limit (Some now) = later began (5 * limit) ≤ now
-HasWaited _ _ limit _ = Unit {0}
-
--- a print whose clock showed a moment when it began and shows one now, after turns up to a moment
+-- a clock showed a moment when turns began and shows one now, after turns up to a moment
 pub record IsOnTime (began now : Option ℕ) (moment limit : ℕ) (s : SenderData) : Type 0 where
   pub patient : IsPatient 0 limit s
   pub since : (start at : ℕ) → began ≡ Some start → now ≡ Some at → IsPatient start limit s

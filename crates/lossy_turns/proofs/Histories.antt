@@ -2,7 +2,7 @@
 use Rattle.std.proofs.Common.{◌≡◌, ℕ, zero, suc, ◌≤◌, true, false, List, [], ◌∷◌, ◌++◌, length, take, drop, refl, sym, ◌∙◌, ap, subst, append-nil, arith}
 use Rattle.std.specs.Prelude.{filter, Option, Some, None}
 use Rattle.printer_model.specs.Printer.{Logged}
-use Rattle.printer_model.specs.World.{WorldData, world_of}
+use Rattle.printer_model.specs.World.{world_of}
 use Rattle.printer_model.specs.Executed.{opens, till, is_counted, executed}
 use Rattle.printer_model.specs.Exchanged.{session_of}
 use Rattle.printer_model.specs.declared.event.WorldEvent.{WorldEvent}
@@ -10,11 +10,8 @@ use Rattle.printer_model.proofs.Sessions.{till-all, opens-append}
 use Rattle.printer_link.specs.Link.{LinkKind, Recorded}
 use Rattle.send_window.specs.Counting.{acked_of}
 use Rattle.lossy_wires.specs.Traces.{replies_from, AreSendsFit}
-use Rattle.lossy_line.specs.Tied.{IsTied, logged_from, world_before}
-use Rattle.print_course.specs.Plan.{Weave, empty, WeavesPart}
-use Rattle.session_print.specs.Printed.{HasIssued, HasPrinted}
-use Rattle.session_print.specs.declared.end.PrintEnd.{PrintEnd}
-use Rattle.session_print.specs.declared.end.PrintEnd.TheVariants as end
+use Rattle.lossy_turns.specs.History.{HasIssued}
+use Rattle.lossy_line.specs.Tied.{logged_from, world_before}
 
 drop_whole : {X : Type 0} (xs : List X) → drop (length xs) xs ≡ []
 drop_whole [] = refl
@@ -58,29 +55,3 @@ nothing_added old (Some now) same =
     ap Some (grew.3 ∙ ap (λ (es : List WorldEvent). grew.0 ++ es) grew.4 ∙ append-nil grew.0) ∙ sym grew.2
 nothing_added None None same = refl
 nothing_added (Some past) None same = (let no : false ≡ true = same.stays in absurd (cc))
-
-take_over : {X : Type 0} (n : ℕ) (xs : List X) → length xs ≤ n → take n xs ≡ xs
-take_over zero [] within = refl
-take_over (suc n) [] within = refl
-take_over zero (x ∷ xs) within = absurd (omega (arith, within))
-take_over (suc n) (x ∷ xs) within = ap (λ (l : List _). x ∷ l) (take_over n xs (omega (arith, within)))
-
--- what was issued, by the plan
-pub printed_of : (kind : LinkKind) (plan : List (List ℕ)) (how : PrintEnd) (issued : List (List ℕ)) (acked : ℕ) (past added : List WorldEvent) →
-    WeavesPart issued plan → (how ≡ end.Done → Weave issued plan × (acked ≡ length issued)) → HasIssued kind issued acked past added →
-    HasPrinted kind plan how acked past added
-printed_of kind plan how issued acked past added part all h = record {
-  issued = issued;
-  of_plan = part;
-  history = h;
-  done = λ is. (let whole = all is in record {
-    woven = whole.0;
-    all_executed = h.tied.executed_first
-        ∙ ap (logged_from 1) (take_over (length (executed kind.slots kind.numbered (past ++ added) (suc (opens past)))) issued (omega (arith, whole.1, h.tied.acked_run)));
-    all_acked = whole.1;
-  });
-}
-
--- nothing was issued
-pub part_none : (plan : List (List ℕ)) → WeavesPart [] plan
-part_none plan = record { part = []; is_part = record { rest = plan; joined = refl }; woven = empty }

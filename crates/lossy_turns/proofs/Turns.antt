@@ -1,13 +1,11 @@
 -- What a turn makes of a print.
-use Rattle.std.proofs.Common.{◌≡◌, ◌≢◌, ◌⊎◌, inl, inr, ℕ, suc, ◌+◌, ◌≤◌, Bool, true, false, List, [], ◌∷◌, ◌++◌, refl, sym, ◌∙◌, ap, subst, append_assoc, append-nil, arith}
-use Rattle.std.specs.Prelude.{Option, None, Some, not, ◌&&◌}
-use Rattle.std.proofs.lemmas.Grind.{common_steps}
+use Rattle.std.proofs.Common.{◌≡◌, ℕ, suc, Bool, true, false, List, [], ◌∷◌, ◌++◌, refl, sym, ◌∙◌, ap, subst, append_assoc, append-nil, arith}
+use Rattle.std.specs.Prelude.{Option, None, not, ◌&&◌}
 use Rattle.desk_steps.specs.declared.link_fact.LinkFact.{LinkFact}
 use Rattle.desk_steps.specs.declared.link_fact.LinkFact.TheVariants as fact
-use Rattle.send_window.specs.declared.session_end.SessionEnd.{SessionEnd}
 use Rattle.marlin_reply.specs.declared.reply.Reply.{Reply}
 use Rattle.printer_model.specs.Printer.{Logged}
-use Rattle.printer_model.specs.World.{WorldData, can_happen, apply, world_from}
+use Rattle.printer_model.specs.World.{WorldData, apply, world_from}
 use Rattle.printer_model.specs.Executed.{opens}
 use Rattle.printer_model.specs.declared.event.WorldEvent.{WorldEvent}
 use Rattle.printer_model.specs.declared.event.WorldEvent.TheVariants.{Opened}
@@ -15,12 +13,11 @@ use Rattle.printer_model.proofs.Laws.{world_from-append, world_from-linked}
 use Rattle.printer_model.proofs.Sessions.{opens-append}
 use Rattle.printer_model.proofs.Starts.{opens-free, runs-free}
 use Rattle.printer_link.specs.Link.{LinkKind, Recorded, IsDial, IsHangUp, world_in}
-use Rattle.printer_link.proofs.Grown.{recorded_then, recorded_so}
-use Rattle.send_window.specs.Data.{SenderData, IsSound}
-use Rattle.octo_session.specs.Data.{SessionData, doing, port_of}
-use Rattle.octo_session.specs.Found.{Got, can_find, up_after}
+use Rattle.send_window.specs.Data.{IsSound}
+use Rattle.octo_session.specs.Data.{SessionData, doing}
+use Rattle.octo_session.specs.Found.{Got, can_find}
 use Rattle.octo_session.specs.Steps.{opens as makes_link, finds_no_port, hangs_up, after_steps, AreAdded, dial_steps, turn_steps}
-use Rattle.octo_session.specs.Turn.{IsTurn, fact_of, lines_of, texts_in}
+use Rattle.octo_session.specs.Turn.{IsTurn, texts_in}
 use Rattle.octo_session.specs.declared.found.Doing.{Doing}
 use Rattle.octo_session.specs.declared.found.Doing.TheVariants.{Dialling, HangingUp, Talking, Resting}
 use Rattle.octo_session.specs.declared.found.Turned.{Turned}
@@ -28,17 +25,15 @@ use Rattle.lossy_wires.specs.Pieces.{Each}
 use Rattle.lossy_wires.specs.Wires.{Meets}
 use Rattle.lossy_wires.specs.Traces.{replies_from, IsTallied, IsStartKnown, IsTraced}
 use Rattle.lossy_wires.proofs.Tracing.{fits_append, replies_from-append}
+use Rattle.lossy_turns.specs.History.{HasIssued, IsMade}
 use Rattle.lossy_line.specs.Issuing.{issued_in}
-use Rattle.lossy_line.specs.Linked.{IsUnopened, IsOpened, IsLinked, unopened, opened}
+use Rattle.lossy_line.specs.Linked.{IsOpened, IsLinked, unopened}
 use Rattle.lossy_line.proofs.Speech.{steps_lead, turn_leads}
 use Rattle.lossy_line.proofs.Told.{IsKept, turned_by}
 use Rattle.lossy_line.proofs.Turned.{IsTurned, talks_up, dials_down, opens_dialling, world_since}
 use Rattle.lossy_line.proofs.Turning.{opening, going_on}
 use Rattle.lossy_line.proofs.Tying.{tied_at, opened_tied}
 use Rattle.lossy_line.specs.Tied.{IsTied}
-use Rattle.session_print.specs.Printed.{HasIssued}
-use Rattle.session_print.specs.BetweenTurns.{IsMade}
-use Rattle.session_print.proofs.Sessions.{none_printed}
 
 -- only a turn that dials finds no port
 pub ports_dialling : (d : Doing) → can_find d fact.NoPort ≡ true → d ≡ Dialling

@@ -1,11 +1,10 @@
 -- A session waits five limits before it ends with no answer.
-use Rattle.std.proofs.Common.{◌≡◌, ◌≢◌, ◌⊎◌, inl, inr, ℕ, ◌*◌, ◌<◌, ◌≤◌, Bool, true, false, List, [], ◌∷◌, refl, sym, ◌∙◌, ap, subst, arith}
+use Rattle.std.proofs.Common.{◌≡◌, inl, inr, ℕ, ◌*◌, ◌≤◌, true, List, [], ◌∷◌, refl, sym, ◌∙◌, ap, subst, arith}
 use Rattle.std.specs.Prelude.{Option, None, Some, IfSome, max}
 use Rattle.octo_outside.specs.Traits.{NotBefore}
 use Rattle.printer_link.specs.Link.{LinkKind}
 use Rattle.printer_model.specs.declared.event.WorldEvent.{WorldEvent}
 use Rattle.std.proofs.lemmas.Grind.{common_steps}
-use Rattle.std.proofs.lemmas.Option.{same_Some}
 use Rattle.marlin_reply.specs.Kind.{kind_of}
 use Rattle.marlin_reply.specs.declared.reply.Reply.{Reply}
 use Rattle.marlin_reply.specs.declared.reply.Reply.TheVariants as reply
@@ -13,9 +12,9 @@ use Rattle.desk_steps.specs.declared.link_fact.LinkFact.{LinkFact}
 use Rattle.desk_steps.specs.declared.link_fact.LinkFact.TheVariants as fact
 use Rattle.send_window.specs.declared.session_end.SessionEnd.{SessionEnd}
 use Rattle.send_window.specs.declared.session_end.SessionEnd.TheVariants.{NoAnswer, AskedBack, AskedAhead, Counts, Restarted, NumbersUsed}
-use Rattle.send_window.specs.Data.{SenderData, IsSound, begun}
+use Rattle.send_window.specs.Data.{SenderData}
 use Rattle.send_window.specs.Hearing.{later, hear_step, tick_step}
-use Rattle.send_window.specs.Sending.{frame_step, push_step}
+use Rattle.send_window.specs.Sending.{frame_step}
 use Rattle.send_window.specs.Session.{hears as sender_hears, ticks as sender_ticks, issues as sender_issues, gives as sender_gives}
 use Rattle.send_window.proofs.Ending.{ends_by_rule}
 use Rattle.send_window.proofs.Soundness.{begun_sound, hears_sound, ticks_sound, issues_sound, gives_sound}
@@ -29,9 +28,7 @@ use Rattle.octo_session.specs.declared.found.Turned.{Turned}
 use Rattle.octo_session.specs.Steps.{Step, opens, finds_no_port, fails_to_dial, hears, listens, fails_to_receive, ticks, issues, gives, fails_to_send, hangs_up, after_step, after_steps, IsAllowed, AreAllowed, talk_steps, turn_steps}
 use Rattle.octo_session.proofs.Keeping.{ticked_keeps}
 use Rattle.lossy_line.proofs.Turned.{talks_up}
-use Rattle.session_print.specs.Patience.{IsPatient, IsUnanswered, IsOnTime, HasWaited}
-use Rattle.session_print.specs.declared.end.PrintEnd.{PrintEnd}
-use Rattle.session_print.specs.declared.end.PrintEnd.TheVariants as end
+use Rattle.lossy_turns.specs.Patience.{IsPatient, IsUnanswered, IsOnTime}
 
 hear_limit : (line : Reply) (moment : ℕ) (s : SenderData) → (hear_step line moment s).limit ≡ s.limit
 hear_limit (reply.Ok number _ _ _) moment s = grind (arith, common_steps)
@@ -211,21 +208,3 @@ module _ (began before between after : Option ℕ) (moment limit shown next : �
       on_show : (at : ℕ) → after ≡ Some at → IsOnTime began before moment limit s → IfSome before (λ at. shown ≡ at) → between ≡ before →
           NotBefore between after → next ≡ max shown moment → next ≤ at
       on_show at is_after o shows stays goes greater = shown_by before between after at shown next moment stays goes is_after shows o.shown greater
-
--- the moment of the turn that ended the print
-pub waited_by : (how : PrintEnd) (began now : Option ℕ) (limit : ℕ) →
-    ((count start at : ℕ) → how ≡ end.Ended (NoAnswer count) → began ≡ Some start → now ≡ Some at → later start (5 * limit) ≤ at) →
-    HasWaited how began limit now
-waited_by (end.Ended (NoAnswer count)) (Some start) (Some at) limit so = so count start at refl refl refl
-waited_by (end.Ended (NoAnswer count)) (Some start) None limit so = tt
-waited_by (end.Ended (NoAnswer count)) None now limit so = tt
-waited_by (end.Ended (AskedBack number acknowledged)) began now limit so = tt
-waited_by (end.Ended (AskedAhead number all)) began now limit so = tt
-waited_by (end.Ended (Counts number expected)) began now limit so = tt
-waited_by (end.Ended Restarted) began now limit so = tt
-waited_by (end.Ended (NumbersUsed all)) began now limit so = tt
-waited_by end.Done began now limit so = tt
-waited_by (end.TooHot line asked most) began now limit so = tt
-waited_by end.NoPort began now limit so = tt
-waited_by end.LinkFailed began now limit so = tt
-waited_by (end.TurnsUsed turns) began now limit so = tt

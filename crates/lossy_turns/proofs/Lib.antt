@@ -1,0 +1,4 @@
+pub mod Histories
+pub mod Turns
+pub mod Lasting
+pub mod Waits

@@ -1,0 +1,4 @@
+pub mod Prompt
+pub mod Saying
+pub mod Prompted
+pub mod Greeting

@@ -1,0 +1,60 @@
+-- What a print has made of a history, by its plan and its end.
+use Rattle.std.proofs.Common.{◌≡◌, ℕ, zero, suc, ◌≤◌, List, [], ◌∷◌, ◌++◌, length, take, refl, ◌∙◌, ap, arith}
+use Rattle.std.specs.Prelude.{Option, Some, None}
+use Rattle.printer_model.specs.Executed.{opens, executed}
+use Rattle.printer_model.specs.declared.event.WorldEvent.{WorldEvent}
+use Rattle.printer_link.specs.Link.{LinkKind}
+use Rattle.lossy_line.specs.Tied.{logged_from}
+use Rattle.print_course.specs.Plan.{Weave, empty, WeavesPart}
+use Rattle.lossy_turns.specs.History.{HasIssued}
+use Rattle.session_print.specs.Printed.{HasPrinted}
+use Rattle.session_print.specs.declared.end.PrintEnd.{PrintEnd}
+use Rattle.session_print.specs.declared.end.PrintEnd.TheVariants as end
+use Rattle.std.specs.Prelude.{◌*◌}
+use Rattle.send_window.specs.Hearing.{later}
+use Rattle.send_window.specs.declared.session_end.SessionEnd.TheVariants.{NoAnswer, AskedBack, AskedAhead, Counts, Restarted, NumbersUsed}
+use Rattle.session_print.specs.Waiting.{HasWaited}
+
+take_over : {X : Type 0} (n : ℕ) (xs : List X) → length xs ≤ n → take n xs ≡ xs
+take_over zero [] within = refl
+take_over (suc n) [] within = refl
+take_over zero (x ∷ xs) within = absurd (omega (arith, within))
+take_over (suc n) (x ∷ xs) within = ap (λ (l : List _). x ∷ l) (take_over n xs (omega (arith, within)))
+
+-- what was issued, by the plan
+pub printed_of : (kind : LinkKind) (plan : List (List ℕ)) (how : PrintEnd) (issued : List (List ℕ)) (acked : ℕ) (past added : List WorldEvent) →
+    WeavesPart issued plan → (how ≡ end.Done → Weave issued plan × (acked ≡ length issued)) → HasIssued kind issued acked past added →
+    HasPrinted kind plan how acked past added
+printed_of kind plan how issued acked past added part all h = record {
+  issued = issued;
+  of_plan = part;
+  history = h;
+  done = λ is. (let whole = all is in record {
+    woven = whole.0;
+    all_executed = h.tied.executed_first
+        ∙ ap (logged_from 1) (take_over (length (executed kind.slots kind.numbered (past ++ added) (suc (opens past)))) issued (omega (arith, whole.1, h.tied.acked_run)));
+    all_acked = whole.1;
+  });
+}
+
+-- nothing was issued
+pub part_none : (plan : List (List ℕ)) → WeavesPart [] plan
+part_none plan = record { part = []; is_part = record { rest = plan; joined = refl }; woven = empty }
+
+-- the moment of the turn that ended the print
+pub waited_by : (how : PrintEnd) (began now : Option ℕ) (limit : ℕ) →
+    ((count start at : ℕ) → how ≡ end.Ended (NoAnswer count) → began ≡ Some start → now ≡ Some at → later start (5 * limit) ≤ at) →
+    HasWaited how began limit now
+waited_by (end.Ended (NoAnswer count)) (Some start) (Some at) limit so = so count start at refl refl refl
+waited_by (end.Ended (NoAnswer count)) (Some start) None limit so = tt
+waited_by (end.Ended (NoAnswer count)) None now limit so = tt
+waited_by (end.Ended (AskedBack number acknowledged)) began now limit so = tt
+waited_by (end.Ended (AskedAhead number all)) began now limit so = tt
+waited_by (end.Ended (Counts number expected)) began now limit so = tt
+waited_by (end.Ended Restarted) began now limit so = tt
+waited_by (end.Ended (NumbersUsed all)) began now limit so = tt
+waited_by end.Done began now limit so = tt
+waited_by (end.TooHot line asked most) began now limit so = tt
+waited_by end.NoPort began now limit so = tt
+waited_by end.LinkFailed began now limit so = tt
+waited_by (end.TurnsUsed turns) began now limit so = tt
