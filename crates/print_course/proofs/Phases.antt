@@ -56,7 +56,7 @@ pub record IsConnecting (p : PrintData) (s : Standing) (lines : List Line) : Typ
   pub free : IsFree 0 s
   pub are : lines ≡ []
 
-pub record IsPrinting1 (p : PrintData) (s : Standing) (lines : List Line) : Type 0 where
+pub record IsIssuing (p : PrintData) (s : Standing) (lines : List Line) : Type 0 where
   pub opened : IsOpen Printing s
   pub on : IsPrinting s
   pub below : s.cursor ≤ length (print_commands p)
@@ -94,7 +94,7 @@ connecting_of p s _ (phase.closing o f w) at = let e : Closing ≡ Connecting = 
 connecting_of p s _ (phase.offline is i w) at = let e : Offline ≡ Connecting = sym is ∙ at in absurd (cc e)
 connecting_of p s _ (phase.failed is i lines part) at = let e : Fault ≡ Connecting = sym is ∙ at in absurd (cc e)
 
-pub printing_of : (p : PrintData) (s : Standing) (lines : List Line) → Phase p s lines → s.state ≡ Printing → IsPrinting1 p s lines
+pub printing_of : (p : PrintData) (s : Standing) (lines : List Line) → Phase p s lines → s.state ≡ Printing → IsIssuing p s lines
 printing_of p s _ (phase.printing o f below) at = record { opened = o; on = f; below = below; are = refl }
 printing_of p s _ (phase.connecting is f) at = let e : Connecting ≡ Printing = sym is ∙ at in absurd (cc e)
 printing_of p s _ (phase.connected o f) at = let e : Operational ≡ Printing = sym o.its_state ∙ at in absurd (cc e)
@@ -124,7 +124,7 @@ closing_of p s _ (phase.ended o f w) at = let e : Operational ≡ Closing = sym 
 closing_of p s _ (phase.offline is i w) at = let e : Offline ≡ Closing = sym is ∙ at in absurd (cc e)
 closing_of p s _ (phase.failed is i lines part) at = let e : Fault ≡ Closing = sym is ∙ at in absurd (cc e)
 
-zero≢one : ◌≡◌ {A = ℕ} 0 1 → ⊥
+pub zero≢one : ◌≡◌ {A = ℕ} 0 1 → ⊥
 zero≢one e = omega (arith, e)
 
 pub connected_of : (p : PrintData) (s : Standing) (lines : List Line) → Phase p s lines → s.state ≡ Operational → s.print ≡ 0 → IsConnected p s lines

@@ -1,5 +1,5 @@
 -- What a print that is underway has issued.
-use Rattle.std.proofs.Common.{◌≡◌, inl, inr, ℕ, Bool, true, false, cond, codes, List, [], ◌∷◌, ◌++◌, All, sym, ◌∙◌, ap, subst, arith}
+use Rattle.std.proofs.Common.{◌≡◌, inl, inr, ℕ, Bool, true, false, cond, codes, List, [], ◌∷◌, ◌++◌, All, sym, ◌∙◌, ap, subst}
 use Rattle.std.proofs.lemmas.List.{append-nil}
 use Rattle.std.proofs.lemmas.Bool.{false≢true}
 use Rattle.std.proofs.lemmas.List.Elements.{All-head}
@@ -12,7 +12,7 @@ use Rattle.print_course.specs.Underway.{Standing, standing, IsLast, Phase, IsUnd
 use Rattle.print_course.specs.Underway as phase
 use Rattle.print_course.specs.Progress.{IsLate}
 use Rattle.print_course.proofs.Weaves.{part_of, part_behind, texts_part, plan_is}
-use Rattle.print_course.proofs.Phases.{in_plan, whole_offline, none_offline}
+use Rattle.print_course.proofs.Phases.{zero≢one, in_plan, whole_offline, none_offline}
 
 module _ (p : PrintData) where
   -- what was issued is a weave of a first part of the plan
@@ -55,9 +55,6 @@ module _ (p : PrintData) where
       let next : Drawn = cond (poll_is_due moment d) (issue (record { text = codes "M105"; tag = Poll }) asked) (nothing d) in
       subst (λ (w : List Line). IsLate (from_scripts w d (from_manual d.manual d next))) (sym none)
       (subst (λ (m : List (List ℕ)). IsLate (from_manual m d next)) (sym no_manual) (poll_late (poll_is_due moment d) asked d))
-
-  zero≢one : ◌≡◌ {A = ℕ} 0 1 → ⊥
-  zero≢one e = omega (arith, e)
 
   late_in : (moment : ℕ) (d : Data) (lines : List Line) → d.manual ≡ [] → d.active ≡ false → d.greatest ≡ 1 → Phase p (standing d) lines
       → IsLate (draw_at d.state moment d)
