@@ -1,29 +1,38 @@
 -- What a demo runs, and what it comes to.
-use Rattle.std.specs.Prelude.{◌≡◌, ◌≢◌, ℕ, false, List, [], length, count_by, Some, Ok}
+use Rattle.std.specs.Prelude.{◌≡◌, ◌≢◌, ℕ, false, [], length, count_by, Some, Ok}
 use Rattle.gcode_lines.specs.Commands.{job_of}
-use Rattle.gcode_lines.specs.Job.{JobData}
-use Rattle.octo_session.specs.Data.{SessionData}
+use Rattle.gcode_lines.specs.Job.{JobData, texts_of}
+use Rattle.job_desk.specs.Scripts.{no_scripts}
+use Rattle.lossy_line.specs.Tied.{EndCausedAs}
+use Rattle.printer_link.specs.Link.{LinkKind, Recorded}
 use Rattle.printer_link.specs.Memory.{MemoryLinkData, link_kind, link_world, new_link, sends}
 use Rattle.printer_model.specs.Executed.{executed, is_loss}
-use Rattle.session_print.specs.Printed.{IsOver}
-use Rattle.session_print.specs.declared.end.PrintEnd.{PrintEnd}
+use Rattle.print_course.specs.Plan.{plan}
+use Rattle.send_window.specs.declared.session_end.SessionEnd.{SessionEnd}
+use Rattle.session_print.specs.Printed.{HasPrinted}
 use Rattle.session_print.specs.declared.end.PrintEnd.TheVariants as end
 use Rattle.demo_print.specs.Fates.{demo_schedule}
+use Rattle.demo_print.specs.File.{demo_file}
 use Rattle.demo_print.specs.declared.report.DemoCounts.{DemoCounts}
 use Rattle.demo_print.specs.declared.run.Demo.{Demo}
 
--- the link of a demo before its run
-abbrev pub first_link : (seed commands : ℕ) → MemoryLinkData
-first_link seed commands = new_link (demo_schedule seed commands)
+-- what no call changes of a demo's link
+abbrev pub demo_kind : (seed commands : ℕ) → LinkKind
+demo_kind seed commands = link_kind (new_link (demo_schedule seed commands))
 
--- a demo that was run over its link
-pub record IsDemo (seed commands : ℕ) (demo : Demo) : Type 0 where
-  pub session : SessionData
-  -- it is a print as any other, of which nothing happened before
-  pub over : IsOver (link_kind (first_link seed commands)) demo.end (Some []) (Some demo.link.story.past) session
-  pub kind : link_kind demo.link ≡ link_kind (first_link seed commands)
+-- a print of this job, over a link to which nothing happened before
+pub record IsPrint (kind : LinkKind) (job : JobData) (demo : Demo) : Type 0 where
+  pub acked : ℕ
+  pub printed : Recorded (Some []) (Some demo.link.story.past) (HasPrinted kind (plan no_scripts (texts_of job)) demo.end acked)
+  pub ended : (why : SessionEnd) → demo.end ≡ end.Ended why → EndCausedAs kind (Some demo.link.story.past) why
+  pub same_kind : link_kind demo.link ≡ kind
   pub down : (link_world demo.link).linked ≡ false
-  -- its port is listed, and its link fails only if memory runs out
+
+-- a demo that was run: its file was printed over its link, whose port is listed and which didn't fail
+pub record IsDemo (seed commands : ℕ) (demo : Demo) : Type 0 where
+  pub job : JobData
+  pub its_file : job_of (demo_file seed commands) ≡ Ok job
+  pub print : IsPrint (demo_kind seed commands) job demo
   pub listed : demo.end ≢ end.NoPort
   pub sound : demo.end ≢ end.LinkFailed
 

@@ -3,6 +3,7 @@ ghost use Rattle.std.specs.Prelude.{◌≡◌, ◌≤◌, length, false, IfOk};
 ghost use Rattle.desk_steps.specs.Data.{new_desk};
 ghost use Rattle.send_window.specs.Data.{new_sender, IsSound};
 ghost use Rattle.session_print.specs.Ends.{IsNew};
+ghost use Rattle.job_desk.specs.Scripts.{no_scripts};
 ghost use Rattle.demo_print.specs.Run.{IsDemo, counts_of};
 
 use crate::job::demo_job;
@@ -52,7 +53,8 @@ fn name(text: &str) -> Name
 
 // A session without scripts.
 fn plain_session(alloc: Global) -> Result<Session, AllocError>
-    ensures { IfOk result IsNew }
+    ensures new { IfOk result IsNew }
+    ensures plain { IfOk result (λ session. session.desk.scripts ≡ no_scripts) }
 {
     let limits = Limits {
         tool: 300,
