@@ -1,8 +1,9 @@
 //! Whether tables are those that a host can begin with.
-ghost use Rattle.std.specs.Prelude.{◌≡◌, ◌+◌, Some, count_by};
+ghost use Rattle.std.specs.Prelude.{◌≡◌, ◌+◌, Some, count_by, IsTrue};
 ghost use Rattle.std.specs.List.{list_all};
 ghost use Rattle.octo_access.specs.Rows.{is_named, has_digest};
 ghost use Rattle.print_queue.specs.Rows.{is_of};
+ghost use Rattle.octo_keeper.specs.Tables.{AreSound};
 ghost use Rattle.octo_keeper.specs.Sound.{are_apart, are_numbered_from, are_sound, is_alone, is_apart, is_queue, is_user_list, is_whole, is_within};
 
 use crate::Tables;
@@ -114,8 +115,10 @@ fn are_numbered(rows: &[PrintRow]) -> bool
 
 /// Whether a host can begin with these tables: names, keys and arrivals are distinct and within their limits, and the prints are
 /// numbered from 1 without a gap.
+#[tactic(auto, using(crate::proofs::SoundTables::tables_tell))]
 pub fn are_sound(tables: &Tables) -> bool
-    ensures { result ≡ are_sound tables.now }
+    ensures exactly { result ≡ are_sound tables.now }
+    ensures sound { IsTrue result → AreSound tables.now }
 {
     is_user_list(tables.users.as_slice())
         && is_queue(tables.queue.as_slice())

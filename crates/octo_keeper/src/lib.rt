@@ -12,6 +12,7 @@ mod memory_shelf;
 mod shelf;
 mod tables;
 
+pub use checks::are_sound;
 pub use keeper::{Keeper, KeeperFault};
 pub use memory_keeper::MemoryKeeper;
 pub use memory_shelf::MemoryShelf;

@@ -54,7 +54,6 @@ impl Keeper for MemoryKeeper {
 
     ghost faults = { λ k. k.calls.faults };
 
-    #[tactic(auto, using(crate::proofs::SoundTables::tables_tell))]
     fn load(&mut self, alloc: Global) -> Result<Tables, KeeperFault>
         ensures ok { IfOk result (λ loaded. loaded ≡ self.old.tables) }
         ensures sound { IfOk result AreSound }
