@@ -5,7 +5,7 @@ use byte_text::Name;
 use desk_steps::{LinkFact, Note};
 use marlin_reply::Heat;
 use octo_access::{Permission, UserRow};
-use octo_outside::{Blob, ItemList};
+use octo_outside::Blob;
 use print_queue::QueueEntry;
 use print_records::{Outcome, PrintRow};
 use std::alloc::Global;
@@ -135,22 +135,31 @@ fn change_user(alloc: Global) -> Result<Request, Fail> {
 #[test]
 fn ample_copies(rt: HostRuntime) -> Result<(), Fail> {
     let alloc = rt.alloc();
-    let Request::PutFile { bytes, print, .. } = put_file(alloc)?.copy(alloc)? else {
+    let put = put_file(alloc)?.copy(alloc)?;
+    let Request::PutFile { bytes, print, .. } = &put else {
         return Err("another request")?;
     };
-    assert!(rt; bytes.as_slice() == b"G28\n".as_slice() && print);
-    let Request::Lines { texts } = lines(alloc)?.copy(alloc)? else {
+    assert!(rt; bytes.as_slice() == b"G28\n".as_slice() && *print);
+    let copy = ask(alloc, Request::Pause)?.copy(alloc)?;
+    assert!(rt; copy.key.as_slice() == b"ana-key-0123456789".as_slice());
+    assert!(rt; matches!(&copy.request, Request::Pause));
+    Ok(())
+}
+
+#[test]
+fn ample_lists(rt: HostRuntime) -> Result<(), Fail> {
+    let alloc = rt.alloc();
+    let sent = lines(alloc)?.copy(alloc)?;
+    let Request::Lines { texts } = &sent else {
         return Err("another request")?;
     };
     assert_eq!(rt; texts.as_slice().len(), 2);
-    let Request::ChangeUser { groups, active, .. } = change_user(alloc)?.copy(alloc)? else {
+    let changed = change_user(alloc)?.copy(alloc)?;
+    let Request::ChangeUser { groups, active, .. } = &changed else {
         return Err("another request")?;
     };
-    assert_eq!(rt; groups.map(|groups| groups.len()), Some(1));
-    assert_eq!(rt; active, Some(false));
-    let copy = ask(alloc, Request::Pause)?.copy(alloc)?;
-    assert!(rt; copy.key.as_slice() == b"ana-key-0123456789".as_slice());
-    assert!(rt; matches!(copy.request, Request::Pause));
+    assert!(rt; groups.is_some());
+    assert_eq!(rt; *active, Some(false));
     Ok(())
 }
 
@@ -207,48 +216,53 @@ fn two_asks(alloc: Global) -> Result<AskList, Fail> {
 fn ample(rt: HostRuntime) -> Result<(), Fail> {
     let alloc = rt.alloc();
     let mut counter = MemoryCounter::new(alloc, two_asks(alloc)?)?;
-    let Next::Asked { worker, ask } = counter.next() else {
+    let first = counter.next();
+    let Next::Asked { worker, ask } = &first else {
         return Err("no ask")?;
     };
-    assert!(rt; worker == 2 && matches!(ask.request, Request::GetJob));
-    counter.answer(worker, 5, Answer::NoFile);
-    let Next::Asked { worker, .. } = counter.next() else {
-        return Err("no second ask")?;
-    };
-    counter.answer(worker, 6, Answer::Accepted);
-    assert!(rt; matches!(counter.next(), Next::Nothing));
-    counter.note(Note {
+    assert!(rt; *worker == 2 && matches!(&ask.request, Request::GetJob));
+    counter.answer(2, 5, Answer::NoFile);
+    let second = counter.next();
+    assert!(rt; matches!(&second, Next::Asked { worker: 0, .. }));
+    Ok(())
+}
+
+fn note() -> Note {
+    Note {
         moment: 7,
         acked: 0,
         issued: ArrayVec::new(),
         temps: None,
         fact: LinkFact::Opened,
-    });
+    }
+}
+
+#[test]
+fn history(rt: HostRuntime) -> Result<(), Fail> {
+    let alloc = rt.alloc();
+    let mut asks = AskList::new(alloc);
+    asks.push((3, ask(alloc, Request::Leave)?))?;
+    let mut counter = MemoryCounter::new(alloc, asks)?;
+    counter.note(note());
+    let first = counter.next();
+    let Next::Asked { worker: 3, .. } = &first else {
+        return Err("no ask")?;
+    };
+    counter.answer(3, 6, Answer::Accepted);
     counter.close();
     let entries = counter.entries().ok_or("no history")?;
-    assert_eq!(rt; entries.len(), 4);
+    assert_eq!(rt; entries.len(), 3);
+    assert!(rt; matches!(&entries[0], Entry::Note(_)));
     assert!(rt;
         matches!(
-            entries[0],
+            &entries[1],
             Entry::Call {
-                worker: 2,
-                moment: 5,
-                answer: Answer::NoFile,
-                ..
-            }
-        )
-    );
-    assert!(rt;
-        matches!(
-            entries[1],
-            Entry::Call {
-                worker: 0,
+                worker: 3,
                 moment: 6,
-                answer: Answer::Accepted,
                 ..
             }
         )
     );
-    assert!(rt; matches!(entries[3], Entry::Close));
+    assert!(rt; matches!(&entries[2], Entry::Close));
     Ok(())
 }
