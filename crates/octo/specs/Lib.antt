@@ -1,3 +1,1 @@
-pub mod Outcome
-pub mod Report
-pub mod Words
+pub mod Commands

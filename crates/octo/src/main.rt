@@ -2,18 +2,15 @@
 #![tactic(auto)]
 
 ghost use Rattle.std.specs.Prelude.{◌≡◌};
-ghost use Rattle.octo.specs.Report.{refused};
+ghost use Rattle.octo.specs.Commands.{refused};
 
-mod files;
-mod page;
-mod report;
+mod demo;
 mod run;
 #[cfg(test)]
 mod tests;
-mod words;
 
 use octo_outside::{ArgumentsFault, FileSource, StdSink, SystemClock, arguments};
-use report::{Report, write_report};
+use octo_report::{Report, write_report};
 use run::octo;
 use socket_link::SocketLink;
 use std::process::ExitCode;

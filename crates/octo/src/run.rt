@@ -1,25 +1,22 @@
-//! The commands: to print a file and to check one.
-ghost use Rattle.std.specs.Prelude.{◌≡◌, None, ◌⊎◌, ◌<◌, ◌≤◌, ◌≢◌, ◌==◌, ℕ, List, true, false, length, Some, IfSome, IsTrue};
-ghost use Rattle.octo_outside.specs.Told.{Rose, Steady};
-ghost use Rattle.gcode_lines.specs.Job.{texts_of};
-ghost use Rattle.printer_link.specs.Link.{Grows, Recorded, RoseBy};
-ghost use Rattle.first_print.specs.Leads.{asks, IsPrintOf};
-ghost use Rattle.first_print.specs.Prompt.{IsSmooth};
-ghost use Rattle.octo.specs.declared.report.Report.{Report};
-ghost use Rattle.octo.specs.declared.report.Report.TheVariants as report;
-ghost use Rattle.octo.specs.Words.{CommandData, print_file, check_file, command_of, default_turns};
-ghost use Rattle.octo.specs.Outcome.{file_of, check_report, file_name, used_link, is_printed, is_resent, is_checked, is_out_of_turns, leaves_link, IsTrouble, IsReportOf, IsPrintReport, IsNoPort, IsExecuted, IsPrintable, IsWritten, HasUsedTurns, Ended};
+//! The commands of the print host.
+ghost use Rattle.std.specs.Prelude.{◌≡◌, ◌≢◌, ◌≤◌, false};
+ghost use Rattle.std.specs.Option.{option_map};
+ghost use Rattle.octo_outside.specs.Told.{Rose};
+ghost use Rattle.octo_words.specs.Words.{IsInRange};
+ghost use Rattle.octo_report.specs.Status.{code_of};
+ghost use Rattle.octo_report.specs.declared.report.Report.{Report};
+ghost use Rattle.octo_report.specs.declared.report.Report.TheVariants as report;
+ghost use Rattle.octo_print.specs.Printing.{between};
+ghost use Rattle.octo.specs.Commands.{Comes, HasCauses, IsCheck, IsWritten, Reports};
 
-use crate::files::read_job;
-use crate::report::{Report, write_report};
-use crate::words::{is_port, read_turns};
-use byte_text::Name;
-use first_print::{PrintEnd, print_file};
-use gcode_lines::Job;
+use crate::demo::demo;
+use octo_files::{check_file, measure_file, read_settings_of, rest_of_file};
 use octo_outside::{Clock, Failed, Sink, Source, WordList};
+use octo_print::print_file;
+use octo_report::{Report, write_report};
+use octo_words::{Command, FilePath, WordsFault, read_words};
 use printer_link::Link;
 use std::alloc::Global;
-use temp_rules::Targets;
 
 /// How a command ended.
 #[derive(Clone, Copy, Debug, PartialEq, Eq)]
@@ -28,119 +25,78 @@ pub struct Status {
     pub code: u8,
 }
 
-// What a check of a job finds.
-fn check_job(job: &Job) -> Report
-    ensures { result ≡ check_report job.now }
+// The name of the settings' file, if one is named.
+fn named(settings: &Option<FilePath>) -> Option<&str>
+    ensures { option_map (λ s. s.now) result ≡ settings.now }
 {
-    let mut targets = Targets::new();
-    for i in 0..job.count() {
-        targets.see(job.get(i));
-    }
-    Report::Checked {
-        commands: job.count() as u32,
-        skipped: job.skipped(),
-        tool: targets.tool(),
-        bed: targets.bed(),
+    match settings {
+        Some(path) => Some(path.as_str()),
+        None => None,
     }
 }
 
-// Checks a file.
-fn check<F: Source>(alloc: Global, files: &mut F, file: &str) -> Report
-    ensures by_file { IfSome (F.files files.old) (λ all. IfSome (all file.now) (λ bytes. IsTrouble result ⊎ IsReportOf (check_file file.now) (λ _. false) (file_of bytes) result)) }
-    ensures absent { IfSome (F.files files.old) (λ all. all file.now ≡ None → IsTrouble result) }
-    ensures unused { used_link result ≡ false }
-    ensures turns { is_out_of_turns result ≡ false }
-    ensures words { result ≢ report.BadWords }
+// Checks a file by the limits of the settings.
+fn check<F: Source>(
+    alloc: Global,
+    files: &mut F,
+    file: &FilePath,
+    settings: &Option<FilePath>,
+) -> Report
+    ensures check { IsCheck (F.files files.old) settings.now file.now result }
     ensures counted { F.faults files.old ≤ F.faults files.new }
-    ensures source { result ≡ report.SourceFailed → Rose (F.faults files.old) (F.faults files.new) }
+    ensures failed { result ≡ report.SourceFailed → Rose (F.faults files.old) (F.faults files.new) }
 {
-    match read_job(alloc, files, file) {
-        Ok(job) => check_job(&job),
+    match read_settings_of(alloc, files, named(settings)) {
+        Ok(settings) => check_file(alloc, files, file.as_str(), &settings.limits),
         Err(report) => report,
     }
 }
 
-// Prints a job over a port in so many turns.
-fn print_job<L: Link, T: Clock>(
-    link: &mut L,
-    clock: &mut T,
-    port: &str,
-    job: &Job,
-    turns: u64,
-) -> Report
-    requires down { L.up link.old ≡ false }
-    requires short { length port.now ≤ 100 }
-    ensures report { IsPrintReport job.now port.now turns ((L.kind link.old).listed port.now) result }
-    ensures executed { Recorded (L.past link.old) (L.past link.new) (IsPrintOf (L.kind link.old).slots (L.kind link.old).numbered (texts_of job.now) (is_printed result)) }
-    ensures asked { Grows (L.kind link.old) (L.past link.old) (L.past link.new) (λ w added. asks w added ≡ is_resent result) }
-    ensures kind { L.kind link.new ≡ L.kind link.old }
-    ensures counted { L.faults link.old ≤ L.faults link.new }
-    ensures failed { result ≡ report.LinkFailed → Rose (L.faults link.old) (L.faults link.new) }
-    ensures used { used_link result ≡ true }
-    ensures unchecked { is_checked result ≡ false }
-    ensures words { result ≢ report.BadWords }
-    ensures source { result ≢ report.SourceFailed }
-    ensures prompt { IsSmooth (L.kind link.old).prompt (L.past link.old) ((L.kind link.old).listed port.now) (L.faults link.old) (L.faults link.new) → (turns ≡ default_turns) ⊎ (length job.now.commands < turns) → is_printed result ≡ true }
-    ensures calls { is_out_of_turns result ≡ true → RoseBy turns (L.calls link.old) (L.calls link.new) }
-{
-    let commands = job.count();
-    match print_file(link, clock, port, job, turns) {
-        PrintEnd::Done => Report::Printed {
-            commands: commands as u32,
-            skipped: job.skipped(),
-        },
-        PrintEnd::NoPort => no_port(port),
-        PrintEnd::LinkFailed => Report::LinkFailed,
-        PrintEnd::Resent => Report::Resent,
-        PrintEnd::TurnsUsed => Report::TurnsUsed { turns },
-    }
-}
-
-// That a port is not listed.
-fn no_port(port: &str) -> Report
-    requires { length port.now ≤ 100 }
-    ensures { IsNoPort port.now result }
-{
-    match Name::from_text(port) {
-        Some(port) => Report::NoPort { port },
-        None => unreachable!(),
-    }
-}
-
-// Prints a file.
-fn print<F: Source, L: Link, T: Clock>(
+// Carries out a command.
+fn carry_out<F: Source, L: Link, T: Clock>(
     alloc: Global,
+    command: &Command,
     files: &mut F,
     link: &mut L,
     clock: &mut T,
-    port: &str,
-    file: &str,
-    turns: u64,
 ) -> Report
     requires down { L.up link.old ≡ false }
-    requires short { length port.now ≤ 100 }
-    ensures by_file { IfSome (F.files files.old) (λ all. IfSome (all file.now) (λ bytes. IsTrouble result ⊎ IsReportOf (print_file port.now file.now turns) (L.kind link.old).listed (file_of bytes) result)) }
-    ensures absent { IfSome (F.files files.old) (λ all. all file.now ≡ None → IsTrouble result) }
-    ensures executed { IsExecuted (L.kind link.old) (F.files files.old) file.now (is_printed result) (L.past link.old) (L.past link.new) }
-    ensures unused { used_link result ≡ false → L.past link.new ≡ L.past link.old }
-    ensures asked { Grows (L.kind link.old) (L.past link.old) (L.past link.new) (λ w added. asks w added ≡ is_resent result) }
-    ensures words { result ≢ report.BadWords }
-    ensures unchecked { is_checked result ≡ false }
-    ensures counted { F.faults files.old ≤ F.faults files.new }
-    ensures source { result ≡ report.SourceFailed → Rose (F.faults files.old) (F.faults files.new) }
+    requires range { IsInRange command.now }
+    ensures reports { Reports (L.kind link.old) (F.files files.old)
+        (between (L.past link.old) (L.past link.new)) command.now result }
+    ensures causes { HasCauses (F.faults files.old) (F.faults files.new)
+        (L.faults link.old) (L.faults link.new) (L.calls link.old) (L.calls link.new) result }
+    ensures output { code_of result ≢ 8 }
     ensures kind { L.kind link.new ≡ L.kind link.old }
+    ensures counted { F.faults files.old ≤ F.faults files.new }
     ensures link_counted { L.faults link.old ≤ L.faults link.new }
-    ensures link_failed { result ≡ report.LinkFailed → Rose (L.faults link.old) (L.faults link.new) }
-    ensures prompt { IsSmooth (L.kind link.old).prompt (L.past link.old) ((L.kind link.old).listed port.now) (L.faults link.old) (L.faults link.new) → IsPrintable (F.files files.old) file.now turns → (is_printed result ≡ true) ⊎ IsTrouble result }
-    ensures calls { is_out_of_turns result ≡ true → RoseBy turns (L.calls link.old) (L.calls link.new) }
 {
-    match read_job(alloc, files, file) {
-        Ok(job) => print_job(link, clock, port, &job, turns),
-        Err(report) => report,
+    match command {
+        Command::Print {
+            port,
+            file,
+            turns,
+            settings,
+        } => print_file(
+            alloc,
+            files,
+            link,
+            clock,
+            port,
+            file.as_str(),
+            *turns,
+            named(settings),
+        ),
+        Command::Check { file, settings } => check(alloc, files, file, settings),
+        Command::Demo { seed, commands } => demo(alloc, *seed, *commands),
+        Command::Measure { file } => measure_file(alloc, files, file.as_str()),
+        Command::Rest { file, command } => {
+            rest_of_file(alloc, files, file.as_str(), *command as usize)
+        }
     }
 }
 
-// Carries out the command that the words are.
+// Carries out the command that the arguments are.
 fn run<F: Source, L: Link, T: Clock>(
     alloc: Global,
     words: &WordList,
@@ -149,35 +105,24 @@ fn run<F: Source, L: Link, T: Clock>(
     clock: &mut T,
 ) -> Report
     requires { L.up link.old ≡ false }
-    ensures ended { Ended words.now (F.files files.old) (L.kind link.old).listed (F.faults files.old) (F.faults files.new) (L.faults link.old) (L.faults link.new) result }
-    ensures executed { (port file : List ℕ) (turns : ℕ) → command_of words.now ≡ Some (print_file port file turns) → IsExecuted (L.kind link.old) (F.files files.old) file (is_printed result) (L.past link.old) (L.past link.new) }
-    ensures unchecked { (port file : List ℕ) (turns : ℕ) → command_of words.now ≡ Some (print_file port file turns) → is_checked result ≡ false }
-    ensures unused { used_link result ≡ false → L.past link.new ≡ L.past link.old }
-    ensures asked { Grows (L.kind link.old) (L.past link.old) (L.past link.new) (λ w added. asks w added ≡ is_resent result) }
-    ensures checked { (file : List ℕ) → command_of words.now ≡ Some (check_file file) → L.past link.new ≡ L.past link.old }
+    ensures comes { Comes words.now (L.kind link.old) (F.files files.old)
+        (between (L.past link.old) (L.past link.new)) result }
+    ensures causes { HasCauses (F.faults files.old) (F.faults files.new)
+        (L.faults link.old) (L.faults link.new) (L.calls link.old) (L.calls link.new) result }
+    ensures output { code_of result ≢ 8 }
     ensures kind { L.kind link.new ≡ L.kind link.old }
     ensures counted { F.faults files.old ≤ F.faults files.new }
     ensures link_counted { L.faults link.old ≤ L.faults link.new }
-    ensures turns { is_out_of_turns result ≡ true → HasUsedTurns words.now (L.calls link.old) (L.calls link.new) }
-    ensures prompt { (port file : List ℕ) (turns : ℕ) → command_of words.now ≡ Some (print_file port file turns) → IsSmooth (L.kind link.old).prompt (L.past link.old) ((L.kind link.old).listed port) (L.faults link.old) (L.faults link.new) → IsPrintable (F.files files.old) file turns → (is_printed result ≡ true) ⊎ IsTrouble result }
 {
-    if words.count() == 2 && words.get(0) == "check" {
-        return check(alloc, files, words.get(1));
-    }
-    if words.count() < 3 || words.get(0) != "print" || !is_port(words.get(1)) {
-        return Report::BadWords;
-    }
-    match read_turns(words) {
-        Some(turns) => print(alloc, files, link, clock, words.get(1), words.get(2), turns),
-        None => Report::BadWords,
+    match read_words(alloc, words) {
+        Ok(command) => carry_out(alloc, &command, files, link, clock),
+        Err(WordsFault::BadWords) => Report::BadWords,
+        Err(WordsFault::NoMemory) => Report::NoMemory,
     }
 }
 
-/// Carries out the command that the words are, without the program's name: `print PORT FILE`, with `--turns N` behind it
-/// for at most N turns, or `check FILE`. Its report is written to `out`.
-///
-/// Over a prompt link on which no call fails a file that gives a job is printed in one turn more than it has commands,
-/// unless memory, the source or the sink fails.
+/// Carries out the command that the arguments are, without the program's name, and writes its report to `out`: `print`,
+/// `check`, `demo`, `measure` or `rest`, as `octo_words` reads them. The status is the report's, or 8 if the output failed.
 pub fn octo<R, F: Source, L: Link, O: Sink, T: Clock>(
     _rt: &R,
     alloc: Global,
@@ -188,17 +133,20 @@ pub fn octo<R, F: Source, L: Link, O: Sink, T: Clock>(
     clock: &mut T,
 ) -> Status
     requires { L.up link.old ≡ false }
-    ensures ended { (r : Report) × Ended words.now (F.files files.old) (L.kind link.old).listed (F.faults files.old) (F.faults files.new) (L.faults link.old) (L.faults link.new) r × IsWritten r result.code (O.written out.old) (O.written out.new) × Grows (L.kind link.old) (L.past link.old) (L.past link.new) (λ w added. asks w added ≡ is_resent r) }
-    ensures executed { (port file : List ℕ) (turns : ℕ) → command_of words.now ≡ Some (print_file port file turns) → IsExecuted (L.kind link.old) (F.files files.old) file (result.code == 0) (L.past link.old) (L.past link.new) }
-    ensures unused { leaves_link result.code ≡ true → L.past link.new ≡ L.past link.old }
-    ensures checked { (file : List ℕ) → command_of words.now ≡ Some (check_file file) → L.past link.new ≡ L.past link.old }
-    ensures kind { L.kind link.new ≡ L.kind link.old }
-    ensures turns { result.code ≡ 10 → HasUsedTurns words.now (L.calls link.old) (L.calls link.new) }
+
+    // What the arguments come to is written, each failure by its cause.
+    ensures comes { (r : Report) × Comes words.now (L.kind link.old) (F.files files.old)
+        (between (L.past link.old) (L.past link.new)) r
+        × HasCauses (F.faults files.old) (F.faults files.new)
+        (L.faults link.old) (L.faults link.new) (L.calls link.old) (L.calls link.new) r
+        × IsWritten r result.code (O.written out.old) (O.written out.new) }
     ensures sink { result.code ≡ 8 → Rose (O.faults out.old) (O.faults out.new) }
+
+    // What stays, and counts.
+    ensures kind { L.kind link.new ≡ L.kind link.old }
     ensures source_counted { F.faults files.old ≤ F.faults files.new }
     ensures link_counted { L.faults link.old ≤ L.faults link.new }
     ensures sink_counted { O.faults out.old ≤ O.faults out.new }
-    ensures prompt { (port file : List ℕ) (turns : ℕ) → command_of words.now ≡ Some (print_file port file turns) → IsSmooth (L.kind link.old).prompt (L.past link.old) ((L.kind link.old).listed port) (L.faults link.old) (L.faults link.new) → IsPrintable (F.files files.old) file turns → Steady (F.faults files.old) (F.faults files.new) → (result.code ≡ 0) ⊎ (result.code ≡ 8) ⊎ (result.code ≡ 11) }
 {
     let report = run(alloc, words, files, link, clock);
     match write_report(out, &report) {

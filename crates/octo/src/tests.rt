@@ -83,6 +83,7 @@ fn command(alloc: Global, row: &Row) -> Result<Outcome, Fail> {
     let mut link = link(alloc, row.fates, row.link_fails, row.restarts)?;
     let mut files = MemorySource::new(alloc, calls(alloc, row.source_fails)?);
     files.put("a.gcode", row.file)?;
+    files.put("s", SETTINGS)?;
     let mut out = MemorySink::new(alloc, calls(alloc, row.sink_fails)?);
     let mut clock = MemoryClock::new(0, 1);
     let status = octo(
@@ -122,7 +123,9 @@ struct Row {
 
 const PRINT: &[&str] = &["print", "p", "a.gcode"];
 
-const CHECK: &[&str] = &["check", "a.gcode"];
+// A script before each print and after it, and a lower limit.
+const SETTINGS: &[u8] =
+    b"[printer]\nports = [\"p\"]\n\n[limits]\ntool = 250\n\n[admin]\nname = \"root\"\nkey = \"0000000000000000000000000000000000000000000000000000000000000001\"\n\n[scripts]\nbeforePrintStarted = [\"M107\"]\nafterPrintDone = [\"M84\"]\n";
 
 // The print of two commands over a line without losses.
 const DONE: Row = Row {
@@ -137,6 +140,13 @@ const DONE: Row = Row {
     text: b"done: 2 commands, 0 skipped\n",
     executed: HOME_AND_MOVE,
     sends: 3,
+};
+
+// A command that sends nothing.
+const UNSENT: Row = Row {
+    executed: b"",
+    sends: 0,
+    ..DONE
 };
 
 fn assert_row(rt: &(impl Abort + Alloc<A = Global>), row: &Row) -> Result<(), Fail> {
@@ -154,47 +164,50 @@ fn ample(rt: HostRuntime) -> Result<(), Fail> {
 }
 
 #[test]
-fn refused_words(rt: HostRuntime) -> Result<(), Fail> {
-    let rows: [&[&str]; 12] = [
+fn refused_arguments(rt: HostRuntime) -> Result<(), Fail> {
+    let rows: [&[&str]; 4] = [
         &[],
         &["print", "p"],
-        &["print", "", "a.gcode"],
-        &["check", "a.gcode", "b"],
         &["Check", "a.gcode"],
-        &["print", "p", "a.gcode", "--turns"],
-        &["print", "p", "a.gcode", "--turn", "3"],
         &["print", "p", "a.gcode", "--turns", "0"],
-        &["print", "p", "a.gcode", "--turns", "+3"],
-        &["print", "p", "a.gcode", "--turns", "4000000000001"],
-        &["print", "p", "a.gcode", "--turns", "00000000000003"],
-        &["print", "p", "a.gcode", "--turns", "3", "4"],
     ];
     for words in rows {
-        assert_row(
-            &rt,
-            &Row {
-                words,
-                code: 2,
-                text: b"octo: bad words\n",
-                executed: b"",
-                sends: 0,
-                ..DONE
-            },
-        )?;
+        let row = Row {
+            words,
+            code: 2,
+            text: b"octo: bad words\n",
+            ..UNSENT
+        };
+        assert_row(&rt, &row)?;
     }
     Ok(())
 }
 
+// A line that is lost and one that is corrupted are sent again.
 #[test]
-fn faults_round_it(rt: HostRuntime) -> Result<(), Fail> {
+fn lossy_line(rt: HostRuntime) -> Result<(), Fail> {
+    let corrupted = Row {
+        fates: &[Fate::Whole, Fate::Garbled],
+        sends: 5,
+        ..DONE
+    };
+    let lost = Row {
+        fates: &[Fate::Whole, Fate::Lost],
+        sends: 5,
+        ..DONE
+    };
+    assert_row(&rt, &corrupted)?;
+    assert_row(&rt, &lost)
+}
+
+#[test]
+fn failures(rt: HostRuntime) -> Result<(), Fail> {
     let rows = [
         Row {
             source_fails: &[1],
             code: 4,
             text: b"source failed\n",
-            executed: b"",
-            sends: 0,
-            ..DONE
+            ..UNSENT
         },
         Row {
             sink_fails: &[1],
@@ -206,17 +219,13 @@ fn faults_round_it(rt: HostRuntime) -> Result<(), Fail> {
             words: &["print", "q", "a.gcode"],
             code: 5,
             text: b"port q is not listed\n",
-            executed: b"",
-            sends: 0,
-            ..DONE
+            ..UNSENT
         },
         Row {
-            fates: &[Fate::Whole, Fate::Garbled],
-            code: 6,
-            text: b"session ended: resend not built\n",
-            executed: b"",
-            sends: 2,
-            ..DONE
+            link_fails: &[1],
+            code: 5,
+            text: b"link failed\n",
+            ..UNSENT
         },
     ];
     for row in &rows {
@@ -225,158 +234,107 @@ fn faults_round_it(rt: HostRuntime) -> Result<(), Fail> {
     Ok(())
 }
 
-// The printer restarts while the first command is on its way, and while the second is: that one is refused.
+// The printer restarts while the first command is on its way, and while the second is.
 #[test]
 fn restarts(rt: HostRuntime) -> Result<(), Fail> {
     let restarted = Row {
         code: 6,
-        text: b"session ended: resend not built\n",
+        text: b"session ended: printer restarted\n",
         ..DONE
     };
-    let rows = [
-        Row {
-            restarts: &[2],
-            executed: b"",
-            sends: 2,
-            ..restarted
-        },
-        Row {
-            restarts: &[3],
-            executed: b"G28\n",
-            ..restarted
-        },
-    ];
-    for row in &rows {
-        assert_row(&rt, row)?;
-    }
-    Ok(())
+    let at_first = Row {
+        restarts: &[4],
+        executed: b"",
+        ..restarted
+    };
+    let at_second = Row {
+        restarts: &[5],
+        executed: b"G28\n",
+        ..restarted
+    };
+    assert_row(&rt, &at_first)?;
+    assert_row(&rt, &at_second)
 }
 
-// A print of two commands takes a turn for the hello and one for each command.
 #[test]
 fn allowed_turns(rt: HostRuntime) -> Result<(), Fail> {
-    let rows = [
-        Row {
-            words: &["print", "p", "a.gcode", "--turns", "3"],
-            ..DONE
-        },
-        Row {
-            words: &["print", "p", "a.gcode", "--turns", "2"],
+    assert_row(
+        &rt,
+        &Row {
+            words: &["print", "p", "a.gcode", "--turns", "6"],
             code: 10,
-            text: b"turns used: 2\n",
-            executed: b"G28\n",
+            text: b"turns used: 6\n",
             ..DONE
         },
-        Row {
-            words: &["print", "p", "a.gcode", "--turns", "4000000000000"],
-            ..DONE
-        },
-    ];
-    for row in &rows {
-        assert_row(&rt, row)?;
-    }
-    Ok(())
+    )
 }
 
-// The calls of a print of two commands are a dial, then a send and a receiving for the hello and each command.
+// Settings with a script at the beginning and at the end of a print, and the limit 250 for the tool.
 #[test]
-fn each_call_fails_once(rt: HostRuntime) -> Result<(), Fail> {
-    let failed = Row {
-        code: 5,
-        text: b"link failed\n",
-        executed: b"",
+fn settings(rt: HostRuntime) -> Result<(), Fail> {
+    let print = Row {
+        words: &["print", "p", "a.gcode", "--settings", "s"],
+        executed: b"M107\nG28\nG1 X10\nM84\n",
+        sends: 5,
         ..DONE
     };
-    let rows = [
-        Row {
-            link_fails: &[1],
-            sends: 0,
-            ..failed
-        },
-        Row {
-            link_fails: &[2],
-            sends: 0,
-            ..failed
-        },
-        Row {
-            link_fails: &[3],
-            sends: 1,
-            ..failed
-        },
-        Row {
-            link_fails: &[4],
-            sends: 1,
-            ..failed
-        },
-        Row {
-            link_fails: &[5],
-            sends: 2,
-            ..failed
-        },
-        Row {
-            link_fails: &[6],
-            sends: 2,
-            executed: b"G28\n",
-            ..failed
-        },
-        Row {
-            link_fails: &[7],
-            sends: 3,
-            executed: b"G28\n",
-            ..failed
-        },
-        Row {
-            link_fails: &[8],
-            ..DONE
-        },
-    ];
-    for row in &rows {
-        assert_row(&rt, row)?;
-    }
-    Ok(())
+    let hot = Row {
+        words: &["check", "a.gcode", "--settings", "s"],
+        file: b"G28\nG1 X10\nM104 S260\n",
+        code: 3,
+        text: b"file: line 3: too hot: 260 over 250\n",
+        ..UNSENT
+    };
+    let missing = Row {
+        words: &["print", "p", "a.gcode", "--settings", "a.gcode"],
+        code: 7,
+        text: b"settings: not toml\n",
+        ..UNSENT
+    };
+    assert_row(&rt, &print)?;
+    assert_row(&rt, &hot)?;
+    assert_row(&rt, &missing)
 }
 
 #[test]
-fn checked_files(rt: HostRuntime) -> Result<(), Fail> {
-    let sliced =
-        b"; generated by slicer\r\n; thumbnail begin 16x16 4\r\n; AAAA\r\n; thumbnail end\r\nM201 X500 Y500\r\nM109 S215\r\nG1 X10.5 E0.02 ; line\r\n\r\n";
+fn checks(rt: HostRuntime) -> Result<(), Fail> {
     let check = Row {
-        words: CHECK,
-        executed: b"",
-        sends: 0,
-        ..DONE
+        words: &["check", "a.gcode"],
+        file: b"M109 S215\nG1 X10.5 E0.02 ; line\r\n\r\n",
+        code: 0,
+        text: b"commands 2\nskipped 1\nhottest tool 215\nhottest bed 0\n",
+        ..UNSENT
     };
-    let rows = [
-        Row {
-            file: sliced,
-            text: b"commands 3\nskipped 5\nhottest tool 215\nhottest bed 0\n",
-            ..check
-        },
-        Row {
-            file: b"M117 M110 N9\nG28\n",
-            text: b"commands 1\nskipped 1\nhottest tool 0\nhottest bed 0\n",
-            ..check
-        },
-        Row {
-            file: b"G1\x07X\n",
-            code: 3,
-            text: b"file: line 1: control byte\n",
-            ..check
-        },
-        Row {
-            file: b"G28\nM104 S200\nM109 R300.5\n",
-            code: 3,
-            text: b"file: line 3: too hot: 301 over 300\n",
-            ..check
-        },
-        Row {
-            file: b"",
-            text: b"commands 0\nskipped 0\nhottest tool 0\nhottest bed 0\n",
-            ..check
-        },
-    ];
-    for row in &rows {
-        assert_row(&rt, row)?;
-    }
-    Ok(())
+    assert_row(&rt, &check)
+}
+
+#[test]
+fn measures(rt: HostRuntime) -> Result<(), Fail> {
+    let file = b"G28\nM83\nG1 X10 Y5 E2.5\nG1 X20 E-1\nG92 E0\nG91\nG1 Z0.2 E1\n";
+    let rest = Row {
+        words: &["rest", "a.gcode", "4"],
+        file,
+        code: 0,
+        text: b"G90\nM83\nG92 X20.000000 Y5.000000 Z0.000000 E1.500000\nG92 E0\nG91\nG1 Z0.2 E1\n",
+        ..UNSENT
+    };
+    let past = Row {
+        words: &["rest", "a.gcode", "8"],
+        code: 3,
+        text: b"file: 7 commands\n",
+        ..rest
+    };
+    assert_row(&rt, &rest)?;
+    assert_row(&rt, &past)
+}
+
+#[test]
+fn demos(rt: HostRuntime) -> Result<(), Fail> {
+    let demo = Row {
+        words: &["demo", "1", "3"],
+        code: 0,
+        text: b"demo seed 1 commands 3\nexecuted 3\nsent 8\nfaults 2\nstatus 0\n",
+        ..UNSENT
+    };
+    assert_row(&rt, &demo)
 }

@@ -1,5 +1,5 @@
 -- Which command the arguments are.
-use Rattle.std.specs.Prelude.{ℕ, Bool, ◌&&◌, ◌≡◌, nat_le, if◌then◌else◌, List, [], ◌∷◌, length, codes, Option, Some, None, option_and_then, option_map, Result, MatchResult}
+use Rattle.std.specs.Prelude.{ℕ, Bool, ◌&&◌, ◌≡◌, ◌≤◌, nat_le, if◌then◌else◌, List, [], ◌∷◌, length, codes, Option, Some, None, option_and_then, option_map, Result, MatchResult}
 use Rattle.std.specs.Str.{bytes_eq}
 use Rattle.clap.specs.Words.{Kinds, Row, Text, fault_of, first_of, subcommand_of, subcommand_rows_of}
 use Rattle.clap.specs.declared.parser.matches.ArgMatches.{ArgMatches}
@@ -84,6 +84,11 @@ command_named name rows =
 -- the command that arguments are, if they are one
 unfoldable pub command_of : List Text → Option Command
 command_of words = option_and_then (λ named. command_named named.0 named.1) (rows_named words)
+
+-- the numbers of a demo are within its ranges
+abbrev pub IsInRange : Command → Type 0
+IsInRange (Demo seed commands) = (seed ≤ 2147483647) × (commands ≤ 200000)
+IsInRange _ = Unit {0}
 
 -- a reading of what is wanted: it is returned, and BadWords comes only if there is nothing such
 abbrev pub Reads : {T : Type 0} → Option T → Result T WordsFault → Type 0

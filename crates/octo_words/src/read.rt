@@ -1,7 +1,7 @@
 //! The command that the arguments are.
-ghost use Rattle.std.specs.Prelude.{◌≡◌, map};
+ghost use Rattle.std.specs.Prelude.{◌≡◌, map, IfOk};
 ghost use Rattle.clap.specs.Words.{found_of, rows_of};
-ghost use Rattle.octo_words.specs.Words.{Reads, print_of, check_of, demo_of, measure_of, rest_of, command_named, command_of};
+ghost use Rattle.octo_words.specs.Words.{IsInRange, Reads, print_of, check_of, demo_of, measure_of, rest_of, command_named, command_of};
 
 use crate::command::{Command, WordsFault};
 use crate::fields::{file_in, number_in, optional_file_in, port_in, turns_in};
@@ -17,7 +17,8 @@ const MOST_COMMANDS: u64 = 200_000;
 const MOST_PLACE: u64 = 9_999_999_999_999;
 
 fn read_print(alloc: Global, found: &ArgMatches<'_>) -> Result<Command, WordsFault>
-    ensures { Reads (print_of (rows_of (found_of found.now))) result }
+    ensures read { Reads (print_of (rows_of (found_of found.now))) result }
+    ensures range { IfOk result IsInRange }
 {
     let port = port_in(found, "port")?;
     let file = file_in(alloc, found, "file")?;
@@ -32,7 +33,8 @@ fn read_print(alloc: Global, found: &ArgMatches<'_>) -> Result<Command, WordsFau
 }
 
 fn read_check(alloc: Global, found: &ArgMatches<'_>) -> Result<Command, WordsFault>
-    ensures { Reads (check_of (rows_of (found_of found.now))) result }
+    ensures read { Reads (check_of (rows_of (found_of found.now))) result }
+    ensures range { IfOk result IsInRange }
 {
     let file = file_in(alloc, found, "file")?;
     let settings = optional_file_in(alloc, found, "settings")?;
@@ -40,7 +42,8 @@ fn read_check(alloc: Global, found: &ArgMatches<'_>) -> Result<Command, WordsFau
 }
 
 fn read_demo(found: &ArgMatches<'_>) -> Result<Command, WordsFault>
-    ensures { Reads (demo_of (rows_of (found_of found.now))) result }
+    ensures read { Reads (demo_of (rows_of (found_of found.now))) result }
+    ensures range { IfOk result IsInRange }
 {
     let seed = number_in(found, "seed", 0, MOST_SEED)?;
     let commands = number_in(found, "commands", 0, MOST_COMMANDS)?;
@@ -51,14 +54,16 @@ fn read_demo(found: &ArgMatches<'_>) -> Result<Command, WordsFault>
 }
 
 fn read_measure(alloc: Global, found: &ArgMatches<'_>) -> Result<Command, WordsFault>
-    ensures { Reads (measure_of (rows_of (found_of found.now))) result }
+    ensures read { Reads (measure_of (rows_of (found_of found.now))) result }
+    ensures range { IfOk result IsInRange }
 {
     let file = file_in(alloc, found, "file")?;
     Ok(Command::Measure { file })
 }
 
 fn read_rest(alloc: Global, found: &ArgMatches<'_>) -> Result<Command, WordsFault>
-    ensures { Reads (rest_of (rows_of (found_of found.now))) result }
+    ensures read { Reads (rest_of (rows_of (found_of found.now))) result }
+    ensures range { IfOk result IsInRange }
 {
     let file = file_in(alloc, found, "file")?;
     let command = number_in(found, "command", 0, MOST_PLACE)?;
@@ -67,7 +72,8 @@ fn read_rest(alloc: Global, found: &ArgMatches<'_>) -> Result<Command, WordsFaul
 
 // The command of that name.
 fn read_named(alloc: Global, name: &str, found: &ArgMatches<'_>) -> Result<Command, WordsFault>
-    ensures { Reads (command_named name.now (rows_of (found_of found.now))) result }
+    ensures read { Reads (command_named name.now (rows_of (found_of found.now))) result }
+    ensures range { IfOk result IsInRange }
 {
     match name {
         "print" => read_print(alloc, found),
@@ -82,7 +88,8 @@ fn read_named(alloc: Global, name: &str, found: &ArgMatches<'_>) -> Result<Comma
 // The command that these texts are.
 #[tactic(auto, unfolding(crate::specs::Words::command_of))]
 fn read_texts<'a>(alloc: Global, texts: &'a [&'a str]) -> Result<Command, WordsFault>
-    ensures { Reads (command_of (map (λ w. w.now) texts.entry.now)) result }
+    ensures read { Reads (command_of (map (λ w. w.now) texts.entry.now)) result }
+    ensures range { IfOk result IsInRange }
 {
     match parse(alloc, texts)?.subcommand() {
         Some((name, found)) => read_named(alloc, name, found),
@@ -101,7 +108,8 @@ fn read_texts<'a>(alloc: Global, texts: &'a [&'a str]) -> Result<Command, WordsF
 ///
 /// Source: the command lines that the Rust crate `clap` reads.
 pub fn read_words(alloc: Global, words: &WordList) -> Result<Command, WordsFault>
-    ensures { Reads (command_of words.now) result }
+    ensures read { Reads (command_of words.now) result }
+    ensures range { IfOk result IsInRange }
 {
     let texts = texts_of(alloc, words)?;
     read_texts(alloc, texts.as_slice())

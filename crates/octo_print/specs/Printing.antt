@@ -1,0 +1,92 @@
+-- What a print of a file comes to, by its settings, its file and the history of its link.
+use Rattle.std.specs.Prelude.{◌≡◌, ◌≢◌, ◌⊎◌, ◌↔◌, ℕ, ◌≤◌, false, List, length, Option, Result, Ok, Err}
+use Rattle.octo_outside.specs.Traits.{Files}
+use Rattle.gcode_lines.specs.Job.{JobData, texts_of}
+use Rattle.temp_rules.specs.declared.limits.Limits.{Limits}
+use Rattle.printer_model.specs.declared.event.WorldEvent.{WorldEvent}
+use Rattle.printer_link.specs.Link.{LinkKind, Recorded}
+use Rattle.send_window.specs.declared.session_end.SessionEnd.{SessionEnd}
+use Rattle.lossy_line.specs.Tied.{EndCausedAs}
+use Rattle.print_course.specs.Plan.{plan}
+use Rattle.session_print.specs.Ends.{IsUnsent}
+use Rattle.session_print.specs.Patience.{HasWaited}
+use Rattle.session_print.specs.Printed.{HasPrinted}
+use Rattle.session_print.specs.declared.end.PrintEnd.{PrintEnd}
+use Rattle.session_print.specs.declared.end.PrintEnd.TheVariants as end
+use Rattle.octo_settings.specs.declared.settings.Settings.{Settings}
+use Rattle.octo_report.specs.declared.report.Report.{Report}
+use Rattle.octo_report.specs.declared.report.Report.TheVariants as report
+use Rattle.octo_files.specs.Jobs.{job_in}
+use Rattle.octo_files.specs.Reading.{FileGives, IsTroubled}
+use Rattle.octo_files.specs.Settings.{HaveSettings}
+
+-- a job within limits, or the report that there is none
+abbrev pub HaveJob : Option Files → List ℕ → Limits → Result JobData Report → Type 0
+HaveJob files file limits found =
+    IsTroubled found ⊎ FileGives files file (λ bytes. found ≡ job_in limits bytes)
+
+-- what reading the settings and then the file comes to
+pub data Reads (files : Option Files) (settings : Option (List ℕ)) (file : List ℕ) : Result (Settings × JobData) Report → Type 0 where
+  no_settings : (r : Report) → HaveSettings files settings (Err r) → Reads files settings file (Err r)
+  no_job : (s : Settings) (r : Report) → HaveSettings files settings (Ok s) → HaveJob files file s.limits (Err r) → Reads files settings file (Err r)
+  both : (s : Settings) (job : JobData) → HaveSettings files settings (Ok s) → HaveJob files file s.limits (Ok job) → Reads files settings file (Ok (s, job))
+
+-- how the end of a print of a job over a port is reported
+abbrev pub reported : PrintEnd → List ℕ → JobData → Report
+reported end.Done port job = report.Printed (length job.commands) job.skipped
+reported (end.TooHot line asked limit) port job =
+    report.TooHot (record { line = line; asked = asked; limit = limit })
+reported end.NoPort port job = report.NoPort port
+reported end.LinkFailed port job = report.LinkFailed
+reported (end.Ended why) port job = report.Ended why
+reported (end.TurnsUsed turns) port job = report.TurnsUsed turns
+
+-- what a print is asked: over which port, and in how many turns at most
+pub record Asked : Type 0 where
+  pub port : List ℕ
+  pub turns : ℕ
+
+abbrev pub over_port : List ℕ → ℕ → Asked
+over_port port turns = record { port = port; turns = turns }
+
+-- a history before a print and after it
+pub record Histories : Type 0 where
+  pub first : Option (List WorldEvent)
+  pub now : Option (List WorldEvent)
+
+abbrev pub between : Option (List WorldEvent) → Option (List WorldEvent) → Histories
+between first now = record { first = first; now = now }
+
+-- a job was printed over a link by settings, and the print ended so
+pub record HasRun (kind : LinkKind) (s : Settings) (job : JobData) (asked : Asked) (h : Histories) (how : PrintEnd) : Type 0 where
+  -- the first lines of the plan were printed, in one session at most; all of it if the print is done
+  pub acked : ℕ
+  pub printed : Recorded h.first h.now (HasPrinted kind (plan s.scripts (texts_of job)) how acked)
+  -- each end by its cause
+  pub cool : (line hot limit : ℕ) → how ≢ end.TooHot line hot limit
+  pub no_port : (how ≡ end.NoPort) ↔ ((1 ≤ asked.turns) × (kind.listed asked.port ≡ false))
+  pub ended : (why : SessionEnd) → how ≡ end.Ended why → EndCausedAs kind h.now why
+  pub used : (made : ℕ) → how ≡ end.TurnsUsed made → made ≡ asked.turns
+  pub unsent : IsUnsent how → h.now ≡ h.first
+
+-- a job was printed and its end reported
+pub record IsRun (kind : LinkKind) (s : Settings) (job : JobData) (asked : Asked) (h : Histories) (r : Report) : Type 0 where
+  pub how : PrintEnd
+  pub is : r ≡ reported how asked.port job
+  pub run : HasRun kind s job asked h how
+
+-- a report, and nothing was added to the history
+pub record IsRefused (h : Histories) (r refusal : Report) : Type 0 where
+  pub is : r ≡ refusal
+  pub unused : h.now ≡ h.first
+
+-- what follows of what was read
+abbrev pub Follows : LinkKind → Asked → Histories → Report → Result (Settings × JobData) Report → Type 0
+Follows kind asked h r (Err refusal) = IsRefused h r refusal
+Follows kind asked h r (Ok (s, job)) = IsRefused h r report.NoMemory ⊎ IsRun kind s job asked h r
+
+-- a file was printed by settings, or not, and this is reported
+pub record IsFilePrint (kind : LinkKind) (files : Option Files) (settings : Option (List ℕ)) (file : List ℕ) (asked : Asked) (h : Histories) (r : Report) : Type 0 where
+  pub found : Result (Settings × JobData) Report
+  pub reads : Reads files settings file found
+  pub follows : Follows kind asked h r found

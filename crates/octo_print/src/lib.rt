@@ -1,0 +1,8 @@
+//! The command `print` of a print host: a file's commands over a session made by the settings.
+#![tactic(auto)]
+
+mod print;
+#[cfg(test)]
+mod tests;
+
+pub use print::print_file;

@@ -1,4 +1,0 @@
-pub mod Prompt
-pub mod Saying
-pub mod Prompted
-pub mod Greeting
