@@ -6,7 +6,25 @@ scripts/build octo marlin_sim || exit 1
 . scripts/with_work
 failed=0
 
-# name, the file's text, the words of marlin_sim behind its address, what octo prints, octo's status, what the printer prints
+# A lost line at the end of a print is sent again after one second.
+cat >"$work/settings.toml" <<'EOF'
+[printer]
+ports = ["127.0.0.1:7100"]
+limit_ms = 1000
+
+[limits]
+
+[admin]
+name = "root"
+key = "0000000000000000000000000000000000000000000000000000000000000001"
+
+[scripts]
+beforePrintStarted = ["M107"]
+afterPrintDone = ["M84"]
+EOF
+
+# name, the file's text, the words of marlin_sim after its address, what octo prints, octo's status, what the printer prints,
+# and octo's options
 print_row() {
     if [ "$over" = tcp ]; then
         port=$(scripts/free_port) || exit 1
@@ -19,7 +37,7 @@ print_row() {
     timeout 60 crates/marlin_sim/out/marlin_sim "$address" $3 >"$work/executed" &
     printer=$!
     started=$printer
-    scripts/octo_when_up print "$address" "$work/a.gcode" --turns 500 >"$work/octo"
+    scripts/octo_when_up print "$address" "$work/a.gcode" ${7:---turns 5000} >"$work/octo"
     octo=$?
     wait "$printer"
     sim=$?
@@ -36,18 +54,55 @@ print_row() {
     fi
 }
 
+# A printer that is killed while it prints: octo ends with status 5, and what was executed are the first lines of the print.
+kill_row() {
+    port=$(scripts/free_port) || exit 1
+    timeout 60 crates/marlin_sim/out/marlin_sim "127.0.0.1:$port" 0 4 - - >"$work/executed" &
+    printer=$!
+    started=$printer
+    python3 - >"$work/long.gcode" <<'EOF'
+for number in range(200_000):
+    print("G1 X%d" % number)
+EOF
+    (sleep 1; pkill -9 -P "$printer" 2>/dev/null; kill -9 "$printer" 2>/dev/null) &
+    scripts/octo_when_up print "127.0.0.1:$port" "$work/long.gcode" >"$work/octo"
+    octo=$?
+    wait "$printer" 2>/dev/null
+    started=
+    printf 'link failed\n' >"$work/octo_wanted"
+    if [ "$octo" -eq 5 ] && cmp "$work/octo" "$work/octo_wanted" && python3 - "$work/executed" <<'EOF'
+import sys
+lines = open(sys.argv[1]).read().split("\n")[:-1]
+texts = [line.split(" ", 1)[1] for line in lines[1:] if not line.endswith(" M105")]
+wanted = ["G1 X%d" % number for number in range(len(texts))]
+sys.exit(0 if texts == wanted and (not lines or lines[0] == "N1 M110 N1") else 1)
+EOF
+    then
+        echo "ok: a printer that is killed while it prints"
+    else
+        echo "failed: a printer that is killed while it prints: octo $octo"
+        cat "$work/octo"
+        failed=1
+    fi
+}
+
 over=tcp
 print_row "two commands" 'G28\nG1 X10\n' '4 4 - -' \
     'done: 2 commands, 0 skipped\n' 0 'N1 M110 N1\nN2 G28\nN3 G1 X10\n'
 print_row "comments and CR LF" '; a\r\nG28 ; home\r\n\r\nM105\r\n' '4294967295 1 - -' \
     'done: 2 commands, 2 skipped\n' 0 'N1 M110 N1\nN2 G28\nN3 M105\n'
 print_row "an empty file" '' '0 16 - -' 'done: 0 commands, 0 skipped\n' 0 'N1 M110 N1\n'
-print_row "the third line garbled" 'G28\nG1 X10\n' '4 4 - 3' \
-    'session ended: resend not built\n' 6 'N1 M110 N1\nN2 G28\n'
-print_row "the third line lost" 'G28\nG1 X10\n' '4 4 3 -' 'turns used: 500\n' 10 'N1 M110 N1\nN2 G28\n'
+print_row "the third line corrupted" 'G28\nG1 X10\n' '4 4 - 3' \
+    'done: 2 commands, 0 skipped\n' 0 'N1 M110 N1\nN2 G28\nN3 G1 X10\n'
+print_row "the second line lost" 'G28\nG1 X10\n' '4 4 2 -' \
+    'done: 2 commands, 0 skipped\n' 0 'N1 M110 N1\nN2 G28\nN3 G1 X10\n'
+scripted='N1 M110 N1\nN2 M107\nN3 G28\nN4 G1 X10\nN5 M84\n'
+print_row "scripts, and the last line lost" 'G28\nG1 X10\n' '4 4 5 -' \
+    'done: 2 commands, 0 skipped\n' 0 "$scripted" "--settings $work/settings.toml --turns 50000"
+kill_row
 over=unix
 print_row "two commands over a Unix socket" 'G28\nG1 X10\n' '4 4 - -' \
     'done: 2 commands, 0 skipped\n' 0 'N1 M110 N1\nN2 G28\nN3 G1 X10\n'
-print_row "the third line lost over a Unix socket" 'G28\nG1 X10\n' '4 4 3 -' \
-    'turns used: 500\n' 10 'N1 M110 N1\nN2 G28\n'
+print_row "the third line lost over a Unix socket" 'G28\nG1 X10\n' '4 4 4 -' \
+    'done: 2 commands, 0 skipped\n' 0 "$scripted" "--settings $work/settings.toml --turns 50000"
 exit "$failed"
