@@ -1,6 +1,7 @@
 #!/bin/sh
-# Measures `octo check` of two files of 64 MiB beside `wc -l` of the same file: one of a slicer's lines, one of the shortest
-# commands. Each run prints its seconds, its seconds of the processor, and the greatest memory in KiB; below them stand the
+# Measures `octo check` of two files of 64 MiB beside `wc -l` of the same file, and beside bench/plain_check.c, which does in C
+# the least that such a check takes: one file of a slicer's lines, one of the shortest commands. `octo measure` of the first
+# file is measured too. Each run prints its seconds, its seconds of the processor, and the greatest memory in KiB; below them stand the
 # bounds that the program is to keep. The program is the one that `scripts/build octo` leaves in crates/octo/out/octo.
 # Another program is measured in the same rounds if it is named, as one that a former commit gave: bench/check.sh OTHER
 set -eu
@@ -24,6 +25,7 @@ with open(sys.argv[1] + "/slicer", "w") as out:
 with open(sys.argv[1] + "/shortest", "wb") as out:
     out.write(b"G\n" * (32 * 1024 * 1024))
 P
+cc -O2 -o "$folder/plain_check" bench/plain_check.c
 measure() {
     python3 - "$@" <<'P'
 import resource, subprocess, sys, time
@@ -40,8 +42,10 @@ for name in slicer shortest; do
     for turn in 1 2 3; do
         measure "$program" check "$file"
         [ -z "$other" ] || measure "$other" check "$file"
+        measure "$folder/plain_check" "$file"
         measure wc -l "$file"
     done
+    [ "$name" = shortest ] || measure "$program" measure "$file"
     python3 - "$file" <<'P'
 import os, subprocess, sys, time
 began = time.time()
