@@ -6,7 +6,7 @@ scripts/build octo marlin_sim || exit 1
 . scripts/with_work
 failed=0
 
-# A lost line at the end of a print is sent again after one second.
+# A line that is lost is sent again after one second.
 cat >"$work/settings.toml" <<'EOF'
 [printer]
 ports = ["127.0.0.1:7100"]
@@ -16,7 +16,10 @@ limit_ms = 1000
 
 [admin]
 name = "root"
-key = "0000000000000000000000000000000000000000000000000000000000000001"
+key_sha256 = "470dc872b1b47dac8456c9f0800583d1176d1a2f194b626000379d1d7d7fc920"
+EOF
+cp "$work/settings.toml" "$work/scripts.toml"
+cat >>"$work/scripts.toml" <<'EOF'
 
 [scripts]
 beforePrintStarted = ["M107"]
@@ -98,11 +101,11 @@ print_row "the second line lost" 'G28\nG1 X10\n' '4 4 2 -' \
     'done: 2 commands, 0 skipped\n' 0 'N1 M110 N1\nN2 G28\nN3 G1 X10\n'
 scripted='N1 M110 N1\nN2 M107\nN3 G28\nN4 G1 X10\nN5 M84\n'
 print_row "scripts, and the last line lost" 'G28\nG1 X10\n' '4 4 5 -' \
-    'done: 2 commands, 0 skipped\n' 0 "$scripted" "--settings $work/settings.toml --turns 50000"
+    'done: 2 commands, 0 skipped\n' 0 "$scripted" "--settings $work/scripts.toml --turns 50000"
 kill_row
 over=unix
 print_row "two commands over a Unix socket" 'G28\nG1 X10\n' '4 4 - -' \
     'done: 2 commands, 0 skipped\n' 0 'N1 M110 N1\nN2 G28\nN3 G1 X10\n'
-print_row "the third line lost over a Unix socket" 'G28\nG1 X10\n' '4 4 4 -' \
-    'done: 2 commands, 0 skipped\n' 0 "$scripted" "--settings $work/settings.toml --turns 50000"
+print_row "the third line lost over a Unix socket" 'G28\nG1 X10\n' '4 4 3 -' \
+    'done: 2 commands, 0 skipped\n' 0 'N1 M110 N1\nN2 G28\nN3 G1 X10\n' "--settings $work/settings.toml --turns 50000"
 exit "$failed"

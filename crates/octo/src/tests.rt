@@ -125,7 +125,7 @@ const PRINT: &[&str] = &["print", "p", "a.gcode"];
 
 // A script before each print and after it, and a lower limit.
 const SETTINGS: &[u8] =
-    b"[printer]\nports = [\"p\"]\n\n[limits]\ntool = 250\n\n[admin]\nname = \"root\"\nkey = \"0000000000000000000000000000000000000000000000000000000000000001\"\n\n[scripts]\nbeforePrintStarted = [\"M107\"]\nafterPrintDone = [\"M84\"]\n";
+    b"[printer]\nports = [\"p\"]\n\n[limits]\ntool = 250\n\n[admin]\nname = \"root\"\nkey_sha256 = \"0000000000000000000000000000000000000000000000000000000000000001\"\n\n[scripts]\nbeforePrintStarted = [\"M107\"]\nafterPrintDone = [\"M84\"]\n";
 
 // The print of two commands over a line without losses.
 const DONE: Row = Row {
