@@ -1,18 +1,19 @@
 //! Prints of files by settings, over a link in memory.
+ghost use Rattle.std.specs.Prelude.{◌≡◌, false, IfOk};
+ghost use Rattle.printer_link.specs.Memory.{link_world};
+
 use crate::print_file;
 use byte_text::Name;
 use octo_outside::{CallList, MemoryClock, MemorySink, MemorySource, NameList};
 use octo_report::write_report;
 use printer_link::{FateList, MemoryLink, Schedule};
 use std::alloc::Global;
-use std::process::Abort;
 use std::test::Fail;
 
-/// Settings with a script at each end of a connection and of a print.
-const SETTINGS: &[u8] = b"[printer]\nports = [\"p\"]\n[limits]\n[admin]\n";
-
 // A link that loses nothing.
-fn link_of(alloc: Global) -> Result<MemoryLink, Fail> {
+fn link_of(alloc: Global) -> Result<MemoryLink, Fail>
+    ensures { IfOk result (λ l. (link_world l).linked ≡ false) }
+{
     let mut names = NameList::new(alloc);
     names.push(name("p")?)?;
     Ok(MemoryLink::new(
