@@ -1,0 +1,5 @@
+pub mod Prompt
+pub mod Saying
+pub mod Prompted
+pub mod Greeting
+pub mod Greeted
