@@ -12,6 +12,7 @@ mod types;
 
 pub use form::multipart;
 pub use laws::one_meaning_law;
+pub use parameters::has_type;
 pub use types::{PartFault, Parts, Span};
 
 #[cfg(test)]

@@ -1,0 +1,44 @@
+//! Messages whose bytes come one by one, with reads between them that find nothing.
+use super::cuts::{LEAVE, UPLOAD};
+use super::{PATIENCE, conn_of};
+use byte_conn::ByteConn;
+use octo_http::{Message, MessageFault, read_message};
+use octo_outside::{CallList, MemoryConn};
+use std::alloc::{AllocError, Global};
+use std::test::Fail;
+
+#[test]
+fn upload(rt: HostRuntime) -> Result<(), Fail> {
+    let alloc = rt.alloc();
+    let mut conn = ByteConn::new(conn_of(alloc, UPLOAD)?);
+    let message = read_message(alloc, &mut conn, PATIENCE)?;
+    assert!(rt; message.path.as_slice() == b"/api/files/local".as_slice());
+    assert!(rt; message.body.as_slice() == &UPLOAD[UPLOAD.len() - 142..]);
+    assert!(rt; conn.inner().written() == Some(LEAVE));
+    Ok(())
+}
+
+// What is read of the upload byte by byte, where these calls find nothing.
+fn read_with(alloc: Global, quiet: &[u64]) -> Result<Result<Message, MessageFault>, AllocError> {
+    let quiet_at = CallList::from_items(Vec::from_slice(alloc, quiet)?);
+    let conn = MemoryConn::new(alloc, UPLOAD, quiet_at, CallList::new(alloc))?;
+    Ok(read_message(alloc, &mut ByteConn::new(conn), PATIENCE))
+}
+
+// It is read with fewer quiet reads than the reader waits for, wherever these come.
+#[test]
+fn patient(rt: HostRuntime) -> Result<(), Fail> {
+    let alloc = rt.alloc();
+    assert!(rt; read_with(alloc, &[1, 2])?.is_ok());
+    assert!(rt; read_with(alloc, &[140, 260])?.is_ok());
+    Ok(())
+}
+
+#[test]
+fn impatient(rt: HostRuntime) -> Result<(), Fail> {
+    let alloc = rt.alloc();
+    let slow = MessageFault::Slow { quiet: PATIENCE };
+    assert!(rt; read_with(alloc, &[1, 2, 3])?.err() == Some(slow));
+    assert!(rt; read_with(alloc, &[1, 140, 260])?.err() == Some(slow));
+    Ok(())
+}
