@@ -1,0 +1,67 @@
+//! The files of a folder by their names.
+ghost use Rattle.std.specs.Prelude.{◌≤◌, length};
+
+use crate::files::fault_of;
+use crate::names::is_file_name;
+use byte_text::Name;
+use octo_keeper::{FileList, ShelfFault};
+use std::alloc::{AllocError, Global};
+use std::cmp::Ordering;
+use std::fs;
+use std::fs::DirEntry;
+use std::rt::Files;
+
+// The name and the size of an entry that is a regular file with the name of a file on a shelf.
+fn file_of<R: Files>(entry: &DirEntry<R>) -> Result<Option<(Name, u64)>, ShelfFault> {
+    if !is_file_name(entry.file_name()) {
+        return Ok(None);
+    }
+    let Some(name) = Name::from_text(entry.file_name()) else {
+        return Ok(None);
+    };
+    match entry.metadata() {
+        Ok(metadata) if metadata.is_file() => Ok(Some((name, metadata.len()))),
+        Ok(_) => Ok(None),
+        Err(error) => Err(fault_of(&error)),
+    }
+}
+
+// How many files come before a name.
+fn place_of(files: &[(Name, u64)], name: &Name) -> usize
+    ensures { result ≤ length files.now }
+{
+    files
+        .iter()
+        .take_while(|file| file.0.as_bytes().cmp(name.as_bytes()) == Ordering::Less)
+        .count()
+}
+
+// Adds a file in its place by name.
+fn add(files: &mut Vec<(Name, u64)>, file: (Name, u64)) -> Result<(), AllocError> {
+    let place = place_of(files, &file.0);
+    files.insert(place, file)?;
+    Ok(())
+}
+
+/// The files of a folder with their sizes, by name. Passed over is all that isn't a regular file with the name of a file on a
+/// shelf; a name that isn't UTF-8 is a fault.
+pub fn list_files<R: Files + AllocGlobal + Clone + Drop>(
+    rt: &R,
+    folder: &Name,
+) -> Result<FileList, ShelfFault> {
+    let entries = match fs::read_dir(rt, folder.as_str()) {
+        Ok(entries) => entries,
+        Err(error) => return Err(fault_of(&error)),
+    };
+    let mut files = Vec::new(rt.alloc());
+    for entry in entries {
+        let found = match entry {
+            Ok(entry) => file_of(&entry)?,
+            Err(error) => return Err(fault_of(&error)),
+        };
+        if let Some(file) = found {
+            add(&mut files, file)?;
+        }
+    }
+    Ok(FileList::from_items(files))
+}

@@ -1,0 +1,77 @@
+//! The shelf over a folder.
+use crate::files::{read_file, remove_file, write_file};
+use crate::folder::list_files;
+use byte_text::Name;
+use octo_keeper::{FileList, Shelf, ShelfFault};
+use octo_outside::Blob;
+use std::alloc::Global;
+use std::rt::Files;
+
+/// The files of a folder of the system. It doesn't record them.
+///
+/// Its files are the regular files in it whose names are names of print files. After a put that returned `Ok` a loss of power
+/// leaves the new file whole; before, it leaves the former one, and perhaps a file `NAME.part`, which is passed over and which
+/// the next put of that name replaces. Source: POSIX.1-2017, `rename` and `fsync`.
+#[derive(Drop)]
+pub struct FolderShelf<R: Files + AllocGlobal + Clone + Drop> {
+    rt: R,
+    folder: Name,
+    faults: u64,
+}
+
+impl<R: Files + AllocGlobal + Clone + Drop> FolderShelf<R> {
+    ghost use Rattle.std.specs.Prelude.{◌≡◌, ◌≤◌, IsErrOf};
+    ghost use Rattle.octo_outside.specs.Told.{Rose};
+    ghost use Rattle.octo_keeper.specs.declared.shelf.ShelfFault.TheVariants as fault;
+
+    /// The files of that folder, which has to be there; no call yet.
+    pub fn new(rt: R, folder: &Name) -> Self
+        ensures { result.faults ≡ 0 }
+    {
+        FolderShelf {
+            rt,
+            folder: folder.copy(),
+            faults: 0,
+        }
+    }
+
+    // Counts a fault, if the call was one; running out of memory isn't.
+    fn count<T: Drop>(&mut self, done: Result<T, ShelfFault>) -> Result<T, ShelfFault>
+        ensures same { result ≡ done }
+        ensures counted { self.old.faults ≤ self.new.faults }
+        ensures failed { IsErrOf result fault.Failed → Rose self.old.faults self.new.faults }
+    {
+        if matches!(done, Err(ShelfFault::Failed)) {
+            self.faults = self.faults.saturating_add(1);
+        }
+        done
+    }
+}
+
+impl<R: Files + AllocGlobal + Clone + Drop> Shelf for FolderShelf<R> {
+    ghost use Rattle.std.specs.Prelude.{None};
+
+    ghost files = { λ _. None };
+
+    ghost faults = { λ s. s.faults };
+
+    fn list(&mut self, _alloc: Global) -> Result<FileList, ShelfFault> {
+        let listed = list_files(&self.rt, &self.folder);
+        self.count(listed)
+    }
+
+    fn get(&mut self, alloc: Global, name: &Name) -> Result<Option<Blob>, ShelfFault> {
+        let read = read_file(alloc, &self.rt, &self.folder, name);
+        self.count(read)
+    }
+
+    fn put(&mut self, _alloc: Global, name: &Name, bytes: &[u8]) -> Result<(), ShelfFault> {
+        let done = write_file(&self.rt, &self.folder, name, bytes);
+        self.count(done)
+    }
+
+    fn remove(&mut self, _alloc: Global, name: &Name) -> Result<(), ShelfFault> {
+        let done = remove_file(&self.rt, &self.folder, name);
+        self.count(done)
+    }
+}

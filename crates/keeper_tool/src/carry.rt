@@ -1,0 +1,58 @@
+//! A command carried out on a keeper.
+ghost use Rattle.std.specs.Prelude.{◌≡◌, ◌≢◌, ◌≤◌, ℕ, IfSome};
+ghost use Rattle.std.specs.Option.{option_map};
+ghost use Rattle.octo_outside.specs.Told.{Adds, Rose};
+ghost use Rattle.keeper_tool.specs.declared.end.ToolEnd.TheVariants as end;
+ghost use Rattle.keeper_tool.specs.declared.command.Work.TheVariants as todo;
+ghost use Rattle.keeper_tool.specs.Lines.{tables_text};
+ghost use Rattle.keeper_tool.specs.Prints.{AddsUpTo, with_more};
+
+use crate::add::add_prints;
+use crate::command::Work;
+use crate::end::{ToolEnd, end_of};
+use crate::lines::tables_text;
+use octo_keeper::Keeper;
+use octo_outside::{Failed, Sink, write_all};
+use std::alloc::Global;
+
+// Writes the tables out.
+fn show<K: Keeper, O: Sink>(alloc: Global, keeper: &mut K, out: &mut O) -> ToolEnd
+    ensures shown { result ≡ end.Shown → IfSome (K.tables keeper.old) (λ t. Adds (O.written out.old) (O.written out.new) (tables_text t)) }
+    ensures only { (n : ℕ) → result ≢ end.Added n }
+    ensures stays { K.tables keeper.new ≡ K.tables keeper.old }
+    ensures counted { K.faults keeper.old ≤ K.faults keeper.new }
+    ensures failed { result ≡ end.KeeperFailed → Rose (K.faults keeper.old) (K.faults keeper.new) }
+    ensures output { result ≡ end.OutputFailed → Rose (O.faults out.old) (O.faults out.new) }
+{
+    let tables = match keeper.load(alloc) {
+        Ok(tables) => tables,
+        Err(fault) => return end_of(fault),
+    };
+    let Ok(text) = tables_text(alloc, &tables) else {
+        return ToolEnd::NoMemory;
+    };
+    match write_all(out, text.as_slice()) {
+        Ok(()) => ToolEnd::Shown,
+        Err(Failed) => ToolEnd::OutputFailed,
+    }
+}
+
+/// Carries out a work on a keeper.
+pub fn carry_out<K: Keeper, O: Sink>(
+    alloc: Global,
+    keeper: &mut K,
+    work: Work,
+    out: &mut O,
+) -> ToolEnd
+    ensures shown { result ≡ end.Shown → IfSome (K.tables keeper.old) (λ t. Adds (O.written out.old) (O.written out.new) (tables_text t)) }
+    ensures added { (n : ℕ) → result ≡ end.Added n → (work ≡ todo.Add n) × (K.tables keeper.new ≡ option_map (with_more n) (K.tables keeper.old)) }
+    ensures some { (n : ℕ) → work ≡ todo.Add n → AddsUpTo n (K.tables keeper.old) (K.tables keeper.new) }
+    ensures stays { work ≡ todo.Show → K.tables keeper.new ≡ K.tables keeper.old }
+    ensures counted { K.faults keeper.old ≤ K.faults keeper.new }
+    ensures failed { result ≡ end.KeeperFailed → Rose (K.faults keeper.old) (K.faults keeper.new) }
+{
+    match work {
+        Work::Show => show(alloc, keeper, out),
+        Work::Add { prints } => add_prints(alloc, keeper, prints),
+    }
+}

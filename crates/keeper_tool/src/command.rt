@@ -1,0 +1,72 @@
+//! The command that the arguments are.
+ghost use Rattle.std.specs.Prelude.{◌≡◌, length};
+ghost use Rattle.keeper_tool.specs.Commands.{added, command_of, count_in, on_file, within};
+
+use byte_text::{Name, whole_number};
+use octo_outside::WordList;
+
+/// What is to be done with a database.
+#[derive(Clone, Copy, Debug, PartialEq, Eq)]
+pub enum Work {
+    /// Its tables are written out.
+    Show,
+    /// So many records of finished prints are added to it.
+    Add { prints: u32 },
+}
+
+/// A command: the path of a database, and what is to be done with it.
+#[derive(Drop)]
+pub struct Command {
+    pub file: Name,
+    pub work: Work,
+}
+
+// A work on the database of a path of 1 to 100 bytes.
+fn on_file(file: &str, work: Work) -> Option<Command>
+    ensures { result ≡ on_file file.now work }
+{
+    if file.is_empty() {
+        return None;
+    }
+    let file = Name::from_text(file)?;
+    Some(Command { file, work })
+}
+
+fn within(number: u64) -> Option<u32>
+    ensures { result ≡ within number }
+{
+    u32::try_from(number).ok()
+}
+
+// A number of 1 to 10 digits up to 4,294,967,295.
+fn count_in(text: &str) -> Option<u32>
+    ensures { result ≡ count_in text.now }
+{
+    match whole_number(text, 10) {
+        Some(number) => within(number),
+        None => None,
+    }
+}
+
+fn added(file: &str, word: &str, number: &str) -> Option<Command>
+    ensures { result ≡ added file.now word.now number.now }
+{
+    if word != "prints" {
+        return None;
+    }
+    match count_in(number) {
+        Some(prints) => on_file(file, Work::Add { prints }),
+        None => None,
+    }
+}
+
+/// The command that the arguments are: `FILE`, or `FILE prints N`.
+pub fn read_command(words: &WordList) -> Option<Command>
+    ensures { result ≡ command_of words.now }
+{
+    match words.count() {
+        1 => on_file(words.get(0), Work::Show),
+        3 => added(words.get(0), words.get(1), words.get(2)),
+        _ => None,
+    }
+}

@@ -1,0 +1,52 @@
+//! A host's database from the command line: what its tables hold, and print records to try it with.
+#![tactic(auto)]
+
+mod add;
+mod carry;
+mod command;
+mod end;
+mod lines;
+mod texts;
+
+use carry::carry_out;
+use command::{Command, read_command};
+use end::ToolEnd;
+use octo_keeper::KeeperFault;
+use octo_outside::{ArgumentsFault, Failed, StdSink, arguments};
+use sql_file::{close_keeper, open_keeper};
+use std::process::ExitCode;
+use texts::write_end;
+
+// Carries out a command on its database, which is closed at the end.
+fn open_and_carry_out(
+    rt: &HostRuntime,
+    command: &Command,
+    out: &mut StdSink<HostRuntime>,
+) -> ToolEnd {
+    match open_keeper(rt, &command.file) {
+        Ok(mut keeper) => {
+            let end = carry_out(rt.alloc(), &mut keeper, command.work, out);
+            close_keeper(keeper);
+            end
+        }
+        Err(KeeperFault::Failed) => ToolEnd::NotOpened,
+        Err(KeeperFault::NoMemory) => ToolEnd::NoMemory,
+    }
+}
+
+fn main(rt: HostRuntime) -> ExitCode {
+    let mut out = StdSink::new(rt);
+    let end = match arguments(&rt) {
+        Ok(words) => match read_command(&words) {
+            Some(command) => open_and_carry_out(&rt, &command, &mut out),
+            None => ToolEnd::BadWords,
+        },
+        Err(ArgumentsFault::NotText) => ToolEnd::BadWords,
+        Err(ArgumentsFault::NoMemory) => ToolEnd::NoMemory,
+    };
+    let end = match write_end(&mut out, end) {
+        Ok(()) => end,
+        Err(Failed) => ToolEnd::OutputFailed,
+    };
+    ExitCode::from(end.code())
+}

@@ -1,0 +1,45 @@
+//! The text of an end, and writing it.
+ghost use Rattle.std.specs.Prelude.{◌≡◌, ◌++◌, ◌≤◌, codes, decimal, OnOk, OnErr};
+ghost use Rattle.octo_outside.specs.Told.{Adds, AddsPrefix, Rose};
+ghost use Rattle.keeper_tool.specs.Ends.{text_of};
+
+use crate::end::ToolEnd;
+use arrayvec::ArrayVec;
+use byte_text::{append, append_number, bounded_text};
+use octo_outside::{Failed, Sink, write_all};
+
+type EndText = ArrayVec<u8, 64>;
+
+fn added_text(prints: u32) -> EndText
+    ensures { result.items ≡ codes "added " ++ decimal prints ++ codes " prints\n" }
+{
+    let mut text = bounded_text(b"added ");
+    append_number(&mut text, prints);
+    append(&mut text, b" prints\n");
+    text
+}
+
+fn text_of(end: ToolEnd) -> EndText
+    ensures { result.items ≡ text_of end }
+{
+    match end {
+        ToolEnd::Shown | ToolEnd::OutputFailed => EndText::new(),
+        ToolEnd::Added { prints } => added_text(prints),
+        ToolEnd::BadWords => bounded_text(b"usage: keeper_tool FILE [prints N]\n"),
+        ToolEnd::NumbersUsed => bounded_text(b"the numbers of prints are used up\n"),
+        ToolEnd::KeeperFailed => bounded_text(b"the database failed, or its rows don't fit\n"),
+        ToolEnd::NotOpened => bounded_text(b"not opened: no database, another schema, or in use\n"),
+        ToolEnd::NoMemory => bounded_text(b"no memory\n"),
+    }
+}
+
+/// Writes the text of an end; after a failed call a prefix of it was written.
+pub fn write_end<O: Sink>(out: &mut O, end: ToolEnd) -> Result<(), Failed>
+    ensures ok { OnOk result (Adds (O.written out.old) (O.written out.new) (text_of end)) }
+    ensures err { OnErr result (AddsPrefix (O.written out.old) (O.written out.new) (text_of end)) }
+    ensures counted { O.faults out.old ≤ O.faults out.new }
+    ensures failed { OnErr result (Rose (O.faults out.old) (O.faults out.new)) }
+{
+    let text = text_of(end);
+    write_all(out, text.as_slice())
+}

@@ -1,0 +1,88 @@
+//! Rows and changes for the tests.
+use arrayvec::ArrayVec;
+use byte_text::Name;
+use octo_access::UserRow;
+use octo_keeper::Change;
+use print_queue::QueueEntry;
+use print_records::{Ending, Outcome, PrintRow};
+use std::test::Fail;
+
+/// 100 bytes.
+pub const LONG: &str =
+    "a-name-of-100-bytes-0123456789-0123456789-0123456789-0123456789-0123456789-0123456789-0123456789-012";
+
+pub fn name(text: &str) -> Result<Name, Fail> {
+    Ok(Name::from_text(text).ok_or("a long name")?)
+}
+
+/// A user whose digest is 32 times this byte.
+pub fn user(text: &str, byte: u8, groups: &[&str], active: bool) -> Result<UserRow, Fail> {
+    let mut list = ArrayVec::new();
+    for group in groups {
+        let _ = list.try_push(name(group)?);
+    }
+    Ok(UserRow {
+        name: name(text)?,
+        digest: [byte; 32],
+        groups: list,
+        active,
+    })
+}
+
+/// An entry of copies of any material, none of which was started.
+pub fn entry(
+    user: &str,
+    text: &str,
+    priority: u8,
+    copies: u8,
+    arrival: u32,
+) -> Result<QueueEntry, Fail> {
+    Ok(QueueEntry {
+        user: name(user)?,
+        name: name(text)?,
+        file: name("a.gcode")?,
+        priority,
+        copies,
+        left: copies,
+        material: name("any")?,
+        arrival,
+    })
+}
+
+pub fn print(number: u32, user: &str) -> Result<PrintRow, Fail> {
+    Ok(PrintRow {
+        number,
+        user: name(user)?,
+        file: name("a.gcode")?,
+        commands: 4_294_967_295,
+        outcome: Outcome::Active,
+    })
+}
+
+/// A print begins; the one before may have ended.
+pub fn begin(
+    number: u32,
+    ended: Option<Outcome>,
+    taken: Option<QueueEntry>,
+) -> Result<Change, Fail> {
+    let before = number.saturating_sub(1);
+    Ok(Change::Begin {
+        ended: ended.map(|outcome| Ending {
+            print: before,
+            outcome,
+        }),
+        print: print(number, "ana")?,
+        taken,
+    })
+}
+
+pub fn end(print: u32, outcome: Outcome) -> Change {
+    Change::End(Ending { print, outcome })
+}
+
+pub fn drop_entry(user: &str, text: &str) -> Result<Change, Fail> {
+    Ok(Change::DropEntry {
+        user: name(user)?,
+        name: name(text)?,
+    })
+}

@@ -1,0 +1,36 @@
+//! The keeper over a database file.
+#![tactic(auto)]
+
+ghost use Rattle.std.specs.Prelude.{◌≡◌, IfOk};
+
+use byte_text::Name;
+use octo_keeper::KeeperFault;
+use sql_keeper::{SqlKeeper, fault_of};
+use sqlite::{Connection, File, FileStore};
+
+/// What keeps the tables of a host in a database file and the log beside it.
+pub type FileKeeper = SqlKeeper<FileStore<File>>;
+
+/// Opens the database file of that path and adopts it; a file that isn't there is made. The file is locked until the keeper
+/// is dropped: another program that has it open is a fault, and so is a path that is no database.
+///
+/// `FILE` and `FILE-wal` belong together: the log holds what was committed and isn't in the file yet.
+/// Source: SQLite file format, sections 1 and 4.
+pub fn open_keeper(rt: &HostRuntime, path: &Name) -> Result<FileKeeper, KeeperFault>
+    ensures fresh { IfOk result (λ keeper. keeper.faults ≡ 0) }
+{
+    let connection = match Connection::open(rt, path.as_str()) {
+        Ok(connection) => connection,
+        Err(error) => return Err(fault_of(error)),
+    };
+    match SqlKeeper::adopt(rt.alloc(), connection) {
+        Ok(keeper) => Ok(keeper),
+        Err(refused) => Err(refused.fault),
+    }
+}
+
+/// Closes the database; what its log holds is copied into the file. If that fails the log keeps it, and the next opening reads
+/// it. Nothing that was committed is lost either way.
+pub fn close_keeper(keeper: FileKeeper) {
+    let _ = keeper.into_connection().close();
+}

@@ -1,0 +1,170 @@
+//! A database as it is when its keeper begins.
+ghost use Rattle.std.specs.Prelude.{◌≡◌, map, IfSome, IfOk};
+ghost use Rattle.sqlite.specs.Held.{state};
+ghost use Rattle.sql_keeper.specs.Kept.{IsAtomic, StoresNothing};
+ghost use Rattle.sql_keeper.specs.Rows.{old_entry_row};
+
+use crate::entries::put_entry;
+use crate::old_queue::{OldEntry, upgrade};
+use crate::reading::{fault_of, name_at, number_at, u8_at, u32_at};
+use crate::schema::{ENTRIES, META, PRINTS, SCHEMA, SCHEMA_BEFORE, USERS};
+use crate::statement;
+use octo_keeper::KeeperFault;
+use print_queue::QueueEntry;
+use sqlite::{Alter, Connection, Error, Row, Transaction};
+use std::alloc::Global;
+
+// Runs a statement without parameters.
+fn run<S: Alter>(transaction: &mut Transaction<'_, S>, sql: &str) -> Result<(), KeeperFault>
+    ensures same_reference { transaction.new.conn.ghost_name ≡ transaction.old.conn.ghost_name }
+    ensures stores { StoresNothing (state S.Store transaction.old.conn.now) (state S.Store transaction.new.conn.now) }
+{
+    match statement::run(transaction, sql, &[]) {
+        Ok(()) => Ok(()),
+        Err(error) => Err(fault_of(error)),
+    }
+}
+
+// All rows of a query without parameters.
+fn rows_of<S: Alter>(
+    transaction: &mut Transaction<'_, S>,
+    sql: &str,
+) -> Result<Vec<Row>, KeeperFault>
+    ensures same_reference { transaction.new.conn.ghost_name ≡ transaction.old.conn.ghost_name }
+    ensures stores { StoresNothing (state S.Store transaction.old.conn.now) (state S.Store transaction.new.conn.now) }
+{
+    match transaction.query_all(sql, &[]) {
+        Ok(rows) => Ok(rows),
+        Err(error) => Err(fault_of(error)),
+    }
+}
+
+// The number of the schema, 0 if there is none yet.
+fn schema_of<S: Alter>(transaction: &mut Transaction<'_, S>) -> Result<i64, KeeperFault>
+    ensures same_reference { transaction.new.conn.ghost_name ≡ transaction.old.conn.ghost_name }
+    ensures stores { StoresNothing (state S.Store transaction.old.conn.now) (state S.Store transaction.new.conn.now) }
+{
+    let rows = rows_of(transaction, "SELECT schema FROM meta")?;
+    match rows.as_slice() {
+        [] => Ok(0),
+        [row] => number_at(row, 0).ok_or(KeeperFault::Failed),
+        _ => Err(KeeperFault::Failed),
+    }
+}
+
+// Makes the tables of the schema.
+#[tactic(auto, using(crate::proofs::Kept::nothing_then, crate::proofs::Kept::nothing_same))]
+fn make_tables<S: Alter>(transaction: &mut Transaction<'_, S>) -> Result<(), KeeperFault>
+    ensures same_reference { transaction.new.conn.ghost_name ≡ transaction.old.conn.ghost_name }
+    ensures stores { StoresNothing (state S.Store transaction.old.conn.now) (state S.Store transaction.new.conn.now) }
+{
+    run(transaction, USERS)?;
+    run(transaction, ENTRIES)?;
+    run(transaction, PRINTS)?;
+    run(transaction, "INSERT INTO meta (schema) VALUES (2)")
+}
+
+// The entry of a row of the schema before.
+#[tactic(auto, using(crate::proofs::Columns::five_columns))]
+fn old_entry_of(row: &Row) -> Option<OldEntry>
+    ensures { IfSome result (λ entry. row.now ≡ old_entry_row entry) }
+{
+    if row.column_count() != 5 {
+        return None;
+    }
+    Some(OldEntry {
+        user: name_at(row, 0)?,
+        name: name_at(row, 1)?,
+        file: name_at(row, 2)?,
+        priority: u8_at(row, 3)?,
+        arrival: u32_at(row, 4)?,
+    })
+}
+
+// The entries of such rows.
+fn old_entries_of(alloc: Global, rows: &[Row]) -> Result<Vec<OldEntry>, KeeperFault>
+    ensures { IfOk result (λ entries. map old_entry_row entries.items ≡ rows.now) }
+{
+    let mut entries = Vec::new(alloc);
+    for row in rows {
+        let Some(entry) = old_entry_of(row) else {
+            return Err(KeeperFault::Failed);
+        };
+        entries.push(entry)?;
+    }
+    Ok(entries)
+}
+
+// Adds entries.
+#[tactic(auto, using(crate::proofs::Kept::nothing_then, crate::proofs::Kept::nothing_same))]
+fn put_entries<S: Alter>(
+    transaction: &mut Transaction<'_, S>,
+    entries: &[QueueEntry],
+) -> Result<(), KeeperFault>
+    ensures same_reference { transaction.new.conn.ghost_name ≡ transaction.old.conn.ghost_name }
+    ensures stores { StoresNothing (state S.Store transaction.old.conn.now) (state S.Store transaction.new.conn.now) }
+{
+    for entry in entries {
+        if let Err(error) = put_entry(transaction, entry) {
+            return Err(fault_of(error));
+        }
+    }
+    Ok(())
+}
+
+// Brings the queue of the schema before into the table that has its place now.
+#[tactic(auto, using(crate::proofs::Kept::nothing_then, crate::proofs::Kept::nothing_same))]
+fn upgrade_tables<S: Alter>(
+    alloc: Global,
+    transaction: &mut Transaction<'_, S>,
+) -> Result<(), KeeperFault>
+    ensures same_reference { transaction.new.conn.ghost_name ≡ transaction.old.conn.ghost_name }
+    ensures stores { StoresNothing (state S.Store transaction.old.conn.now) (state S.Store transaction.new.conn.now) }
+{
+    let rows = rows_of(
+        transaction,
+        "SELECT user, name, file, priority, arrival FROM queue ORDER BY arrival",
+    )?;
+    let old = old_entries_of(alloc, rows.as_slice())?;
+    let entries = upgrade(alloc, old.as_slice())?;
+    run(transaction, ENTRIES)?;
+    put_entries(transaction, entries.as_slice())?;
+    run(transaction, "DROP TABLE queue")?;
+    run(transaction, "UPDATE meta SET schema = 2")
+}
+
+// Brings the database to the schema that is kept.
+#[tactic(auto, using(crate::proofs::Kept::nothing_then, crate::proofs::Kept::nothing_same))]
+fn settle<S: Alter>(alloc: Global, transaction: &mut Transaction<'_, S>) -> Result<(), KeeperFault>
+    ensures same_reference { transaction.new.conn.ghost_name ≡ transaction.old.conn.ghost_name }
+    ensures stores { StoresNothing (state S.Store transaction.old.conn.now) (state S.Store transaction.new.conn.now) }
+{
+    run(transaction, META)?;
+    match schema_of(transaction)? {
+        0 => make_tables(transaction),
+        SCHEMA_BEFORE => upgrade_tables(alloc, transaction),
+        SCHEMA => Ok(()),
+        _ => Err(KeeperFault::Failed),
+    }
+}
+
+/// Brings the database to the schema that is kept, in one transaction; after a fault it is as it was.
+pub fn settle_schema<S: Alter>(
+    alloc: Global,
+    connection: &mut Connection<S>,
+) -> Result<(), KeeperFault>
+    ensures { IsAtomic (state S.Store connection.old) (state S.Store connection.new) }
+{
+    if !connection.is_autocommit() {
+        return Err(KeeperFault::Failed);
+    }
+    let mut transaction = connection.transaction();
+    if let Err(fault) = settle(alloc, &mut transaction) {
+        transaction.rollback();
+        return Err(fault);
+    }
+    match transaction.commit() {
+        Ok(()) => Ok(()),
+        Err(error) => Err(fault_of(error)),
+    }
+}

@@ -1,0 +1,100 @@
+//! The keeper over a database.
+use crate::adopt::settle_schema;
+use crate::load::load_tables;
+use crate::write::commit_change;
+use octo_keeper::{Change, Keeper, KeeperFault, Tables};
+use sqlite::{Alter, Connection};
+use std::alloc::Global;
+
+/// What keeps the tables of a host in a database. It doesn't record them: what the rows are is up to the database.
+///
+/// A name of a group has no space in it, since the names of a user's groups are one text there.
+#[derive(Drop)]
+pub struct SqlKeeper<S: Alter + Drop> {
+    connection: Connection<S>,
+    faults: u64,
+}
+
+/// Why a database wasn't adopted, with its connection.
+#[derive(Drop)]
+pub struct NotAdopted<S: Alter + Drop> {
+    pub fault: KeeperFault,
+    pub connection: Connection<S>,
+}
+
+impl<S: Alter + Drop> SqlKeeper<S> {
+    ghost use Rattle.std.specs.Prelude.{◌≡◌, ◌≤◌, IfOk, IfErr, IsErrOf};
+    ghost use Rattle.sqlite.specs.Held.{state};
+    ghost use Rattle.sql_keeper.specs.Kept.{IsAtomic};
+    ghost use Rattle.octo_outside.specs.Told.{Rose};
+    ghost use Rattle.octo_keeper.specs.declared.keeper.KeeperFault.TheVariants as fault;
+
+    /// Takes a database over. An empty one gets its tables, one of the schema before is upgraded, each in one transaction; one of
+    /// another schema, and one whose transaction is open, is a fault.
+    pub fn adopt(alloc: Global, connection: Connection<S>) -> Result<SqlKeeper<S>, NotAdopted<S>>
+        ensures fresh { IfOk result (λ keeper. keeper.faults ≡ 0) }
+        ensures adopted { IfOk result (λ keeper. IsAtomic (state S.Store connection) (state S.Store keeper.connection)) }
+        ensures refused { IfErr result (λ refused. IsAtomic (state S.Store connection) (state S.Store refused.connection)) }
+    {
+        let mut connection = connection;
+        match settle_schema(alloc, &mut connection) {
+            Ok(()) => Ok(SqlKeeper {
+                connection,
+                faults: 0,
+            }),
+            Err(fault) => Err(NotAdopted { fault, connection }),
+        }
+    }
+
+    /// The connection to the database; takes no memory.
+    pub fn into_connection(self) -> Connection<S>
+        ensures { result ≡ self.connection }
+    {
+        let SqlKeeper {
+            connection,
+            faults: _,
+        } = self;
+        connection
+    }
+
+    // Counts a fault, if the call was one; running out of memory isn't.
+    fn count<T: Drop>(&mut self, done: Result<T, KeeperFault>) -> Result<T, KeeperFault>
+        ensures same { result ≡ done }
+        ensures stays { self.new.connection ≡ self.old.connection }
+        ensures counted { self.old.faults ≤ self.new.faults }
+        ensures failed { IsErrOf result fault.Failed → Rose self.old.faults self.new.faults }
+    {
+        if matches!(done, Err(KeeperFault::Failed)) {
+            self.faults = self.faults.saturating_add(1);
+        }
+        done
+    }
+}
+
+impl<S: Alter + Drop> Keeper for SqlKeeper<S> {
+    ghost use Rattle.std.specs.Prelude.{◌≡◌, ◌≤◌, None, OnErr, IsErrOf};
+    ghost use Rattle.sqlite.specs.Held.{state};
+    ghost use Rattle.octo_outside.specs.Told.{Rose};
+    ghost use Rattle.octo_keeper.specs.declared.keeper.KeeperFault.TheVariants as fault;
+    ghost use Rattle.sql_keeper.specs.Kept.{IsAtomic, IsUndone};
+
+    ghost tables = { λ _. None };
+
+    ghost faults = { λ k. k.faults };
+
+    fn load(&mut self, alloc: Global) -> Result<Tables, KeeperFault> {
+        let loaded = load_tables(alloc, &mut self.connection);
+        self.count(loaded)
+    }
+
+    fn commit(&mut self, alloc: Global, change: &Change) -> Result<(), KeeperFault>
+        ensures nothing { OnErr result (IsUndone (state S.Store self.old.connection) (state S.Store self.new.connection)) }
+        ensures atomic { IsAtomic (state S.Store self.old.connection) (state S.Store self.new.connection) }
+
+        ensures counted { self.old.faults ≤ self.new.faults }
+        ensures failed { IsErrOf result fault.Failed → Rose self.old.faults self.new.faults }
+    {
+        let done = commit_change(alloc, &mut self.connection, change);
+        self.count(done)
+    }
+}
