@@ -1,0 +1,72 @@
+-- What a note of the link makes of what is known.
+use Rattle.std.specs.Prelude.{ℕ, Bool, true, false, List, [], ◌∷◌, ◌++◌, map, Option, None, Some}
+use Rattle.std.specs.Option.{option_or}
+use Rattle.marlin_reply.specs.declared.reply.Temps.{Temps}
+use Rattle.desk_steps.specs.declared.link_fact.LinkFact.{LinkFact}
+use Rattle.desk_steps.specs.declared.link_fact.LinkFact.TheVariants as fact
+use Rattle.desk_steps.specs.declared.issued.Note.{Note}
+use Rattle.desk_steps.specs.Data.{Line}
+use Rattle.desk_steps.specs.Issued.{line_of}
+use Rattle.desk_steps.specs.Run.{DeskCall, Pull}
+use Rattle.desk_steps.specs.Run as run
+use Rattle.octo_keeper.specs.Tables.{with_due_end}
+use Rattle.house_verdicts.specs.Desk.{desk_after, ended_by}
+use Rattle.house_verdicts.specs.Known.{Known}
+
+-- the lines that a note issued
+abbrev pub lines_in : Note → List Line
+lines_in note = map line_of note.issued.items
+
+-- the fact that the desk is told first: a failure comes last, since what was acknowledged before it counts
+abbrev pub first_fact : LinkFact → LinkFact
+first_fact fact.Quiet = fact.Quiet
+first_fact fact.Opened = fact.Opened
+first_fact fact.Ready = fact.Ready
+first_fact fact.Closed = fact.Closed
+first_fact fact.NoPort = fact.NoPort
+first_fact fact.Failed = fact.Quiet
+first_fact (fact.Ended end) = fact.Ended end
+
+-- a failure after the lines
+abbrev pub last_call : LinkFact → ℕ → ℕ → List DeskCall
+last_call fact.Failed acked moment = run.Note acked fact.Failed moment ∷ []
+last_call _ acked moment = []
+
+-- a note at the desk: what was acknowledged and the fact, a pull for each issued line, and a failure last
+abbrev pub calls_of : Note → List DeskCall
+calls_of note =
+    run.Note note.acked (first_fact note.fact) note.moment ∷ (map (λ issued. Pull note.moment) note.issued.items ++ last_call note.fact note.acked note.moment)
+
+-- what is known after one of these calls: if a print has ended, its record says so
+abbrev pub called : DeskCall → Known → Known
+called call k = record k { desk = desk_after call k.desk; prints = with_due_end (ended_by call k.desk) k.prints }
+
+abbrev pub called_all : List DeskCall → Known → Known
+called_all [] k = k
+called_all (call ∷ calls) k = called_all calls (called call k)
+
+-- whether the temperatures are forgotten: the session began or is over
+abbrev pub forgets : LinkFact → Bool
+forgets fact.Quiet = false
+forgets fact.Opened = true
+forgets fact.Ready = false
+forgets fact.Closed = true
+forgets fact.NoPort = true
+forgets fact.Failed = true
+forgets (fact.Ended end) = true
+
+abbrev pub no_temps : Temps
+no_temps = record { tool = None; bed = None }
+
+-- a heater that is reported takes the place of its kept value
+abbrev pub with_temps : Option Temps → Temps → Temps
+with_temps None kept = kept
+with_temps (Some told) kept = record { tool = option_or told.tool kept.tool; bed = option_or told.bed kept.bed }
+
+abbrev pub kept_unless : Bool → Temps → Temps
+kept_unless true kept = no_temps
+kept_unless false kept = kept
+
+-- what is known after a note
+abbrev pub known_after_note : Note → Known → Known
+known_after_note note k = record (called_all (calls_of note) k) { temps = kept_unless (forgets note.fact) (with_temps note.temps k.temps) }

@@ -1,0 +1,4 @@
+pub mod Commands
+pub mod Newest
+pub mod Heated
+pub mod Found

@@ -1,0 +1,12 @@
+-- One more row of a map in place.
+use Rattle.std.proofs.Common.{set, ap, sym, ◌∙◌, arith}
+use Rattle.std.proofs.lemmas.List.Edits.{map_over_more}
+use Rattle.octo_keeper.specs.Tables.{ended_row}
+use Rattle.house_rows.proofs.prints.end_print.Goals as goal
+
+pub loop-row-preserved : goal.loop-row-preserved
+loop-row-preserved c =
+    ap (λ y. set c.loop-row.rows c.loop-row.row-index y) c.end_row.ensures
+    ∙ ap (λ y. set c.loop-row.rows c.loop-row.row-index (ended_row c.args.ending y)) (sym c.row-item.is)
+    ∙ map_over_more (ended_row c.args.ending) c.args.rows.now c.loop-row.rows c.loop-row.row-index c.row-item.result
+    (omega arith) c.loop-row.invariant c.row-item.is

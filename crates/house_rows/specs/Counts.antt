@@ -1,0 +1,52 @@
+-- Answers that say of a fault of keeper or shelf, and the counts of their faults.
+use Rattle.std.specs.Prelude.{◌≡◌, ℕ, ◌≤◌, Bool, true, false, Result, Ok, Err}
+use Rattle.desk_steps.specs.declared.state.Refusal.{Refusal}
+use Rattle.house_verdicts.specs.Refusals.{refused}
+use Rattle.octo_outside.specs.Told.{Rose}
+use Rattle.octo_keeper.specs.declared.keeper.KeeperFault.{KeeperFault}
+use Rattle.octo_keeper.specs.declared.keeper.KeeperFault.TheVariants as keeper_fault
+use Rattle.octo_asks.specs.declared.answer.Answer.{Answer}
+use Rattle.octo_asks.specs.declared.answer.Answer.TheVariants as answer
+use Rattle.octo_asks.specs.declared.answer.StoredCause.{StoredCause}
+use Rattle.octo_asks.specs.declared.answer.StoredCause.TheVariants as cause
+
+-- whether an upload's print wasn't started since the keeper failed
+abbrev pub is_keepers_cause : StoredCause → Bool
+is_keepers_cause cause.KeeperFault = true
+is_keepers_cause cause.NoMemory = false
+
+-- whether the keeper failed
+abbrev pub is_keepers : Answer → Bool
+is_keepers answer.KeeperFault = true
+is_keepers (answer.Stored name cause) = is_keepers_cause cause
+is_keepers _ = false
+
+-- whether the shelf failed
+abbrev pub is_shelfs : Answer → Bool
+is_shelfs answer.ShelfFault = true
+is_shelfs _ = false
+
+-- neither did
+pub record IsPlain (x : Answer) : Type 0 where
+  pub keeper : is_keepers x ≡ false
+  pub shelf : is_shelfs x ≡ false
+
+-- a count of faults that didn't fall, and rose if a call failed
+pub record Counts (failed : Bool) (old new : ℕ) : Type 0 where
+  pub later : old ≤ new
+  pub rose : failed ≡ true → Rose old new
+
+-- what the desk said as an answer
+abbrev pub answered : Result (Unit {0}) Refusal → Answer
+answered (Ok done) = answer.Accepted
+answered (Err refusal) = refused refusal
+
+-- whether a keeper's fault was counted
+abbrev pub is_failing : KeeperFault → Bool
+is_failing keeper_fault.Failed = true
+is_failing keeper_fault.NoMemory = false
+
+-- whether a keeper's call failed so
+abbrev pub is_failed : {A : Type 0} → Result A KeeperFault → Bool
+is_failed (Ok a) = false
+is_failed (Err fault) = is_failing fault

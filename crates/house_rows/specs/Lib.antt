@@ -1,0 +1,5 @@
+pub mod Faults
+pub mod Lines
+pub mod Users
+pub mod Counts
+pub mod Reading

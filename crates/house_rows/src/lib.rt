@@ -1,0 +1,27 @@
+//! What a print host reads of its rows and makes of them: names of files, records of prints, users and texts, and what
+//! answers show of them.
+#![tactic(auto)]
+
+mod entries;
+mod files;
+mod jobs;
+mod lists;
+mod names;
+mod prints;
+mod refusals;
+mod states;
+mod temps;
+mod texts;
+mod users;
+
+pub use entries::{asked_entry, has_entry};
+pub use files::{bad_file, read_bytes, read_job};
+pub use jobs::{check_job, progress};
+pub use lists::{copy_names, shown_entries, shown_files, shown_prints, shown_users};
+pub use names::{add_name, drop_name, is_among, names_in, port_for, reserve_name};
+pub use prints::{add_print, end_print, new_row, read_prints, reserve_print};
+pub use refusals::{keeper_refused, queue_refused, refused, shelf_refused, user_refused};
+pub use states::{may_select, may_show, may_shut_down};
+pub use temps::{shown_heat, temps_after};
+pub use texts::{bed_line, first_hot_text, read_lines, tool_line};
+pub use users::{changed_user, new_user, nobody, user_named};

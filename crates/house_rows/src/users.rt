@@ -1,0 +1,105 @@
+//! Users as requests give them.
+ghost use Rattle.std.specs.Prelude.{◌≡◌, ◌≤◌, [], length, option_map, unwrap_or};
+ghost use Rattle.std.specs.List.{position_or_len};
+ghost use Rattle.octo_access.specs.Rows.{held, is_named};
+ghost use Rattle.sha2.specs.Sha256.{sha256};
+ghost use Rattle.house_verdicts.specs.Rows.{new_user};
+ghost use Rattle.house_rows.specs.Users.{changed};
+
+use arrayvec::ArrayVec;
+use byte_text::Name;
+use octo_access::{Digest, UserRow, digest_of};
+use octo_outside::Blob;
+
+// The same names again.
+fn copy_groups(names: &ArrayVec<Name, 8>) -> ArrayVec<Name, 8>
+    ensures { result ≡ names.now }
+{
+    let mut copy = ArrayVec::new();
+    for name in names.as_slice() {
+        copy.push(name.copy());
+    }
+    copy
+}
+
+/// A new user with this key.
+pub fn new_user(name: &Name, key: &Blob, groups: &ArrayVec<Name, 8>, active: bool) -> UserRow
+    ensures { result ≡ new_user name.now key.now groups.now active }
+{
+    UserRow {
+        name: name.copy(),
+        digest: digest_of(key.as_slice()),
+        groups: copy_groups(groups),
+        active,
+    }
+}
+
+fn digest_or(key: &Option<Blob>, former: &Digest) -> Digest
+    ensures { result ≡ unwrap_or (option_map sha256 key.now) former.now }
+{
+    match key {
+        Some(key) => digest_of(key.as_slice()),
+        None => *former,
+    }
+}
+
+fn groups_or(groups: &Option<ArrayVec<Name, 8>>, former: &ArrayVec<Name, 8>) -> ArrayVec<Name, 8>
+    ensures { result ≡ unwrap_or groups.now former.now }
+{
+    match groups {
+        Some(groups) => copy_groups(groups),
+        None => copy_groups(former),
+    }
+}
+
+/// A user's row with what a request gives; the rest is as before.
+pub fn changed_user(
+    former: &UserRow,
+    key: &Option<Blob>,
+    groups: &Option<ArrayVec<Name, 8>>,
+    active: Option<bool>,
+) -> UserRow
+    ensures { result ≡ changed former.now key.now groups.now active }
+{
+    UserRow {
+        name: former.name.copy(),
+        digest: digest_or(key, &former.digest),
+        groups: groups_or(groups, &former.groups),
+        active: active.unwrap_or(former.active),
+    }
+}
+
+// The place of the user of that name, the number of users if there is none.
+fn place_of(rows: &[UserRow], name: &Name) -> usize
+    ensures place { result ≡ position_or_len (is_named name.now) rows.now }
+    ensures within { result ≤ length rows.now }
+{
+    rows.iter()
+        .take_while(|row| row.name.as_bytes() != name.as_bytes())
+        .count()
+}
+
+/// The user of that name.
+#[tactic(auto, using(std::proofs::lemmas::List::Folds::find_at, std::proofs::lemmas::Option::slice_get_past, std::proofs::lemmas::Option::slice_get_read))]
+pub fn user_named(rows: &[UserRow], name: &Name) -> Option<UserRow>
+    ensures { result ≡ held name.now rows.now }
+{
+    let place = place_of(rows, name);
+    if place == rows.len() {
+        return None;
+    }
+    Some(rows[place].copy())
+}
+
+/// A user of that name in no group, for a request that names nobody; the key is of no text.
+pub fn nobody(name: &Name) -> UserRow
+    ensures name { result.name ≡ name.now }
+    ensures groups { result.groups.items ≡ [] }
+{
+    UserRow {
+        name: name.copy(),
+        digest: [0; 32],
+        groups: ArrayVec::new(),
+        active: true,
+    }
+}

@@ -1,0 +1,36 @@
+//! Rows as answers show them.
+ghost use Rattle.std.specs.Prelude.{◌≡◌, map, filter, reverse, take, IfOk};
+ghost use Rattle.octo_asks.specs.Shown.{shown_user, shown_entry, shown_print};
+ghost use Rattle.print_queue.specs.Rows.{is_of};
+ghost use Rattle.house_verdicts.specs.Reads.{is_print_of};
+
+use super::HostTables;
+use byte_text::Name;
+use house_rows::{shown_entries, shown_prints, shown_users};
+use octo_asks::{ShownEntryList, ShownPrintList, ShownUserList};
+use std::alloc::AllocError;
+
+impl HostTables {
+    /// All users.
+    pub fn shown_users(&self) -> Result<ShownUserList, AllocError>
+        ensures { IfOk result (λ list. list ≡ map shown_user self.now.users) }
+    {
+        shown_users(self.alloc, self.users.rows())
+    }
+
+    /// The entries of a user, or of all users, in the order of the queue.
+    pub fn shown_entries(&self, user: &Option<Name>) -> Result<ShownEntryList, AllocError>
+        ensures { IfOk result (λ list.
+            list ≡ map shown_entry (filter (is_of user.now) self.now.queue)) }
+    {
+        shown_entries(self.alloc, self.queue.entries(), user)
+    }
+
+    /// The prints of a user, or of all users, newest first, at most 100.
+    pub fn shown_prints(&self, user: &Option<Name>) -> Result<ShownPrintList, AllocError>
+        ensures { IfOk result (λ list. list
+            ≡ map shown_print (take 100 (reverse (filter (is_print_of user.now) self.now.prints)))) }
+    {
+        shown_prints(self.alloc, &self.prints, user)
+    }
+}

@@ -1,0 +1,112 @@
+//! Users are added and changed.
+ghost use Rattle.std.specs.Prelude.{◌≡◌, false};
+ghost use Rattle.octo_access.specs.Rows.{IsUserTable};
+ghost use Rattle.house_verdicts.specs.Known.{Known};
+ghost use Rattle.house_verdicts.specs.Rows.{put_user_verdict, change_user_verdict, replace_verdict, new_user};
+ghost use Rattle.house_verdicts.specs.Verdict.{IsDone};
+ghost use Rattle.house_rows.specs.Counts.{Counts, is_keepers, is_shelfs};
+ghost use Rattle.house_tables.specs.Data.{over};
+ghost use Rattle.house_tables.specs.Kept.{KeepsRows};
+
+use super::HostTables;
+use arrayvec::ArrayVec;
+use byte_text::Name;
+use house_rows::{changed_user, keeper_refused, new_user, nobody, user_named, user_refused};
+use octo_access::{Policy, UserRow};
+use octo_asks::{Answer, ShownUser};
+use octo_keeper::{Change, Keeper};
+use octo_outside::Blob;
+
+impl HostTables {
+    /// Adds a user with this key.
+    pub fn put_user<K: Keeper>(
+        &mut self,
+        keeper: &mut K,
+        policy: &Policy,
+        name: &Name,
+        key: &Blob,
+        groups: &ArrayVec<Name, 8>,
+        active: bool,
+    ) -> Answer
+        ensures done { (k : Known) → k.policy ≡ policy.now → IsDone
+            (put_user_verdict (new_user name.now key.now groups.now active) (over k self.old))
+            result (over k self.old) (over k self.new) }
+        ensures written { self.new.unwritten ≡ self.old.unwritten }
+        ensures kept { KeepsRows (K.tables keeper.old) (K.tables keeper.new) self.old self.new }
+        ensures keeper { Counts (is_keepers result) (K.faults keeper.old) (K.faults keeper.new) }
+        ensures shelf { is_shelfs result ≡ false }
+    {
+        self.put_user_row(keeper, policy, &new_user(name, key, groups, active))
+    }
+
+    // Adds a user's row; if the keeper can't write it, it is taken back.
+    fn put_user_row<K: Keeper>(&mut self, keeper: &mut K, policy: &Policy, row: &UserRow) -> Answer
+        ensures done { (k : Known) → k.policy ≡ policy.now → IsDone
+            (put_user_verdict row.now (over k self.old)) result (over k self.old) (over k self.new) }
+        ensures written { self.new.unwritten ≡ self.old.unwritten }
+        ensures kept { KeepsRows (K.tables keeper.old) (K.tables keeper.new) self.old self.new }
+        ensures keeper { Counts (is_keepers result) (K.faults keeper.old) (K.faults keeper.new) }
+        ensures shelf { is_shelfs result ≡ false }
+    {
+        if let Err(refusal) = self.users.put(row, policy) {
+            return user_refused(&refusal);
+        }
+        match keeper.commit(self.alloc, &Change::PutUser(row.copy())) {
+            Ok(()) => Answer::User {
+                user: ShownUser::of(row),
+            },
+            Err(fault) => {
+                self.users.take_back(&row.name);
+                keeper_refused(fault)
+            }
+        }
+    }
+
+    /// Changes of a user what is given.
+    pub fn change_user<K: Keeper>(
+        &mut self,
+        keeper: &mut K,
+        policy: &Policy,
+        name: &Name,
+        key: &Option<Blob>,
+        groups: &Option<ArrayVec<Name, 8>>,
+        active: Option<bool>,
+    ) -> Answer
+        ensures done { (k : Known) → k.policy ≡ policy.now → IsDone
+            (change_user_verdict name.now key.now groups.now active (over k self.old))
+            result (over k self.old) (over k self.new) }
+        ensures written { self.new.unwritten ≡ self.old.unwritten }
+        ensures kept { KeepsRows (K.tables keeper.old) (K.tables keeper.new) self.old self.new }
+        ensures keeper { Counts (is_keepers result) (K.faults keeper.old) (K.faults keeper.new) }
+        ensures shelf { is_shelfs result ≡ false }
+    {
+        let Some(former) = user_named(self.users.rows(), name) else {
+            let row = changed_user(&nobody(name), key, groups, active);
+            return self.set_user_row(keeper, policy, &row);
+        };
+        self.set_user_row(keeper, policy, &changed_user(&former, key, groups, active))
+    }
+
+    // Puts a row in the place of that of its name; if the keeper can't write it, the former one is put back.
+    fn set_user_row<K: Keeper>(&mut self, keeper: &mut K, policy: &Policy, row: &UserRow) -> Answer
+        requires { IsUserTable self.old.users }
+        ensures done { (k : Known) → k.policy ≡ policy.now → IsDone
+            (replace_verdict row.now (over k self.old)) result (over k self.old) (over k self.new) }
+        ensures written { self.new.unwritten ≡ self.old.unwritten }
+        ensures kept { KeepsRows (K.tables keeper.old) (K.tables keeper.new) self.old self.new }
+        ensures keeper { Counts (is_keepers result) (K.faults keeper.old) (K.faults keeper.new) }
+        ensures shelf { is_shelfs result ≡ false }
+    {
+        let former = match self.users.change(row, policy) {
+            Ok(former) => former,
+            Err(refusal) => return user_refused(&refusal),
+        };
+        match keeper.commit(self.alloc, &Change::SetUser(row.copy())) {
+            Ok(()) => Answer::Accepted,
+            Err(fault) => {
+                self.users.restore(&former);
+                keeper_refused(fault)
+            }
+        }
+    }
+}

@@ -1,0 +1,4 @@
+pub mod Verdicts
+pub mod Isolated
+pub mod Repeated
+pub mod Denied

@@ -1,0 +1,12 @@
+pub mod Known
+pub mod Desk
+pub mod Verdict
+pub mod Refusals
+pub mod States
+pub mod Reads
+pub mod Prints
+pub mod Uploads
+pub mod Rows
+pub mod Answers
+pub mod Isolation
+pub mod Access

@@ -1,0 +1,103 @@
+-- When each fact of a turn may come.
+use Rattle.std.proofs.Common.{◌≡◌, inl, inr, ℕ, Bool, true, false, ◌&&◌, not, cond, List, refl, sym, ap, subst, ◌∙◌}
+use Rattle.std.proofs.lemmas.Bool.{false≢true}
+use Rattle.octo_keeper.specs.declared.shelf.ShelfFile.{ShelfFile}
+use Rattle.desk_steps.specs.declared.link_fact.LinkFact.{LinkFact}
+use Rattle.desk_steps.specs.declared.link_fact.LinkFact.TheVariants as fact
+use Rattle.desk_steps.specs.Data.{Data}
+use Rattle.desk_steps.specs.Table.{is_closable_at}
+use Rattle.desk_steps.specs.declared.state.State.{State}
+use Rattle.desk_steps.specs.declared.state.State.TheVariants.{Offline, Connecting, Operational, Printing, Pausing, Paused, Cancelling, Finishing, Closing, Fault}
+use Rattle.send_window.specs.declared.session_end.SessionEnd.{SessionEnd}
+use Rattle.octo_session.specs.Data.{SessionData, doing, is_connecting}
+use Rattle.octo_session.specs.Found.{can_find}
+use Rattle.octo_session.specs.declared.found.Doing.{Doing}
+use Rattle.octo_session.specs.declared.found.Doing.TheVariants.{Dialling, HangingUp, Talking, Resting}
+use Rattle.lossy_line.proofs.Turned.{talks_up, dials_down}
+use Rattle.house_verdicts.specs.Known.{Known}
+use Rattle.house_history.specs.Legal.{Standing, IsDialling, MayEnd, MayFind}
+use Rattle.house_walks.specs.Stands.{StandsAt}
+
+chosen_first : (a b c : Bool) → cond a Dialling (cond b HangingUp (cond c Talking Resting)) ≡ Dialling → a ≡ true
+chosen_first true b c e = refl
+chosen_first false true c e = absurd (cc e)
+chosen_first false false true e = absurd (cc e)
+chosen_first false false false e = absurd (cc e)
+
+chosen_second : (a b c : Bool) → cond a Dialling (cond b HangingUp (cond c Talking Resting)) ≡ HangingUp → b ≡ true
+chosen_second false true c e = refl
+chosen_second true b c e = absurd (cc e)
+chosen_second false false true e = absurd (cc e)
+chosen_second false false false e = absurd (cc e)
+
+is_second : (a b : Bool) → (a && b) ≡ true → b ≡ true
+is_second true b e = e
+is_second false b e = absurd (false≢true e)
+
+connects_at : (s : State) → is_connecting s ≡ true → s ≡ Connecting
+connects_at Connecting e = refl
+connects_at Offline e = absurd (false≢true e)
+connects_at Operational e = absurd (false≢true e)
+connects_at Printing e = absurd (false≢true e)
+connects_at Pausing e = absurd (false≢true e)
+connects_at Paused e = absurd (false≢true e)
+connects_at Cancelling e = absurd (false≢true e)
+connects_at Finishing e = absurd (false≢true e)
+connects_at Closing e = absurd (false≢true e)
+connects_at Fault e = absurd (false≢true e)
+
+dials_at : (x : SessionData) → doing x ≡ Dialling → x.desk.state ≡ Connecting
+dials_at x e = connects_at x.desk.state (is_second (not x.up) (is_connecting x.desk.state)
+    (chosen_first (not x.up && is_connecting x.desk.state) (is_closable_at x.desk.state x.desk) x.up e))
+
+hangs_up_at : (x : SessionData) → doing x ≡ HangingUp → is_closable_at x.desk.state x.desk ≡ true
+hangs_up_at x e = chosen_second (not x.up && is_connecting x.desk.state) (is_closable_at x.desk.state x.desk) x.up e
+
+module _ (s : Standing) (known : Known) (x : SessionData) (files : List ShelfFile) (moment : ℕ) (at : StandsAt s known x files moment false) where
+  -- the desk that the history leads to is the session's
+  pub desk_is : s.known.desk ≡ x.desk
+  desk_is = ap (λ (k : Known). k.desk) at.known_is ∙ at.desk
+
+  dialling : doing x ≡ Dialling → IsDialling s
+  dialling d = (ap (λ (desk : Data). desk.state) desk_is ∙ dials_at x d, at.up ∙ dials_down x d)
+
+  closable : doing x ≡ HangingUp → is_closable_at s.known.desk.state s.known.desk ≡ true
+  closable d =
+      let Closes : Data → Type 0 = λ desk. is_closable_at desk.state desk ≡ true in
+      subst Closes (sym desk_is) (hangs_up_at x d)
+
+  talking : doing x ≡ Talking → s.up ≡ true
+  talking d = at.up ∙ talks_up x d
+
+  -- each fact comes only if it may
+  pub may_find : (now : Doing) (found : LinkFact) (acked later : ℕ) → doing x ≡ now → can_find now found ≡ true
+      → (found ≡ fact.Ready → x.sender.ready ≡ false) → ((end : SessionEnd) → found ≡ fact.Ended end → MayEnd end acked later s)
+      → MayFind found acked later s
+  may_find Dialling fact.Opened acked later d can unready ends = dialling d
+  may_find Dialling fact.NoPort acked later d can unready ends = dialling d
+  may_find Dialling fact.Failed acked later d can unready ends = inl (dialling d).0
+  may_find Dialling fact.Quiet acked later d can unready ends = tt
+  may_find Dialling fact.Ready acked later d can unready ends = absurd (false≢true can)
+  may_find Dialling fact.Closed acked later d can unready ends = absurd (false≢true can)
+  may_find Dialling (fact.Ended end) acked later d can unready ends = absurd (false≢true can)
+  may_find HangingUp fact.Closed acked later d can unready ends = closable d
+  may_find HangingUp fact.Quiet acked later d can unready ends = tt
+  may_find HangingUp fact.Opened acked later d can unready ends = absurd (false≢true can)
+  may_find HangingUp fact.NoPort acked later d can unready ends = absurd (false≢true can)
+  may_find HangingUp fact.Failed acked later d can unready ends = absurd (false≢true can)
+  may_find HangingUp fact.Ready acked later d can unready ends = absurd (false≢true can)
+  may_find HangingUp (fact.Ended end) acked later d can unready ends = absurd (false≢true can)
+  may_find Talking fact.Quiet acked later d can unready ends = tt
+  may_find Talking fact.Ready acked later d can unready ends = (talking d, at.ready (talks_up x d) ∙ unready refl)
+  may_find Talking fact.Failed acked later d can unready ends = inr (talking d)
+  may_find Talking (fact.Ended end) acked later d can unready ends = (talking d, ends end refl)
+  may_find Talking fact.Opened acked later d can unready ends = absurd (false≢true can)
+  may_find Talking fact.Closed acked later d can unready ends = absurd (false≢true can)
+  may_find Talking fact.NoPort acked later d can unready ends = absurd (false≢true can)
+  may_find Resting fact.Quiet acked later d can unready ends = tt
+  may_find Resting fact.Opened acked later d can unready ends = absurd (false≢true can)
+  may_find Resting fact.NoPort acked later d can unready ends = absurd (false≢true can)
+  may_find Resting fact.Failed acked later d can unready ends = absurd (false≢true can)
+  may_find Resting fact.Ready acked later d can unready ends = absurd (false≢true can)
+  may_find Resting fact.Closed acked later d can unready ends = absurd (false≢true can)
+  may_find Resting (fact.Ended end) acked later d can unready ends = absurd (false≢true can)

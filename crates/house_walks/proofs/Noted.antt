@@ -1,0 +1,93 @@
+-- What a note of a turn says of the desk where the host stands.
+use Rattle.std.proofs.Common.{◌≡◌, ◌⊎◌, inl, inr, ℕ, ◌≤◌, false, List, [], ◌∷◌, ◌++◌, map, Option, refl, sym, ap, subst, ◌∙◌, arith, append-nil}
+use Rattle.octo_keeper.specs.declared.shelf.ShelfFile.{ShelfFile}
+use Rattle.print_records.specs.declared.ending.Ending.{Ending}
+use Rattle.desk_steps.specs.declared.link_fact.LinkFact.{LinkFact}
+use Rattle.desk_steps.specs.declared.link_fact.LinkFact.TheVariants as fact
+use Rattle.desk_steps.specs.declared.issued.Issued.{Issued}
+use Rattle.desk_steps.specs.declared.issued.Note as declared_note
+use Rattle.desk_steps.specs.Data.{Data, Line}
+use Rattle.desk_steps.specs.Issued.{line_of}
+use Rattle.desk_steps.specs.Note.{note_step}
+use Rattle.desk_steps.specs.Pull.{pull_step}
+use Rattle.desk_steps.specs.Run.{Pull}
+use Rattle.octo_session.specs.Data.{SessionData, IsSession}
+use Rattle.octo_session.specs.DeskTurn.{Pulls, IsNoted}
+use Rattle.octo_session.specs.DeskTurn as turn
+use Rattle.octo_session.specs.Turn.{IsNoteOn}
+use Rattle.house_verdicts.specs.Known.{Known}
+use Rattle.house_verdicts.specs.Desk.{desk_after_all, lines_pulled, with_line}
+use Rattle.house_history.specs.Legal.{Standing, IsAckedWell}
+use Rattle.house_history.specs.Noted.{calls_of, lines_in, first_fact, last_call}
+use Rattle.house_history.proofs.Runs.{lines_append}
+use Rattle.house_walks.specs.Stands.{StandsAt}
+use Rattle.house_walks.proofs.Found.{desk_is}
+
+-- the pulls of a note draw the lines that it issued
+pulled : (moment : ℕ) (issued : List Issued) (d e : Data) → Pulls moment (map line_of issued) d e
+    → lines_pulled (map (λ (one : Issued). Pull moment) issued) d ≡ map line_of issued
+pulled moment [] d e pulls = refl
+pulled moment (one ∷ issued) d e pulls =
+    let rest = map (λ (i : Issued). Pull moment) issued in
+    ap (λ line. with_line line (lines_pulled rest (pull_step moment d).1)) pulls.0
+    ∙ ap (λ lines. line_of one ∷ lines) (pulled moment issued (pull_step moment d).1 e pulls.1)
+
+-- a failure that is noted last draws none
+last_silent : (found : LinkFact) (acked moment : ℕ) (d : Data) → lines_pulled (last_call found acked moment) d ≡ []
+last_silent fact.Quiet acked moment d = refl
+last_silent fact.Opened acked moment d = refl
+last_silent fact.Ready acked moment d = refl
+last_silent fact.Closed acked moment d = refl
+last_silent fact.NoPort acked moment d = refl
+last_silent fact.Failed acked moment d = refl
+last_silent (fact.Ended end) acked moment d = refl
+
+-- the desk is told the same fact first
+same_first : (found : LinkFact) → turn.first_fact found ≡ first_fact found
+same_first fact.Quiet = refl
+same_first fact.Opened = refl
+same_first fact.Ready = refl
+same_first fact.Closed = refl
+same_first fact.NoPort = refl
+same_first fact.Failed = refl
+same_first (fact.Ended end) = refl
+
+-- the lines of a note are what successive pulls give
+pub lines_legal : (moment acked : ℕ) (old new : Data) (ending : Option Ending) (note : declared_note.Note) → IsNoteOn moment acked old new ending note
+    → lines_pulled (calls_of note) old ≡ lines_in note
+lines_legal moment acked old new ending note n =
+    let Moved : ℕ → Type 0 = λ m. Pulls m (map line_of note.issued.items) (note_step acked (turn.first_fact note.fact) m old).1 n.noted.pulled in
+    let Acked : ℕ → Type 0 = λ a. Pulls note.moment (map line_of note.issued.items) (note_step a (turn.first_fact note.fact) note.moment old).1 n.noted.pulled in
+    let First : LinkFact → Type 0 = λ f. Pulls note.moment (map line_of note.issued.items) (note_step note.acked f note.moment old).1 n.noted.pulled in
+    let pulls : First (first_fact note.fact) =
+    subst First (same_first note.fact) (subst Acked (sym n.its_acked) (subst Moved (sym n.its_moment) n.noted.pulls))
+    in
+    let noted = (note_step note.acked (first_fact note.fact) note.moment old).1 in
+    let calls = map (λ (one : Issued). Pull note.moment) note.issued.items in
+    lines_append calls (last_call note.fact note.acked note.moment) noted
+    ∙ ap (λ (front : List Line). front ++ lines_pulled (last_call note.fact note.acked note.moment) (desk_after_all calls noted))
+    (pulled note.moment note.issued.items noted n.noted.pulled pulls)
+    ∙ ap (λ (rest : List Line). map line_of note.issued.items ++ rest) (last_silent note.fact note.acked note.moment (desk_after_all calls noted))
+    ∙ append-nil (map line_of note.issued.items)
+
+-- what is acknowledged falls only where a session begins, and is at most what was issued
+pub acked_well : (s : Standing) (known : Known) (x : SessionData) (files : List ShelfFile) (moment : ℕ) (found : LinkFact) (acked : ℕ)
+    → StandsAt s known x files moment false → IsSession x
+    → (found ≡ fact.Opened → acked ≡ 0) → (found ≡ fact.Opened) ⊎ (x.sender.acked ≤ acked) → acked ≤ x.sender.issued
+    → IsAckedWell found acked s.known.desk
+acked_well s known x files moment found acked at joined none kept most =
+    let Well : Data → Type 0 = λ d. IsAckedWell found acked d in
+    subst Well (sym (desk_is s known x files moment at)) (by found none kept)
+  where
+    more : (f : LinkFact) → (f ≡ fact.Opened) ⊎ (x.sender.acked ≤ acked) → (f ≡ fact.Opened → ⊥) → (x.desk.acked ≤ acked) × (acked ≤ x.desk.issued)
+    more f (inl opened) unopened = absurd (unopened opened)
+    more f (inr later) unopened = (omega (arith, joined.acked, later), omega (arith, joined.issued, most))
+
+    by : (f : LinkFact) → (f ≡ fact.Opened → acked ≡ 0) → (f ≡ fact.Opened) ⊎ (x.sender.acked ≤ acked) → IsAckedWell f acked x.desk
+    by fact.Opened zero k = zero refl
+    by fact.Quiet zero k = more fact.Quiet k (λ e. cc e)
+    by fact.Ready zero k = more fact.Ready k (λ e. cc e)
+    by fact.Closed zero k = more fact.Closed k (λ e. cc e)
+    by fact.NoPort zero k = more fact.NoPort k (λ e. cc e)
+    by fact.Failed zero k = more fact.Failed k (λ e. cc e)
+    by (fact.Ended end) zero k = more (fact.Ended end) k (λ e. cc e)
