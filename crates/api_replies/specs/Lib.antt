@@ -1,0 +1,5 @@
+pub mod Texts
+pub mod Items
+pub mod Pages
+pub mod Refusals
+pub mod Replies

@@ -1,0 +1,21 @@
+//! The replies of a print host's REST API: the JSON of each answer, and the status and bytes of each reply.
+//!
+//! Source: OctoPrint's REST API. The replies for users, the queue and the prints, and the bodies of refusals, are this
+//! project's own.
+#![tactic(auto)]
+
+mod direct;
+mod items;
+mod lists;
+mod named;
+mod pages;
+mod printer;
+mod refusals;
+mod replies;
+mod texts;
+
+pub use direct::{direct_bytes, fault_bytes};
+pub use replies::to_bytes;
+
+#[cfg(test)]
+mod tests;

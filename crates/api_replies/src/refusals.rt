@@ -1,0 +1,113 @@
+//! Refusals as JSON.
+ghost use Rattle.std.specs.Prelude.{◌≡◌, codes, IfOk};
+ghost use Rattle.serde_json.specs.View.{view};
+ghost use Rattle.api_replies.specs.Refusals.{refusal_data, noted_data, bad_line_data, bad_file_data, too_hot_data, too_hot_line_data, name_taken_data, full_data};
+
+use crate::items::entry_value;
+use gcode_lines::FileFault;
+use octo_asks::ShownEntry;
+use serde_json::{Value, json};
+use std::alloc::{AllocError, Global};
+
+/// A refusal by its name alone.
+pub(crate) fn refusal_value(alloc: Global, name: &str) -> Result<Value, AllocError>
+    ensures { IfOk result (λ value. view value ≡ refusal_data name.now) }
+{
+    json!(in alloc; {"error": name})
+}
+
+/// A refusal with the group that it is about.
+pub(crate) fn group_value(alloc: Global, name: &str, group: &str) -> Result<Value, AllocError>
+    ensures { IfOk result (λ value. view value ≡ noted_data name.now (codes "group") group.now) }
+{
+    json!(in alloc; {"error": name, "group": group})
+}
+
+/// A refusal with the name of the user that it is about.
+pub(crate) fn holder_value(alloc: Global, name: &str, holder: &str) -> Result<Value, AllocError>
+    ensures { IfOk result (λ value. view value ≡ noted_data name.now (codes "name") holder.now) }
+{
+    json!(in alloc; {"error": name, "name": holder})
+}
+
+/// A refusal with the permission that the caller lacks.
+pub(crate) fn permission_value(
+    alloc: Global,
+    name: &str,
+    permission: &str,
+) -> Result<Value, AllocError>
+    ensures { IfOk result (λ value. view value
+        ≡ noted_data name.now (codes "permission") permission.now) }
+{
+    json!(in alloc; {"error": name, "permission": permission})
+}
+
+/// A refusal with the state.
+pub(crate) fn state_value(alloc: Global, name: &str, state: &str) -> Result<Value, AllocError>
+    ensures { IfOk result (λ value. view value ≡ noted_data name.now (codes "state") state.now) }
+{
+    json!(in alloc; {"error": name, "state": state})
+}
+
+// A line of a file that is refused.
+fn bad_line_value(alloc: Global, fault: &str, line: u32) -> Result<Value, AllocError>
+    ensures { IfOk result (λ value. view value ≡ bad_line_data fault.now line) }
+{
+    json!(in alloc; {"error": "BadFile", "fault": fault, "line": line})
+}
+
+/// A file that gives no job.
+pub(crate) fn bad_file_value(alloc: Global, fault: FileFault) -> Result<Value, AllocError>
+    ensures { IfOk result (λ value. view value ≡ bad_file_data fault) }
+{
+    match fault {
+        FileFault::TooLong { line } => bad_line_value(alloc, "TooLong", line),
+        FileFault::ControlByte { line } => bad_line_value(alloc, "ControlByte", line),
+        FileFault::TooLarge { bytes } => {
+            json!(in alloc; {"bytes": bytes, "error": "BadFile", "fault": "TooLarge"})
+        }
+        FileFault::NoMemory => json!(in alloc; {"error": "BadFile", "fault": "NoMemory"}),
+    }
+}
+
+/// A command that is too hot.
+pub(crate) fn too_hot_value(alloc: Global, asked: u64, limit: u16) -> Result<Value, AllocError>
+    ensures { IfOk result (λ value. view value ≡ too_hot_data asked limit) }
+{
+    json!(in alloc; {"asked": asked, "error": "TooHot", "limit": limit})
+}
+
+/// A file with a command that is too hot.
+pub(crate) fn too_hot_line_value(
+    alloc: Global,
+    line: u32,
+    asked: u64,
+    limit: u16,
+) -> Result<Value, AllocError>
+    ensures { IfOk result (λ value. view value ≡ too_hot_line_data line asked limit) }
+{
+    json!(in alloc; {"asked": asked, "error": "TooHotLine", "limit": limit, "line": line})
+}
+
+/// A name that is held, with the entry of the queue that holds it.
+pub(crate) fn name_taken_value(
+    alloc: Global,
+    kept: &Option<ShownEntry>,
+) -> Result<Value, AllocError>
+    ensures { IfOk result (λ value. view value ≡ name_taken_data kept.now) }
+{
+    match kept {
+        Some(entry) => {
+            let kept = entry_value(alloc, entry)?;
+            json!(in alloc; {"error": "NameTaken", "kept": kept})
+        }
+        None => refusal_value(alloc, "NameTaken"),
+    }
+}
+
+/// A limit that is reached.
+pub(crate) fn full_value(alloc: Global, count: u32) -> Result<Value, AllocError>
+    ensures { IfOk result (λ value. view value ≡ full_data count) }
+{
+    json!(in alloc; {"count": count, "error": "Full"})
+}

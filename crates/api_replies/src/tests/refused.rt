@@ -1,0 +1,117 @@
+//! Refusals, and replies to what is no request.
+use super::*;
+
+#[test]
+fn refusals(rt: HostRuntime) -> Result<(), Fail> {
+    let alloc = rt.alloc();
+    for (answer, status, body) in [
+        (
+            Answer::Denied { permission: None },
+            403,
+            "{\"error\":\"Denied\",\"permission\":\"KEY\"}",
+        ),
+        (
+            Answer::Denied {
+                permission: Some(Permission::Print),
+            },
+            403,
+            "{\"error\":\"Denied\",\"permission\":\"PRINT\"}",
+        ),
+        (
+            Answer::BadGroup {
+                group: name("nogroup")?,
+            },
+            400,
+            "{\"error\":\"BadGroup\",\"group\":\"nogroup\"}",
+        ),
+        (
+            Answer::KeyTaken { name: name("eve")? },
+            409,
+            "{\"error\":\"KeyTaken\",\"name\":\"eve\"}",
+        ),
+        (
+            Answer::WrongState {
+                state: State::Printing,
+            },
+            409,
+            "{\"error\":\"WrongState\",\"state\":\"Printing\"}",
+        ),
+        (
+            Answer::Full { count: 64 },
+            409,
+            "{\"count\":64,\"error\":\"Full\"}",
+        ),
+    ] {
+        shows(&rt, alloc, answer, status, body)?;
+    }
+    Ok(())
+}
+
+#[test]
+fn file_refusals(rt: HostRuntime) -> Result<(), Fail> {
+    let alloc = rt.alloc();
+    for (answer, status, body) in [
+        (
+            Answer::BadFile {
+                fault: FileFault::TooLong { line: 1 },
+            },
+            400,
+            "{\"error\":\"BadFile\",\"fault\":\"TooLong\",\"line\":1}",
+        ),
+        (
+            Answer::BadFile {
+                fault: FileFault::ControlByte { line: 7 },
+            },
+            400,
+            "{\"error\":\"BadFile\",\"fault\":\"ControlByte\",\"line\":7}",
+        ),
+        (
+            Answer::BadFile {
+                fault: FileFault::TooLarge { bytes: 67_108_865 },
+            },
+            400,
+            "{\"bytes\":67108865,\"error\":\"BadFile\",\"fault\":\"TooLarge\"}",
+        ),
+        (
+            Answer::TooHot {
+                asked: 260,
+                limit: 250,
+            },
+            400,
+            "{\"asked\":260,\"error\":\"TooHot\",\"limit\":250}",
+        ),
+        (
+            Answer::TooHotLine {
+                line: 3,
+                asked: 260,
+                limit: 250,
+            },
+            409,
+            "{\"asked\":260,\"error\":\"TooHotLine\",\"limit\":250,\"line\":3}",
+        ),
+    ] {
+        shows(&rt, alloc, answer, status, body)?;
+    }
+    Ok(())
+}
+
+#[test]
+fn named_refusals(rt: HostRuntime) -> Result<(), Fail> {
+    let alloc = rt.alloc();
+    for (answer, status, body) in [
+        (Answer::BadPort, 400, "{\"error\":\"BadPort\"}"),
+        (Answer::BadCommand, 400, "{\"error\":\"BadCommand\"}"),
+        (Answer::NoFile, 404, "{\"error\":\"NoFile\"}"),
+        (Answer::NoUser, 404, "{\"error\":\"NoUser\"}"),
+        (Answer::NoEntry, 404, "{\"error\":\"NoEntry\"}"),
+        (Answer::NoneSelected, 409, "{\"error\":\"NoneSelected\"}"),
+        (Answer::FileBusy, 409, "{\"error\":\"FileBusy\"}"),
+        (Answer::ArrivalsUsed, 409, "{\"error\":\"ArrivalsUsed\"}"),
+        (Answer::KeeperFault, 503, "{\"error\":\"KeeperFault\"}"),
+        (Answer::ShelfFault, 503, "{\"error\":\"ShelfFault\"}"),
+        (Answer::Closed, 503, "{\"error\":\"Closed\"}"),
+    ] {
+        shows(&rt, alloc, answer, status, body)?;
+    }
+    Ok(())
+}

@@ -1,0 +1,238 @@
+//! Replies as a client reads them, to the byte.
+use super::*;
+use api_direct::Direct;
+use octo_http::{HttpReply, write_reply};
+use octo_outside::{CallList, MemoryConn};
+
+// The bytes that a reply puts on a connection.
+fn puts(rt: &impl Abort, alloc: Global, reply: &HttpReply, bytes: &str) -> Result<(), Fail> {
+    let mut conn = MemoryConn::new(alloc, b"", CallList::new(alloc), CallList::new(alloc))?;
+    assert_eq!(rt; write_reply(&mut conn, reply), Ok(()));
+    assert!(rt; conn.written() == Some(bytes.as_bytes()));
+    Ok(())
+}
+
+// A pause while printing, a restart while printing; too hot; a denied start.
+#[test]
+fn jobs(rt: HostRuntime) -> Result<(), Fail> {
+    let alloc = rt.alloc();
+    for (answer, bytes) in [
+        (
+            Answer::Accepted,
+            "HTTP/1.1 204 No Content\r\nConnection: close\r\n\r\n",
+        ),
+        (
+            Answer::WrongState {
+                state: State::Printing,
+            },
+            "HTTP/1.1 409 Conflict\r\nConnection: close\r\nContent-Length: 41\r\n\
+Content-Type: application/json\r\n\r\n{\"error\":\"WrongState\",\"state\":\"Printing\"}",
+        ),
+        (
+            Answer::TooHot {
+                asked: 260,
+                limit: 250,
+            },
+            "HTTP/1.1 400 Bad Request\r\nConnection: close\r\nContent-Length: 42\r\n\
+Content-Type: application/json\r\n\r\n{\"asked\":260,\"error\":\"TooHot\",\"limit\":250}",
+        ),
+        (
+            Answer::TooHotLine {
+                line: 3,
+                asked: 260,
+                limit: 250,
+            },
+            "HTTP/1.1 409 Conflict\r\nConnection: close\r\nContent-Length: 55\r\n\
+Content-Type: application/json\r\n\r\n{\"asked\":260,\"error\":\"TooHotLine\",\"limit\":250,\"line\":3}",
+        ),
+        (
+            Answer::Denied {
+                permission: Some(Permission::Print),
+            },
+            "HTTP/1.1 403 Forbidden\r\nConnection: close\r\nContent-Length: 39\r\n\
+Content-Type: application/json\r\n\r\n{\"error\":\"Denied\",\"permission\":\"PRINT\"}",
+        ),
+        (
+            Answer::Denied { permission: None },
+            "HTTP/1.1 403 Forbidden\r\nConnection: close\r\nContent-Length: 37\r\n\
+Content-Type: application/json\r\n\r\n{\"error\":\"Denied\",\"permission\":\"KEY\"}",
+        ),
+        (
+            Answer::KeeperFault,
+            "HTTP/1.1 503 Service Unavailable\r\nConnection: close\r\nContent-Length: 23\r\n\
+Content-Type: application/json\r\n\r\n{\"error\":\"KeeperFault\"}",
+        ),
+        (
+            Answer::NoMemory,
+            "HTTP/1.1 507 Insufficient Storage\r\nConnection: close\r\nContent-Length: 0\r\n\r\n",
+        ),
+    ] {
+        let reply = to_bytes(alloc, answer)?;
+        puts(&rt, alloc, &reply, bytes)?;
+    }
+    Ok(())
+}
+
+// An entry of the queue, another of its name, an empty list, the most entries.
+#[test]
+fn entries(rt: HostRuntime) -> Result<(), Fail> {
+    let alloc = rt.alloc();
+    for (answer, bytes) in [
+        (
+            Answer::OneEntry { entry: entry()? },
+            "HTTP/1.1 201 Created\r\nConnection: close\r\nContent-Length: 96\r\n\
+Content-Type: application/json\r\n\r\n{\"copies\":1,\"file\":\"a.gcode\",\"left\":1,\"material\":\"any\",\"name\":\"job-1\",\"priority\":5,\"user\":\"ana\"}",
+        ),
+        (
+            Answer::NameTaken {
+                kept: Some(entry()?),
+            },
+            "HTTP/1.1 409 Conflict\r\nConnection: close\r\nContent-Length: 125\r\n\
+Content-Type: application/json\r\n\r\n{\"error\":\"NameTaken\",\"kept\":{\"copies\":1,\"file\":\"a.gcode\",\"left\":1,\"material\":\"any\",\"name\":\"job-1\",\"priority\":5,\"user\":\"ana\"}}",
+        ),
+        (
+            Answer::Entries {
+                entries: ShownEntryList::new(alloc),
+            },
+            "HTTP/1.1 200 OK\r\nConnection: close\r\nContent-Length: 14\r\n\
+Content-Type: application/json\r\n\r\n{\"entries\":[]}",
+        ),
+        (
+            Answer::Full { count: 64 },
+            "HTTP/1.1 409 Conflict\r\nConnection: close\r\nContent-Length: 27\r\n\
+Content-Type: application/json\r\n\r\n{\"count\":64,\"error\":\"Full\"}",
+        ),
+    ] {
+        let reply = to_bytes(alloc, answer)?;
+        puts(&rt, alloc, &reply, bytes)?;
+    }
+    Ok(())
+}
+
+// An upload, one whose print was not started, a file that is printed, a shelf that fails, a download.
+#[test]
+fn uploads(rt: HostRuntime) -> Result<(), Fail> {
+    let alloc = rt.alloc();
+    for (answer, bytes) in [
+        (
+            Answer::Uploaded {
+                name: name("a.gcode")?,
+                select: false,
+                print: false,
+            },
+            "HTTP/1.1 201 Created\r\nConnection: close\r\nContent-Length: 131\r\n\
+Content-Type: application/json\r\n\r\n{\"done\":true,\"effectivePrint\":false,\"effectiveSelect\":false,\"files\":{\"local\":{\"name\":\"a.gcode\",\"origin\":\"local\",\"path\":\"a.gcode\"}}}",
+        ),
+        (
+            Answer::Stored {
+                name: name("a.gcode")?,
+                cause: StoredCause::KeeperFault,
+            },
+            "HTTP/1.1 503 Service Unavailable\r\nConnection: close\r\nContent-Length: 152\r\n\
+Content-Type: application/json\r\n\r\n{\"done\":true,\"effectivePrint\":false,\"effectiveSelect\":true,\"error\":\"KeeperFault\",\"files\":{\"local\":{\"name\":\"a.gcode\",\"origin\":\"local\",\"path\":\"a.gcode\"}}}",
+        ),
+        (
+            Answer::Stored {
+                name: name("a.gcode")?,
+                cause: StoredCause::NoMemory,
+            },
+            "HTTP/1.1 507 Insufficient Storage\r\nConnection: close\r\nContent-Length: 149\r\n\
+Content-Type: application/json\r\n\r\n{\"done\":true,\"effectivePrint\":false,\"effectiveSelect\":true,\"error\":\"NoMemory\",\"files\":{\"local\":{\"name\":\"a.gcode\",\"origin\":\"local\",\"path\":\"a.gcode\"}}}",
+        ),
+        (
+            Answer::FileBusy,
+            "HTTP/1.1 409 Conflict\r\nConnection: close\r\nContent-Length: 20\r\n\
+Content-Type: application/json\r\n\r\n{\"error\":\"FileBusy\"}",
+        ),
+        (
+            Answer::ShelfFault,
+            "HTTP/1.1 503 Service Unavailable\r\nConnection: close\r\nContent-Length: 22\r\n\
+Content-Type: application/json\r\n\r\n{\"error\":\"ShelfFault\"}",
+        ),
+        (
+            Answer::Download {
+                bytes: Blob::from_slice(alloc, b"G28\nM140 S121\n")?,
+            },
+            "HTTP/1.1 200 OK\r\nConnection: close\r\nContent-Length: 14\r\n\
+Content-Type: application/octet-stream\r\n\r\nG28\nM140 S121\n",
+        ),
+        (
+            Answer::Download {
+                bytes: Blob::new(alloc),
+            },
+            "HTTP/1.1 200 OK\r\nConnection: close\r\nContent-Length: 0\r\n\
+Content-Type: application/octet-stream\r\n\r\n",
+        ),
+    ] {
+        let reply = to_bytes(alloc, answer)?;
+        puts(&rt, alloc, &reply, bytes)?;
+    }
+    Ok(())
+}
+
+// Messages that are no request.
+#[test]
+fn no_requests(rt: HostRuntime) -> Result<(), Fail> {
+    let alloc = rt.alloc();
+    for (direct, bytes) in [
+        (
+            Direct::BadBody,
+            "HTTP/1.1 400 Bad Request\r\nConnection: close\r\nContent-Length: 0\r\n\r\n",
+        ),
+        (
+            Direct::NoRoute,
+            "HTTP/1.1 404 Not Found\r\nConnection: close\r\nContent-Length: 0\r\n\r\n",
+        ),
+        (
+            Direct::BadMethod,
+            "HTTP/1.1 405 Method Not Allowed\r\nConnection: close\r\nContent-Length: 0\r\n\r\n",
+        ),
+        (
+            Direct::NoLength,
+            "HTTP/1.1 411 Length Required\r\nConnection: close\r\nContent-Length: 0\r\n\r\n",
+        ),
+        (
+            Direct::BadMedia,
+            "HTTP/1.1 415 Unsupported Media Type\r\nConnection: close\r\nContent-Length: 0\r\n\r\n",
+        ),
+        (
+            Direct::NoMemory,
+            "HTTP/1.1 507 Insufficient Storage\r\nConnection: close\r\nContent-Length: 0\r\n\r\n",
+        ),
+    ] {
+        let reply = direct_bytes(alloc, direct);
+        puts(&rt, alloc, &reply, bytes)?;
+    }
+    for (fault, bytes) in [
+        (
+            MessageFault::BadHead,
+            "HTTP/1.1 400 Bad Request\r\nConnection: close\r\nContent-Length: 0\r\n\r\n",
+        ),
+        (
+            MessageFault::BadChunk,
+            "HTTP/1.1 400 Bad Request\r\nConnection: close\r\nContent-Length: 0\r\n\r\n",
+        ),
+        (
+            MessageFault::HeadTooLarge,
+            "HTTP/1.1 431 Request Header Fields Too Large\r\nConnection: close\r\nContent-Length: 0\r\n\r\n",
+        ),
+        (
+            MessageFault::BodyTooLarge,
+            "HTTP/1.1 413 Payload Too Large\r\nConnection: close\r\nContent-Length: 0\r\n\r\n",
+        ),
+        (
+            MessageFault::Slow { quiet: 3 },
+            "HTTP/1.1 408 Request Timeout\r\nConnection: close\r\nContent-Length: 0\r\n\r\n",
+        ),
+        (
+            MessageFault::NoMemory,
+            "HTTP/1.1 507 Insufficient Storage\r\nConnection: close\r\nContent-Length: 0\r\n\r\n",
+        ),
+    ] {
+        let reply = fault_bytes(alloc, &fault).ok_or("no reply")?;
+        puts(&rt, alloc, &reply, bytes)?;
+    }
+    assert!(rt; fault_bytes(alloc, &MessageFault::Ended).is_none());
+    assert!(rt; fault_bytes(alloc, &MessageFault::ReadFault).is_none());
+    Ok(())
+}

@@ -1,0 +1,47 @@
+//! The texts of states, outcomes and permissions.
+ghost use Rattle.std.specs.Prelude.{◌≡◌};
+ghost use Rattle.api_replies.specs.Texts.{state_text, outcome_text, permission_text};
+
+use desk_steps::State;
+use octo_access::Permission;
+use print_records::Outcome;
+
+/// A state's text.
+pub(crate) fn state_text(state: State) -> &'static str
+    ensures { result.now ≡ state_text state }
+{
+    match state {
+        State::Offline => "Offline",
+        State::Connecting => "Connecting",
+        State::Operational => "Operational",
+        State::Printing => "Printing",
+        State::Pausing => "Pausing",
+        State::Paused => "Paused",
+        State::Cancelling => "Cancelling",
+        State::Finishing => "Finishing",
+        State::Closing => "Closing",
+        State::Fault => "Error",
+    }
+}
+
+/// An outcome's text.
+pub(crate) fn outcome_text(outcome: Outcome) -> &'static str
+    ensures { result.now ≡ outcome_text outcome }
+{
+    match outcome {
+        Outcome::Active => "Active",
+        Outcome::Done => "Done",
+        Outcome::Cancelled => "Cancelled",
+        Outcome::Failed => "Failed",
+    }
+}
+
+/// The permission that a caller lacks, `KEY` if the key names nobody.
+pub(crate) fn permission_text(permission: Option<Permission>) -> &'static str
+    ensures { result.now ≡ permission_text permission }
+{
+    match permission {
+        Some(permission) => permission.name(),
+        None => "KEY",
+    }
+}

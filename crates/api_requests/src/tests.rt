@@ -1,0 +1,132 @@
+//! Messages, and what they ask.
+mod bodies;
+mod faults;
+mod rows;
+mod uploads;
+
+use crate::*;
+use http::Method;
+use octo_asks::{Ask, Request};
+use octo_http::Message;
+use octo_outside::Blob;
+use std::alloc::Global;
+use std::process::Abort;
+use std::test::Fail;
+
+const JSON: &str = "application/json";
+
+const FORM: &str = "multipart/form-data; boundary=XY";
+
+// A message with a key and a length.
+fn message(
+    alloc: Global,
+    method: Method,
+    path: &str,
+    kind: &str,
+    body: &[u8],
+) -> Result<Message, Fail> {
+    Ok(Message {
+        method,
+        path: Blob::from_slice(alloc, path.as_bytes())?,
+        key: Some(Blob::from_slice(alloc, b"rootxkeyx0000000")?),
+        kind: Some(Blob::from_slice(alloc, kind.as_bytes())?),
+        sized: true,
+        encoded: false,
+        body: Blob::from_slice(alloc, body)?,
+    })
+}
+
+// What a POST of JSON asks.
+fn posted(alloc: Global, path: &str, body: &str) -> Result<Result<Ask, Direct>, Fail> {
+    let message = message(alloc, Method::POST, path, JSON, body.as_bytes())?;
+    Ok(to_request(alloc, message))
+}
+
+// The name of a request.
+fn name_of(request: &Request) -> &'static str {
+    match request {
+        Request::Version => "Version",
+        Request::GetJob => "GetJob",
+        Request::Connect { port: Some(_) } => "Connect with a port",
+        Request::Connect { port: None } => "Connect",
+        Request::Disconnect => "Disconnect",
+        Request::Start => "Start",
+        Request::Cancel => "Cancel",
+        Request::Restart => "Restart",
+        Request::Pause => "Pause",
+        Request::Resume => "Resume",
+        Request::Toggle => "Toggle",
+        Request::SelectFile { print: true, .. } => "SelectFile and print",
+        Request::SelectFile { print: false, .. } => "SelectFile",
+        Request::NextEntry => "NextEntry",
+        Request::Shutdown => "Shutdown",
+        _ => "another request",
+    }
+}
+
+// The name of a request or of a fault.
+fn outcome(answer: &Result<Ask, Direct>) -> &'static str {
+    match answer {
+        Ok(ask) => name_of(&ask.request),
+        Err(Direct::BadBody) => "BadBody",
+        Err(Direct::NoRoute) => "NoRoute",
+        Err(Direct::BadMethod) => "BadMethod",
+        Err(Direct::NoLength) => "NoLength",
+        Err(Direct::BadMedia) => "BadMedia",
+        Err(Direct::NoMemory) => "NoMemory",
+    }
+}
+
+// The name of what a POST of JSON comes to.
+fn post(alloc: Global, path: &str, body: &str) -> Result<&'static str, Fail> {
+    let answer = posted(alloc, path, body)?;
+    Ok(outcome(&answer))
+}
+
+// Each of these bodies comes to this at the path.
+fn come_to(
+    rt: &impl Abort,
+    alloc: Global,
+    path: &str,
+    wanted: &str,
+    bodies: &[&str],
+) -> Result<(), Fail> {
+    for body in bodies {
+        assert!(rt; post(alloc, path, *body)? == wanted);
+    }
+    Ok(())
+}
+
+// Whether the message comes to this, and its key is this.
+fn has_key(alloc: Global, message: Message, wanted: &str, key: &[u8]) -> Result<bool, Fail> {
+    let ask = to_request(alloc, message)?;
+    Ok(name_of(&ask.request) == wanted && ask.key.as_slice() == key)
+}
+
+#[test]
+fn ample(rt: HostRuntime) -> Result<(), Fail> {
+    let alloc = rt.alloc();
+    let kind = "application/json; charset=utf-8";
+    let body = b"{\"command\":\"start\"}";
+    let message = message(alloc, Method::POST, "/api/job", kind, body)?;
+    assert!(rt; has_key(alloc, message, "Start", b"rootxkeyx0000000")?);
+    Ok(())
+}
+
+#[test]
+fn no_key(rt: HostRuntime) -> Result<(), Fail> {
+    let alloc = rt.alloc();
+    let mut message = message(alloc, Method::GET, "/api/job", "", b"")?;
+    message.key = None;
+    message.sized = false;
+    assert!(rt; has_key(alloc, message, "GetJob", b"")?);
+    Ok(())
+}
+
+#[test]
+fn body_of_a_get(rt: HostRuntime) -> Result<(), Fail> {
+    let alloc = rt.alloc();
+    let message = message(alloc, Method::GET, "/api/version", "", b"abc")?;
+    assert!(rt; has_key(alloc, message, "Version", b"rootxkeyx0000000")?);
+    Ok(())
+}

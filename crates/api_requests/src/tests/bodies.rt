@@ -1,0 +1,176 @@
+//! Bodies for the printer, its job and its files.
+use super::*;
+
+#[test]
+fn jobs(rt: HostRuntime) -> Result<(), Fail> {
+    let alloc = rt.alloc();
+    for (body, wanted) in [
+        ("{\"command\":\"start\"}", "Start"),
+        ("{\"command\":\"cancel\"}", "Cancel"),
+        ("{\"command\":\"restart\",\"action\":5}", "Restart"),
+        ("{\"command\":\"pause\",\"action\":\"resume\"}", "Resume"),
+        ("{\"action\":\"pause\",\"command\":\"pause\"}", "Pause"),
+        ("{\"command\":\"pause\",\"action\":\"toggle\"}", "Toggle"),
+        (" { \"command\" : \"pause\" } ", "Toggle"),
+        ("{\"command\":\"begin\",\"command\":\"start\"}", "Start"),
+    ] {
+        assert!(rt; post(alloc, "/api/job", body)? == wanted);
+    }
+    Ok(())
+}
+
+#[test]
+fn no_jobs(rt: HostRuntime) -> Result<(), Fail> {
+    let bodies = [
+        "",
+        "[]",
+        "null",
+        "{}",
+        "{\"command\":\"begin\"}",
+        "{\"command\":\"Start\"}",
+        "{\"command\":null}",
+        "{\"command\":\"pause\",\"action\":null}",
+        "{\"command\":\"pause\",\"action\":\"stop\"}",
+        "{\"command\":\"start\",}",
+        "{\"command\":\"start\"}x",
+    ];
+    come_to(&rt, rt.alloc(), "/api/job", "BadBody", &bodies)
+}
+
+// The degrees that a body asks for.
+fn degrees(alloc: Global, path: &str, body: &str) -> Result<u16, Fail> {
+    let ask = posted(alloc, path, body)??;
+    match &ask.request {
+        Request::HeatTool { degrees } | Request::HeatBed { degrees } => Ok(*degrees),
+        _ => Err(Fail::from("another request")),
+    }
+}
+
+#[test]
+fn tools(rt: HostRuntime) -> Result<(), Fail> {
+    let alloc = rt.alloc();
+    let path = "/api/printer/tool";
+    let body = "{\"command\":\"target\",\"targets\":{\"tool0\":65535,\"tool1\":\"x\"}}";
+    assert_eq!(rt; degrees(alloc, path, body)?, 65535);
+    let bodies = [
+        "{\"command\":\"target\",\"targets\":{}}",
+        "{\"command\":\"target\",\"targets\":60}",
+        "{\"command\":\"target\",\"target\":60}",
+    ];
+    come_to(&rt, alloc, path, "BadBody", &bodies)
+}
+
+#[test]
+fn beds(rt: HostRuntime) -> Result<(), Fail> {
+    let alloc = rt.alloc();
+    let path = "/api/printer/bed";
+    let body = "{\"command\":\"target\",\"target\":0}";
+    assert_eq!(rt; degrees(alloc, path, body)?, 0);
+    let bodies = [
+        "{\"command\":\"target\",\"target\":65536}",
+        "{\"command\":\"target\",\"target\":5.0}",
+        "{\"command\":\"target\",\"target\":5.5}",
+        "{\"command\":\"target\",\"target\":5e0}",
+        "{\"command\":\"target\",\"target\":-1}",
+        "{\"command\":\"target\",\"target\":-0}",
+        "{\"command\":\"target\",\"target\":\"60\"}",
+        "{\"command\":\"target\"}",
+        "{\"target\":60}",
+    ];
+    come_to(&rt, alloc, path, "BadBody", &bodies)
+}
+
+#[test]
+fn connections(rt: HostRuntime) -> Result<(), Fail> {
+    let alloc = rt.alloc();
+    for (body, wanted) in [
+        (
+            "{\"command\":\"connect\",\"port\":\"p\"}",
+            "Connect with a port",
+        ),
+        ("{\"command\":\"connect\",\"baudrate\":115200}", "Connect"),
+        ("{\"command\":\"disconnect\",\"port\":7}", "Disconnect"),
+        ("{\"command\":\"connect\",\"port\":null}", "BadBody"),
+        ("{\"command\":\"connect\",\"port\":\"\"}", "BadBody"),
+        (
+            "{\"command\":\"connect\",\"port\":\"ppppppppppppppppppppppppppppppppppppppppppppppppppppppppppppppppppppppppppppppppppppppppppppppppppppp\"}",
+            "BadBody",
+        ),
+    ] {
+        assert!(rt; post(alloc, "/api/connection", body)? == wanted);
+    }
+    Ok(())
+}
+
+// How many lines a body asks for, and how many bytes the last of them has.
+fn lines(alloc: Global, body: &[u8]) -> Result<(usize, usize), Fail> {
+    let message = message(alloc, Method::POST, "/api/printer/command", JSON, body)?;
+    let ask = to_request(alloc, message)?;
+    let Request::Lines { texts } = &ask.request else {
+        return Err("another request")?;
+    };
+    match texts.as_slice() {
+        [.., last] => Ok((texts.as_slice().len(), last.len())),
+        [] => Err(Fail::from("no lines")),
+    }
+}
+
+#[test]
+fn commands(rt: HostRuntime) -> Result<(), Fail> {
+    let alloc = rt.alloc();
+    let body = b"{\"commands\":[\"G28\",\"G1 \\u007f\"]}";
+    assert!(rt; lines(alloc, body)? == (2, 4));
+    assert!(rt; lines(alloc, b"{\"command\":\"\"}")? == (1, 0));
+    let bodies = [
+        "{\"commands\":[]}",
+        "{\"commands\":[\"G28\",5]}",
+        "{\"commands\":\"G28\"}",
+        "{\"command\":[\"G28\"]}",
+        "{\"command\":\"G28\",\"commands\":[\"G28\"]}",
+        "{\"commands\":null}",
+    ];
+    come_to(&rt, alloc, "/api/printer/command", "BadBody", &bodies)
+}
+
+// A body with so many lines.
+fn many_lines(alloc: Global, count: u32) -> Result<Vec<u8>, Fail> {
+    let mut body = Vec::from_slice(alloc, b"{\"commands\":[\"G28\"")?;
+    for _ in 1..count {
+        body.extend_from_slice(b",\"G28\"")?;
+    }
+    body.extend_from_slice(b"]}")?;
+    Ok(body)
+}
+
+#[test]
+fn many_commands(rt: HostRuntime) -> Result<(), Fail> {
+    let alloc = rt.alloc();
+    let most = many_lines(alloc, 256)?;
+    assert!(rt; lines(alloc, most.as_slice())? == (256, 3));
+    let more = many_lines(alloc, 257)?;
+    let path = "/api/printer/command";
+    let answer = to_request(
+        alloc,
+        message(alloc, Method::POST, path, JSON, more.as_slice())?,
+    );
+    assert!(rt; outcome(&answer) == "BadBody");
+    Ok(())
+}
+
+#[test]
+fn selections(rt: HostRuntime) -> Result<(), Fail> {
+    let alloc = rt.alloc();
+    for (body, wanted) in [
+        ("{\"command\":\"select\"}", "SelectFile"),
+        ("{\"command\":\"select\",\"print\":false}", "SelectFile"),
+        (
+            "{\"command\":\"select\",\"print\":true}",
+            "SelectFile and print",
+        ),
+        ("{\"command\":\"select\",\"print\":1}", "BadBody"),
+        ("{\"print\":true}", "BadBody"),
+    ] {
+        assert!(rt; post(alloc, "/api/files/local/b.%67", body)? == wanted);
+    }
+    Ok(())
+}

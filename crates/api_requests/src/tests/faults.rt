@@ -1,0 +1,112 @@
+//! The order of faults.
+use super::*;
+
+// The name of what a message with a body that no form takes comes to.
+fn faulty(
+    alloc: Global,
+    method: Method,
+    path: &str,
+    sized: bool,
+    encoded: bool,
+    kind: &str,
+) -> Result<&'static str, Fail> {
+    let mut message = message(alloc, method, path, kind, b"{\"command\":\"begin\"}")?;
+    message.sized = sized;
+    message.encoded = encoded;
+    let answer = to_request(alloc, message);
+    Ok(outcome(&answer))
+}
+
+#[test]
+fn path_and_method(rt: HostRuntime) -> Result<(), Fail> {
+    let alloc = rt.alloc();
+    let found = faulty(
+        alloc,
+        Method::PATCH,
+        "/api/nothing",
+        false,
+        true,
+        "text/plain",
+    )?;
+    assert!(rt; found == "NoRoute");
+    let found = faulty(alloc, Method::PATCH, "/api/job", false, true, "text/plain")?;
+    assert!(rt; found == "BadMethod");
+    let found = faulty(alloc, Method::GET, "/api/version", false, true, "")?;
+    assert!(rt; found == "BadMedia");
+    Ok(())
+}
+
+#[test]
+fn faults_of_json(rt: HostRuntime) -> Result<(), Fail> {
+    let alloc = rt.alloc();
+    for (sized, encoded, kind, wanted) in [
+        (false, true, "text/plain", "NoLength"),
+        (true, true, JSON, "BadMedia"),
+        (true, false, "text/json", "BadMedia"),
+        (true, false, "application/jsonx", "BadMedia"),
+        (true, false, "", "BadMedia"),
+        (true, false, "Application/JSON;charset=utf-8", "BadBody"),
+    ] {
+        let found = faulty(alloc, Method::POST, "/api/job", sized, encoded, kind)?;
+        assert!(rt; found == wanted);
+    }
+    Ok(())
+}
+
+#[test]
+fn faults_of_forms(rt: HostRuntime) -> Result<(), Fail> {
+    let alloc = rt.alloc();
+    for (sized, encoded, kind, wanted) in [
+        (false, true, FORM, "NoLength"),
+        (true, true, FORM, "BadMedia"),
+        (true, false, JSON, "BadMedia"),
+        (true, false, FORM, "BadBody"),
+    ] {
+        let found = faulty(
+            alloc,
+            Method::POST,
+            "/api/files/local",
+            sized,
+            encoded,
+            kind,
+        )?;
+        assert!(rt; found == wanted);
+    }
+    Ok(())
+}
+
+#[test]
+fn bodies_not_looked_at(rt: HostRuntime) -> Result<(), Fail> {
+    let alloc = rt.alloc();
+    let found = faulty(
+        alloc,
+        Method::POST,
+        "/api/queue-next",
+        false,
+        false,
+        "text/plain",
+    )?;
+    assert!(rt; found == "NextEntry");
+    let path = "/api/system/commands/core/shutdown";
+    assert!(rt; faulty(alloc, Method::POST, path, true, false, "")? == "Shutdown");
+    Ok(())
+}
+
+// What a JSON body of so many bytes comes to.
+fn sized_post(alloc: Global, count: usize) -> Result<&'static str, Fail> {
+    let mut body = Vec::from_slice(alloc, b"{\"command\":\"start\"}")?;
+    for _ in body.len()..count {
+        body.push(b' ')?;
+    }
+    let message = message(alloc, Method::POST, "/api/job", JSON, body.as_slice())?;
+    let answer = to_request(alloc, message);
+    Ok(outcome(&answer))
+}
+
+#[test]
+fn long_json(rt: HostRuntime) -> Result<(), Fail> {
+    let alloc = rt.alloc();
+    assert!(rt; sized_post(alloc, 1_048_576)? == "Start");
+    assert!(rt; sized_post(alloc, 1_048_577)? == "BadBody");
+    Ok(())
+}

@@ -1,0 +1,93 @@
+//! Uploads.
+use super::*;
+
+// What an upload of this filename asks.
+fn uploaded(alloc: Global, filename: &str) -> Result<Result<Ask, Direct>, Fail> {
+    let mut body = Vec::from_slice(
+        alloc,
+        b"--XY\r\nContent-Disposition: form-data; name=\"file\"; filename=\"",
+    )?;
+    body.extend_from_slice(filename.as_bytes())?;
+    body.extend_from_slice(b"\"\r\n\r\nG28 ; --XY\r\nG1 X10\n\r\n--XY--\r\n")?;
+    let path = "/api/files/local";
+    let message = message(alloc, Method::POST, path, FORM, body.as_slice())?;
+    Ok(to_request(alloc, message))
+}
+
+// Whether an upload of this filename is stored under this name.
+fn stores(alloc: Global, filename: &str, wanted: &str) -> Result<bool, Fail> {
+    let ask = uploaded(alloc, filename)??;
+    let Request::PutFile {
+        name,
+        bytes,
+        select,
+        print,
+    } = &ask.request
+    else {
+        return Err("another request")?;
+    };
+    Ok(
+        name.as_str() == wanted
+            && bytes.as_slice() == b"G28 ; --XY\r\nG1 X10\n".as_slice()
+            && !*select
+            && !*print,
+    )
+}
+
+#[test]
+fn uploads(rt: HostRuntime) -> Result<(), Fail> {
+    let alloc = rt.alloc();
+    for (filename, wanted) in [
+        ("a.gcode", "a.gcode"),
+        ("dir/a.gcode", "a.gcode"),
+        ("C:\\dir\\a.gcode", "a.gcode"),
+        ("../../a.gcode", "a.gcode"),
+        ("..gcode", "_.gcode"),
+        ("my part.GCO", "my_part.GCO"),
+        ("long+(1)_-.g", "long+(1)_-.g"),
+    ] {
+        assert!(rt; stores(alloc, filename, wanted)?);
+    }
+    Ok(())
+}
+
+// The name of what an upload of this filename comes to.
+fn upload(alloc: Global, filename: &str) -> Result<&'static str, Fail> {
+    let answer = uploaded(alloc, filename)?;
+    Ok(outcome(&answer))
+}
+
+#[test]
+fn bad_names(rt: HostRuntime) -> Result<(), Fail> {
+    let alloc = rt.alloc();
+    for filename in ["", ".g", "a.txt", "a.gcode/", "..", "a.gcode.part"] {
+        assert!(rt; upload(alloc, filename)? == "BadMedia");
+    }
+    let long =
+        "aaaaaaaaaaaaaaaaaaaaaaaaaaaaaaaaaaaaaaaaaaaaaaaaaaaaaaaaaaaaaaaaaaaaaaaaaaaaaaaaaaaaaaaaaaaaaaa.gcode";
+    assert!(rt; upload(alloc, &long[1..])? == "another request");
+    assert!(rt; upload(alloc, long)? == "BadBody");
+    Ok(())
+}
+
+// The name of what a form of this body comes to.
+fn form(alloc: Global, body: &str) -> Result<&'static str, Fail> {
+    let message = message(
+        alloc,
+        Method::POST,
+        "/api/files/local",
+        FORM,
+        body.as_bytes(),
+    )?;
+    let answer = to_request(alloc, message);
+    Ok(outcome(&answer))
+}
+
+#[test]
+fn bad_forms(rt: HostRuntime) -> Result<(), Fail> {
+    let alloc = rt.alloc();
+    for body in ["--XY--", "", "--XY\r\n\r\n--XY-"] {
+        assert!(rt; form(alloc, body)? == "BadBody");
+    }
+    Ok(())
+}

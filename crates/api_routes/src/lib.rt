@@ -1,0 +1,16 @@
+//! The paths and methods of a print host's REST API: what they are about, and which body they want.
+//!
+//! Source: OctoPrint's REST API. The paths for users, the queue and the prints are this project's own.
+#![tactic(auto)]
+
+mod names;
+mod place;
+mod target;
+mod wanted;
+
+pub use names::{ascii_text, is_gcode, is_key, read_file_name};
+pub use target::{Target, target_of};
+pub use wanted::{Form, Wanted, wanted_of};
+
+#[cfg(test)]
+mod tests;

@@ -1,0 +1,169 @@
+//! What a request is about: a path with its names.
+ghost use Rattle.std.specs.Prelude.{◌≡◌, ◌≤◌, IfOk, IfErr, true, drop, length};
+ghost use Rattle.percent_encoding.specs.Percent.{percent_decode};
+ghost use Rattle.api_routes.specs.Places.{has_name, named, file_named, before_slash, others_entry, target_at, target_of};
+
+use crate::names::{ascii_text, read_file_name};
+use crate::place::{Place, place_of};
+use api_direct::Direct;
+use byte_text::Name;
+use octo_access::read_name;
+use percent_encoding::percent_decode;
+use std::alloc::Global;
+
+/// What a request is about.
+#[derive(Debug, Drop)]
+pub enum Target {
+    Version,
+    Connection,
+    Printer,
+    Tool,
+    Bed,
+    Command,
+    Job,
+    AllFiles,
+    Files,
+    File { name: Name },
+    Download { name: Name },
+    Users,
+    User { name: Name },
+    Queue,
+    Entry { name: Name },
+    OthersEntry { user: Name, name: Name },
+    NextEntry,
+    Prints,
+    Shutdown,
+}
+
+// The text that a part of a path is percent-encoded from. Source: RFC 3986, section 2.1.
+fn decoded(alloc: Global, part: &[u8]) -> Result<Vec<u8>, Direct>
+    ensures ok { IfOk result (λ bytes. bytes.items ≡ percent_decode part.now) }
+    ensures err { IfErr result (λ e. e ≡ Direct.NoMemory) }
+{
+    let mut bytes = Vec::new(alloc);
+    percent_decode(part).append_to(&mut bytes)?;
+    Ok(bytes)
+}
+
+// The name that a part of a path is percent-encoded from.
+#[tactic(auto, using(crate::proofs::Texts::not_a_name))]
+fn named(alloc: Global, part: &[u8]) -> Result<Option<Name>, Direct>
+    ensures ok { IfOk result (λ name. name ≡ named part.now) }
+    ensures err { IfErr result (λ e. e ≡ Direct.NoMemory) }
+{
+    let bytes = decoded(alloc, part)?;
+    match ascii_text(bytes.as_slice()) {
+        Some(text) => Ok(read_name(text)),
+        None => Ok(None),
+    }
+}
+
+// The name of a file that a part of a path is percent-encoded from.
+#[tactic(auto, using(crate::proofs::Texts::not_a_name))]
+fn file_named(alloc: Global, part: &[u8]) -> Result<Option<Name>, Direct>
+    ensures ok { IfOk result (λ name. name ≡ file_named part.now) }
+    ensures err { IfErr result (λ e. e ≡ Direct.NoMemory) }
+{
+    let bytes = decoded(alloc, part)?;
+    match ascii_text(bytes.as_slice()) {
+        Some(text) => Ok(read_file_name(text)),
+        None => Ok(None),
+    }
+}
+
+// What comes after a prefix of so many bytes.
+fn after(path: &[u8], count: usize) -> &[u8]
+    ensures { result.now ≡ drop count path.now }
+{
+    if count <= path.len() {
+        &path[count..]
+    } else {
+        &[]
+    }
+}
+
+// How many bytes there are in front of the first slash.
+fn before_slash(parts: &[u8]) -> usize
+    ensures value { result ≡ before_slash parts.now }
+    ensures most { result ≤ length parts.now }
+{
+    parts.iter().take_while(|byte| **byte != b'/').count()
+}
+
+// An entry of another user: the user and the name, with a slash between them.
+fn others_entry(alloc: Global, parts: &[u8]) -> Result<Option<Target>, Direct>
+    ensures ok { IfOk result (λ target. target ≡ others_entry parts.now) }
+    ensures err { IfErr result (λ e. e ≡ Direct.NoMemory) }
+{
+    let slash = before_slash(parts);
+    let Some(user) = named(alloc, &parts[..slash])? else {
+        return Ok(None);
+    };
+    match named(alloc, after(parts, slash + 1))? {
+        Some(name) => Ok(Some(Target::OthersEntry { user, name })),
+        None => Ok(None),
+    }
+}
+
+// What a path with one name is about.
+fn named_target(alloc: Global, place: Place, path: &[u8]) -> Result<Option<Target>, Direct>
+    requires { has_name place ≡ true }
+    ensures ok { IfOk result (λ target. target ≡ target_at place path.now) }
+    ensures err { IfErr result (λ e. e ≡ Direct.NoMemory) }
+{
+    match place {
+        Place::File => match file_named(alloc, after(path, 17))? {
+            Some(name) => Ok(Some(Target::File { name })),
+            None => Ok(None),
+        },
+        Place::Download => match file_named(alloc, after(path, 23))? {
+            Some(name) => Ok(Some(Target::Download { name })),
+            None => Ok(None),
+        },
+        Place::User => match named(alloc, after(path, 18))? {
+            Some(name) => Ok(Some(Target::User { name })),
+            None => Ok(None),
+        },
+        Place::Entry => match named(alloc, after(path, 11))? {
+            Some(name) => Ok(Some(Target::Entry { name })),
+            None => Ok(None),
+        },
+        Place::OthersEntry => others_entry(alloc, after(path, 11)),
+        _ => unreachable!(),
+    }
+}
+
+// What a path is about whose place is known.
+fn target_at(alloc: Global, place: Place, path: &[u8]) -> Result<Option<Target>, Direct>
+    ensures ok { IfOk result (λ target. target ≡ target_at place path.now) }
+    ensures err { IfErr result (λ e. e ≡ Direct.NoMemory) }
+{
+    match place {
+        Place::Version => Ok(Some(Target::Version)),
+        Place::Connection => Ok(Some(Target::Connection)),
+        Place::Printer => Ok(Some(Target::Printer)),
+        Place::Tool => Ok(Some(Target::Tool)),
+        Place::Bed => Ok(Some(Target::Bed)),
+        Place::Command => Ok(Some(Target::Command)),
+        Place::Job => Ok(Some(Target::Job)),
+        Place::AllFiles => Ok(Some(Target::AllFiles)),
+        Place::Files => Ok(Some(Target::Files)),
+        Place::Users => Ok(Some(Target::Users)),
+        Place::Queue => Ok(Some(Target::Queue)),
+        Place::NextEntry => Ok(Some(Target::NextEntry)),
+        Place::Prints => Ok(Some(Target::Prints)),
+        Place::Shutdown => Ok(Some(Target::Shutdown)),
+        _ => named_target(alloc, place, path),
+    }
+}
+
+/// What a path is about, `None` if it is no path of the interface. Source: OctoPrint's REST API.
+pub fn target_of(alloc: Global, path: &[u8]) -> Result<Option<Target>, Direct>
+    ensures ok { IfOk result (λ target. target ≡ target_of path.now) }
+    ensures err { IfErr result (λ e. e ≡ Direct.NoMemory) }
+{
+    match place_of(alloc, path)? {
+        Some(place) => target_at(alloc, place, path),
+        None => Ok(None),
+    }
+}

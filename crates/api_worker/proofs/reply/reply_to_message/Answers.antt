@@ -1,0 +1,13 @@
+use Rattle.std.proofs.Common.{[], true, sym, subst}
+use Rattle.octo_http.specs.declared.reply.HttpReply.{HttpReply}
+use Rattle.octo_outside.proofs.Told.{adds_none}
+use Rattle.api_worker.specs.Served.{IsReplied, refused}
+use Rattle.api_worker.proofs.reply.reply_to_message.Goals as goal
+
+pub returns-in-Err-clause-replied : goal.returns-in-Err-clause-replied
+returns-in-Err-clause-replied g c =
+    let At : HttpReply → Type 0 = λ reply. IsReplied c.args.message reply true [] in (
+      [],
+      adds_none (g.A.Asker.mine c.args.asker.now),
+      subst At (sym c.direct_bytes.ensures) (refused c.in-Err.direct c.in-Err.ensures),
+    )

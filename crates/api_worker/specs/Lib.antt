@@ -1,0 +1,3 @@
+-- The words of a worker's contracts.
+pub mod Served
+pub mod Worked

@@ -1,0 +1,70 @@
+//! One connection: a message, and its reply.
+ghost use Rattle.std.specs.Prelude.{◌≡◌, ◌≤◌, true, false};
+ghost use Rattle.octo_doors.specs.Doors.{state_of};
+ghost use Rattle.octo_http.specs.Reply.{reply_bytes};
+ghost use Rattle.api_worker.specs.Served.{Sends, HasServed, fault_bytes};
+
+use crate::reply::reply_to_message;
+use api_replies::fault_bytes;
+use octo_asks::Asker;
+use octo_http::{HttpReply, MessageFault, read_message, write_reply};
+use octo_outside::{Conn, Failed};
+use std::alloc::Global;
+
+// Writes a reply. A failure is the connection's, which counts it; nobody is left to be told.
+fn write_or_leave<C: Conn>(conn: &mut C, reply: &HttpReply)
+    ensures written { Sends (C.written conn.old) (C.written conn.new)
+        (C.faults conn.old) (C.faults conn.new) (reply_bytes reply.now) }
+    ensures left { C.left conn.new ≡ C.left conn.old }
+    ensures quiets { C.quiets conn.new ≡ C.quiets conn.old }
+    ensures counted { C.faults conn.old ≤ C.faults conn.new }
+{
+    match write_reply(conn, reply) {
+        Ok(()) | Err(Failed) => {}
+    }
+}
+
+// Writes the reply to a fault, if the peer is still there.
+fn refuse<C: Conn>(alloc: Global, conn: &mut C, fault: &MessageFault)
+    ensures written { Sends (C.written conn.old) (C.written conn.new)
+        (C.faults conn.old) (C.faults conn.new) (fault_bytes fault.now) }
+    ensures left { C.left conn.new ≡ C.left conn.old }
+    ensures quiets { C.quiets conn.new ≡ C.quiets conn.old }
+    ensures counted { C.faults conn.old ≤ C.faults conn.new }
+{
+    match fault_bytes(alloc, fault) {
+        Some(reply) => write_or_leave(conn, &reply),
+        None => {}
+    }
+}
+
+/// Reads one message of a connection, asks what it says and writes the reply. Returns whether the host hasn't ended.
+///
+/// It waits through at most `patience` quiet reads. If memory runs out, the reply is 507.
+pub fn serve_conn<C: Conn, A: Asker>(
+    alloc: Global,
+    conn: &mut C,
+    asker: &mut A,
+    patience: u32,
+) -> bool
+    ensures served { HasServed patience (state_of C.left C.written C.faults C.quiets conn.old)
+        (state_of C.left C.written C.faults C.quiets conn.new)
+        (A.mine asker.old) (A.mine asker.new) result }
+
+    // Only a host that has ended is seen to have, and what was seen stays.
+    ensures closed { result ≡ false → A.saw_close asker.new ≡ true }
+    ensures seen { A.saw_close asker.old ≡ true → A.saw_close asker.new ≡ true }
+    ensures place { A.place asker.new ≡ A.place asker.old }
+{
+    match read_message(alloc, conn, patience) {
+        Ok(message) => {
+            let replied = reply_to_message(alloc, asker, message);
+            write_or_leave(conn, &replied.reply);
+            replied.is_open
+        }
+        Err(fault) => {
+            refuse(alloc, conn, &fault);
+            true
+        }
+    }
+}

@@ -1,0 +1,160 @@
+//! A worker at a door in memory, whose asks are answered by a list of answers.
+ghost use Rattle.std.specs.Prelude.{None, All, IfOk};
+ghost use Rattle.octo_asks.specs.Place.{no_place};
+ghost use Rattle.octo_doors.specs.Memory.{IsUntouched};
+
+use crate::worker;
+use octo_asks::{Answer, Ask, Asker, Closed, Request};
+use octo_doors::{ConnList, MemoryDoor};
+use octo_outside::{CallList, MemoryConn};
+use std::alloc::{AllocError, Global};
+use std::sync::Wait;
+use std::test::Fail;
+
+// An asker whose host ends after a number of asks; it counts those that were answered, and those with which a worker left.
+#[derive(Drop)]
+struct Host {
+    open_for: u32,
+    answered: u32,
+    left: u32,
+    saw_close: bool,
+}
+
+impl Host {
+    fn open_for(asks: u32) -> Host {
+        Host {
+            open_for: asks,
+            answered: 0,
+            left: 0,
+            saw_close: false,
+        }
+    }
+}
+
+impl Asker for Host {
+    ghost place = { λ _. no_place };
+
+    ghost mine = { λ _. None };
+
+    ghost saw_close = { λ h. h.saw_close };
+
+    fn ask(&mut self, ask: Ask) -> Result<Answer, Closed> {
+        if self.open_for == 0 {
+            self.saw_close = true;
+            return Err(Closed);
+        }
+        self.open_for -= 1;
+        self.answered = self.answered.wrapping_add(1);
+        match ask.request {
+            Request::Version => Ok(Answer::Version),
+            Request::Leave => {
+                self.left = self.left.wrapping_add(1);
+                Ok(Answer::Accepted)
+            }
+            _ => Ok(Answer::NoFile),
+        }
+    }
+
+    fn closed(&mut self) -> bool {
+        self.saw_close
+    }
+}
+
+const VERSION: &[u8] = b"GET /api/version HTTP/1.1\r\nHost: a\r\n\r\n";
+
+// One more connection with this input.
+fn with_conn(alloc: Global, conns: ConnList, input: &[u8]) -> Result<ConnList, AllocError>
+    requires { All IsUntouched conns }
+    ensures { IfOk result (λ all. All IsUntouched all) }
+{
+    let mut conns = conns;
+    conns.push(MemoryConn::new(alloc, input, CallList::new(alloc), CallList::new(alloc))?)?;
+    Ok(conns)
+}
+
+fn calls(alloc: Global, listed: &[u64]) -> Result<CallList, AllocError> {
+    let mut calls = CallList::new(alloc);
+    for call in listed {
+        calls.push(*call)?;
+    }
+    Ok(calls)
+}
+
+// The statuses of the replies at a door, in order; none for a connection without one.
+fn statuses(alloc: Global, door: &MemoryDoor) -> Result<Vec<u8>, AllocError> {
+    let mut texts = Vec::new(alloc);
+    for conn in door.served().unwrap_or(&[]) {
+        let written = conn.written().unwrap_or(b"");
+        texts.extend_from_slice(written.get(9..12).unwrap_or(b"-"))?;
+        texts.push(b' ')?;
+    }
+    Ok(texts)
+}
+
+// A peer that goes away after the target of its message gets no reply.
+#[test]
+fn replies_and_leaves(rt: HostRuntime) -> Result<(), Fail> {
+    let alloc = rt.alloc();
+    let conns = with_conn(alloc, ConnList::new(alloc), VERSION)?;
+    let conns = with_conn(alloc, conns, b"GET /api/nothing HTTP/1.1\r\n\r\n")?;
+    let conns = with_conn(alloc, conns, b"what is this\r\n\r\n")?;
+    let conns = with_conn(alloc, conns, b"GET /api/version HT")?;
+    let conns = with_conn(alloc, conns, VERSION)?;
+    let mut door = MemoryDoor::new(alloc, conns, calls(alloc, &[2])?, CallList::new(alloc));
+    let mut host = Host::open_for(10);
+    assert!(rt; worker(alloc, &rt, &mut door, &mut host, 3));
+    assert_eq!(rt;
+        statuses(alloc, &door)?.as_slice(),
+        b"200 404 400 - 200 ".as_slice()
+    );
+    assert_eq!(rt; (host.answered, host.left), (3, 1));
+    Ok(())
+}
+
+// Once the host has ended, the connection at hand is told so, and no further one is accepted.
+#[test]
+fn a_host_that_ends(rt: HostRuntime) -> Result<(), Fail> {
+    let alloc = rt.alloc();
+    let conns = with_conn(alloc, ConnList::new(alloc), VERSION)?;
+    let conns = with_conn(alloc, conns, VERSION)?;
+    let conns = with_conn(alloc, conns, VERSION)?;
+    let mut door = MemoryDoor::new(alloc, conns, CallList::new(alloc), CallList::new(alloc));
+    let mut host = Host::open_for(1);
+    assert!(rt; worker(alloc, &rt, &mut door, &mut host, 3));
+    assert_eq!(rt; statuses(alloc, &door)?.as_slice(), b"200 503 ".as_slice());
+    assert_eq!(rt; (host.answered, host.left), (1, 0));
+    Ok(())
+}
+
+// The second accept fails: the worker leaves, and says that its door failed.
+#[test]
+fn a_door_that_fails(rt: HostRuntime) -> Result<(), Fail> {
+    let alloc = rt.alloc();
+    let conns = with_conn(alloc, ConnList::new(alloc), VERSION)?;
+    let conns = with_conn(alloc, conns, VERSION)?;
+    let mut door = MemoryDoor::new(alloc, conns, CallList::new(alloc), calls(alloc, &[2])?);
+    let mut host = Host::open_for(10);
+    assert!(rt; !worker(alloc, &rt, &mut door, &mut host, 3));
+    assert_eq!(rt; statuses(alloc, &door)?.as_slice(), b"200 ".as_slice());
+    assert_eq!(rt; (host.answered, host.left), (2, 1));
+    Ok(())
+}
+
+// A peer that sends half a message and then nothing is told that it is too slow.
+#[test]
+fn a_slow_peer(rt: HostRuntime) -> Result<(), Fail> {
+    let alloc = rt.alloc();
+    let mut conns = ConnList::new(alloc);
+    conns.push(MemoryConn::new(
+        alloc,
+        VERSION,
+        calls(alloc, &[1, 2, 3])?,
+        CallList::new(alloc),
+    )?)?;
+    let mut door = MemoryDoor::new(alloc, conns, CallList::new(alloc), CallList::new(alloc));
+    let mut host = Host::open_for(10);
+    assert!(rt; worker(alloc, &rt, &mut door, &mut host, 3));
+    assert_eq!(rt; statuses(alloc, &door)?.as_slice(), b"408 ".as_slice());
+    assert_eq!(rt; (host.answered, host.left), (1, 1));
+    Ok(())
+}
