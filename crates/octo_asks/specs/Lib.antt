@@ -4,3 +4,4 @@ pub mod Shown
 pub mod History
 pub mod Memory
 pub mod Waiting
+pub mod Place

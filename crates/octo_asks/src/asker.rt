@@ -11,6 +11,10 @@ pub struct Closed;
 pub trait Asker {
     ghost use Rattle.std.specs.Prelude.{◌≡◌, Bool, true, Option, IfOk, OnErr};
     ghost use Rattle.octo_asks.specs.History.{History, Finishes};
+    ghost use Rattle.octo_asks.specs.Place.{Place};
+
+    /// Its table and seat, which stay.
+    ghost place: { Self → Place };
 
     /// The finished calls of this worker, if they are recorded.
     ghost mine: { Self → Option History };
@@ -22,6 +26,7 @@ pub trait Asker {
     fn ask(&mut self, ask: Ask) -> Result<Answer, Closed>
         ensures ok { IfOk result (λ answer. Finishes ask answer (mine self.old) (mine self.new)) }
         ensures err { OnErr result (mine self.new ≡ mine self.old) }
+        ensures place { place self.new ≡ place self.old }
 
         ensures closed { OnErr result (saw_close self.new ≡ true) }
         ensures seen { saw_close self.old ≡ true → saw_close self.new ≡ true };
@@ -30,5 +35,6 @@ pub trait Asker {
     fn closed(&mut self) -> bool
         ensures closed { result ≡ true → saw_close self.new ≡ true }
         ensures seen { saw_close self.old ≡ true → saw_close self.new ≡ true }
-        ensures mine { mine self.new ≡ mine self.old };
+        ensures mine { mine self.new ≡ mine self.old }
+        ensures place { place self.new ≡ place self.old };
 }

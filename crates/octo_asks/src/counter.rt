@@ -25,6 +25,10 @@ pub trait Counter {
     ghost use Rattle.octo_asks.specs.declared.counter.Given.{Given};
     ghost use Rattle.octo_asks.specs.declared.entry.Entry.TheVariants as entry;
     ghost use Rattle.octo_asks.specs.History.{History, IsGiven, given_by};
+    ghost use Rattle.octo_asks.specs.Place.{Place};
+
+    /// Its table and seat, which stay.
+    ghost place: { Self → Place };
 
     /// The history, if it is recorded: `None` once an entry was lost.
     ghost past: { Self → Option History };
@@ -42,7 +46,8 @@ pub trait Counter {
 
         ensures past { past self.new ≡ past self.old }
         ensures given { given self.new ≡ given_by result }
-        ensures open { closed self.new ≡ false };
+        ensures open { closed self.new ≡ false }
+        ensures place { place self.new ≡ place self.old };
 
     /// Answers the ask that was given out, at a moment in milliseconds.
     fn answer(&mut self, worker: u8, moment: u64, answer: Answer)
@@ -51,7 +56,8 @@ pub trait Counter {
 
         ensures past { IfSome (given self.old) (λ one. Adds (past self.old) (past self.new) (entry.Call worker one.ask moment answer ∷ [])) }
         ensures given { given self.new ≡ None }
-        ensures open { closed self.new ≡ false };
+        ensures open { closed self.new ≡ false }
+        ensures place { place self.new ≡ place self.old };
 
     /// Adds what a turn of the link did.
     fn note(&mut self, note: Note)
@@ -59,7 +65,8 @@ pub trait Counter {
 
         ensures past { Adds (past self.old) (past self.new) (entry.Note note ∷ []) }
         ensures given { given self.new ≡ given self.old }
-        ensures open { closed self.new ≡ false };
+        ensures open { closed self.new ≡ false }
+        ensures place { place self.new ≡ place self.old };
 
     /// The host ends. Every ask was answered.
     fn close(&mut self)
@@ -68,5 +75,6 @@ pub trait Counter {
 
         ensures past { Adds (past self.old) (past self.new) (entry.Close ∷ []) }
         ensures given { given self.new ≡ None }
-        ensures closed { closed self.new ≡ true };
+        ensures closed { closed self.new ≡ true }
+        ensures place { place self.new ≡ place self.old };
 }

@@ -90,6 +90,9 @@ impl Counter for MemoryCounter {
     ghost use Rattle.octo_asks.specs.declared.entry.Entry.TheVariants as entry;
     ghost use Rattle.octo_asks.specs.History.{IsGiven, given_by};
     ghost use Rattle.octo_asks.specs.Memory.{next_of};
+    ghost use Rattle.octo_asks.specs.Place.{no_place};
+
+    ghost place = { λ _. no_place };
 
     ghost past = { λ c. c.past };
 

@@ -1,0 +1,10 @@
+pub mod Lists
+pub mod Looking
+pub mod Frames
+pub mod Working
+pub mod Housing
+pub mod Seating
+pub mod Sitting
+pub mod Asking
+pub mod Counting
+pub mod Joining

@@ -1,0 +1,7 @@
+use Rattle.std.proofs.Common.{◌≡◌, false, None}
+use Rattle.hand_over.specs.Ends.{house_place}
+use Rattle.hand_over.proofs.tests.answer_all.Given as goal
+
+-- every ask that was taken is answered, and the host runs
+abbrev pub invariant-loop : goal.invariant-loop
+invariant-loop g l = (l.house.view.taken ≡ None) × (l.house.view.closed ≡ false) × (house_place l.house ≡ house_place l.initial.house)

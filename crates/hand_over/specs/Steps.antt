@@ -1,0 +1,148 @@
+-- What each step on the table tells: of the step, the seat before, the number found and the seat after.
+use Rattle.std.specs.Prelude.{◌≡◌, ◌≢◌, ℕ, ◌+◌, true, false, List, [], ◌∷◌, ◌++◌, Option, Some, None}
+use mathlib.Core.Option.{some, none}
+use mathlib.Core.Option as maybe
+use lib.ListN.{get_elem?}
+use Rattle.atomic_table.specs.Table.{Me, Step}
+use Rattle.octo_asks.specs.declared.request.Ask.{Ask}
+use Rattle.octo_asks.specs.declared.answer.Answer.{Answer}
+use Rattle.octo_asks.specs.declared.entry.Entry.TheVariants as entry
+use Rattle.octo_asks.specs.declared.counter.Given.{Given}
+use Rattle.octo_asks.specs.History.{History, calls_of}
+use Rattle.hand_over.specs.declared.board.Letter.{Letter}
+use Rattle.hand_over.specs.declared.board.Letter.TheVariants.{Asked, Answered, Noted}
+use Rattle.hand_over.specs.declared.board.Stage.{Stage}
+use Rattle.hand_over.specs.declared.board.Stage.TheVariants.{Resting, Writing, Waiting, Found, Withdrawn}
+use Rattle.hand_over.specs.declared.board.WorkerView.{WorkerView}
+use Rattle.hand_over.specs.declared.board.HouseView.{HouseView}
+use Rattle.hand_over.specs.declared.board.View.{View}
+use Rattle.hand_over.specs.declared.board.View.TheVariants.{House, Worker}
+use Rattle.hand_over.specs.Views.{new_worker, worker_of, house_of, has_close}
+
+abbrev pub At : Type 0
+At = Step (Option Letter)
+
+-- a seat's view, and the slots that it has taken
+abbrev pub Taken : Type 0
+Taken = List (ℕ × Option Letter)
+
+abbrev pub Sitter : Type 0
+Sitter = Me (Option Letter) View
+
+-- what the slot that was taken last holds
+abbrev pub letter_in : Taken → Option Letter
+letter_in [] = None
+letter_in (slot ∷ slots) = slot.1
+
+-- the answer in a letter
+abbrev pub answer_in : Option Letter → Option Answer
+answer_in (Some (Answered moment answer)) = Some answer
+answer_in _ = None
+
+-- the ask in a letter
+abbrev pub ask_in : Option Letter → Option Ask
+ask_in (Some (Asked ask)) = Some ask
+ask_in _ = None
+
+-- the worker's view with another stage
+abbrev pub staged : View → Stage → View
+staged view stage = Worker (record (worker_of view) { stage = stage })
+
+-- the stage at which this letter is in the slot and asked
+abbrev pub stage_with : Option Letter → Stage
+stage_with (Some (Asked ask)) = Waiting ask
+stage_with _ = Resting
+
+-- the call that was found
+abbrev pub found_call : ℕ → Stage → History
+found_call worker (Found ask moment answer) = entry.Call worker ask moment answer ∷ []
+found_call worker _ = []
+
+-- the worker that rests again, with the call that it found
+abbrev pub rested : WorkerView → WorkerView
+rested worker = record worker { mine = worker.mine ++ found_call worker.number worker.stage; stage = Resting }
+
+-- the worker takes its slot
+abbrev pub slot_taken : At → Sitter → ℕ → Sitter → Type 0
+slot_taken st old found new = (letter : Option Letter) × (new ≡ (staged old.0 Writing, ((worker_of old.0).number, letter) ∷ []))
+
+-- the worker asks what it wrote
+abbrev pub ask_put : At → Sitter → ℕ → Sitter → Type 0
+ask_put st old found new = new ≡ (staged old.0 (stage_with (letter_in old.1)), [])
+
+-- the worker found an answer, or that its ask was never taken, or nothing
+abbrev pub answer_looked_for : At → Sitter → ℕ → Sitter → Type 0
+answer_looked_for st old found new = (ask : Ask) → (worker_of old.0).stage ≡ Waiting ask
+    → (found ≡ 2 → (moment : ℕ) × (answer : Answer)
+    × (new ≡ (staged old.0 (Found ask moment answer), ((worker_of old.0).number, Some (Answered moment answer)) ∷ [])))
+    × (found ≢ 2 → (worker_of old.0).saw_close ≡ true → new ≡ (staged old.0 (Withdrawn ask), []))
+    × (found ≢ 2 → (worker_of old.0).saw_close ≡ false → new ≡ old)
+
+-- the worker rests again
+abbrev pub idle_put : At → Sitter → ℕ → Sitter → Type 0
+idle_put st old found new = new ≡ (Worker (rested (worker_of old.0)), [])
+
+-- the worker may have seen the end
+abbrev pub close_looked_for : At → Sitter → ℕ → Sitter → Type 0
+close_looked_for st old found new =
+    (found ≡ 1 → new ≡ (Worker (record (worker_of old.0) { saw_close = true }), old.1)) × (found ≢ 1 → new ≡ old)
+
+-- the house with one look more
+abbrev pub with_look : HouseView → ℕ → ℕ → HouseView
+with_look house worker found = record house { looked = house.looked ++ (worker, found) ∷ [] }
+
+abbrev pub given : ℕ → Ask → Option Given
+given worker ask = Some (record { worker = worker; ask = ask })
+
+-- the house looked at a worker's word, and took what it asks
+abbrev pub looked : At → Sitter → ℕ → Sitter → Type 0
+looked st old found new = (worker : ℕ) → st.word ≡ worker + 1
+    → (found ≡ 1 → (ask : Ask)
+    × (new ≡ (House (record (with_look (house_of old.0) worker found) { taken = given worker ask }), (worker, Some (Asked ask)) ∷ [])))
+    × (found ≢ 1 → new ≡ (House (with_look (house_of old.0) worker found), []))
+
+-- the call of the ask that was taken, with the answer in the slot
+abbrev pub call_with : Option Given → Option Letter → History
+call_with (Some given) (Some (Answered moment answer)) = entry.Call given.worker given.ask moment answer ∷ []
+call_with _ _ = []
+
+-- the house answers: the call is in the history
+abbrev pub answer_put : At → Sitter → ℕ → Sitter → Type 0
+answer_put st old found new = new ≡ (
+  House (record (house_of old.0) {
+    history = (house_of old.0).history ++ call_with (house_of old.0).taken (letter_in old.1);
+    taken = None;
+  }),
+  [],
+)
+
+-- the note that the house says
+abbrev pub note_in : maybe.Option (Option Letter) → History
+note_in (some (Some (Noted note))) = entry.Note note ∷ []
+note_in _ = []
+
+abbrev pub note_put : At → Sitter → ℕ → Sitter → Type 0
+note_put st old found new = new ≡ (House (record (house_of old.0) { history = (house_of old.0).history ++ note_in st.said }), old.1)
+
+abbrev pub close_put : At → Sitter → ℕ → Sitter → Type 0
+close_put st old found new = new ≡ (House (record (house_of old.0) { history = (house_of old.0).history ++ entry.Close ∷ []; closed = true }), old.1)
+
+-- what the house learns of the workers that were joined
+abbrev pub learnt : At → Sitter → ℕ → Sitter → Type 0
+learnt st old found new = (new ≡ old)
+    × (has_close (house_of old.0).history ≡ (house_of old.0).closed)
+    × ((worker : ℕ) (mine : History) → get_elem? (house_of old.0).joined worker ≡ some mine
+    → calls_of worker (house_of old.0).history ≡ mine)
+
+-- the house's view once one more worker's seat is made, and that worker's view
+abbrev pub house_left : View → View
+house_left (House house) = House (record house { made = house.made + 1 })
+house_left view = view
+
+abbrev pub worker_right : View → View
+worker_right view = Worker (new_worker (house_of view).made)
+
+-- the house's view with the calls of a worker
+abbrev pub joined_with : View → View → View
+joined_with (House house) view = House (record house { joined = house.joined ++ (worker_of view).mine ∷ [] })
+joined_with house view = house

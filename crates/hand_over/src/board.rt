@@ -1,0 +1,79 @@
+//! The table that the four workers and the house share.
+//! Word 0 is the note word: 0 while the host runs, 1 once it has ended. Word w + 1 is the word of worker w: 0 idle, 1 asked,
+//! 2 answered. Slot w is worker w's.
+use atomic_table::{Seat, Shared, Table, TableRule};
+use desk_steps::Note;
+use octo_asks::{Answer, Ask, Entry, Given};
+use std::alloc::Global;
+
+/// What a slot holds, and what the house says of a turn.
+#[derive(Drop)]
+pub enum Letter {
+    Asked(Ask),
+    Answered(u64, Answer),
+    Noted(Note),
+}
+
+/// Where a worker is with its ask. No value of it is made.
+pub enum Stage {
+    /// It asks nothing, and its slot is at home.
+    Resting,
+    /// It has its slot, to write an ask.
+    Writing,
+    /// Its ask is open.
+    Waiting(Ask),
+    /// It has its slot, with the answer.
+    Found(Ask, u64, Answer),
+    /// It saw the end, and then that its ask was never taken.
+    Withdrawn(Ask),
+}
+
+/// What a worker knows. No value of it is made.
+pub struct WorkerView {
+    pub number: u64,
+    /// Its finished calls. A clause reads an array as a list, of any length.
+    pub mine: [Entry; 0],
+    pub stage: Stage,
+    pub saw_close: bool,
+}
+
+/// What the house knows. No value of it is made.
+pub struct HouseView {
+    pub history: [Entry; 0],
+    /// The ask that it took and hasn't answered.
+    pub taken: Option<Given>,
+    pub closed: bool,
+    /// How many workers' seats were made.
+    pub made: u64,
+    /// Whose words it loaded, with what it found.
+    pub looked: [(u64, u64); 0],
+    /// The finished calls of the workers that were joined, in the order of their numbers.
+    pub joined: [[Entry; 0]; 0],
+}
+
+/// What a seat at the table knows. No value of it is made.
+pub enum View {
+    House(HouseView),
+    Worker(WorkerView),
+    /// It was joined.
+    Spent,
+}
+
+/// The rule of the table.
+pub struct HandOver;
+
+impl TableRule<Option<Letter>, View, ()> for HandOver {
+    ghost use Rattle.hand_over.specs.declared.board.View.TheVariants.{House};
+    ghost use Rattle.hand_over.specs.Views.{new_house};
+    ghost use Rattle.hand_over.specs.Rule.{Kept};
+
+    ghost holds = { λ _. Kept };
+
+    ghost first = { λ _. House new_house };
+}
+
+pub(crate) type Board = Table<Option<Letter>, View, (), HandOver, Global>;
+
+pub(crate) type Words = Shared<Option<Letter>, View, (), HandOver>;
+
+pub(crate) type Place = Seat<Option<Letter>, View>;

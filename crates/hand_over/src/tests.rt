@@ -1,0 +1,147 @@
+//! The ends, with workers in threads of their own.
+ghost use Rattle.std.specs.Prelude.{◌≡◌, false, None};
+ghost use Rattle.std.specs.Thread.{IsSend, IsSync};
+ghost use Rattle.hand_over.specs.Ends.{house_place, worker_place};
+
+use crate::*;
+use octo_asks::{Answer, Ask, Asker, Closed, Counter, Next, Request};
+use octo_outside::Blob;
+use std::alloc::Global;
+use std::sync::Wait;
+use std::test::Fail;
+use std::thread::{Threads, join_mut, yield_now};
+
+fn ask(alloc: Global, request: Request) -> Result<Ask, Fail> {
+    Ok(Ask {
+        key: Blob::from_slice(alloc, b"ana-key-0123456789")?,
+        request,
+    })
+}
+
+fn answer_to(ask: Ask) -> Answer {
+    match ask.request {
+        Request::Version => Answer::Version,
+        _ => Answer::Accepted,
+    }
+}
+
+// Answers the next ask, if there is one.
+fn answer_next(house: &mut HouseEnd, moment: u64) -> bool
+    requires { (house.old.view.taken ≡ None) × (house.old.view.closed ≡ false) }
+    ensures state { (house.new.view.taken ≡ None) × (house.new.view.closed ≡ false) }
+    ensures place { house_place house.new ≡ house_place house.old }
+{
+    match house.next() {
+        Next::Asked { worker, ask } => {
+            house.answer(worker, moment, answer_to(ask));
+            true
+        }
+        Next::Nothing => false,
+    }
+}
+
+// Answers so many asks.
+fn answer_all<R: Wait>(rt: &R, house: &mut HouseEnd, asks: u64)
+    requires { (house.old.view.taken ≡ None) × (house.old.view.closed ≡ false) }
+    ensures state { (house.new.view.taken ≡ None) × (house.new.view.closed ≡ false) }
+    ensures place { house_place house.new ≡ house_place house.old }
+{
+    let mut answered = 0;
+    for _ in rt.forever() {
+        if answered >= asks {
+            return;
+        }
+        if answer_next(house, answered) {
+            answered += 1;
+        }
+        yield_now();
+    }
+}
+
+// Asks, if there is an ask.
+fn answer_of<R: Wait>(worker: &mut WorkerEnd<R>, ask: &mut Option<Ask>) -> Option<Answer>
+    ensures { worker_place worker.new ≡ worker_place worker.old }
+{
+    match worker.ask(ask.take()?) {
+        Ok(answer) => Some(answer),
+        Err(Closed) => None,
+    }
+}
+
+// Two workers ask, each in a thread of its own, while the house answers in a third one.
+fn answers_of_both<R: Threads + Wait + Send + Sync>(
+    rt: &R,
+    a: &mut WorkerEnd<R>,
+    d: &mut WorkerEnd<R>,
+    house: &mut HouseEnd,
+    asks: (Ask, Ask),
+) -> (Option<Answer>, Option<Answer>)
+    requires { (house.old.view.taken ≡ None) × (house.old.view.closed ≡ false) }
+    ensures workers { (worker_place a.new ≡ worker_place a.old)
+        × (worker_place d.new ≡ worker_place d.old) }
+    ensures state { (house.new.view.taken ≡ None) × (house.new.view.closed ≡ false) }
+    ensures place { house_place house.new ≡ house_place house.old }
+{
+    let (first, second) = asks;
+    let (mut first, mut second) = (Some(first), Some(second));
+    let (answers, ()) = join_mut(
+        rt,
+        &mut || -> (Option<Answer>, Option<Answer>)
+            requires { IsSync R.row × IsSend R.row }
+            ensures { (worker_place a.exit.now ≡ worker_place a.entry.now)
+                × (worker_place d.exit.now ≡ worker_place d.entry.now) }
+        {
+            join_mut(
+                rt,
+                &mut || -> Option<Answer>
+                    ensures { worker_place a.exit.now ≡ worker_place a.entry.now }
+                { answer_of(a, &mut first) },
+                &mut || -> Option<Answer>
+                    ensures { worker_place d.exit.now ≡ worker_place d.entry.now }
+                { answer_of(d, &mut second) },
+            )
+        },
+        &mut || -> ()
+            requires { (house.now.view.taken ≡ None) × (house.now.view.closed ≡ false) }
+            ensures state { (house.exit.now.view.taken ≡ None)
+                × (house.exit.now.view.closed ≡ false) }
+            ensures place { house_place house.exit.now ≡ house_place house.entry.now }
+        { answer_all(rt, house, 2) },
+    );
+    answers
+}
+
+#[test]
+fn nothing_at_first(rt: HostRuntime) -> Result<(), Fail> {
+    let (mut house, mut workers) = ends(rt.alloc(), &rt)?;
+    assert!(&rt; matches!(house.next(), Next::Nothing));
+    assert!(&rt; !workers.a.closed());
+    Ok(())
+}
+
+#[test]
+fn a_closed_host_takes_no_ask(rt: HostRuntime) -> Result<(), Fail> {
+    let (mut house, mut workers) = ends(rt.alloc(), &rt)?;
+    house.close();
+    let version = ask(rt.alloc(), Request::Version)?;
+    assert!(&rt; matches!(workers.c.ask(version), Err(Closed)));
+    assert!(&rt; workers.c.closed());
+    assert!(&rt; workers.d.closed());
+    let version = ask(rt.alloc(), Request::Version)?;
+    assert!(&rt; workers.c.ask(version).is_err());
+    house.end(workers);
+    Ok(())
+}
+
+#[test]
+fn each_worker_gets_its_answer(rt: HostRuntime) -> Result<(), Fail> {
+    let (mut house, workers) = ends(rt.alloc(), &rt)?;
+    let Workers { mut a, b, c, mut d } = workers;
+    let version = ask(rt.alloc(), Request::Version)?;
+    let job = ask(rt.alloc(), Request::GetJob)?;
+    let answers = answers_of_both(&rt, &mut a, &mut d, &mut house, (version, job));
+    assert!(&rt; matches!(&answers, (Some(Answer::Version), Some(Answer::Accepted))));
+    house.close();
+    house.end(Workers { a, b, c, d });
+    Ok(())
+}
