@@ -1,8 +1,8 @@
 #!/usr/bin/env python3
-"""Records the messages that common HTTP clients send, for octo_http.
+"""Records the messages that common HTTP clients send, for client_messages.
 
 Each client that is installed sends a few requests to a listener on this machine, which answers each connection with 200
-and keeps what came: crates/octo_http/data/CLIENT_REQUEST.http. Usage: scripts/record_clients.py
+and keeps what came: crates/client_messages/data/CLIENT_REQUEST.http. Usage: scripts/record_clients.py
 """
 import os
 import shutil
@@ -12,7 +12,7 @@ import tempfile
 import threading
 
 HERE = os.path.dirname(os.path.abspath(__file__))
-DATA = os.path.join(HERE, "..", "crates", "octo_http", "data")
+DATA = os.path.join(HERE, "..", "crates", "client_messages", "data")
 REPLY = b"HTTP/1.1 200 OK\r\nConnection: close\r\nContent-Length: 0\r\n\r\n"
 KEY = "0123456789abcdef"
 JOB = '{"command":"start"}'
@@ -53,7 +53,7 @@ def record(name, command):
                         asked = True
                 conn.sendall(REPLY)
 
-        thread = threading.Thread(target=serve)
+        thread = threading.Thread(target=serve, daemon=True)
         thread.start()
         command(port)
         thread.join()
@@ -64,7 +64,7 @@ def record(name, command):
 
 def run(*words):
     return lambda port: subprocess.run(
-        [word.replace("PORT", str(port)) for word in words], check=True, timeout=20, capture_output=True)
+        [word.replace("PORT", str(port)) for word in words], check=True, timeout=60, capture_output=True)
 
 
 def url(path):

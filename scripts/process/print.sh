@@ -102,6 +102,8 @@ print_row "the second line lost" 'G28\nG1 X10\n' '4 4 2 -' \
 scripted='N1 M110 N1\nN2 M107\nN3 G28\nN4 G1 X10\nN5 M84\n'
 print_row "scripts, and the last line lost" 'G28\nG1 X10\n' '4 4 5 -' \
     'done: 2 commands, 0 skipped\n' 0 "$scripted" "--settings $work/scripts.toml --turns 50000"
+print_row "scripts round an empty file" '' '4 4 - -' \
+    'done: 0 commands, 0 skipped\n' 0 'N1 M110 N1\nN2 M107\nN3 M84\n' "--settings $work/scripts.toml --turns 50000"
 kill_row
 over=unix
 print_row "two commands over a Unix socket" 'G28\nG1 X10\n' '4 4 - -' \

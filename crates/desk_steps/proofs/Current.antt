@@ -27,14 +27,16 @@ Stage scripts p commands Connecting cursor waiting lines = ⊥
 Stage scripts p commands Operational cursor waiting lines = ⊥
 Stage scripts p commands Printing cursor waiting lines = Body scripts p commands cursor lines
 Stage scripts p commands Pausing cursor waiting lines = (l : List Line) × Body scripts p commands cursor l × (lines ≡ l ++ script_lines scripts point.Paused p)
-Stage scripts p commands Paused cursor waiting lines = (l : List Line) × Body scripts p commands cursor l × (lines ≡ l ++ script_lines scripts point.Paused p) × (waiting ≡ [])
+Stage scripts p commands Paused cursor waiting lines = (l : List Line) × Body scripts p commands cursor l × (lines ≡ l ++ script_lines scripts point.Paused p)
+    × (waiting ≡ [])
 Stage scripts p commands Cancelling cursor waiting lines = Course scripts p commands course.Cancelled lines
 Stage scripts p commands Finishing cursor waiting lines = Course scripts p commands course.Done lines
 Stage scripts p commands Closing cursor waiting lines = (e : End) × Course scripts p commands e lines
 Stage scripts p commands Fault cursor waiting lines = ⊥
 
 -- the desk's print with these file commands, of which these lines were pulled
-pub record Current (p : ℕ) (commands : List (List ℕ)) (out : List Line) (scripts : ScriptTexts) (state : State) (texts : List (List ℕ)) (greatest : ℕ) (active : Bool) (cursor : ℕ) (waiting : List Line) : Type 0 where
+pub record Current (p : ℕ) (commands : List (List ℕ)) (out : List Line) (scripts : ScriptTexts) (state : State) (texts : List (List ℕ)) (greatest : ℕ)
+    (active : Bool) (cursor : ℕ) (waiting : List Line) : Type 0 where
   pub is : greatest ≡ p
   pub active_is : active ≡ true
   pub texts_are : texts ≡ commands
@@ -47,11 +49,13 @@ module _ (p : ℕ) (commands : List (List ℕ)) where
   abbrev At : ScriptTexts → State → ℕ → List Line → List Line → Type 0
   At scripts state cursor waiting lines = Stage scripts p commands state cursor waiting lines
 
-  stage_is : (out : List Line) (d : Data) (s : State) → d.state ≡ s → CurrentTo p commands out d → At d.scripts s d.cursor d.waiting (out ++ lines_of p d.waiting)
+  stage_is : (out : List Line) (d : Data) (s : State) → d.state ≡ s → CurrentTo p commands out d →
+      At d.scripts s d.cursor d.waiting (out ++ lines_of p d.waiting)
   stage_is out d s e h = subst (λ t. At d.scripts t d.cursor d.waiting (out ++ lines_of p d.waiting)) e h.stage
 
   -- a state in which no print is going on
-  nowhere : (X : Type 0) (out : List Line) (d : Data) (s : State) → d.state ≡ s → (At d.scripts s d.cursor d.waiting (out ++ lines_of p d.waiting) → ⊥) → CurrentTo p commands out d → X
+  nowhere : (X : Type 0) (out : List Line) (d : Data) (s : State) → d.state ≡ s → (At d.scripts s d.cursor d.waiting (out ++ lines_of p d.waiting) → ⊥) →
+      CurrentTo p commands out d → X
   nowhere X out d s e none h = absurd (none (stage_is out d s e h))
 
   -- a script of the print joins the waiting lines
@@ -62,16 +66,19 @@ module _ (p : ℕ) (commands : List (List ℕ)) where
     is = h.is;
     active_is = h.active_is;
     texts_are = h.texts_are;
-    stage = subst (λ l. At d.scripts s d.cursor (d.waiting ++ script_lines d.scripts at d.greatest) l) (sym (waits_own out d.waiting d.scripts at p d.greatest h.is)) new;
+    stage = subst (λ l. At d.scripts s d.cursor (d.waiting ++ script_lines d.scripts at d.greatest) l)
+        (sym (waits_own out d.waiting d.scripts at p d.greatest h.is)) new;
   }
 
-  pub current-connect : (out : List Line) (s : State) (port : List ℕ) (d : Data) → d.state ≡ s → CurrentTo p commands out d → CurrentTo p commands out (connect_at s port d).1
+  pub current-connect : (out : List Line) (s : State) (port : List ℕ) (d : Data) → d.state ≡ s → CurrentTo p commands out d →
+      CurrentTo p commands out (connect_at s port d).1
   current-connect out Offline port d e h = nowhere _ out d Offline e (λ x. x) h
   current-connect out Fault port d e h = nowhere _ out d Fault e (λ x. x) h
   current-connect out _ port d e h = h
 
   -- the lines so far are a course
-  going : (scripts : ScriptTexts) (s : State) (cursor : ℕ) (waiting lines : List Line) → At scripts s cursor waiting lines → (e : End) × Course scripts p commands e lines
+  going : (scripts : ScriptTexts) (s : State) (cursor : ℕ) (waiting lines : List Line) → At scripts s cursor waiting lines →
+      (e : End) × Course scripts p commands e lines
   going scripts Printing cursor waiting lines b = (Open, still_open cursor lines b)
   going scripts Pausing cursor waiting lines b = (course.Paused, subst (λ l. Course scripts p commands course.Paused l) (sym b.2) (paused cursor b.0 b.1))
   going scripts Paused cursor waiting lines b = (course.Paused, subst (λ l. Course scripts p commands course.Paused l) (sym b.2) (paused cursor b.0 b.1))
@@ -85,7 +92,8 @@ module _ (p : ℕ) (commands : List (List ℕ)) where
 
   pub begun : (out : List Line) (d : Data) → CurrentTo p commands out d → IsBegun d.scripts p commands out
   begun out d h =
-      let c = going d.scripts d.state d.cursor d.waiting (out ++ lines_of p d.waiting) h.stage in record { end = c.0; rest = lines_of p d.waiting; course = c.1 }
+      let c = going d.scripts d.state d.cursor d.waiting (out ++ lines_of p d.waiting) h.stage in
+      record { end = c.0; rest = lines_of p d.waiting; course = c.1 }
 
   -- the end of the connection begins: the script that joins is no print's
   to_closing : nat_eq 0 p ≡ false → (out : List Line) (d : Data) → CurrentTo p commands out d → CurrentTo p commands out (closing d)
@@ -98,21 +106,24 @@ module _ (p : ℕ) (commands : List (List ℕ)) where
         (c.0, subst (λ l. Course d.scripts p commands c.0 (out ++ l)) (sym (waits_other d.waiting d.scripts point.Disconnect p 0 z)) c.1);
   }
 
-  pub current-disconnect : nat_eq 0 p ≡ false → (out : List Line) (s : State) (d : Data) → d.state ≡ s → CurrentTo p commands out d → CurrentTo p commands out (disconnect_at s d)
+  pub current-disconnect : nat_eq 0 p ≡ false → (out : List Line) (s : State) (d : Data) → d.state ≡ s → CurrentTo p commands out d →
+      CurrentTo p commands out (disconnect_at s d)
   current-disconnect z out Offline d e h = h
   current-disconnect z out Closing d e h = h
   current-disconnect z out Connecting d e h = nowhere _ out d Connecting e (λ x. x) h
   current-disconnect z out Fault d e h = nowhere _ out d Fault e (λ x. x) h
   current-disconnect z out _ d e h = to_closing z out d h
 
-  pub current-select : (out : List Line) (s : State) (file : File) (d : Data) → d.state ≡ s → CurrentTo p commands out d → CurrentTo p commands out (select_at s file d).1
+  pub current-select : (out : List Line) (s : State) (file : File) (d : Data) → d.state ≡ s → CurrentTo p commands out d →
+      CurrentTo p commands out (select_at s file d).1
   current-select out Offline file d e h = nowhere _ out d Offline e (λ x. x) h
   current-select out Connecting file d e h = nowhere _ out d Connecting e (λ x. x) h
   current-select out Operational file d e h = nowhere _ out d Operational e (λ x. x) h
   current-select out Fault file d e h = nowhere _ out d Fault e (λ x. x) h
   current-select out _ file d e h = h
 
-  choose_pair : {X : Type 0} (out : List Line) (b : Bool) (x y : X × Data) → CurrentTo p commands out x.1 → CurrentTo p commands out y.1 → CurrentTo p commands out (cond b x y).1
+  choose_pair : {X : Type 0} (out : List Line) (b : Bool) (x y : X × Data) → CurrentTo p commands out x.1 → CurrentTo p commands out y.1 →
+      CurrentTo p commands out (cond b x y).1
   choose_pair out true x y hx hy = hx
   choose_pair out false x y hx hy = hy
 
@@ -123,13 +134,16 @@ module _ (p : ℕ) (commands : List (List ℕ)) where
   pub current-drop_file : (out : List Line) (name : List ℕ) (d : Data) → CurrentTo p commands out d → CurrentTo p commands out (drop_file_step name d).1
   current-drop_file out name d h = choose_pair out (is_named name d.file) _ _ (held_file out d.active _ _ h.active_is h) h
 
-  to_pausing : (out : List Line) (d : Data) → d.state ≡ Printing → CurrentTo p commands out d → CurrentTo p commands out (with_script point.Paused d.greatest (record d { state = Pausing }))
+  to_pausing : (out : List Line) (d : Data) → d.state ≡ Printing → CurrentTo p commands out d →
+      CurrentTo p commands out (with_script point.Paused d.greatest (record d { state = Pausing }))
   to_pausing out d e h = joins point.Paused out d Pausing h (_, stage_is out d Printing e h, refl)
 
-  to_resumed : (out : List Line) (d : Data) → d.state ≡ Paused → CurrentTo p commands out d → CurrentTo p commands out (with_script point.Resumed d.greatest (record d { state = Printing }))
+  to_resumed : (out : List Line) (d : Data) → d.state ≡ Paused → CurrentTo p commands out d →
+      CurrentTo p commands out (with_script point.Resumed d.greatest (record d { state = Printing }))
   to_resumed out d e h =
       let s = stage_is out d Paused e h in
-      joins point.Resumed out d Printing h (subst (λ l. Body d.scripts p commands d.cursor (l ++ script_lines d.scripts point.Resumed p)) (sym s.2) (round d.cursor s.0 s.1))
+      joins point.Resumed out d Printing h (subst (λ l. Body d.scripts p commands d.cursor (l ++ script_lines d.scripts point.Resumed p)) (sym s.2)
+      (round d.cursor s.0 s.1))
 
   pub current-pause : (out : List Line) (s : State) (d : Data) → d.state ≡ s → CurrentTo p commands out d → CurrentTo p commands out (pause_at s d).1
   current-pause out Printing d e h = to_pausing out d e h
@@ -144,19 +158,24 @@ module _ (p : ℕ) (commands : List (List ℕ)) where
   current-toggle out Paused d e h = to_resumed out d e h
   current-toggle out _ d e h = h
 
-  cancelled_after : (scripts : ScriptTexts) (cursor : ℕ) (l lines : List Line) → Body scripts p commands cursor l → lines ≡ l ++ script_lines scripts point.Paused p → Course scripts p commands course.Cancelled (lines ++ script_lines scripts point.Cancelled p)
-  cancelled_after scripts cursor l lines b e = subst (λ m. Course scripts p commands course.Cancelled (m ++ script_lines scripts point.Cancelled p)) (sym e) (cancelled_paused cursor l b)
+  cancelled_after : (scripts : ScriptTexts) (cursor : ℕ) (l lines : List Line) → Body scripts p commands cursor l →
+      lines ≡ l ++ script_lines scripts point.Paused p → Course scripts p commands course.Cancelled (lines ++ script_lines scripts point.Cancelled p)
+  cancelled_after scripts cursor l lines b e = subst (λ m. Course scripts p commands course.Cancelled (m ++ script_lines scripts point.Cancelled p)) (sym e)
+      (cancelled_paused cursor l b)
 
   pub current-cancel : (out : List Line) (s : State) (d : Data) → d.state ≡ s → CurrentTo p commands out d → CurrentTo p commands out (cancel_at s d).1
   current-cancel out Printing d e h = joins point.Cancelled out d Cancelling h (cancelled d.cursor _ (stage_is out d Printing e h))
-  current-cancel out Pausing d e h = let s = stage_is out d Pausing e h in joins point.Cancelled out d Cancelling h (cancelled_after d.scripts d.cursor s.0 _ s.1 s.2)
-  current-cancel out Paused d e h = let s = stage_is out d Paused e h in joins point.Cancelled out d Cancelling h (cancelled_after d.scripts d.cursor s.0 _ s.1 s.2)
+  current-cancel out Pausing d e h = let s = stage_is out d Pausing e h in
+      joins point.Cancelled out d Cancelling h (cancelled_after d.scripts d.cursor s.0 _ s.1 s.2)
+  current-cancel out Paused d e h = let s = stage_is out d Paused e h in
+      joins point.Cancelled out d Cancelling h (cancelled_after d.scripts d.cursor s.0 _ s.1 s.2)
   current-cancel out _ d e h = h
 
   current-add : (out : List Line) (lines : List (List ℕ)) (d : Data) → CurrentTo p commands out d → CurrentTo p commands out (add_manual lines d).1
   current-add out lines d h = choose_pair out _ _ _ h h
 
-  pub current-manual : (out : List Line) (s : State) (lines : List (List ℕ)) (d : Data) → CurrentTo p commands out d → CurrentTo p commands out (manual_at s lines d).1
+  pub current-manual : (out : List Line) (s : State) (lines : List (List ℕ)) (d : Data) → CurrentTo p commands out d →
+      CurrentTo p commands out (manual_at s lines d).1
   current-manual out Operational lines d h = current-add out lines d h
   current-manual out Printing lines d h = current-add out lines d h
   current-manual out Pausing lines d h = current-add out lines d h
@@ -195,7 +214,8 @@ module _ (p : ℕ) (commands : List (List ℕ)) where
   other_issue out line d e h = current-issue out line d (subst (λ o. CurrentTo p commands o d) (sym (append-nil out) ∙ ap (λ l. out ++ l) (sym e)) h)
 
   -- a waiting line that was pulled stands among the lines as before
-  stays : (scripts : ScriptTexts) (s : State) (cursor : ℕ) (line : Line) (rest lines : List Line) → At scripts s cursor (line ∷ rest) lines → At scripts s cursor rest lines
+  stays : (scripts : ScriptTexts) (s : State) (cursor : ℕ) (line : Line) (rest lines : List Line) → At scripts s cursor (line ∷ rest) lines →
+      At scripts s cursor rest lines
   stays scripts Printing cursor line rest lines b = b
   stays scripts Pausing cursor line rest lines b = b
   stays scripts Paused cursor line rest lines b = absurd (cc (b.3))
@@ -204,48 +224,57 @@ module _ (p : ℕ) (commands : List (List ℕ)) where
   stays scripts Closing cursor line rest lines b = b
   stays scripts _ cursor line rest lines b = absurd b
 
-  current-scripts : (out : List Line) (w : List Line) (d : Data) (next : Drawn) → d.waiting ≡ w → CurrentTo p commands out d → (d.waiting ≡ [] → CurrentDrawn out next) → CurrentDrawn out (from_scripts w d next)
+  current-scripts : (out : List Line) (w : List Line) (d : Data) (next : Drawn) → d.waiting ≡ w → CurrentTo p commands out d →
+      (d.waiting ≡ [] → CurrentDrawn out next) → CurrentDrawn out (from_scripts w d next)
   current-scripts out [] d next e h k = k e
   current-scripts out (line ∷ rest) d next e h k = current-issue out line (record d { waiting = rest }) (record {
     is = h.is;
     active_is = h.active_is;
     texts_are = h.texts_are;
     stage =
-        let b : At d.scripts d.state d.cursor (line ∷ rest) (out ++ lines_of p (line ∷ rest)) = subst (λ w. At d.scripts d.state d.cursor w (out ++ lines_of p w)) e h.stage in
+        let b : At d.scripts d.state d.cursor (line ∷ rest) (out ++ lines_of p (line ∷ rest)) =
+        subst (λ w. At d.scripts d.state d.cursor w (out ++ lines_of p w)) e h.stage in
         subst (λ l. At d.scripts d.state d.cursor rest l) (goes_over p out line rest) (stays d.scripts d.state d.cursor line rest _ b);
   })
 
-  current-from_manual : (out : List Line) (m : List (List ℕ)) (d : Data) (next : Drawn) → CurrentTo p commands out d → CurrentDrawn out next → CurrentDrawn out (from_manual m d next)
+  current-from_manual : (out : List Line) (m : List (List ℕ)) (d : Data) (next : Drawn) → CurrentTo p commands out d → CurrentDrawn out next →
+      CurrentDrawn out (from_manual m d next)
   current-from_manual out [] d next h k = k
   current-from_manual out (text ∷ texts) d next h k = other_issue out (record { text = text; tag = Manual }) (record d { manual = texts }) refl h
 
-  current-poll : (out : List Line) (moment : ℕ) (d : Data) (next : Drawn) → CurrentTo p commands out d → CurrentDrawn out next → CurrentDrawn out (from_poll moment d next)
+  current-poll : (out : List Line) (moment : ℕ) (d : Data) (next : Drawn) → CurrentTo p commands out d → CurrentDrawn out next →
+      CurrentDrawn out (from_poll moment d next)
   current-poll out moment d next h k =
-      choose_drawn out (poll_is_due moment d) _ next (other_issue out (record { text = codes "M105"; tag = Poll }) (record d { poll_at = moment_after moment d.poll_ms }) refl h) k
+      choose_drawn out (poll_is_due moment d) _ next (other_issue out (record { text = codes "M105"; tag = Poll })
+      (record d { poll_at = moment_after moment d.poll_ms }) refl h) k
 
   own_job : (d : Data) (text : List ℕ) → d.greatest ≡ p → own p (job_line d.greatest d.cursor text) ≡ job_line p d.cursor text ∷ []
   own_job d text e =
       ap (λ (k : ℕ). own p (job_line k d.cursor text)) e ∙ ap (λ (b : Bool). cond b (job_line p d.cursor text ∷ []) []) (same_test p)
 
   -- the file command at the cursor
-  current-file : (out : List Line) (text : Option (List ℕ)) (d : Data) → slice_get (commands_of d.file) d.cursor ≡ text → d.state ≡ Printing → CurrentTo p commands out d → d.waiting ≡ [] → CurrentDrawn out (from_file text d)
+  current-file : (out : List Line) (text : Option (List ℕ)) (d : Data) → slice_get (commands_of d.file) d.cursor ≡ text → d.state ≡ Printing →
+      CurrentTo p commands out d → d.waiting ≡ [] → CurrentDrawn out (from_file text d)
   current-file out None d t e h w = h
   current-file out (Some text) d t e h w = current-issue out (job_line d.greatest d.cursor text) (record d { cursor = d.cursor + 1 }) (record {
     is = h.is;
     active_is = h.active_is;
     texts_are = h.texts_are;
     stage =
-        let b : Body d.scripts p commands d.cursor out = subst (λ l. Body d.scripts p commands d.cursor l) (ap (λ w. out ++ lines_of p w) w ∙ append-nil out) (stage_is out d Printing e h) in
+        let b : Body d.scripts p commands d.cursor out = subst (λ l. Body d.scripts p commands d.cursor l) (ap (λ w. out ++ lines_of p w) w ∙ append-nil out)
+        (stage_is out d Printing e h) in
         let there : slice_get commands d.cursor ≡ Some text = ap (λ c. slice_get c d.cursor) (sym h.texts_are) ∙ t in
         let more : Body d.scripts p commands (suc d.cursor) (out ++ job_line p d.cursor text ∷ []) = command d.cursor text out b there in
         let lines : (out ++ own p (job_line d.greatest d.cursor text)) ++ lines_of p d.waiting ≡ out ++ job_line p d.cursor text ∷ [] =
         ap (λ w. (out ++ own p (job_line d.greatest d.cursor text)) ++ lines_of p w) w ∙ append-nil _ ∙ ap (λ l. out ++ l) (own_job d text h.is) in
         let next : suc d.cursor ≡ d.cursor + 1 = omega arith in
         subst (λ s. At d.scripts s (d.cursor + 1) d.waiting ((out ++ own p (job_line d.greatest d.cursor text)) ++ lines_of p d.waiting)) (sym e)
-        (subst (λ l. Body d.scripts p commands (d.cursor + 1) l) (sym lines) (subst (λ n. Body d.scripts p commands n (out ++ job_line p d.cursor text ∷ [])) next more));
+        (subst (λ l. Body d.scripts p commands (d.cursor + 1) l) (sym lines)
+        (subst (λ n. Body d.scripts p commands n (out ++ job_line p d.cursor text ∷ [])) next more));
   })
 
-  current-talk : (out : List Line) (moment : ℕ) (d : Data) (next : Drawn) → CurrentTo p commands out d → (d.waiting ≡ [] → CurrentDrawn out next) → CurrentDrawn out (talk moment d next)
+  current-talk : (out : List Line) (moment : ℕ) (d : Data) (next : Drawn) → CurrentTo p commands out d → (d.waiting ≡ [] → CurrentDrawn out next) →
+      CurrentDrawn out (talk moment d next)
   current-talk out moment d next h k =
       current-scripts out d.waiting d _ refl h (λ w. current-from_manual out d.manual d _ h (current-poll out moment d next h (k w)))
 
@@ -260,12 +289,14 @@ module _ (p : ℕ) (commands : List (List ℕ)) where
   current-draw out _ moment d e h = h
 
   -- all commands were issued
-  all_issued : (out : List Line) (d : Data) → is_issued d ≡ true → d.state ≡ Printing → CurrentTo p commands out d → Body d.scripts p commands (length commands) (out ++ lines_of p d.waiting)
+  all_issued : (out : List Line) (d : Data) → is_issued d ≡ true → d.state ≡ Printing → CurrentTo p commands out d →
+      Body d.scripts p commands (length commands) (out ++ lines_of p d.waiting)
   all_issued out d t e h =
       let at_end : d.cursor ≡ length (commands_of d.file) = grind (arith, nat_tests) in
       subst (λ n. Body d.scripts p commands n (out ++ lines_of p d.waiting)) (at_end ∙ ap length h.texts_are) (stage_is out d Printing e h)
 
-  settle_if : (out : List Line) (b : Bool) (d : Data) → is_issued d ≡ b → d.state ≡ Printing → CurrentTo p commands out d → CurrentTo p commands out (cond b (with_script point.Done d.greatest (record d { state = Finishing })) d)
+  settle_if : (out : List Line) (b : Bool) (d : Data) → is_issued d ≡ b → d.state ≡ Printing → CurrentTo p commands out d →
+      CurrentTo p commands out (cond b (with_script point.Done d.greatest (record d { state = Finishing })) d)
   settle_if out true d t e h = joins point.Done out d Finishing h (with_done _ (all_issued out d t e h))
   settle_if out false d t e h = h
 

@@ -30,10 +30,11 @@ LeavesFree outcome.Done acked found e = IsFree acked e
 LeavesFree outcome.Cancelled acked found e = IsFree acked e ⊎ (found ≡ fact.Closed)
 LeavesFree outcome.Failed acked found e = Unit {0}
 
--- what one note of a desk gives and leaves: no ending and the print as it was, or an ending
+-- what one note of a desk returns and leaves: no ending and the print as it was, or an ending, after which no print is
+-- active
 abbrev pub EndsIn : ℕ → LinkFact → Data → Option Ending → Data → Type 0
 EndsIn acked found d None e = (e.active ≡ d.active) × (e.greatest ≡ d.greatest)
-EndsIn acked found d (Some ending) e = IsEnding acked found d ending × LeavesFree ending.outcome acked found e
+EndsIn acked found d (Some ending) e = IsEnding acked found d ending × LeavesFree ending.outcome acked found e × (e.active ≡ false)
 
 over_line : (t : Data) → is_over t ≡ true → t.print_line ≤ t.acked
 over_line t over = grind (arith, nat_tests)
@@ -74,10 +75,12 @@ module _ (acked : ℕ) (f : LinkFact) (d : Data) where
       by = by (record { no_script = sym tested.waiting ∙ over_waiting t over; last_line = tested.line (over_line t over) });
     },
     leaves (finish how t).1 (record { no_print = refl; no_script = over_waiting t over; last_line = tested.left (over_line t over) }),
+    refl,
   )
   end_if how false t over tested active by leaves = (tested.active, tested.greatest)
 
-  pause_if : (b : Bool) (t : Data) → IsTested t → EndsIn acked f d (cond {A = Noted} b (None, record t { state = Paused }) (None, t)).0 (cond {A = Noted} b (None, record t { state = Paused }) (None, t)).1
+  pause_if : (b : Bool) (t : Data) → IsTested t → EndsIn acked f d (cond {A = Noted} b (None, record t { state = Paused }) (None, t)).0
+      (cond {A = Noted} b (None, record t { state = Paused }) (None, t)).1
   pause_if true t tested = (tested.active, tested.greatest)
   pause_if false t tested = (tested.active, tested.greatest)
 
@@ -92,7 +95,7 @@ module _ (acked : ℕ) (f : LinkFact) (d : Data) where
   leave_ends : (how : Outcome) (s : State) (b : Bool) (t : Data) → t.active ≡ b → t.active ≡ d.active → t.greatest ≡ d.greatest →
       EndsAs how acked f d → ((e : Data) → LeavesFree how acked f e) →
       EndsIn acked f d (cond b (Some (record { print = t.greatest; outcome = how })) None) (record t { state = s; active = false; waiting = []; manual = [] })
-  leave_ends how s true t is same print by leaves = (record { active = sym same ∙ is; print = print; by = by }, leaves (leave s how t).1)
+  leave_ends how s true t is same print by leaves = (record { active = sym same ∙ is; print = print; by = by }, leaves (leave s how t).1, refl)
   leave_ends how s false t is same print by leaves = (sym is ∙ same, print)
 
   left_fails : (how : Outcome) (t : Data) → LeavesFree how acked f t → LeavesFree how acked f (leave Fault outcome.Failed t).1
@@ -104,7 +107,7 @@ module _ (acked : ℕ) (f : LinkFact) (d : Data) where
 
   fail_ends : (noted : Noted) → is_failure f ≡ true → EndsIn acked f d noted.0 noted.1 → EndsIn acked f d (fail noted).0 (fail noted).1
   fail_ends (None, t) fails ends = leave_ends outcome.Failed Fault t.active t refl ends.0 ends.1 fails (λ e. tt)
-  fail_ends (Some ending, t) fails ends = (ends.0, left_fails ending.outcome t ends.1)
+  fail_ends (Some ending, t) fails ends = (ends.0, left_fails ending.outcome t ends.1, refl)
 
   left_settles : (how : Outcome) (t : Data) → LeavesFree how acked f t → LeavesFree how acked f (settled t)
   left_settles outcome.Active t left = tt
@@ -115,33 +118,44 @@ module _ (acked : ℕ) (f : LinkFact) (d : Data) where
 
   settle_ends : (gave : Option Ending) (t : Data) → EndsIn acked f d gave t → EndsIn acked f d gave (settled t)
   settle_ends None t ends = ((settle_print t.state t).0 ∙ ends.0, (settle_print t.state t).1 ∙ ends.1)
-  settle_ends (Some ending) t ends = (ends.0, left_settles ending.outcome t ends.1)
+  settle_ends (Some ending) t ends = (ends.0, left_settles ending.outcome t ends.1, (settle_print t.state t).0 ∙ ends.2)
 
   some_ending : (gave : Option Ending) (t : Data) → EndsIn acked f d gave t → IfSome gave (λ ending. IsEnding acked f d ending)
   some_ending None t ends = tt
   some_ending (Some ending) t ends = ends.0
 
+  none_active : (gave : Option Ending) (t : Data) → EndsIn acked f d gave t → IfSome gave (λ ending. t.active ≡ false)
+  none_active None t ends = tt
+  none_active (Some ending) t ends = ends.2
+
 module _ (acked moment : ℕ) (d : Data) (going : IsActive d) where
   ready_ends : (s : State) → d.state ≡ s →
-      EndsIn acked fact.Ready d (ended (ready_at s moment (record d { acked = acked; ready = true }))).0 (ended (ready_at s moment (record d { acked = acked; ready = true }))).1
+      EndsIn acked fact.Ready d (ended (ready_at s moment (record d { acked = acked; ready = true }))).0
+      (ended (ready_at s moment (record d { acked = acked; ready = true }))).1
   ready_ends Connecting e = (refl, refl)
   ready_ends _ e =
-      end_ends acked fact.Ready d going d.state (record d { acked = acked; ready = true }) refl (record { active = refl; greatest = refl; waiting = refl; line = λ l. inr l; left = λ l. l })
+      end_ends acked fact.Ready d going d.state (record d { acked = acked; ready = true }) refl
+      (record { active = refl; greatest = refl; waiting = refl; line = λ l. inr l; left = λ l. l })
 
   fact_ends : (f : LinkFact) → EndsIn acked f d (note_fact f moment (record d { acked = acked })).0 (note_fact f moment (record d { acked = acked })).1
   fact_ends fact.Quiet =
-      end_ends acked fact.Quiet d going d.state (record d { acked = acked }) refl (record { active = refl; greatest = refl; waiting = refl; line = λ l. inr l; left = λ l. l })
+      end_ends acked fact.Quiet d going d.state (record d { acked = acked }) refl
+      (record { active = refl; greatest = refl; waiting = refl; line = λ l. inr l; left = λ l. l })
   fact_ends fact.Opened =
-      end_ends acked fact.Opened d going d.state (opened (record d { acked = acked })) refl (record { active = refl; greatest = refl; waiting = refl; line = λ l. inl refl; left = λ l. (let none : 0 ≤ acked = omega arith in none) })
+      end_ends acked fact.Opened d going d.state (opened (record d { acked = acked })) refl
+      (record { active = refl; greatest = refl; waiting = refl; line = λ l. inl refl; left = λ l. (let none : 0 ≤ acked = omega arith in none) })
   fact_ends fact.Ready = ready_ends d.state refl
-  fact_ends fact.Closed = leave_ends acked fact.Closed d outcome.Cancelled Offline d.active (record d { acked = acked }) refl refl refl (inr refl) (λ e. inr refl)
+  fact_ends fact.Closed = leave_ends acked fact.Closed d outcome.Cancelled Offline d.active (record d { acked = acked }) refl refl refl (inr refl)
+      (λ e. inr refl)
   fact_ends fact.NoPort = leave_ends acked fact.NoPort d outcome.Failed Fault d.active (record d { acked = acked }) refl refl refl refl (λ e. tt)
   fact_ends fact.Failed =
       fail_ends acked fact.Failed d (ended (record d { acked = acked })) refl
-      (end_ends acked fact.Failed d going d.state (record d { acked = acked }) refl (record { active = refl; greatest = refl; waiting = refl; line = λ l. inr l; left = λ l. l }))
+      (end_ends acked fact.Failed d going d.state (record d { acked = acked }) refl
+      (record { active = refl; greatest = refl; waiting = refl; line = λ l. inr l; left = λ l. l }))
   fact_ends (fact.Ended end) =
       fail_ends acked (fact.Ended end) d (ended (record d { acked = acked })) refl
-      (end_ends acked (fact.Ended end) d going d.state (record d { acked = acked }) refl (record { active = refl; greatest = refl; waiting = refl; line = λ l. inr l; left = λ l. l }))
+      (end_ends acked (fact.Ended end) d going d.state (record d { acked = acked }) refl
+      (record { active = refl; greatest = refl; waiting = refl; line = λ l. inr l; left = λ l. l }))
 
   pub note_ends : (f : LinkFact) → EndsIn acked f d (note_step acked f moment d).0 (note_step acked f moment d).1
   note_ends f =
@@ -151,3 +165,8 @@ module _ (acked moment : ℕ) (d : Data) (going : IsActive d) where
 -- the ending of a note, under any name
 pub ending_is : (acked : ℕ) (f : LinkFact) (moment : ℕ) (d : Data) → IsActive d → IfSome (note_step acked f moment d).0 (λ ending. IsEnding acked f d ending)
 ending_is acked f moment d going = some_ending acked f d (note_step acked f moment d).0 (note_step acked f moment d).1 (note_ends acked moment d going f)
+
+-- after the ending of a note no print is active
+pub ending_rests : (acked : ℕ) (f : LinkFact) (moment : ℕ) (d : Data) → IsActive d →
+    IfSome (note_step acked f moment d).0 (λ ending. (note_step acked f moment d).1.active ≡ false)
+ending_rests acked f moment d going = none_active acked f d (note_step acked f moment d).0 (note_step acked f moment d).1 (note_ends acked moment d going f)

@@ -58,12 +58,14 @@ module _ (p : ℕ) where
   other_print : (d : Data) (s : State) → d.state ≡ s → (IsIdle s → ⊥) → ForeignTo p d → nat_eq d.greatest p ≡ false
   other_print d s e busy f = elim f.other [ inl o ↦ o | inr o ↦ absurd (busy (subst IsIdle e o.1)) ]
 
-  busy_script : (at : Point) (d : Data) (s next : State) → d.state ≡ s → (IsIdle s → ⊥) → ForeignTo p d → Foreign p (d.waiting ++ script_lines d.scripts at d.greatest) d.greatest d.active next
+  busy_script : (at : Point) (d : Data) (s next : State) → d.state ≡ s → (IsIdle s → ⊥) → ForeignTo p d →
+      Foreign p (d.waiting ++ script_lines d.scripts at d.greatest) d.greatest d.active next
   busy_script at d s next e busy f =
       let o = other_print d s e busy f in record { none = waits_other d.waiting d.scripts at p d.greatest o ∙ f.none; other = inl o }
 
   -- a script of no print
-  free_script : (at : Point) (d : Data) (next : State) → nat_eq 0 p ≡ false → IsIdle next → ForeignTo p d → Foreign p (d.waiting ++ script_lines d.scripts at 0) d.greatest d.active next
+  free_script : (at : Point) (d : Data) (next : State) → nat_eq 0 p ≡ false → IsIdle next → ForeignTo p d →
+      Foreign p (d.waiting ++ script_lines d.scripts at 0) d.greatest d.active next
   free_script at d next z i f = record { none = waits_other d.waiting d.scripts at p 0 z ∙ f.none; other = (idle d next i f).other }
 
   pub foreign-connect : (s : State) (port : List ℕ) (d : Data) → d.state ≡ s → ForeignTo p d → ForeignTo p (connect_at s port d).1
@@ -164,7 +166,8 @@ module _ (p : ℕ) where
 
   foreign-poll : (moment : ℕ) (d : Data) (next : Drawn) → ForeignTo p d → ForeignDrawn next → ForeignDrawn (from_poll moment d next)
   foreign-poll moment d next f h =
-      choose_drawn (poll_is_due moment d) _ next (foreign-issue (record { text = codes "M105"; tag = Poll }) (record d { poll_at = moment_after moment d.poll_ms }) refl f) h
+      choose_drawn (poll_is_due moment d) _ next (foreign-issue (record { text = codes "M105"; tag = Poll })
+      (record d { poll_at = moment_after moment d.poll_ms }) refl f) h
 
   foreign-file : (text : Option (List ℕ)) (d : Data) → nat_eq d.greatest p ≡ false → ForeignTo p d → ForeignDrawn (from_file text d)
   foreign-file None d e f = (f, tt)
@@ -216,7 +219,8 @@ module _ (p : ℕ) where
   foreign-end Finishing d e f = choose_noted (is_over d) _ _ (foreign-finish outcome.Done d Finishing e (λ h. h) f) (f, tt)
   foreign-end _ d e f = (f, tt)
 
-  left_end : (b : Bool) (d : Data) (how : Outcome) → d.active ≡ b → ForeignTo p d → IsNoEndOf (cond b (Some (record { print = d.greatest; outcome = how })) None)
+  left_end : (b : Bool) (d : Data) (how : Outcome) → d.active ≡ b → ForeignTo p d →
+      IsNoEndOf (cond b (Some (record { print = d.greatest; outcome = how })) None)
   left_end true d how e f = elim f.other [ inl o ↦ o | inr o ↦ absurd (false≢true (sym o.0 ∙ e)) ]
   left_end false d how e f = tt
 

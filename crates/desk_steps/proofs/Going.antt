@@ -27,6 +27,14 @@ same d = record { going = λ g. g; before = λ h. h }
 pub goes_then : (d e f : Data) → Goes d e → Goes e f → Goes d f
 goes_then d e f a b = record { going = λ g. b.going (a.going g); before = λ h. a.before (b.before h) }
 
+-- so no pull and no note makes a print active
+pub goes_rested : (d e : Data) → Goes d e → d.active ≡ false → e.active ≡ false
+goes_rested d e goes rested = by e.active refl
+  where
+    by : (b : Bool) → e.active ≡ b → e.active ≡ false
+    by true is = absurd (false≢true (sym rested ∙ goes.before is))
+    by false is = is
+
 -- state and activity stay
 abbrev Stays : Data → Data → Type 0
 Stays d e = (e.state ≡ d.state) × (e.active ≡ d.active)
@@ -115,9 +123,12 @@ choose_noted P true x y hx hy = hx
 choose_noted P false x y hx hy = hy
 
 goes_end : (s : State) (d : Data) → d.state ≡ s → Goes d (end_at s d).1
-goes_end Pausing d e = choose_noted (λ t. Goes d t) (is_over d) (None, record d { state = Paused }) (None, d) (moves d (record d { state = Paused }) (ap has_print e) refl) (same d)
-goes_end Cancelling d e = choose_noted (λ t. Goes d t) (is_over d) (finish outcome.Cancelled d) (None, d) (stopped d (record d { state = Operational; active = false }) refl refl) (same d)
-goes_end Finishing d e = choose_noted (λ t. Goes d t) (is_over d) (finish outcome.Done d) (None, d) (stopped d (record d { state = Operational; active = false }) refl refl) (same d)
+goes_end Pausing d e = choose_noted (λ t. Goes d t) (is_over d) (None, record d { state = Paused }) (None, d)
+    (moves d (record d { state = Paused }) (ap has_print e) refl) (same d)
+goes_end Cancelling d e = choose_noted (λ t. Goes d t) (is_over d) (finish outcome.Cancelled d) (None, d)
+    (stopped d (record d { state = Operational; active = false }) refl refl) (same d)
+goes_end Finishing d e = choose_noted (λ t. Goes d t) (is_over d) (finish outcome.Done d) (None, d)
+    (stopped d (record d { state = Operational; active = false }) refl refl) (same d)
 goes_end _ d e = same d
 
 goes_fail : (d : Data) (noted : Noted) → Goes d (fail noted).1
@@ -144,7 +155,8 @@ pub goes_note : (acked : ℕ) (f : LinkFact) (moment : ℕ) (d : Data) → Goes 
 goes_note acked f moment d =
     let counted : Data = record d { acked = acked } in
     let noted : Noted = note_fact f moment counted in
-    goes_then d noted.1 (settled noted.1) (goes_then d counted noted.1 (goes_stays d counted (refl, refl)) (goes_fact f moment counted)) (goes_settle noted.1.state noted.1 refl)
+    goes_then d noted.1 (settled noted.1) (goes_then d counted noted.1 (goes_stays d counted (refl, refl)) (goes_fact f moment counted))
+    (goes_settle noted.1.state noted.1 refl)
 
 -- a desk without a print stays so in a pull
 free_scripts : (acked : ℕ) (w : List Line) (d : Data) (next : Drawn) → w ≡ [] → IsFree acked next.1 → IsFree acked (from_scripts w d next).1
@@ -159,7 +171,9 @@ free_talk : (acked moment : ℕ) (d : Data) → IsFree acked d → IsFree acked 
 free_talk acked moment d free =
     free_scripts acked d.waiting d _ free.no_script
     (free_manual acked d.manual d _ free
-    (choose_drawn (λ e. IsFree acked e) (poll_is_due moment d) (issue (record { text = codes "M105"; tag = Poll }) (record d { poll_at = moment_after moment d.poll_ms })) (nothing d) (record { no_print = free.no_print; no_script = free.no_script; last_line = free.last_line }) free))
+    (choose_drawn (λ e. IsFree acked e) (poll_is_due moment d) (issue (record { text = codes "M105"; tag = Poll })
+    (record d { poll_at = moment_after moment d.poll_ms })) (nothing d)
+    (record { no_print = free.no_print; no_script = free.no_script; last_line = free.last_line }) free))
 
 has_none : (X : Type 0) (acked : ℕ) (d : Data) (s : State) → d.state ≡ s → has_print s ≡ true → IsFree acked d → X
 has_none X acked d s e has free = absurd (false≢true (sym free.no_print ∙ ap has_print e ∙ has))
@@ -179,7 +193,7 @@ free_pull acked moment d free =
     let drawn : Drawn = draw_at d.state moment d in
     free_settle acked drawn.1.state drawn.1 refl (free_draw acked d.state moment d refl free)
 
--- and where the link fails
+-- and if the link fails
 end_line : (s : State) (d : Data) → (end_at s d).1.print_line ≡ d.print_line
 end_line Pausing d = choose_noted (λ t. t.print_line ≡ d.print_line) (is_over d) (None, record d { state = Paused }) (None, d) refl refl
 end_line Cancelling d = choose_noted (λ t. t.print_line ≡ d.print_line) (is_over d) (finish outcome.Cancelled d) (None, d) refl refl

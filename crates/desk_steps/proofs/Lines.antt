@@ -8,7 +8,7 @@ use Rattle.desk_steps.specs.declared.state.State.{State}
 use Rattle.desk_steps.specs.declared.state.Point.{Point}
 use Rattle.desk_steps.specs.declared.state.Tag.TheVariants.{Script}
 
--- one more in front where a test holds
+-- one more in front if a test holds
 choose_append : {X : Type 0} (b : Bool) (x : X) (xs ys : List X) → cond b (x ∷ (xs ++ ys)) (xs ++ ys) ≡ cond b (x ∷ xs) xs ++ ys
 choose_append true x xs ys = refl
 choose_append false x xs ys = refl
@@ -39,7 +39,8 @@ of_print-own p q x xs e = of_print-append p xs ((q, x) ∷ []) ∙ ap (λ (b : B
 abbrev pub own : ℕ → Line → List Line
 own p line = lines_of p (line ∷ [])
 
-pub pulled_of-push : (p : ℕ) (line : Line) (state : State) (xs : List Pulled) → pulled_of p (xs ++ record { line = line; state = state } ∷ []) ≡ pulled_of p xs ++ own p line
+pub pulled_of-push : (p : ℕ) (line : Line) (state : State) (xs : List Pulled) →
+    pulled_of p (xs ++ record { line = line; state = state } ∷ []) ≡ pulled_of p xs ++ own p line
 pulled_of-push p line state xs = pulled_of-append p xs (record { line = line; state = state } ∷ [])
 
 -- the lines of a script all belong to its print
@@ -73,15 +74,19 @@ pub script_other : (scripts : ScriptTexts) (point : Point) (p q : ℕ) → nat_e
 script_other scripts point p q e = none_own p q point (texts_at point scripts) e
 
 -- a script that joins the waiting lines
-pub waits_own : (out w : List Line) (scripts : ScriptTexts) (point : Point) (p q : ℕ) → q ≡ p → out ++ lines_of p (w ++ script_lines scripts point q) ≡ (out ++ lines_of p w) ++ script_lines scripts point p
+pub waits_own : (out w : List Line) (scripts : ScriptTexts) (point : Point) (p q : ℕ) → q ≡ p →
+    out ++ lines_of p (w ++ script_lines scripts point q) ≡ (out ++ lines_of p w) ++ script_lines scripts point p
 waits_own out w scripts point p q e =
     ap (λ (k : ℕ). out ++ lines_of p (w ++ script_lines scripts point k)) e
-    ∙ ap (λ (l : List Line). out ++ l) (lines_of-append p w (script_lines scripts point p) ∙ ap (λ (l : List Line). lines_of p w ++ l) (script_own scripts point p))
+    ∙ ap (λ (l : List Line). out ++ l) (lines_of-append p w (script_lines scripts point p)
+    ∙ ap (λ (l : List Line). lines_of p w ++ l) (script_own scripts point p))
     ∙ sym (append_assoc out (lines_of p w) (script_lines scripts point p))
 
-pub waits_other : (w : List Line) (scripts : ScriptTexts) (point : Point) (p q : ℕ) → nat_eq q p ≡ false → lines_of p (w ++ script_lines scripts point q) ≡ lines_of p w
+pub waits_other : (w : List Line) (scripts : ScriptTexts) (point : Point) (p q : ℕ) → nat_eq q p ≡ false →
+    lines_of p (w ++ script_lines scripts point q) ≡ lines_of p w
 waits_other w scripts point p q e =
-    lines_of-append p w (script_lines scripts point q) ∙ ap (λ (l : List Line). lines_of p w ++ l) (script_other scripts point p q e) ∙ append-nil (lines_of p w)
+    lines_of-append p w (script_lines scripts point q) ∙ ap (λ (l : List Line). lines_of p w ++ l) (script_other scripts point p q e)
+    ∙ append-nil (lines_of p w)
 
 -- a line that goes from the front of the waiting ones to the end of the pulled ones
 pub goes_over : (p : ℕ) (out : List Line) (line : Line) (rest : List Line) → out ++ lines_of p (line ∷ rest) ≡ (out ++ own p line) ++ lines_of p rest

@@ -94,12 +94,18 @@ module _ (scripts : ScriptTexts) where
   well_draw Closing moment d a = well_scripts Closing d.waiting d (nothing d) a tt
   well_draw _ moment d a = tt
 
-  sound_pull : (state : State) (run : Run) (line : Option Line) (e : Data) → Steady run.desk e → IsDrawnWell state line → Sound scripts run → Sound scripts (after_pull state (line, e) run)
+  sound_pull : (state : State) (run : Run) (line : Option Line) (e : Data) → Steady run.desk e → IsDrawnWell state line → Sound scripts run →
+      Sound scripts (after_pull state (line, e) run)
   sound_pull state run None e s w h = sound_move run e s h
   sound_pull state run (Some line) e s w h =
-      record { same = s.scripts ∙ h.same; waiting = s.waiting h.waiting; pulled = All-push (λ (one : Pulled). IsPulledWell one.line.tag one.state) run.pulled (record { line = line; state = state }) h.pulled w }
+      record {
+        same = s.scripts ∙ h.same;
+        waiting = s.waiting h.waiting;
+        pulled = All-push (λ (one : Pulled). IsPulledWell one.line.tag one.state) run.pulled (record { line = line; state = state }) h.pulled w;
+      }
 
-  sound_note : (f : LinkFact) (run : Run) (ending : Option Ending) (e : Data) → Steady run.desk e → Sound scripts run → Sound scripts (after_note f (ending, e) run)
+  sound_note : (f : LinkFact) (run : Run) (ending : Option Ending) (e : Data) → Steady run.desk e → Sound scripts run →
+      Sound scripts (after_note f (ending, e) run)
   sound_note f run None e s h = sound_move run e s h
   sound_note f run (Some ending) e s h = record { same = s.scripts ∙ h.same; waiting = s.waiting h.waiting; pulled = h.pulled }
 
@@ -115,28 +121,36 @@ module _ (scripts : ScriptTexts) where
   sound-after Toggle run h = sound_move run _ (steady-toggle run.desk.state run.desk) h
   sound-after Cancel run h = sound_move run _ (steady-cancel run.desk.state run.desk) h
   sound-after (Manually lines) run h = sound_move run _ (steady-manual run.desk.state lines run.desk) h
-  sound-after (Pull moment) run h = let drawn = pull_step moment run.desk in sound_pull run.desk.state run drawn.0 drawn.1 (steady-pull moment run.desk) (well_draw run.desk.state moment run.desk h.waiting) h
-  sound-after (Note acked f moment) run h = let noted = note_step acked f moment run.desk in sound_note f run noted.0 noted.1 (steady-note acked f moment run.desk) h
+  sound-after (Pull moment) run h = let drawn = pull_step moment run.desk in
+      sound_pull run.desk.state run drawn.0 drawn.1 (steady-pull moment run.desk) (well_draw run.desk.state moment run.desk h.waiting) h
+  sound-after (Note acked f moment) run h = let noted = note_step acked f moment run.desk in
+      sound_note f run noted.0 noted.1 (steady-note acked f moment run.desk) h
 
   sound_run : (calls : List DeskCall) (run : Run) → Sound scripts run → Sound scripts (run_of calls run)
   sound_run [] run h = h
   sound_run (call ∷ calls) run h = sound_run calls (after call run) (sound-after call run h)
 
-  known_run : (p : ℕ) (positive : nat_eq 0 p ≡ false) (calls : List DeskCall) (run : Run) → Sound scripts run → MayCallAll calls run → KnownOf scripts p positive run → KnownOf scripts p positive (run_of calls run)
+  known_run : (p : ℕ) (positive : nat_eq 0 p ≡ false) (calls : List DeskCall) (run : Run) → Sound scripts run → MayCallAll calls run →
+      KnownOf scripts p positive run → KnownOf scripts p positive (run_of calls run)
   known_run p positive [] run s m k = k
   known_run p positive (call ∷ calls) run s m k =
       known_run p positive calls (after call run) (sound-after call run s) m.1 (known-after scripts p positive call run s.same m.0 k)
 
   -- what is known tells the story
-  tells : (p : ℕ) (positive : nat_eq 0 p ≡ false) (run : Run) → Sound scripts run → KnownOf scripts p positive run → Story scripts p (of_print p run.begun) (pulled_of p run.pulled) (of_print p run.ends)
+  tells : (p : ℕ) (positive : nat_eq 0 p ≡ false) (run : Run) → Sound scripts run → KnownOf scripts p positive run →
+      Story scripts p (of_print p run.begun) (pulled_of p run.pulled) (of_print p run.ends)
   tells p positive run s (inl k) =
-      subst (λ b. Story scripts p b (pulled_of p run.pulled) (of_print p run.ends)) (sym k.no_begin) (subst (λ l. Story scripts p [] l (of_print p run.ends)) (sym k.no_line) (subst (λ f. Story scripts p [] [] f) (sym k.no_fate) never))
+      subst (λ b. Story scripts p b (pulled_of p run.pulled) (of_print p run.ends)) (sym k.no_begin)
+      (subst (λ l. Story scripts p [] l (of_print p run.ends)) (sym k.no_line) (subst (λ f. Story scripts p [] [] f) (sym k.no_fate) never))
   tells p positive run s (inr (inl k)) =
-      let b : IsBegun scripts p k.commands (pulled_of p run.pulled) = subst (λ t. IsBegun t p k.commands (pulled_of p run.pulled)) s.same (begun p k.commands _ run.desk k.current) in
-      subst (λ b. Story scripts p b (pulled_of p run.pulled) (of_print p run.ends)) (sym k.is_begun) (subst (λ f. Story scripts p (k.commands ∷ []) (pulled_of p run.pulled) f) (sym k.no_fate) (going k.commands (pulled_of p run.pulled) b))
+      let b : IsBegun scripts p k.commands (pulled_of p run.pulled) = subst (λ t. IsBegun t p k.commands (pulled_of p run.pulled)) s.same
+      (begun p k.commands _ run.desk k.current) in
+      subst (λ b. Story scripts p b (pulled_of p run.pulled) (of_print p run.ends)) (sym k.is_begun)
+      (subst (λ f. Story scripts p (k.commands ∷ []) (pulled_of p run.pulled) f) (sym k.no_fate) (going k.commands (pulled_of p run.pulled) b))
   tells p positive run s (inr (inr k)) = k.story
 
-pub every_run : (scripts : ScriptTexts) (limits : Limits) (poll_ms : ℕ) (calls : List DeskCall) → MayCallAll calls (new_run (new_desk scripts limits poll_ms)) → TellsStories scripts (run_of calls (new_run (new_desk scripts limits poll_ms)))
+pub every_run : (scripts : ScriptTexts) (limits : Limits) (poll_ms : ℕ) (calls : List DeskCall) → MayCallAll calls (new_run (new_desk scripts limits poll_ms)) →
+    TellsStories scripts (run_of calls (new_run (new_desk scripts limits poll_ms)))
 every_run scripts limits poll_ms calls may =
     let first = new_run (new_desk scripts limits poll_ms) in
     let sound : Sound scripts first = record { same = refl; waiting = tt; pulled = All-nil (λ (one : Pulled). IsPulledWell one.line.tag one.state) } in
@@ -144,7 +158,8 @@ every_run scripts limits poll_ms calls may =
     record {
       stories = λ p positive. (
           let z : nat_eq 0 p ≡ false = below_test 0 p positive in
-          tells scripts p z (run_of calls first) last (known_run scripts p z calls first sound may (inl (record { above = positive; foreign = record { none = refl; other = inr (refl, tt) }; no_begin = refl; no_line = refl; no_fate = refl })))
+          tells scripts p z (run_of calls first) last (known_run scripts p z calls first sound may
+          (inl (record { above = positive; foreign = record { none = refl; other = inr (refl, tt) }; no_begin = refl; no_line = refl; no_fate = refl })))
           );
       only_printing = last.pulled;
     }

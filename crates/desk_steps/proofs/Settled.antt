@@ -10,7 +10,9 @@ use Rattle.desk_steps.specs.declared.state.Point.TheVariants as point
 use Rattle.desk_steps.specs.declared.state.Tag.TheVariants.{Manual, Poll}
 use Rattle.desk_steps.specs.Settled.{IsSettledBySteps}
 
-again : (b : Bool) (d : Data) → d.state ≡ Printing → is_issued d ≡ b → settled (cond b (with_script point.Done d.greatest (record d { state = Finishing })) d) ≡ cond b (with_script point.Done d.greatest (record d { state = Finishing })) d
+again : (b : Bool) (d : Data) → d.state ≡ Printing → is_issued d ≡ b → settled
+    (cond b (with_script point.Done d.greatest (record d { state = Finishing })) d) ≡ cond b
+    (with_script point.Done d.greatest (record d { state = Finishing })) d
 again true d e t = refl
 again false d e t = ap (λ s. settle_at s d) e ∙ ap (λ (c : Bool). cond c (with_script point.Done d.greatest (record d { state = Finishing })) d) t
 
@@ -26,7 +28,7 @@ settle_again Finishing d e = ap (λ s. settle_at s d) e
 settle_again Closing d e = ap (λ s. settle_at s d) e
 settle_again Fault d e = ap (λ s. settle_at s d) e
 
--- where there is no line the desk is as before
+-- without a line the desk is as before
 abbrev Idle : Data → Drawn → Type 0
 Idle d drawn = drawn.0 ≡ None → drawn.1 ≡ d
 
@@ -50,7 +52,8 @@ idle_file None d = λ e. refl
 idle_file (Some text) d = λ e. some_line _ (job_line d.greatest d.cursor text) e
 
 idle_talk : (moment : ℕ) (d : Data) (next : Drawn) → Idle d next → Idle d (talk moment d next)
-idle_talk moment d next h = idle_scripts d.waiting d _ (idle_manual d.manual d _ (idle_choice (poll_is_due moment d) (record { text = codes "M105"; tag = Poll }) d (record d { poll_at = moment_after moment d.poll_ms }) next h))
+idle_talk moment d next h = idle_scripts d.waiting d _ (idle_manual d.manual d _
+    (idle_choice (poll_is_due moment d) (record { text = codes "M105"; tag = Poll }) d (record d { poll_at = moment_after moment d.poll_ms }) next h))
 
 idle_draw : (s : State) (moment : ℕ) (d : Data) → Idle d (draw_at s moment d)
 idle_draw Operational moment d = idle_talk moment d (nothing d) (λ e. refl)

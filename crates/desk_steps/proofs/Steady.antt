@@ -55,7 +55,8 @@ pub joins : (point : Point) (print : ℕ) (d e : Data) → Alike d e → Steady 
 joins point print d e a = record {
   scripts = a.0;
   greatest = a.1;
-  waiting = λ h. scripts_append e.waiting (script_lines e.scripts point print) (subst AreScripts (sym a.2) h) (scripts_texts point print (texts_at point e.scripts));
+  waiting = λ h. scripts_append e.waiting (script_lines e.scripts point print) (subst AreScripts (sym a.2) h)
+      (scripts_texts point print (texts_at point e.scripts));
 }
 
 and_then : (d e f : Data) → Steady d e → Steady e f → Steady d f
@@ -90,7 +91,8 @@ steady-select _ file d = same d
 
 pub steady-drop_file : (name : List ℕ) (d : Data) → Steady d (drop_file_step name d).1
 steady-drop_file name d =
-    choose_pair (λ e. Steady d e) (is_named name d.file) _ _ (choose_pair (λ e. Steady d e) d.active _ _ (same d) (alike d (record d { file = None }) (refl, refl, refl))) (same d)
+    choose_pair (λ e. Steady d e) (is_named name d.file) _ _ (choose_pair (λ e. Steady d e) d.active _ _ (same d)
+    (alike d (record d { file = None }) (refl, refl, refl))) (same d)
 
 steady-pausing : (d : Data) → Steady d (with_script point.Paused d.greatest (record d { state = Pausing }))
 steady-pausing d = joins point.Paused d.greatest d (record d { state = Pausing }) (refl, refl, refl)
@@ -133,7 +135,8 @@ steady-manual Finishing lines d = steady-adds lines d
 steady-manual _ lines d = same d
 
 steady-keep : (tag : Tag) (number : ℕ) (d : Data) → Steady d (keep_number tag number d)
-steady-keep (Script point print) number d = either (λ e. Steady d e) (nat_eq print 0) d (record d { print_line = number }) (same d) (alike d _ (refl, refl, refl))
+steady-keep (Script point print) number d = either (λ e. Steady d e) (nat_eq print 0) d (record d { print_line = number }) (same d)
+    (alike d _ (refl, refl, refl))
 steady-keep (Job print index) number d = alike d _ (refl, refl, refl)
 steady-keep Manual number d = same d
 steady-keep Poll number d = alike d _ (refl, refl, refl)
@@ -146,7 +149,11 @@ steady-issue line d e h =
 steady-scripts : (w : List Line) (d : Data) (next : Drawn) → d.waiting ≡ w → Steady d next.1 → Steady d (from_scripts w d next).1
 steady-scripts [] d next e h = h
 steady-scripts (line ∷ lines) d next e h =
-    steady-issue line d (record d { waiting = lines }) (record { scripts = refl; greatest = refl; waiting = λ a. (let b : AreScripts (line ∷ lines) = subst AreScripts e a in b.1) })
+    steady-issue line d (record d { waiting = lines }) (record {
+      scripts = refl;
+      greatest = refl;
+      waiting = λ a. (let b : AreScripts (line ∷ lines) = subst AreScripts e a in b.1);
+    })
 
 steady-from_manual : (m : List (List ℕ)) (d : Data) (next : Drawn) → Steady d next.1 → Steady d (from_manual m d next).1
 steady-from_manual [] d next h = h
@@ -155,7 +162,8 @@ steady-from_manual (text ∷ texts) d next h = steady-issue (record { text = tex
 steady-poll : (moment : ℕ) (d : Data) (next : Drawn) → Steady d next.1 → Steady d (from_poll moment d next).1
 steady-poll moment d next h =
     let asked : Data = record d { poll_at = moment_after moment d.poll_ms } in
-    choose_pair (λ e. Steady d e) (poll_is_due moment d) _ next (steady-issue (record { text = codes "M105"; tag = Poll }) d asked (alike d asked (refl, refl, refl))) h
+    choose_pair (λ e. Steady d e) (poll_is_due moment d) _ next (steady-issue (record { text = codes "M105"; tag = Poll }) d asked
+    (alike d asked (refl, refl, refl))) h
 
 steady-file : (text : Option (List ℕ)) (d : Data) → Steady d (from_file text d).1
 steady-file None d = same d
@@ -175,7 +183,8 @@ steady-draw Closing moment d = steady-scripts d.waiting d (nothing d) refl (same
 steady-draw _ moment d = same d
 
 pub steady-settle : (s : State) (d : Data) → Steady d (settle_at s d)
-steady-settle Printing d = either (λ e. Steady d e) (is_issued d) _ d (joins point.Done d.greatest d (record d { state = Finishing }) (refl, refl, refl)) (same d)
+steady-settle Printing d = either (λ e. Steady d e) (is_issued d) _ d (joins point.Done d.greatest d (record d { state = Finishing }) (refl, refl, refl))
+    (same d)
 steady-settle _ d = same d
 
 pub steady-pull : (moment : ℕ) (d : Data) → Steady d (pull_step moment d).1
@@ -216,4 +225,5 @@ pub steady-note : (acked : ℕ) (f : LinkFact) (moment : ℕ) (d : Data) → Ste
 steady-note acked f moment d =
     let told : Data = record d { acked = acked } in
     let noted : Noted = note_fact f moment told in
-    and_then d noted.1 (settled noted.1) (and_then d told noted.1 (alike d told (refl, refl, refl)) (steady-fact f moment told)) (steady-settle noted.1.state noted.1)
+    and_then d noted.1 (settled noted.1) (and_then d told noted.1 (alike d told (refl, refl, refl)) (steady-fact f moment told))
+    (steady-settle noted.1.state noted.1)

@@ -25,11 +25,12 @@ module _ (scripts : ScriptTexts) (print : ℕ) (commands : List (List ℕ)) wher
   -- between them; the number says how many commands there are so far
   pub data Body : ℕ → List Line → Type 0 where
     started : Body 0 (script point.Started)
-    command : (index : ℕ) (text : List ℕ) (lines : List Line) → Body index lines → slice_get commands index ≡ Some text → Body (suc index) (lines ++ job_line print index text ∷ [])
+    command : (index : ℕ) (text : List ℕ) (lines : List Line) → Body index lines → slice_get commands index ≡ Some text →
+        Body (suc index) (lines ++ job_line print index text ∷ [])
     round : (index : ℕ) (lines : List Line) → Body index lines → Body index (lines ++ script point.Paused ++ script point.Resumed)
 
-  -- a body and what may stand behind it: nothing, the Paused script, the Cancelled script after either,
-  -- or, once all commands stand, the Done script
+  -- a body and what may follow it: nothing, the Paused script, the Cancelled script after either,
+  -- or, once all commands are in it, the Done script
   pub data Course : End → List Line → Type 0 where
     still_open : (index : ℕ) (lines : List Line) → Body index lines → Course Open lines
     paused : (index : ℕ) (lines : List Line) → Body index lines → Course Paused (lines ++ script point.Paused)

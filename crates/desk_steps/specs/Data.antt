@@ -38,7 +38,7 @@ pub record Line : Type 0 where
 abbrev pub tagged : Tag → List (List ℕ) → List Line
 tagged tag texts = map (λ text. record { text = text; tag = tag }) texts
 
--- the lines of a script for a print, which is 0 where the script belongs to none
+-- the lines of a script for a print, which is 0 if the script belongs to none
 abbrev pub script_lines : ScriptTexts → Point → ℕ → List Line
 script_lines scripts point print = tagged (Script point print) (texts_at point scripts)
 
@@ -47,7 +47,7 @@ pub record File : Type 0 where
   pub name : List ℕ
   pub job : JobData
 
--- the file commands of a selection, none where nothing is selected
+-- the file commands of a selection, none if nothing is selected
 abbrev pub commands_of : Option File → List (List ℕ)
 commands_of None = []
 commands_of (Some file) = texts_of file.job
@@ -105,6 +105,6 @@ new_desk scripts limits poll_ms = record {
 abbrev pub with_script : Point → ℕ → Data → Data
 with_script point print d = record d { waiting = d.waiting ++ script_lines d.scripts point print }
 
--- a moment some milliseconds later, at most the last one there is
+-- a moment some milliseconds later, at most the last one of a u64
 abbrev pub moment_after : ℕ → ℕ → ℕ
 moment_after moment ms = min (moment + ms) 18446744073709551615

@@ -58,7 +58,10 @@ ready_at Fault moment d = d
 
 -- the connection is gone: what waits is dropped, and an active print ends
 abbrev pub leave : State → Outcome → Data → Noted
-leave state how d = (if d.active then Some (record { print = d.greatest; outcome = how }) else None, record d { state = state; active = false; waiting = []; manual = [] })
+leave state how d = (
+  if d.active then Some (record { print = d.greatest; outcome = how }) else None,
+  record d { state = state; active = false; waiting = []; manual = [] },
+)
 
 -- a failure comes after the ends by acknowledgement, so what this very note completes is done
 abbrev pub fail : Noted → Noted
@@ -75,6 +78,6 @@ note_fact fact.NoPort moment d = leave Fault outcome.Failed d
 note_fact fact.Failed moment d = fail (ended d)
 note_fact (fact.Ended end) moment d = fail (ended d)
 
--- what one note gives and leaves
+-- what one note returns and leaves
 abbrev pub note_step : ℕ → LinkFact → ℕ → Data → Noted
 note_step acked fact moment d = let noted = note_fact fact moment (record d { acked = acked }) in (noted.0, settled noted.1)

@@ -31,7 +31,7 @@ abbrev pub numbered : ℕ → ℕ → List (List ℕ) → List Line
 numbered print index [] = []
 numbered print index (text ∷ texts) = job_line print index text ∷ numbered print (index + 1) texts
 
--- a list so many times
+-- a list repeated a number of times
 abbrev pub repeated : ℕ → List Line → List Line
 repeated zero lines = []
 repeated (suc times) lines = repeated times lines ++ lines
@@ -43,7 +43,7 @@ last_scripts scripts print Paused = script_lines scripts point.Paused print
 last_scripts scripts print Cancelled = script_lines scripts point.Cancelled print
 last_scripts scripts print Done = script_lines scripts point.Done print
 
--- the Started script and so many rounds of the Paused and the Resumed script, each whole
+-- the Started script and a number of rounds of the Paused and the Resumed script, each whole
 abbrev pub first_scripts : ScriptTexts → ℕ → ℕ → List Line
 first_scripts scripts print rounds =
     script_lines scripts point.Started print ++ repeated rounds (script_lines scripts point.Paused print ++ script_lines scripts point.Resumed print)
@@ -54,19 +54,19 @@ pub record CommandsInOrder (print : ℕ) (commands : List (List ℕ)) (lines : L
   pub within : count ≤ length commands
   pub first : part is_job lines ≡ take count (numbered print 0 commands)
 
--- the scripts at an end stand by themselves, or for a cancelled print behind a whole Paused script
+-- the scripts at an end are alone, or for a cancelled print after a whole Paused script
 pub data LastScripts (scripts : ScriptTexts) (print : ℕ) : End → List Line → Type 0 where
   alone : (end : End) → LastScripts scripts print end (last_scripts scripts print end)
   behind_pause : LastScripts scripts print Cancelled (script_lines scripts point.Paused print ++ script_lines scripts point.Cancelled print)
 
--- each script stands whole, in order
+-- each script is whole, in order
 pub record ScriptsWhole (scripts : ScriptTexts) (print : ℕ) (end : End) (lines : List Line) : Type 0 where
   pub rounds : ℕ
   pub last : List Line
   pub last_is : LastScripts scripts print end last
   pub whole : part is_script lines ≡ first_scripts scripts print rounds ++ last
 
--- all commands of the file stand in a course with the end Done
+-- all commands of the file are in a course with the end Done
 abbrev pub HasAllWhere : End → ℕ → List (List ℕ) → List Line → Type 0
 HasAllWhere Open print commands lines = Unit {0}
 HasAllWhere Paused print commands lines = Unit {0}
@@ -80,7 +80,9 @@ pub record ReadsPlainly (scripts : ScriptTexts) (print : ℕ) (commands : List (
 
 -- the law of courses, and what of it holds of lines that begin one
 abbrev pub EveryCourseReadsPlainly : Type 0
-EveryCourseReadsPlainly = (scripts : ScriptTexts) (print : ℕ) (commands : List (List ℕ)) (end : End) (lines : List Line) → Course scripts print commands end lines → ReadsPlainly scripts print commands end lines
+EveryCourseReadsPlainly = (scripts : ScriptTexts) (print : ℕ) (commands : List (List ℕ)) (end : End) (lines : List Line) →
+    Course scripts print commands end lines → ReadsPlainly scripts print commands end lines
 
 abbrev pub EveryBeginningIsInOrder : Type 0
-EveryBeginningIsInOrder = (scripts : ScriptTexts) (print : ℕ) (commands : List (List ℕ)) (lines : List Line) → IsBegun scripts print commands lines → CommandsInOrder print commands lines
+EveryBeginningIsInOrder = (scripts : ScriptTexts) (print : ℕ) (commands : List (List ℕ)) (lines : List Line) → IsBegun scripts print commands lines →
+    CommandsInOrder print commands lines

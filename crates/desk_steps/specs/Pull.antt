@@ -7,11 +7,11 @@ use Rattle.desk_steps.specs.declared.state.Point.TheVariants as point
 use Rattle.desk_steps.specs.declared.state.Tag.{Tag}
 use Rattle.desk_steps.specs.declared.state.Tag.TheVariants.{Script, Job, Manual, Poll}
 
--- the line that was drawn, if there is one, and the desk after it
+-- the line that was drawn, if any, and the desk after it
 abbrev pub Drawn : Type 0
 Drawn = Option Line × Data
 
--- there is no line
+-- no line
 abbrev pub nothing : Data → Drawn
 nothing d = (None, d)
 
@@ -22,7 +22,7 @@ keep_number (Job print index) number d = record d { print_line = number }
 keep_number Manual number d = d
 keep_number Poll number d = record d { poll_line = number }
 
--- the number of the next line of a session; the count stays where a u64 ends
+-- the number of the next line of a session; the count stays at the last u64
 abbrev pub next_number : ℕ → ℕ
 next_number issued = min (issued + 1) 18446744073709551615
 
@@ -90,6 +90,6 @@ settle_at Fault d = d
 abbrev pub settled : Data → Data
 settled d = settle_at d.state d
 
--- what one pull gives and leaves
+-- what one pull returns and leaves
 abbrev pub pull_step : ℕ → Data → Drawn
 pull_step moment d = let drawn = draw_at d.state moment d in (drawn.0, settled drawn.1)

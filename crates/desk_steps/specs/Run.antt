@@ -150,7 +150,7 @@ abbrev pub pulled_of : ℕ → List Pulled → List Line
 pulled_of print [] = []
 pulled_of print (one ∷ all) = if is_of print one.line.tag then one.line ∷ pulled_of print all else pulled_of print all
 
--- what stands for a print in a list by print
+-- the entries of a print in a list by print
 abbrev pub of_print : {X : Type 0} → ℕ → List (ℕ × X) → List X
 of_print print [] = []
 of_print print (one ∷ all) = if one.0 == print then one.1 ∷ of_print print all else of_print print all

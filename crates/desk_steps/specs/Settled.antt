@@ -5,7 +5,7 @@ use Rattle.desk_steps.specs.Pull.{settled, pull_step}
 use Rattle.desk_steps.specs.Note.{note_step}
 use Rattle.desk_steps.specs.declared.link_fact.LinkFact.{LinkFact}
 
--- a pull and a note leave nothing to settle, and where nothing is left to settle a pull that gives no line changes nothing
+-- a pull and a note leave nothing to settle, and if nothing is left to settle a pull that returns no line changes nothing
 pub record IsSettledBySteps : Type 0 where
   pub by_pull : (moment : ℕ) (d : Data) → settled (pull_step moment d).1 ≡ (pull_step moment d).1
   pub by_note : (acked : ℕ) (fact : LinkFact) (moment : ℕ) (d : Data) → settled (note_step acked fact moment d).1 ≡ (note_step acked fact moment d).1

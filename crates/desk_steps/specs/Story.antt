@@ -22,9 +22,11 @@ pub data Story (scripts : ScriptTexts) (print : ℕ) : List (List (List ℕ)) �
   -- it is going on
   going : (commands : List (List ℕ)) (lines : List Line) → IsBegun scripts print commands lines → Story scripts print (commands ∷ []) lines []
   -- it is done: a whole course with the end Done
-  finished : (commands : List (List ℕ)) (lines : List Line) → Course scripts print commands Done lines → Story scripts print (commands ∷ []) lines (Finished ∷ [])
+  finished : (commands : List (List ℕ)) (lines : List Line) → Course scripts print commands Done lines →
+      Story scripts print (commands ∷ []) lines (Finished ∷ [])
   -- it was cancelled: a whole course with the end Cancelled
-  stopped : (commands : List (List ℕ)) (lines : List Line) → Course scripts print commands Cancelled lines → Story scripts print (commands ∷ []) lines (Stopped ∷ [])
+  stopped : (commands : List (List ℕ)) (lines : List Line) → Course scripts print commands Cancelled lines →
+      Story scripts print (commands ∷ []) lines (Stopped ∷ [])
   -- it was left while paused: a whole course with the end Paused
   left : (commands : List (List ℕ)) (lines : List Line) → Course scripts print commands Paused lines → Story scripts print (commands ∷ []) lines (Left ∷ [])
   -- the connection ended, or failed, before it had
@@ -38,11 +40,12 @@ IsPulledWell (Job print index) state = state ≡ Printing
 IsPulledWell Manual state = Unit {0}
 IsPulledWell Poll state = Unit {0}
 
--- every run from a new desk tells such a story of each print, and pulls file commands only in the state Printing
+-- every run from a new desk has such a story of each print, and pulls file commands only in the state Printing
 pub record TellsStories (scripts : ScriptTexts) (run : Run) : Type 0 where
   pub stories : (print : ℕ) → 0 < print → Story scripts print (of_print print run.begun) (pulled_of print run.pulled) (of_print print run.ends)
   pub only_printing : All (λ (one : Pulled). IsPulledWell one.line.tag one.state) run.pulled
 
 -- the law
 abbrev pub EveryRunTellsStories : Type 0
-EveryRunTellsStories = (scripts : ScriptTexts) (limits : Limits) (poll_ms : ℕ) (calls : List DeskCall) → MayCallAll calls (new_run (new_desk scripts limits poll_ms)) → TellsStories scripts (run_of calls (new_run (new_desk scripts limits poll_ms)))
+EveryRunTellsStories = (scripts : ScriptTexts) (limits : Limits) (poll_ms : ℕ) (calls : List DeskCall) →
+    MayCallAll calls (new_run (new_desk scripts limits poll_ms)) → TellsStories scripts (run_of calls (new_run (new_desk scripts limits poll_ms)))

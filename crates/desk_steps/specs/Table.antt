@@ -151,7 +151,7 @@ toggle_at Finishing d = wrong_state d
 toggle_at Closing d = wrong_state d
 toggle_at Fault d = wrong_state d
 
--- no further file command is issued, and the script for a cancelled print waits
+-- no more file commands are issued, and the script for a cancelled print waits
 abbrev pub cancelling : Data → Data
 cancelling d = with_script point.Cancelled d.greatest (record d { state = Cancelling })
 
@@ -167,7 +167,7 @@ cancel_at Finishing d = wrong_state d
 cancel_at Closing d = wrong_state d
 cancel_at Fault d = wrong_state d
 
--- all the users' lines or, where more than 256 would wait, none
+-- all the users' lines or, if more than 256 would wait, none
 abbrev pub add_manual : List (List ℕ) → Data → Answer
 add_manual lines d =
     if nat_lt 256 (length d.manual + length lines) then (Err (refusal.Full (length d.manual)), d) else done (record d { manual = d.manual ++ lines })

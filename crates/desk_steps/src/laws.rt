@@ -21,7 +21,7 @@ pub fn every_beginning_is_in_order()
     ensures { EveryBeginningIsInOrder }
 {}
 
-/// A pull and a note leave nothing to settle, and a further pull that gives no line then changes nothing.
+/// A pull and a note leave nothing to settle, and another pull that returns no line then changes nothing.
 pub fn nothing_is_left_to_settle()
     ensures { IsSettledBySteps }
 {}

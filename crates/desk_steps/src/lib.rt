@@ -1,4 +1,4 @@
-//! What the desk of a print host does at each call, as steps on plain data, and what a whole run of calls gives.
+//! What the desk of a print host does at each call, as steps on plain data, and what a whole run of calls comes to.
 #![tactic(auto)]
 
 mod issued;

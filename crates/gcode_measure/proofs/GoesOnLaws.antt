@@ -1,16 +1,15 @@
 -- The file that goes on at a command, read again.
-use Rattle.std.proofs.Common.{◌≡◌, ℕ, zero, suc, ◌+◌, ◌<◌, ◌≤◌, false, List, [], ◌∷◌, ◌++◌, length, map, take, drop, ℤ, Result, Ok, Err, refl, sym, ap, subst, ◌∙◌, arith}
+use Rattle.std.proofs.Common.{◌≡◌, ℕ, zero, suc, ◌+◌, ◌≤◌, List, [], ◌∷◌, ◌++◌, length, map, take, drop, Result, sym, ap, subst, ◌∙◌, arith}
 use Rattle.std.specs.Result.{IsOkAnd}
-use Rattle.std.proofs.lemmas.List.{append_assoc, append-nil, length-map, map-append}
+use Rattle.std.proofs.lemmas.List.{append_assoc, append-nil}
 use Rattle.std.proofs.Math.Seq.{take-add}
 use Rattle.gcode_lines.specs.declared.fault.FileFault.{FileFault}
 use Rattle.gcode_lines.specs.Commands.{job_of}
-use Rattle.gcode_lines.specs.Job.{Command, JobData, most_bytes, texts_of}
+use Rattle.gcode_lines.specs.Job.{JobData, most_bytes, texts_of}
 use Rattle.gcode_measure.specs.declared.head.Head.{Head}
-use Rattle.gcode_measure.specs.declared.kind.Mode.{Mode}
 use Rattle.gcode_measure.specs.declared.values.Axis.{Axis}
 use Rattle.gcode_measure.specs.declared.values.Axis.TheVariants.{X, Y, Z, E}
-use Rattle.gcode_measure.specs.Head.{head_of, head_then, has_far}
+use Rattle.gcode_measure.specs.Head.{head_of, head_then}
 use Rattle.gcode_measure.specs.Position.{mode_of, position_of}
 use Rattle.gcode_measure.specs.Rest.{IsHeadBefore, GoesOn, IsRest, line_of, rest_lines, text_of_lines}
 use Rattle.gcode_measure.proofs.HeaderLaws.{header_of, near-head, header-head, header-commands, header-lines}
@@ -56,7 +55,8 @@ abbrev written : Head → JobData → ℕ → List (List ℕ)
 written head job from = header_of head ++ drop from (texts_of job)
 
 -- before each command modes and positions are what they were
-heads-same : (job : JobData) (from i : ℕ) (head : Head) → IsHeadBefore job from head → head_of (take (3 + i) (written head job from)) ≡ head_of (take (from + i) (texts_of job))
+heads-same : (job : JobData) (from i : ℕ) (head : Head) → IsHeadBefore job from head →
+    head_of (take (3 + i) (written head job from)) ≡ head_of (take (from + i) (texts_of job))
 heads-same job from i head before =
     let stands = before.stands in
     ap head_of (take-behind head (drop from (texts_of job)) i)
@@ -67,17 +67,21 @@ goes_on : (job : JobData) (from : ℕ) (head : Head) (rest : JobData) → IsHead
 goes_on job from head rest before is =
     record {
       commands = ap (drop 3) is;
-      modes = λ axis i _. mode-same axis (take (3 + i) (texts_of rest)) (take (from + i) (texts_of job)) (ap (λ texts. head_of (take (3 + i) texts)) is ∙ heads-same job from i head before);
-      positions = λ axis i _. position-same axis (take (3 + i) (texts_of rest)) (take (from + i) (texts_of job)) (ap (λ texts. head_of (take (3 + i) texts)) is ∙ heads-same job from i head before);
+      modes = λ axis i _. mode-same axis (take (3 + i) (texts_of rest)) (take (from + i) (texts_of job))
+          (ap (λ texts. head_of (take (3 + i) texts)) is ∙ heads-same job from i head before);
+      positions = λ axis i _. position-same axis (take (3 + i) (texts_of rest)) (take (from + i) (texts_of job))
+          (ap (λ texts. head_of (take (3 + i) texts)) is ∙ heads-same job from i head before);
     }
 
 lines-written : (head : Head) (texts : List (List ℕ)) → rest_lines head texts ≡ map line_of (header_of head ++ texts)
 lines-written head texts = ap (λ lines. lines ++ map line_of texts) (sym (header-lines head))
 
 -- a text that goes on at a command is a file that does what the whole file does from there on
-pub rest-goes_on : (job : JobData) (from : ℕ) (head : Head) (text : List ℕ) → IsHeadBefore job from head → text ≡ text_of_lines (rest_lines head (drop from (texts_of job))) → IsRest job from text
+pub rest-goes_on : (job : JobData) (from : ℕ) (head : Head) (text : List ℕ) → IsHeadBefore job from head →
+    text ≡ text_of_lines (rest_lines head (drop from (texts_of job))) → IsRest job from text
 rest-goes_on job from head text before is = λ bytes file small.
-    let each = Each-append IsCommand (header_of head) (drop from (texts_of job)) (header-commands head (near-head head before.near)) (Each-drop IsCommand from (texts_of job) (commands-of_file bytes job file)) in
+    let each = Each-append IsCommand (header_of head) (drop from (texts_of job)) (header-commands head (near-head head before.near))
+    (Each-drop IsCommand from (texts_of job) (commands-of_file bytes job file)) in
     let same : text ≡ file_of (written head job from) = is ∙ ap text_of_lines (lines-written head (drop from (texts_of job))) in
     let fits : length (file_of (written head job from)) ≤ most_bytes = omega (arith, ap length same) in
     let read = job-of_file (written head job from) each fits in

@@ -1,6 +1,6 @@
 -- The three commands that set modes and positions.
-use Rattle.std.proofs.Common.{◌≡◌, ℕ, ◌+◌, ◌<◌, ◌≤◌, Bool, true, false, cond, nat_lt, nat_le, ◌==◌, ◌||◌, ◌&&◌, not, List, [], ◌∷◌, ◌++◌, length, map, decimal, ◌/◌, ◌%◌, ℤ, pos, unsigned_abs, codes, Option, Some, None, unwrap_or, refl, sym, ap, ◌∙◌, arith}
-use Rattle.std.specs.List.{list_any, list_all, prefix_len, suffix_len}
+use Rattle.std.proofs.Common.{◌≡◌, ℕ, ◌+◌, ◌≤◌, Bool, true, false, cond, nat_le, ◌==◌, ◌||◌, ◌&&◌, not, List, [], ◌∷◌, ◌++◌, length, map, decimal, ◌/◌, ◌%◌, ℤ, pos, unsigned_abs, codes, Some, None, unwrap_or, refl, sym, ap, ◌∙◌, arith}
+use Rattle.std.specs.List.{list_all, prefix_len, suffix_len}
 use Rattle.std.specs.Char.{is_ascii_alphabetic, to_ascii_uppercase}
 use Rattle.std.proofs.lemmas.Bool.{or_parts, or_from, and_parts}
 use Rattle.std.proofs.lemmas.Bool.Decides.{nat_tests}
@@ -14,20 +14,19 @@ use Rattle.gcode_words.specs.Value.{millionths, micro_of, behind_digits, decimal
 use Rattle.gcode_words.specs.Words.{value_at, words_of}
 use Rattle.gcode_words.specs.declared.word.CodeWord.{CodeWord}
 use Rattle.gcode_measure.specs.declared.head.Head.{Head}
-use Rattle.gcode_measure.specs.declared.kind.Kind.{Kind}
 use Rattle.gcode_measure.specs.declared.kind.Kind.TheVariants.{SetPosition}
 use Rattle.gcode_measure.specs.declared.kind.Mode.{Mode}
 use Rattle.gcode_measure.specs.declared.kind.Mode.TheVariants.{Absolute, Relative}
 use Rattle.gcode_measure.specs.declared.values.Axis.{Axis}
 use Rattle.gcode_measure.specs.declared.values.Axis.TheVariants.{X, Y, Z, E}
 use Rattle.gcode_measure.specs.Decimal.{six_digits, micro_text, sign_text}
-use Rattle.gcode_measure.specs.Head.{head_of, is_far, has_far, moved, position_then}
+use Rattle.gcode_measure.specs.Head.{head_of, is_far, has_far, moved}
 use Rattle.gcode_measure.specs.Kind.{kind_by, kind_of}
 use Rattle.gcode_measure.specs.Position.{mode_by, mode_set, mode_of, is_move_kind, is_relative, position_of}
 use Rattle.gcode_measure.specs.Rest.{axes_command, extruder_command, axis_text, position_command, line_of}
 use Rattle.gcode_measure.specs.Values.{value_by, value_of}
 use Rattle.gcode_measure.proofs.LineLaws.{Each, IsCommand}
-use Rattle.gcode_measure.proofs.PlainLaws.{IsPlain, list_any-excluded, suffix_len-longer}
+use Rattle.gcode_measure.proofs.PlainLaws.{list_any-excluded, suffix_len-longer}
 use Rattle.gcode_measure.proofs.PositionLaws.{mode_of-push, position_of-push}
 use Rattle.gcode_measure.proofs.ReadBackLaws.{value_at-micro_text, is_numeral, micro_text-numerals, micro_text-short, words_of-passed}
 
@@ -64,12 +63,16 @@ position_command-joined head =
 no_letter : (byte : ℕ) → is_numeral byte ≡ true → is_ascii_alphabetic byte ≡ false
 no_letter byte h = grind (arith, nat_tests)
 
-words-letter : (letter : ℕ) (at : ℤ) (rest : List ℕ) → is_ascii_alphabetic letter ≡ true → to_ascii_uppercase letter ≡ letter → unsigned_abs at ≤ 1000000000000 → begins_with_digit rest ≡ false → words_of (letter ∷ (micro_text at ++ rest)) ≡ record { letter = letter; micro = Some at } ∷ words_of rest
+words-letter : (letter : ℕ) (at : ℤ) (rest : List ℕ) → is_ascii_alphabetic letter ≡ true → to_ascii_uppercase letter ≡ letter →
+    unsigned_abs at ≤ 1000000000000 → begins_with_digit rest ≡ false → words_of (letter ∷ (micro_text at ++ rest)) ≡ record { letter = letter; micro = Some at }
+    ∷ words_of rest
 words-letter letter at rest is upper near other =
-    ap (λ t. cond t (record { letter = to_ascii_uppercase letter; micro = value_at (micro_text at ++ rest) } ∷ words_of (micro_text at ++ rest)) (words_of (micro_text at ++ rest))) is
+    ap (λ t. cond t (record { letter = to_ascii_uppercase letter; micro = value_at (micro_text at ++ rest) } ∷ words_of (micro_text at ++ rest))
+    (words_of (micro_text at ++ rest))) is
     ∙ ap (λ l. record { letter = l; micro = value_at (micro_text at ++ rest) } ∷ words_of (micro_text at ++ rest)) upper
     ∙ ap (λ v. record { letter = letter; micro = v } ∷ words_of (micro_text at ++ rest)) (value_at-micro_text at rest near other)
-    ∙ ap (λ words. record { letter = letter; micro = Some at } ∷ words) (words_of-passed (micro_text at) rest (list_any-excluded is_numeral is_ascii_alphabetic no_letter (micro_text at) (micro_text-numerals at near)))
+    ∙ ap (λ words. record { letter = letter; micro = Some at } ∷ words) (words_of-passed (micro_text at) rest
+    (list_any-excluded is_numeral is_ascii_alphabetic no_letter (micro_text at) (micro_text-numerals at near)))
 
 begins-space : (rest : List ℕ) → begins_with_digit (32 ∷ rest) ≡ false
 unfolding begins_with_digit
@@ -86,18 +89,22 @@ value-92 rest = refl
 -- the arguments of the command that sets positions
 abbrev position_words : Head → List CodeWord
 position_words head =
-    record { letter = 71; micro = Some (pos 92000000) } ∷ record { letter = 88; micro = Some head.x } ∷ record { letter = 89; micro = Some head.y } ∷ record { letter = 90; micro = Some head.z } ∷ record { letter = 69; micro = Some head.e } ∷ []
+    record { letter = 71; micro = Some (pos 92000000) } ∷ record { letter = 88; micro = Some head.x } ∷ record { letter = 89; micro = Some head.y } ∷
+    record { letter = 90; micro = Some head.z } ∷ record { letter = 69; micro = Some head.e } ∷ []
 
 words-position : (head : Head) → IsNear head → words_of (position_command head) ≡ position_words head
 words-position head near =
     let after_z : List ℕ = 32 ∷ 69 ∷ micro_text head.e in
     let after_y : List ℕ = 32 ∷ 90 ∷ (micro_text head.z ++ after_z) in
     let after_x : List ℕ = 32 ∷ 89 ∷ (micro_text head.y ++ after_y) in
-    let last : words_of (69 ∷ micro_text head.e) ≡ record { letter = 69; micro = Some head.e } ∷ [] = ap (λ m. words_of (69 ∷ m)) (sym (append-nil (micro_text head.e))) ∙ words-letter 69 head.e [] refl refl near.e begins-none in
+    let last : words_of (69 ∷ micro_text head.e) ≡ record { letter = 69; micro = Some head.e } ∷ [] =
+    ap (λ m. words_of (69 ∷ m)) (sym (append-nil (micro_text head.e))) ∙ words-letter 69 head.e [] refl refl near.e begins-none in
     ap words_of (position_command-joined head)
     ∙ ap (λ v. record { letter = 71; micro = v } ∷ words_of (88 ∷ (micro_text head.x ++ after_x))) (value-92 (88 ∷ (micro_text head.x ++ after_x)))
-    ∙ ap (λ ws. record { letter = 71; micro = Some (pos 92000000) } ∷ ws) (words-letter 88 head.x after_x refl refl near.x (begins-space (89 ∷ (micro_text head.y ++ after_y)))
-    ∙ ap (λ ws. record { letter = 88; micro = Some head.x } ∷ ws) (words-letter 89 head.y after_y refl refl near.y (begins-space (90 ∷ (micro_text head.z ++ after_z)))
+    ∙ ap (λ ws. record { letter = 71; micro = Some (pos 92000000) } ∷ ws)
+    (words-letter 88 head.x after_x refl refl near.x (begins-space (89 ∷ (micro_text head.y ++ after_y)))
+    ∙ ap (λ ws. record { letter = 88; micro = Some head.x } ∷ ws) (words-letter 89 head.y after_y refl refl near.y
+    (begins-space (90 ∷ (micro_text head.z ++ after_z)))
     ∙ ap (λ ws. record { letter = 89; micro = Some head.y } ∷ ws) (words-letter 90 head.z after_z refl refl near.z (begins-space (69 ∷ micro_text head.e))
     ∙ ap (λ ws. record { letter = 90; micro = Some head.z } ∷ ws) last)))
 
@@ -152,11 +159,13 @@ header-extruder head near =
     ∙ mode_of-push E (axes ∷ []) extruder
     ∙ ap (λ m. unwrap_or m (mode_of E (axes ∷ []))) (extruder-mode head.extruder)
 
-header-position : (head : Head) (axis : Axis) → IsNear head → position_of axis (header_of head) ≡ moved false (value_by SetPosition axis (position_words head)) (position_of axis (axes_command head.axes ∷ extruder_command head.extruder ∷ []))
+header-position : (head : Head) (axis : Axis) → IsNear head → position_of axis (header_of head) ≡ moved false (value_by SetPosition axis (position_words head))
+    (position_of axis (axes_command head.axes ∷ extruder_command head.extruder ∷ []))
 header-position head axis near =
     let before = axes_command head.axes ∷ extruder_command head.extruder ∷ [] in
     position_of-push axis before (position_command head)
-    ∙ ap (λ k. moved (is_move_kind k && is_relative (mode_of axis before)) (value_of axis (position_command head)) (position_of axis before)) (kind-position head near)
+    ∙ ap (λ k. moved (is_move_kind k && is_relative (mode_of axis before)) (value_of axis (position_command head)) (position_of axis before))
+    (kind-position head near)
     ∙ ap (λ v. moved false v (position_of axis before)) (value-position head axis near)
 
 -- after them modes and positions are the head's
@@ -274,7 +283,11 @@ command-position head near =
     let short : length (position_command head) ≤ 79 = omega (arith, joined-short head near, ap length same) in
     let some : 1 ≤ length (position_command head) = omega (arith, ap length same) in
     record {
-      plain = record { mark = list_any-excluded is_safe is_mark safe_no_mark (position_command head) safe; front = position_command-front head; back = position_command-back head };
+      plain = record {
+        mark = list_any-excluded is_safe is_mark safe_no_mark (position_command head) safe;
+        front = position_command-front head;
+        back = position_command-back head;
+      };
       kept = kept_test (position_command head) some (has_m110-no_m (position_command head) (no_m (position_command head) safe));
       short = short_test (position_command head) short;
       clean = clean_test (position_command head) safe;

@@ -1,8 +1,8 @@
 -- Commands of a file as the lines of another one.
-use Rattle.std.proofs.Common.{◌≡◌, ℕ, zero, suc, ◌+◌, ◌-◌, ◌<◌, ◌≤◌, Bool, true, false, not, cond, nat_lt, ◌==◌, ◌&&◌, List, [], ◌∷◌, ◌++◌, length, map, take, drop, codes, Option, Some, None, Result, Ok, Err, refl, sym, ap, ◌∙◌, subst, arith}
-use Rattle.std.specs.List.{list_any, flat_map}
+use Rattle.std.proofs.Common.{◌≡◌, ℕ, ◌+◌, ◌≤◌, Bool, true, false, cond, nat_lt, ◌==◌, List, [], ◌∷◌, ◌++◌, length, map, codes, Option, Some, None, Ok, Err, refl, sym, ap, ◌∙◌, subst, arith}
+use Rattle.std.specs.List.{list_any}
 use Rattle.std.specs.Option.{option_or}
-use Rattle.std.proofs.lemmas.Bool.{or_parts, or_from}
+use Rattle.std.proofs.lemmas.Bool.{or_parts}
 use Rattle.std.proofs.lemmas.Bool.Decides.{nat_tests}
 use Rattle.std.proofs.lemmas.List.{append_assoc}
 use Rattle.byte_text.specs.Marks.{has_m110}
@@ -11,7 +11,7 @@ use Rattle.gcode_lines.specs.declared.fault.FileFault.TheVariants.{TooLong, Cont
 use Rattle.gcode_lines.specs.Job.{JobData, most_bytes, texts_of}
 use Rattle.gcode_lines.specs.Commands.{FileLine, file_line, in_front, pieces_of, numbered, lines_of, is_skipped_line, fault_at, first_fault, commands_in, unless_fault, job_in as lines_job, job_of}
 use Rattle.gcode_lines.specs.Text.{text_of, is_skipped, is_too_long, is_control, has_control, is_numbered}
-use Rattle.gcode_measure.specs.Rest.{line_of, ended, text_of_lines}
+use Rattle.gcode_measure.specs.Rest.{line_of, text_of_lines}
 use Rattle.gcode_measure.proofs.PlainLaws.{IsPlain, plain-text_of, text_of-plain, without_number-bare, text_of-behind, list_any-stronger}
 
 -- a fact of each text of a list
@@ -42,14 +42,16 @@ sound_by false true number sound = absurd cc
 
 command-of_line : (line : FileLine) → is_skipped_line line ≡ false → fault_at line ≡ None → IsCommand (text_of line.bytes)
 command-of_line line kept sound =
-    let tests = sound_by (is_too_long (text_of line.bytes)) (has_control (text_of line.bytes)) line.number (ap (λ t. fault_by t (is_too_long (text_of line.bytes)) (has_control (text_of line.bytes)) line.number) (sym kept) ∙ sound) in
+    let tests = sound_by (is_too_long (text_of line.bytes)) (has_control (text_of line.bytes)) line.number
+    (ap (λ t. fault_by t (is_too_long (text_of line.bytes)) (has_control (text_of line.bytes)) line.number) (sym kept) ∙ sound) in
     record { plain = plain-text_of line.bytes tests.1; kept = kept; short = tests.0; clean = tests.1 }
 
 both_none : (first rest : Option FileFault) → option_or first rest ≡ None → (first ≡ None) × (rest ≡ None)
 both_none None rest e = (refl, e)
 both_none (Some fault) rest e = absurd cc
 
-commands_by : (line : FileLine) (lines : List FileLine) (t : Bool) → is_skipped_line line ≡ t → fault_at line ≡ None → Each IsCommand (texts_in lines) → Each IsCommand (texts_in (line ∷ lines))
+commands_by : (line : FileLine) (lines : List FileLine) (t : Bool) → is_skipped_line line ≡ t → fault_at line ≡ None → Each IsCommand (texts_in lines) →
+    Each IsCommand (texts_in (line ∷ lines))
 commands_by line lines true e sound rest = rw e rest
 commands_by line lines false e sound rest = rw e (command-of_line line e sound, rest)
 
@@ -63,7 +65,8 @@ commands-of_lines (line ∷ lines) sound =
 abbrev pub job_in : List ℕ → JobData
 job_in bytes = lines_job bytes (lines_of bytes)
 
-job_by : (large : Bool) (fault : Option FileFault) (bytes : List ℕ) (job : JobData) → cond large (Err (TooLarge (length bytes))) (unless_fault fault (job_in bytes)) ≡ Ok job → (fault ≡ None) × (job_in bytes ≡ job)
+job_by : (large : Bool) (fault : Option FileFault) (bytes : List ℕ) (job : JobData) →
+    cond large (Err (TooLarge (length bytes))) (unless_fault fault (job_in bytes)) ≡ Ok job → (fault ≡ None) × (job_in bytes ≡ job)
 job_by true fault bytes job e = absurd cc
 job_by false (Some fault) bytes job e = absurd cc
 job_by false None bytes job e = (refl, cc)
@@ -161,7 +164,8 @@ unfolding lines_of
 lines-of_file texts each = ap (numbered 1 0) (pieces_of-lines (map line_of texts) (one_lines texts each))
 
 -- a file of commands that is not too large has just these commands
-pub job-of_file : (texts : List (List ℕ)) → Each IsCommand texts → length (file_of texts) ≤ most_bytes → (job_of (file_of texts) ≡ Ok (job_in (file_of texts))) × (texts_of (job_in (file_of texts)) ≡ texts)
+pub job-of_file : (texts : List (List ℕ)) → Each IsCommand texts → length (file_of texts) ≤ most_bytes →
+    (job_of (file_of texts) ≡ Ok (job_in (file_of texts))) × (texts_of (job_in (file_of texts)) ≡ texts)
 unfolding job_of
 job-of_file texts each small =
     let test : nat_lt most_bytes (length (file_of texts)) ≡ false = grind (arith, nat_tests) in

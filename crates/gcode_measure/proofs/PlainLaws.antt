@@ -1,11 +1,11 @@
 -- The text that a line says, and that a line of just that text says it again.
-use Rattle.std.proofs.Common.{◌≡◌, ℕ, zero, suc, ◌+◌, ◌-◌, ◌<◌, ◌≤◌, Bool, true, false, not, cond, ◌==◌, ◌||◌, List, [], ◌∷◌, ◌++◌, length, take, drop, reverse, get_or, codes, refl, sym, ap, ◌∙◌, arith}
+use Rattle.std.proofs.Common.{◌≡◌, ℕ, zero, suc, ◌+◌, ◌-◌, ◌<◌, ◌≤◌, Bool, true, false, not, cond, ◌==◌, List, [], ◌∷◌, ◌++◌, length, take, drop, reverse, codes, refl, sym, ap, ◌∙◌, arith}
 use Rattle.std.specs.List.{list_any, list_all, before_first, position_or_len, prefix_len, suffix_len}
 use Rattle.std.specs.Char.{is_ascii_digit}
 use Rattle.std.proofs.lemmas.Bool.{or_parts, or_from, and_parts}
 use Rattle.std.proofs.lemmas.Bool.Decides.{nat_tests}
-use Rattle.std.proofs.lemmas.List.{append-nil, reverse-append, length-reverse, length-drop, length-take, take-append-drop, get_or-take}
-use Rattle.std.proofs.lemmas.List.Folds.{list_any_none, prefix_len-append}
+use Rattle.std.proofs.lemmas.List.{reverse-append, length-reverse, length-drop, length-take, take-append-drop, get_or-take}
+use Rattle.std.proofs.lemmas.List.Folds.{list_any_none}
 use Rattle.std.proofs.lemmas.List.Sums.{fails_before_first, suffix_len-le-length}
 use Rattle.std.proofs.Math.Seq.{take-append_seam, drop-append_seam, take-length}
 use Rattle.gcode_lines.specs.Text.{is_mark, is_space, is_blank, is_control, without_front, without_end, trimmed, is_numbered, without_number, text_of, has_control}
@@ -22,15 +22,16 @@ list_any-drop test zero xs h = h
 list_any-drop test (suc n) [] h = refl
 list_any-drop test (suc n) (x ∷ xs) h = list_any-drop test n xs (or_parts (test x) (list_any test xs) h).1
 
--- where all pass one test, none passes another that excludes it
+-- if all pass one test, none passes another that excludes it
 pub list_any-excluded : (all any : ℕ → Bool) → ((x : ℕ) → all x ≡ true → any x ≡ false) → (xs : List ℕ) → list_all all xs ≡ true → list_any any xs ≡ false
 list_any-excluded all any excludes [] h = refl
 list_any-excluded all any excludes (x ∷ xs) h =
     let parts = and_parts (all x) (list_all all xs) h in
     or_from _ _ (excludes x parts.0) (list_any-excluded all any excludes xs parts.1)
 
--- where none passes one test, none passes one that is stronger
-pub list_any-stronger : (weak strong : ℕ → Bool) → ((x : ℕ) → weak x ≡ false → strong x ≡ false) → (xs : List ℕ) → list_any weak xs ≡ false → list_any strong xs ≡ false
+-- if none passes one test, none passes one that is stronger
+pub list_any-stronger : (weak strong : ℕ → Bool) → ((x : ℕ) → weak x ≡ false → strong x ≡ false) → (xs : List ℕ) → list_any weak xs ≡ false →
+    list_any strong xs ≡ false
 list_any-stronger weak strong stronger [] h = refl
 list_any-stronger weak strong stronger (x ∷ xs) h =
     let parts = or_parts (weak x) (list_any weak xs) h in
@@ -43,7 +44,8 @@ no_front false n h = refl
 prefix_len-cons_zero : (test : ℕ → Bool) (x : ℕ) (xs : List ℕ) → test x ≡ false → prefix_len test (x ∷ xs) ≡ 0
 prefix_len-cons_zero test x xs h = ap (λ t. cond t (1 + prefix_len test xs) 0) h
 
-prefix_len-by : (test : ℕ → Bool) (x : ℕ) (xs : List ℕ) (t : Bool) → test x ≡ t → prefix_len test (drop (prefix_len test xs) xs) ≡ 0 → prefix_len test (drop (cond t (1 + prefix_len test xs) 0) (x ∷ xs)) ≡ 0
+prefix_len-by : (test : ℕ → Bool) (x : ℕ) (xs : List ℕ) (t : Bool) → test x ≡ t → prefix_len test (drop (prefix_len test xs) xs) ≡ 0 →
+    prefix_len test (drop (cond t (1 + prefix_len test xs) 0) (x ∷ xs)) ≡ 0
 prefix_len-by test x xs true e rest =
     let next : 1 + prefix_len test xs ≡ suc (prefix_len test xs) = omega arith in
     ap (λ n. prefix_len test (drop n (x ∷ xs))) next ∙ rest
@@ -92,7 +94,7 @@ prefix_len-longer test [] ys some h = absurd (omega arith)
 prefix_len-longer test (x ∷ xs) ys some h =
     prefix_len-cons_zero test x (xs ++ ys) (no_front (test x) (prefix_len test xs) h)
 
--- what stands before a list changes nothing at its end
+-- elements before a list change nothing at its end
 pub suffix_len-longer : (test : ℕ → Bool) (xs ys : List ℕ) → 1 ≤ length ys → suffix_len test ys ≡ 0 → suffix_len test (xs ++ ys) ≡ 0
 suffix_len-longer test xs ys some h =
     ap (prefix_len test) (reverse-append xs ys)
@@ -126,17 +128,22 @@ blank_by x space control = grind (arith, nat_tests)
 front_by : (text : List ℕ) → prefix_len is_space text ≡ 0 → list_any is_control text ≡ false → prefix_len is_blank text ≡ 0
 front_by [] space control = refl
 front_by (x ∷ xs) space control =
-    prefix_len-cons_zero is_blank x xs (blank_by x (no_front (is_space x) (prefix_len is_space xs) space) (or_parts (is_control x) (list_any is_control xs) control).0)
+    prefix_len-cons_zero is_blank x xs (blank_by x (no_front (is_space x) (prefix_len is_space xs) space)
+    (or_parts (is_control x) (list_any is_control xs) control).0)
 
-plain-number : (text : List ℕ) (t : Bool) → IsPlain text → list_any is_control (cond t (without_front is_space (without_front is_ascii_digit (drop 1 text))) text) ≡ false → IsPlain (cond t (without_front is_space (without_front is_ascii_digit (drop 1 text))) text)
+plain-number : (text : List ℕ) (t : Bool) → IsPlain text → list_any is_control
+    (cond t (without_front is_space (without_front is_ascii_digit (drop 1 text))) text) ≡ false →
+    IsPlain (cond t (without_front is_space (without_front is_ascii_digit (drop 1 text))) text)
 unfolding without_front
 plain-number text true plain control =
     let digits : List ℕ = drop 1 text in
     let spaces : List ℕ = drop (prefix_len is_ascii_digit digits) digits in
     record {
-      mark = list_any-drop is_mark (prefix_len is_space spaces) spaces (list_any-drop is_mark (prefix_len is_ascii_digit digits) digits (list_any-drop is_mark 1 text plain.mark));
+      mark = list_any-drop is_mark (prefix_len is_space spaces) spaces (list_any-drop is_mark (prefix_len is_ascii_digit digits) digits
+          (list_any-drop is_mark 1 text plain.mark));
       front = front_by (drop (prefix_len is_space spaces) spaces) (prefix_len-drop_own is_space spaces) control;
-      back = suffix_len-drop_zero is_blank (prefix_len is_space spaces) spaces (suffix_len-drop_zero is_blank (prefix_len is_ascii_digit digits) digits (suffix_len-drop_zero is_blank 1 text plain.back));
+      back = suffix_len-drop_zero is_blank (prefix_len is_space spaces) spaces
+          (suffix_len-drop_zero is_blank (prefix_len is_ascii_digit digits) digits (suffix_len-drop_zero is_blank 1 text plain.back));
     }
 plain-number text false plain control = plain
 
@@ -144,7 +151,8 @@ plain-number text false plain control = plain
 pub plain-text_of : (line : List ℕ) → has_control (text_of line) ≡ false → IsPlain (text_of line)
 unfolding text_of without_number has_control
 plain-text_of line control =
-    plain-number (trimmed (before_first is_mark line)) (is_numbered (trimmed (before_first is_mark line))) (plain-trimmed (before_first is_mark line) (no_mark_in_front line)) control
+    plain-number (trimmed (before_first is_mark line)) (is_numbered (trimmed (before_first is_mark line)))
+    (plain-trimmed (before_first is_mark line) (no_mark_in_front line)) control
 
 before_first-all : (text : List ℕ) → list_any is_mark text ≡ false → position_or_len is_mark text ≡ length text
 before_first-all [] h = refl
@@ -189,7 +197,7 @@ unfolding without_number without_front is_numbered
 without_number-behind text h =
     ap (λ n. drop (1 + n) (32 ∷ text)) h
 
--- a command behind a line number of its own is that command
+-- a command after a line number of its own is that command
 pub text_of-behind : (text : List ℕ) → 1 ≤ length text → is_numbered text ≡ true → IsPlain text → text_of (codes "N0 " ++ text) ≡ text
 text_of-behind text some numbered plain =
     text_of-plain (codes "N0 " ++ text) (plain-behind text some plain) ∙ without_number-behind text (numbered_front text numbered)

@@ -20,7 +20,8 @@ last_or-more other items None = ap (last_or other) (append-nil items)
 last_or-more other items (Some item) = last_or-push other items item
 
 -- the mode after one more command
-pub mode_of-push : (axis : Axis) (texts : List (List ℕ)) (text : List ℕ) → mode_of axis (texts ++ text ∷ []) ≡ unwrap_or (mode_set axis text) (mode_of axis texts)
+pub mode_of-push : (axis : Axis) (texts : List (List ℕ)) (text : List ℕ) →
+    mode_of axis (texts ++ text ∷ []) ≡ unwrap_or (mode_set axis text) (mode_of axis texts)
 mode_of-push axis texts text =
     ap (last_or Absolute) (filter_map-append (mode_set axis) texts (text ∷ []))
     ∙ last_or-more Absolute (filter_map (mode_set axis) texts) (mode_set axis text)
@@ -47,7 +48,8 @@ z_as_x AbsoluteExtruder = refl
 z_as_x RelativeExtruder = refl
 z_as_x Other = refl
 
-modes_alike : (axis other : Axis) → ((kind : Kind) → mode_by axis kind ≡ mode_by other kind) → (texts : List (List ℕ)) → filter_map (mode_set axis) texts ≡ filter_map (mode_set other) texts
+modes_alike : (axis other : Axis) → ((kind : Kind) → mode_by axis kind ≡ mode_by other kind) → (texts : List (List ℕ)) →
+    filter_map (mode_set axis) texts ≡ filter_map (mode_set other) texts
 modes_alike axis other alike [] = refl
 modes_alike axis other alike (text ∷ texts) =
     ap (λ m. cons_option m (filter_map (mode_set axis) texts)) (alike (kind_of text))
@@ -62,7 +64,9 @@ pub mode_of-Z : (texts : List (List ℕ)) → mode_of Z texts ≡ mode_of X text
 mode_of-Z texts = ap (last_or Absolute) (modes_alike Z X z_as_x texts)
 
 -- the last anchor and the sum since, over the parts of one more step
-moved-by : (adds : Bool) (value : Option ℤ) (anchor : ℤ) (since : List ℤ) → unwrap_or (cond adds None value) anchor +ℤ total (cond (is_some (cond adds None value)) [] (since ++ cond adds (unwrap_or value (pos 0)) (pos 0) ∷ [])) ≡ moved adds value (anchor +ℤ total since)
+moved-by : (adds : Bool) (value : Option ℤ) (anchor : ℤ) (since : List ℤ) →
+    unwrap_or (cond adds None value) anchor +ℤ total (cond (is_some (cond adds None value)) []
+    (since ++ cond adds (unwrap_or value (pos 0)) (pos 0) ∷ [])) ≡ moved adds value (anchor +ℤ total since)
 moved-by true None anchor since = ap (λ t. anchor +ℤ t) (total-push since (pos 0) ∙ +ℤ_comm (total since) (pos 0) ∙ +ℤ_idl (total since))
 moved-by true (Some value) anchor since = ap (λ t. anchor +ℤ t) (total-push since value) ∙ sym (+ℤ_assoc anchor (total since) value)
 moved-by false None anchor since = ap (λ t. anchor +ℤ t) (total-push since (pos 0) ∙ +ℤ_comm (total since) (pos 0) ∙ +ℤ_idl (total since))
@@ -73,15 +77,22 @@ map-cond f true xs = refl
 map-cond f false xs = refl
 
 -- the position after one more command
-pub position_of-push : (axis : Axis) (texts : List (List ℕ)) (text : List ℕ) → position_of axis (texts ++ text ∷ []) ≡ position_then axis (mode_of axis texts) text (position_of axis texts)
+pub position_of-push : (axis : Axis) (texts : List (List ℕ)) (text : List ℕ) →
+    position_of axis (texts ++ text ∷ []) ≡ position_then axis (mode_of axis texts) text (position_of axis texts)
 unfolding position_of
 position_of-push axis texts text =
     let steps = steps_of texts in
     let step : Step = record { before = texts; text = text } in
     let since = steps_since_anchor axis texts in
-    let anchors : last_or (pos 0) (filter_map (anchor_of axis) (steps ++ step ∷ [])) ≡ unwrap_or (anchor_of axis step) (last_or (pos 0) (filter_map (anchor_of axis) steps)) = ap (last_or (pos 0)) (filter_map-append (anchor_of axis) steps (step ∷ [])) ∙ last_or-more (pos 0) (filter_map (anchor_of axis) steps) (anchor_of axis step) in
-    let shifts : map (shift_of axis) (after_last (λ s. is_some (anchor_of axis s)) (steps ++ step ∷ [])) ≡ cond (is_some (anchor_of axis step)) [] (map (shift_of axis) since ++ shift_of axis step ∷ []) = ap (map (shift_of axis)) (after_last-push (λ s. is_some (anchor_of axis s)) steps step) ∙ map-cond (shift_of axis) (is_some (anchor_of axis step)) (since ++ step ∷ []) ∙ ap (cond (is_some (anchor_of axis step)) []) (map-append (shift_of axis) since (step ∷ [])) in
-    ap (λ all. last_or (pos 0) (filter_map (anchor_of axis) all) +ℤ total (map (shift_of axis) (after_last (λ s. is_some (anchor_of axis s)) all))) (steps_of-push texts text)
+    let anchors : last_or (pos 0) (filter_map (anchor_of axis) (steps ++ step ∷ [])) ≡ unwrap_or (anchor_of axis step)
+    (last_or (pos 0) (filter_map (anchor_of axis) steps)) = ap (last_or (pos 0)) (filter_map-append (anchor_of axis) steps (step ∷ []))
+    ∙ last_or-more (pos 0) (filter_map (anchor_of axis) steps) (anchor_of axis step) in
+    let shifts : map (shift_of axis) (after_last (λ s. is_some (anchor_of axis s)) (steps ++ step ∷ [])) ≡ cond (is_some (anchor_of axis step)) []
+    (map (shift_of axis) since ++ shift_of axis step ∷ []) = ap (map (shift_of axis)) (after_last-push (λ s. is_some (anchor_of axis s)) steps step)
+    ∙ map-cond (shift_of axis) (is_some (anchor_of axis step)) (since ++ step ∷ [])
+    ∙ ap (cond (is_some (anchor_of axis step)) []) (map-append (shift_of axis) since (step ∷ [])) in
+    ap (λ all. last_or (pos 0) (filter_map (anchor_of axis) all) +ℤ total (map (shift_of axis) (after_last (λ s. is_some (anchor_of axis s)) all)))
+    (steps_of-push texts text)
     ∙ ap (λ a. a +ℤ total (map (shift_of axis) (after_last (λ s. is_some (anchor_of axis s)) (steps ++ step ∷ [])))) anchors
     ∙ ap (λ values. unwrap_or (anchor_of axis step) (last_or (pos 0) (filter_map (anchor_of axis) steps)) +ℤ total values) shifts
     ∙ moved-by (is_relative_move axis step) (value_of axis text) (last_or (pos 0) (filter_map (anchor_of axis) steps)) (map (shift_of axis) since)
@@ -92,7 +103,9 @@ head_of-push texts text =
     let axes = mode_of-push X texts text in
     let extruder = mode_of-push E texts text in
     let x = position_of-push X texts text in
-    let y : position_of Y (texts ++ text ∷ []) ≡ position_then Y (mode_of X texts) text (position_of Y texts) = position_of-push Y texts text ∙ ap (λ m. position_then Y m text (position_of Y texts)) (mode_of-Y texts) in
-    let z : position_of Z (texts ++ text ∷ []) ≡ position_then Z (mode_of X texts) text (position_of Z texts) = position_of-push Z texts text ∙ ap (λ m. position_then Z m text (position_of Z texts)) (mode_of-Z texts) in
+    let y : position_of Y (texts ++ text ∷ []) ≡ position_then Y (mode_of X texts) text (position_of Y texts) = position_of-push Y texts text
+    ∙ ap (λ m. position_then Y m text (position_of Y texts)) (mode_of-Y texts) in
+    let z : position_of Z (texts ++ text ∷ []) ≡ position_then Z (mode_of X texts) text (position_of Z texts) = position_of-push Z texts text
+    ∙ ap (λ m. position_then Z m text (position_of Z texts)) (mode_of-Z texts) in
     let e = position_of-push E texts text in
     rw (axes, extruder, x, y, z, e) refl

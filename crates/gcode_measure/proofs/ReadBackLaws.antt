@@ -1,9 +1,9 @@
 -- A number with six decimals is read back.
-use Rattle.std.proofs.Common.{◌≡◌, ℕ, zero, suc, ◌+◌, ◌-◌, ◌*◌, ◌/◌, ◌%◌, ◌^◌, ◌<◌, ◌≤◌, Bool, true, false, cond, nat_lt, ◌==◌, ◌||◌, ◌&&◌, List, [], ◌∷◌, ◌++◌, length, take, drop, ℤ, pos, negsuc, neg_ℤ, unsigned_abs, codes, decimal, Option, Some, None, refl, sym, ap, ◌∙◌, zero-add, arith}
-use Rattle.std.specs.List.{list_any, list_all, take_while, fold}
+use Rattle.std.proofs.Common.{◌≡◌, ℕ, suc, ◌+◌, ◌-◌, ◌*◌, ◌/◌, ◌%◌, ◌^◌, ◌<◌, ◌≤◌, Bool, true, false, cond, nat_lt, ◌==◌, ◌||◌, ◌&&◌, List, [], ◌∷◌, ◌++◌, length, drop, ℤ, pos, negsuc, neg_ℤ, unsigned_abs, decimal, Option, Some, None, refl, ap, ◌∙◌, arith}
+use Rattle.std.specs.List.{list_any, list_all, take_while}
 use Rattle.std.specs.Char.{is_ascii_digit, is_ascii_alphabetic}
 use Rattle.std.specs.Option.{option_map}
-use Rattle.std.proofs.lemmas.Bool.{or_parts, or_from, and_parts}
+use Rattle.std.proofs.lemmas.Bool.{or_parts, and_parts}
 use Rattle.std.proofs.lemmas.Bool.Decides.{nat_tests}
 use Rattle.std.proofs.lemmas.Fmt.{decimal_nonempty, length-decimal-le}
 use Rattle.std.proofs.lemmas.List.{append_assoc, length-append}
@@ -59,7 +59,8 @@ decimal_value-six n small =
     ∙ last
 
 -- digits are read up to what follows them
-leading_digits-append : (digits rest : List ℕ) → list_all is_ascii_digit digits ≡ true → begins_with_digit rest ≡ false → leading_digits (digits ++ rest) ≡ digits
+leading_digits-append : (digits rest : List ℕ) → list_all is_ascii_digit digits ≡ true → begins_with_digit rest ≡ false →
+    leading_digits (digits ++ rest) ≡ digits
 unfolding leading_digits begins_with_digit
 leading_digits-append [] [] each other = refl
 leading_digits-append [] (byte ∷ rest) each other =
@@ -103,20 +104,24 @@ abbrev magnitude_by : List ℕ → List ℕ → List ℕ → Option MagnitudeAt
 magnitude_by whole decimals rest =
     cond (length whole + length decimals == 0) None (Some (record { micro = micro_of whole decimals; rest = rest }))
 
-magnitude_by-six : (m n : ℕ) (rest : List ℕ) → magnitude_by (decimal m) (six_digits n) rest ≡ Some (record { micro = micro_of (decimal m) (six_digits n); rest = rest })
+magnitude_by-six : (m n : ℕ) (rest : List ℕ) → magnitude_by (decimal m) (six_digits n) rest ≡ Some
+    (record { micro = micro_of (decimal m) (six_digits n); rest = rest })
 magnitude_by-six m n rest =
     let test : (length (decimal m) + 6 == 0) ≡ false = grind (arith, nat_tests) in
     rw test refl
 
-magnitude_at-parts : (m n : ℕ) (rest : List ℕ) → m ≤ 9000000000000 → n < 1000000 → begins_with_digit rest ≡ false → magnitude_at (decimal m ++ ((46 ∷ six_digits n) ++ rest)) ≡ Some (record { micro = m * 1000000 + n; rest = rest })
+magnitude_at-parts : (m n : ℕ) (rest : List ℕ) → m ≤ 9000000000000 → n < 1000000 → begins_with_digit rest ≡ false →
+    magnitude_at (decimal m ++ ((46 ∷ six_digits n) ++ rest)) ≡ Some (record { micro = m * 1000000 + n; rest = rest })
 unfolding magnitude_at
 magnitude_at-parts m n rest most small other =
     let digits = all_digits-decimal m (omega arith) in
     let behind : List ℕ = (46 ∷ six_digits n) ++ rest in
     let whole = leading_digits-append (decimal m) ((46 ∷ six_digits n) ++ rest) digits (point-not_digit (six_digits n ++ rest)) in
     let after = behind_digits-append (decimal m) ((46 ∷ six_digits n) ++ rest) digits (point-not_digit (six_digits n ++ rest)) in
-    let decimals : decimals_at ((46 ∷ six_digits n) ++ rest) ≡ six_digits n = decimals_at-point (six_digits n ++ rest) ∙ leading_digits-append (six_digits n) rest (six_digits-digits n) other in
-    let left : behind_decimals ((46 ∷ six_digits n) ++ rest) ≡ rest = behind_decimals-point (six_digits n ++ rest) ∙ behind_digits-append (six_digits n) rest (six_digits-digits n) other in
+    let decimals : decimals_at ((46 ∷ six_digits n) ++ rest) ≡ six_digits n = decimals_at-point (six_digits n ++ rest)
+    ∙ leading_digits-append (six_digits n) rest (six_digits-digits n) other in
+    let left : behind_decimals ((46 ∷ six_digits n) ++ rest) ≡ rest = behind_decimals-point (six_digits n ++ rest)
+    ∙ behind_digits-append (six_digits n) rest (six_digits-digits n) other in
     ap (λ w. magnitude_by w (decimals_at (behind_digits (decimal m ++ behind))) (behind_decimals (behind_digits (decimal m ++ behind)))) whole
     ∙ ap (λ b. magnitude_by (decimal m) (decimals_at b) (behind_decimals b)) after
     ∙ ap (λ d. magnitude_by (decimal m) d (behind_decimals behind)) decimals
@@ -127,30 +132,37 @@ magnitude_at-parts m n rest most small other =
 signed_by : (digit : ℕ) → is_ascii_digit digit ≡ true → ((digit == 45) ≡ false) × ((digit == 43) ≡ false)
 signed_by digit h = (grind (arith, nat_tests), grind (arith, nat_tests))
 
-unsigned : (digits rest : List ℕ) → 0 < length digits → list_all is_ascii_digit digits ≡ true → (is_negative (digits ++ rest) ≡ false) × (behind_sign (digits ++ rest) ≡ digits ++ rest)
+unsigned : (digits rest : List ℕ) → 0 < length digits → list_all is_ascii_digit digits ≡ true →
+    (is_negative (digits ++ rest) ≡ false) × (behind_sign (digits ++ rest) ≡ digits ++ rest)
 unsigned [] rest some each = absurd (omega arith)
 unsigned (digit ∷ digits) rest some each =
     let parts = and_parts (is_ascii_digit digit) (list_all is_ascii_digit digits) each in
-    let not = signed_by digit parts.0 in
-    (not.0, ap (λ t. cond (t || digit == 43) (digits ++ rest) (digit ∷ (digits ++ rest))) not.0 ∙ ap (λ t. cond t (digits ++ rest) (digit ∷ (digits ++ rest))) not.1)
+    let not = signed_by digit parts.0 in (
+      not.0,
+      ap (λ t. cond (t || digit == 43) (digits ++ rest) (digit ∷ (digits ++ rest))) not.0
+          ∙ ap (λ t. cond t (digits ++ rest) (digit ∷ (digits ++ rest))) not.1,
+    )
 
 -- a size's whole and decimal parts
 size-parts : (size : ℕ) → size / 1000000 * 1000000 + size % 1000000 ≡ size
 size-parts size = omega arith
 
-number_at-unsigned : (size : ℕ) (rest : List ℕ) → size ≤ 1000000000000 → begins_with_digit rest ≡ false → number_at (decimal (size / 1000000) ++ ((46 ∷ six_digits (size % 1000000)) ++ rest)) ≡ Some (record { micro = pos size; rest = rest })
+number_at-unsigned : (size : ℕ) (rest : List ℕ) → size ≤ 1000000000000 → begins_with_digit rest ≡ false →
+    number_at (decimal (size / 1000000) ++ ((46 ∷ six_digits (size % 1000000)) ++ rest)) ≡ Some (record { micro = pos size; rest = rest })
 unfolding number_at
 number_at-unsigned size rest most other =
     let small : size / 1000000 ≤ 9000000000000 = omega arith in
     let low : size / 1000000 < 2 ^ 64 = omega arith in
     let behind : List ℕ = (46 ∷ six_digits (size % 1000000)) ++ rest in
-    let bare = unsigned (decimal (size / 1000000)) ((46 ∷ six_digits (size % 1000000)) ++ rest) (decimal_nonempty (size / 1000000) low) (all_digits-decimal (size / 1000000) low) in
+    let bare = unsigned (decimal (size / 1000000)) ((46 ∷ six_digits (size % 1000000)) ++ rest) (decimal_nonempty (size / 1000000) low)
+    (all_digits-decimal (size / 1000000) low) in
     ap (λ t. option_map (with_sign t) (magnitude_at (behind_sign (decimal (size / 1000000) ++ behind)))) bare.0
     ∙ ap (λ bytes. option_map (with_sign false) (magnitude_at bytes)) bare.1
     ∙ ap (option_map (with_sign false)) (magnitude_at-parts (size / 1000000) (size % 1000000) rest small (omega arith) other)
     ∙ ap (λ n. Some (record { micro = pos n; rest = rest })) (size-parts size)
 
-number_at-negative : (size : ℕ) (rest : List ℕ) → size ≤ 1000000000000 → begins_with_digit rest ≡ false → number_at (45 ∷ (decimal (size / 1000000) ++ ((46 ∷ six_digits (size % 1000000)) ++ rest))) ≡ Some (record { micro = neg_ℤ (pos size); rest = rest })
+number_at-negative : (size : ℕ) (rest : List ℕ) → size ≤ 1000000000000 → begins_with_digit rest ≡ false →
+    number_at (45 ∷ (decimal (size / 1000000) ++ ((46 ∷ six_digits (size % 1000000)) ++ rest))) ≡ Some (record { micro = neg_ℤ (pos size); rest = rest })
 unfolding number_at
 number_at-negative size rest most other =
     let small : size / 1000000 ≤ 9000000000000 = omega arith in
@@ -158,15 +170,18 @@ number_at-negative size rest most other =
     ∙ ap (λ n. Some (record { micro = neg_ℤ (pos n); rest = rest })) (size-parts size)
 
 -- a number is read back, whatever follows it but a digit
-pub number_at-micro_text : (micro : ℤ) (rest : List ℕ) → unsigned_abs micro ≤ 1000000000000 → begins_with_digit rest ≡ false → number_at (micro_text micro ++ rest) ≡ Some (record { micro = micro; rest = rest })
+pub number_at-micro_text : (micro : ℤ) (rest : List ℕ) → unsigned_abs micro ≤ 1000000000000 → begins_with_digit rest ≡ false →
+    number_at (micro_text micro ++ rest) ≡ Some (record { micro = micro; rest = rest })
 unfolding micro_text
 number_at-micro_text (pos size) rest most other =
     ap number_at (append_assoc (decimal (size / 1000000)) (46 ∷ six_digits (size % 1000000)) rest) ∙ number_at-unsigned size rest most other
 number_at-micro_text (negsuc size) rest most other =
-    ap (λ bytes. number_at (45 ∷ bytes)) (append_assoc (decimal (suc size / 1000000)) (46 ∷ six_digits (suc size % 1000000)) rest) ∙ number_at-negative (suc size) rest most other
+    ap (λ bytes. number_at (45 ∷ bytes)) (append_assoc (decimal (suc size / 1000000)) (46 ∷ six_digits (suc size % 1000000)) rest)
+    ∙ number_at-negative (suc size) rest most other
 
 -- the value that a number is read as
-pub value_at-micro_text : (micro : ℤ) (rest : List ℕ) → unsigned_abs micro ≤ 1000000000000 → begins_with_digit rest ≡ false → value_at (micro_text micro ++ rest) ≡ Some micro
+pub value_at-micro_text : (micro : ℤ) (rest : List ℕ) → unsigned_abs micro ≤ 1000000000000 → begins_with_digit rest ≡ false →
+    value_at (micro_text micro ++ rest) ≡ Some micro
 unfolding value_at
 value_at-micro_text micro rest most other = ap (option_map (λ (n : NumberAt). n.micro)) (number_at-micro_text micro rest most other)
 
@@ -207,7 +222,11 @@ unfolding micro_text
 micro_text-short micro most =
     let sign = sign_text-short micro in
     let whole = length-decimal-le 7 (unsigned_abs micro / 1000000) (omega arith) (omega arith) (omega arith) in
-    omega (arith, length-append (sign_text micro ++ decimal (unsigned_abs micro / 1000000)) (46 ∷ six_digits (unsigned_abs micro % 1000000)), length-append (sign_text micro) (decimal (unsigned_abs micro / 1000000)))
+    omega (
+      arith,
+      length-append (sign_text micro ++ decimal (unsigned_abs micro / 1000000)) (46 ∷ six_digits (unsigned_abs micro % 1000000)),
+      length-append (sign_text micro) (decimal (unsigned_abs micro / 1000000)),
+    )
 
 -- what begins no word is passed over
 pub words_of-passed : (bytes rest : List ℕ) → list_any is_ascii_alphabetic bytes ≡ false → words_of (bytes ++ rest) ≡ words_of rest

@@ -10,7 +10,7 @@ abbrev pub six_digits : ℕ → List ℕ
 six_digits n =
     (48 + n / 100000 % 10) ∷ (48 + n / 10000 % 10) ∷ (48 + n / 1000 % 10) ∷ (48 + n / 100 % 10) ∷ (48 + n / 10 % 10) ∷ (48 + n % 10) ∷ []
 
--- so many millionths as a number with six decimals
+-- a number of millionths with six decimals
 unfoldable pub micro_text : ℤ → List ℕ
 micro_text micro =
     sign_text micro ++ decimal (unsigned_abs micro / 1000000) ++ (codes "." ++ six_digits (unsigned_abs micro % 1000000))

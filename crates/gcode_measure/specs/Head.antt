@@ -9,7 +9,14 @@ use Rattle.gcode_measure.specs.Position.{mode_of, mode_set, is_move, is_relative
 -- modes and positions after commands
 abbrev pub head_of : List (List ℕ) → Head
 head_of texts =
-    record { axes = mode_of X texts; extruder = mode_of E texts; x = position_of X texts; y = position_of Y texts; z = position_of Z texts; e = position_of E texts }
+    record {
+      axes = mode_of X texts;
+      extruder = mode_of E texts;
+      x = position_of X texts;
+      y = position_of Y texts;
+      z = position_of Z texts;
+      e = position_of E texts;
+    }
 
 -- a position after a value is added to it or takes its place
 abbrev pub moved : Bool → Option ℤ → ℤ → ℤ
@@ -23,7 +30,14 @@ position_then axis mode text at = moved (is_move text && is_relative mode) (valu
 -- modes and positions after one more command
 abbrev pub head_then : Head → List ℕ → Head
 head_then head text =
-    record { axes = unwrap_or (mode_set X text) head.axes; extruder = unwrap_or (mode_set E text) head.extruder; x = position_then X head.axes text head.x; y = position_then Y head.axes text head.y; z = position_then Z head.axes text head.z; e = position_then E head.extruder text head.e }
+    record {
+      axes = unwrap_or (mode_set X text) head.axes;
+      extruder = unwrap_or (mode_set E text) head.extruder;
+      x = position_then X head.axes text head.x;
+      y = position_then Y head.axes text head.y;
+      z = position_then Z head.axes text head.z;
+      e = position_then E head.extruder text head.e;
+    }
 
 -- whether a position is too far from 0
 abbrev pub is_far : ℤ → Bool

@@ -14,7 +14,8 @@ whole_number (Some (negsuc micro)) = None
 abbrev pub g_kind : Option ℕ → Kind
 g_kind None = Other
 g_kind (Some n) =
-    if nat_le n 3 then Move else (if n == 20 then Inches else (if n == 28 then Home else (if n == 90 then AllAbsolute else (if n == 91 then AllRelative else (if n == 92 then SetPosition else Other)))))
+    if nat_le n 3 then Move else (if n == 20 then Inches else (if n == 28 then Home
+    else (if n == 90 then AllAbsolute else (if n == 91 then AllRelative else (if n == 92 then SetPosition else Other)))))
 
 -- what an `M` of this number is
 abbrev pub m_kind : Option ℕ → Kind

@@ -48,7 +48,15 @@ extent_by axis moves = extent_of (map (end_of axis) moves)
 abbrev pub measured : List (List ℕ) → Measure
 measured texts =
     let moves = moves_of texts in
-    record { commands = length texts; moves = length moves; fed = pos (fed_by moves); drawn = pos (drawn_by moves); x = extent_by X moves; y = extent_by Y moves; z = extent_by Z moves }
+    record {
+      commands = length texts;
+      moves = length moves;
+      fed = pos (fed_by moves);
+      drawn = pos (drawn_by moves);
+      x = extent_by X moves;
+      y = extent_by Y moves;
+      z = extent_by Z moves;
+    }
 
 -- whether a kind of command sets inches
 abbrev pub is_inches : Kind → Bool
@@ -70,7 +78,7 @@ first_fault before [] = None
 first_fault before (command ∷ commands) =
     option_or (fault_at before command) (first_fault (before ++ command.text ∷ []) commands)
 
--- the measure, unless there is a fault
+-- the measure, unless a command is refused
 abbrev pub unless_fault : Option MeasureFault → Measure → Result Measure MeasureFault
 unless_fault None measure = Ok measure
 unless_fault (Some fault) measure = Err fault

@@ -17,7 +17,16 @@ with_command measure = record measure { commands = measure.commands + 1 }
 -- a measure with one more move from one head to another
 abbrev pub with_move : Measure → Head → Head → Measure
 with_move measure from next =
-    record { commands = measure.commands + 1; moves = measure.moves + 1; fed = measure.fed +ℤ pos (int_gap from.e next.e); drawn = measure.drawn +ℤ pos (int_gap next.e from.e); x = Some (widened measure.x next.x); y = Some (widened measure.y next.y); z = Some (widened measure.z next.z) }
+    record {
+      commands = measure.commands + 1;
+      moves = measure.moves + 1;
+      fed = measure.fed +ℤ pos (int_gap from.e next.e);
+      drawn = measure.drawn +ℤ pos (int_gap next.e from.e);
+      x = Some (widened measure.x next.x);
+      y = Some (widened measure.y next.y);
+      z =
+          Some (widened measure.z next.z);
+    }
 
 -- a measure with one more command from one head to another
 abbrev pub measure_then : Measure → List ℕ → Head → Head → Measure

@@ -23,7 +23,7 @@ steps_from before (text ∷ texts) = record { before = before; text = text } ∷
 abbrev pub steps_of : List (List ℕ) → List Step
 steps_of texts = steps_from [] texts
 
--- the last of a list, or what stands for it in an empty one
+-- the last of a list, or a default for an empty one
 abbrev pub last_or : {A : Type 0} → A → List A → A
 last_or other [] = other
 last_or other (item ∷ items) = last_or item items

@@ -1,4 +1,4 @@
-use Rattle.std.specs.Prelude.{◌≡◌, ℕ, ◌+◌, ◌≤◌, ℤ, Bool, false, nat_lt, if◌then◌else◌, List, [], ◌∷◌, ◌++◌, length, map, take, drop, codes, Option, None, Some, Result, Ok, Err, IsOkAnd}
+use Rattle.std.specs.Prelude.{◌≡◌, ℕ, ◌+◌, ◌≤◌, ℤ, false, nat_lt, if◌then◌else◌, List, [], ◌∷◌, ◌++◌, length, map, take, drop, codes, Option, None, Some, Result, Ok, Err, IsOkAnd}
 use Rattle.std.specs.List.{flat_map}
 use Rattle.gcode_lines.specs.Job.{JobData, texts_of, most_bytes}
 use Rattle.gcode_lines.specs.Commands.{job_of}
@@ -31,7 +31,7 @@ abbrev pub extruder_command : Mode → List ℕ
 extruder_command Absolute = codes "M82"
 extruder_command Relative = codes "M83"
 
--- an axis's letter with what stands before it, and its position
+-- an axis's letter with the text before it, and its position
 abbrev pub axis_text : List ℕ → ℤ → List ℕ
 axis_text name at = name ++ micro_text at
 
@@ -40,7 +40,7 @@ unfoldable pub position_command : Head → List ℕ
 position_command head =
     axis_text (codes "G92 X") head.x ++ axis_text (codes " Y") head.y ++ axis_text (codes " Z") head.z ++ axis_text (codes " E") head.e
 
--- a command as a line: behind a number of its own if it could be taken for a numbered line
+-- a command as a line: after a number of its own if it could be taken for a numbered line
 abbrev pub line_of : List ℕ → List ℕ
 line_of text = if is_numbered text then codes "N0 " ++ text else text
 
@@ -66,17 +66,20 @@ abbrev pub unless_measured : Option MeasureFault → List ℕ → Result (List �
 unless_measured None text = Ok text
 unless_measured (Some refused) text = Err (fault.Measure refused)
 
--- the file that goes on at a command, or why there is none
+-- the file that goes on at a command, or why none does
 unfoldable pub rest_of : JobData → ℕ → Result (List ℕ) RestFault
 rest_of job from =
-    if nat_lt (length job.commands) from then Err (fault.Past (length job.commands)) else unless_measured (first_fault [] (take from job.commands)) (rest_text (texts_of job) from)
+    if nat_lt (length job.commands) from then Err (fault.Past (length job.commands)) else unless_measured (first_fault [] (take from job.commands))
+    (rest_text (texts_of job) from)
 
 -- a job goes on like another one at a command: after the three that set modes and positions it has the same commands, and
 -- before each of them and after the last the modes and positions of the other
 pub record GoesOn (job : JobData) (from : ℕ) (rest : JobData) : Type 0 where
   pub commands : drop 3 (texts_of rest) ≡ drop from (texts_of job)
-  pub modes : (axis : Axis) (i : ℕ) → from + i ≤ length job.commands → mode_of axis (take (3 + i) (texts_of rest)) ≡ mode_of axis (take (from + i) (texts_of job))
-  pub positions : (axis : Axis) (i : ℕ) → from + i ≤ length job.commands → position_of axis (take (3 + i) (texts_of rest)) ≡ position_of axis (take (from + i) (texts_of job))
+  pub modes : (axis : Axis) (i : ℕ) → from + i ≤ length job.commands → mode_of axis (take (3 + i) (texts_of rest)) ≡ mode_of axis
+      (take (from + i) (texts_of job))
+  pub positions : (axis : Axis) (i : ℕ) → from + i ≤ length job.commands →
+      position_of axis (take (3 + i) (texts_of rest)) ≡ position_of axis (take (from + i) (texts_of job))
 
 -- a text of a size that a file may have is a file that goes on with a file's job at a command
 abbrev pub IsRest : JobData → ℕ → List ℕ → Type 0

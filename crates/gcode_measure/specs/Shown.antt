@@ -19,4 +19,6 @@ extent_line name (Some extent) = name ++ micro_text extent.low ++ codes " " ++ m
 -- a measure as printed
 unfoldable pub measure_text : Measure → List ℕ
 measure_text measure =
-    count_line (codes "commands ") measure.commands ++ count_line (codes "moves ") measure.moves ++ length_line (codes "fed ") measure.fed ++ length_line (codes "drawn ") measure.drawn ++ extent_line (codes "X ") measure.x ++ extent_line (codes "Y ") measure.y ++ extent_line (codes "Z ") measure.z
+    count_line (codes "commands ") measure.commands ++ count_line (codes "moves ") measure.moves
+    ++ length_line (codes "fed ") measure.fed ++ length_line (codes "drawn ") measure.drawn
+    ++ extent_line (codes "X ") measure.x ++ extent_line (codes "Y ") measure.y ++ extent_line (codes "Z ") measure.z

@@ -42,7 +42,7 @@ is_homed E words = false
 abbrev pub end_value : Bool → Option ℤ
 end_value is = if is then Some (pos 0) else None
 
--- the value that a command of a kind gives an axis
+-- the value of a command of a kind for an axis
 abbrev pub value_by : Kind → Axis → List CodeWord → Option ℤ
 value_by Move axis words = first_number (letter_of axis) words
 value_by SetPosition axis words = first_number (letter_of axis) words
@@ -54,7 +54,7 @@ value_by AbsoluteExtruder axis words = None
 value_by RelativeExtruder axis words = None
 value_by Other axis words = None
 
--- the value that a command gives an axis: where it moves it or how far, what it sets it to, 0 at its end
+-- the value of a command for an axis: where it moves it or how far, what it sets it to, 0 at its end
 unfoldable pub value_of : Axis → List ℕ → Option ℤ
 value_of axis text = value_by (kind_of text) axis (words_of text)
 
@@ -62,16 +62,21 @@ value_of axis text = value_by (kind_of text) axis (words_of text)
 abbrev pub no_values : Values
 no_values = record { x = None; y = None; z = None; e = None }
 
--- values, and the numbers of further arguments for the axes that have none
+-- values, and the numbers of the other arguments for the axes that have none
 abbrev pub with_numbers : Values → List CodeWord → Values
 with_numbers values words =
-    record { x = option_or values.x (first_number 88 words); y = option_or values.y (first_number 89 words); z = option_or values.z (first_number 90 words); e = option_or values.e (first_number 69 words) }
+    record {
+      x = option_or values.x (first_number 88 words);
+      y = option_or values.y (first_number 89 words);
+      z = option_or values.z (first_number 90 words);
+      e = option_or values.e (first_number 69 words);
+    }
 
 -- the first number of each axis
 abbrev pub numbers_of : List CodeWord → Values
 numbers_of words = with_numbers no_values words
 
--- the values that a command of a kind gives
+-- the values of a command of a kind
 abbrev pub values_by : Kind → List CodeWord → Values
 values_by kind words =
     record { x = value_by kind X words; y = value_by kind Y words; z = value_by kind Z words; e = value_by kind E words }

@@ -30,7 +30,7 @@ pub(crate) enum Kind {
     AllAbsolute,
     /// `G91`: all axes relative.
     AllRelative,
-    /// `G92`: axes are said to stand at these values.
+    /// `G92`: axes are set to these values.
     SetPosition,
     /// `M82`: the extruder absolute.
     AbsoluteExtruder,

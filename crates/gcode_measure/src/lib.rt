@@ -18,7 +18,7 @@ mod values;
 pub use fault::{MeasureFault, RestFault};
 pub use measuring::measure;
 pub use remainder::rest;
-pub use shown::measure_text;
+pub use shown::{MeasureText, measure_text};
 pub use totals::{Extent, Measure};
 
 #[cfg(test)]

@@ -117,7 +117,8 @@ impl Pass {
         ensures { MatchResult result
             (λ _. (fault_by text.now line self.new.head ≡ None)
             × (self.new.head ≡ head_then self.old.head text.now)
-            × (self.new.measure ≡ measure_then self.old.measure text.now self.old.head self.new.head))
+            × (self.new.measure
+            ≡ measure_then self.old.measure text.now self.old.head self.new.head))
             (λ fault. fault_by text.now line (head_then self.old.head text.now) ≡ Some fault) }
     {
         let kind = read_kind(text);

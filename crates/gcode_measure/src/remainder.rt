@@ -65,7 +65,7 @@ fn put_line(text: &mut Blob, line: &[u8]) -> Result<(), AllocError>
     text.append(b"\n")
 }
 
-/// Adds an axis's letter with what stands before it, and its position.
+/// Adds an axis's letter with the text before it, and its position.
 fn put_axis(text: &mut Blob, name: &[u8], at: i128) -> Result<(), AllocError>
     ensures { OnOk result (text.new ≡ text.old ++ axis_text name.now at) }
 {

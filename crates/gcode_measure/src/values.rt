@@ -1,4 +1,4 @@
-//! The values that a command gives the axes.
+//! The values of a command for the axes.
 ghost use Rattle.std.specs.Prelude.{◌≡◌, ◌||◌};
 ghost use Rattle.gcode_words.specs.Words.{words_of};
 ghost use Rattle.gcode_measure.specs.Values.{is_named, names_none, numbers_of, no_values, with_numbers, end_value, values_by};
@@ -104,7 +104,7 @@ fn read_homed(text: &[u8]) -> Values
     }
 }
 
-/// The values that a command gives the axes.
+/// The values of a command for the axes.
 pub(crate) fn read_values(kind: Kind, text: &[u8]) -> Values
     ensures { result ≡ values_by kind (words_of text.now) }
 {

@@ -12,12 +12,14 @@ got P (y ∷ xs) zero x all e = let same : y ≡ x = cc e in subst P same (All-h
 got P (y ∷ xs) (suc i) x all e = got P xs i x (All-tail P y xs all) e
 
 -- a text at a place among texts that may be sent
-got_at : (texts : List (ArrayVec ℕ)) (i : ℕ) (t : ArrayVec ℕ) → All IsSendable (map (λ t. t.items) texts) → i < length texts → t ≡ get_or texts i t → IsSendable t.items
+got_at : (texts : List (ArrayVec ℕ)) (i : ℕ) (t : ArrayVec ℕ) → All IsSendable (map (λ t. t.items) texts) → i < length texts → t ≡ get_or texts i t →
+    IsSendable t.items
 got_at [] i t all h e = absurd (omega arith)
 got_at (x ∷ texts) zero t all h e = subst (λ u. IsSendable u.items) (sym e) (All-head IsSendable x.items (map (λ t. t.items) texts) all)
 got_at (x ∷ texts) (suc i) t all h e = got_at texts i t (All-tail IsSendable x.items (map (λ t. t.items) texts) all) (omega arith) e
 
-pub got_item : (texts : List (ArrayVec ℕ)) (i : ℕ) (r : Option (Bor (ArrayVec ℕ))) → All IsSendable (map (λ t. t.items) texts) → IsItemAt texts i r → IfSome r (λ t. IsSendable t.now.items)
+pub got_item : (texts : List (ArrayVec ℕ)) (i : ℕ) (r : Option (Bor (ArrayVec ℕ))) → All IsSendable (map (λ t. t.items) texts) → IsItemAt texts i r →
+    IfSome r (λ t. IsSendable t.now.items)
 got_item texts i None all h = tt
 got_item texts i (Some t) all h = got_at texts i t.now all h.3.0 h.1
 

@@ -63,7 +63,7 @@ pub record IsDesk (desk : Inside) : Type 0 where
   pub sendable : All IsSendable (bytes_of desk.manual.items)
   pub going : has_print desk.state ≡ true → desk.prints.active ≡ true
 
--- how many lines are acknowledged falls only where a session begins, with 0, and is at most how many were issued
+-- how many lines are acknowledged falls only if a session begins, to 0, and is at most how many were issued
 abbrev pub MayNote : ℕ → LinkFact → Data → Type 0
 MayNote acked fact.Opened d = acked ≡ 0
 MayNote acked fact.Quiet d = (d.acked ≤ acked) × (acked ≤ d.issued)

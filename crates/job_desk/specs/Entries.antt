@@ -7,7 +7,7 @@ use Rattle.job_desk.specs.declared.waiting.Entry.{Entry}
 abbrev pub entry_lines : ScriptTexts → Entry → List Line
 entry_lines scripts entry = drop entry.next (script_lines scripts entry.point entry.print)
 
--- the lines of scripts, one script behind the other
+-- the lines of scripts, one script after the other
 abbrev pub lines_left : ScriptTexts → List Entry → List Line
 lines_left scripts [] = []
 lines_left scripts (entry ∷ entries) = entry_lines scripts entry ++ lines_left scripts entries

@@ -10,7 +10,7 @@ use Rattle.desk_steps.specs.declared.issued.Issued.{Issued}
 abbrev pub bytes_of : List (ArrayVec ℕ) → List (List ℕ)
 bytes_of texts = map (λ t. t.items) texts
 
--- a part of a pull gave this: where it had no line the desk is as before, and what is next counts
+-- a part of a pull returned this: without a line the desk is as before, and what is next counts
 abbrev pub DrawsFrom : (Drawn → Drawn) → Option Issued → Data → Data → Type 0
 DrawsFrom from None old new = (new ≡ old) × ((next : Drawn) → from next ≡ next)
 DrawsFrom from (Some issued) old new = (next : Drawn) → from next ≡ (Some (line_of issued), new)

@@ -98,7 +98,15 @@ impl Model for Scripts {
 
     ghost Value = { ScriptTexts };
 
-    ghost view = { λ s. record { connected = s.connected; disconnect = s.disconnect; started = s.started; paused = s.paused; resumed = s.resumed; cancelled = s.cancelled; done = s.done } };
+    ghost view = { λ s. record {
+      connected = s.connected;
+      disconnect = s.disconnect;
+      started = s.started;
+      paused = s.paused;
+      resumed = s.resumed;
+      cancelled = s.cancelled;
+      done = s.done;
+    } };
 }
 
 impl Scripts {

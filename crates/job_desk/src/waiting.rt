@@ -20,7 +20,7 @@ pub(crate) struct Entry {
     next: usize,
 }
 
-/// Up to five scripts that wait, in order, over all the scripts there are. A script without a line left is taken away.
+/// Up to five scripts that wait, in order, and all the scripts. A script without a line left is taken away.
 #[derive(Drop)]
 pub(crate) struct Waiting {
     scripts: Scripts,
@@ -35,7 +35,11 @@ impl Model for Waiting {
 
     ghost use Rattle.job_desk.specs.Entries.{lines_left, HaveLines};
 
-    ghost view = { λ w. record { scripts = w.scripts; lines = lines_left w.scripts w.entries.items; count = length w.entries.items } };
+    ghost view = { λ w. record {
+      scripts = w.scripts;
+      lines = lines_left w.scripts w.entries.items;
+      count = length w.entries.items;
+    } };
 
     ghost invariant = { λ w. HaveLines w.scripts w.entries.items };
 }
@@ -76,7 +80,7 @@ impl Waiting {
         self.entries.is_empty()
     }
 
-    /// The first line, if there is one.
+    /// The first line, if any.
     fn first(&self) -> Option<Issued>
         ensures value { option_map line_of result ≡ slice_get self.now.lines 0 }
         ensures sendable { IfSome result (λ issued. IsSendable issued.text.items) }
@@ -109,7 +113,7 @@ impl Waiting {
         }
     }
 
-    /// Takes the first line, if there is one.
+    /// Takes the first line, if any.
     pub(crate) fn next(&mut self) -> Option<Issued>
         ensures value { option_map line_of result ≡ slice_get self.old.lines 0 }
         ensures sendable { IfSome result (λ issued. IsSendable issued.text.items) }

@@ -1,5 +1,5 @@
 -- What a command comes to, by its arguments, its files and the history of its link.
-use Rattle.std.specs.Prelude.{◌≡◌, ◌≢◌, ◌⊎◌, ℕ, Bool, true, false, ◌==◌, ◌||◌, List, [], Option, None, Some, Ok, Err}
+use Rattle.std.specs.Prelude.{◌≡◌, ◌≢◌, ◌⊎◌, ℕ, List, Option, None, Some, Ok, Err}
 use Rattle.octo_outside.specs.Told.{Adds, AddsPrefix, Rose}
 use Rattle.octo_outside.specs.Traits.{Files}
 use Rattle.printer_link.specs.Link.{LinkKind, RoseBy}
@@ -20,7 +20,7 @@ use Rattle.octo_files.specs.Checks.{check_report}
 use Rattle.octo_files.specs.Measures.{measure_report, IsRestReport}
 use Rattle.octo_files.specs.Reading.{FileGives, IsTrouble}
 use Rattle.octo_files.specs.Settings.{HaveSettings}
-use Rattle.octo_print.specs.Printing.{Histories, IsFilePrint, over_port}
+use Rattle.octo_print.specs.Printing.{Seen, IsFilePrint, over_port}
 use Rattle.octo_outside.specs.declared.command_line.ArgumentsFault.{ArgumentsFault}
 use Rattle.octo_outside.specs.declared.command_line.ArgumentsFault.TheVariants as arguments
 
@@ -57,7 +57,7 @@ pub record IsSummary (seed commands : ℕ) (r : Report) : Type 0 where
   pub text : text_of r ≡ summary_of seed commands (counts_of demo.link) (status_of demo.end)
 
 -- what a command reports; only a print adds to the history
-abbrev pub Reports : LinkKind → Option Files → Histories → Command → Report → Type 0
+abbrev pub Reports : LinkKind → Option Files → Seen → Command → Report → Type 0
 Reports kind files h (command.Print port file turns settings) r =
     IsFilePrint kind files settings file (over_port port turns) h r
 Reports kind files h (command.Check file settings) r = IsCheck files settings file r × (h.now ≡ h.first)
@@ -69,7 +69,7 @@ Reports kind files h (command.Rest file from) r =
     Given files file r (λ bytes. IsRestReport from bytes r) × (h.now ≡ h.first)
 
 -- what arguments come to: they are no command, or theirs is carried out; or memory runs out before
-pub data Comes (words : List (List ℕ)) (kind : LinkKind) (files : Option Files) (h : Histories) (r : Report) : Type 0 where
+pub data Comes (words : List (List ℕ)) (kind : LinkKind) (files : Option Files) (h : Seen) (r : Report) : Type 0 where
   out_of_memory : r ≡ report.NoMemory → h.now ≡ h.first → Comes words kind files h r
   no_command : r ≡ report.BadWords → command_of words ≡ None → h.now ≡ h.first → Comes words kind files h r
   carried_out : (asked : Command) → command_of words ≡ Some asked → Reports kind files h asked r → Comes words kind files h r

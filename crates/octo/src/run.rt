@@ -1,13 +1,14 @@
 //! The commands of the print host.
-ghost use Rattle.std.specs.Prelude.{◌≡◌, ◌≢◌, ◌≤◌, false};
+ghost use Rattle.std.specs.Prelude.{◌≡◌, ◌≢◌, ◌⊎◌, ◌≤◌, false};
 ghost use Rattle.std.specs.Option.{option_map};
-ghost use Rattle.octo_outside.specs.Told.{Rose};
+ghost use Rattle.octo_outside.specs.Told.{Rose, Steady};
 ghost use Rattle.octo_words.specs.Words.{IsInRange};
 ghost use Rattle.octo_report.specs.Status.{code_of};
 ghost use Rattle.octo_report.specs.declared.report.Report.{Report};
 ghost use Rattle.octo_report.specs.declared.report.Report.TheVariants as report;
-ghost use Rattle.octo_print.specs.Printing.{between};
+ghost use Rattle.octo_print.specs.Printing.{seen_of};
 ghost use Rattle.octo.specs.Commands.{Comes, HasCauses, IsCheck, IsWritten, Reports};
+ghost use Rattle.octo.specs.Enough.{HasEnough};
 
 use crate::demo::demo;
 use octo_files::{check_file, measure_file, read_settings_of, rest_of_file};
@@ -63,7 +64,8 @@ fn carry_out<F: Source, L: Link, T: Clock>(
     requires down { L.up link.old ≡ false }
     requires range { IsInRange command.now }
     ensures reports { Reports (L.kind link.old) (F.files files.old)
-        (between (L.past link.old) (L.past link.new)) command.now result }
+        (seen_of (L.past link.old) (L.past link.new)
+        (L.faults link.old) (L.faults link.new) (T.moment clock.new)) command.now result }
     ensures causes { HasCauses (F.faults files.old) (F.faults files.new)
         (L.faults link.old) (L.faults link.new) (L.calls link.old) (L.calls link.new) result }
     ensures output { code_of result ≢ 8 }
@@ -106,7 +108,8 @@ fn run<F: Source, L: Link, T: Clock>(
 ) -> Report
     requires { L.up link.old ≡ false }
     ensures comes { Comes words.now (L.kind link.old) (F.files files.old)
-        (between (L.past link.old) (L.past link.new)) result }
+        (seen_of (L.past link.old) (L.past link.new)
+        (L.faults link.old) (L.faults link.new) (T.moment clock.new)) result }
     ensures causes { HasCauses (F.faults files.old) (F.faults files.new)
         (L.faults link.old) (L.faults link.new) (L.calls link.old) (L.calls link.new) result }
     ensures output { code_of result ≢ 8 }
@@ -136,11 +139,19 @@ pub fn octo<R, F: Source, L: Link, O: Sink, T: Clock>(
 
     // What the arguments come to is written, each failure by its cause.
     ensures comes { (r : Report) × Comes words.now (L.kind link.old) (F.files files.old)
-        (between (L.past link.old) (L.past link.new)) r
+        (seen_of (L.past link.old) (L.past link.new)
+        (L.faults link.old) (L.faults link.new) (T.moment clock.new)) r
         × HasCauses (F.faults files.old) (F.faults files.new)
         (L.faults link.old) (L.faults link.new) (L.calls link.old) (L.calls link.new) r
         × IsWritten r result.code (O.written out.old) (O.written out.new) }
     ensures sink { result.code ≡ 8 → Rose (O.faults out.old) (O.faults out.new) }
+
+    // Over a prompt link a print with 32 turns more than its plan has lines is done, or memory runs out.
+    ensures prompt { HasEnough words.now (L.kind link.old) (F.files files.old)
+        (seen_of (L.past link.old) (L.past link.new)
+        (L.faults link.old) (L.faults link.new) (T.moment clock.new))
+        → Steady (F.faults files.old) (F.faults files.new)
+        → Steady (O.faults out.old) (O.faults out.new) → (result.code ≡ 0) ⊎ (result.code ≡ 11) }
 
     // What stays, and counts.
     ensures kind { L.kind link.new ≡ L.kind link.old }

@@ -1,5 +1,5 @@
 -- What a print of a file comes to, by its settings, its file and the history of its link.
-use Rattle.std.specs.Prelude.{◌≡◌, ◌≢◌, ◌⊎◌, ◌↔◌, ℕ, ◌≤◌, false, List, length, Option, Result, Ok, Err}
+use Rattle.std.specs.Prelude.{◌≡◌, ◌≢◌, ◌⊎◌, ◌↔◌, ℕ, ◌≤◌, ◌+◌, false, List, length, Option, Result, Ok, Err}
 use Rattle.octo_outside.specs.Traits.{Files}
 use Rattle.gcode_lines.specs.Job.{JobData, texts_of}
 use Rattle.temp_rules.specs.declared.limits.Limits.{Limits}
@@ -9,6 +9,7 @@ use Rattle.send_window.specs.declared.session_end.SessionEnd.{SessionEnd}
 use Rattle.lossy_line.specs.Tied.{EndCausedAs}
 use Rattle.print_course.specs.Plan.{plan}
 use Rattle.session_print.specs.Ends.{IsUnsent}
+use Rattle.prompt_print.specs.Smooth.{IsSmooth}
 use Rattle.session_print.specs.Printed.{HasPrinted}
 use Rattle.session_print.specs.declared.end.PrintEnd.{PrintEnd}
 use Rattle.session_print.specs.declared.end.PrintEnd.TheVariants as end
@@ -48,16 +49,24 @@ pub record Asked : Type 0 where
 abbrev pub over_port : List ℕ → ℕ → Asked
 over_port port turns = record { port = port; turns = turns }
 
--- a history before a print and after it
-pub record Histories : Type 0 where
+-- what is seen of a print: its link's history and its count of faults, before it and after it, and its clock's last moment
+pub record Seen : Type 0 where
   pub first : Option (List WorldEvent)
   pub now : Option (List WorldEvent)
+  pub faults : ℕ
+  pub faults_now : ℕ
+  pub moment : Option ℕ
 
-abbrev pub between : Option (List WorldEvent) → Option (List WorldEvent) → Histories
-between first now = record { first = first; now = now }
+abbrev pub seen_of : Option (List WorldEvent) → Option (List WorldEvent) → ℕ → ℕ → Option ℕ → Seen
+seen_of first now faults faults_now moment =
+    record { first = first; now = now; faults = faults; faults_now = faults_now; moment = moment }
+
+-- the number of lines that a job and its scripts are
+abbrev pub lines_planned : Settings → JobData → ℕ
+lines_planned s job = length (plan s.scripts (texts_of job))
 
 -- a job was printed over a link by settings, and the print ended so
-pub record HasRun (kind : LinkKind) (s : Settings) (job : JobData) (asked : Asked) (h : Histories) (how : PrintEnd) : Type 0 where
+pub record HasRun (kind : LinkKind) (s : Settings) (job : JobData) (asked : Asked) (h : Seen) (how : PrintEnd) : Type 0 where
   -- the first lines of the plan were printed, in one session at most; all of it if the print is done
   pub acked : ℕ
   pub printed : Recorded h.first h.now (HasPrinted kind (plan s.scripts (texts_of job)) how acked)
@@ -67,25 +76,28 @@ pub record HasRun (kind : LinkKind) (s : Settings) (job : JobData) (asked : Aske
   pub ended : (why : SessionEnd) → how ≡ end.Ended why → EndCausedAs kind h.now why
   pub used : (made : ℕ) → how ≡ end.TurnsUsed made → made ≡ asked.turns
   pub unsent : IsUnsent how → h.now ≡ h.first
+  -- over a prompt link it's done, if 32 turns more are allowed than its plan has lines
+  pub prompt : IsSmooth kind h.first asked.port h.faults h.faults_now h.moment s.limit_ms s.poll_ms (lines_planned s job)
+      → lines_planned s job + 32 ≤ asked.turns → how ≡ end.Done
 
 -- a job was printed and its end reported
-pub record IsRun (kind : LinkKind) (s : Settings) (job : JobData) (asked : Asked) (h : Histories) (r : Report) : Type 0 where
+pub record IsRun (kind : LinkKind) (s : Settings) (job : JobData) (asked : Asked) (h : Seen) (r : Report) : Type 0 where
   pub how : PrintEnd
   pub is : r ≡ reported how asked.port job
   pub run : HasRun kind s job asked h how
 
 -- a report, and nothing was added to the history
-pub record IsRefused (h : Histories) (r refusal : Report) : Type 0 where
+pub record IsRefused (h : Seen) (r refusal : Report) : Type 0 where
   pub is : r ≡ refusal
   pub unused : h.now ≡ h.first
 
 -- what follows of what was read
-abbrev pub Follows : LinkKind → Asked → Histories → Report → Result (Settings × JobData) Report → Type 0
+abbrev pub Follows : LinkKind → Asked → Seen → Report → Result (Settings × JobData) Report → Type 0
 Follows kind asked h r (Err refusal) = IsRefused h r refusal
 Follows kind asked h r (Ok (s, job)) = IsRefused h r report.NoMemory ⊎ IsRun kind s job asked h r
 
 -- a file was printed by settings, or not, and this is reported
-pub record IsFilePrint (kind : LinkKind) (files : Option Files) (settings : Option (List ℕ)) (file : List ℕ) (asked : Asked) (h : Histories) (r : Report) : Type 0 where
+pub record IsFilePrint (kind : LinkKind) (files : Option Files) (settings : Option (List ℕ)) (file : List ℕ) (asked : Asked) (h : Seen) (r : Report) : Type 0 where
   pub found : Result (Settings × JobData) Report
   pub reads : Reads files settings file found
   pub follows : Follows kind asked h r found

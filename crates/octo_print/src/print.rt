@@ -10,7 +10,7 @@ ghost use Rattle.printer_link.specs.Link.{RoseBy};
 ghost use Rattle.session_print.specs.Ends.{IsNew};
 ghost use Rattle.octo_settings.specs.Sound.{IsSettings};
 ghost use Rattle.octo_report.specs.declared.report.Report.TheVariants as report;
-ghost use Rattle.octo_print.specs.Printing.{IsFilePrint, IsRefused, IsRun, between, over_port, reported};
+ghost use Rattle.octo_print.specs.Printing.{IsFilePrint, IsRefused, IsRun, seen_of, over_port, reported};
 
 use byte_text::Name;
 use gcode_lines::Job;
@@ -78,9 +78,11 @@ fn print_job<L: Link, T: Clock>(
     requires cool { first_hot_of settings.limits job.commands ≡ None }
 
     // result
-    ensures run { IsRefused (between (L.past link.old) (L.past link.new)) result report.NoMemory
+    ensures run { IsRefused (seen_of (L.past link.old) (L.past link.new)
+        (L.faults link.old) (L.faults link.new) (T.moment clock.new)) result report.NoMemory
         ⊎ IsRun (L.kind link.old) settings job (over_port port.now turns)
-        (between (L.past link.old) (L.past link.new)) result }
+        (seen_of (L.past link.old) (L.past link.new)
+        (L.faults link.old) (L.faults link.new) (T.moment clock.new)) result }
 
     // the link
     ensures down { L.up link.new ≡ false }
@@ -119,7 +121,8 @@ pub fn print_file<F: Source, L: Link, T: Clock>(
     // result
     ensures print { IsFilePrint (L.kind link.old) (F.files files.old)
         (option_map (λ s. s.now) settings.entry) file.now (over_port port.now turns)
-        (between (L.past link.old) (L.past link.new)) result }
+        (seen_of (L.past link.old) (L.past link.new)
+        (L.faults link.old) (L.faults link.new) (T.moment clock.new)) result }
 
     // the source
     ensures files { F.files files.new ≡ F.files files.old }

@@ -129,7 +129,8 @@ fn put_numbers(
     requires short_before { length before.now ≤ 10 }
     requires short_between { length between.now ≤ 10 }
     requires short_after { length after.now ≤ 20 }
-    ensures { page.new.items ≡ end_line (before.now ++ decimal first ++ between.now ++ decimal second ++ after.now) }
+    ensures { page.new.items ≡ end_line
+        (before.now ++ decimal first ++ between.now ++ decimal second ++ after.now) }
 {
     append(page, b"session ended: ");
     append(page, before);
@@ -140,7 +141,7 @@ fn put_numbers(
     append(page, b"\n");
 }
 
-/// Puts how a session ended, which one number tells.
+/// Puts how a session ended, with the number that says so.
 fn put_number(page: &mut Page, before: &[u8], number: u32, after: &[u8])
     requires empty { page.old.items ≡ [] }
     requires short_before { length before.now ≤ 20 }

@@ -4,7 +4,6 @@
 mod faults;
 mod page;
 mod report;
-mod shown;
 mod texts;
 mod writing;
 

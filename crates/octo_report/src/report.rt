@@ -14,7 +14,7 @@ use temp_rules::HotLine;
 /// How a command ended. Temperatures are in whole degrees Celsius.
 #[derive(Drop)]
 pub enum Report {
-    /// Each command of the file was executed; so many lines hold no command.
+    /// Each command of the file was executed; `skipped` lines hold no command.
     Printed {
         commands: u32,
         skipped: u32,
@@ -30,7 +30,7 @@ pub enum Report {
     Measured(Measure),
     /// The file that goes on at a command.
     Rest(Blob),
-    /// What is told of a demo's print, and the exit status of that print.
+    /// What a demo reports of its print, and the exit status of that print.
     Demo {
         text: ArrayVec<u8, 256>,
         status: u8,
@@ -45,7 +45,7 @@ pub enum Report {
     TooHot(HotLine),
     /// The file can't be measured.
     BadMeasure(MeasureFault),
-    /// The file ends before that command: it has so many.
+    /// The file ends before that command: it has `count` commands.
     Past {
         count: u32,
     },

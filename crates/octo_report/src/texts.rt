@@ -1,12 +1,13 @@
 //! The text of each report but the file that goes on at a command.
 ghost use Rattle.std.specs.Prelude.{◌≡◌, ◌++◌, [], codes, decimal, false};
+ghost use Rattle.gcode_measure.specs.Shown.{measure_text};
 ghost use Rattle.octo_report.specs.Texts.{printed_text, checked_text, port_text, past_text, turns_text, is_rest, text_of};
 
 use crate::faults::{put_end, put_file, put_hot, put_measure_fault, put_settings};
 use crate::page::{Page, append_whole};
 use crate::report::Report;
-use crate::shown::put_measure;
 use byte_text::{Name, append};
+use gcode_measure::{Measure, measure_text};
 
 fn put_printed(page: &mut Page, commands: u32, skipped: u32)
     requires { page.old.items ≡ [] }
@@ -32,6 +33,12 @@ fn put_checked(page: &mut Page, commands: u32, skipped: u32, tool: u64, bed: u64
     append(page, b"\nhottest bed ");
     append_whole(page, u128::from(bed));
     append(page, b"\n");
+}
+
+fn put_measure(page: &mut Page, measure: &Measure)
+    ensures { page.new.items ≡ measure_text measure.now }
+{
+    *page = measure_text(measure);
 }
 
 fn put_port(page: &mut Page, port: &Name)

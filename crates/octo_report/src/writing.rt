@@ -14,7 +14,8 @@ fn write_page<O: Sink>(out: &mut O, report: &Report) -> Result<(), Failed>
 
     // what is written
     ensures ok { OnOk result (Adds (O.written out.old) (O.written out.new) (text_of report.now)) }
-    ensures err { OnErr result (AddsPrefix (O.written out.old) (O.written out.new) (text_of report.now)) }
+    ensures err { OnErr result
+        (AddsPrefix (O.written out.old) (O.written out.new) (text_of report.now)) }
 
     // faults
     ensures counted { O.faults out.old ≤ O.faults out.new }
@@ -29,7 +30,8 @@ fn write_page<O: Sink>(out: &mut O, report: &Report) -> Result<(), Failed>
 pub fn write_report<O: Sink>(out: &mut O, report: &Report) -> Result<(), Failed>
     // what is written
     ensures ok { OnOk result (Adds (O.written out.old) (O.written out.new) (text_of report.now)) }
-    ensures err { OnErr result (AddsPrefix (O.written out.old) (O.written out.new) (text_of report.now)) }
+    ensures err { OnErr result
+        (AddsPrefix (O.written out.old) (O.written out.new) (text_of report.now)) }
 
     // faults
     ensures counted { O.faults out.old ≤ O.faults out.new }

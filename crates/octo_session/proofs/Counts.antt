@@ -55,7 +55,8 @@ counts_select _ file d = same d
 
 pub counts_drop_file : (name : List ℕ) (d : Data) → Counts d (drop_file_step name d).1
 counts_drop_file name d =
-    choose_pair (λ e. Counts d e) (is_named name d.file) _ _ (choose_pair (λ e. Counts d e) d.active _ _ (same d) (record { issued = refl; acked = refl })) (same d)
+    choose_pair (λ e. Counts d e) (is_named name d.file) _ _ (choose_pair (λ e. Counts d e) d.active _ _ (same d) (record { issued = refl; acked = refl }))
+    (same d)
 
 counts_checked : (hot : Option HotLine) (print : ℕ) (d : Data) → Counts d (start_checked hot print d).1
 counts_checked None print d = record { issued = refl; acked = refl }
@@ -94,7 +95,8 @@ counts_cancel _ d = same d
 
 counts_adds : (lines : List (List ℕ)) (d : Data) → Counts d (add_manual lines d).1
 counts_adds lines d =
-    choose_pair {X = Result (Unit {0}) Refusal} (λ e. Counts d e) (nat_lt 256 (length d.manual + length lines)) (Err (refusal.Full (length d.manual)), d) (Ok tt, record d { manual = d.manual ++ lines }) (same d) (record { issued = refl; acked = refl })
+    choose_pair {X = Result (Unit {0}) Refusal} (λ e. Counts d e) (nat_lt 256 (length d.manual + length lines)) (Err (refusal.Full (length d.manual)), d)
+    (Ok tt, record d { manual = d.manual ++ lines }) (same d) (record { issued = refl; acked = refl })
 
 pub counts_manual : (s : State) (lines : List (List ℕ)) (d : Data) → Counts d (manual_at s lines d).1
 counts_manual Operational lines d = counts_adds lines d
@@ -164,7 +166,7 @@ counts_opened moment d =
     let noted : Noted = ended told in
     and_then told noted.1 (settled noted.1) (counts_end told.state told) (counts_settle noted.1.state noted.1)
 
--- the count behind a pull
+-- the count after a pull
 abbrev pub counted_by : Option Line → ℕ → ℕ
 counted_by None n = n
 counted_by (Some line) n = next_number n
@@ -178,7 +180,8 @@ counted_none : (d : Data) → Counted d (nothing d)
 counted_none d = record { issued = refl; acked = refl }
 
 counts_keep : (tag : Tag) (number : ℕ) (d : Data) → Counts d (keep_number tag number d)
-counts_keep (Script point print) number d = either (λ e. Counts d e) (nat_eq print 0) d (record d { print_line = number }) (same d) (record { issued = refl; acked = refl })
+counts_keep (Script point print) number d = either (λ e. Counts d e) (nat_eq print 0) d (record d { print_line = number }) (same d)
+    (record { issued = refl; acked = refl })
 counts_keep (Job print index) number d = record { issued = refl; acked = refl }
 counts_keep Manual number d = same d
 counts_keep Poll number d = record { issued = refl; acked = refl }

@@ -34,7 +34,7 @@ pulls_push moment [] line old mid same some =
 pulls_push moment (first ∷ lines) line old mid pulls some =
     (pulls.0, pulls_push moment lines line (pull_step moment old).1 mid pulls.1 some)
 
--- a pull that gives what it gives
+-- a pull, whatever it returns
 pub pulls_more : (moment : ℕ) (lines : List Line) (old mid : Data) (got : Option Line) → Pulls moment lines old mid → (pull_step moment mid).0 ≡ got →
     (got ≡ None → (pull_step moment mid).1 ≡ mid) → Pulls moment (lines ++ drawn got) old (pull_step moment mid).1
 pulls_more moment lines old mid None pulls e still =
@@ -113,10 +113,11 @@ issuing_next moment lines more d s t u first second joined =
     record {
       sender = second.sender ∙ ap (after_steps moment (issuing (texts_in new))) first.sender
           ∙ sym (ap (λ (steps : List Step). after_steps moment steps s) all ∙ after_steps-append moment (issuing (texts_in lines)) (issuing (texts_in new)) s);
-      allowed = subst Each (sym all) (allowed_then moment (issuing (texts_in lines)) (issuing (texts_in new)) s first.allowed (subst Allowed first.sender second.allowed));
+      allowed = subst Each (sym all) (allowed_then moment (issuing (texts_in lines)) (issuing (texts_in new)) s first.allowed
+          (subst Allowed first.sender second.allowed));
     }
 
--- a pull without a line leaves the desk, and the next gives none either
+-- a pull without a line leaves the desk, and the next returns none either
 none_of : (got : Option Line) → is_some got ≡ false → got ≡ None
 none_of None e = refl
 none_of (Some line) e = absurd (cc e)
@@ -154,7 +155,8 @@ noted_failed moment a b lines old mid pulled new first last ending same gave aft
     subst Q (sym same) (record {
       pulled = pulled;
       pulls = subst P after pulls;
-      is = ap (λ (e : Option Ending). (e, new)) (or ∙ ap (λ (e : Option Ending). option_or e last) gave ∙ ap (λ (e : Option Ending). option_or (note_step a fact.Quiet moment old).0 e) gave_last)
+      is = ap (λ (e : Option Ending). (e, new)) (or ∙ ap (λ (e : Option Ending). option_or e last) gave
+          ∙ ap (λ (e : Option Ending). option_or (note_step a fact.Quiet moment old).0 e) gave_last)
           ∙ ap (λ (d : Data). (option_or (note_step a fact.Quiet moment old).0 failed.0, d)) after_last;
     })
 

@@ -1,5 +1,5 @@
 -- How a print ends in a turn.
-use Rattle.std.proofs.Common.{◌≡◌, inl, inr, ℕ, ◌≤◌, true, List, [], ◌∷◌, Option, None, Some, refl, sym, ◌∙◌, ap, subst}
+use Rattle.std.proofs.Common.{◌≡◌, inl, inr, ℕ, ◌≤◌, true, false, List, [], ◌∷◌, Option, None, Some, refl, sym, ◌∙◌, ap, subst}
 use Rattle.std.specs.Prelude.{IfSome}
 use Rattle.std.specs.Option.{option_or}
 use Rattle.std.proofs.lemmas.Bool.{false≢true}
@@ -8,7 +8,7 @@ use Rattle.desk_steps.specs.Pull.{pull_step}
 use Rattle.desk_steps.specs.Note.{Noted, note_step}
 use Rattle.desk_steps.specs.Endings.{IsActive, is_failure, EndsAs}
 use Rattle.desk_steps.proofs.Endings.{IsFree, LeavesFree, EndsIn, note_ends}
-use Rattle.desk_steps.proofs.Going.{Goes, goes_then, goes_pull, goes_note, free_pull, free_failed}
+use Rattle.desk_steps.proofs.Going.{Goes, goes_then, goes_pull, goes_note, goes_rested, free_pull, free_failed}
 use Rattle.desk_steps.specs.declared.link_fact.LinkFact.{LinkFact}
 use Rattle.desk_steps.specs.declared.link_fact.LinkFact.TheVariants as fact
 use Rattle.print_records.specs.declared.ending.Ending.{Ending}
@@ -68,13 +68,14 @@ module _ (moment acked : ℕ) (found : LinkFact) (old : Data) where
   ends_so outcome.Cancelled mid new is goes by (inr closes) = inr (closes_so found closes)
   ends_so outcome.Failed mid new is goes by leaves = fails_so found by
 
-  first_ends : (gave : Option Ending) (mid new : Data) → new.acked ≡ acked → (IsFree acked mid → IsFree acked new) →
+  first_ends : (gave : Option Ending) (mid new : Data) → new.acked ≡ acked → (IsFree acked mid → IsFree acked new) → Goes mid new →
       EndsIn acked (first_fact found) old gave mid → IfSome gave (λ ending. IsTurnEnding found old new ending)
-  first_ends None mid new is goes ends = tt
-  first_ends (Some ending) mid new is goes ends = record {
+  first_ends None mid new is goes went ends = tt
+  first_ends (Some ending) mid new is goes went ends = record {
     active = ends.0.active;
     print = ends.0.print;
     by = ends_so ending.outcome mid new is goes ends.0.by ends.1;
+    rests = goes_rested mid new went ends.2;
   }
 
 -- an ending of the last note, which says that the link failed
@@ -93,6 +94,7 @@ last_ends acked old pulled (Some ending) new is before greatest ends = record {
   active = before ends.0.active;
   print = ends.0.print ∙ greatest;
   by = fails_last acked ending.outcome pulled new is ends.0.by ends.1;
+  rests = ends.2;
 }
 
 either_ends : (moment acked : ℕ) (lines : List Line) (old mid pulled : Data) (first : Option Ending) (last : Noted) →
@@ -101,8 +103,11 @@ either_ends : (moment acked : ℕ) (lines : List Line) (old mid pulled : Data) (
     IfSome (option_or first last.0) (λ ending. IsTurnEnding fact.Failed old last.1 ending)
 either_ends moment acked lines old mid pulled (Some ending) last is counted going goes pulls ends =
     let P : Noted → Type 0 = λ n. IsFree acked n.1 in
+    let Q : Noted → Type 0 = λ n. Goes mid n.1 in
+    let failed : Data = (note_step acked fact.Failed moment pulled).1 in
+    let went : Goes mid failed = goes_then mid pulled failed (pulls_go moment lines mid pulled pulls) (goes_note acked fact.Failed moment pulled) in
     first_ends moment acked fact.Failed old (Some ending) mid last.1 counted
-    (λ free. subst P (sym is) (free_failed acked moment pulled (pulls_free acked moment lines mid pulled pulls free))) ends
+    (λ free. subst P (sym is) (free_failed acked moment pulled (pulls_free acked moment lines mid pulled pulls free))) (subst Q (sym is) went) ends
 either_ends moment acked lines old mid pulled None last is counted going goes pulls ends =
     let went : Goes mid pulled = pulls_go moment lines mid pulled pulls in
     let P : Noted → Type 0 = λ n. EndsIn acked fact.Failed pulled n.0 n.1 in
@@ -117,8 +122,11 @@ module _ (moment acked : ℕ) (lines : List Line) (old : Data) (ending : Option 
       let after : new ≡ pulled = ap (λ (n : Noted). n.1) both in
       let P : Option Ending → Type 0 = λ o. IfSome o (λ e. IsTurnEnding found old new e) in
       let Q : Data → Type 0 = λ d. IsFree acked d in
-      subst P (sym gave) (first_ends moment acked found old (note_step acked (first_fact found) moment old).0 (note_step acked (first_fact found) moment old).1 new is
-      (λ free. subst Q (sym after) (pulls_free acked moment lines (note_step acked (first_fact found) moment old).1 pulled pulls free))
+      let G : Data → Type 0 = λ d. Goes (note_step acked (first_fact found) moment old).1 d in
+      let first : Noted = note_step acked (first_fact found) moment old in
+      subst P (sym gave) (first_ends moment acked found old first.0 first.1 new is
+      (λ free. subst Q (sym after) (pulls_free acked moment lines first.1 pulled pulls free))
+      (subst G (sym after) (pulls_go moment lines first.1 pulled pulls))
       (note_ends acked moment old going (first_fact found)))
 
   pub noted_ends : (found : LinkFact) → IsNoted moment acked found lines old ending new → IfSome ending (λ e. IsTurnEnding found old new e)

@@ -81,16 +81,19 @@ stays_speech moment all texts count s =
     let second = (unmoved_sends moment all count mid).keeps in
     let P : SenderData → Type 0 = λ t. Stays s t in
     subst P (sym (after_steps-append moment (issuing texts) (sends all count) s))
-    (stays_then s mid (after_steps moment (sends all count) mid) (record { acked = first.acked; ready = first.ready }) (record { acked = second.acked; ready = second.ready }))
+    (stays_then s mid (after_steps moment (sends all count) mid) (record { acked = first.acked; ready = first.ready })
+    (record { acked = second.acked; ready = second.ready }))
 
 stays_clock : (moment : ℕ) (found : LinkFact) (texts : List (List ℕ)) (count : ℕ) (s : SenderData) →
     Stays s (after_steps moment (clock_steps found texts count) s)
-stays_clock moment fact.Quiet texts count s = stays_then s (tick_step moment s) _ (stays_tick moment s) (stays_speech moment true texts count (tick_step moment s))
+stays_clock moment fact.Quiet texts count s = stays_then s (tick_step moment s) _ (stays_tick moment s)
+    (stays_speech moment true texts count (tick_step moment s))
 stays_clock moment fact.Opened texts count s = record { acked = refl; ready = refl }
 stays_clock moment fact.Ready texts count s = stays_tick moment s
 stays_clock moment fact.Closed texts count s = record { acked = refl; ready = refl }
 stays_clock moment fact.NoPort texts count s = record { acked = refl; ready = refl }
-stays_clock moment fact.Failed texts count s = stays_then s (tick_step moment s) _ (stays_tick moment s) (stays_speech moment false texts count (tick_step moment s))
+stays_clock moment fact.Failed texts count s = stays_then s (tick_step moment s) _ (stays_tick moment s)
+    (stays_speech moment false texts count (tick_step moment s))
 stays_clock moment (fact.Ended end) texts count s = stays_tick moment s
 
 rises_heard : (moment : ℕ) (bytes : List ℕ) (s : SenderData) → IsSound s → Rises s (hear_step (kind_of bytes) moment s)
@@ -137,7 +140,8 @@ turn_rises : (moment : ℕ) (doing_now : Doing) (was_up : Bool) (got : Got) (fou
     can_find doing_now found ≡ true → IsSound s → RisesIn found s (after_steps moment (turn_steps doing_now was_up got found texts count) s)
 turn_rises moment Dialling was_up got found texts count s can sound = dial_rises moment found s sound
 turn_rises moment HangingUp was_up got found texts count s can sound = inr (not_opened HangingUp found can (λ e. cc e), rises_same s sound)
-turn_rises moment Talking was_up got found texts count s can sound = inr (not_opened Talking found can (λ e. cc e), rises_talk moment got found texts count s sound)
+turn_rises moment Talking was_up got found texts count s can sound = inr
+    (not_opened Talking found can (λ e. cc e), rises_talk moment got found texts count s sound)
 turn_rises moment Resting was_up got found texts count s can sound = inr (not_opened Resting found can (λ e. cc e), rises_same s sound)
 
 -- readiness, by when it begins
@@ -185,7 +189,8 @@ quiet_turn Talking moment old ending new can desk = (
 )
 quiet_turn Resting moment old ending new can desk = (desk.1, desk.2)
 
-module _ (moment : ℕ) (kind : LinkKind) (old_past new_past : Option (List WorldEvent)) (old_calls new_calls : Option ℕ) (old new : SessionData) (turned : Turned)
+module _ (moment : ℕ) (kind : LinkKind) (old_past new_past : Option (List WorldEvent)) (old_calls new_calls : Option ℕ) (old new : SessionData)
+    (turned : Turned)
     (t : IsTurn moment kind old_past new_past old_calls new_calls old new turned) (finds : can_find (doing old) (fact_of turned.note) ≡ true) where
   found_is : fact_of turned.note ≡ t.found
   found_is = noted_fact turned.note moment old.sender.acked new.sender.acked t.lines t.got t.found t.none t.some
@@ -194,8 +199,10 @@ module _ (moment : ℕ) (kind : LinkKind) (old_past new_past : Option (List Worl
   rises_in sound =
       let P : SenderData → Type 0 = λ s. RisesIn (fact_of turned.note) old.sender s in
       let F : LinkFact → Type 0 = λ f. can_find (doing old) f ≡ true in
-      let Q : LinkFact → Type 0 = λ f. RisesIn f old.sender (after_steps moment (turn_steps (doing old) old.up t.got t.found (texts_in t.lines) t.steps.count) old.sender) in
-      subst P (sym t.steps.takes.sender) (subst Q (sym found_is) (turn_rises moment (doing old) old.up t.got t.found (texts_in t.lines) t.steps.count old.sender (subst F found_is finds) sound))
+      let Q : LinkFact → Type 0 = λ f. RisesIn f old.sender (after_steps moment (turn_steps (doing old) old.up t.got t.found (texts_in t.lines) t.steps.count)
+      old.sender) in
+      subst P (sym t.steps.takes.sender) (subst Q (sym found_is) (turn_rises moment (doing old) old.up t.got t.found (texts_in t.lines) t.steps.count old.sender
+      (subst F found_is finds) sound))
 
   pub turn_ready : IsSound old.sender → (fact_of turned.note ≡ fact.Ready) ↔ ((old.sender.ready ≡ false) × (new.sender.ready ≡ true)) →
       new.sender.ready ≡ ready_after (fact_of turned.note) old.sender.ready
@@ -234,7 +241,8 @@ module _ (moment : ℕ) (kind : LinkKind) (old_past new_past : Option (List Worl
       let A : ℕ → Type 0 = λ n. IsDeskTurn (doing old) moment n t.found t.lines old.desk turned.ending new.desk in
       let G : LinkFact → Type 0 = λ f. IsDeskTurn (doing old) moment old.desk.acked f t.lines old.desk turned.ending new.desk in
       let L : List Line → Type 0 = λ l. IsDeskTurn (doing old) moment old.desk.acked fact.Quiet l old.desk turned.ending new.desk in
-      quiet_turn (doing old) moment old.desk turned.ending new.desk (subst F (found_is ∙ is.quiet) finds) (subst L is.no_line (subst G is.quiet (subst A same t.desk)))
+      quiet_turn (doing old) moment old.desk turned.ending new.desk (subst F (found_is ∙ is.quiet) finds)
+      (subst L is.no_line (subst G is.quiet (subst A same t.desk)))
 
   -- a turn that rests makes no note
   rests_still : doing old ≡ Resting → turned.note ≡ None

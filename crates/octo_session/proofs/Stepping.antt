@@ -28,13 +28,13 @@ pub calls_after-append : (xs ys : List Step) (a : Option ℕ) → calls_after (x
 calls_after-append [] ys a = refl
 calls_after-append (x ∷ xs) ys a = calls_after-append xs ys (calls_by x a)
 
--- steps one behind the other are allowed one behind the other
+-- steps one after the other are allowed one after the other
 pub allowed_then : (moment : ℕ) (xs ys : List Step) (s : SenderData) → AreAllowed moment xs s → AreAllowed moment ys (after_steps moment xs s) →
     AreAllowed moment (xs ++ ys) s
 allowed_then moment [] ys s one more = more
 allowed_then moment (x ∷ xs) ys s one more = (one.0, allowed_then moment xs ys (after_step moment x s) one.1 more)
 
--- and what they add stands one behind the other
+-- and what they add comes one after the other
 pub added_then : (moment : ℕ) (is_prompt : Bool) (xs ys : List Step) (s : SenderData) (w : WorldData) (a b : List WorldEvent) →
     AreAdded moment is_prompt xs s w a → AreAdded moment is_prompt ys (after_steps moment xs s) (world_from w a) b →
     AreAdded moment is_prompt (xs ++ ys) s w (a ++ b)
@@ -46,8 +46,13 @@ added_then moment is_prompt (x ∷ xs) ys s w a b one more =
     let first = one.0 in
     let rest = one.1 in
     let P : WorldData → Type 0 = λ v. AreAdded moment is_prompt ys (after_steps moment xs (after_step moment x s)) v b in
-    let here : world_from w a ≡ world_from (world_from w first) rest = ap (world_from w) one.2 ∙ world_from-append w first rest in
-    (first, rest ++ b, ap (λ (es : List WorldEvent). es ++ b) one.2 ∙ append_assoc first rest b, one.3, added_then moment is_prompt xs ys (after_step moment x s) (world_from w first) rest b one.4 (subst P here more))
+    let here : world_from w a ≡ world_from (world_from w first) rest = ap (world_from w) one.2 ∙ world_from-append w first rest in (
+      first,
+      rest ++ b,
+      ap (λ (es : List WorldEvent). es ++ b) one.2 ∙ append_assoc first rest b,
+      one.3,
+      added_then moment is_prompt xs ys (after_step moment x s) (world_from w first) rest b one.4 (subst P here more),
+    )
 
 -- one step alone
 added_one : (moment : ℕ) (is_prompt : Bool) (x : Step) (s : SenderData) (w : WorldData) (added : List WorldEvent) → IsAdded is_prompt x s w added →
@@ -167,7 +172,7 @@ pub replicate-push : (count : ℕ) → replicate count gives ++ gives ∷ [] ≡
 replicate-push zero = refl
 replicate-push (suc count) = ap (λ (xs : List Step). gives ∷ xs) (replicate-push count)
 
--- further frames behind some
+-- one more frame after some
 pub takes_more : (moment : ℕ) (kind : LinkKind) (old mid new : Option (List WorldEvent)) (a b c : Option ℕ) (s t u : SenderData) →
     TakesSome moment kind old mid a b (sends true) s t → Takes moment kind mid new b c (gives ∷ []) t u → TakesSome moment kind old new a c (sends true) s u
 takes_more moment kind old mid new a b c s t u some one = record {
@@ -185,7 +190,8 @@ takes_last moment kind old mid new a b c s t u some one = record {
 }
 
 -- texts are issued, and then frames sent
-pub takes_said : (moment : ℕ) (kind : LinkKind) (old new : Option (List WorldEvent)) (a b : Option ℕ) (all : Bool) (texts : List (List ℕ)) (s t u : SenderData) →
+pub takes_said : (moment : ℕ) (kind : LinkKind) (old new : Option (List WorldEvent)) (a b : Option ℕ) (all : Bool) (texts : List (List ℕ))
+    (s t u : SenderData) →
     Issues moment texts s t → TakesSome moment kind old new a b (sends all) t u → TakesSome moment kind old new a b (speech all texts) s u
 takes_said moment kind old new a b all texts s t u issued_all some = record {
   count = some.count;
@@ -194,18 +200,21 @@ takes_said moment kind old new a b all texts s t u issued_all some = record {
 }
 
 -- a receiving that didn't fail, and then the rest of the turn
-pub takes_talk : (moment : ℕ) (kind kind' : LinkKind) (old mid new : Option (List WorldEvent)) (a b c : Option ℕ) (got : Got) (found : LinkFact) (texts : List (List ℕ)) (s t u : SenderData) →
+pub takes_talk : (moment : ℕ) (kind kind' : LinkKind) (old mid new : Option (List WorldEvent)) (a b c : Option ℕ) (got : Got) (found : LinkFact)
+    (texts : List (List ℕ)) (s t u : SenderData) →
     is_got got ≡ true → kind' ≡ kind → Takes moment kind old mid a b (received_by got) s t → TakesSome moment kind' mid new b c (clock_steps found texts) t u →
     TakesSome moment kind old new a c (talk_steps got found texts) s u
 takes_talk moment kind kind' old mid new a b c unasked found texts s t u is same first some = absurd (cc is)
 takes_talk moment kind kind' old mid new a b c lost found texts s t u is same first some = absurd (cc is)
 takes_talk moment kind kind' old mid new a b c nothing found texts s t u is same first some = record {
   count = some.count;
-  takes = takes_then moment kind old mid new a b c (listens ∷ []) (clock_steps found texts some.count) s t u first (takes_at moment kind kind' mid new b c _ t u same some.takes);
+  takes = takes_then moment kind old mid new a b c (listens ∷ []) (clock_steps found texts some.count) s t u first
+      (takes_at moment kind kind' mid new b c _ t u same some.takes);
 }
 takes_talk moment kind kind' old mid new a b c (whole bytes) found texts s t u is same first some = record {
   count = some.count;
-  takes = takes_then moment kind old mid new a b c (hears bytes ∷ []) (clock_steps found texts some.count) s t u first (takes_at moment kind kind' mid new b c _ t u same some.takes);
+  takes = takes_then moment kind old mid new a b c (hears bytes ∷ []) (clock_steps found texts some.count) s t u first
+      (takes_at moment kind kind' mid new b c _ t u same some.takes);
 }
 
 -- how the session ends by what was received
@@ -238,11 +247,13 @@ pub opens_placed : (kind : LinkKind) (old new : Option (List WorldEvent)) (s : S
     Grows kind old new (IsDone opens s)
 opens_placed kind old new s has grew =
     recorded_so old new (λ past added. IsDial (world_in kind past) added) (λ past added. IsDone opens s (world_in kind past) added) grew
-    (λ past added dial. (let same : (world_in kind past).printer.places ≡ kind.slots = (world_from-IsSameKind (new_world kind.slots kind.numbered) past).places in
+    (λ past added dial. (let same : (world_in kind past).printer.places ≡ kind.slots = (world_from-IsSameKind (new_world kind.slots kind.numbered) past).places
+    in
     (dial, record { some = omega (arith, same, has.some); few = omega (arith, same, has.few) })))
 
 -- a turn that does nothing
-pub takes_rest : (moment : ℕ) (kind : LinkKind) (old : Option (List WorldEvent)) (a : Option ℕ) (doing_now : Doing) (was_up : Bool) (got : Got) (found : LinkFact) (texts : List (List ℕ)) (s : SenderData) →
+pub takes_rest : (moment : ℕ) (kind : LinkKind) (old : Option (List WorldEvent)) (a : Option ℕ) (doing_now : Doing) (was_up : Bool) (got : Got)
+    (found : LinkFact) (texts : List (List ℕ)) (s : SenderData) →
     doing_now ≡ Resting → TakesSome moment kind old old a a (turn_steps doing_now was_up got found texts) s s
 takes_rest moment kind old a doing_now was_up got found texts s rests =
     let P : Doing → Type 0 = λ d. TakesSome moment kind old old a a (turn_steps d was_up got found texts) s s in

@@ -37,14 +37,14 @@ is_connecting Finishing = false
 is_connecting Closing = false
 is_connecting Fault = false
 
--- what the next turn does, the first of these that applies: it dials, it hangs up, it talks over the link
+-- what the next turn does, the first of these that applies: it dials, it hangs up, or it receives and sends
 abbrev pub doing : SessionData → Doing
 doing s =
     if not s.up && is_connecting s.desk.state then Dialling
     else (if is_closable_at s.desk.state s.desk then HangingUp
     else (if s.up then Talking else Resting))
 
--- the port that a desk connects to, the empty name where it has none
+-- the port that a desk connects to, the empty name if it has none
 abbrev pub port_of : Data → List ℕ
 port_of d = unwrap_or d.port []
 

@@ -1,5 +1,5 @@
 -- What a turn makes of the desk.
-use Rattle.std.specs.Prelude.{◌≡◌, ◌⊎◌, ℕ, ◌≤◌, true, List, [], ◌∷◌, Option, None, Some}
+use Rattle.std.specs.Prelude.{◌≡◌, ◌⊎◌, ℕ, ◌≤◌, true, false, List, [], ◌∷◌, Option, None, Some}
 use Rattle.std.specs.Option.{option_or}
 use Rattle.desk_steps.specs.Data.{Data, Line}
 use Rattle.desk_steps.specs.Pull.{pull_step}
@@ -13,7 +13,7 @@ use Rattle.print_records.specs.declared.ending.Outcome.TheVariants as outcome
 use Rattle.octo_session.specs.declared.found.Doing.{Doing}
 use Rattle.octo_session.specs.declared.found.Doing.TheVariants.{Dialling, HangingUp, Talking, Resting}
 
--- successive pulls at a moment give these lines and lead from one desk to another
+-- successive pulls at a moment return these lines and lead from one desk to another
 abbrev pub Pulls : ℕ → List Line → Data → Data → Type 0
 Pulls moment [] old new = new ≡ old
 Pulls moment (line ∷ lines) old new = ((pull_step moment old).0 ≡ Some line) × Pulls moment lines (pull_step moment old).1 new
@@ -43,7 +43,7 @@ last_noted fact.NoPort acked moment noted = noted
 last_noted fact.Failed acked moment noted = then_failed acked moment noted
 last_noted (fact.Ended end) acked moment noted = noted
 
--- the desk notes the fact, gives these lines, and notes a failure last
+-- the desk notes the fact, issues these lines, and notes a failure last
 pub record IsNoted (moment acked : ℕ) (found : LinkFact) (lines : List Line) (old : Data) (ending : Option Ending) (new : Data) : Type 0 where
   pub pulled : Data
   pub pulls : Pulls moment lines (note_step acked (first_fact found) moment old).1 pulled
@@ -69,8 +69,9 @@ EndsSo outcome.Done found new = IsRunOut new
 EndsSo outcome.Cancelled found new = IsRunOut new ⊎ (found ≡ fact.Closed)
 EndsSo outcome.Failed found new = is_failure found ≡ true
 
--- a turn ends only the print that was active before it
+-- a turn ends only the print that was active before it, and then leaves none active
 pub record IsTurnEnding (found : LinkFact) (old new : Data) (ending : Ending) : Type 0 where
   pub active : old.active ≡ true
   pub print : ending.print ≡ old.greatest
   pub by : EndsSo ending.outcome found new
+  pub rests : new.active ≡ false

@@ -14,13 +14,13 @@ use Rattle.octo_session.specs.declared.found.Doing.TheVariants.{Dialling, Hangin
 use Rattle.octo_session.specs.declared.found.Received.{Received}
 use Rattle.octo_session.specs.declared.found.Received.TheVariants as received
 
--- what the receiving of a turn gave
+-- what the receiving of a turn returned
 pub data Got : Type 0 where
   -- the turn received nothing
   unasked : Got
   -- the receiving failed
   lost : Got
-  -- nothing was there
+  -- no line had arrived
   nothing : Got
   -- a whole reply line
   whole : List ℕ → Got
@@ -77,7 +77,7 @@ hears_got lost moment s = s
 hears_got nothing moment s = s
 hears_got (whole bytes) moment s = hear_step (kind_of bytes) moment s
 
--- how the session ends by what was received and the moment, where a receiving didn't fail
+-- how the session ends by what was received and the moment, if a receiving didn't fail
 abbrev pub end_by : Got → ℕ → SenderData → Option SessionEnd
 end_by unasked moment s = None
 end_by lost moment s = None

@@ -10,8 +10,8 @@ use Rattle.send_window.specs.Hearing.{hear_step, tick_step}
 use Rattle.printer_model.specs.World.{WorldData, world_from}
 use Rattle.printer_link.specs.Link.{LinkKind, Grows, IsDial, IsRuns, IsSend, IsSendOf, IsSendLoss, IsHeard, IsSilence, IsLoss, IsHangUp, counted_one, dial_events, recv_events}
 use Rattle.printer_model.specs.declared.event.WorldEvent.{WorldEvent}
-use Rattle.octo_session.specs.declared.talk.Gave.{Gave}
-use Rattle.octo_session.specs.declared.talk.Gave.TheVariants as gave
+use Rattle.octo_session.specs.declared.open_turn.Gave.{Gave}
+use Rattle.octo_session.specs.declared.open_turn.Gave.TheVariants as gave
 use Rattle.octo_session.specs.Found.{Got, unasked, lost, nothing, whole}
 use Rattle.octo_session.specs.declared.found.Doing.{Doing}
 use Rattle.octo_session.specs.declared.found.Doing.TheVariants.{Dialling, HangingUp, Talking, Resting}
@@ -26,7 +26,7 @@ pub data Step : Type 0 where
   fails_to_dial : Step
   -- a reply line is received, and the sender hears it
   hears : List ℕ → Step
-  -- nothing is there to receive
+  -- no line has arrived
   listens : Step
   -- a receiving fails
   fails_to_receive : Step
@@ -36,9 +36,9 @@ pub data Step : Type 0 where
   issues : List ℕ → Step
   -- what is to be sent next is sent
   gives : Step
-  -- what is to be sent next is given out, and the sending fails
+  -- what is to be sent next is taken out, and the sending fails
   fails_to_send : Step
-  -- the link is hung up, where it was up
+  -- the link is hung up, if it was up
   hangs_up : Bool → Step
 
 -- the sender after a step at a moment
@@ -64,8 +64,8 @@ after_steps moment (step ∷ steps) s = after_steps moment steps (after_step mom
 abbrev pub AreBytes : List ℕ → Type 0
 AreBytes text = All (λ b. b < 2 ^ 8) text
 
--- what holds of the sender before a step: a line is issued only if there is room and it may be sent, and a frame is
--- given out only if there is one
+-- what holds of the sender before a step: a line is issued only if the window has room and it may be sent, and a frame
+-- is taken out only if one waits
 abbrev pub IsAllowed : Step → SenderData → Type 0
 IsAllowed opens s = Unit {0}
 IsAllowed finds_no_port s = Unit {0}
@@ -131,7 +131,7 @@ IsDonePromptly (hangs_up was_up) s w added = Unit {0}
 abbrev pub IsAdded : Bool → Step → SenderData → WorldData → List WorldEvent → Type 0
 IsAdded is_prompt step s w added = IsDone step s w added × (is_prompt ≡ true → IsDonePromptly step s w added)
 
--- what these steps add, one behind the other
+-- what these steps add, one after the other
 abbrev pub AreAdded : ℕ → Bool → List Step → SenderData → WorldData → List WorldEvent → Type 0
 AreAdded moment is_prompt [] s w added = added ≡ []
 AreAdded moment is_prompt (step ∷ steps) s w added =
@@ -167,7 +167,8 @@ pub record Issues (moment : ℕ) (texts : List (List ℕ)) (old new : SenderData
   pub allowed : AreAllowed moment (issuing texts) old
 
 -- a sender and a link take these steps
-pub record Takes (moment : ℕ) (kind : LinkKind) (old_past new_past : Option (List WorldEvent)) (old_calls new_calls : Option ℕ) (steps : List Step) (old new : SenderData) : Type 0 where
+pub record Takes (moment : ℕ) (kind : LinkKind) (old_past new_past : Option (List WorldEvent)) (old_calls new_calls : Option ℕ) (steps : List Step)
+    (old new : SenderData) : Type 0 where
   pub sender : new ≡ after_steps moment steps old
   pub allowed : AreAllowed moment steps old
   pub past : Grows kind old_past new_past (AreAdded moment kind.prompt steps old)
@@ -192,7 +193,7 @@ is_up_by gave.Sent = true
 is_up_by gave.Nothing = true
 is_up_by gave.Failed = false
 
--- so many frames are sent, and where not all is sent the sending of one more fails
+-- a number of frames is sent, and if not all are sent the sending of one more fails
 abbrev pub sends : Bool → ℕ → List Step
 sends true count = replicate count gives
 sends false count = replicate count gives ++ fails_to_send ∷ []
@@ -201,7 +202,7 @@ sends false count = replicate count gives ++ fails_to_send ∷ []
 abbrev pub speech : Bool → List (List ℕ) → ℕ → List Step
 speech all texts count = issuing texts ++ sends all count
 
--- what a turn over an open link does behind its receiving, by what it finds
+-- what a turn over an open link does after its receiving, by what it finds
 abbrev pub clock_steps : LinkFact → List (List ℕ) → ℕ → List Step
 clock_steps fact.Quiet texts count = ticks ∷ speech true texts count
 clock_steps fact.Opened texts count = []
@@ -228,7 +229,7 @@ dial_steps fact.NoPort = finds_no_port ∷ []
 dial_steps fact.Failed = fails_to_dial ∷ []
 dial_steps (fact.Ended end) = []
 
--- a turn, by what it does, receives, finds and issues, and how many frames it gives out
+-- a turn, by what it does, receives, finds and issues, and how many frames it takes out
 abbrev pub turn_steps : Doing → Bool → Got → LinkFact → List (List ℕ) → ℕ → List Step
 turn_steps Dialling was_up got found texts count = dial_steps found
 turn_steps HangingUp was_up got found texts count = hangs_up was_up ∷ []
@@ -236,6 +237,7 @@ turn_steps Talking was_up got found texts count = talk_steps got found texts cou
 turn_steps Resting was_up got found texts count = []
 
 -- the sender and the link take these steps, with some count of frames
-pub record TakesSome (moment : ℕ) (kind : LinkKind) (old_past new_past : Option (List WorldEvent)) (old_calls new_calls : Option ℕ) (steps : ℕ → List Step) (old new : SenderData) : Type 0 where
+pub record TakesSome (moment : ℕ) (kind : LinkKind) (old_past new_past : Option (List WorldEvent)) (old_calls new_calls : Option ℕ) (steps : ℕ → List Step)
+    (old new : SenderData) : Type 0 where
   pub count : ℕ
   pub takes : Takes moment kind old_past new_past old_calls new_calls (steps count) old new

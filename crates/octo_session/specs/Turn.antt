@@ -21,12 +21,12 @@ use Rattle.octo_session.specs.declared.found.Doing.TheVariants.{Dialling, Hangin
 use Rattle.octo_session.specs.declared.found.Found.{Found}
 use Rattle.octo_session.specs.declared.found.Turned.{Turned}
 
--- the fact of a turn: where there's no note it's Quiet
+-- the fact of a turn: Quiet if it made no note
 abbrev pub fact_of : Option Note → LinkFact
 fact_of None = fact.Quiet
 fact_of (Some note) = note.fact
 
--- the lines that a turn issued: where there's no note none
+-- the lines that a turn issued: none if it made no note
 abbrev pub lines_of : Option Note → List Line
 lines_of None = []
 lines_of (Some note) = map line_of note.issued.items
@@ -40,17 +40,17 @@ is_unbroken _ = true
 abbrev pub texts_in : List Line → List (List ℕ)
 texts_in lines = map (λ line. line.text) lines
 
--- the line that was drawn, if there is one
+-- the line that was drawn, if any
 abbrev pub drawn : Option Line → List Line
 drawn None = []
 drawn (Some line) = line ∷ []
 
--- there's nothing more to say: no room for a line or no line there, and no frame unsent
+-- nothing is left to issue or send: no room for a line or no line to issue, and no frame unsent
 pub record IsSpent (moment : ℕ) (d : Data) (s : SenderData) : Type 0 where
   pub issued : (room_of s ≡ 0) ⊎ ((pull_step moment d).0 ≡ None)
   pub sent : next_of s ≡ None
 
--- nothing happened that a note would tell
+-- nothing happened that a note would record
 pub record IsUneventful (lines : List Line) (before acked : ℕ) (got : Got) (found : LinkFact) : Type 0 where
   pub no_line : lines ≡ []
   pub same_acked : acked ≡ before
@@ -91,17 +91,18 @@ IsDeskTurn Talking moment acked found lines old ending new = IsNoted moment acke
 IsDeskTurn Resting moment acked found lines old ending new = (lines ≡ []) × (ending ≡ None) × (new ≡ old)
 
 -- what a turn received, found and issued, with all that hangs on it
-pub record IsTurn (moment : ℕ) (kind : LinkKind) (old_past new_past : Option (List WorldEvent)) (old_calls new_calls : Option ℕ) (old new : SessionData) (turned : Turned) : Type 0 where
+pub record IsTurn (moment : ℕ) (kind : LinkKind) (old_past new_past : Option (List WorldEvent)) (old_calls new_calls : Option ℕ) (old new : SessionData)
+    (turned : Turned) : Type 0 where
   pub got : Got
   pub found : LinkFact
   pub lines : List Line
-  -- it receives exactly where it talks over the link
+  -- it receives exactly if the link is open and isn't hung up
   pub asked : (got ≡ unasked) ↔ (doing old ≢ Talking)
   pub heard : turned.heard ≡ is_whole got
-  -- there's no note exactly where nothing happened, and else it tells what did
+  -- it makes no note exactly if nothing happened, and else the note records what did
   pub none : (turned.note ≡ None) ↔ IsUneventful lines old.sender.acked new.sender.acked got found
   pub some : IfSome turned.note (λ note. IsNoteOf moment new.sender.acked lines got found note)
-  -- the session ends exactly where a receiving that didn't fail and the moment end it
+  -- the session ends exactly if a receiving that didn't fail and the moment end it
   pub ended : (end : SessionEnd) → (found ≡ fact.Ended end) ↔ (end_by got moment old.sender ≡ Some end)
   -- a receiving that fails is the turn's failure
   pub broken : got ≡ lost → found ≡ fact.Failed

@@ -28,7 +28,7 @@ pub enum Received {
     Unasked,
     /// The receiving failed.
     Lost,
-    /// Nothing was there.
+    /// No line had arrived.
     Nothing,
     /// A line with these temperatures.
     Line { temps: Option<Temps> },
@@ -85,8 +85,8 @@ pub struct Turned {
     pub heard: bool,
 }
 
-/// What a turn at this moment returns; `before` lines were acknowledged before it.
-pub fn tell(found: Found, moment: u64, before: u32, acked: u32) -> Turned
+/// What a turn at this moment returns, with a note if anything happened; `before` lines were acknowledged before it.
+pub fn turned_of(found: Found, moment: u64, before: u32, acked: u32) -> Turned
     ensures none { (result.note ≡ None) ↔ IsStill found before acked }
     ensures some { IfSome result.note (λ note. IsKeptIn found moment acked note) }
     ensures fact { fact_of result.note ≡ found.fact }

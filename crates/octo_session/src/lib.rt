@@ -2,8 +2,8 @@
 #![tactic(auto)]
 
 mod found;
+mod open_turn;
 mod session;
-mod talk;
 #[cfg(test)]
 mod tests;
 

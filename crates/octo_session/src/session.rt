@@ -16,7 +16,7 @@ ghost use Rattle.octo_session.specs.declared.found.Doing.TheVariants as now_doin
 mod calls;
 mod turns;
 
-use crate::found::{Turned, tell};
+use crate::found::{Turned, turned_of};
 use byte_text::ReplyLine;
 use job_desk::Desk;
 use printer_link::Link;
@@ -104,7 +104,7 @@ impl Session {
     /// 1. If the desk begins to connect and the link is down, it dials the desk's port.
     /// 2. If the desk may close the connection, it hangs up.
     /// 3. If the link is up, it receives at most one reply line, has the sender hear it and the clock tick, and notes at
-    ///    the desk what is acknowledged. Then it issues lines while there is room, and sends every frame. In the turn in
+    ///    the desk what is acknowledged. Then it issues lines while the window has room, and sends every frame. In the turn in
     ///    which the hello is acknowledged it issues nothing.
     ///
     /// If a call of the link fails the desk first takes what was acknowledged, and the failure at the end. It takes no
@@ -158,14 +158,14 @@ impl Session {
             → IsQuietTurn (doing self.old) moment self.old.desk result.ending self.new.desk }
 
         // A turn ends only the active print: as Done, and as Cancelled unless it hung up, only once no script line waits
-        // and the last issued line of the print is acknowledged.
+        // and the last issued line of the print is acknowledged. After an ending no print is active.
         ensures ends { IfSome result.ending (λ ending.
             IsTurnEnding (fact_of result.note) self.old.desk self.new.desk ending) }
     {
         is_active(&self.desk);
         let before = self.sender.acked();
         let mut line = ReplyLine::new();
-        let found = self.act(link, moment, &mut line);
-        tell(found, moment, before, self.sender.acked())
+        let found = self.turn_by_kind(link, moment, &mut line);
+        turned_of(found, moment, before, self.sender.acked())
     }
 }

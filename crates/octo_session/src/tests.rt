@@ -21,7 +21,7 @@ enum Ask {
     Resume,
 }
 
-/// What a turn gives.
+/// What a turn returns.
 #[derive(Clone, Copy, Debug)]
 enum Gives {
     /// No note.
@@ -36,7 +36,7 @@ enum Gives {
     Breaks(&'static [&'static str]),
 }
 
-/// What a user asks before a turn, and what the turn gives.
+/// What a user asks before a turn, and what the turn returns.
 type Row = (Ask, Gives);
 
 /// A dial, the hello and its `ok`.
@@ -46,7 +46,7 @@ const OPENING: [Row; 3] = [
     (Ask::Nothing, Gives::Finds(LinkFact::Ready)),
 ];
 
-/// A print that is paused behind its first line, in a window of one line.
+/// A print that is paused after its first line, in a window of one line.
 const PAUSED: [Row; 5] = [
     (Ask::Nothing, Gives::Issues(&["M107"])),
     (Ask::Pause, Gives::Issues(&["G92 E0"])),
@@ -89,7 +89,7 @@ const FAILING: [(u64, &[Row]); 4] = [
     ),
 ];
 
-/// The same in the turn behind the start of a print.
+/// The same in the turn after the start of a print.
 const FAILING_IN_PRINT: [(u64, Row); 2] = [
     (5, (Ask::Nothing, Gives::Breaks(&[]))),
     (6, (Ask::Nothing, Gives::Breaks(&["M107"]))),
@@ -271,7 +271,7 @@ fn check_ran(rt: &impl Abort, link: &MemoryLink) -> Result<(), Fail> {
     Ok(())
 }
 
-/// Pausing behind the first line lets the Started script end, and the Paused script follow.
+/// Pausing after the first line lets the Started script end, and the Paused script follow.
 #[test]
 fn pause_and_resume(rt: HostRuntime) -> Result<(), Fail> {
     let mut link = link_failing(&rt, rt.alloc(), None)?;

@@ -4,3 +4,4 @@ pub mod Steps
 pub mod Follows
 pub mod Loops
 pub mod Begins
+pub mod Prompting

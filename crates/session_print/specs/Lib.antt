@@ -2,3 +2,4 @@ pub mod Ends
 pub mod Printed
 pub mod BetweenTurns
 pub mod Waiting
+pub mod Enough

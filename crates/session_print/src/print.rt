@@ -1,6 +1,6 @@
 //! The turns of a print, from the dial to the hang-up.
-ghost use Rattle.std.specs.Prelude.{◌≡◌, ◌≢◌, ◌↔◌, ◌≤◌, ◌*◌, ℕ, List, true, false, Option, Some, None, is_some};
-ghost use Rattle.octo_outside.specs.Told.{Rose};
+ghost use Rattle.std.specs.Prelude.{◌≡◌, ◌≢◌, ◌↔◌, ◌≤◌, ◌+◌, ◌-◌, ◌*◌, ℕ, List, length, true, false, Option, Some, None, is_some};
+ghost use Rattle.octo_outside.specs.Told.{Rose, Steady};
 ghost use Rattle.octo_outside.specs.Traits.{NotBefore};
 ghost use Rattle.desk_steps.specs.Table.{connect_at, select_at, disconnect_at, start_at};
 ghost use Rattle.gcode_lines.specs.Job.{texts_of};
@@ -16,6 +16,9 @@ ghost use Rattle.octo_session.specs.Data.{IsSession, doing, port_of};
 ghost use Rattle.octo_session.specs.Turn.{fact_of};
 ghost use Rattle.octo_session.specs.declared.found.Doing.TheVariants as now_doing;
 ghost use Rattle.print_course.specs.Plan.{PrintData, print_commands, plan};
+ghost use Rattle.prompt_print.specs.OnWay.{IsOnWay, plan_length};
+ghost use Rattle.prompt_print.specs.Smooth.{IsUnsaturated, IsSmooth};
+ghost use Rattle.session_print.specs.Enough.{LeavesOnWay};
 ghost use Rattle.session_print.specs.Ends.{IsNew, IsTooHot, IsUnlisted, IsUnsent, is_too_hot, end_of, prepared, desk_after, left_after};
 ghost use Rattle.lossy_turns.specs.Patience.{IsPatient, IsUnanswered, IsOnTime};
 ghost use Rattle.session_print.specs.Waiting.{HasWaited};
@@ -67,6 +70,13 @@ pub fn run_print<L: Link, T: Clock>(
     ensures unanswered { (count : ℕ) → result ≡ end.Ended (NoAnswer count) → IsUnanswered session.new.sender }
     ensures used { (made : ℕ) → result ≡ end.TurnsUsed made
         → (made ≡ turns) × RoseBy turns (L.calls link.old) (L.calls link.new) }
+
+    // Over a prompt link a print is done if it has 32 turns more than its plan has lines.
+    ensures prompt { first_hot_of session.old.desk.limits job.commands ≡ None
+        → IsSmooth (L.kind link.old) (L.past link.old) port.now (L.faults link.old) (L.faults link.new)
+        (T.moment clock.new) session.old.sender.limit session.old.desk.poll_ms
+        (length (plan session.old.desk.scripts (texts_of job)))
+        → length (plan session.old.desk.scripts (texts_of job)) + 32 ≤ turns → result ≡ end.Done }
 
     // The link afterwards, and what a print leaves that sent nothing.
     ensures down { L.up link.new ≡ false }
@@ -121,6 +131,12 @@ fn make_turns<L: Link, T: Clock>(
         → (made ≡ turns) × RoseBy turns (L.calls link.old) (L.calls link.new) }
     ensures waited { HasWaited result (T.moment clock.old) session.old.sender.limit (T.moment clock.new) }
     ensures unanswered { (count : ℕ) → result ≡ end.Ended (NoAnswer count) → IsUnanswered session.new.sender }
+    ensures prompt { (p : PrintData)
+        → IsDialling p (port_of session.old.desk) (L.past link.old) (L.past link.old) session.old
+        → IsSmooth (L.kind link.old) (L.past link.old) (port_of session.old.desk)
+        (L.faults link.old) (L.faults link.new) (T.moment clock.new)
+        session.old.sender.limit session.old.desk.poll_ms (plan_length p)
+        → plan_length p + 32 ≤ turns → result ≡ end.Done }
     ensures passes { (line asked limit : ℕ) → result ≢ end.TooHot line asked limit }
 {
     let mut moment = 0;
@@ -163,6 +179,12 @@ fn make_turn<L: Link, T: Clock>(
         → result ≡ Some (end.Ended (NoAnswer count))
         → (later start (5 * limit) ≤ moment) × IsUnanswered session.new.sender }
     ensures clock { NotBefore (T.moment clock.old) (T.moment clock.new) }
+    ensures prompt { (p : PrintData) (poll_ms at left : ℕ)
+        → (L.kind link.old).prompt ≡ true → Steady (L.faults link.old) (L.faults link.new)
+        → IsUnsaturated (Some moment) session.old.sender.limit poll_ms
+        → T.moment clock.old ≡ Some moment → T.moment clock.new ≡ Some at
+        → IsOnWay (L.kind link.old) p poll_ms moment left (L.past link.old) session.old
+        → LeavesOnWay result (L.kind link.old) p poll_ms at (left - 1) (L.past link.new) session.new }
     ensures passes { (line asked limit : ℕ) → result ≢ Some (end.TooHot line asked limit) }
 {
     let turned = turn_over_link(session, link, moment);
@@ -173,6 +195,7 @@ fn make_turn<L: Link, T: Clock>(
 // Rests the clock, unless something was heard.
 fn rest_unless<T: Clock>(heard: bool, clock: &mut T)
     ensures later { NotBefore (T.moment clock.old) (T.moment clock.new) }
+    ensures stays { heard ≡ true → T.moment clock.new ≡ T.moment clock.old }
 {
     if !heard {
         clock.rest();

@@ -3,6 +3,8 @@ ghost use Rattle.std.specs.Prelude.{◌≡◌, ◌≤◌, false, IfOk};
 ghost use Rattle.printer_link.specs.Memory.{link_world};
 ghost use Rattle.session_print.specs.Ends.{IsNew};
 
+mod ends;
+
 use super::*;
 use byte_text::Name;
 use desk_steps::{Limits, Point};

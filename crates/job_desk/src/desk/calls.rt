@@ -192,7 +192,7 @@ impl Desk {
         }
     }
 
-    /// Cancels the print: no further file command is issued.
+    /// Cancels the print: no more file commands are issued.
     pub fn cancel(&mut self) -> Result<(), Refusal>
         ensures answer { result ≡ (cancel_at self.old.state self.old).0 }
         ensures after { self.new ≡ (cancel_at self.old.state self.old).1 }

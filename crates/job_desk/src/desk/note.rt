@@ -123,12 +123,13 @@ impl Desk {
 
     /// Notes how many lines of the session are acknowledged and what a turn at this moment, in milliseconds, found of the
     /// link. Returns the ending of the active print if it ends: as Done, and as Cancelled unless the link was hung up, only
-    /// once no script line waits and the last issued line of the print is acknowledged.
+    /// once no script line waits and the last issued line of the print is acknowledged. After an ending no print is active.
     pub fn note(&mut self, acked: u32, fact: &LinkFact, moment: u64) -> Option<Ending>
         requires { MayNote acked fact.now self.old }
         ensures ending { result ≡ (note_step acked fact.now moment self.old).0 }
         ensures after { self.new ≡ (note_step acked fact.now moment self.old).1 }
         ensures of_print { IfSome result (λ ending. IsEnding acked fact.now self.old ending) }
+        ensures rests { IfSome result (λ ending. self.new.active ≡ false) }
     {
         self.lines.acked = acked;
         let ending = self.take_fact(fact, moment);

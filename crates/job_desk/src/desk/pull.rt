@@ -115,7 +115,7 @@ impl Desk {
     }
 
     /// A line other than a file command.
-    fn talk(&mut self, moment: u64) -> Option<Issued>
+    fn take_other(&mut self, moment: u64) -> Option<Issued>
         ensures drawn { DrawsFrom (talk moment self.old) result self.old self.new }
         ensures sendable { IfSome result (λ issued. IsSendable issued.text.items) }
     {
@@ -128,7 +128,7 @@ impl Desk {
         self.take_poll(moment)
     }
 
-    /// The next line, if there is one.
+    /// The next line, if any.
     fn draw(&mut self, moment: u64) -> Option<Issued>
         ensures line { option_map line_of result ≡ (draw_at self.old.state moment self.old).0 }
         ensures after { self.new ≡ (draw_at self.old.state moment self.old).1 }
@@ -137,11 +137,11 @@ impl Desk {
         match self.state {
             State::Offline | State::Connecting | State::Fault => None,
             State::Closing => self.take_script(),
-            State::Printing => match self.talk(moment) {
+            State::Printing => match self.take_other(moment) {
                 Some(line) => Some(line),
                 None => self.take_command(),
             },
-            _ => self.talk(moment),
+            _ => self.take_other(moment),
         }
     }
 

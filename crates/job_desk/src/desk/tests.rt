@@ -1,4 +1,6 @@
-//! Worked cases: what is issued around a pause and a cancel, and each call in each state.
+//! Worked cases: what is issued around a pause and a cancel.
+mod table;
+
 use super::*;
 use crate::{AddFault, Ending, LinkFact, Outcome, Point, Tag};
 use gcode_lines::{one_command, read_commands};
@@ -28,59 +30,17 @@ enum Step {
     Fails,
     Issues(&'static str, Tag),
     IssuesNothing,
-    /// So many lines of the session are acknowledged, which ends nothing.
+    /// This number of the session's lines is acknowledged, which ends nothing.
     Acknowledges(u32),
-    /// So many lines are acknowledged, which ends print 1.
+    /// This number of lines is acknowledged, which ends print 1.
     Ends(u32, Outcome),
     Is(State),
 }
-
-/// For each call the state after it, by its letter, from each of the states of `STATES`; `-` is a refusal.
-const TABLE: [(Call, &str); 10] = [
-    (Call::Connect, "C--------C"),
-    (Call::Disconnect, "OLLLLLLLLO"),
-    (Call::Select, "OCR------E"),
-    (Call::Start, "--P-------"),
-    (Call::Pause, "---GGA----"),
-    (Call::Resume, "---P-P----"),
-    (Call::Toggle, "---G-P----"),
-    (Call::Cancel, "---XXX----"),
-    (Call::Restart, "-----P----"),
-    (Call::Manual, "--RPGAXF--"),
-];
-
-const STATES: [State; 10] = [
-    State::Offline,
-    State::Connecting,
-    State::Operational,
-    State::Printing,
-    State::Pausing,
-    State::Paused,
-    State::Cancelling,
-    State::Finishing,
-    State::Closing,
-    State::Fault,
-];
 
 const G28: Step = Step::Issues("G28", Tag::Job { print: 1, index: 0 });
 
 const fn script(text: &'static str, point: Point) -> Step {
     Step::Issues(text, Tag::Script { point, print: 1 })
-}
-
-fn letter(state: State) -> u8 {
-    match state {
-        State::Offline => b'O',
-        State::Connecting => b'C',
-        State::Operational => b'R',
-        State::Printing => b'P',
-        State::Pausing => b'G',
-        State::Paused => b'A',
-        State::Cancelling => b'X',
-        State::Finishing => b'F',
-        State::Closing => b'L',
-        State::Fault => b'E',
-    }
 }
 
 fn name(rt: &impl Abort, text: &str) -> Name {
@@ -142,7 +102,7 @@ fn connect(rt: &impl Abort, desk: &mut Desk) -> bool {
     desk.connect(&name(rt, "p")).is_ok()
 }
 
-/// Makes a call, and tells whether it was accepted.
+/// Makes a call, and returns whether it was accepted.
 fn make(rt: &impl Abort, alloc: Global, desk: &mut Desk, call: Call) -> Result<bool, Fail> {
     match call {
         Call::Connect => Ok(connect(rt, desk)),
@@ -211,60 +171,7 @@ fn take_all(rt: &impl Abort, alloc: Global, desk: &mut Desk, steps: &[Step]) -> 
     Ok(())
 }
 
-const CONNECT: Step = Step::Does(Call::Connect);
-
-const START: Step = Step::Does(Call::Start);
-
-const PAUSE: Step = Step::Does(Call::Pause);
-
-const CANCEL: Step = Step::Does(Call::Cancel);
-
-const DISCONNECT: Step = Step::Does(Call::Disconnect);
-
-/// The steps from a new desk without scripts, but with a file selected, to a state.
-fn way_to(state: State) -> &'static [Step] {
-    match state {
-        State::Offline => &[],
-        State::Connecting => &[CONNECT],
-        State::Operational => &[CONNECT, Step::Opens],
-        State::Printing => &[CONNECT, Step::Opens, START],
-        State::Pausing => &[CONNECT, Step::Opens, START, PAUSE],
-        State::Paused => &[CONNECT, Step::Opens, START, PAUSE, Step::Acknowledges(0)],
-        State::Cancelling => &[CONNECT, Step::Opens, START, CANCEL],
-        State::Finishing => &[CONNECT, Step::Opens, START, G28],
-        State::Closing => &[CONNECT, DISCONNECT],
-        State::Fault => &[CONNECT, Step::Fails],
-    }
-}
-
-fn check_cell(
-    rt: &impl Abort,
-    alloc: Global,
-    call: Call,
-    state: State,
-    after: u8,
-) -> Result<(), Fail> {
-    let mut desk = desk_with(rt, alloc, &[])?;
-    take_all(rt, alloc, &mut desk, way_to(state))?;
-    assert_eq!(rt; desk.state(), state);
-    let accepted = make(rt, alloc, &mut desk, call)?;
-    assert_eq!(rt; accepted, after != b'-', "{call:?} in {state:?}");
-    let expected = if accepted { after } else { letter(state) };
-    assert_eq!(rt; letter(desk.state()), expected, "{call:?} in {state:?}");
-    Ok(())
-}
-
-#[test]
-fn each_call_in_each_state(rt: HostRuntime) -> Result<(), Fail> {
-    for (call, row) in TABLE {
-        for (state, after) in STATES.iter().zip(row.as_bytes()) {
-            check_cell(&rt, rt.alloc(), call, *state, *after)?;
-        }
-    }
-    Ok(())
-}
-
-/// A print that is paused after its first line goes on where it stood.
+/// A print that is paused after its first line goes on at the next line.
 #[test]
 fn pause_and_resume(rt: HostRuntime) -> Result<(), Fail> {
     let scripts = [
@@ -329,7 +236,7 @@ fn cancel_while_pausing(rt: HostRuntime) -> Result<(), Fail> {
     take_all(&rt, rt.alloc(), &mut desk, &steps)
 }
 
-/// The 65th line of a script is one too many, and each call that takes memory gives its value.
+/// The 65th line of a script is one too many, and each call that takes memory returns its value.
 #[test]
 fn ample(rt: HostRuntime) -> Result<(), Fail> {
     let mut scripts = Scripts::new(rt.alloc());

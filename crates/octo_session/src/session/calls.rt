@@ -110,7 +110,7 @@ impl Session {
         self.desk.toggle()
     }
 
-    /// Cancels the print: no further file command is issued.
+    /// Cancels the print: no more file commands are issued.
     pub fn cancel(&mut self) -> Result<(), Refusal>
         ensures answer { result ≡ (cancel_at self.old.desk.state self.old.desk).0 }
         ensures after { self.new

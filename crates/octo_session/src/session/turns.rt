@@ -18,7 +18,7 @@ ghost use Rattle.octo_session.specs.declared.found.Received.TheVariants as recei
 
 use super::Session;
 use crate::found::{Doing, Found, Received};
-use crate::talk::{fail, talk};
+use crate::open_turn::{note_failure, receive_then_send};
 use byte_text::ReplyLine;
 use job_desk::{Desk, LinkFact, State};
 use printer_link::{Link, LinkFault};
@@ -120,7 +120,7 @@ impl Session {
                 Found::silent(LinkFact::NoPort, Received::Unasked, ending)
             }
             Err(LinkFault::Failed) => {
-                let ending = fail(&mut self.desk, self.sender.acked(), moment);
+                let ending = note_failure(&mut self.desk, self.sender.acked(), moment);
                 Found::silent(LinkFact::Failed, Received::Unasked, ending)
             }
         }
@@ -152,8 +152,8 @@ impl Session {
         Found::silent(LinkFact::Closed, Received::Unasked, ending)
     }
 
-    // Talks over the open link.
-    fn exchange<L: Link>(&mut self, link: &mut L, moment: u64, line: &mut ReplyLine) -> Found
+    // A turn while the link is up: it receives, then issues and sends.
+    fn turn_while_up<L: Link>(&mut self, link: &mut L, moment: u64, line: &mut ReplyLine) -> Found
         requires open { self.old.up ≡ true }
         requires up { L.up link.old ≡ true }
         ensures finds { can_find now_doing.Talking result.fact ≡ true }
@@ -184,7 +184,7 @@ impl Session {
         ensures counted { L.faults link.old ≤ L.faults link.new }
         ensures failed { result.fact ≡ fact.Failed → Rose (L.faults link.old) (L.faults link.new) }
     {
-        let found = talk(&mut self.desk, &mut self.sender, link, moment, line);
+        let found = receive_then_send(&mut self.desk, &mut self.sender, link, moment, line);
         self.up = match found.fact {
             LinkFact::Quiet | LinkFact::Ready => true,
             _ => false,
@@ -192,8 +192,13 @@ impl Session {
         found
     }
 
-    /// Makes the turn; what it receives is left in `line`.
-    pub(super) fn act<L: Link>(&mut self, link: &mut L, moment: u64, line: &mut ReplyLine) -> Found
+    /// The turn of the kind that `doing` says. What it receives is left in `line`.
+    pub(super) fn turn_by_kind<L: Link>(
+        &mut self,
+        link: &mut L,
+        moment: u64,
+        line: &mut ReplyLine,
+    ) -> Found
         requires { L.up link.old ≡ self.old.up }
         ensures finds { can_find (doing self.old) result.fact ≡ true }
         ensures asked { ((got_of result.received line.new.items) ≡ unasked)
@@ -235,7 +240,7 @@ impl Session {
         match self.doing() {
             Doing::Dialling => self.dial(link, moment),
             Doing::HangingUp => self.hang_up(link, moment),
-            Doing::Talking => self.exchange(link, moment, line),
+            Doing::Talking => self.turn_while_up(link, moment, line),
             Doing::Resting => Found::silent(LinkFact::Quiet, Received::Unasked, None),
         }
     }

@@ -26,7 +26,8 @@ returns-clause-value c =
     (measure_after c.args.measure.now c.args.from.now c.args.next.now c.added.result c.added-2.result c.widened.result c.widened-2.result c.widened-3.result
     (more_fed ∙ ap (λ n. c.args.measure.now.fed +ℤ n) rise)
     (more_drawn ∙ ap (λ n. c.args.measure.now.drawn +ℤ n) fall)
-    (rw (to_z-of_z w128 c.args.next.now.x x) at c.widened.ensures) (rw (to_z-of_z w128 c.args.next.now.y y) at c.widened-2.ensures) (rw (to_z-of_z w128 c.args.next.now.z z) at c.widened-3.ensures))
+    (rw (to_z-of_z w128 c.args.next.now.x x) at c.widened.ensures) (rw (to_z-of_z w128 c.args.next.now.y y) at c.widened-2.ensures)
+    (rw (to_z-of_z w128 c.args.next.now.z z) at c.widened-3.ensures))
 
 pub returns-clause-bounded : goal.returns-clause-bounded
 returns-clause-bounded c =

@@ -1,5 +1,5 @@
 use Rattle.gcode_measure.proofs.GoesOnLaws.{rest-goes_on}
-use Rattle.std.proofs.Common.{◌≡◌, ◌<◌, ◌≤◌, length, inr, sym, ap, ◌∙◌, Err, arith}
+use Rattle.std.proofs.Common.{◌<◌, ◌≤◌, length, inr, sym, ap, ◌∙◌, Err, arith}
 use Rattle.gcode_measure.specs.declared.fault.RestFault.TheVariants as fault
 use Rattle.gcode_measure.proofs.RestLaws.{rest_of-past, rest_of-refused, rest_of-sound}
 use Rattle.gcode_measure.proofs.remainder.rest.Goals as goal

@@ -1,6 +1,5 @@
 use Rattle.std.proofs.Common.{subst, Ok}
 use Rattle.octo_files.specs.Settings.{HaveSettings}
-use Rattle.octo_report.specs.declared.report.Report.{Report}
 use Rattle.octo_files.specs.Checks.{check_report}
 use Rattle.octo.specs.Commands.{Given, checked}
 use Rattle.std.proofs.Common.{◌≡◌}

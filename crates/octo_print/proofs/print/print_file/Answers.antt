@@ -1,5 +1,5 @@
 use Rattle.std.proofs.Common.{subst, refl, Ok, Err}
-use Rattle.octo_print.specs.Printing.{IsFilePrint, HaveJob, no_settings, no_job, both}
+use Rattle.octo_print.specs.Printing.{HaveJob, no_settings, no_job, both}
 use Rattle.octo_print.proofs.print.print_file.Goals as goal
 
 pub returns-in-Err-clause-print : goal.returns-in-Err-clause-print

@@ -1,7 +1,9 @@
-use Rattle.std.proofs.Common.{◌≡◌, true, sym, ◌∙◌, subst, ap}
+use Rattle.std.proofs.Common.{◌≡◌, ◌-◌, true, sym, ◌∙◌, subst, ap, arith}
+use Rattle.std.proofs.lemmas.Option.{same_Some}
 use Rattle.std.specs.Prelude.{Option}
 use Rattle.desk_steps.specs.declared.link_fact.LinkFact.{LinkFact}
 use Rattle.desk_steps.specs.declared.link_fact.LinkFact.TheVariants as fact
+use Rattle.octo_outside.proofs.Told.{steady_not_rose}
 use Rattle.printer_link.specs.Link.{LinkKind}
 use Rattle.octo_session.specs.Data.{SessionData}
 use Rattle.octo_session.specs.Turn.{fact_of}
@@ -17,6 +19,11 @@ use Rattle.session_print.specs.BetweenTurns.{GoesOn}
 use Rattle.session_print.specs.declared.end.PrintEnd.{PrintEnd}
 use Rattle.session_print.proofs.Steps.{HasTurned, turn_goes, turn_free}
 use Rattle.session_print.proofs.Follows.{follows, fact_by, calls_of}
+use Rattle.prompt_print.proofs.Turns.{HasTurned as IsPromptTurn}
+use Rattle.prompt_print.proofs.Leads.{turn_leads}
+use Rattle.prompt_print.proofs.Smooth.{poll_later, range_moment}
+use Rattle.session_print.specs.Enough.{LeavesOnWay}
+use Rattle.session_print.proofs.Prompting.{leads_left}
 use Rattle.session_print.proofs.print.make_turn.Goals as goal
 
 pub returns-clause-goes : goal.returns-clause-goes
@@ -72,3 +79,36 @@ returns-clause-calls g c awake is =
     let e = c.turn_over_link-turned.ensures in
     let note = c.turn_over_link-turned.result.note in
     e.calls (calls_of c.args.session.now (fact_of note) awake e.finds (ap end_of (sym c.fact_of_turn.ensures) ∙ sym c.go_on.ensures.end ∙ is))
+
+pub returns-clause-prompt : goal.returns-clause-prompt
+returns-clause-prompt g c p poll_ms at left prompt steady range before after way =
+    let e = c.turn_over_link-turned.ensures in
+    let turned = c.turn_over_link-turned.result in
+    let old : SessionData = c.args.session.now in
+    let mid : SessionData = c.turn_over_link-turned.new.session in
+    let kind : LinkKind = g.L.Link.kind c.args.link.now in
+    let now = g.L.Link.past c.turn_over_link-turned.new.link in
+    let moment : c.args.moment ≡ range.last = range_moment c.args.moment old.sender.limit poll_ms range in
+    let h : IsPromptTurn c.args.moment at poll_ms kind (g.L.Link.past c.args.link.now) now (g.L.Link.calls c.args.link.now) (g.L.Link.calls c.turn_over_link-turned.new.link) old mid turned =
+    record {
+      turn = e.turn;
+      kept = record { before = e.before; finds = e.finds; up = e.up; sent = e.sent; spent = e.spent };
+      joined = e.joined;
+      greatest = e.greatest;
+      ready_is = e.ready_is;
+      readies = λ is. (e.ready.0 is).0;
+      not_fallen = e.not_fallen;
+      no_port = e.no_port;
+      unbroken = λ is. steady_not_rose _ _ steady (e.failed is);
+      prompt = prompt;
+      small = omega (arith, moment, range.answers);
+      poll_later = poll_later c.args.moment poll_ms (omega (arith, moment, range.polls)) range.some_poll;
+      at_heard = λ heard. same_Some at c.args.moment (sym after ∙ c.rest_unless.ensures.stays heard ∙ before);
+    }
+    in
+    let led = turn_leads c.args.moment at poll_ms kind _ now _ _ old mid turned h p left way in
+    let on = leads_left (fact_of turned.note) turned.ending kind p poll_ms at (left - 1) now mid led in
+    let F : LinkFact → Type 0 = λ f. LeavesOnWay (end_of f) kind p poll_ms at (left - 1) now (record mid { desk = desk_after f turned.ending mid.desk }) in
+    let R : Option PrintEnd → Type 0 = λ r. LeavesOnWay r kind p poll_ms at (left - 1) now (record mid { desk = desk_after c.fact_of_turn.result turned.ending mid.desk }) in
+    let S : SessionData → Type 0 = λ x. LeavesOnWay c.go_on.result kind p poll_ms at (left - 1) now x in
+    subst S (sym c.go_on.ensures.after) (subst R (sym c.go_on.ensures.end) (subst F (sym c.fact_of_turn.ensures) on))

@@ -8,6 +8,7 @@ use Rattle.print_course.specs.Plan.{plan}
 use Rattle.session_print.specs.Ends.{print_of}
 use Rattle.session_print.proofs.Begins.{refused, begins}
 use Rattle.session_print.specs.Printed.{IsOver}
+use Rattle.session_print.proofs.Prompting.{smooth_prepared}
 use Rattle.session_print.proofs.print.run_print.Given as Given
 use Rattle.session_print.proofs.print.run_print.Goals as goal
 
@@ -46,3 +47,11 @@ returns-clause-ended g c = (over g c).ended
 
 pub returns-clause-unsent : goal.returns-clause-unsent
 returns-clause-unsent g c = (over g c).unsent
+
+pub returns-clause-prompt : goal.returns-clause-prompt
+returns-clause-prompt g c none_hot smooth enough =
+    let x = c.args.session.now in
+    let file = named_file c.args.name.now c.args.job in
+    c.make_turns.ensures.prompt (print_of x.desk file)
+    (begins c.args.port.now file (g.L.Link.past c.args.link.now) x c.prepare.new.session c.requires.new none_hot c.prepare.ensures.desk c.prepare.ensures.sender c.prepare.ensures.up)
+    (smooth_prepared _ _ c.args.port.now file _ _ _ _ x c.prepare.new.session c.requires.new c.prepare.ensures.desk c.prepare.ensures.sender smooth) enough

@@ -23,7 +23,8 @@ returns c =
     let to_e = rw (to_z-of_z w128 c.args.self.now.e from_e) at c.moved-4.ensures in
     let values = c.read_values-values.result in
     rw (to_z-of_z w128 c.moved.result x, to_z-of_z w128 c.moved-2.result y, to_z-of_z w128 c.moved-3.result z, to_z-of_z w128 c.moved-4.result e)
-    (head_after head c.args.text.now c.args.kind values c.unwrap_or.result c.unwrap_or-2.result c.moved.result c.moved-2.result c.moved-3.result c.moved-4.result
+    (head_after head c.args.text.now c.args.kind values c.unwrap_or.result c.unwrap_or-2.result c.moved.result c.moved-2.result c.moved-3.result
+    c.moved-4.result
     c.requires.kind c.read_values-values.ensures
     (c.unwrap_or.ensures ∙ ap (λ m. unwrap_or m head.axes) c.mode_set.ensures)
     (c.unwrap_or-2.ensures ∙ ap (λ m. unwrap_or m head.extruder) c.mode_set-2.ensures)

@@ -14,7 +14,8 @@ unfolding no_entry
 returns-then-next-count-clause-lines c =
     let s = c.self.inside in
     let lines : 0 < length (lines_left s.scripts s.entries.items) = rw (← c.self.view_is) at c.requires in
-    rw (c.deref_mut.ensures.value, c.deref.ensures.0, ← c.self.view_is) (put_first s.scripts s.entries.items no_entry c.self.invariant (some_entry s.scripts s.entries.items lines))
+    rw (c.deref_mut.ensures.value, c.deref.ensures.0, ← c.self.view_is) (put_first s.scripts s.entries.items no_entry c.self.invariant
+    (some_entry s.scripts s.entries.items lines))
 
 pub returns-else-next-count-clause-lines : goal.returns-else-next-count-clause-lines
 unfolding no_entry
@@ -23,5 +24,7 @@ returns-else-next-count-clause-lines c =
     let lines : 0 < length (lines_left s.scripts s.entries.items) = rw (← c.self.view_is) at c.requires in
     let count = rw c.deref.ensures.0 at c.count-count.ensures in
     let last = rw c.deref.ensures.0 at c.if-next-count.false in
-    let over : length (texts_at (slice_index_or s.entries.items 0 no_entry).point s.scripts) ≤ (slice_index_or s.entries.items 0 no_entry).next + 1 = omega (arith, count, last) in
-    rw (c.remove.ensures.items, ← c.self.view_is) (drop_first s.scripts s.entries.items no_entry c.self.invariant (some_entry s.scripts s.entries.items lines) over)
+    let over : length (texts_at (slice_index_or s.entries.items 0 no_entry).point s.scripts) ≤ (slice_index_or s.entries.items 0 no_entry).next + 1 =
+    omega (arith, count, last) in
+    rw (c.remove.ensures.items, ← c.self.view_is) (drop_first s.scripts s.entries.items no_entry c.self.invariant (some_entry s.scripts s.entries.items lines)
+    over)

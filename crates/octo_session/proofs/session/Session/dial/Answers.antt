@@ -9,6 +9,10 @@ pub returns-in-Ok-clause-steps : goal.returns-in-Ok-clause-steps
 returns-in-Ok-clause-steps g c =
     let old = c.args.link.now in
     let after : c.open.new.self.sender ≡ begun c.args.self.now.sender = c.open.ensures.sender in
-    let P : LinkFact → Type 0 = λ f. Takes c.args.moment (g.L.Link.kind old) (g.L.Link.past old) (g.L.Link.past c.dial_port.new.link) (g.L.Link.calls old) (g.L.Link.calls c.dial_port.new.link) (dial_steps f) c.args.self.now.sender c.open.new.self.sender in
-    let grew = opens_placed (g.L.Link.kind old) (g.L.Link.past old) (g.L.Link.past c.dial_port.new.link) c.args.self.now.sender c.in-Ok.ensures.slots c.in-Ok.ensures.past in
-    subst P (sym c.open.ensures.finds) (takes_both c.args.moment (g.L.Link.kind old) (g.L.Link.past old) (g.L.Link.past c.dial_port.new.link) (g.L.Link.calls old) (g.L.Link.calls c.dial_port.new.link) opens c.args.self.now.sender c.open.new.self.sender after tt c.in-Ok.ensures.calls grew c.in-Ok.ensures.past_prompt)
+    let P : LinkFact → Type 0 = λ f. Takes c.args.moment (g.L.Link.kind old) (g.L.Link.past old) (g.L.Link.past c.dial_port.new.link) (g.L.Link.calls old)
+    (g.L.Link.calls c.dial_port.new.link) (dial_steps f) c.args.self.now.sender c.open.new.self.sender in
+    let grew = opens_placed (g.L.Link.kind old) (g.L.Link.past old) (g.L.Link.past c.dial_port.new.link) c.args.self.now.sender c.in-Ok.ensures.slots
+    c.in-Ok.ensures.past in
+    subst P (sym c.open.ensures.finds) (takes_both c.args.moment (g.L.Link.kind old) (g.L.Link.past old) (g.L.Link.past c.dial_port.new.link)
+    (g.L.Link.calls old) (g.L.Link.calls c.dial_port.new.link) opens c.args.self.now.sender c.open.new.self.sender after tt c.in-Ok.ensures.calls grew
+    c.in-Ok.ensures.past_prompt)

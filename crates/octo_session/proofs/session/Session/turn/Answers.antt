@@ -39,15 +39,17 @@ uneventful found before acked old new bytes noted still b a temps = (
 
 pub returns-clause-turn : goal.returns-clause-turn
 returns-clause-turn g c =
-    let e = c.act-found.ensures in
-    let bytes = c.act-found.new.line.items in
+    let e = c.turn_by_kind-found.ensures in
+    let bytes = c.turn_by_kind-found.new.line.items in
     record {
-      got = got_of c.act-found.result.received bytes;
-      found = c.act-found.result.fact;
-      lines = map line_of c.act-found.result.issued.items;
+      got = got_of c.turn_by_kind-found.result.received bytes;
+      found = c.turn_by_kind-found.result.fact;
+      lines = map line_of c.turn_by_kind-found.result.issued.items;
       asked = e.asked;
       heard = search rules;
-      none = uneventful c.act-found.result c.acked-before.result c.acked.result c.args.self.now.sender.acked c.act-found.new.self.sender.acked bytes c.tell.result.note c.tell.ensures.none (c.acked-before.ensures.acked ∙ ap (λ (x : SessionData). x.sender.acked) c.self.view_is) (c.acked.ensures.acked ∙ ap (λ (x : SessionData). x.sender.acked) c.self-2.view_is) e.temps;
+      none = uneventful c.turn_by_kind-found.result c.acked-before.result c.acked.result c.args.self.now.sender.acked c.turn_by_kind-found.new.self.sender.acked
+          bytes c.turned_of.result.note c.turned_of.ensures.none (c.acked-before.ensures.acked ∙ ap (λ (x : SessionData). x.sender.acked) c.self.view_is)
+          (c.acked.ensures.acked ∙ ap (λ (x : SessionData). x.sender.acked) c.self-2.view_is) e.temps;
       some = search rules;
       ended = search rules;
       broken = e.broken;
@@ -58,40 +60,50 @@ returns-clause-turn g c =
 
 pub returns-clause-ready_is : goal.returns-clause-ready_is
 returns-clause-ready_is g c =
-    let finds : can_find (doing c.args.self.now) (fact_of c.tell.result.note) ≡ true = subst (λ (f : LinkFact). can_find (doing c.args.self.now) f ≡ true) (sym c.tell.ensures.fact) c.act-found.ensures.finds in
+    let finds : can_find (doing c.args.self.now) (fact_of c.turned_of.result.note) ≡ true =
+    subst (λ (f : LinkFact). can_find (doing c.args.self.now) f ≡ true) (sym c.turned_of.ensures.fact) c.turn_by_kind-found.ensures.finds in
     let sound : IsSound c.args.self.now.sender = subst (λ (x : SessionData). IsSound x.sender) c.self.view_is c.acked-before.ensures.sound in
-    turn_ready c.args.moment _ _ _ _ _ c.args.self.now c.act-found.new.self c.tell.result (returns-clause-turn g c) finds sound
-    (subst (λ (f : LinkFact). (f ≡ fact.Ready) ↔ ((c.args.self.now.sender.ready ≡ false) × (c.act-found.new.self.sender.ready ≡ true))) (sym c.tell.ensures.fact) c.act-found.ensures.ready)
+    turn_ready c.args.moment _ _ _ _ _ c.args.self.now c.turn_by_kind-found.new.self c.turned_of.result (returns-clause-turn g c) finds sound
+    (subst (λ (f : LinkFact). (f ≡ fact.Ready) ↔ ((c.args.self.now.sender.ready ≡ false) × (c.turn_by_kind-found.new.self.sender.ready ≡ true)))
+    (sym c.turned_of.ensures.fact) c.turn_by_kind-found.ensures.ready)
 
 pub returns-clause-not_fallen : goal.returns-clause-not_fallen
 returns-clause-not_fallen g c =
-    let finds : can_find (doing c.args.self.now) (fact_of c.tell.result.note) ≡ true = subst (λ (f : LinkFact). can_find (doing c.args.self.now) f ≡ true) (sym c.tell.ensures.fact) c.act-found.ensures.finds in
+    let finds : can_find (doing c.args.self.now) (fact_of c.turned_of.result.note) ≡ true =
+    subst (λ (f : LinkFact). can_find (doing c.args.self.now) f ≡ true) (sym c.turned_of.ensures.fact) c.turn_by_kind-found.ensures.finds in
     let sound : IsSound c.args.self.now.sender = subst (λ (x : SessionData). IsSound x.sender) c.self.view_is c.acked-before.ensures.sound in
-    turn_not_fallen c.args.moment _ _ _ _ _ c.args.self.now c.act-found.new.self c.tell.result (returns-clause-turn g c) finds sound
+    turn_not_fallen c.args.moment _ _ _ _ _ c.args.self.now c.turn_by_kind-found.new.self c.turned_of.result (returns-clause-turn g c) finds sound
 
 pub returns-clause-within : goal.returns-clause-within
 returns-clause-within g c =
-    let finds : can_find (doing c.args.self.now) (fact_of c.tell.result.note) ≡ true = subst (λ (f : LinkFact). can_find (doing c.args.self.now) f ≡ true) (sym c.tell.ensures.fact) c.act-found.ensures.finds in
+    let finds : can_find (doing c.args.self.now) (fact_of c.turned_of.result.note) ≡ true =
+    subst (λ (f : LinkFact). can_find (doing c.args.self.now) f ≡ true) (sym c.turned_of.ensures.fact) c.turn_by_kind-found.ensures.finds in
     let sound : IsSound c.args.self.now.sender = subst (λ (x : SessionData). IsSound x.sender) c.self.view_is c.acked-before.ensures.sound in
-    turn_within c.args.moment _ _ _ _ _ c.args.self.now c.act-found.new.self c.tell.result (returns-clause-turn g c) finds sound
+    turn_within c.args.moment _ _ _ _ _ c.args.self.now c.turn_by_kind-found.new.self c.turned_of.result (returns-clause-turn g c) finds sound
 
 pub returns-clause-none_acked : goal.returns-clause-none_acked
 returns-clause-none_acked g c opens =
-    let finds : can_find (doing c.args.self.now) (fact_of c.tell.result.note) ≡ true = subst (λ (f : LinkFact). can_find (doing c.args.self.now) f ≡ true) (sym c.tell.ensures.fact) c.act-found.ensures.finds in
+    let finds : can_find (doing c.args.self.now) (fact_of c.turned_of.result.note) ≡ true =
+    subst (λ (f : LinkFact). can_find (doing c.args.self.now) f ≡ true) (sym c.turned_of.ensures.fact) c.turn_by_kind-found.ensures.finds in
     let sound : IsSound c.args.self.now.sender = subst (λ (x : SessionData). IsSound x.sender) c.self.view_is c.acked-before.ensures.sound in
-    turn_none_acked c.args.moment _ _ _ _ _ c.args.self.now c.act-found.new.self c.tell.result (returns-clause-turn g c) finds sound opens
+    turn_none_acked c.args.moment _ _ _ _ _ c.args.self.now c.turn_by_kind-found.new.self c.turned_of.result (returns-clause-turn g c) finds sound opens
 
 pub returns-clause-noted : goal.returns-clause-noted
 returns-clause-noted g c =
-    let finds : can_find (doing c.args.self.now) (fact_of c.tell.result.note) ≡ true = subst (λ (f : LinkFact). can_find (doing c.args.self.now) f ≡ true) (sym c.tell.ensures.fact) c.act-found.ensures.finds in
-    turn_noted c.args.moment _ _ _ _ _ c.args.self.now c.act-found.new.self c.tell.result (returns-clause-turn g c) finds
+    let finds : can_find (doing c.args.self.now) (fact_of c.turned_of.result.note) ≡ true =
+    subst (λ (f : LinkFact). can_find (doing c.args.self.now) f ≡ true) (sym c.turned_of.ensures.fact) c.turn_by_kind-found.ensures.finds in
+    turn_noted c.args.moment _ _ _ _ _ c.args.self.now c.turn_by_kind-found.new.self c.turned_of.result (returns-clause-turn g c) finds
 
 pub returns-clause-still : goal.returns-clause-still
 returns-clause-still g c none =
-    let finds : can_find (doing c.args.self.now) (fact_of c.tell.result.note) ≡ true = subst (λ (f : LinkFact). can_find (doing c.args.self.now) f ≡ true) (sym c.tell.ensures.fact) c.act-found.ensures.finds in
-    turn_still c.args.moment _ _ _ _ _ c.args.self.now c.act-found.new.self c.tell.result (returns-clause-turn g c) finds (subst IsSession c.self.view_is c.self.invariant) none
+    let finds : can_find (doing c.args.self.now) (fact_of c.turned_of.result.note) ≡ true =
+    subst (λ (f : LinkFact). can_find (doing c.args.self.now) f ≡ true) (sym c.turned_of.ensures.fact) c.turn_by_kind-found.ensures.finds in
+    turn_still c.args.moment _ _ _ _ _ c.args.self.now c.turn_by_kind-found.new.self c.turned_of.result (returns-clause-turn g c) finds
+    (subst IsSession c.self.view_is c.self.invariant) none
 
 pub returns-clause-ends : goal.returns-clause-ends
 returns-clause-ends g c =
-    let finds : can_find (doing c.args.self.now) (fact_of c.tell.result.note) ≡ true = subst (λ (f : LinkFact). can_find (doing c.args.self.now) f ≡ true) (sym c.tell.ensures.fact) c.act-found.ensures.finds in
-    turn_ending c.args.moment _ _ _ _ _ c.args.self.now c.act-found.new.self c.tell.result (returns-clause-turn g c) finds c.act-found.ensures.joined (subst (λ (x : SessionData). IsActive x.desk) c.self.view_is c.is_active.ensures)
+    let finds : can_find (doing c.args.self.now) (fact_of c.turned_of.result.note) ≡ true =
+    subst (λ (f : LinkFact). can_find (doing c.args.self.now) f ≡ true) (sym c.turned_of.ensures.fact) c.turn_by_kind-found.ensures.finds in
+    turn_ending c.args.moment _ _ _ _ _ c.args.self.now c.turn_by_kind-found.new.self c.turned_of.result (returns-clause-turn g c) finds
+    c.turn_by_kind-found.ensures.joined (subst (λ (x : SessionData). IsActive x.desk) c.self.view_is c.is_active.ensures)

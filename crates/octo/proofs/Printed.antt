@@ -1,0 +1,108 @@
+-- What a print with enough turns reports.
+use Rattle.std.proofs.Common.{◌≡◌, inl, inr, ℕ, List, Option, None, Some, Result, Ok, Err, sym, ◌∙◌, ap, subst}
+use Rattle.std.specs.Prelude.{IsUtf8}
+use Rattle.std.proofs.lemmas.Option.{same_Some}
+use Rattle.octo_outside.specs.Traits.{Files}
+use Rattle.gcode_lines.specs.Job.{JobData}
+use Rattle.temp_rules.specs.declared.limits.Limits.{Limits}
+use Rattle.printer_link.specs.Link.{LinkKind}
+use Rattle.session_print.specs.declared.end.PrintEnd.{PrintEnd}
+use Rattle.octo_settings.specs.Config.{config, plain_settings}
+use Rattle.octo_settings.specs.declared.settings.Settings.{Settings}
+use Rattle.octo_words.specs.declared.command.Command.{Command}
+use Rattle.octo_words.specs.declared.command.Command.TheVariants as command
+use Rattle.octo_report.specs.declared.report.Report.{Report}
+use Rattle.octo_report.specs.declared.report.Report.TheVariants as report
+use Rattle.octo_files.specs.Jobs.{job_in}
+use Rattle.octo_files.specs.Reading.{IsHeld, IsTrouble}
+use Rattle.octo_files.specs.Settings.{HaveSettings, settings_or}
+use Rattle.octo_print.specs.Printing.{Seen, HaveJob, Reads, no_settings, no_job, both, Follows, IsRun, reported, over_port}
+use Rattle.octo.specs.Commands.{Comes, out_of_memory, no_command, carried_out, Reports}
+use Rattle.octo.specs.Enough.{Holds, GiveSettings, HasEnough, IsPrinted}
+
+ok_of : {A : Type 0} → A → Result A Report → A
+ok_of other (Ok x) = x
+ok_of other (Err r) = other
+
+abbrev AreEqual : {A : Type 0} → Result A Report → Result A Report → Type 0
+AreEqual a b = a ≡ b
+
+same_ok : {A : Type 0} (x y : A) → AreEqual (Ok x) (Ok y) → x ≡ y
+unfolding ok_of
+same_ok x y is = ap (ok_of x) is
+
+-- a file has one content
+same_bytes : (files : Option Files) (file bytes other : List ℕ) → Holds files file bytes → IsHeld files file other → other ≡ bytes
+same_bytes None file bytes other holds held = absurd holds
+same_bytes (Some all) file bytes other holds held = same_Some other bytes (sym held ∙ holds)
+
+-- settings that are given aren't refused
+settings_trouble : (files : Option Files) (name : Option (List ℕ)) (s : Settings) (r : Report) → GiveSettings files name s →
+    HaveSettings files name (Err r) → IsTrouble r
+settings_trouble files None s r given have = absurd (cc)
+settings_trouble files (Some name) s r given (inl trouble) = trouble
+settings_trouble files (Some name) s r given (inr gives) =
+    let same : gives.bytes ≡ given.bytes = same_bytes files name given.bytes gives.bytes given.held gives.held in
+    let no : Err r ≡ Ok s = gives.given.text (subst IsUtf8 (sym same) given.text) ∙ ap settings_or (ap config same ∙ given.settings) in
+    absurd (cc)
+
+-- and no others are read
+settings_same : (files : Option Files) (name : Option (List ℕ)) (s t : Settings) → GiveSettings files name s → HaveSettings files name (Ok t) → t ≡ s
+settings_same files None s t given have = same_ok t plain_settings have ∙ sym given
+settings_same files (Some name) s t given (inl trouble) = absurd trouble
+settings_same files (Some name) s t given (inr gives) =
+    let same : gives.bytes ≡ given.bytes = same_bytes files name given.bytes gives.bytes given.held gives.held in
+    same_ok t s (gives.given.text (subst IsUtf8 (sym same) given.text) ∙ ap settings_or (ap config same ∙ given.settings))
+
+-- so it is with the job of a file
+job_trouble : (files : Option Files) (file bytes : List ℕ) (limits : Limits) (job : JobData) (r : Report) → Holds files file bytes →
+    job_in limits bytes ≡ Ok job → HaveJob files file limits (Err r) → IsTrouble r
+job_trouble files file bytes limits job r holds is (inl trouble) = trouble
+job_trouble files file bytes limits job r holds is (inr gives) =
+    let no : Err r ≡ Ok job = gives.given ∙ ap (job_in limits) (same_bytes files file bytes gives.bytes holds gives.held) ∙ is in
+    absurd (cc)
+
+job_same : (files : Option Files) (file bytes : List ℕ) (limits : Limits) (job other : JobData) → Holds files file bytes →
+    job_in limits bytes ≡ Ok job → HaveJob files file limits (Ok other) → other ≡ job
+job_same files file bytes limits job other holds is (inl trouble) = absurd trouble
+job_same files file bytes limits job other holds is (inr gives) =
+    same_ok other job (gives.given ∙ ap (job_in limits) (same_bytes files file bytes gives.bytes holds gives.held) ∙ is)
+
+module _ (words : List (List ℕ)) (kind : LinkKind) (files : Option Files) (h : Seen) (r : Report) (e : HasEnough words kind files h) (sure : r ≡ report.SourceFailed → ⊥) where
+  -- a refusal for a trouble is for memory
+  troubled : (refusal : Report) → IsTrouble refusal → r ≡ refusal → IsPrinted e.job r
+  troubled refusal (inl none) is = inr (is ∙ none)
+  troubled refusal (inr failed) is = absurd (sure (is ∙ failed))
+
+  ran_done : (x : IsRun kind e.by e.job (over_port e.port e.turns) h r) → IsPrinted e.job r
+  ran_done x = inl (x.is ∙ ap (λ (how : PrintEnd). reported how e.port e.job) (x.run.prompt e.smooth e.enough))
+
+  by_job : (s : Settings) (job : JobData) → s ≡ e.by → job ≡ e.job → Follows kind (over_port e.port e.turns) h r (Ok (s, job)) → IsPrinted e.job r
+  by_job s job their its (inl none) = inr none.is
+  by_job s job their its (inr ran) =
+      let S : Settings → Type 0 = λ t. IsRun kind t job (over_port e.port e.turns) h r in
+      let J : JobData → Type 0 = λ j. IsRun kind e.by j (over_port e.port e.turns) h r in
+      ran_done (subst J its (subst S their ran))
+
+  by_reads : (found : Result (Settings × JobData) Report) → Reads files e.settings e.file found → Follows kind (over_port e.port e.turns) h r found →
+      IsPrinted e.job r
+  by_reads found (no_settings refusal have) so = troubled refusal (settings_trouble files e.settings e.by refusal e.given have) so.is
+  by_reads found (no_job s refusal have none) so =
+      let their : s ≡ e.by = settings_same files e.settings e.by s e.given have in
+      let L : Settings → Type 0 = λ t. HaveJob files e.file t.limits (Err refusal) in
+      troubled refusal (job_trouble files e.file e.bytes e.by.limits e.job refusal e.held e.its_job (subst L their none)) so.is
+  by_reads found (both s job have its) so =
+      let their : s ≡ e.by = settings_same files e.settings e.by s e.given have in
+      let L : Settings → Type 0 = λ t. HaveJob files e.file t.limits (Ok job) in
+      by_job s job their (job_same files e.file e.bytes e.by.limits e.job job e.held e.its_job (subst L their its)) so
+
+  -- a print with enough turns was printed, unless memory ran out
+  pub comes_printed : Comes words kind files h r → IsPrinted e.job r
+  comes_printed (out_of_memory is unused) = inr is
+  comes_printed (no_command is none unused) =
+      let no : None ≡ Some (command.Print e.port e.file e.turns e.settings) = sym none ∙ e.asked in
+      absurd (cc)
+  comes_printed (carried_out asked is reports) =
+      let R : Command → Type 0 = λ c. Reports kind files h c r in
+      let so = subst R (same_Some asked (command.Print e.port e.file e.turns e.settings) (sym is ∙ e.asked)) reports in
+      by_reads so.found so.reads so.follows

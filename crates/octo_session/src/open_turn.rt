@@ -1,0 +1,331 @@
+//! A turn over an open link, part by part: each part is a call on the sender, on the link, or both.
+ghost use Rattle.std.specs.Prelude.{◌≡◌, ◌≢◌, ◌↔◌, ◌⊎◌, ◌<◌, ◌≤◌, ◌+◌, ◌++◌, [], map, length, true, false, None, is_some};
+ghost use Rattle.octo_outside.specs.Told.{Rose};
+ghost use Rattle.desk_steps.specs.Pull.{pull_step, settled};
+ghost use Rattle.desk_steps.specs.Issued.{line_of};
+ghost use Rattle.desk_steps.specs.declared.link_fact.LinkFact.TheVariants as fact;
+ghost use Rattle.send_window.specs.declared.session_end.SessionEnd.{SessionEnd};
+ghost use Rattle.send_window.specs.Data.{IsSound};
+ghost use Rattle.send_window.specs.Hearing.{tick_step};
+ghost use Rattle.send_window.specs.Sending.{next_of, room_of};
+ghost use Rattle.octo_session.specs.Data.{IsJoined};
+ghost use Rattle.octo_session.specs.DeskTurn.{IsNoted, Pulls};
+ghost use Rattle.octo_session.specs.Found.{got_of, temps_kept, temps_in, temps_of_reply, is_got, end_by, is_said, may_issue, up_after, can_find, lost, unasked};
+ghost use Rattle.octo_session.specs.Steps.{AreBytes, Takes, TakesSome, Issues, given_by, received_by, is_up_by, sends, speech, clock_steps, talk_steps};
+ghost use Rattle.octo_session.specs.Turn.{drawn, texts_in, is_unbroken, IsSpent};
+ghost use Rattle.octo_session.specs.declared.open_turn.Gave.TheVariants as gave;
+ghost use Rattle.octo_session.specs.declared.found.Doing.TheVariants as doing_now;
+
+use crate::found::{Found, Received};
+use arrayvec::ArrayVec;
+use byte_text::{Line, ReplyLine};
+use job_desk::{Desk, Ending, Issued, LinkFact};
+use marlin_reply::{Reply, Temps, read_reply};
+use printer_link::{Heard, Link};
+use send_window::Sender;
+
+/// What became of the next frame.
+#[derive(Clone, Copy)]
+enum Gave {
+    Sent,
+    /// No frame waited.
+    Nothing,
+    /// The sending failed.
+    Failed,
+}
+
+// The temperatures that a reply reports.
+fn temps_of(reply: &Reply) -> Option<Temps>
+    ensures { result ≡ temps_of_reply reply.now }
+{
+    match reply {
+        Reply::Ok { temps, .. } => *temps,
+        Reply::Temps(temps) => Some(*temps),
+        _ => None,
+    }
+}
+
+// Receives at most one line, which the sender then hears.
+fn receive<L: Link>(
+    sender: &mut Sender,
+    link: &mut L,
+    moment: u64,
+    line: &mut ReplyLine,
+) -> Received
+    requires { L.up link.old ≡ true }
+    ensures steps { Takes moment (L.kind link.old) (L.past link.old) (L.past link.new)
+        (L.calls link.old) (L.calls link.new) (received_by (got_of result line.new.items))
+        sender.old sender.new }
+    ensures asked { got_of result line.new.items ≢ unasked }
+    ensures temps { temps_kept result ≡ temps_in (got_of result line.new.items) }
+    ensures up { L.up link.new ≡ is_got (got_of result line.new.items) }
+    ensures kind { L.kind link.new ≡ L.kind link.old }
+    ensures counted { L.faults link.old ≤ L.faults link.new }
+    ensures failed { is_got (got_of result line.new.items) ≡ false
+        → Rose (L.faults link.old) (L.faults link.new) }
+{
+    match link.recv(line) {
+        Ok(Heard::Line) => {
+            let reply = read_reply(line.as_slice());
+            let _ = sender.hear(&reply, moment);
+            Received::Line {
+                temps: temps_of(&reply),
+            }
+        }
+        Ok(Heard::Nothing) => Received::Nothing,
+        Err(_) => Received::Lost,
+    }
+}
+
+// A text consists of bytes: its type says so, and this states it for proofs.
+fn has_bytes(text: &[u8])
+    ensures { AreBytes text.now }
+{}
+
+// Issues the desk's next line, if it has one.
+fn pull_one(
+    desk: &mut Desk,
+    sender: &mut Sender,
+    lines: &mut ArrayVec<Issued, 16>,
+    moment: u64,
+) -> bool
+    requires room { 0 < room_of sender.old }
+    requires space { length lines.old.items < 16 }
+    requires sound { IsSound sender.old }
+    ensures answer { result ≡ is_some (pull_step moment desk.old).0 }
+    ensures after { desk.new ≡ (pull_step moment desk.old).1 }
+    ensures lines { map line_of lines.new.items
+        ≡ map line_of lines.old.items ++ drawn (pull_step moment desk.old).0 }
+    ensures count { result ≡ true → length lines.new.items ≡ length lines.old.items + 1 }
+    ensures steps { Issues moment (texts_in (drawn (pull_step moment desk.old).0)) sender.old
+        sender.new }
+    ensures sound { IsSound sender.new }
+{
+    match desk.pull(moment) {
+        Some(issued) => {
+            has_bytes(issued.text.as_slice());
+            sender.push(issued.text.as_slice());
+            lines.push(issued);
+            true
+        }
+        None => false,
+    }
+}
+
+// Issues lines while the window has room and the desk has a line.
+fn pull_all(desk: &mut Desk, sender: &mut Sender, moment: u64) -> ArrayVec<Issued, 16>
+    requires counted { desk.old.issued ≡ sender.old.issued }
+    requires settled { settled desk.old ≡ desk.old }
+    ensures pulls { Pulls moment (map line_of result.items) desk.old desk.new }
+    ensures steps { Issues moment (texts_in (map line_of result.items)) sender.old sender.new }
+    ensures spent { (room_of sender.new ≡ 0) ⊎ ((pull_step moment desk.new).0 ≡ None) }
+    ensures issued { desk.new.issued ≡ sender.new.issued }
+    ensures acked { desk.new.acked ≡ desk.old.acked }
+    ensures sound { IsSound sender.new }
+{
+    let mut lines = ArrayVec::new();
+    for _ in 0..sender.room() {
+        if !pull_one(desk, sender, &mut lines, moment) {
+            return lines;
+        }
+    }
+    lines
+}
+
+// Sends the next frame, if any.
+fn send_one<L: Link>(sender: &mut Sender, link: &mut L, moment: u64) -> Gave
+    requires { L.up link.old ≡ true }
+    ensures steps { Takes moment (L.kind link.old) (L.past link.old) (L.past link.new)
+        (L.calls link.old) (L.calls link.new) (given_by result) sender.old sender.new }
+    ensures nothing { (result ≡ gave.Nothing) ↔ (next_of sender.old ≡ None) }
+    ensures up { L.up link.new ≡ is_up_by result }
+    ensures kind { L.kind link.new ≡ L.kind link.old }
+    ensures counted { L.faults link.old ≤ L.faults link.new }
+    ensures failed { is_up_by result ≡ false → Rose (L.faults link.old) (L.faults link.new) }
+{
+    let mut line = Line::new();
+    match sender.next_frame(moment, &mut line) {
+        Some(_) => match link.send(&line) {
+            Ok(()) => Gave::Sent,
+            Err(_) => Gave::Failed,
+        },
+        None => Gave::Nothing,
+    }
+}
+
+// Sends every frame, and returns whether no sending failed.
+fn send_all<L: Link>(sender: &mut Sender, link: &mut L, moment: u64) -> bool
+    requires { L.up link.old ≡ true }
+    ensures steps { TakesSome moment (L.kind link.old) (L.past link.old) (L.past link.new)
+        (L.calls link.old) (L.calls link.new) (sends result) sender.old sender.new }
+    ensures sent { result ≡ true → next_of sender.new ≡ None }
+    ensures up { L.up link.new ≡ result }
+    ensures kind { L.kind link.new ≡ L.kind link.old }
+    ensures counted { L.faults link.old ≤ L.faults link.new }
+    ensures failed { result ≡ false → Rose (L.faults link.old) (L.faults link.new) }
+{
+    loop {
+        match send_one(sender, link, moment) {
+            Gave::Sent => {}
+            Gave::Nothing => return true,
+            Gave::Failed => return false,
+        }
+    }
+}
+
+/// Notes what is acknowledged, and then that the link failed.
+pub fn note_failure(desk: &mut Desk, acked: u32, moment: u64) -> Option<Ending>
+    requires not_fallen { desk.old.acked ≤ acked }
+    requires issued { acked ≤ desk.old.issued }
+    ensures noted { IsNoted moment acked fact.Failed [] desk.old result desk.new }
+    ensures counts_issued { desk.new.issued ≡ desk.old.issued }
+    ensures counts_acked { desk.new.acked ≡ acked }
+{
+    let first = desk.note(acked, &LinkFact::Quiet, moment);
+    let last = desk.note(acked, &LinkFact::Failed, moment);
+    first.or(last)
+}
+
+// Notes what is acknowledged, issues lines and sends every frame.
+fn issue_and_send<L: Link>(
+    desk: &mut Desk,
+    sender: &mut Sender,
+    link: &mut L,
+    moment: u64,
+    received: Received,
+) -> Found
+    requires open { L.up link.old ≡ true }
+    requires running { sender.old.ended ≡ None }
+    requires counted { desk.old.issued ≡ sender.old.issued }
+    requires not_fallen { desk.old.acked ≤ sender.old.acked }
+    ensures finds { (result.fact ≡ fact.Quiet) ⊎ (result.fact ≡ fact.Failed) }
+    ensures noted { IsNoted moment sender.new.acked result.fact (map line_of result.issued.items)
+        desk.old result.ending desk.new }
+    ensures received { result.received ≡ received }
+    ensures spent { result.fact ≡ fact.Quiet → IsSpent moment desk.new sender.new }
+    ensures joined { IsJoined desk.new sender.new (up_after result.fact true) }
+    ensures ready { sender.new.ready ≡ sender.old.ready }
+    ensures steps { TakesSome moment (L.kind link.old) (L.past link.old) (L.past link.new)
+        (L.calls link.old) (L.calls link.new)
+        (speech (is_unbroken result.fact) (texts_in (map line_of result.issued.items))) sender.old
+        sender.new }
+    ensures up { L.up link.new ≡ up_after result.fact true }
+    ensures kind { L.kind link.new ≡ L.kind link.old }
+    ensures counted { L.faults link.old ≤ L.faults link.new }
+    ensures failed { result.fact ≡ fact.Failed → Rose (L.faults link.old) (L.faults link.new) }
+{
+    let acked = sender.acked();
+    let first = desk.note(acked, &LinkFact::Quiet, moment);
+    let issued = pull_all(desk, sender, moment);
+    if send_all(sender, link, moment) {
+        return Found {
+            fact: LinkFact::Quiet,
+            issued,
+            received,
+            ending: first,
+        };
+    }
+    let last = desk.note(acked, &LinkFact::Failed, moment);
+    Found {
+        fact: LinkFact::Failed,
+        issued,
+        received,
+        ending: first.or(last),
+    }
+}
+
+// What follows the receiving: the clock ticks, and the session ends, becomes ready, or issues and sends.
+fn after_receiving<L: Link>(
+    desk: &mut Desk,
+    sender: &mut Sender,
+    link: &mut L,
+    moment: u64,
+    was_ready: bool,
+    received: Received,
+) -> Found
+    requires open { L.up link.old ≡ true }
+    requires counted { desk.old.issued ≡ sender.old.issued }
+    requires not_fallen { desk.old.acked ≤ sender.old.acked }
+    requires stays_ready { was_ready ≡ true → sender.old.ready ≡ true }
+    requires goes_on { was_ready ≡ false → sender.old.ready ≡ true
+        → (tick_step moment sender.old).ended ≡ None }
+    requires fresh { was_ready ≡ false → sender.old.issued ≡ 0 }
+    ensures finds { can_find doing_now.Talking result.fact ≡ true }
+    ensures noted { IsNoted moment sender.new.acked result.fact (map line_of result.issued.items)
+        desk.old result.ending desk.new }
+    ensures received { result.received ≡ received }
+    ensures ended { (end : SessionEnd)
+        → (result.fact ≡ fact.Ended end) ↔ ((tick_step moment sender.old).ended ≡ Some end) }
+    ensures ready { (result.fact ≡ fact.Ready) ↔ ((was_ready ≡ false) × (sender.new.ready ≡ true)) }
+    ensures none_issued { is_said result.fact ≡ false → result.issued.items ≡ [] }
+    ensures silent { result.fact ≡ fact.Ready → result.issued.items ≡ [] }
+    ensures sent { result.fact ≡ fact.Ready → next_of sender.new ≡ None }
+    ensures spent { result.fact ≡ fact.Quiet → IsSpent moment desk.new sender.new }
+    ensures joined { IsJoined desk.new sender.new (up_after result.fact true) }
+    ensures steps { TakesSome moment (L.kind link.old) (L.past link.old) (L.past link.new)
+        (L.calls link.old) (L.calls link.new)
+        (clock_steps result.fact (texts_in (map line_of result.issued.items))) sender.old
+        sender.new }
+    ensures up { L.up link.new ≡ up_after result.fact true }
+    ensures kind { L.kind link.new ≡ L.kind link.old }
+    ensures counted { L.faults link.old ≤ L.faults link.new }
+    ensures failed { result.fact ≡ fact.Failed → Rose (L.faults link.old) (L.faults link.new) }
+{
+    if let Err(end) = sender.tick(moment) {
+        link.hang_up();
+        let fact = LinkFact::Ended(end);
+        let ending = desk.note(sender.acked(), &fact, moment);
+        return Found::silent(fact, received, ending);
+    }
+    if was_ready || !sender.ready() {
+        return issue_and_send(desk, sender, link, moment, received);
+    }
+    let ending = desk.note(sender.acked(), &LinkFact::Ready, moment);
+    Found::silent(LinkFact::Ready, received, ending)
+}
+
+/// A turn over an open link: it receives at most one line into `line`, then issues lines and sends every frame.
+pub fn receive_then_send<L: Link>(
+    desk: &mut Desk,
+    sender: &mut Sender,
+    link: &mut L,
+    moment: u64,
+    line: &mut ReplyLine,
+) -> Found
+    requires open { L.up link.old ≡ true }
+    requires joined { IsJoined desk.old sender.old true }
+    ensures finds { can_find doing_now.Talking result.fact ≡ true }
+    ensures asked { got_of result.received line.new.items ≢ unasked }
+    ensures temps { temps_kept result.received ≡ temps_in (got_of result.received line.new.items) }
+    ensures noted { IsNoted moment sender.new.acked result.fact (map line_of result.issued.items)
+        desk.old result.ending desk.new }
+    ensures ended { (end : SessionEnd)
+        → (result.fact ≡ fact.Ended end)
+        ↔ (end_by (got_of result.received line.new.items) moment sender.old ≡ Some end) }
+    ensures ready { (result.fact ≡ fact.Ready)
+        ↔ ((sender.old.ready ≡ false) × (sender.new.ready ≡ true)) }
+    ensures broken { got_of result.received line.new.items ≡ lost → result.fact ≡ fact.Failed }
+    ensures none_issued { may_issue (got_of result.received line.new.items) result.fact ≡ false
+        → result.issued.items ≡ [] }
+    ensures silent { result.fact ≡ fact.Ready → result.issued.items ≡ [] }
+    ensures sent { result.fact ≡ fact.Ready → next_of sender.new ≡ None }
+    ensures spent { result.fact ≡ fact.Quiet → IsSpent moment desk.new sender.new }
+    ensures joined { IsJoined desk.new sender.new (up_after result.fact true) }
+    ensures steps { TakesSome moment (L.kind link.old) (L.past link.old) (L.past link.new)
+        (L.calls link.old) (L.calls link.new)
+        (talk_steps (got_of result.received line.new.items) result.fact
+        (texts_in (map line_of result.issued.items))) sender.old sender.new }
+    ensures up { L.up link.new ≡ up_after result.fact true }
+    ensures kind { L.kind link.new ≡ L.kind link.old }
+    ensures counted { L.faults link.old ≤ L.faults link.new }
+    ensures failed { result.fact ≡ fact.Failed → Rose (L.faults link.old) (L.faults link.new) }
+{
+    let was_ready = sender.ready();
+    match receive(sender, link, moment, line) {
+        Received::Lost => {
+            let ending = note_failure(desk, sender.acked(), moment);
+            Found::silent(LinkFact::Failed, Received::Lost, ending)
+        }
+        received => after_receiving(desk, sender, link, moment, was_ready, received),
+    }
+}
