@@ -32,6 +32,7 @@ impl HostTables {
         ensures done { (k : Known) → IsDone (put_by (put_answer self.old.queue asked.now)
             (over k self.old)) result (over k self.old) (over k self.new) }
         ensures written { self.new.unwritten ≡ self.old.unwritten }
+        ensures prints { self.new.prints ≡ self.old.prints }
         ensures kept { KeepsRows (K.tables keeper.old) (K.tables keeper.new) self.old self.new }
         ensures keeper { Counts (is_keepers result) (K.faults keeper.old) (K.faults keeper.new) }
         ensures shelf { is_shelfs result ≡ false }
@@ -84,6 +85,7 @@ impl HostTables {
         ensures done { (k : Known) → IsDone (drop_verdict user.now name.now (over k self.old)) result
             (over k self.old) (over k self.new) }
         ensures written { self.new.unwritten ≡ self.old.unwritten }
+        ensures prints { self.new.prints ≡ self.old.prints }
         ensures kept { KeepsRows (K.tables keeper.old) (K.tables keeper.new) self.old self.new }
         ensures keeper { Counts (is_keepers result) (K.faults keeper.old) (K.faults keeper.new) }
         ensures shelf { is_shelfs result ≡ false }

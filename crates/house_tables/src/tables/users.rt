@@ -32,6 +32,7 @@ impl HostTables {
             (put_user_verdict (new_user name.now key.now groups.now active) (over k self.old))
             result (over k self.old) (over k self.new) }
         ensures written { self.new.unwritten ≡ self.old.unwritten }
+        ensures prints { self.new.prints ≡ self.old.prints }
         ensures kept { KeepsRows (K.tables keeper.old) (K.tables keeper.new) self.old self.new }
         ensures keeper { Counts (is_keepers result) (K.faults keeper.old) (K.faults keeper.new) }
         ensures shelf { is_shelfs result ≡ false }
@@ -44,6 +45,7 @@ impl HostTables {
         ensures done { (k : Known) → k.policy ≡ policy.now → IsDone
             (put_user_verdict row.now (over k self.old)) result (over k self.old) (over k self.new) }
         ensures written { self.new.unwritten ≡ self.old.unwritten }
+        ensures prints { self.new.prints ≡ self.old.prints }
         ensures kept { KeepsRows (K.tables keeper.old) (K.tables keeper.new) self.old self.new }
         ensures keeper { Counts (is_keepers result) (K.faults keeper.old) (K.faults keeper.new) }
         ensures shelf { is_shelfs result ≡ false }
@@ -76,6 +78,7 @@ impl HostTables {
             (change_user_verdict name.now key.now groups.now active (over k self.old))
             result (over k self.old) (over k self.new) }
         ensures written { self.new.unwritten ≡ self.old.unwritten }
+        ensures prints { self.new.prints ≡ self.old.prints }
         ensures kept { KeepsRows (K.tables keeper.old) (K.tables keeper.new) self.old self.new }
         ensures keeper { Counts (is_keepers result) (K.faults keeper.old) (K.faults keeper.new) }
         ensures shelf { is_shelfs result ≡ false }
@@ -93,6 +96,7 @@ impl HostTables {
         ensures done { (k : Known) → k.policy ≡ policy.now → IsDone
             (replace_verdict row.now (over k self.old)) result (over k self.old) (over k self.new) }
         ensures written { self.new.unwritten ≡ self.old.unwritten }
+        ensures prints { self.new.prints ≡ self.old.prints }
         ensures kept { KeepsRows (K.tables keeper.old) (K.tables keeper.new) self.old self.new }
         ensures keeper { Counts (is_keepers result) (K.faults keeper.old) (K.faults keeper.new) }
         ensures shelf { is_shelfs result ≡ false }
