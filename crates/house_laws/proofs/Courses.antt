@@ -27,13 +27,19 @@ module _ (scripts : ScriptTexts) (print : ℕ) where
 
   whole_begun : (commands : List (List ℕ)) (end : End) (lines : List Line) → Course scripts print commands end lines
       → IsBegun scripts print commands lines
-  whole_begun commands end lines course = record { end = end; rest = [];
-      course = subst (λ all. Course scripts print commands end all) (sym (append-nil lines)) course }
+  whole_begun commands end lines course = record {
+    end = end;
+    rest = [];
+    course = subst (λ all. Course scripts print commands end all) (sym (append-nil lines)) course;
+  }
 
   -- no line begins the course of any file
   none_begun : (commands : List (List ℕ)) → IsBegun scripts print commands []
-  none_begun commands = record { end = _; rest = script scripts print commands point.Started;
-      course = still_open 0 (script scripts print commands point.Started) started }
+  none_begun commands = record {
+    end = _;
+    rest = script scripts print commands point.Started;
+    course = still_open 0 (script scripts print commands point.Started) started;
+  }
 
   begun_by : (begun : List (List (List ℕ))) (lines : List Line) (ends : List Fate) → Story scripts print begun lines ends → Begun begun lines
   begun_by _ _ _ never = ([], inl refl, none_begun [])
@@ -79,7 +85,7 @@ module _ (scripts : ScriptTexts) (h : History) (s : Standing) (kept : KeepsScrip
   cancels : (print : ℕ) → 0 < print → of_print print (run_in h s).ends ≡ Stopped ∷ [] → HasWholeCourse Cancelled scripts h s print
   cancels print positive is =
       let found : Whole scripts print Cancelled (of_print print (run_in h s).begun) (trace print h) = cancelled_by scripts print _ _ _
-          (story print positive) is in
+      (story print positive) is in
       record { commands = found.0; file = found.1; course = found.2 }
 
   completes : (before : ℕ) (row : PrintRow) → HasOutcome before (run_in h s).ends row → HasCourseIfDone scripts before h s row
