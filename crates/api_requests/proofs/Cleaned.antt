@@ -3,7 +3,7 @@ use Rattle.std.proofs.Common.{◌≡◌, ℕ, Bool, true, false, ◌==◌, if◌
 use Rattle.std.specs.List.{list_all}
 use Rattle.std.proofs.lemmas.Bool.{and_parts, and_from}
 use Rattle.octo_access.specs.Names.{is_name_byte}
-use Rattle.api_routes.specs.Names.{is_ascii_byte}
+use Rattle.api_routes.specs.Ascii.{is_ascii_byte}
 use Rattle.api_routes.proofs.Texts.{name_byte}
 use Rattle.api_requests.specs.Uploads.{clean_byte, start_byte, clean_start}
 

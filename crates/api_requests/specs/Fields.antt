@@ -8,7 +8,8 @@ use Rattle.serde_json.specs.Find.{get, as_str, as_bool, as_number, as_u64, as_ar
 use Rattle.octo_access.specs.Names.{name_of}
 use Rattle.api_direct.specs.declared.direct.Direct.{Direct}
 use Rattle.api_direct.specs.declared.direct.Direct.TheVariants as direct
-use Rattle.api_routes.specs.Names.{file_name_of, is_key}
+use Rattle.file_names.specs.Names.{file_name_of}
+use Rattle.api_routes.specs.Ascii.{is_key}
 
 -- a result is what a reading gives, BadBody if it gives nothing; memory may run out
 abbrev pub Gives : {A : Type 0} → Option A → Result A Direct → Type 0

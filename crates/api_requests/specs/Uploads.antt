@@ -11,7 +11,7 @@ use Rattle.http_parts.specs.declared.types.PartFault.{PartFault}
 use Rattle.http_parts.specs.declared.types.PartFault.TheVariants as part_fault
 use Rattle.api_direct.specs.declared.direct.Direct.{Direct}
 use Rattle.api_direct.specs.declared.direct.Direct.TheVariants as direct
-use Rattle.api_routes.specs.Names.{is_gcode}
+use Rattle.file_names.specs.Names.{is_gcode}
 
 -- a slash or a backslash
 abbrev pub is_separator : ℕ → Bool

@@ -3,8 +3,9 @@ ghost use Rattle.std.specs.Prelude.{◌≡◌, ◌≤◌, None, Some, IfSome, op
 ghost use Rattle.serde_json.specs.View.{view};
 ghost use Rattle.api_requests.specs.Fields.{text_at, is_text_at, as_whole_in, whole_at, flag_at, as_name, name_at, file_at, as_key};
 
-use api_routes::{is_key, read_file_name};
+use api_routes::is_key;
 use byte_text::Name;
+use file_names::read_file_name;
 use octo_access::read_name;
 use serde_json::Value;
 

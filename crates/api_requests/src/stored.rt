@@ -2,12 +2,13 @@
 ghost use Rattle.std.specs.Prelude.{◌≡◌, ◌⊎◌, ◌≤◌, ◌++◌, length, map, not, true, Err, IfOk, OnOk};
 ghost use Rattle.std.specs.List.{list_all, suffix_len};
 ghost use Rattle.octo_access.specs.Names.{is_name_byte};
-ghost use Rattle.api_routes.specs.Names.{is_ascii_byte};
+ghost use Rattle.api_routes.specs.Ascii.{is_ascii_byte};
 ghost use Rattle.api_requests.specs.Uploads.{is_separator, without_folders, clean_byte, start_byte, clean_start, stored_name, checked_name};
 
 use crate::Direct;
-use api_routes::{ascii_text, is_gcode};
+use api_routes::ascii_text;
 use byte_text::Name;
+use file_names::is_gcode;
 use std::alloc::{AllocError, Global};
 
 // Whether a byte is a slash or a backslash.

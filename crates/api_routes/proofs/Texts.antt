@@ -6,7 +6,7 @@ use Rattle.std.proofs.lemmas.Bool.{and_parts, and_from}
 use Rattle.std.proofs.lemmas.Bool.Decides.{nat_tests}
 use Rattle.std.proofs.lemmas.Str.{IsUtf8-from_ascii}
 use Rattle.octo_access.specs.Names.{is_name_byte, is_name}
-use Rattle.api_routes.specs.Names.{is_ascii_byte}
+use Rattle.api_routes.specs.Ascii.{is_ascii_byte}
 
 ascii_at : (bytes : List ℕ) → list_all is_ascii_byte bytes ≡ true → IsAscii bytes
 ascii_at [] e i = omega arith

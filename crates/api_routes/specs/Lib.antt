@@ -1,3 +1,3 @@
-pub mod Names
+pub mod Ascii
 pub mod Places
 pub mod Wants

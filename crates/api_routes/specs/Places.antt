@@ -9,7 +9,8 @@ use Rattle.matchit.specs.Route.{Scan, parse_route}
 use Rattle.matchit.specs.Router.{RouteOf, route_from}
 use Rattle.matchit.specs.declared.error.InsertError.{InsertError}
 use Rattle.octo_access.specs.Names.{name_of}
-use Rattle.api_routes.specs.Names.{file_name_of, is_ascii_byte}
+use Rattle.file_names.specs.Names.{file_name_of}
+use Rattle.api_routes.specs.Ascii.{is_ascii_byte}
 use Rattle.api_routes.specs.declared.place.Place.{Place}
 use Rattle.api_routes.specs.declared.place.Place.TheVariants as place
 use Rattle.api_routes.specs.declared.target.Target.{Target}

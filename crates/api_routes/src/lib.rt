@@ -3,12 +3,12 @@
 //! Source: OctoPrint's REST API. The paths for users, the queue and the prints are this project's own.
 #![tactic(auto)]
 
-mod names;
+mod ascii;
 mod place;
 mod target;
 mod wanted;
 
-pub use names::{ascii_text, is_gcode, is_key, read_file_name};
+pub use ascii::{ascii_text, is_key};
 pub use target::{Target, target_of};
 pub use wanted::{Form, Wanted, wanted_of};
 

@@ -2,7 +2,7 @@
 ghost use Rattle.std.specs.Prelude.{◌≡◌, map, OnOk, IfOk, IfErr};
 ghost use Rattle.api_routes.specs.Places.{routes, with_route, rows_of, place_of};
 
-use crate::names::ascii_text;
+use crate::ascii::ascii_text;
 use api_direct::Direct;
 use matchit::Router;
 use std::alloc::Global;

@@ -3,10 +3,11 @@ ghost use Rattle.std.specs.Prelude.{◌≡◌, ◌≤◌, IfOk, IfErr, true, dro
 ghost use Rattle.percent_encoding.specs.Percent.{percent_decode};
 ghost use Rattle.api_routes.specs.Places.{has_name, named, file_named, before_slash, others_entry, target_at, target_of};
 
-use crate::names::{ascii_text, read_file_name};
+use crate::ascii::ascii_text;
 use crate::place::{Place, place_of};
 use api_direct::Direct;
 use byte_text::Name;
+use file_names::read_file_name;
 use octo_access::read_name;
 use percent_encoding::percent_decode;
 use std::alloc::Global;

@@ -1,6 +1,7 @@
 //! Single files of a folder.
-use crate::names::{PART, is_file_name, path_in};
+use crate::paths::{PART, path_in};
 use byte_text::Name;
+use file_names::is_file_name;
 use octo_keeper::ShelfFault;
 use octo_outside::{Blob, FileSource, ReadAll, read_all};
 use std::alloc::Global;

@@ -2,8 +2,8 @@
 ghost use Rattle.std.specs.Prelude.{◌≤◌, length};
 
 use crate::files::fault_of;
-use crate::names::is_file_name;
 use byte_text::Name;
+use file_names::is_file_name;
 use octo_keeper::{FileList, ShelfFault};
 use std::alloc::{AllocError, Global};
 use std::cmp::Ordering;

@@ -3,7 +3,7 @@
 
 mod files;
 mod folder;
-mod names;
+mod paths;
 mod shelf;
 
 pub use shelf::FolderShelf;

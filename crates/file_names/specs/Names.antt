@@ -1,7 +1,5 @@
--- Names in paths and bodies.
-use Rattle.std.specs.Prelude.{ℕ, ◌-◌, ◌==◌, Bool, false, ◌&&◌, ◌||◌, not, nat_lt, nat_le, codes, List, [], ◌∷◌, length, drop, if◌then◌else◌, Option, Some, None}
-use Rattle.std.specs.Char.{is_ascii_alphanumeric}
-use Rattle.std.specs.List.{list_all}
+-- Which texts are names of print files.
+use Rattle.std.specs.Prelude.{ℕ, ◌-◌, ◌==◌, Bool, false, ◌&&◌, ◌||◌, not, nat_le, codes, List, [], ◌∷◌, length, drop, if◌then◌else◌, Option, Some, None}
 use Rattle.std.specs.Str.{str_eq_ignore_ascii_case}
 use Rattle.octo_access.specs.Names.{is_name}
 
@@ -26,11 +24,3 @@ is_file_name text = is_name text && (not (is_hidden text) && is_gcode text)
 -- a text as the name of a file
 abbrev pub file_name_of : List ℕ → Option (List ℕ)
 file_name_of text = if is_file_name text then Some text else None
-
--- a byte of ASCII
-abbrev pub is_ascii_byte : ℕ → Bool
-is_ascii_byte byte = nat_lt byte 128
-
--- a caller's key: 16 to 64 letters and digits
-abbrev pub is_key : List ℕ → Bool
-is_key text = nat_le 16 (length text) && (nat_le (length text) 64 && list_all is_ascii_alphanumeric text)
