@@ -1,0 +1,44 @@
+-- What a host begins with.
+use Rattle.std.proofs.Common.{◌≡◌, ℕ, List, length, map, Option, None, Some, option_map, IfSome, refl, sym, ap, ◌∙◌, subst}
+use Rattle.octo_access.specs.Rows.{IsUserTable}
+use Rattle.octo_keeper.specs.Files.{sizes_of}
+use Rattle.octo_keeper.specs.Tables.{AreSound, with_due_end}
+use Rattle.octo_keeper.specs.declared.shelf.ShelfFile.{ShelfFile}
+use Rattle.octo_keeper.specs.declared.tables.Tables.{Tables}
+use Rattle.print_queue.specs.Lawful.{IsLawful}
+use Rattle.print_records.specs.declared.row.PrintRow.{PrintRow}
+use Rattle.house_history.specs.Begins.{row_read}
+use Rattle.house_verdicts.specs.Known.{names_of}
+use Rattle.house_tables.specs.Data.{TablesData, IsReadFrom}
+use Rattle.house_tables.specs.Kept.{AreRows, Kept}
+use Rattle.house_tables.specs.declared.tables.Unwritten.{Unwritten}
+use Rattle.house_tables.proofs.Records.{rows-read}
+use Rattle.octo_house.proofs.Names.{names-sized}
+
+-- what is recorded is what was read
+pub read-is : {A : Type 0} (P : A → Type 0) (held : Option A) (a : A) → IfSome held P → held ≡ Some a → P a
+read-is P None a p is = absurd (cc is)
+read-is P (Some b) a p is = let same : b ≡ a = cc in subst P same p
+
+-- the tables that a new host read
+pub read-from : (loaded tables : Tables) (host : TablesData) → loaded ≡ tables → IsReadFrom loaded host → IsReadFrom tables host
+read-from loaded tables host same read = subst (λ (t : Tables). IsReadFrom t host) same read
+
+-- they are the keeper's
+pub kept-begun : (loaded tables : Tables) (host : TablesData) → loaded ≡ tables → AreSound loaded → IsReadFrom loaded host
+    → IsUserTable tables.users → IsLawful tables.queue → Kept (length tables.prints) tables host
+kept-begun loaded tables host same sound read users queue =
+    let read : IsReadFrom tables host = read-from loaded tables host same read in
+    let sound : AreSound tables = subst (λ (t : Tables). AreSound t) same sound in
+    record {
+      users = sym (read.same_users users);
+      queue = sym (read.same_queue queue);
+      prints = subst (λ due. AreRows (length tables.prints) (with_due_end due tables.prints) host.prints)
+          (sym (ap (option_map (λ (u : Unwritten). u.ending)) read.written))
+          (subst (λ (rows : List PrintRow). AreRows (length tables.prints) tables.prints rows) (sym read.prints) (rows-read tables.prints sound.numbered));
+    }
+
+-- the names of the files
+pub names-begun : (listed : List (List ℕ × ℕ)) (names : List (List ℕ)) (files : List ShelfFile) → listed ≡ sizes_of files
+    → names ≡ map (λ (one : List ℕ × ℕ). one.0) listed → names ≡ names_of files
+names-begun listed names files listed-is names-are = names-are ∙ ap (map (λ (one : List ℕ × ℕ). one.0)) listed-is ∙ names-sized files

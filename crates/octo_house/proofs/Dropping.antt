@@ -1,0 +1,49 @@
+-- Dropping a selection changes the selected file alone, so a stored upload is selected and printed as it would have been before.
+use Rattle.std.proofs.Common.{◌≡◌, ℕ, Bool, true, false, ◌&&◌, ◌||◌, cond, is_none, not, nat_le, length, List, Option, None, Some, Err, refl, sym, ap, ◌∙◌}
+use Rattle.temp_rules.specs.Hot.{first_hot_of}
+use Rattle.temp_rules.specs.declared.limits.Limits.{Limits}
+use Rattle.desk_steps.specs.Data.{Data, File}
+use Rattle.desk_steps.specs.Table.{done, is_named, drop_file_step}
+use Rattle.desk_steps.specs.Table as table
+use Rattle.desk_steps.specs.declared.state.State.{State}
+use Rattle.desk_steps.specs.declared.state.Refusal.TheVariants as refusal
+use Rattle.octo_access.specs.Rights.{has}
+use Rattle.octo_access.specs.declared.permission.Permission.TheVariants as permission
+use Rattle.octo_access.specs.declared.row.UserRow.{UserRow}
+use Rattle.house_verdicts.specs.Known.{Known}
+use Rattle.house_verdicts.specs.Prints.{has_room}
+use Rattle.house_verdicts.specs.States.{may_select, may_start}
+use Rattle.house_verdicts.specs.Uploads.{is_selected, is_printed}
+use Rattle.octo_house.specs.Storing.{with_stored}
+
+abbrev dropped : Bool → Bool → Data → table.Answer
+dropped named active d = cond named (cond active (Err refusal.FileBusy, d) (done (record d { file = None }))) (done d)
+
+state-if : (named active : Bool) (d : Data) → (dropped named active d).1.state ≡ d.state
+state-if true true d = refl
+state-if true false d = refl
+state-if false active d = refl
+
+limits-if : (named active : Bool) (d : Data) → (dropped named active d).1.limits ≡ d.limits
+limits-if true true d = refl
+limits-if true false d = refl
+limits-if false active d = refl
+
+same-state : (name : List ℕ) (d : Data) → (drop_file_step name d).1.state ≡ d.state
+same-state name d = state-if (is_named name d.file) d.active d
+
+same-limits : (name : List ℕ) (d : Data) → (drop_file_step name d).1.limits ≡ d.limits
+same-limits name d = limits-if (is_named name d.file) d.active d
+
+pub same-selected : (user : UserRow) (select print : Bool) (name : List ℕ) (k : Known)
+    → is_selected user select print (with_stored name k) ≡ is_selected user select print k
+same-selected user select print name k =
+    ap (λ (s : State). (select || print) && (has k.policy user permission.FilesSelect && may_select s)) (same-state name k.desk)
+
+pub same-printed : (user : UserRow) (print : Bool) (file : File) (name : List ℕ) (k : Known)
+    → is_printed user print file (with_stored name k) ≡ is_printed user print file k
+same-printed user print file name k =
+    let printed : State → Limits → Bool = λ s limits.
+    (print && (has k.policy user permission.Print && may_start s)) && (is_none (first_hot_of limits file.job.commands) && has_room k) in
+    ap (λ s. printed s (drop_file_step name k.desk).1.limits) (same-state name k.desk)
+    ∙ ap (λ limits. printed k.desk.state limits) (same-limits name k.desk)

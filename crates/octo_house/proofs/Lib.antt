@@ -1,0 +1,13 @@
+pub mod Started
+pub mod Turning
+pub mod Names
+pub mod Begun
+pub mod Rested
+pub mod Fileless
+pub mod Permitted
+pub mod TurnKnown
+pub mod ReadDone
+pub mod Listed
+pub mod Dropping
+pub mod Stored
+pub mod Startable

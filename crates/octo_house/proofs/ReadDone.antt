@@ -1,0 +1,121 @@
+-- Requests that read a file first: what was read leads to the answer, or why nothing was.
+use Rattle.std.proofs.Common.{◌≡◌, ◌⊎◌, inl, inr, ℕ, Bool, true, false, not, cond, List, Option, None, Some, Result, Ok, Err, refl, sym, ap, ◌∙◌, subst}
+use Rattle.gcode_lines.specs.Commands.{job_of}
+use Rattle.gcode_lines.specs.Job.{JobData}
+use Rattle.gcode_lines.specs.declared.fault.FileFault.{FileFault}
+use Rattle.desk_steps.specs.declared.state.State.{State}
+use Rattle.desk_steps.specs.declared.state.State.TheVariants.{Offline, Connecting, Operational, Printing, Pausing, Paused, Cancelling, Finishing, Closing, Fault}
+use Rattle.octo_asks.specs.declared.answer.Answer.{Answer}
+use Rattle.octo_asks.specs.declared.answer.Answer.TheVariants as answer
+use Rattle.house_verdicts.specs.Known.{Known}
+use Rattle.house_verdicts.specs.Refusals.{refused_if, found_or, read_as}
+use Rattle.house_verdicts.specs.States.{may_start}
+use Rattle.house_verdicts.specs.Verdict.{Verdict, Deed, May, IsDone, gives, makes, reads, is_fault, known_after}
+use Rattle.house_rows.specs.Reading.{IsReadAs, found_bytes, job_in, job_or}
+
+same-if : (b : Bool) (k : Known) → k ≡ cond b k k
+same-if true k = refl
+same-if false k = refl
+
+-- a refusal, or an answer that changes nothing
+pub given : (a x : Answer) (k : Known) → x ≡ a → IsDone (gives a) x k k
+given a x k is = record { may = inr is; leaves = same-if (is_fault x) k }
+
+-- this is done at the desk
+pub made : (a : Answer) (deed : Deed) (old new : Known) → is_fault a ≡ false → new ≡ known_after deed old → IsDone (makes a deed) a old new
+made a deed old new plain is = record { may = inr refl; leaves = is ∙ sym (ap (λ b. cond b old (known_after deed old)) plain) }
+
+-- a test that doesn't refuse, and one that does
+pub passed : (refuses : Bool) (a : Answer) (v : Verdict) (x : Answer) (old new : Known) → refuses ≡ false → IsDone v x old new
+    → IsDone (refused_if refuses a v) x old new
+passed refuses a v x old new is done = rw is done
+
+pub refused : (refuses : Bool) (a : Answer) (v : Verdict) (k : Known) → refuses ≡ true → IsDone (refused_if refuses a v) a k k
+refused refuses a v k is = rw is (given a a k refl)
+
+may-read : (v : Verdict) (x : Answer) → (x ≡ answer.NoMemory) ⊎ May v x → (x ≡ answer.NoMemory) ⊎ May (reads v) x
+may-read v x (inl none) = inl none
+may-read v x (inr may) = inr (inr may)
+
+-- what is done once the shelf was asked
+pub read-then : (v : Verdict) (x : Answer) (old new : Known) → IsDone v x old new → IsDone (reads v) x old new
+read-then v x old new done = record { may = may-read v x done.may; leaves = done.leaves }
+
+read-failed : (v : Verdict) (x : Answer) (k : Known) → x ≡ answer.ShelfFault → IsDone (reads v) x k k
+read-failed v x k is = rw is (record { may = inr (inl refl); leaves = refl })
+
+read-unmet : (v : Verdict) (x : Answer) (k : Known) → x ≡ answer.NoMemory → IsDone (reads v) x k k
+read-unmet v x k is = rw is (record { may = inl refl; leaves = refl })
+
+-- the bytes of a file were read
+pub bytes-read : (held : Option (List ℕ)) (next : List ℕ → Verdict) (bytes : List ℕ) (x : Answer) (old new : Known)
+    → IsReadAs (found_bytes held) (Ok bytes) → IsDone (next bytes) x old new → IsDone (reads (found_or held answer.NoFile next)) x old new
+bytes-read None next bytes x old new (inl is) done = absurd (cc is)
+bytes-read (Some kept) next bytes x old new (inl is) done =
+    let same : bytes ≡ kept = cc in
+    read-then (next kept) x old new (subst (λ (b : List ℕ). IsDone (next b) x old new) same done)
+bytes-read held next bytes x old new (inr (inl is)) done = absurd (cc is)
+bytes-read held next bytes x old new (inr (inr is)) done = absurd (cc is)
+
+-- or not
+pub bytes-missed : (held : Option (List ℕ)) (next : List ℕ → Verdict) (x : Answer) (k : Known) → IsReadAs {A = List ℕ} (found_bytes held) (Err x)
+    → IsDone (reads (found_or held answer.NoFile next)) x k k
+bytes-missed None next x k (inl is) = read-then (gives answer.NoFile) x k k (given answer.NoFile x k (cc))
+bytes-missed (Some kept) next x k (inl is) = absurd (cc is)
+bytes-missed held next x k (inr (inl is)) = read-failed (found_or held answer.NoFile next) x k (cc)
+bytes-missed held next x k (inr (inr is)) = read-unmet (found_or held answer.NoFile next) x k (cc)
+
+job-given : (held : Result JobData FileFault) (next : JobData → Verdict) (job : JobData) (x : Answer) (old new : Known)
+    → ◌≡◌ {A = Result JobData Answer} (Ok job) (job_or held) → IsDone (next job) x old new → IsDone (read_as held next) x old new
+job-given (Ok kept) next job x old new is done =
+    let same : job ≡ kept = cc in
+    subst (λ (j : JobData). IsDone (next j) x old new) same done
+job-given (Err fault) next job x old new is done = absurd (cc is)
+
+job-refused : (held : Result JobData FileFault) (next : JobData → Verdict) (x : Answer) (k : Known)
+    → ◌≡◌ {A = Result JobData Answer} (Err x) (job_or held) → IsDone (read_as held next) x k k
+job-refused (Ok kept) next x k is = absurd (cc is)
+job-refused (Err fault) next x k is = given (answer.BadFile fault) x k (cc)
+
+-- the job of a file was read
+pub job-read : (held : Option (List ℕ)) (next : JobData → Verdict) (job : JobData) (x : Answer) (old new : Known)
+    → IsReadAs (job_in (found_bytes held)) (Ok job) → IsDone (next job) x old new
+    → IsDone (reads (found_or held answer.NoFile (λ bytes. read_as (job_of bytes) next))) x old new
+job-read None next job x old new (inl is) done = absurd (cc is)
+job-read (Some kept) next job x old new (inl is) done =
+    read-then (read_as (job_of kept) next) x old new (job-given (job_of kept) next job x old new is done)
+job-read held next job x old new (inr (inl is)) done = absurd (cc is)
+job-read held next job x old new (inr (inr is)) done = absurd (cc is)
+
+-- or not
+pub job-missed : (held : Option (List ℕ)) (next : JobData → Verdict) (x : Answer) (k : Known) → IsReadAs {A = JobData} (job_in (found_bytes held)) (Err x)
+    → IsDone (reads (found_or held answer.NoFile (λ bytes. read_as (job_of bytes) next))) x k k
+job-missed None next x k (inl is) = read-then (gives answer.NoFile) x k k (given answer.NoFile x k (cc))
+job-missed (Some kept) next x k (inl is) = read-then (read_as (job_of kept) next) x k k (job-refused (job_of kept) next x k is)
+job-missed held next x k (inr (inl is)) = read-failed (found_or held answer.NoFile (λ bytes. read_as (job_of bytes) next)) x k (cc)
+job-missed held next x k (inr (inr is)) = read-unmet (found_or held answer.NoFile (λ bytes. read_as (job_of bytes) next)) x k (cc)
+
+-- a print starts from one state alone
+pub start-state : (s : State) → may_start s ≡ true → s ≡ Operational
+start-state Offline is = absurd (cc is)
+start-state Connecting is = absurd (cc is)
+start-state Operational is = refl
+start-state Printing is = absurd (cc is)
+start-state Pausing is = absurd (cc is)
+start-state Paused is = absurd (cc is)
+start-state Cancelling is = absurd (cc is)
+start-state Finishing is = absurd (cc is)
+start-state Closing is = absurd (cc is)
+start-state Fault is = absurd (cc is)
+
+pub no-start : (s : State) → (s ≡ Operational → ⊥) → not (may_start s) ≡ true
+no-start Offline other = refl
+no-start Connecting other = refl
+no-start Operational other = absurd (other refl)
+no-start Printing other = refl
+no-start Pausing other = refl
+no-start Paused other = refl
+no-start Cancelling other = refl
+no-start Finishing other = refl
+no-start Closing other = refl
+no-start Fault other = refl

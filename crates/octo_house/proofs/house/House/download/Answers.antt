@@ -1,0 +1,23 @@
+use Rattle.std.proofs.Common.{◌≡◌, true, not, refl, ap}
+use Rattle.octo_keeper.specs.Files.{bytes_of}
+use Rattle.octo_asks.specs.declared.answer.Answer.TheVariants as answer
+use Rattle.house_verdicts.specs.Known.{is_held}
+use Rattle.house_verdicts.specs.Verdict.{gives}
+use Rattle.octo_house.specs.State.{known_of}
+use Rattle.octo_house.proofs.ReadDone.{given, passed, bytes-read, bytes-missed}
+use Rattle.octo_house.proofs.house.House.download.Goals as goal
+
+pub returns-in-Ok-clause-done : goal.returns-in-Ok-clause-done
+returns-in-Ok-clause-done g c = λ files at.
+    let k = known_of c.args.self.now in
+    let held : is_held c.args.name.now k ≡ true = cc in
+    passed (not (is_held c.args.name.now k)) answer.NoFile _ _ k k (ap not held)
+    (bytes-read (bytes_of c.args.name.now files) (λ bytes. gives (answer.Download bytes)) c.in-Ok.bytes _ k k
+    (c.in-Ok.ensures.read files at) (given _ _ k refl))
+
+pub returns-in-Err-clause-done : goal.returns-in-Err-clause-done
+returns-in-Err-clause-done g c = λ files at.
+    let k = known_of c.args.self.now in
+    let held : is_held c.args.name.now k ≡ true = cc in
+    passed (not (is_held c.args.name.now k)) answer.NoFile _ _ k k (ap not held)
+    (bytes-missed (bytes_of c.args.name.now files) (λ bytes. gives (answer.Download bytes)) c.in-Err.answer k (c.in-Err.ensures.read files at))

@@ -1,0 +1,34 @@
+use Rattle.std.proofs.Common.{◌≡◌, true, not, [], ◌∷◌, refl, ap}
+use Rattle.desk_steps.specs.Run.{Select}
+use Rattle.octo_keeper.specs.Files.{bytes_of}
+use Rattle.octo_asks.specs.declared.answer.Answer.TheVariants as answer
+use Rattle.house_verdicts.specs.Known.{is_held}
+use Rattle.house_verdicts.specs.States.{may_select}
+use Rattle.house_verdicts.specs.Uploads.{named_file}
+use Rattle.house_verdicts.specs.Verdict.{makes, at_desk}
+use Rattle.octo_session.specs.Data.{SessionData}
+use Rattle.octo_house.specs.State.{known_of}
+use Rattle.octo_house.proofs.ReadDone.{made, passed, job-read, job-missed}
+use Rattle.octo_house.proofs.house.House.select_named.Goals as goal
+
+pub returns-in-Ok-clause-done : goal.returns-in-Ok-clause-done
+returns-in-Ok-clause-done g c = λ files at.
+    let k = known_of c.args.self.now in
+    let name = c.args.name.now in
+    let held : is_held name k ≡ true = cc in
+    let may : may_select k.desk.state ≡ true = cc in
+    passed (not (is_held name k)) answer.NoFile _ _ k _ (ap not held)
+    (passed (not (may_select k.desk.state)) (answer.WrongState k.desk.state) _ _ k _ (ap not may)
+    (job-read (bytes_of name files) (λ job. makes answer.Accepted (at_desk (Select (named_file name job) ∷ []) k)) c.in-Ok.job _ k _ (c.in-Ok.ensures.read files at)
+    (made answer.Accepted (at_desk (Select (named_file name c.in-Ok.job) ∷ []) k) k _ refl (ap (λ (s : SessionData). record k { desk = s.desk }) c.select.ensures.after))))
+
+pub returns-in-Err-clause-done : goal.returns-in-Err-clause-done
+returns-in-Err-clause-done g c = λ files at.
+    let k = known_of c.args.self.now in
+    let name = c.args.name.now in
+    let held : is_held name k ≡ true = cc in
+    let may : may_select k.desk.state ≡ true = cc in
+    passed (not (is_held name k)) answer.NoFile _ _ k k (ap not held)
+    (passed (not (may_select k.desk.state)) (answer.WrongState k.desk.state) _ _ k k (ap not may)
+    (job-missed (bytes_of name files) (λ job. makes answer.Accepted (at_desk (Select (named_file name job) ∷ []) k)) c.in-Err.answer k
+    (c.in-Err.ensures.read files at)))

@@ -1,0 +1,25 @@
+-- What a host begins with.
+use Rattle.std.specs.Prelude.{◌≡◌, ℕ, length, List, Option, None, Some}
+use Rattle.octo_access.specs.declared.policy.Policy.{Policy}
+use Rattle.octo_keeper.specs.declared.shelf.ShelfFile.{ShelfFile}
+use Rattle.octo_keeper.specs.declared.tables.Tables.{Tables}
+use Rattle.octo_session.specs.Data.{SessionData}
+use Rattle.house_history.specs.Begins.{Begins}
+use Rattle.house_history.specs.Noted.{no_temps}
+use Rattle.octo_house.specs.declared.house.House.{House}
+use Rattle.octo_house.specs.State.{known_of}
+
+-- what it was given, a new desk and no temperatures; nothing is unwritten
+pub record IsMadeOf (session : SessionData) (policy : Policy) (ports : List (List ℕ)) (material : List ℕ) (house : House) : Type 0 where
+  pub session_is : house.desk.session ≡ session
+  pub policy_is : house.policy ≡ policy
+  pub ports_are : house.desk.ports ≡ ports
+  pub material_is : house.material ≡ material
+  pub temps : house.desk.temps ≡ no_temps
+  pub written : house.tables.unwritten ≡ None
+
+-- it knows the kept rows and the names of the files, if keeper and shelf record them
+abbrev pub BeginsOn : SessionData → Policy → List (List ℕ) → List ℕ → Option Tables → Option (List ShelfFile) → House → Type 0
+BeginsOn session policy ports material kept held house =
+    (tables : Tables) → kept ≡ Some tables → (files : List ShelfFile) → held ≡ Some files →
+    Begins session.desk.scripts session.desk.limits session.desk.poll_ms policy ports material tables files (known_of house)

@@ -1,0 +1,24 @@
+-- Requests by what they change.
+use Rattle.std.specs.Prelude.{Bool, true, false}
+use Rattle.octo_asks.specs.declared.request.Request.{Request}
+use Rattle.octo_asks.specs.declared.request.Request.TheVariants as request
+
+-- it changes rows, or files
+abbrev pub is_edit : Request → Bool
+is_edit (request.PutFile name bytes select print) = true
+is_edit (request.SelectFile name print) = true
+is_edit (request.DeleteFile name) = true
+is_edit (request.PutUser name key groups active) = true
+is_edit (request.ChangeUser name key groups active) = true
+is_edit (request.PutEntry name file priority copies material) = true
+is_edit (request.DropOwn name) = true
+is_edit (request.DropOther user name) = true
+is_edit request.NextEntry = true
+is_edit _ = false
+
+-- it adds or changes a row of users, or adds one of the queue
+abbrev pub is_row : Request → Bool
+is_row (request.PutUser name key groups active) = true
+is_row (request.ChangeUser name key groups active) = true
+is_row (request.PutEntry name file priority copies material) = true
+is_row _ = false

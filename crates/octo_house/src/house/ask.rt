@@ -1,0 +1,227 @@
+//! How asks are answered.
+ghost use Rattle.std.specs.Prelude.{◌≡◌, ◌≤◌, List, true, false};
+ghost use Rattle.octo_keeper.specs.declared.shelf.ShelfFile.{ShelfFile};
+ghost use Rattle.print_queue.specs.Calls.{wanted};
+ghost use Rattle.print_queue.specs.Lawful.{IsWhole};
+ghost use Rattle.house_verdicts.specs.Answers.{verdict, request_verdict, lacking};
+ghost use Rattle.house_verdicts.specs.Rows.{put_entry_verdict};
+ghost use Rattle.house_tables.specs.Kept.{KeepsRows};
+ghost use Rattle.octo_house.specs.Answered.{Answers, AnswersOn, Shelves};
+ghost use Rattle.house_rows.specs.Counts.{Counts, is_keepers, is_shelfs};
+ghost use Rattle.octo_house.specs.Groups.{is_edit, is_row};
+ghost use Rattle.octo_house.specs.State.{IsApartFrom, IsListed, known_of};
+
+use super::House;
+use house_rows::asked_entry;
+use octo_access::{Permission, UserRow};
+use octo_asks::{Answer, Ask, Request, needed};
+use octo_keeper::{Keeper, Shelf};
+use print_queue::QueueEntry;
+
+impl House {
+    /// Answers an ask: the first refusal that applies, or what is done. A fault or a want of memory changes nothing, but
+    /// that a stored file stays stored. The moment, in milliseconds, is that of the answer in the history.
+    pub fn ask<K: Keeper, S: Shelf>(
+        &mut self,
+        keeper: &mut K,
+        shelf: &mut S,
+        ask: Ask,
+        _moment: u64,
+    ) -> Answer
+        // The answer, and what it leaves: of the host, of the files and of the tables.
+        ensures done { AnswersOn (S.files shelf.old)
+            (λ files. verdict ask files (known_of self.old)) result self.old self.new }
+        ensures files { Shelves (S.files shelf.old) (S.files shelf.new)
+            (λ files. verdict ask files (known_of self.old)) result }
+        ensures kept { KeepsRows (K.tables keeper.old) (K.tables keeper.new)
+            self.old.tables self.new.tables }
+        ensures listed { IsListed (S.files shelf.old) self.old
+            → IsListed (S.files shelf.new) self.new }
+        ensures apart { IsApartFrom self.old self.new }
+
+        // Faults, by their counts.
+        ensures keeper { Counts (is_keepers result) (K.faults keeper.old) (K.faults keeper.new) }
+        ensures shelf { Counts (is_shelfs result) (S.faults shelf.old) (S.faults shelf.new) }
+    {
+        let permissions = needed(&ask.request);
+        if permissions.as_slice().is_empty() {
+            return Answer::Accepted;
+        }
+        let Some(user) = self.tables.caller(&self.policy, ask.key.as_slice()) else {
+            return Answer::Denied { permission: None };
+        };
+        if let Some(permission) = self.lacking(&user, permissions.as_slice()) {
+            return Answer::Denied {
+                permission: Some(permission),
+            };
+        }
+        self.answer(keeper, shelf, &user, &ask.request)
+    }
+
+    // The first of the permissions that a user lacks.
+    fn lacking(&self, user: &UserRow, permissions: &[Permission]) -> Option<Permission>
+        ensures { result ≡ lacking (known_of self.now) user.now permissions.now }
+    {
+        for permission in permissions {
+            if !self.policy.allowed(user, *permission) {
+                return Some(*permission);
+            }
+        }
+        None
+    }
+
+    // Answers a permitted request: first those that show something, then those for the desk and the selected file.
+    fn answer<K: Keeper, S: Shelf>(
+        &mut self,
+        keeper: &mut K,
+        shelf: &mut S,
+        user: &UserRow,
+        request: &Request,
+    ) -> Answer
+        ensures done { AnswersOn (S.files shelf.old)
+            (λ files. request_verdict request.now user.now files (known_of self.old))
+            result self.old self.new }
+        ensures files { Shelves (S.files shelf.old) (S.files shelf.new)
+            (λ files. request_verdict request.now user.now files (known_of self.old)) result }
+        ensures kept { KeepsRows (K.tables keeper.old) (K.tables keeper.new)
+            self.old.tables self.new.tables }
+        ensures listed { IsListed (S.files shelf.old) self.old
+            → IsListed (S.files shelf.new) self.new }
+        ensures apart { IsApartFrom self.old self.new }
+        ensures keeper { Counts (is_keepers result) (K.faults keeper.old) (K.faults keeper.new) }
+        ensures shelf { Counts (is_shelfs result) (S.faults shelf.old) (S.faults shelf.new) }
+    {
+        match request {
+            Request::Version => Answer::Version,
+            Request::GetConnection => self.desk.connection(),
+            Request::GetPrinter => self.desk.printer(),
+            Request::GetJob => self.desk.job(),
+            Request::ListFiles => self.list_files(shelf),
+            Request::GetFile { name } => self.file(shelf, name),
+            Request::Download { name } => self.download(shelf, name),
+            Request::ListUsers => self.list_users(),
+            Request::ListQueue => self.list_queue(user),
+            Request::ListPrints => self.list_prints(user),
+            Request::Shutdown => self.desk.shut_down(),
+            Request::Leave => Answer::Accepted,
+            Request::Connect { port } => self.desk.connect(port),
+            Request::Disconnect => self.desk.disconnect(),
+            Request::HeatTool { degrees } => self.desk.heat_tool(*degrees),
+            Request::HeatBed { degrees } => self.desk.heat_bed(*degrees),
+            Request::Lines { texts } => self.desk.lines(texts.as_slice()),
+            Request::Start => self.start(keeper, &user.name),
+            Request::Cancel => self.desk.cancel(),
+            Request::Restart => self.restart(keeper, &user.name),
+            Request::Pause => self.desk.pause(),
+            Request::Resume => self.desk.resume(),
+            Request::Toggle => self.desk.toggle(),
+            _ => self.edit(keeper, shelf, user, request),
+        }
+    }
+
+    // Answers a request that changes files or rows.
+    fn edit<K: Keeper, S: Shelf>(
+        &mut self,
+        keeper: &mut K,
+        shelf: &mut S,
+        user: &UserRow,
+        request: &Request,
+    ) -> Answer
+        requires { is_edit request.now ≡ true }
+        ensures done { AnswersOn (S.files shelf.old)
+            (λ files. request_verdict request.now user.now files (known_of self.old))
+            result self.old self.new }
+        ensures files { Shelves (S.files shelf.old) (S.files shelf.new)
+            (λ files. request_verdict request.now user.now files (known_of self.old)) result }
+        ensures kept { KeepsRows (K.tables keeper.old) (K.tables keeper.new)
+            self.old.tables self.new.tables }
+        ensures listed { IsListed (S.files shelf.old) self.old
+            → IsListed (S.files shelf.new) self.new }
+        ensures apart { IsApartFrom self.old self.new }
+        ensures keeper { Counts (is_keepers result) (K.faults keeper.old) (K.faults keeper.new) }
+        ensures shelf { Counts (is_shelfs result) (S.faults shelf.old) (S.faults shelf.new) }
+    {
+        match request {
+            Request::PutFile {
+                name,
+                bytes,
+                select,
+                print,
+            } => self.put_file(keeper, shelf, user, name, bytes.as_slice(), *select, *print),
+            Request::SelectFile { name, print: true } => {
+                self.print_named(keeper, shelf, &user.name, name)
+            }
+            Request::SelectFile { name, print: false } => self.select_named(shelf, name),
+            Request::DeleteFile { name } => self.delete_file(shelf, name),
+            Request::NextEntry => self.print_next(keeper, shelf),
+            Request::DropOwn { name } => self.tables.drop_entry(keeper, &user.name, name),
+            Request::DropOther { user, name } => self.tables.drop_entry(keeper, user, name),
+            _ => self.put_row(keeper, user, request),
+        }
+    }
+
+    // Adds a user or an entry of the queue, or changes a user.
+    fn put_row<K: Keeper>(&mut self, keeper: &mut K, user: &UserRow, request: &Request) -> Answer
+        requires { is_row request.now ≡ true }
+        ensures done { (files : List ShelfFile) → Answers
+            (request_verdict request.now user.now files (known_of self.old)) result
+            self.old self.new }
+        ensures kept { KeepsRows (K.tables keeper.old) (K.tables keeper.new)
+            self.old.tables self.new.tables }
+        ensures names { self.new.names.items ≡ self.old.names.items }
+        ensures apart { IsApartFrom self.old self.new }
+        ensures keeper { Counts (is_keepers result) (K.faults keeper.old) (K.faults keeper.new) }
+        ensures shelf { is_shelfs result ≡ false }
+    {
+        match request {
+            Request::PutUser {
+                name,
+                key,
+                groups,
+                active,
+            } => self
+                .tables
+                .put_user(keeper, &self.policy, name, key, groups, *active),
+            Request::ChangeUser {
+                name,
+                key,
+                groups,
+                active,
+            } => self
+                .tables
+                .change_user(keeper, &self.policy, name, key, groups, *active),
+            Request::PutEntry {
+                name,
+                file,
+                priority,
+                copies,
+                material,
+            } => {
+                let asked = asked_entry(&user.name, name, file, *priority, *copies, material);
+                self.put_entry(keeper, &asked)
+            }
+            _ => unreachable!(),
+        }
+    }
+
+    // Adds an entry to the queue.
+    fn put_entry<K: Keeper>(&mut self, keeper: &mut K, asked: &QueueEntry) -> Answer
+        requires priority { asked.now.priority ≤ 100 }
+        requires whole { IsWhole asked.now }
+        requires new { asked.now ≡ wanted asked.now.user asked.now.name asked.now.file
+            asked.now.priority asked.now.copies asked.now.material }
+        ensures done { Answers (put_entry_verdict asked.now (known_of self.old)) result
+            self.old self.new }
+        ensures kept { KeepsRows (K.tables keeper.old) (K.tables keeper.new)
+            self.old.tables self.new.tables }
+        ensures names { self.new.names.items ≡ self.old.names.items }
+        ensures apart { IsApartFrom self.old self.new }
+        ensures keeper { Counts (is_keepers result) (K.faults keeper.old) (K.faults keeper.new) }
+        ensures shelf { is_shelfs result ≡ false }
+    {
+        if !self.holds(&asked.file) {
+            return Answer::NoFile;
+        }
+        self.tables.put_entry(keeper, asked)
+    }
+}

@@ -1,0 +1,94 @@
+//! A host begins.
+ghost use Rattle.std.specs.Prelude.{◌≡◌, ◌≤◌, ℕ, false, length, Some, IfOk, IsErrOf};
+ghost use Rattle.octo_outside.specs.Told.{Rose};
+ghost use Rattle.desk_steps.specs.Data.{new_desk};
+ghost use Rattle.octo_keeper.specs.declared.tables.Tables.{Tables};
+ghost use Rattle.send_window.specs.Data.{new_sender};
+ghost use Rattle.octo_house.specs.Beginning.{IsMadeOf, BeginsOn};
+ghost use Rattle.octo_access.specs.Rows.{IsUserTable};
+ghost use Rattle.print_queue.specs.Lawful.{IsLawful};
+ghost use Rattle.house_tables.specs.Kept.{IsKept};
+ghost use Rattle.octo_house.specs.State.{IsListed};
+ghost use Rattle.octo_house.specs.declared.faults.BeginFault.TheVariants as fault;
+
+use super::House;
+use crate::faults::{BeginFault, of_keeper, of_shelf};
+use byte_text::Name;
+use house_desk::HostDesk;
+use house_rows::names_in;
+use house_tables::HostTables;
+use marlin_reply::Temps;
+use octo_access::Policy;
+use octo_keeper::{Keeper, Shelf};
+use octo_outside::NameList;
+use octo_session::Session;
+use std::alloc::Global;
+
+impl House {
+    /// A host with a new session, these ports and the printer's material, on what the keeper and the shelf hold. A print
+    /// that was going on when the last host ended is read as failed. Each later call with a keeper or a shelf is handed
+    /// these, which no one else uses.
+    pub fn begin<K: Keeper, S: Shelf>(
+        alloc: Global,
+        session: Session,
+        policy: Policy,
+        ports: NameList,
+        material: Name,
+        keeper: &mut K,
+        shelf: &mut S,
+    ) -> Result<House, BeginFault>
+        requires new_desk { session.desk
+            ≡ new_desk session.desk.scripts session.desk.limits session.desk.poll_ms }
+        requires new_sender { session.sender
+            ≡ new_sender session.sender.window session.sender.limit }
+        requires down { session.up ≡ false }
+
+        // The state that it begins with.
+        ensures made { IfOk result (λ house. IsMadeOf session policy ports material house) }
+        ensures begins { IfOk result (λ house.
+            BeginsOn session policy ports material (K.tables keeper.old) (S.files shelf.old) house) }
+
+        // Keeper and shelf hold what they held, and it is the host's.
+        ensures tables { K.tables keeper.new ≡ K.tables keeper.old }
+        ensures files { S.files shelf.new ≡ S.files shelf.old }
+        ensures kept { IfOk result (λ house. (tables : Tables) → K.tables keeper.new ≡ Some tables
+            → IsUserTable tables.users → IsLawful tables.queue
+            → IsKept (length tables.prints) (K.tables keeper.new) house.tables) }
+        ensures listed { IfOk result (λ house. IsListed (S.files shelf.new) house) }
+
+        // Faults, by their counts.
+        ensures keeper_counted { K.faults keeper.old ≤ K.faults keeper.new }
+        ensures keeper_failed { IsErrOf result fault.KeeperFailed
+            → Rose (K.faults keeper.old) (K.faults keeper.new) }
+        ensures shelf_counted { S.faults shelf.old ≤ S.faults shelf.new }
+        ensures shelf_failed { IsErrOf result fault.ShelfFailed
+            → Rose (S.faults shelf.old) (S.faults shelf.new) }
+    {
+        let tables = match keeper.load(alloc) {
+            Ok(tables) => tables,
+            Err(fault) => return Err(of_keeper(fault)),
+        };
+        let files = match shelf.list(alloc) {
+            Ok(files) => files,
+            Err(fault) => return Err(of_shelf(fault)),
+        };
+        let Ok(names) = names_in(alloc, files.as_slice()) else {
+            return Err(BeginFault::NoMemory);
+        };
+        Ok(House {
+            desk: HostDesk {
+                alloc,
+                session,
+                ports,
+                temps: Temps {
+                    tool: None,
+                    bed: None,
+                },
+            },
+            policy,
+            material,
+            tables: HostTables::new(alloc, tables),
+            names,
+        })
+    }
+}

@@ -1,0 +1,112 @@
+//! The requests that list, show and delete files.
+ghost use Rattle.std.specs.Prelude.{◌≡◌, false};
+ghost use Rattle.desk_steps.specs.Table.{drop_file_step};
+ghost use Rattle.house_verdicts.specs.Reads.{list_files_verdict, get_file_verdict, download_verdict};
+ghost use Rattle.house_verdicts.specs.Uploads.{delete_verdict};
+ghost use Rattle.octo_house.specs.Answered.{Answers, AnswersOn, Shelves};
+ghost use Rattle.house_rows.specs.Counts.{Counts, is_keepers, is_shelfs};
+ghost use Rattle.octo_house.specs.State.{AreRowsLeft, IsListed, known_of};
+
+use super::House;
+use byte_text::Name;
+use desk_steps::Refusal;
+use house_rows::{drop_name, read_bytes, refused, shelf_refused, shown_files};
+use octo_asks::{Answer, ShownFile};
+use octo_keeper::Shelf;
+
+impl House {
+    // All files.
+    pub(super) fn list_files<S: Shelf>(&self, shelf: &mut S) -> Answer
+        ensures done { AnswersOn (S.files shelf.old) list_files_verdict result self.now self.now }
+        ensures stays { S.files shelf.new ≡ S.files shelf.old }
+        ensures shelf { Counts (is_shelfs result) (S.faults shelf.old) (S.faults shelf.new) }
+        ensures keeper { is_keepers result ≡ false }
+    {
+        let files = match shelf.list(self.desk.alloc) {
+            Ok(files) => files,
+            Err(fault) => return shelf_refused(fault),
+        };
+        match shown_files(self.desk.alloc, files.as_slice()) {
+            Ok(files) => Answer::Files { files },
+            Err(_) => Answer::NoMemory,
+        }
+    }
+
+    // One file.
+    pub(super) fn file<S: Shelf>(&self, shelf: &mut S, name: &Name) -> Answer
+        ensures done { AnswersOn (S.files shelf.old)
+            (λ files. get_file_verdict name.now files (known_of self.now)) result self.now self.now }
+        ensures stays { S.files shelf.new ≡ S.files shelf.old }
+        ensures shelf { Counts (is_shelfs result) (S.faults shelf.old) (S.faults shelf.new) }
+        ensures keeper { is_keepers result ≡ false }
+    {
+        if !self.holds(name) {
+            return Answer::NoFile;
+        }
+        match read_bytes(self.desk.alloc, shelf, name) {
+            Ok(bytes) => Answer::File {
+                file: ShownFile {
+                    name: name.copy(),
+                    size: bytes.len() as u64,
+                },
+            },
+            Err(answer) => answer,
+        }
+    }
+
+    // The bytes of a file.
+    pub(super) fn download<S: Shelf>(&self, shelf: &mut S, name: &Name) -> Answer
+        ensures done { AnswersOn (S.files shelf.old)
+            (λ files. download_verdict name.now files (known_of self.now)) result self.now self.now }
+        ensures stays { S.files shelf.new ≡ S.files shelf.old }
+        ensures shelf { Counts (is_shelfs result) (S.faults shelf.old) (S.faults shelf.new) }
+        ensures keeper { is_keepers result ≡ false }
+    {
+        if !self.holds(name) {
+            return Answer::NoFile;
+        }
+        match read_bytes(self.desk.alloc, shelf, name) {
+            Ok(bytes) => Answer::Download { bytes },
+            Err(answer) => answer,
+        }
+    }
+
+    // Whether the selection of a file may be dropped: it isn't being printed.
+    pub(super) fn may_drop(&self, name: &Name) -> Result<(), Refusal>
+        ensures { result ≡ (drop_file_step name.now self.now.desk.session.desk).0 }
+    {
+        let desk = self.desk.session.desk();
+        let Some(selected) = desk.selected() else {
+            return Ok(());
+        };
+        if selected.as_bytes() == name.as_bytes() && desk.print().is_some() {
+            return Err(Refusal::FileBusy);
+        }
+        Ok(())
+    }
+
+    // Deletes a file: the shelf first, and then what the host knows of it.
+    pub(super) fn delete_file<S: Shelf>(&mut self, shelf: &mut S, name: &Name) -> Answer
+        ensures done { Answers (delete_verdict name.now (known_of self.old)) result self.old self.new }
+        ensures files { Shelves (S.files shelf.old) (S.files shelf.new)
+            (λ _. delete_verdict name.now (known_of self.old)) result }
+        ensures rows { AreRowsLeft self.old self.new }
+        ensures listed { IsListed (S.files shelf.old) self.old
+            → IsListed (S.files shelf.new) self.new }
+        ensures shelf { Counts (is_shelfs result) (S.faults shelf.old) (S.faults shelf.new) }
+        ensures keeper { is_keepers result ≡ false }
+    {
+        if !self.holds(name) {
+            return Answer::NoFile;
+        }
+        if let Err(refusal) = self.may_drop(name) {
+            return refused(refusal);
+        }
+        if let Err(fault) = shelf.remove(self.desk.alloc, name) {
+            return shelf_refused(fault);
+        }
+        let _ = self.desk.session.drop_file(name);
+        drop_name(&mut self.names, name);
+        Answer::Accepted
+    }
+}

@@ -1,0 +1,118 @@
+//! The selected file is printed: the keeper writes the record first, and then what can't fail is changed.
+ghost use Rattle.std.specs.Prelude.{◌≡◌, ℕ, true, false, OnOk};
+ghost use Rattle.desk_steps.specs.Table.{restart_at, start_at};
+ghost use Rattle.house_verdicts.specs.Known.{next_number};
+ghost use Rattle.house_verdicts.specs.Prints.{has_room, new_row, start_verdict, restart_verdict};
+ghost use Rattle.house_rows.specs.Counts.{Counts, is_keepers, is_shelfs};
+ghost use Rattle.house_tables.specs.Kept.{KeepsRows};
+ghost use Rattle.octo_house.specs.Answered.{Answers};
+ghost use Rattle.octo_house.specs.State.{IsApartFrom, known_of};
+
+use super::House;
+use byte_text::Name;
+use desk_steps::{Refusal, State};
+use house_rows::{check_job, keeper_refused, refused};
+use octo_asks::Answer;
+use octo_keeper::Keeper;
+use print_records::{Ending, Outcome, PrintRow};
+
+impl House {
+    // Refuses a start that the desk would refuse.
+    fn may_start(&self) -> Result<(), Refusal>
+        ensures { (print : ℕ) → result
+            ≡ (start_at self.now.desk.session.desk.state print self.now.desk.session.desk).0 }
+    {
+        let desk = self.desk.session.desk();
+        let state = desk.state();
+        if state != State::Operational {
+            return Err(Refusal::WrongState { state });
+        }
+        let Some(job) = desk.job() else {
+            return Err(Refusal::NoFile);
+        };
+        check_job(job, desk.limits())
+    }
+
+    // The record of a print of the selected file, for which there is room.
+    fn selected_row(&self, user: &Name) -> PrintRow
+        requires { has_room (known_of self.now) ≡ true }
+        ensures { result ≡ new_row (next_number (known_of self.now)) user.now
+            self.now.desk.session.desk.file }
+    {
+        let desk = self.desk.session.desk();
+        match (desk.selected(), desk.job()) {
+            (Some(name), Some(job)) => self.tables.next_row(user, name, job.count()),
+            _ => self.tables.next_row(user, &Name::new(), 0),
+        }
+    }
+
+    // Starts a print of the selected file for a user.
+    pub(super) fn start<K: Keeper>(&mut self, keeper: &mut K, user: &Name) -> Answer
+        ensures done { Answers (start_verdict user.now (known_of self.old)) result
+            self.old self.new }
+        ensures kept { KeepsRows (K.tables keeper.old) (K.tables keeper.new)
+            self.old.tables self.new.tables }
+        ensures names { self.new.names.items ≡ self.old.names.items }
+        ensures apart { IsApartFrom self.old self.new }
+        ensures keeper { Counts (is_keepers result) (K.faults keeper.old) (K.faults keeper.new) }
+        ensures shelf { is_shelfs result ≡ false }
+    {
+        if let Err(refusal) = self.may_start() {
+            return refused(refusal);
+        }
+        if let Err(full) = self.tables.check_room() {
+            return full;
+        }
+        let row = self.selected_row(user);
+        let number = row.number;
+        if let Err(fault) = self.tables.begin_print(keeper, None, row, None) {
+            return keeper_refused(fault);
+        }
+        let _ = self.desk.session.start(number);
+        Answer::Accepted
+    }
+
+    // The print that a restart ends, or a refusal if the desk would refuse it.
+    fn may_restart(&self) -> Result<u32, Refusal>
+        ensures answer { (print : ℕ) → result
+            ≡ (restart_at self.now.desk.session.desk.state print self.now.desk.session.desk).0 }
+        ensures active { OnOk result (self.now.desk.session.desk.active ≡ true) }
+    {
+        let state = self.desk.session.desk().state();
+        match (state, self.desk.session.desk().print()) {
+            (State::Paused, Some(print)) => Ok(print),
+            _ => Err(Refusal::WrongState { state }),
+        }
+    }
+
+    // Ends the paused print and starts another one of its file for a user.
+    pub(super) fn restart<K: Keeper>(&mut self, keeper: &mut K, user: &Name) -> Answer
+        ensures done { Answers (restart_verdict user.now (known_of self.old)) result
+            self.old self.new }
+        ensures kept { KeepsRows (K.tables keeper.old) (K.tables keeper.new)
+            self.old.tables self.new.tables }
+        ensures names { self.new.names.items ≡ self.old.names.items }
+        ensures apart { IsApartFrom self.old self.new }
+        ensures keeper { Counts (is_keepers result) (K.faults keeper.old) (K.faults keeper.new) }
+        ensures shelf { is_shelfs result ≡ false }
+    {
+        let print = match self.may_restart() {
+            Ok(print) => print,
+            Err(refusal) => return refused(refusal),
+        };
+        if let Err(full) = self.tables.check_room() {
+            return full;
+        }
+        let ending = Ending {
+            print,
+            outcome: Outcome::Cancelled,
+        };
+        let row = self.selected_row(user);
+        let number = row.number;
+        if let Err(fault) = self.tables.begin_print(keeper, Some(ending), row, None) {
+            return keeper_refused(fault);
+        }
+        let _ = self.desk.session.restart(number);
+        Answer::Accepted
+    }
+}

@@ -1,0 +1,57 @@
+//! The requests that show rows.
+ghost use Rattle.std.specs.Prelude.{◌≡◌};
+ghost use Rattle.house_verdicts.specs.Known.{whose};
+ghost use Rattle.house_verdicts.specs.Reads.{list_users_verdict, list_queue_verdict, list_prints_verdict};
+ghost use Rattle.octo_house.specs.Answered.{Answers};
+ghost use Rattle.house_rows.specs.Counts.{IsPlain};
+ghost use Rattle.octo_house.specs.State.{known_of};
+
+use super::House;
+use byte_text::Name;
+use octo_access::{Permission, UserRow};
+use octo_asks::Answer;
+
+impl House {
+    // All users but the admin.
+    pub(super) fn list_users(&self) -> Answer
+        ensures done { Answers (list_users_verdict (known_of self.now)) result self.now self.now }
+        ensures plain { IsPlain result }
+    {
+        match self.tables.shown_users() {
+            Ok(users) => Answer::Users { users },
+            Err(_) => Answer::NoMemory,
+        }
+    }
+
+    // Whose rows a user is shown: `None` for all.
+    fn whose(&self, user: &UserRow) -> Option<Name>
+        ensures { result ≡ whose (known_of self.now) user.now }
+    {
+        if self.policy.allowed(user, Permission::Admin) {
+            return None;
+        }
+        Some(user.name.copy())
+    }
+
+    // The entries of the queue that the user is shown.
+    pub(super) fn list_queue(&self, user: &UserRow) -> Answer
+        ensures done { Answers (list_queue_verdict user.now (known_of self.now)) result self.now self.now }
+        ensures plain { IsPlain result }
+    {
+        match self.tables.shown_entries(&self.whose(user)) {
+            Ok(entries) => Answer::Entries { entries },
+            Err(_) => Answer::NoMemory,
+        }
+    }
+
+    // The prints that the user is shown.
+    pub(super) fn list_prints(&self, user: &UserRow) -> Answer
+        ensures done { Answers (list_prints_verdict user.now (known_of self.now)) result self.now self.now }
+        ensures plain { IsPlain result }
+    {
+        match self.tables.shown_prints(&self.whose(user)) {
+            Ok(prints) => Answer::Prints { prints },
+            Err(_) => Answer::NoMemory,
+        }
+    }
+}

@@ -1,0 +1,183 @@
+//! Files that the shelf holds are selected and printed.
+ghost use Rattle.std.specs.Prelude.{◌≡◌, [], true, false};
+ghost use Rattle.desk_steps.specs.declared.state.State.TheVariants as state;
+ghost use Rattle.octo_keeper.specs.Tables.{with_taken};
+ghost use Rattle.house_verdicts.specs.Uploads.{select_verdict, next_verdict, take_verdict, print_verdict, named_file};
+ghost use Rattle.house_tables.specs.Kept.{KeepsRows};
+ghost use Rattle.octo_house.specs.Answered.{Answers, AnswersOn};
+ghost use Rattle.house_rows.specs.Counts.{Counts, is_keepers, is_shelfs};
+ghost use Rattle.octo_house.specs.State.{IsApartFrom, IsDeskAlone, known_of};
+ghost use Rattle.octo_house.specs.Taken.{taken_answer};
+
+use super::House;
+use byte_text::Name;
+use desk_steps::State;
+use gcode_lines::Job;
+use house_rows::{check_job, keeper_refused, may_select, read_job, refused};
+use octo_asks::{Answer, ShownEntry};
+use octo_keeper::{Keeper, Shelf};
+use print_queue::QueueEntry;
+
+impl House {
+    // Selects a file.
+    pub(super) fn select_named<S: Shelf>(&mut self, shelf: &mut S, name: &Name) -> Answer
+        ensures done { AnswersOn (S.files shelf.old)
+            (λ files. select_verdict [] name.now false files (known_of self.old)) result
+            self.old self.new }
+        ensures alone { IsDeskAlone self.old self.new }
+        ensures stays { S.files shelf.new ≡ S.files shelf.old }
+        ensures shelf { Counts (is_shelfs result) (S.faults shelf.old) (S.faults shelf.new) }
+        ensures keeper { is_keepers result ≡ false }
+    {
+        if !self.holds(name) {
+            return Answer::NoFile;
+        }
+        let state = self.desk.session.desk().state();
+        if !may_select(state) {
+            return Answer::WrongState { state };
+        }
+        match read_job(self.desk.alloc, shelf, name) {
+            Ok(job) => {
+                let _ = self.desk.session.select(name, job);
+                Answer::Accepted
+            }
+            Err(answer) => answer,
+        }
+    }
+
+    // Selects a file and starts its print for a user.
+    pub(super) fn print_named<K: Keeper, S: Shelf>(
+        &mut self,
+        keeper: &mut K,
+        shelf: &mut S,
+        user: &Name,
+        name: &Name,
+    ) -> Answer
+        ensures done { AnswersOn (S.files shelf.old)
+            (λ files. select_verdict user.now name.now true files (known_of self.old)) result
+            self.old self.new }
+        ensures kept { KeepsRows (K.tables keeper.old) (K.tables keeper.new)
+            self.old.tables self.new.tables }
+        ensures names { self.new.names.items ≡ self.old.names.items }
+        ensures stays { S.files shelf.new ≡ S.files shelf.old }
+        ensures apart { IsApartFrom self.old self.new }
+        ensures keeper { Counts (is_keepers result) (K.faults keeper.old) (K.faults keeper.new) }
+        ensures shelf { Counts (is_shelfs result) (S.faults shelf.old) (S.faults shelf.new) }
+    {
+        if !self.holds(name) {
+            return Answer::NoFile;
+        }
+        let state = self.desk.session.desk().state();
+        if state != State::Operational {
+            return Answer::WrongState { state };
+        }
+        match read_job(self.desk.alloc, shelf, name) {
+            Ok(job) => self.print_job(keeper, user, name, job, None),
+            Err(answer) => answer,
+        }
+    }
+
+    // Selects a job and starts its print for a user; it may be a copy of an entry of the queue.
+    fn print_job<K: Keeper>(
+        &mut self,
+        keeper: &mut K,
+        user: &Name,
+        name: &Name,
+        job: Job,
+        taken: Option<QueueEntry>,
+    ) -> Answer
+        requires { self.old.desk.session.desk.state ≡ state.Operational }
+        ensures done { Answers (print_verdict (taken_answer taken) user.now
+            (with_taken taken self.old.tables.queue) (known_of self.old)
+            (named_file name.now job)) result self.old self.new }
+        ensures kept { KeepsRows (K.tables keeper.old) (K.tables keeper.new)
+            self.old.tables self.new.tables }
+        ensures names { self.new.names.items ≡ self.old.names.items }
+        ensures apart { IsApartFrom self.old self.new }
+        ensures keeper { Counts (is_keepers result) (K.faults keeper.old) (K.faults keeper.new) }
+        ensures shelf { is_shelfs result ≡ false }
+    {
+        if let Err(refusal) = check_job(&job, self.desk.session.desk().limits()) {
+            return refused(refusal);
+        }
+        if let Err(full) = self.tables.check_room() {
+            return full;
+        }
+        let row = self.tables.next_row(user, name, job.count());
+        let number = row.number;
+        let accepted = taken_answer(&taken);
+        if let Err(fault) = self.tables.begin_print(keeper, None, row, taken) {
+            return keeper_refused(fault);
+        }
+        let _ = self.desk.session.select(name, job);
+        let _ = self.desk.session.start(number);
+        accepted
+    }
+
+    // Starts one copy of the next entry of the queue that fits the printer, for the entry's user.
+    pub(super) fn print_next<K: Keeper, S: Shelf>(
+        &mut self,
+        keeper: &mut K,
+        shelf: &mut S,
+    ) -> Answer
+        ensures done { AnswersOn (S.files shelf.old)
+            (λ files. next_verdict files (known_of self.old)) result self.old self.new }
+        ensures kept { KeepsRows (K.tables keeper.old) (K.tables keeper.new)
+            self.old.tables self.new.tables }
+        ensures names { self.new.names.items ≡ self.old.names.items }
+        ensures stays { S.files shelf.new ≡ S.files shelf.old }
+        ensures apart { IsApartFrom self.old self.new }
+        ensures keeper { Counts (is_keepers result) (K.faults keeper.old) (K.faults keeper.new) }
+        ensures shelf { Counts (is_shelfs result) (S.faults shelf.old) (S.faults shelf.new) }
+    {
+        let state = self.desk.session.desk().state();
+        if state != State::Operational {
+            return Answer::WrongState { state };
+        }
+        match self.tables.next_entry(&self.material) {
+            Some(entry) => self.print_entry(keeper, shelf, entry),
+            None => Answer::NoEntry,
+        }
+    }
+
+    // Starts one copy of an entry for its user.
+    fn print_entry<K: Keeper, S: Shelf>(
+        &mut self,
+        keeper: &mut K,
+        shelf: &mut S,
+        entry: QueueEntry,
+    ) -> Answer
+        requires { self.old.desk.session.desk.state ≡ state.Operational }
+        ensures done { AnswersOn (S.files shelf.old)
+            (λ files. take_verdict files (known_of self.old) entry) result self.old self.new }
+        ensures kept { KeepsRows (K.tables keeper.old) (K.tables keeper.new)
+            self.old.tables self.new.tables }
+        ensures names { self.new.names.items ≡ self.old.names.items }
+        ensures stays { S.files shelf.new ≡ S.files shelf.old }
+        ensures apart { IsApartFrom self.old self.new }
+        ensures keeper { Counts (is_keepers result) (K.faults keeper.old) (K.faults keeper.new) }
+        ensures shelf { Counts (is_shelfs result) (S.faults shelf.old) (S.faults shelf.new) }
+    {
+        if !self.holds(&entry.file) {
+            return Answer::NoFile;
+        }
+        let user = entry.user.copy();
+        let file = entry.file.copy();
+        match read_job(self.desk.alloc, shelf, &file) {
+            Ok(job) => self.print_job(keeper, &user, &file, job, Some(entry)),
+            Err(answer) => answer,
+        }
+    }
+}
+
+// The answer to a print that began: of a file, or of an entry as it was before.
+fn taken_answer(taken: &Option<QueueEntry>) -> Answer
+    ensures { result ≡ taken_answer taken.now }
+{
+    match taken {
+        Some(entry) => Answer::TakenEntry {
+            entry: ShownEntry::of(entry),
+        },
+        None => Answer::Accepted,
+    }
+}

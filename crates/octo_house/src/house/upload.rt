@@ -1,0 +1,220 @@
+//! Uploads: a file is stored, and as it is asked selected and printed.
+ghost use Rattle.std.specs.Prelude.{◌≡◌, ◌≤◌, ℕ, List, true, false, [], ◌∷◌, length, is_none, option_map, OnOk, OnErr, MatchResult};
+ghost use Rattle.desk_steps.specs.Run.{Start};
+ghost use Rattle.gcode_lines.specs.Job.{most_bytes};
+ghost use Rattle.octo_keeper.specs.Files.{with_file};
+ghost use Rattle.octo_asks.specs.declared.answer.Answer.TheVariants as answer;
+ghost use Rattle.house_verdicts.specs.Known.{next_number, shown_count};
+ghost use Rattle.temp_rules.specs.Hot.{first_hot_of};
+ghost use Rattle.house_verdicts.specs.Prints.{has_room, started};
+ghost use Rattle.house_verdicts.specs.Uploads.{put_file_verdict, named_file, has_file_room, is_selected, is_printed};
+ghost use Rattle.house_verdicts.specs.Verdict.{begins, is_fault};
+ghost use Rattle.house_tables.specs.Kept.{KeepsRows};
+ghost use Rattle.octo_house.specs.Answered.{Answers, Shelves};
+ghost use Rattle.house_rows.specs.Counts.{Counts, is_keepers, is_shelfs};
+ghost use Rattle.house_rows.specs.Reading.{is_keepers_fault, is_shelfs_fault};
+ghost use Rattle.octo_house.specs.State.{AreRowsLeft, IsApartFrom, IsListed, known_of};
+ghost use Rattle.octo_house.specs.Storing.{IsStored, IsNotStored, IsStartable, cause_of};
+
+use super::House;
+use byte_text::Name;
+use desk_steps::{Limits, State};
+use gcode_lines::{Job, read_commands};
+use house_rows::{add_name, bad_file, is_among, may_select, refused, reserve_name, shelf_refused};
+use octo_access::{Permission, UserRow};
+use octo_asks::{Answer, StoredCause};
+use octo_keeper::{Keeper, KeeperFault, Shelf};
+use temp_rules::first_hot;
+
+/// The most files.
+const MOST_FILES: usize = 1_000;
+
+// What an upload asks for beside storing, and may have.
+#[derive(Clone, Copy)]
+struct Wanted {
+    select: bool,
+    print: bool,
+}
+
+impl House {
+    // Stores a file, and as the flags ask selects and prints it for a user.
+    pub(super) fn put_file<K: Keeper, S: Shelf>(
+        &mut self,
+        keeper: &mut K,
+        shelf: &mut S,
+        user: &UserRow,
+        name: &Name,
+        bytes: &[u8],
+        select: bool,
+        print: bool,
+    ) -> Answer
+        ensures done { Answers (put_file_verdict user.now name.now bytes.now select print
+            (known_of self.old)) result self.old self.new }
+        ensures files { Shelves (S.files shelf.old) (S.files shelf.new)
+            (λ _. put_file_verdict user.now name.now bytes.now select print (known_of self.old))
+            result }
+        ensures kept { KeepsRows (K.tables keeper.old) (K.tables keeper.new)
+            self.old.tables self.new.tables }
+        ensures listed { IsListed (S.files shelf.old) self.old
+            → IsListed (S.files shelf.new) self.new }
+        ensures apart { IsApartFrom self.old self.new }
+        ensures keeper { Counts (is_keepers result) (K.faults keeper.old) (K.faults keeper.new) }
+        ensures shelf { Counts (is_shelfs result) (S.faults shelf.old) (S.faults shelf.new) }
+    {
+        let job = match read_commands(self.desk.alloc, bytes) {
+            Ok(job) => job,
+            Err(fault) => return bad_file(fault),
+        };
+        if let Err(answer) = self.store(shelf, name, bytes) {
+            return answer;
+        }
+        let wanted = self.wanted(user, &job, select, print);
+        if !wanted.select {
+            return Answer::Uploaded {
+                name: name.copy(),
+                select: false,
+                print: false,
+            };
+        }
+        let commands = job.count();
+        let _ = self.desk.session.select(name, job);
+        if !wanted.print {
+            return Answer::Uploaded {
+                name: name.copy(),
+                select: true,
+                print: false,
+            };
+        }
+        self.print_stored(keeper, &user.name, name, commands)
+    }
+
+    // Stores a file in the place of a former one, whose selection is dropped.
+    fn store<S: Shelf>(&mut self, shelf: &mut S, name: &Name, bytes: &[u8]) -> Result<(), Answer>
+        ensures stored { MatchResult result
+            (λ _. IsStored name.now self.old self.new)
+            (λ answer. IsNotStored name.now self.old self.new answer) }
+        ensures files { OnOk result (S.files shelf.new
+            ≡ option_map (with_file name.now bytes.now) (S.files shelf.old)) }
+        ensures same { OnErr result (S.files shelf.new ≡ S.files shelf.old) }
+        ensures rows { AreRowsLeft self.old self.new }
+        ensures listed { IsListed (S.files shelf.old) self.old
+            → IsListed (S.files shelf.new) self.new }
+        ensures shelf { Counts (is_shelfs_fault result) (S.faults shelf.old) (S.faults shelf.new) }
+        ensures keeper { is_keepers_fault result ≡ false }
+    {
+        if let Err(refusal) = self.may_drop(name) {
+            return Err(refused(refusal));
+        }
+        self.check_files(name)?;
+        let Ok(()) = reserve_name(&mut self.names) else {
+            return Err(Answer::NoMemory);
+        };
+        if let Err(fault) = shelf.put(self.desk.alloc, name, bytes) {
+            return Err(shelf_refused(fault));
+        }
+        let _ = self.desk.session.drop_file(name);
+        add_name(&mut self.names, name);
+        Ok(())
+    }
+
+    // Refuses a new file if there are 1,000.
+    fn check_files(&self, name: &Name) -> Result<(), Answer>
+        ensures { MatchResult result
+            (λ _. has_file_room name.now (known_of self.now) ≡ true)
+            (λ full. (has_file_room name.now (known_of self.now) ≡ false)
+            × (full ≡ answer.Full (shown_count (length self.now.names.items)))) }
+    {
+        let held = self.names.len();
+        if !is_among(&self.names, name) && held >= MOST_FILES {
+            return Err(Answer::Full {
+                count: held.min(u32::MAX as usize) as u32,
+            });
+        }
+        Ok(())
+    }
+
+    // Whether a stored file is to be selected and printed: it is asked for, and user, desk and limits permit it.
+    fn wanted(&self, user: &UserRow, job: &Job, select: bool, print: bool) -> Wanted
+        ensures select { result.select ≡ is_selected user.now select print (known_of self.now) }
+        ensures print { (name : List ℕ) → result.print
+            ≡ is_printed user.now print (named_file name job.now) (known_of self.now) }
+    {
+        Wanted {
+            select: (select || print)
+                && self.policy.allowed(user, Permission::FilesSelect)
+                && may_select(self.desk.session.desk().state()),
+            print: print
+                && self.policy.allowed(user, Permission::Print)
+                && self.desk.session.desk().state() == State::Operational
+                && is_cool(job, self.desk.session.desk().limits())
+                && self.has_room(),
+        }
+    }
+
+    // Whether there is room for one more record of a print.
+    fn has_room(&self) -> bool
+        ensures { result ≡ has_room (known_of self.now) }
+    {
+        match self.tables.check_room() {
+            Ok(()) => true,
+            Err(_) => false,
+        }
+    }
+
+    // Starts a print of a stored and selected file; a fault says that it is stored.
+    fn print_stored<K: Keeper>(
+        &mut self,
+        keeper: &mut K,
+        user: &Name,
+        name: &Name,
+        commands: usize,
+    ) -> Answer
+        requires start { IsStartable name.now commands (known_of self.old) }
+        requires few { commands ≤ most_bytes }
+        ensures done { Answers (begins (answer.Uploaded name.now true true)
+            (started user.now self.old.desk.session.desk.file (Start (next_number (known_of self.old)) ∷ [])
+            (known_of self.old)) name.now) result self.old self.new }
+        ensures kept { KeepsRows (K.tables keeper.old) (K.tables keeper.new)
+            self.old.tables self.new.tables }
+        ensures plain { is_fault result ≡ false }
+        ensures names { self.new.names.items ≡ self.old.names.items }
+        ensures apart { IsApartFrom self.old self.new }
+        ensures keeper { Counts (is_keepers result) (K.faults keeper.old) (K.faults keeper.new) }
+        ensures shelf { is_shelfs result ≡ false }
+    {
+        let row = self.tables.next_row(user, name, commands);
+        let number = row.number;
+        if let Err(fault) = self.tables.begin_print(keeper, None, row, None) {
+            return Answer::Stored {
+                name: name.copy(),
+                cause: cause_of(fault),
+            };
+        }
+        let _ = self.desk.session.start(number);
+        Answer::Uploaded {
+            name: name.copy(),
+            select: true,
+            print: true,
+        }
+    }
+}
+
+// Whether no command of a job is too hot.
+fn is_cool(job: &Job, limits: &Limits) -> bool
+    ensures { result ≡ is_none (first_hot_of limits.now job.now.commands) }
+{
+    match first_hot(job, limits) {
+        Some(_) => false,
+        None => true,
+    }
+}
+
+// Why the print of a stored file was not started.
+fn cause_of(fault: KeeperFault) -> StoredCause
+    ensures { result ≡ cause_of fault }
+{
+    match fault {
+        KeeperFault::Failed => StoredCause::KeeperFault,
+        KeeperFault::NoMemory => StoredCause::NoMemory,
+    }
+}
