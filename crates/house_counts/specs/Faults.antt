@@ -1,0 +1,39 @@
+-- How many faults a history says of a keeper, a shelf and a link.
+use Rattle.std.specs.Prelude.{ℕ, ◌+◌, ◌<◌, ◌≤◌, Bool, true, false, count_by}
+use Rattle.desk_steps.specs.declared.link_fact.LinkFact.{LinkFact}
+use Rattle.desk_steps.specs.declared.link_fact.LinkFact.TheVariants as fact
+use Rattle.octo_asks.specs.History.{History}
+use Rattle.octo_asks.specs.declared.entry.Entry.{Entry}
+use Rattle.octo_asks.specs.declared.entry.Entry.TheVariants as entry
+use Rattle.house_rows.specs.Counts.{is_keepers, is_shelfs}
+
+-- whether a fact says that a call of the link failed
+abbrev pub is_failure : LinkFact → Bool
+is_failure fact.Failed = true
+is_failure _ = false
+
+-- whether the entry is an answer that says that the keeper failed, as a fault or as the cause why a stored file isn't printed
+abbrev pub is_keepers_fault : Entry → Bool
+is_keepers_fault (entry.Call worker ask moment x) = is_keepers x
+is_keepers_fault _ = false
+
+-- whether it is an answer that says that the shelf failed
+abbrev pub is_shelfs_fault : Entry → Bool
+is_shelfs_fault (entry.Call worker ask moment x) = is_shelfs x
+is_shelfs_fault _ = false
+
+-- whether it is a note that says that the link failed
+abbrev pub is_links_fault : Entry → Bool
+is_links_fault (entry.Note note) = is_failure note.fact
+is_links_fault _ = false
+
+-- a count of faults didn't fall, and rose by at least so many, or is at its type's last value
+pub record HasRisen (n before now : ℕ) : Type 0 where
+  pub later : before ≤ now
+  pub rose : now < 18446744073709551615 → before + n ≤ now
+
+-- each fault that the history says was counted: of the keeper, of the shelf and of the link
+pub record AreCounted (keeper keeper' shelf shelf' link link' : ℕ) (h : History) : Type 0 where
+  pub keepers : HasRisen (count_by is_keepers_fault h) keeper keeper'
+  pub shelfs : HasRisen (count_by is_shelfs_fault h) shelf shelf'
+  pub links : HasRisen (count_by is_links_fault h) link link'

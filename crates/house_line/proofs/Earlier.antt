@@ -1,0 +1,97 @@
+-- What further events leave of the sessions before.
+use Rattle.std.proofs.Common.{◌≡◌, ℕ, zero, suc, pred, ◌<◌, ◌≤◌, Bool, true, false, List, [], ◌∷◌, ◌++◌, length, take, drop, refl, sym, ◌∙◌, ap, subst, arith}
+use Rattle.std.specs.Prelude.{◌||◌}
+use Rattle.std.specs.List.{list_all, list_any}
+use Rattle.std.proofs.lemmas.List.Folds.{list_any-append}
+use Rattle.printer_model.specs.Printer.{Logged}
+use Rattle.printer_model.specs.World.{WorldData, is_free}
+use Rattle.printer_model.specs.Executed.{is_send, opens, till, executed}
+use Rattle.printer_model.specs.Exchanged.{session_of}
+use Rattle.printer_model.specs.declared.event.WorldEvent.{WorldEvent}
+use Rattle.printer_model.specs.declared.event.WorldEvent.TheVariants.{Opened, Send, Arrive, Lose, Garble, Run, Restart, Chatter, Recv, Closed}
+use Rattle.printer_model.proofs.Laws.{both_left, both_right}
+use Rattle.printer_model.proofs.Sessions.{executed-append, till-append, till-all}
+use Rattle.printer_link.specs.Link.{LinkKind, world_in}
+use Rattle.send_window.specs.Counting.{acked_of}
+use Rattle.lossy_wires.specs.Traces.{replies_from, AreSendsFit}
+use Rattle.lossy_line.specs.Tied.{logged_from, world_before, IsTied}
+
+pred_below : (s n : ℕ) → s < n → pred s < n
+pred_below zero n below = below
+pred_below (suc s) n below = omega arith
+
+-- a session before the last one stays tied, whatever comes
+pub tied_before : (kind : LinkKind) (issued : List (List ℕ)) (acked : ℕ) (past added : List WorldEvent) (s : ℕ) → s < opens past →
+    IsTied kind issued acked past s → IsTied kind issued acked (past ++ added) s
+tied_before kind issued acked past added s over t =
+    let all : List WorldEvent = past ++ added in
+    let ran : executed kind.slots kind.numbered all s ≡ executed kind.slots kind.numbered past s = executed-append kind.slots kind.numbered past added s over in
+    let here : till s all ≡ till s past = till-append s past added over in
+    let before : till (pred s) all ≡ till (pred s) past = till-append (pred s) past added (pred_below s (opens past) over) in
+    let world : world_before kind all s ≡ world_before kind past s = ap (world_in kind) before in
+    let events : session_of s all ≡ session_of s past =
+    ap (λ (es : List WorldEvent). drop (length es) (till s all)) before ∙ ap (drop (length (till (pred s) past))) here
+    in
+    let E : List Logged → Type 0 = λ l. l ≡ logged_from 1 (take (length l) issued) in
+    let A : List Logged → Type 0 = λ l. acked ≤ length l in
+    let S : WorldData → Type 0 = λ w. AreSendsFit issued [] w (session_of s all) in
+    let V : List WorldEvent → Type 0 = λ es. AreSendsFit issued [] (world_before kind past s) es in
+    record {
+      executed_first = subst E (sym ran) t.executed_first;
+      acked_is = t.acked_is
+          ∙ ap (λ (es : List WorldEvent). acked_of (replies_from (world_before kind past s) es)) (sym events)
+          ∙ ap (λ (w : WorldData). acked_of (replies_from w (session_of s all))) (sym world);
+      acked_run = subst A (sym ran) t.acked_run;
+      sends = subst S (sym world) (subst V (sym events) t.sends);
+    }
+
+-- events that open no session, and then others
+pub till-none : (first more : List WorldEvent) → opens first ≡ 0 → till 0 (first ++ more) ≡ first ++ till 0 more
+till-none [] more none = refl
+till-none (Opened last ∷ first) more none = absurd (omega (arith, none))
+till-none (Send line ∷ first) more none = ap (λ (es : List WorldEvent). Send line ∷ es) (till-none first more none)
+till-none (Arrive ∷ first) more none = ap (λ (es : List WorldEvent). Arrive ∷ es) (till-none first more none)
+till-none (Lose at ∷ first) more none = ap (λ (es : List WorldEvent). Lose at ∷ es) (till-none first more none)
+till-none (Garble at line ∷ first) more none = ap (λ (es : List WorldEvent). Garble at line ∷ es) (till-none first more none)
+till-none (Run ∷ first) more none = ap (λ (es : List WorldEvent). Run ∷ es) (till-none first more none)
+till-none (Restart ∷ first) more none = ap (λ (es : List WorldEvent). Restart ∷ es) (till-none first more none)
+till-none (Chatter reply ∷ first) more none = ap (λ (es : List WorldEvent). Chatter reply ∷ es) (till-none first more none)
+till-none (Recv ∷ first) more none = ap (λ (es : List WorldEvent). Recv ∷ es) (till-none first more none)
+till-none (Closed ∷ first) more none = ap (λ (es : List WorldEvent). Closed ∷ es) (till-none first more none)
+
+free_sends_none : (event : WorldEvent) → is_free event ≡ true → is_send event ≡ false
+free_sends_none (Opened last) free = refl
+free_sends_none (Send line) free = absurd (cc)
+free_sends_none Arrive free = refl
+free_sends_none (Lose at) free = refl
+free_sends_none (Garble at line) free = refl
+free_sends_none Run free = refl
+free_sends_none Restart free = refl
+free_sends_none (Chatter reply) free = refl
+free_sends_none Recv free = refl
+free_sends_none Closed free = refl
+
+-- what the line and the printer do by themselves is no sending
+pub unsent_free : (events : List WorldEvent) → list_all is_free events ≡ true → list_any is_send events ≡ false
+unsent_free [] free = refl
+unsent_free (event ∷ events) free =
+    ap (λ (b : Bool). b || list_any is_send events) (free_sends_none event (both_left (is_free event) (list_all is_free events) free))
+    ∙ unsent_free events (both_right (is_free event) (list_all is_free events) free)
+
+-- nothing is sent before the next session in two parts
+pub unsent_more : (since added : List WorldEvent) → list_any is_send (till 0 since) ≡ false →
+    (opens since ≡ 0 → list_any is_send (till 0 added) ≡ false) → list_any is_send (till 0 (since ++ added)) ≡ false
+unsent_more since added quiet more = by (opens since) refl
+  where
+    neither : (a b : Bool) → a ≡ false → b ≡ false → (a || b) ≡ false
+    neither false b first second = second
+    neither true b first second = absurd (cc)
+
+    by : (n : ℕ) → opens since ≡ n → list_any is_send (till 0 (since ++ added)) ≡ false
+    by zero none =
+        let here : till 0 since ≡ since = till-all 0 since (omega (arith, none)) in
+        ap (λ (es : List WorldEvent). list_any is_send es) (till-none since added none)
+        ∙ list_any-append is_send since (till 0 added)
+        ∙ neither (list_any is_send since) (list_any is_send (till 0 added))
+        (ap (λ (es : List WorldEvent). list_any is_send es) (sym here) ∙ quiet) (more none)
+    by (suc n) some = ap (λ (es : List WorldEvent). list_any is_send es) (till-append 0 since added (omega (arith, some))) ∙ quiet

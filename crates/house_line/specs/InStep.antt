@@ -1,0 +1,67 @@
+-- A host between two turns of its link: its history, the link's history and its session are in step.
+use Rattle.std.specs.Prelude.{◌≡◌, ℕ, zero, suc, ◌+◌, ◌<◌, ◌≤◌, false, List, [], ◌∷◌, ◌++◌, length, Option, Some}
+use Rattle.printer_model.specs.Executed.{opens}
+use Rattle.printer_model.specs.declared.event.WorldEvent.{WorldEvent}
+use Rattle.printer_link.specs.Link.{LinkKind}
+use Rattle.send_window.specs.Data.{IsSound, most_lines}
+use Rattle.octo_session.specs.Data.{SessionData}
+use Rattle.octo_asks.specs.History.{History}
+use Rattle.octo_asks.specs.declared.entry.Entry.TheVariants as entry
+use Rattle.lossy_line.specs.Linked.{IsOpened}
+use Rattle.lossy_line.specs.Tied.{IsTied}
+use Rattle.house_line.specs.Sessions.{sessions, texts_of, acked_in, is_open}
+use Rattle.house_line.specs.Tied.{AreTied, TiedThroughout}
+
+-- entries that are calls
+abbrev pub AreCalls : History → Type 0
+AreCalls [] = Unit {0}
+AreCalls (entry.Call worker ask moment answer ∷ es) = AreCalls es
+AreCalls (entry.Note note ∷ es) = ⊥
+AreCalls (entry.Close ∷ es) = ⊥
+
+-- no link was made yet
+pub record IsUnmade (x : SessionData) : Type 0 where
+  pub down : x.up ≡ false
+  pub sound : IsSound x.sender
+
+-- the host's session, its issued texts and acknowledged lines, and the last link that was made; or none was made yet
+abbrev pub IsCurrent : LinkKind → ℕ → List (List ℕ) → ℕ → List WorldEvent → SessionData → Type 0
+IsCurrent kind zero texts acked past x = IsUnmade x
+IsCurrent kind (suc session) texts acked past x = IsOpened kind texts x past × (x.sender.acked ≡ acked)
+
+-- a history of a host, that of its link since an earlier one, and the host's session
+pub record AreInStep (kind : LinkKind) (front : List WorldEvent) (history : History) (past : List WorldEvent) (x : SessionData) : Type 0 where
+  -- the link was made once for each session
+  pub counted : opens past ≡ opens front + sessions history
+  -- the sessions before the last one are tied
+  pub former : (session : ℕ) → 1 ≤ session → session < sessions history
+      → IsTied kind (texts_of session history) (acked_in session history) past (opens front + session)
+  pub few : (session : ℕ) → session ≤ sessions history → length (texts_of session history) ≤ most_lines
+  -- the last one is the host's
+  pub current : IsCurrent kind (sessions history) (texts_of (sessions history) history) (acked_in (sessions history) history) past x
+  pub open_as : is_open history ≡ x.up
+  pub throughout : TiedThroughout kind front history past
+
+-- a history that is recorded now grew by these entries, and a link's history is recorded and was
+pub record Grown (before now : Option History) (front past : Option (List WorldEvent)) (So : List WorldEvent → History → List WorldEvent → Type 0)
+    (all : History) (events : List WorldEvent) : Type 0 where
+  pub old : History
+  pub added : History
+  pub was : before ≡ Some old
+  pub grew : all ≡ old ++ added
+  pub old_events : List WorldEvent
+  pub was_link : front ≡ Some old_events
+  pub so : So old_events added events
+
+-- if history and link's history are recorded, this holds of what the history grew by and of the link's history
+abbrev pub WhileRecorded : (before now : Option History) → (front past : Option (List WorldEvent)) → (List WorldEvent → History → List WorldEvent → Type 0) → Type 0
+WhileRecorded before now front past So =
+    (all : History) → now ≡ Some all → (events : List WorldEvent) → past ≡ Some events → Grown before now front past So all events
+
+-- a host is in step with its recorded histories
+abbrev pub InStep : LinkKind → (before now : Option History) → (front past : Option (List WorldEvent)) → SessionData → Type 0
+InStep kind before now front past x = WhileRecorded before now front past (λ old added events. AreInStep kind old added events x)
+
+-- what the history grew by is tied to the link's history, now and after every entry
+abbrev pub TiesLines : LinkKind → (before now : Option History) → (front past : Option (List WorldEvent)) → Type 0
+TiesLines kind before now front past = WhileRecorded before now front past (λ old added events. AreTied kind old added events)

@@ -1,0 +1,4 @@
+-- A host's history beside the recorded history of its link.
+pub mod Sessions
+pub mod Tied
+pub mod InStep

@@ -1,0 +1,41 @@
+-- A history and the recorded history of a link, side by side.
+use Rattle.std.specs.Prelude.{◌≡◌, ℕ, ◌+◌, ◌≤◌, false, List, ◌++◌, length}
+use Rattle.std.specs.List.{list_any}
+use Rattle.printer_model.specs.Executed.{is_send, opens, till}
+use Rattle.printer_model.specs.declared.event.WorldEvent.{WorldEvent}
+use Rattle.printer_link.specs.Link.{LinkKind}
+use Rattle.send_window.specs.Data.{most_lines}
+use Rattle.octo_asks.specs.History.{History}
+use Rattle.lossy_line.specs.Tied.{IsTied}
+use Rattle.house_line.specs.Sessions.{sessions, texts_of, acked_in, is_open}
+
+-- Session by session a history is tied to what happened on its link since an earlier history of the link: what the printer
+-- executed are the first of the lines that the history says were issued, in order and each once; the acknowledged lines
+-- are counted over the received replies, and all of them were executed; and each line that was sent is the hello or an
+-- issued line above those acknowledged.
+pub record Tied (kind : LinkKind) (front : List WorldEvent) (history : History) (past : List WorldEvent) : Type 0 where
+  -- the link was made once for each session
+  pub counted : opens past ≡ opens front + sessions history
+  pub each : (session : ℕ) → 1 ≤ session → session ≤ sessions history
+      → IsTied kind (texts_of session history) (acked_in session history) past (opens front + session)
+  -- a session issues at most as many lines as it has numbers for
+  pub few : (session : ℕ) → session ≤ sessions history → length (texts_of session history) ≤ most_lines
+
+-- the two were tied when the history had come so far
+pub record WasTied (kind : LinkKind) (front : List WorldEvent) (history : History) (past : List WorldEvent) : Type 0 where
+  -- what the link had recorded then, and what it has since
+  pub so_far : List WorldEvent
+  pub since : List WorldEvent
+  pub is : past ≡ so_far ++ since
+  pub tied : Tied kind front history so_far
+  -- once a session is closed no line is sent in it any more
+  pub unsent : is_open history ≡ false → list_any is_send (till 0 since) ≡ false
+
+-- the two were tied after every entry
+abbrev pub TiedThroughout : LinkKind → List WorldEvent → History → List WorldEvent → Type 0
+TiedThroughout kind front history past = (first later : History) → history ≡ first ++ later → WasTied kind front first past
+
+-- they are tied now, and were after every entry
+pub record AreTied (kind : LinkKind) (front : List WorldEvent) (history : History) (past : List WorldEvent) : Type 0 where
+  pub now : Tied kind front history past
+  pub throughout : TiedThroughout kind front history past

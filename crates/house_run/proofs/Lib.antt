@@ -1,0 +1,7 @@
+pub mod Asking
+pub mod Noting
+pub mod Rounds
+pub mod Running
+pub mod Tallying
+pub mod Turning
+pub mod Tying

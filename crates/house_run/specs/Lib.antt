@@ -1,0 +1,4 @@
+-- The words of a host's run over a counter.
+pub mod Runs
+pub mod Tallies
+pub mod Turns

@@ -1,0 +1,51 @@
+-- Where a run has led a host.
+use Rattle.std.specs.Prelude.{◌≡◌, ◌⊎◌, ℕ, ◌≤◌, Bool, true, false, List, Option, Some}
+use Rattle.octo_outside.specs.Told.{Became}
+use Rattle.octo_keeper.specs.declared.shelf.ShelfFile.{ShelfFile}
+use Rattle.octo_asks.specs.History.{History}
+use Rattle.send_window.specs.Data.{IsSound}
+use Rattle.octo_session.specs.Data.{SessionData}
+use Rattle.house_history.specs.Legal.{Standing, beginning}
+use Rattle.house_walks.specs.Stands.{StandsAt}
+use Rattle.house_walks.specs.Walks.{Walks}
+use Rattle.house_walks.specs.Counted.{calls_made, leaves_made, is_shut}
+use Rattle.octo_house.specs.declared.house.House.{House}
+use Rattle.octo_house.specs.State.{known_of, session_of}
+use Rattle.house_counts.specs.Moments.{AreBetween}
+use Rattle.house_run.specs.Tallies.{counted}
+
+-- a history and these files have led to this host
+abbrev pub stands : House → ℕ → List ShelfFile → Standing → Type 0
+stands house moment files s = StandsAt s (known_of house) (session_of house) files moment false
+
+-- the history grew by legal entries, which lead from each place of one host to one of another, at moments up to this one
+abbrev pub Leads : (past past' : Option History) → (files files' : Option (List ShelfFile)) → ℕ → House → House → Type 0
+Leads past past' files files' moment old new =
+    (before : ℕ) → before ≤ moment → Walks past past' files files' (stands old before) (stands new moment)
+
+-- the session of a host that has just begun
+pub record IsFresh (session : SessionData) : Type 0 where
+  pub sound : IsSound session.sender
+  pub down : session.up ≡ false
+
+-- nothing has happened yet
+abbrev pub begins : House → List ShelfFile → Standing → Type 0
+begins house files s = s ≡ beginning (session_of house).sender.window (session_of house).sender.limit (known_of house) files
+
+-- the run is over
+abbrev pub ended : House → List ShelfFile → Standing → Type 0
+ended house files s = (moment : ℕ) × StandsAt s (known_of house) (session_of house) files moment true
+
+-- a whole run: the history grew by a legal one, from the beginning to the end, which leads to this host
+abbrev pub HasRun : (past past' : Option History) → (files files' : Option (List ShelfFile)) → House → House → Type 0
+HasRun past past' files files' old new = Walks past past' files files' (begins old) (ended new)
+
+-- how a run came to its end: a shutdown was accepted, or four workers had left and no print was active; it returns the number of calls
+pub record IsOver (calls : ℕ) (active : Bool) (added : History) : Type 0 where
+  pub calls_are : calls ≡ counted (calls_made added)
+  pub why : (is_shut added ≡ true) ⊎ ((4 ≤ leaves_made added) × (active ≡ false))
+
+-- each moment that was added lies between the clock's first and last, if it records both
+abbrev pub ArePassed : (first last : Option ℕ) → (past past' : Option History) → Type 0
+ArePassed first last past past' =
+    (before : ℕ) → first ≡ Some before → (now : ℕ) → last ≡ Some now → Became past past' (λ _ added. AreBetween before now added)
