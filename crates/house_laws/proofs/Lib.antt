@@ -5,3 +5,4 @@ pub mod Asked
 pub mod Limits
 pub mod Courses
 pub mod Calls
+pub mod Hosts

@@ -1,3 +1,4 @@
 pub mod Limits
 pub mod Courses
 pub mod Calls
+pub mod Hosts

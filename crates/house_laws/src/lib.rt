@@ -1,10 +1,11 @@
-//! Further laws of whole histories of a print host: the limits of its heaters, the courses of its records, and who was denied.
+//! Further laws of whole histories of a print host: the limits of its heaters, the courses of its
+//! prints, and who was denied.
 #![tactic(auto)]
 
 mod laws;
 
 pub use laws::{
     every_call_is_by_a_permitted_caller, every_done_record_has_a_whole_course,
-    every_line_is_within_limits, every_line_of_read_settings_is_within_limits,
-    every_print_follows_a_course,
+    every_host_keeps_the_laws, every_line_is_within_limits,
+    every_line_of_read_settings_is_within_limits, every_print_follows_a_course,
 };

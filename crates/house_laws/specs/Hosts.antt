@@ -1,0 +1,37 @@
+-- What all laws say of a host that has just begun.
+use Rattle.std.specs.Prelude.{ℕ, List, length, All}
+use Rattle.temp_rules.specs.declared.limits.Limits.{Limits}
+use Rattle.desk_steps.specs.Data.{ScriptTexts}
+use Rattle.octo_access.specs.declared.policy.Policy.{Policy}
+use Rattle.octo_keeper.specs.Tables.{AreNumbered}
+use Rattle.octo_keeper.specs.declared.shelf.ShelfFile.{ShelfFile}
+use Rattle.octo_keeper.specs.declared.tables.Tables.{Tables}
+use Rattle.octo_asks.specs.History.{History}
+use Rattle.house_verdicts.specs.Known.{Known}
+use Rattle.house_history.specs.Begins.{Begins}
+use Rattle.house_history.specs.Legal.{Standing, beginning, after_all, Legal}
+use Rattle.house_history.specs.Outcomes.{HasOutcome}
+use Rattle.house_history.specs.Scripts.{KeepsScripts, run_in}
+use Rattle.house_laws.specs.Calls.{ArePermitted}
+use Rattle.house_laws.specs.Courses.{FollowsCourses, HasCourseIfDone}
+use Rattle.house_laws.specs.Limits.{AreCoolScripts, IssuesCoolLines}
+
+-- what holds of a history from where it began
+pub record KeepsLaws (scripts : ScriptTexts) (limits : Limits) (history : History) (s : Standing) : Type 0 where
+  -- prints: their scripts and commands, their courses, and what their records say
+  pub scripts_kept : KeepsScripts scripts history s
+  pub courses : FollowsCourses scripts history s
+  pub outcomes : All (HasOutcome (length s.known.prints) (run_in history s).ends) (after_all history s).known.prints
+  pub done : All (HasCourseIfDone scripts (length s.known.prints) history s) (after_all history s).known.prints
+  -- no issued line is too hot if no script's is
+  pub cool : AreCoolScripts limits scripts → IssuesCoolLines limits history
+  -- calls: who was denied
+  pub permitted : ArePermitted history s
+
+-- the law, for a host that begins on kept tables whose prints are numbered from 1 without a gap
+abbrev pub EveryHostKeepsTheLaws : Type 0
+EveryHostKeepsTheLaws =
+    (scripts : ScriptTexts) (limits : Limits) (poll_ms : ℕ) (policy : Policy) (ports : List (List ℕ)) (material : List ℕ)
+    (tables : Tables) (files held : List ShelfFile) (k : Known) (window limit : ℕ) (history : History)
+    → Begins scripts limits poll_ms policy ports material tables files k → AreNumbered tables.prints
+    → Legal history (beginning window limit k held) → KeepsLaws scripts limits history (beginning window limit k held)
