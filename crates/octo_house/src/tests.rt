@@ -122,20 +122,66 @@ fn link(alloc: Global) -> Result<MemoryLink, Fail> {
     )?)
 }
 
+/// What a host begins with, the material aside.
+#[derive(Drop)]
+struct Setting {
+    session: Session,
+    policy: Policy,
+    ports: NameList,
+}
+
+fn setting_of(alloc: Global) -> Result<Setting, Fail>
+    ensures desk { IfOk result (λ s. s.session.desk
+        ≡ new_desk s.session.desk.scripts s.session.desk.limits s.session.desk.poll_ms) }
+    ensures sender { IfOk result (λ s. s.session.sender
+        ≡ new_sender s.session.sender.window s.session.sender.limit) }
+    ensures down { IfOk result (λ s. s.session.up ≡ false) }
+{
+    let policy = policy(alloc)?;
+    let ports = ports(alloc)?;
+    let session = session(alloc)?;
+    Ok(Setting {
+        session,
+        policy,
+        ports,
+    })
+}
+
+/// A keeper at which these calls fail, counted from 1.
+fn keeper_of(alloc: Global, fails: &[u64]) -> Result<MemoryKeeper, Fail> {
+    let fails = calls(alloc, fails)?;
+    let tables = tables(alloc)?;
+    Ok(MemoryKeeper::new(tables, fails))
+}
+
+/// A shelf at which these calls fail, counted from 1.
+fn shelf_of(alloc: Global, fails: &[u64]) -> Result<MemoryShelf, Fail> {
+    Ok(MemoryShelf::new(alloc, calls(alloc, fails)?))
+}
+
+/// A host with a printer of a material, if it begins.
+fn house_of(
+    alloc: Global,
+    material: &str,
+    keeper: &mut MemoryKeeper,
+    shelf: &mut MemoryShelf,
+) -> Result<Result<House, BeginFault>, Fail> {
+    let material = name(material)?;
+    let Setting {
+        session,
+        policy,
+        ports,
+    } = setting_of(alloc)?;
+    Ok(House::begin(alloc, session, policy, ports, material, keeper, shelf))
+}
+
 /// A host with a printer of a material, at whose keeper and shelf these calls fail, counted from 1.
 fn bench_of(alloc: Global, material: &str, keeper: &[u64], shelf: &[u64]) -> Result<Bench, Fail> {
-    let mut keeper = MemoryKeeper::new(tables(alloc)?, calls(alloc, keeper)?);
-    let mut shelf = MemoryShelf::new(alloc, calls(alloc, shelf)?);
-    let house = House::begin(
-        alloc,
-        session(alloc)?,
-        policy(alloc)?,
-        ports(alloc)?,
-        name(material)?,
-        &mut keeper,
-        &mut shelf,
-    )?;
     let link = link(alloc)?;
+    let mut shelf = shelf_of(alloc, shelf)?;
+    let mut keeper = keeper_of(alloc, keeper)?;
+    let made = house_of(alloc, material, &mut keeper, &mut shelf)?;
+    let house = made?;
     Ok(Bench {
         alloc,
         house,

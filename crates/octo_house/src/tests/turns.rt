@@ -44,15 +44,8 @@ fn begin_after_a_print(rt: HostRuntime) -> Result<(), Fail> {
         mut shelf,
         ..
     } = first;
-    let mut house = House::begin(
-        rt.alloc(),
-        session(rt.alloc())?,
-        policy(rt.alloc())?,
-        ports(rt.alloc())?,
-        name("any")?,
-        &mut keeper,
-        &mut shelf,
-    )?;
+    let made = house_of(rt.alloc(), "any", &mut keeper, &mut shelf)?;
+    let mut house = made?;
     let ask = Ask {
         key: Blob::from_slice(rt.alloc(), ANA)?,
         request: Request::ListPrints,
@@ -70,17 +63,9 @@ fn begin_after_a_print(rt: HostRuntime) -> Result<(), Fail> {
 
 /// Begins a host, at whose keeper and shelf these calls fail.
 fn begin(alloc: Global, keeper: &[u64], shelf: &[u64]) -> Result<Result<House, BeginFault>, Fail> {
-    let mut keeper = MemoryKeeper::new(tables(alloc)?, calls(alloc, keeper)?);
-    let mut shelf = MemoryShelf::new(alloc, calls(alloc, shelf)?);
-    Ok(House::begin(
-        alloc,
-        session(alloc)?,
-        policy(alloc)?,
-        ports(alloc)?,
-        name("any")?,
-        &mut keeper,
-        &mut shelf,
-    ))
+    let mut shelf = shelf_of(alloc, shelf)?;
+    let mut keeper = keeper_of(alloc, keeper)?;
+    house_of(alloc, "any", &mut keeper, &mut shelf)
 }
 
 // A keeper or a shelf whose first call fails.
