@@ -8,8 +8,9 @@ use Rattle.octo_asks.specs.declared.request.Ask.{Ask}
 use Rattle.house_verdicts.specs.Answers.{verdict}
 use Rattle.house_verdicts.specs.Verdict.{May}
 use Rattle.house_verdicts.proofs.Denied.{access}
+use Rattle.house_verdicts.proofs.Repeated.{once}
 use Rattle.house_history.specs.Legal.{Standing, after_entry, IsLegal}
-use Rattle.house_laws.specs.Calls.{IsPermitted, IsPermittedEntry, EveryCallIsPermitted}
+use Rattle.house_laws.specs.Calls.{IsPermitted, IsPermittedEntry, EveryCallIsPermitted, IsEntryOnce, EveryPutIsMadeOnce}
 
 by_answer : (ask : Ask) (x : Answer) (s : Standing) → (x ≡ answer.NoMemory) ⊎ May (verdict ask s.files s.known) x → IsPermitted ask x s
 by_answer ask x s (inl none) = inl none
@@ -23,3 +24,12 @@ by_entry entry.Close s l = tt
 pub every_call : EveryCallIsPermitted
 every_call [] s l = tt
 every_call (e ∷ es) s l = (by_entry e s l.0, every_call es (after_entry e s) l.1)
+
+once_entry : (e : Entry) (s : Standing) → IsLegal e s → IsEntryOnce e s
+once_entry (entry.Call worker ask moment x) s l = λ user kept repeats. once ask user kept s.files s.known x repeats l.1.may
+once_entry (entry.Note note) s l = tt
+once_entry entry.Close s l = tt
+
+pub every_put : EveryPutIsMadeOnce
+every_put [] s l = tt
+every_put (e ∷ es) s l = (once_entry e s l.0, every_put es (after_entry e s) l.1)

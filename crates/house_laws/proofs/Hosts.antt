@@ -9,7 +9,7 @@ use Rattle.house_history.specs.Begins.{row_read}
 use Rattle.house_history.specs.Legal.{Standing, beginning}
 use Rattle.house_history.proofs.Histories.{keeps_scripts, keeps_outcomes}
 use Rattle.house_laws.specs.Hosts.{EveryHostKeepsTheLaws}
-use Rattle.house_laws.proofs.Calls.{every_call}
+use Rattle.house_laws.proofs.Calls.{every_call, every_put}
 use Rattle.house_laws.proofs.Courses.{every_print, every_done_record}
 use Rattle.house_laws.proofs.Limits.{every_line}
 
@@ -41,4 +41,5 @@ every_host scripts limits poll_ms policy ports material tables files held k wind
       done = every_done_record scripts limits poll_ms history s begins.desk few legal;
       cool = λ cool. every_line scripts limits poll_ms history s begins.desk cool legal;
       permitted = every_call history s legal;
+      once = every_put history s legal;
     }

@@ -12,7 +12,7 @@ use Rattle.house_history.specs.Begins.{Begins}
 use Rattle.house_history.specs.Legal.{Standing, beginning, after_all, Legal}
 use Rattle.house_history.specs.Outcomes.{HasOutcome}
 use Rattle.house_history.specs.Scripts.{KeepsScripts, run_in}
-use Rattle.house_laws.specs.Calls.{ArePermitted}
+use Rattle.house_laws.specs.Calls.{ArePermitted, AreMadeOnce}
 use Rattle.house_laws.specs.Courses.{FollowsCourses, HasCourseIfDone}
 use Rattle.house_laws.specs.Limits.{AreCoolScripts, IssuesCoolLines}
 
@@ -25,8 +25,9 @@ pub record KeepsLaws (scripts : ScriptTexts) (limits : Limits) (history : Histor
   pub done : All (HasCourseIfDone scripts (length s.known.prints) history s) (after_all history s).known.prints
   -- no issued line is too hot if no script's is
   pub cool : AreCoolScripts limits scripts → IssuesCoolLines limits history
-  -- calls: who was denied
+  -- calls: who was denied, and puts that were repeated
   pub permitted : ArePermitted history s
+  pub once : AreMadeOnce history s
 
 -- the law, for a host that begins on kept tables whose prints are numbered from 1 without a gap
 abbrev pub EveryHostKeepsTheLaws : Type 0

@@ -1,5 +1,5 @@
 //! The laws.
-ghost use Rattle.house_laws.specs.Calls.{EveryCallIsPermitted};
+ghost use Rattle.house_laws.specs.Calls.{EveryCallIsPermitted, EveryPutIsMadeOnce};
 ghost use Rattle.house_laws.specs.Courses.{EveryDoneRecordHasACourse, EveryPrintFollowsACourse};
 ghost use Rattle.house_laws.specs.Hosts.{EveryHostKeepsTheLaws};
 ghost use Rattle.house_laws.specs.Limits.{EveryLineIsCool, EveryLineOfSettingsIsCool};
@@ -33,6 +33,13 @@ pub fn every_done_record_has_a_whole_course()
 /// permission that it needs, out of memory aside, and a denied one changes nothing.
 pub fn every_call_is_by_a_permitted_caller()
     ensures { EveryCallIsPermitted }
+{}
+
+/// Each call of a legal history that puts an entry which its caller holds already changes nothing. It
+/// shows the entry as it is held, unless the caller may not ask so, the file is gone or memory runs
+/// out, and is never answered by a fault.
+pub fn every_put_is_made_once()
+    ensures { EveryPutIsMadeOnce }
 {}
 
 /// All laws together, for every legal history of a host that begins on kept tables whose prints
