@@ -4,10 +4,12 @@ use Rattle.std.specs.Prelude.{not}
 use Rattle.std.specs.List.{take_while}
 use Rattle.std.proofs.lemmas.List.Sums.{take_while-cons}
 use Rattle.desk_steps.specs.Data.{Line}
+use Rattle.std.specs.Prelude.{Option}
+use Rattle.send_window.specs.declared.session_end.SessionEnd.{SessionEnd}
 use Rattle.octo_asks.specs.History.{History}
 use Rattle.octo_asks.specs.declared.entry.Entry.{Entry}
 use Rattle.house_history.specs.Issued.{is_opened, lines_at, issued_in}
-use Rattle.house_line.specs.Sessions.{sessions, entries_of, acked_at, acked_after, open_at, open_after}
+use Rattle.house_line.specs.Sessions.{sessions, entries_of, acked_at, acked_after, open_at, open_after, end_at, end_after}
 
 -- the entries of a session, by the first entry of the history
 zero_opened : (e : Entry) (es : History) → is_opened e ≡ true → entries_of 0 (e ∷ es) ≡ []
@@ -145,3 +147,7 @@ acked_after-append (e ∷ h) es was = acked_after-append h es (acked_at e was)
 pub open_after-append : (h es : History) (was : Bool) → open_after (h ++ es) was ≡ open_after es (open_after h was)
 open_after-append [] es was = refl
 open_after-append (e ∷ h) es was = open_after-append h es (open_at e was)
+
+pub end_after-append : (h : History) (e : Entry) (was : Option SessionEnd) → end_after (h ++ e ∷ []) was ≡ end_at e
+end_after-append [] e was = refl
+end_after-append (f ∷ h) e was = end_after-append h e (end_at f)

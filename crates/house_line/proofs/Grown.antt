@@ -10,8 +10,7 @@ use Rattle.octo_asks.specs.declared.entry.Entry.{Entry}
 use Rattle.octo_asks.specs.declared.entry.Entry.TheVariants as entry
 use Rattle.house_history.specs.Issued.{is_opened, is_opening, lines_at, issued_in}
 use Rattle.house_history.specs.Legal.{up_after}
-use Rattle.send_window.specs.Data.{most_lines}
-use Rattle.house_line.specs.Sessions.{sessions, entries_of, texts_of, acked_at, acked_after, acked_in, open_at, open_after, is_open}
+use Rattle.house_line.specs.Sessions.{sessions, entries_of, texts_of, most_in, acked_at, acked_after, acked_in, open_at, open_after, is_open}
 use Rattle.house_line.proofs.Entries.{sessions-append, entries-before, entries-last, entries-ended, entries-new, issued_in-append, acked_after-append, open_after-append}
 
 pub below_or : (s n : ℕ) → s < suc n → (s < n) ⊎ (s ≡ n)
@@ -120,31 +119,31 @@ split (f ∷ h) e (g ∷ first) later is = by (split h e first later (cc)) (cc)
     by (within rest front behind) same = within rest (ap (λ (es : History). f ∷ es) front ∙ ap (λ (k : Entry). k ∷ (first ++ rest)) same) behind
 
 -- how many lines each session issued at most, with an entry more
-pub few_other : (h : History) (e : Entry) → is_opened e ≡ false → ((s : ℕ) → s ≤ sessions h → length (texts_of s h) ≤ most_lines) →
-    length (texts_of (sessions h) (h ++ e ∷ [])) ≤ most_lines → (s : ℕ) → s ≤ sessions (h ++ e ∷ []) → length (texts_of s (h ++ e ∷ [])) ≤ most_lines
+pub few_other : (h : History) (e : Entry) → is_opened e ≡ false → ((s : ℕ) → s ≤ sessions h → length (texts_of s h) ≤ most_in s) →
+    length (texts_of (sessions h) (h ++ e ∷ [])) ≤ most_in (sessions h) → (s : ℕ) → s ≤ sessions (h ++ e ∷ []) → length (texts_of s (h ++ e ∷ [])) ≤ most_in s
 few_other h e other few last s most = by (below_or s (sessions h) (omega (arith, most, sessions-other h e other)))
   where
-    by : (s < sessions h) ⊎ (s ≡ sessions h) → length (texts_of s (h ++ e ∷ [])) ≤ most_lines
-    by (inl below) = subst (λ (l : List (List ℕ)). length l ≤ most_lines) (sym (texts-before h e (e ∷ []) s below)) (few s (omega (arith, below)))
-    by (inr same) = subst (λ (k : ℕ). length (texts_of k (h ++ e ∷ [])) ≤ most_lines) (sym same) last
+    by : (s < sessions h) ⊎ (s ≡ sessions h) → length (texts_of s (h ++ e ∷ [])) ≤ most_in s
+    by (inl below) = subst (λ (l : List (List ℕ)). length l ≤ most_in s) (sym (texts-before h e (e ∷ []) s below)) (few s (omega (arith, below)))
+    by (inr same) = subst (λ (k : ℕ). length (texts_of k (h ++ e ∷ [])) ≤ most_in k) (sym same) last
 
-pub few_open : (h : History) (e : Entry) → is_opened e ≡ true → ((s : ℕ) → s ≤ sessions h → length (texts_of s h) ≤ most_lines) →
-    (s : ℕ) → s ≤ sessions (h ++ e ∷ []) → length (texts_of s (h ++ e ∷ [])) ≤ most_lines
+pub few_open : (h : History) (e : Entry) → is_opened e ≡ true → ((s : ℕ) → s ≤ sessions h → length (texts_of s h) ≤ most_in s) →
+    (s : ℕ) → s ≤ sessions (h ++ e ∷ []) → length (texts_of s (h ++ e ∷ [])) ≤ most_in s
 few_open h e opens few s most = by (below_or s (suc (sessions h)) (omega (arith, most, sessions-opened h e opens)))
   where
-    old : (s < sessions h) ⊎ (s ≡ sessions h) → length (texts_of s (h ++ e ∷ [])) ≤ most_lines
-    old (inl below) = subst (λ (l : List (List ℕ)). length l ≤ most_lines) (sym (texts-before h e (e ∷ []) s below)) (few s (omega (arith, below)))
+    old : (s < sessions h) ⊎ (s ≡ sessions h) → length (texts_of s (h ++ e ∷ [])) ≤ most_in s
+    old (inl below) = subst (λ (l : List (List ℕ)). length l ≤ most_in s) (sym (texts-before h e (e ∷ []) s below)) (few s (omega (arith, below)))
     old (inr same) =
-        subst (λ (k : ℕ). length (texts_of k (h ++ e ∷ [])) ≤ most_lines) (sym same)
-        (subst (λ (l : List (List ℕ)). length l ≤ most_lines) (sym (texts-ended h e opens)) (few (sessions h) (omega arith)))
+        subst (λ (k : ℕ). length (texts_of k (h ++ e ∷ [])) ≤ most_in k) (sym same)
+        (subst (λ (l : List (List ℕ)). length l ≤ most_in (sessions h)) (sym (texts-ended h e opens)) (few (sessions h) (omega arith)))
 
-    by : (s < suc (sessions h)) ⊎ (s ≡ suc (sessions h)) → length (texts_of s (h ++ e ∷ [])) ≤ most_lines
+    by : (s < suc (sessions h)) ⊎ (s ≡ suc (sessions h)) → length (texts_of s (h ++ e ∷ [])) ≤ most_in s
     by (inl below) = old (below_or s (sessions h) below)
     by (inr same) =
-        subst (λ (k : ℕ). length (texts_of k (h ++ e ∷ [])) ≤ most_lines) (sym same)
-        (subst (λ (l : List (List ℕ)). length l ≤ most_lines) (sym (texts-new h e opens)) (omega arith))
+        subst (λ (k : ℕ). length (texts_of k (h ++ e ∷ [])) ≤ most_in k) (sym same)
+        (subst (λ (l : List (List ℕ)). length l ≤ most_in (suc (sessions h))) (sym (texts-new h e opens)) (omega arith))
 
 -- an empty history issued nothing
-pub few_none : (s : ℕ) → length (texts_of s []) ≤ most_lines
+pub few_none : (s : ℕ) → length (texts_of s []) ≤ most_in s
 few_none zero = omega arith
 few_none (suc s) = omega arith

@@ -5,3 +5,4 @@ pub mod Grown
 pub mod Turns
 pub mod Stepping
 pub mod Recorded
+pub mod Later

@@ -15,6 +15,7 @@ use Rattle.octo_asks.specs.declared.entry.Entry.TheVariants as entry
 use Rattle.house_history.specs.Issued.{is_opening}
 use Rattle.house_history.specs.Legal.{up_after}
 use Rattle.lossy_line.proofs.Told.{IsKept, turned_by}
+use Rattle.house_line.specs.Sessions.{end_of}
 use Rattle.house_line.specs.Tied.{AreTied}
 use Rattle.house_line.specs.InStep.{AreCalls, IsUnmade, AreInStep, InStep, TiesLines}
 use Rattle.house_line.proofs.Stepping.{begin_step, calls_step, still_step, noted_step, silent_step, end_step}
@@ -62,7 +63,7 @@ module _ (kind : LinkKind) (before now now' : Option History) (front link : Opti
             ∙ append_assoc g.old g.added (entry.Note note ∷ []);
         old_events = g.old_events;
         was_link = g.was_link;
-        so = still_step kind g.old_events g.added events x y (entry.Note note) (opens_none note.fact quiet)
+        so = still_step kind g.old_events g.added events x y (entry.Note note) (opens_none note.fact quiet) (ap end_of quiet)
             (ap (map line_of) silent) (λ was same. acked ∙ same) (λ was. ap (λ (f : LinkFact). up_after f was) quiet) sender up g.so;
       }
     where

@@ -1,5 +1,5 @@
 -- A host stays in step with its histories.
-use Rattle.std.proofs.Common.{length, ◌≡◌, ◌⊎◌, inl, inr, ℕ, zero, suc, ◌+◌, ◌<◌, ◌≤◌, Bool, true, false, List, [], ◌∷◌, ◌++◌, refl, sym, ◌∙◌, ap, subst, append_assoc, append-nil, arith}
+use Rattle.std.proofs.Common.{Some, None, length, ◌≡◌, ◌⊎◌, inl, inr, ℕ, zero, suc, ◌+◌, ◌<◌, ◌≤◌, Bool, true, false, List, [], ◌∷◌, ◌++◌, refl, sym, ◌∙◌, ap, subst, append_assoc, append-nil, arith}
 use Rattle.std.specs.List.{list_any}
 use Rattle.desk_steps.specs.declared.issued.Note.{Note}
 use Rattle.desk_steps.specs.declared.link_fact.LinkFact.{LinkFact}
@@ -12,7 +12,8 @@ use Rattle.printer_model.specs.declared.event.WorldEvent.TheVariants.{Opened}
 use Rattle.printer_model.proofs.Sessions.{opens-append}
 use Rattle.printer_link.specs.Link.{LinkKind, IsHangUp, world_in}
 use Rattle.send_window.specs.Counting.{IsQuiet}
-use Rattle.send_window.specs.Data.{SenderData, IsSound, most_lines}
+use Rattle.send_window.specs.Data.{SenderData, IsSound}
+use Rattle.send_window.specs.declared.session_end.SessionEnd.{SessionEnd}
 use Rattle.octo_session.specs.Data.{SessionData, doing}
 use Rattle.octo_session.specs.Found.{Got, can_find}
 use Rattle.octo_session.specs.Found as found
@@ -26,14 +27,15 @@ use Rattle.house_history.specs.Issued.{is_opened, is_opening, lines_at}
 use Rattle.house_history.specs.Legal.{up_after}
 use Rattle.house_history.specs.Noted.{lines_in}
 use Rattle.lossy_wires.specs.Traces.{IsTraced}
-use Rattle.lossy_line.specs.Linked.{IsCaused, IsOpened}
-use Rattle.lossy_line.specs.Tied.{IsTied}
+use Rattle.lossy_line.specs.Linked.{IsCaused, IsOpened, opened}
+use Rattle.lossy_line.specs.Tied.{IsTied, IsEndCaused}
+use Rattle.lossy_line.proofs.Promised.{turn_caused}
 use Rattle.lossy_line.proofs.Turned.{IsTurned, talks_up}
 use Rattle.lossy_line.proofs.Tying.{opened_tied}
-use Rattle.house_line.specs.Sessions.{sessions, texts_of, acked_at, acked_in, open_at, open_after, is_open}
+use Rattle.house_line.specs.Sessions.{sessions, texts_of, most_in, acked_at, acked_in, open_at, open_after, is_open, end_of, end_at}
 use Rattle.house_line.specs.Tied.{Tied, WasTied, TiedThroughout, AreTied}
 use Rattle.house_line.specs.InStep.{AreCalls, IsUnmade, IsCurrent, AreInStep}
-use Rattle.house_line.proofs.Entries.{sessions-append, open_after-append}
+use Rattle.house_line.proofs.Entries.{sessions-append, open_after-append, end_after-append}
 use Rattle.house_line.proofs.Earlier.{tied_before, unsent_more}
 use Rattle.house_line.proofs.Grown.{below_or, few_other, few_open, few_none, texts-before, acked-before, sessions-other, texts-last, acked-last, sessions-opened, texts-ended, acked-ended, texts-new, acked-new, open-after, shut_after, Split, whole, within, split}
 use Rattle.house_line.proofs.Longer.{hung_tied}
@@ -47,7 +49,7 @@ leaves_of kind front h past x i = record { counted = i.counted; former = i.forme
 -- then they are tied
 pub tied_by : (kind : LinkKind) (front : List WorldEvent) (h : History) (past : List WorldEvent) (x : SessionData) → opens past ≡ opens front + sessions h →
     ((s : ℕ) → 1 ≤ s → s < sessions h → IsTied kind (texts_of s h) (acked_in s h) past (opens front + s)) →
-    ((s : ℕ) → s ≤ sessions h → length (texts_of s h) ≤ most_lines) → IsCurrent kind (sessions h) (texts_of (sessions h) h) (acked_in (sessions h) h) past x →
+    ((s : ℕ) → s ≤ sessions h → length (texts_of s h) ≤ most_in s) → IsCurrent kind (sessions h) (texts_of (sessions h) h) (acked_in (sessions h) h) past x →
     Tied kind front h past
 tied_by kind front h past x counted former few current = record { counted = counted; each = λ s some most. each s some (below_or s (sessions h) (omega (arith, most))); few = few }
   where
@@ -77,6 +79,7 @@ longer_throughout kind front h past added counted quiet all first later is =
       since = w.since ++ added;
       is = ap (λ (es : List WorldEvent). es ++ added) w.is ∙ append_assoc w.so_far w.since added;
       tied = w.tied;
+      caused = w.caused;
       unsent = λ shut. unsent_more w.since added (w.unsent shut) (λ none. quiet (still_shut w shut none));
     }
   where
@@ -89,13 +92,20 @@ longer_throughout kind front h past added counted quiet all first later is =
 
 -- an entry more, after which the two are tied
 pub entry_throughout : (kind : LinkKind) (front : List WorldEvent) (h : History) (e : Entry) (past : List WorldEvent) → Tied kind front (h ++ e ∷ []) past →
-    TiedThroughout kind front h past → TiedThroughout kind front (h ++ e ∷ []) past
-entry_throughout kind front h e past tied all first later is = by (split h e first later is)
+    ((end : SessionEnd) → end_at e ≡ Some end → IsEndCaused kind end past) → TiedThroughout kind front h past → TiedThroughout kind front (h ++ e ∷ []) past
+entry_throughout kind front h e past tied caused all first later is = by (split h e first later is)
   where
     by : Split h e first later → WasTied kind front first past
     by (whole same none) =
         subst (λ (f : History). WasTied kind front f past) (sym same)
-        (record { so_far = past; since = []; is = sym (append-nil past); tied = tied; unsent = λ shut. refl })
+        (record {
+          so_far = past;
+          since = [];
+          is = sym (append-nil past);
+          tied = tied;
+          caused = λ end ends. caused end (sym (end_after-append h e None) ∙ ends);
+          unsent = λ shut. refl;
+        })
     by (within rest at behind) = all first rest at
 
 -- the session with another desk
@@ -132,16 +142,16 @@ current_as kind n m texts other acked other_acked past x same_n same_texts same_
 
 module _ (kind : LinkKind) (front : List WorldEvent) (h : History) (past : List WorldEvent) (x y : SessionData) where
   -- an entry that issues and acknowledges nothing: a call, or a note that only the desk has changed
-  pub still_step : (e : Entry) → is_opened e ≡ false → lines_at e ≡ [] → ((was : ℕ) → x.sender.acked ≡ was → acked_at e was ≡ was) →
+  pub still_step : (e : Entry) → is_opened e ≡ false → end_at e ≡ None → lines_at e ≡ [] → ((was : ℕ) → x.sender.acked ≡ was → acked_at e was ≡ was) →
       ((was : Bool) → open_at e was ≡ was) → y.sender ≡ x.sender → y.up ≡ x.up → AreInStep kind front h past x → AreInStep kind front (h ++ e ∷ []) past y
-  still_step e other silent same_acked same_open sender up i =
+  still_step e other endless silent same_acked same_open sender up i =
       let n : sessions (h ++ e ∷ []) ≡ sessions h = sessions-other h e other in
       let texts : texts_of (sessions h) (h ++ e ∷ []) ≡ texts_of (sessions h) h =
       texts-last h e other ∙ ap (λ (l : List (List ℕ)). texts_of (sessions h) h ++ l) (ap texts_in silent) ∙ append-nil (texts_of (sessions h) h)
       in
       let counted : opens past ≡ opens front + sessions (h ++ e ∷ []) = omega (arith, i.counted, n) in
       let former = λ (s : ℕ) (some : 1 ≤ s) (below : s < sessions (h ++ e ∷ [])). earlier s some (omega (arith, below, n)) i in
-      let few = few_other h e other i.few (subst (λ (l : List (List ℕ)). length l ≤ most_lines) (sym texts) (i.few (sessions h) (omega arith))) in
+      let few = few_other h e other i.few (subst (λ (l : List (List ℕ)). length l ≤ most_in (sessions h)) (sym texts) (i.few (sessions h) (omega arith))) in
       let current = now (sessions h) (sessions (h ++ e ∷ [])) (sym n) (texts_of (sessions h) h) (acked_in (sessions h) h) texts (acked-last h e other) i.current in
       record {
         counted = counted;
@@ -149,7 +159,8 @@ module _ (kind : LinkKind) (front : List WorldEvent) (h : History) (past : List 
         few = few;
         current = current;
         open_as = open-after h e ∙ same_open (is_open h) ∙ i.open_as ∙ sym up;
-        throughout = entry_throughout kind front h e past (tied_by kind front (h ++ e ∷ []) past y counted former few current) i.throughout;
+        throughout = entry_throughout kind front h e past (tied_by kind front (h ++ e ∷ []) past y counted former few current)
+            (λ end ends. absurd (let no : None ≡ Some end = sym endless ∙ ends in cc no)) i.throughout;
       }
     where
       earlier : (s : ℕ) → 1 ≤ s → s < sessions h → AreInStep kind front h past x →
@@ -203,8 +214,25 @@ opened_fact fact.NoPort is = absurd (cc)
 opened_fact fact.Failed is = absurd (cc)
 opened_fact (fact.Ended end) is = absurd (cc)
 
+-- a fact that is an end
+end_is : (f : LinkFact) (end : SessionEnd) → end_of f ≡ Some end → f ≡ fact.Ended end
+end_is (fact.Ended why) end is = (let same : why ≡ end = cc in ap fact.Ended same)
+end_is fact.Quiet end is = absurd (cc is)
+end_is fact.Opened end is = absurd (cc is)
+end_is fact.Ready end is = absurd (cc is)
+end_is fact.Closed end is = absurd (cc is)
+end_is fact.NoPort end is = absurd (cc is)
+end_is fact.Failed end is = absurd (cc is)
+
+-- only a turn that talks ends a session
+ends_talking : (end : SessionEnd) (d : Doing) → can_find d (fact.Ended end) ≡ true → d ≡ Talking
+ends_talking end Talking can = refl
+ends_talking end Dialling can = absurd (cc)
+ends_talking end HangingUp can = absurd (cc)
+ends_talking end Resting can = absurd (cc)
+
 other_fact : (f : LinkFact) → is_opening f ≡ false → f ≡ fact.Opened → ⊥
-other_fact f is opened = (let no : true ≡ false = ap is_opening (sym opened) ∙ is in absurd (cc))
+other_fact f is same = (let no : true ≡ false = ap is_opening (sym same) ∙ is in absurd (cc))
 
 module _ (moment : ℕ) (kind : LinkKind) (x y : SessionData) (got : Got) (f : LinkFact) (texts : List (List ℕ)) (front : List WorldEvent) (h : History)
     (past added : List WorldEvent) (t : IsTurned moment kind x y got f texts (world_in kind past) added) (i : AreInStep kind front h past x) where
@@ -214,6 +242,17 @@ module _ (moment : ℕ) (kind : LinkKind) (x y : SessionData) (got : Got) (f : L
 
   along : TiedThroughout kind front h (past ++ added)
   along = longer_throughout kind front h past added i.counted quiet_turn i.throughout
+
+  -- an end has its cause
+  caused_turn : (end : SessionEnd) → f ≡ fact.Ended end → IsEndCaused kind end (past ++ added)
+  caused_turn end is = by (sessions h) (texts_of (sessions h) h) (acked_in (sessions h) h) i.current
+    where
+      by : (n : ℕ) (issued : List (List ℕ)) (acked : ℕ) → IsCurrent kind n issued acked past x → IsEndCaused kind end (past ++ added)
+      by zero issued acked u =
+          let talks : doing x ≡ Talking = ends_talking end (doing x) (subst (λ (g : LinkFact). can_find (doing x) g ≡ true) is t.can) in
+          let no : true ≡ false = sym (talks_up x talks) ∙ u.down in
+          absurd (cc no)
+      by (suc n) issued acked c = turn_caused moment kind x y got f texts issued past added end is t (opened c.0)
 
   open_then : (was : Bool) → was ≡ x.up → up_after f was ≡ y.up
   open_then was is = ap (λ (b : Bool). up_after f b) is ∙ open_turn (doing x) f x.up t.can (λ talks. talks_up x talks) ∙ sym t.up
@@ -234,7 +273,7 @@ module _ (moment : ℕ) (kind : LinkKind) (x y : SessionData) (got : Got) (f : L
         let texts_now : texts_of (sessions h) (h ++ e ∷ []) ≡ texts_of (sessions h) h ++ texts =
         texts-last h e other ∙ ap (λ (l : List (List ℕ)). texts_of (sessions h) h ++ l) its_texts
         in
-        let few = few_other h e other i.few (subst (λ (l : List (List ℕ)). length l ≤ most_lines) (sym texts_now) l.few) in
+        let few = few_other h e other i.few (subst (λ (l : List (List ℕ)). length l ≤ most_in (sessions h)) (sym texts_now) l.few) in
         let current : IsCurrent kind (sessions (h ++ e ∷ [])) (texts_of (sessions (h ++ e ∷ [])) (h ++ e ∷ [])) (acked_in (sessions (h ++ e ∷ [])) (h ++ e ∷ [])) (past ++ added) y =
         subst (λ (k : ℕ). IsCurrent kind k (texts_of k (h ++ e ∷ [])) (acked_in k (h ++ e ∷ [])) (past ++ added) y) (sym n)
         (current_as kind (sessions h) (sessions h) (texts_of (sessions h) h ++ texts) (texts_of (sessions h) (h ++ e ∷ [])) note.acked (acked_in (sessions h) (h ++ e ∷ []))
@@ -246,7 +285,8 @@ module _ (moment : ℕ) (kind : LinkKind) (x y : SessionData) (got : Got) (f : L
           few = few;
           current = current;
           open_as = open-after h e ∙ ap (λ (g : LinkFact). up_after g (is_open h)) its_fact ∙ open_then (is_open h) i.open_as;
-          throughout = entry_throughout kind front h e (past ++ added) (tied_by kind front (h ++ e ∷ []) (past ++ added) y counted former few current) along;
+          throughout = entry_throughout kind front h e (past ++ added) (tied_by kind front (h ++ e ∷ []) (past ++ added) y counted former few current)
+              (λ end ends. caused_turn end (sym its_fact ∙ end_is note.fact end ends)) along;
         }
       where
         earlier : (s : ℕ) → 1 ≤ s → s < sessions h → IsTied kind (texts_of s h) (acked_in s h) (past ++ added) (opens front + s) →
@@ -278,7 +318,8 @@ module _ (moment : ℕ) (kind : LinkKind) (x y : SessionData) (got : Got) (f : L
           few = few;
           current = current;
           open_as = open-after h e ∙ ap (λ (g : LinkFact). up_after g (is_open h)) its_fact ∙ open_then (is_open h) i.open_as;
-          throughout = entry_throughout kind front h e (past ++ added) (tied_by kind front (h ++ e ∷ []) (past ++ added) y counted former few current) along;
+          throughout = entry_throughout kind front h e (past ++ added) (tied_by kind front (h ++ e ∷ []) (past ++ added) y counted former few current)
+              (λ end ends. caused_turn end (sym its_fact ∙ end_is note.fact end ends)) along;
         }
       where
         texts_now : (s : ℕ) → (s < sessions h) ⊎ (s ≡ sessions h) → texts_of s (h ++ e ∷ []) ≡ texts_of s h
@@ -351,7 +392,7 @@ module _ (kind : LinkKind) (front : List WorldEvent) where
   calls_step (entry.Call worker ask moment answer ∷ added) h past x y calls sender up i =
       subst (λ (es : History). AreInStep kind front es past y) (append_assoc h (entry.Call worker ask moment answer ∷ []) added)
       (calls_step added (h ++ entry.Call worker ask moment answer ∷ []) past x y calls sender up
-      (still_step kind front h past x x (entry.Call worker ask moment answer) refl refl (λ was is. refl) (λ was. refl) refl refl i))
+      (still_step kind front h past x x (entry.Call worker ask moment answer) refl refl refl (λ was is. refl) (λ was. refl) refl refl i))
   calls_step (entry.Note note ∷ added) h past x y calls sender up i = absurd calls
   calls_step (entry.Close ∷ added) h past x y calls sender up i = absurd calls
 
@@ -372,6 +413,7 @@ module _ (kind : LinkKind) (front : List WorldEvent) where
         since = [];
         is = sym (append-nil past);
         tied = record { counted = omega (arith, ap opens is); each = λ s some most. absurd (omega (arith, some, most)); few = λ s most. few_none s };
+        caused = λ end ends. absurd (cc ends);
         unsent = λ shut. refl;
       }
       by (e ∷ first) later split = absurd (cc)
@@ -387,14 +429,14 @@ module _ (kind : LinkKind) (front : List WorldEvent) where
           AreTied kind front (h ++ entry.Close ∷ []) (past ++ added)
       closes none quiet last =
           let n : sessions (h ++ entry.Close ∷ []) ≡ sessions h = sessions-other h entry.Close refl in
-          let few = few_other h entry.Close refl i.few (subst (λ (l : List (List ℕ)). length l ≤ most_lines) (sym texts_now) (i.few (sessions h) (omega arith))) in
+          let few = few_other h entry.Close refl i.few (subst (λ (l : List (List ℕ)). length l ≤ most_in (sessions h)) (sym texts_now) (i.few (sessions h) (omega arith))) in
           let counted : opens (past ++ added) ≡ opens front + sessions (h ++ entry.Close ∷ []) = omega (arith, opens-append past added, none, i.counted, n) in
           let tied : Tied kind front (h ++ entry.Close ∷ []) (past ++ added) =
           record { counted = counted; each = λ s some most. each s some (below_or s (sessions h) (omega (arith, most, n))) last; few = few }
           in
           record {
             now = tied;
-            throughout = entry_throughout kind front h entry.Close (past ++ added) tied (longer_throughout kind front h past added i.counted (λ shut. quiet) i.throughout);
+            throughout = entry_throughout kind front h entry.Close (past ++ added) tied (λ end ends. absurd (cc ends)) (longer_throughout kind front h past added i.counted (λ shut. quiet) i.throughout);
           }
         where
           texts_now : texts_of (sessions h) (h ++ entry.Close ∷ []) ≡ texts_of (sessions h) h

@@ -23,6 +23,7 @@ use Rattle.lossy_line.proofs.Turned.{IsTurned, talks_up, opens_dialling, idle_st
 use Rattle.lossy_line.proofs.Turning.{going_on}
 use Rattle.lossy_turns.proofs.Turns.{none_opened, made_now}
 use Rattle.lossy_turns.specs.History.{IsMade}
+use Rattle.house_line.specs.Sessions.{most_in}
 use Rattle.house_line.specs.InStep.{IsUnmade, IsCurrent}
 use Rattle.house_line.proofs.Longer.{dialled_tied}
 use Rattle.house_line.proofs.Grown.{below_or}
@@ -94,7 +95,7 @@ pub record Leaves (kind : LinkKind) (front : List WorldEvent) (n : ℕ) (texts :
   pub counted : opens past ≡ opens front + n
   pub former : (s : ℕ) → 1 ≤ s → s < n → IsTied kind (texts s) (acked s) past (opens front + s)
   pub current : IsCurrent kind n last last_acked past x
-  pub few : length last ≤ most_lines
+  pub few : length last ≤ most_in n
 
 -- an opened session issued at most as many lines as it has numbers for
 pub few_opened : (kind : LinkKind) (issued : List (List ℕ)) (x : SessionData) (past : List WorldEvent) → IsOpened kind issued x past → length issued ≤ most_lines
@@ -132,7 +133,7 @@ module _ (moment : ℕ) (kind : LinkKind) (old new : SessionData) (got : Got) (f
         counted = omega (arith, opens-append past added, l.counted, none.opens_none);
         former = former_stay front past added zero texts acked l.counted l.former;
         current = unmade_stays past added other t l.current;
-        few = subst (λ (l : List (List ℕ)). length l ≤ most_lines) (sym (none_issued idle t)) l.few;
+        few = subst (λ (l : List (List ℕ)). length l ≤ 0) (sym (none_issued idle t)) l.few;
       }
     where
       none_issued : (doing old ≡ Talking → ⊥) → IsTurned moment kind old new got found issued (world_in kind past) added → texts 0 ++ issued ≡ texts 0

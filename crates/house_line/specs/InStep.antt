@@ -3,13 +3,13 @@ use Rattle.std.specs.Prelude.{◌≡◌, ℕ, zero, suc, ◌+◌, ◌<◌, ◌�
 use Rattle.printer_model.specs.Executed.{opens}
 use Rattle.printer_model.specs.declared.event.WorldEvent.{WorldEvent}
 use Rattle.printer_link.specs.Link.{LinkKind}
-use Rattle.send_window.specs.Data.{IsSound, most_lines}
+use Rattle.send_window.specs.Data.{IsSound}
 use Rattle.octo_session.specs.Data.{SessionData}
 use Rattle.octo_asks.specs.History.{History}
 use Rattle.octo_asks.specs.declared.entry.Entry.TheVariants as entry
 use Rattle.lossy_line.specs.Linked.{IsOpened}
 use Rattle.lossy_line.specs.Tied.{IsTied}
-use Rattle.house_line.specs.Sessions.{sessions, texts_of, acked_in, is_open}
+use Rattle.house_line.specs.Sessions.{sessions, texts_of, most_in, acked_in, is_open}
 use Rattle.house_line.specs.Tied.{AreTied, TiedThroughout}
 
 -- entries that are calls
@@ -36,7 +36,7 @@ pub record AreInStep (kind : LinkKind) (front : List WorldEvent) (history : Hist
   -- the sessions before the last one are tied
   pub former : (session : ℕ) → 1 ≤ session → session < sessions history
       → IsTied kind (texts_of session history) (acked_in session history) past (opens front + session)
-  pub few : (session : ℕ) → session ≤ sessions history → length (texts_of session history) ≤ most_lines
+  pub few : (session : ℕ) → session ≤ sessions history → length (texts_of session history) ≤ most_in session
   -- the last one is the host's
   pub current : IsCurrent kind (sessions history) (texts_of (sessions history) history) (acked_in (sessions history) history) past x
   pub open_as : is_open history ≡ x.up

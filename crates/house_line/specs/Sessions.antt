@@ -1,6 +1,10 @@
 -- The sessions of a history.
-use Rattle.std.specs.Prelude.{ℕ, suc, Bool, false, not, List, [], ◌∷◌, if◌then◌else◌}
+use Rattle.std.specs.Prelude.{ℕ, zero, suc, Bool, false, not, List, [], ◌∷◌, if◌then◌else◌, Option, Some, None}
 use Rattle.std.specs.List.{take_while}
+use Rattle.desk_steps.specs.declared.link_fact.LinkFact.{LinkFact}
+use Rattle.desk_steps.specs.declared.link_fact.LinkFact.TheVariants as fact
+use Rattle.send_window.specs.Data.{most_lines}
+use Rattle.send_window.specs.declared.session_end.SessionEnd.{SessionEnd}
 use Rattle.octo_session.specs.Turn.{texts_in}
 use Rattle.octo_asks.specs.History.{History}
 use Rattle.octo_asks.specs.declared.entry.Entry.{Entry}
@@ -20,6 +24,11 @@ entries_of session history = take_while (λ e. not (is_opened e)) (after_opening
 -- the texts of the lines that a session issued
 abbrev pub texts_of : ℕ → History → List (List ℕ)
 texts_of session history = texts_in (issued_of session history)
+
+-- how many lines a session may issue: as many as it has numbers for, and none before the first session
+abbrev pub most_in : ℕ → ℕ
+most_in zero = 0
+most_in (suc session) = most_lines
 
 -- how many lines are acknowledged after an entry
 abbrev pub acked_at : Entry → ℕ → ℕ
@@ -50,3 +59,23 @@ open_after (e ∷ es) was = open_after es (open_at e was)
 -- whether a session is open after a whole history
 abbrev pub is_open : History → Bool
 is_open history = open_after history false
+
+-- the end of a session that a fact is, if it is one
+abbrev pub end_of : LinkFact → Option SessionEnd
+end_of (fact.Ended end) = Some end
+end_of _ = None
+
+-- the end of a session that an entry notes, if it notes one
+abbrev pub end_at : Entry → Option SessionEnd
+end_at (entry.Call worker ask moment answer) = None
+end_at (entry.Note note) = end_of note.fact
+end_at entry.Close = None
+
+-- that of the last of some entries
+abbrev pub end_after : History → Option SessionEnd → Option SessionEnd
+end_after [] was = was
+end_after (e ∷ es) was = end_after es (end_at e)
+
+-- that of the last entry of a history
+abbrev pub last_end : History → Option SessionEnd
+last_end history = end_after history None

@@ -1,13 +1,17 @@
 -- A history and the recorded history of a link, side by side.
-use Rattle.std.specs.Prelude.{◌≡◌, ℕ, ◌+◌, ◌≤◌, false, List, ◌++◌, length}
+use Rattle.std.specs.Prelude.{◌≡◌, ◌⊎◌, ℕ, ◌+◌, ◌≤◌, true, false, List, [], ◌∷◌, ◌++◌, length, Some}
 use Rattle.std.specs.List.{list_any}
+use Rattle.marlin_frame.specs.Frame.{fails}
+use Rattle.marlin_frame.specs.Numbering.{hello_frame}
 use Rattle.printer_model.specs.Executed.{is_send, opens, till}
 use Rattle.printer_model.specs.declared.event.WorldEvent.{WorldEvent}
+use Rattle.printer_model.specs.declared.event.WorldEvent.TheVariants.{Send}
 use Rattle.printer_link.specs.Link.{LinkKind}
-use Rattle.send_window.specs.Data.{most_lines}
+use Rattle.send_window.specs.declared.session_end.SessionEnd.{SessionEnd}
 use Rattle.octo_asks.specs.History.{History}
-use Rattle.lossy_line.specs.Tied.{IsTied}
-use Rattle.house_line.specs.Sessions.{sessions, texts_of, acked_in, is_open}
+use Rattle.lossy_wires.specs.Traces.{IsLineAbove}
+use Rattle.lossy_line.specs.Tied.{IsTied, IsEndCaused}
+use Rattle.house_line.specs.Sessions.{sessions, texts_of, most_in, acked_in, is_open, last_end}
 
 -- Session by session a history is tied to what happened on its link since an earlier history of the link: what the printer
 -- executed are the first of the lines that the history says were issued, in order and each once; the acknowledged lines
@@ -18,8 +22,8 @@ pub record Tied (kind : LinkKind) (front : List WorldEvent) (history : History) 
   pub counted : opens past ≡ opens front + sessions history
   pub each : (session : ℕ) → 1 ≤ session → session ≤ sessions history
       → IsTied kind (texts_of session history) (acked_in session history) past (opens front + session)
-  -- a session issues at most as many lines as it has numbers for
-  pub few : (session : ℕ) → session ≤ sessions history → length (texts_of session history) ≤ most_lines
+  -- a session issues at most as many lines as it has numbers for, and none is issued before the first
+  pub few : (session : ℕ) → session ≤ sessions history → length (texts_of session history) ≤ most_in session
 
 -- the two were tied when the history had come so far
 pub record WasTied (kind : LinkKind) (front : List WorldEvent) (history : History) (past : List WorldEvent) : Type 0 where
@@ -28,6 +32,8 @@ pub record WasTied (kind : LinkKind) (front : List WorldEvent) (history : Histor
   pub since : List WorldEvent
   pub is : past ≡ so_far ++ since
   pub tied : Tied kind front history so_far
+  -- a session whose end the history has just noted ended with a cause that the link's history shows
+  pub caused : (end : SessionEnd) → last_end history ≡ Some end → IsEndCaused kind end so_far
   -- once a session is closed no line is sent in it any more
   pub unsent : is_open history ≡ false → list_any is_send (till 0 since) ≡ false
 
@@ -39,3 +45,13 @@ TiedThroughout kind front history past = (first later : History) → history ≡
 pub record AreTied (kind : LinkKind) (front : List WorldEvent) (history : History) (past : List WorldEvent) : Type 0 where
   pub now : Tied kind front history past
   pub throughout : TiedThroughout kind front history past
+
+-- a line that was sent when so many lines were acknowledged: the hello, an issued line above those, or one that failed
+abbrev pub IsAbove : List (List ℕ) → ℕ → WorldEvent → Type 0
+IsAbove texts acked (Send line) = (line.items ≡ hello_frame) ⊎ (IsLineAbove texts acked line.items ⊎ (fails line.items ≡ true))
+IsAbove texts acked _ = Unit {0}
+
+-- each of these
+abbrev pub AreAbove : List (List ℕ) → ℕ → List WorldEvent → Type 0
+AreAbove texts acked [] = Unit {0}
+AreAbove texts acked (event ∷ events) = IsAbove texts acked event × AreAbove texts acked events

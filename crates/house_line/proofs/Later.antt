@@ -1,0 +1,124 @@
+-- What is sent in a session after its history had come so far.
+use Rattle.std.proofs.Common.{◌≡◌, inl, inr, ℕ, zero, suc, pred, ◌+◌, ◌<◌, ◌≤◌, List, [], ◌∷◌, ◌++◌, length, map, drop, refl, sym, ◌∙◌, ap, subst, append_assoc, append-nil, arith}
+use Rattle.std.proofs.lemmas.List.{drop-append-le, length-append, map-append}
+use Rattle.marlin_reply.specs.Kind.{kind_of}
+use Rattle.marlin_reply.specs.declared.reply.Reply.{Reply}
+use Rattle.printer_model.specs.World.{WorldData, apply, world_from}
+use Rattle.printer_model.specs.Executed.{opens, till}
+use Rattle.printer_model.specs.Exchanged.{session_of, received_by, received_from}
+use Rattle.printer_model.specs.declared.event.WorldEvent.{WorldEvent}
+use Rattle.printer_model.specs.declared.event.WorldEvent.TheVariants.{Opened, Send, Arrive, Lose, Garble, Run, Restart, Chatter, Recv, Closed}
+use Rattle.printer_model.proofs.Sessions.{till-append, till-all, till-IsFront}
+use Rattle.printer_link.specs.Link.{LinkKind, world_in}
+use Rattle.send_window.specs.Counting.{acked_of}
+use Rattle.send_window.proofs.OwnOks.{counts_next}
+use Rattle.octo_asks.specs.History.{History}
+use Rattle.lossy_wires.specs.Traces.{replies_from, IsSendFit, AreSendsFit}
+use Rattle.lossy_line.specs.Tied.{world_before, IsTied}
+use Rattle.house_line.specs.Sessions.{sessions, texts_of, acked_in}
+use Rattle.house_line.specs.Tied.{Tied, WasTied, IsAbove, AreAbove}
+use Rattle.house_line.proofs.Entries.{sessions-append}
+
+-- the last session of a history goes on until the next one
+till_past : (past more : List WorldEvent) → till (opens past) (past ++ more) ≡ past ++ till 0 more
+till_past [] more = refl
+till_past (Opened last ∷ past) more = ap (λ (es : List WorldEvent). Opened last ∷ es) (till_past past more)
+till_past (Send line ∷ past) more = ap (λ (es : List WorldEvent). Send line ∷ es) (till_past past more)
+till_past (Arrive ∷ past) more = ap (λ (es : List WorldEvent). Arrive ∷ es) (till_past past more)
+till_past (Lose at ∷ past) more = ap (λ (es : List WorldEvent). Lose at ∷ es) (till_past past more)
+till_past (Garble at line ∷ past) more = ap (λ (es : List WorldEvent). Garble at line ∷ es) (till_past past more)
+till_past (Run ∷ past) more = ap (λ (es : List WorldEvent). Run ∷ es) (till_past past more)
+till_past (Restart ∷ past) more = ap (λ (es : List WorldEvent). Restart ∷ es) (till_past past more)
+till_past (Chatter reply ∷ past) more = ap (λ (es : List WorldEvent). Chatter reply ∷ es) (till_past past more)
+till_past (Recv ∷ past) more = ap (λ (es : List WorldEvent). Recv ∷ es) (till_past past more)
+till_past (Closed ∷ past) more = ap (λ (es : List WorldEvent). Closed ∷ es) (till_past past more)
+
+pred_less : (n : ℕ) → 1 ≤ n → pred n < n
+pred_less zero some = absurd (omega arith)
+pred_less (suc n) some = omega arith
+
+-- the events of a session in two parts
+session_past : (past more : List WorldEvent) (s : ℕ) → s ≡ opens past → 1 ≤ s → session_of s (past ++ more) ≡ session_of s past ++ till 0 more
+session_past past more s is some =
+    let before : till (pred s) (past ++ more) ≡ till (pred s) past = till-append (pred s) past more (omega (arith, pred_less s some, is)) in
+    let here : till s (past ++ more) ≡ past ++ till 0 more = ap (λ (n : ℕ). till n (past ++ more)) is ∙ till_past past more in
+    let whole : till s past ≡ past = till-all s past (omega (arith, is)) in
+    let part = till-IsFront (pred s) past in
+    let within : length (till (pred s) past) ≤ length past = omega (arith, ap length part.is, length-append (till (pred s) past) part.behind) in
+    ap (λ (es : List WorldEvent). drop (length es) (till s (past ++ more))) before
+    ∙ ap (drop (length (till (pred s) past))) here
+    ∙ drop-append-le (length (till (pred s) past)) past (till 0 more) within
+    ∙ sym (ap (λ (es : List WorldEvent). drop (length (till (pred s) past)) es ++ till 0 more) whole)
+
+-- the sendings of the second part
+fits_later : (issued : List (List ℕ)) (replies : List Reply) (w : WorldData) (xs ys : List WorldEvent) → AreSendsFit issued replies w (xs ++ ys) →
+    AreSendsFit issued (replies ++ replies_from w xs) (world_from w xs) ys
+fits_later issued replies w [] ys fits = subst (λ (r : List Reply). AreSendsFit issued r w ys) (sym (append-nil replies)) fits
+fits_later issued replies w (event ∷ xs) ys fits =
+    let more : List Reply = replies ++ map kind_of (received_by w event) in
+    let same : more ++ replies_from (apply w event) xs ≡ replies ++ replies_from w (event ∷ xs) =
+    append_assoc replies (map kind_of (received_by w event)) (replies_from (apply w event) xs)
+    ∙ ap (λ (r : List Reply). replies ++ r) (sym (map-append kind_of (received_by w event) (received_from (apply w event) xs)))
+    in
+    subst (λ (r : List Reply). AreSendsFit issued r (world_from (apply w event) xs) ys) same (fits_later issued more (apply w event) xs ys fits.1)
+
+-- the count of acknowledged lines doesn't fall
+acked_more : (replies more : List Reply) → acked_of replies ≤ acked_of (replies ++ more)
+acked_more replies [] = subst (λ (r : List Reply). acked_of replies ≤ acked_of r) (sym (append-nil replies)) (omega arith)
+acked_more replies (next ∷ more) =
+    let rest : acked_of (replies ++ next ∷ []) ≤ acked_of ((replies ++ next ∷ []) ++ more) = acked_more (replies ++ next ∷ []) more in
+    let first : acked_of replies ≤ acked_of (replies ++ next ∷ []) = omega (arith, (counts_next replies next).0) in
+    subst (λ (r : List Reply). acked_of replies ≤ acked_of r) (append_assoc replies (next ∷ []) more) (omega (arith, first, rest))
+
+above_by : (issued : List (List ℕ)) (acked : ℕ) (event : WorldEvent) (behind : List WorldEvent) (replies : List Reply) (w : WorldData) → acked ≤ acked_of replies →
+    AreSendsFit issued replies w (event ∷ behind) → IsAbove issued acked event
+above_by issued acked (Send line) behind replies w below fits = by fits.0
+  where
+    by : IsSendFit issued (acked_of replies) line.items behind → IsAbove issued acked (Send line)
+    by (inl hello) = inl hello
+    by (inr (inl l)) = inr (inl (record { place = l.place; text = l.text; above = omega (arith, below, l.above); its = l.its; framed = l.framed }))
+    by (inr (inr failing)) = inr (inr failing.0)
+above_by issued acked (Opened last) behind replies w below fits = tt
+above_by issued acked Arrive behind replies w below fits = tt
+above_by issued acked (Lose at) behind replies w below fits = tt
+above_by issued acked (Garble at line) behind replies w below fits = tt
+above_by issued acked Run behind replies w below fits = tt
+above_by issued acked Restart behind replies w below fits = tt
+above_by issued acked (Chatter reply) behind replies w below fits = tt
+above_by issued acked Recv behind replies w below fits = tt
+above_by issued acked Closed behind replies w below fits = tt
+
+above_all : (issued : List (List ℕ)) (acked : ℕ) (events : List WorldEvent) (replies : List Reply) (w : WorldData) → acked ≤ acked_of replies →
+    AreSendsFit issued replies w events → AreAbove issued acked events
+above_all issued acked [] replies w below fits = tt
+above_all issued acked (event ∷ events) replies w below fits = (
+  above_by issued acked event events replies w below fits,
+  above_all issued acked events (replies ++ map kind_of (received_by w event)) (apply w event)
+      (omega (arith, below, acked_more replies (map kind_of (received_by w event)))) fits.1,
+)
+
+-- what is sent in a session once so many of its lines were acknowledged is above those
+pub later_above : (kind : LinkKind) (front : List WorldEvent) (first later : History) (past : List WorldEvent) → 1 ≤ sessions first →
+    Tied kind front (first ++ later) past → (w : WasTied kind front first past) →
+    AreAbove (texts_of (sessions first) (first ++ later)) (acked_in (sessions first) first) (till 0 w.since)
+later_above kind front first later past some t w =
+    let n : ℕ = sessions first in
+    let s : ℕ = opens front + n in
+    let issued : List (List ℕ) = texts_of n (first ++ later) in
+    let whole : IsTied kind issued (acked_in n (first ++ later)) past s = t.each n some (omega (arith, sessions-append first later)) in
+    let part : IsTied kind (texts_of n first) (acked_in n first) w.so_far s = w.tied.each n some (omega arith) in
+    let is : s ≡ opens w.so_far = sym w.tied.counted in
+    let here : IsTied kind issued (acked_in n (first ++ later)) (w.so_far ++ w.since) s =
+    subst (λ (es : List WorldEvent). IsTied kind issued (acked_in n (first ++ later)) es s) w.is whole
+    in
+    let before : till (pred s) (w.so_far ++ w.since) ≡ till (pred s) w.so_far =
+    till-append (pred s) w.so_far w.since (omega (arith, pred_less s (omega (arith, some)), is))
+    in
+    let world : world_before kind (w.so_far ++ w.since) s ≡ world_before kind w.so_far s = ap (world_in kind) before in
+    let events : session_of s (w.so_far ++ w.since) ≡ session_of s w.so_far ++ till 0 w.since = session_past w.so_far w.since s is (omega (arith, some)) in
+    let made : WorldData = world_before kind w.so_far s in
+    let fits : AreSendsFit issued [] made (session_of s w.so_far ++ till 0 w.since) =
+    subst (λ (es : List WorldEvent). AreSendsFit issued [] made es) events (subst (λ (v : WorldData). AreSendsFit issued [] v (session_of s (w.so_far ++ w.since))) world here.sends)
+    in
+    above_all issued (acked_in n first) (till 0 w.since) (replies_from made (session_of s w.so_far)) (world_from made (session_of s w.so_far))
+    (omega (arith, part.acked_is)) (fits_later issued [] made (session_of s w.so_far) (till 0 w.since) fits)

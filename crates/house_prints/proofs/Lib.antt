@@ -1,0 +1,10 @@
+pub mod Lists
+pub mod Marks
+pub mod Requests
+pub mod Calls
+pub mod Entries
+pub mod Steps
+pub mod Histories
+pub mod Jobs
+pub mod Executed
+pub mod Sent

@@ -1,0 +1,4 @@
+-- The prints of a history over a lossy line.
+pub mod Prints
+pub mod Jobs
+pub mod Laws

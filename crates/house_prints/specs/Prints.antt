@@ -1,0 +1,46 @@
+-- Where a print lives in a history, and what its end leaves.
+use Rattle.std.specs.Prelude.{◌≡◌, ◌⊎◌, ℕ, ◌<◌, ◌≤◌, false, List, [], ◌∷◌, drop}
+use Rattle.desk_steps.specs.Run.{Fate, Finished, Stopped, Left, Unplugged, Broken, lines_of}
+use Rattle.octo_asks.specs.History.{History}
+use Rattle.house_history.specs.Issued.{issued_of, trace}
+use Rattle.house_line.specs.Sessions.{sessions, acked_in, is_open}
+
+-- a print lives in one session: all its script lines and file commands were issued in it
+pub record LivesIn (print : ℕ) (history : History) (home : ℕ) : Type 0 where
+  pub alone : (session : ℕ) → (session ≡ home → ⊥) → lines_of print (issued_of session history) ≡ []
+  pub all : trace print history ≡ lines_of print (issued_of home history)
+
+-- all of them are acknowledged: none stands after the acknowledged lines of its session
+abbrev pub IsAcknowledged : ℕ → ℕ → History → Type 0
+IsAcknowledged print home history = lines_of print (drop (acked_in home history) (issued_of home history)) ≡ []
+
+-- the session is closed
+abbrev pub IsClosed : ℕ → History → Type 0
+IsClosed home history = (home < sessions history) ⊎ (is_open history ≡ false)
+
+-- what the end of a print leaves: if it is done, or was cancelled by a request, all its lines are acknowledged; if the
+-- connection ended or failed, its session is closed
+abbrev pub LeavesSo : ℕ → Fate → ℕ → History → Type 0
+LeavesSo print Finished home history = IsAcknowledged print home history
+LeavesSo print Stopped home history = IsAcknowledged print home history
+LeavesSo print Left home history = IsAcknowledged print home history
+LeavesSo print Unplugged home history = IsClosed home history
+LeavesSo print Broken home history = IsClosed home history
+
+-- a print that hasn't ended lives in the last session
+pub record IsUnended (print : ℕ) (history : History) (fates : List Fate) : Type 0 where
+  pub no_fate : fates ≡ []
+  pub lives : LivesIn print history (sessions history)
+
+-- one that has
+pub record IsEnded (print : ℕ) (history : History) (fates : List Fate) : Type 0 where
+  pub fate : Fate
+  pub is : fates ≡ fate ∷ []
+  pub home : ℕ
+  pub within : home ≤ sessions history
+  pub lives : LivesIn print history home
+  pub leaves : LeavesSo print fate home history
+
+-- a print over a history
+abbrev pub Lives : ℕ → History → List Fate → Type 0
+Lives print history fates = IsUnended print history fates ⊎ IsEnded print history fates
