@@ -1,0 +1,19 @@
+use Rattle.octo_serve.proofs.serving.run_house.Goals as goal
+
+pub returns-clause-ran : goal.returns-clause-ran
+returns-clause-ran g c = record {
+  history = c.run.ensures.history;
+  over = c.run.ensures.over;
+  listed = c.run.ensures.listed;
+  kept = c.run.ensures.kept;
+  moments = c.run.ensures.moments;
+  link_use = c.run.ensures.link_use;
+  temps = c.run.ensures.temps;
+  tied = c.run.ensures.tied;
+  down = c.run.ensures.down;
+  kind = c.run.ensures.kind;
+  faults = c.run.ensures.faults;
+  link = c.run.ensures.link;
+  keeper = c.run.ensures.keeper;
+  shelf = c.run.ensures.shelf;
+}

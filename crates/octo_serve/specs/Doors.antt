@@ -1,0 +1,63 @@
+-- What four workers did at their doors.
+use Rattle.std.specs.Prelude.{◌≡◌, ℕ, Bool, true, false, ◌&&◌, List, [], Option, Some}
+use Rattle.octo_outside.specs.Told.{Rose}
+use Rattle.octo_doors.specs.declared.door.Doors.{Doors}
+use Rattle.octo_asks.specs.History.{History, calls_of}
+use Rattle.octo_asks.specs.Place.{Place}
+use Rattle.api_worker.specs.Worked.{HasWorked}
+use Rattle.hand_over.specs.declared.workers.Workers.{Workers}
+use Rattle.hand_over.specs.Ends.{WorkerData, worker_place}
+use Rattle.octo_serve.specs.Around.{DoorState}
+
+-- a worker's end: its finished calls, if they are recorded, whether it saw that the host has ended, and its place
+pub record AskerState : Type 0 where
+  pub mine : Option History
+  pub saw_close : Bool
+  pub place : Place
+
+-- the same by the meanings of a kind of end
+abbrev pub asker_state : {A : Type 0} → (A → Option History) → (A → Bool) → (A → Place) → A → AskerState
+asker_state mine saw_close place end = record { mine = mine end; saw_close = saw_close end; place = place end }
+
+abbrev pub worker_state : WorkerData → AskerState
+worker_state worker = record { mine = Some worker.view.mine; saw_close = worker.view.saw_close; place = worker_place worker }
+
+-- the connections of a door that records them were served, with these calls; the door held, or a call of it failed
+pub record AtDoor (patience : ℕ) (old new : DoorState) (mine mine' : Option History) (saw_close held : Bool) : Type 0 where
+  pub conns : (inputs : List (List ℕ)) → old.coming ≡ Some inputs
+      → HasWorked patience inputs new.coming old.served new.served mine mine' saw_close held
+  pub steady : held ≡ true → new.faults ≡ old.faults
+  pub failed : held ≡ false → Rose old.faults new.faults
+
+-- a worker served its door, and its place stays
+pub record WorksAt (patience : ℕ) (old new : DoorState) (end end' : AskerState) (held : Bool) : Type 0 where
+  pub served : AtDoor patience old new end.mine end'.mine end'.saw_close held
+  pub place : end'.place ≡ end.place
+
+-- four workers did; all doors held, or one didn't
+pub record AllWork (patience : ℕ) (old new : Doors DoorState) {R : Type 0} (workers workers' : Workers R) (all_held : Bool) : Type 0 where
+  pub held_a : Bool
+  pub held_b : Bool
+  pub held_c : Bool
+  pub held_d : Bool
+  pub all : all_held ≡ (held_a && (held_b && (held_c && held_d)))
+  pub a : WorksAt patience old.a new.a (worker_state workers.a) (worker_state workers'.a) held_a
+  pub b : WorksAt patience old.b new.b (worker_state workers.b) (worker_state workers'.b) held_b
+  pub c : WorksAt patience old.c new.c (worker_state workers.c) (worker_state workers'.c) held_c
+  pub d : WorksAt patience old.d new.d (worker_state workers.d) (worker_state workers'.d) held_d
+
+-- a worker whose calls in the history are these served its door, while a host ran that has ended since
+abbrev pub IsServedBy : ℕ → DoorState → DoorState → History → Bool → Type 0
+IsServedBy patience old new calls held = AtDoor patience old new (Some []) (Some calls) true held
+
+-- each door was served by its worker; all doors held, or one didn't
+pub record AreServed (patience : ℕ) (old new : Doors DoorState) (history : History) (all_held : Bool) : Type 0 where
+  pub held_a : Bool
+  pub held_b : Bool
+  pub held_c : Bool
+  pub held_d : Bool
+  pub all : all_held ≡ (held_a && (held_b && (held_c && held_d)))
+  pub a : IsServedBy patience old.a new.a (calls_of 0 history) held_a
+  pub b : IsServedBy patience old.b new.b (calls_of 1 history) held_b
+  pub c : IsServedBy patience old.c new.c (calls_of 2 history) held_c
+  pub d : IsServedBy patience old.d new.d (calls_of 3 history) held_d

@@ -1,0 +1,62 @@
+-- What a host did from its first connection to its end.
+use Rattle.std.specs.Prelude.{◌≡◌, ℕ, ◌≤◌, Bool, true, false, List, [], Option, Some}
+use Rattle.octo_outside.specs.Told.{Became}
+use Rattle.octo_doors.specs.declared.door.Doors.{Doors}
+use Rattle.octo_asks.specs.History.{History}
+use Rattle.hand_over.specs.Ends.{HistoryData}
+use Rattle.hand_over.specs.Views.{AreCalls, has_close}
+use Rattle.house_counts.specs.Faults.{AreCounted}
+use Rattle.house_counts.specs.LinkUse.{UsesLink}
+use Rattle.house_counts.specs.Shows.{Shows}
+use Rattle.house_counts.specs.Temps.{NotesTemps}
+use Rattle.house_line.specs.InStep.{TiesLines}
+use Rattle.house_tables.specs.Kept.{KeepsRows}
+use Rattle.octo_house.specs.declared.house.House.{House}
+use Rattle.octo_house.specs.State.{IsListed, session_of, tables_of}
+use Rattle.house_run.specs.Runs.{HasRun, IsOver, ArePassed, begins}
+use Rattle.octo_serve.specs.Around.{LinkState, KeeperState, ShelfState, DoorState}
+use Rattle.octo_serve.specs.Doors.{AreServed}
+
+-- a house, its link, its clock's moment, if that is recorded, its keeper and its shelf
+pub record Setting : Type 0 where
+  pub house : House
+  pub link : LinkState
+  pub moment : Option ℕ
+  pub keeper : KeeperState
+  pub shelf : ShelfState
+
+-- the same by the meanings of each kind
+abbrev pub setting : {L T K S : Type 0} → (L → LinkState) → (T → Option ℕ) → (K → KeeperState) → (S → ShelfState) → House → L → T → K → S → Setting
+setting link_state moment keeper_state shelf_state house link clock keeper shelf =
+    record { house = house; link = link_state link; moment = moment clock; keeper = keeper_state keeper; shelf = shelf_state shelf }
+
+-- a house ran until its end: what its run says of its history, and what it leaves. It made these calls, leaves apart
+pub record Ran (old new : Setting) (past past' : Option History) (calls : ℕ) : Type 0 where
+  -- one legal history leads from the one to the other
+  pub history : HasRun past past' old.shelf.files new.shelf.files old.house new.house
+  pub over : Became past past' (λ _ added. IsOver calls (session_of new.house).desk.active added)
+  pub listed : IsListed old.shelf.files old.house → IsListed new.shelf.files new.house
+  pub kept : KeepsRows old.keeper.tables new.keeper.tables (tables_of old.house) (tables_of new.house)
+  -- what the history says of the clock and of the link
+  pub moments : ArePassed old.moment new.moment past past'
+  pub link_use : Shows past past' old.shelf.files (begins old.house) (UsesLink old.link.kind.listed old.link.calls new.link.calls)
+  pub temps : Became past past' (λ _ added. NotesTemps old.link.kind old.link.past new.link.past added)
+  pub tied : TiesLines old.link.kind past past' old.link.past new.link.past
+  -- the link is down, and of the same kind
+  pub down : new.link.up ≡ false
+  pub kind : new.link.kind ≡ old.link.kind
+  -- faults, by their counts
+  pub faults : Became past past' (λ _ added. AreCounted old.keeper.faults new.keeper.faults old.shelf.faults new.shelf.faults
+      old.link.faults new.link.faults added)
+  pub link : old.link.faults ≤ new.link.faults
+  pub keeper : old.keeper.faults ≤ new.keeper.faults
+  pub shelf : old.shelf.faults ≤ new.shelf.faults
+
+-- A host served its doors until its end. It made these calls, leaves apart; all doors held, or one didn't; and this is known of
+-- what was asked, answered and noted
+pub record HasHosted (patience : ℕ) (old new : Setting) (doors doors' : Doors DoorState) (calls : ℕ) (all_held : Bool) (known : HistoryData) : Type 0 where
+  pub ran : Ran old new (Some []) (Some known.history) calls
+  pub ended : has_close known.history ≡ true
+  -- each worker's calls are in the history once, in their order, and are those that its door's connections led to
+  pub mines : AreCalls known.history 0 known.mines
+  pub served : AreServed patience doors doors' known.history all_held

@@ -1,0 +1,4 @@
+-- The words of a serving host's contracts.
+pub mod Around
+pub mod Doors
+pub mod Hosted

@@ -1,0 +1,139 @@
+//! Workers at their doors, beside other work.
+ghost use Rattle.std.specs.Prelude.{◌≡◌};
+ghost use Rattle.std.specs.Thread.{IsSend, IsSync};
+ghost use Rattle.octo_serve.specs.Around.{door_state, door_states};
+ghost use Rattle.octo_serve.specs.Doors.{WorksAt, AllWork, asker_state, worker_state};
+
+use api_worker::worker;
+use hand_over::Workers;
+use octo_asks::Asker;
+use octo_doors::{Door, Doors};
+use std::alloc::Global;
+use std::sync::Wait;
+use std::thread::{Threads, join_mut};
+
+// A worker at its door.
+fn work_at<R: Wait, D: Door, A: Asker>(
+    rt: &R,
+    alloc: Global,
+    door: &mut D,
+    asker: &mut A,
+    patience: u32,
+) -> bool
+    ensures { WorksAt patience (door_state D.coming D.served D.faults door.old)
+        (door_state D.coming D.served D.faults door.new)
+        (asker_state A.mine A.saw_close A.place asker.old)
+        (asker_state A.mine A.saw_close A.place asker.new) result }
+{
+    worker(alloc, rt, door, asker, patience)
+}
+
+// A worker at its door in a thread of its own, and other work in this one. Returns whether the door held.
+fn one_beside<R: Threads + Wait + Sync, D: Door + Send, A: Asker + Send, G: FnMut() -> B, B>(
+    rt: &R,
+    alloc: Global,
+    door: &mut D,
+    asker: &mut A,
+    patience: u32,
+    work: &mut G,
+) -> (bool, B)
+    requires { G.pre work.old }
+    ensures works { WorksAt patience (door_state D.coming D.served D.faults door.old)
+        (door_state D.coming D.served D.faults door.new)
+        (asker_state A.mine A.saw_close A.place asker.old)
+        (asker_state A.mine A.saw_close A.place asker.new) result.0 }
+    ensures work { G.step work.old result.1 work.new }
+{
+    join_mut(rt, &mut || work_at(rt, alloc, door, asker, patience), work)
+}
+
+// Two workers at their doors, and other work in this thread. Returns whether both doors held.
+fn two_beside<R: Threads + Wait + Sync, D: Door + Send, A: Asker + Send, G: FnMut() -> B, B>(
+    rt: &R,
+    alloc: Global,
+    one: &mut D,
+    two: &mut D,
+    first: &mut A,
+    second: &mut A,
+    patience: u32,
+    work: &mut G,
+) -> (bool, (bool, B))
+    requires { G.pre work.old }
+    ensures first { WorksAt patience (door_state D.coming D.served D.faults one.old)
+        (door_state D.coming D.served D.faults one.new)
+        (asker_state A.mine A.saw_close A.place first.old)
+        (asker_state A.mine A.saw_close A.place first.new) result.0 }
+    ensures second { WorksAt patience (door_state D.coming D.served D.faults two.old)
+        (door_state D.coming D.served D.faults two.new)
+        (asker_state A.mine A.saw_close A.place second.old)
+        (asker_state A.mine A.saw_close A.place second.new) result.1.0 }
+    ensures work { G.step work.old result.1.1 work.new }
+{
+    one_beside(
+        rt,
+        alloc,
+        one,
+        first,
+        patience,
+        &mut || -> (bool, B)
+            requires { IsSync R.row × IsSend D.row × IsSend D.Conn.row × IsSend A.row
+                × G.pre work.now }
+            ensures second { WorksAt patience (door_state D.coming D.served D.faults two.entry.now)
+                (door_state D.coming D.served D.faults two.exit.now)
+                (asker_state A.mine A.saw_close A.place second.entry.now)
+                (asker_state A.mine A.saw_close A.place second.exit.now) result.0 }
+            ensures work { G.step work.entry.now result.1 work.exit.now }
+        { one_beside(rt, alloc, two, second, patience, work) },
+    )
+}
+
+/// Four workers at four doors, each in a thread of its own, and other work in this one. Returns whether all doors held.
+pub(crate) fn four_beside<
+    R: Threads + Wait + Send + Sync,
+    D: Door + Send + Drop,
+    G: FnMut() -> B,
+    B,
+>(
+    rt: &R,
+    alloc: Global,
+    doors: &mut Doors<D>,
+    workers: &mut Workers<R>,
+    patience: u32,
+    work: &mut G,
+) -> (bool, B)
+    requires { G.pre work.old }
+    ensures works { AllWork patience
+        (door_states (door_state D.coming D.served D.faults) doors.old)
+        (door_states (door_state D.coming D.served D.faults) doors.new)
+        workers.old workers.new result.0 }
+    ensures work { G.step work.old result.1 work.new }
+{
+    let Doors { a, b, c, d } = doors;
+    let Workers {
+        a: first,
+        b: second,
+        c: third,
+        d: fourth,
+    } = workers;
+    let (a_held, (b_held, (c_held, (d_held, done)))) = two_beside(
+        rt,
+        alloc,
+        a,
+        b,
+        first,
+        second,
+        patience,
+        &mut || -> (bool, (bool, B))
+            requires { IsSync R.row × IsSend D.row × IsSend D.Conn.row × IsSend R.row
+                × G.pre work.now }
+            ensures third { WorksAt patience (door_state D.coming D.served D.faults c.entry.now)
+                (door_state D.coming D.served D.faults c.exit.now)
+                (worker_state third.entry.now) (worker_state third.exit.now) result.0 }
+            ensures fourth { WorksAt patience (door_state D.coming D.served D.faults d.entry.now)
+                (door_state D.coming D.served D.faults d.exit.now)
+                (worker_state fourth.entry.now) (worker_state fourth.exit.now) result.1.0 }
+            ensures work { G.step work.entry.now result.1.1 work.exit.now }
+        { two_beside(rt, alloc, c, d, third, fourth, patience, work) },
+    );
+    (a_held && b_held && c_held && d_held, done)
+}

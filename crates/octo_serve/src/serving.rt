@@ -1,0 +1,126 @@
+//! The host from its first connection to its end.
+ghost use Rattle.std.specs.Prelude.{◌≡◌, false, true, None, Some, IfOk, OnErr};
+ghost use Rattle.hand_over.specs.Ends.{house_place};
+ghost use Rattle.octo_house.specs.State.{session_of};
+ghost use Rattle.house_run.specs.Runs.{IsFresh};
+ghost use Rattle.octo_serve.specs.Around.{link_state, keeper_state, shelf_state, door_state, door_states};
+ghost use Rattle.octo_serve.specs.Hosted.{setting, Ran, HasHosted};
+
+use crate::beside::four_beside;
+use hand_over::{History, HouseEnd, ends};
+use house_run::run;
+use octo_doors::{Door, Doors};
+use octo_house::House;
+use octo_keeper::{Keeper, Shelf};
+use octo_outside::Clock;
+use printer_link::Link;
+use std::alloc::{AllocError, Global};
+use std::sync::Wait;
+use std::thread::Threads;
+
+/// What is known of a host that has served and has ended.
+#[derive(Drop)]
+pub struct Served {
+    /// The number of its calls other than those with which a worker leaves, at most `u64::MAX`.
+    pub calls: u64,
+    /// Whether no door failed: no count of faults rose.
+    pub doors_held: bool,
+    /// What was asked, answered and noted. It keeps no entries.
+    pub history: History,
+}
+
+// Runs the house at the workers' counter.
+fn run_house<R: Wait, L: Link, T: Clock, K: Keeper, S: Shelf>(
+    rt: &R,
+    house: &mut House,
+    counter: &mut HouseEnd,
+    link: &mut L,
+    clock: &mut T,
+    keeper: &mut K,
+    shelf: &mut S,
+) -> u64
+    requires fresh { IsFresh (session_of house.old) }
+    requires down { L.up link.old ≡ false }
+    requires answered { counter.old.view.taken ≡ None }
+    requires open { counter.old.view.closed ≡ false }
+
+    ensures ran { let at = setting (link_state L.kind L.past L.calls L.up L.faults) T.moment
+        (keeper_state K.tables K.faults) (shelf_state S.files S.faults) in
+        Ran (at house.old link.old clock.old keeper.old shelf.old)
+        (at house.new link.new clock.new keeper.new shelf.new)
+        (Some counter.old.view.history) (Some counter.new.view.history) result }
+    ensures closed { counter.new.view.closed ≡ true }
+    ensures place { house_place counter.new ≡ house_place counter.old }
+{
+    run(rt, house, counter, link, clock, keeper, shelf)
+}
+
+/// Serves the connections of four doors by four workers, each in a thread of its own, while the house answers their asks and
+/// turns the link in this thread. It goes on until a shutdown was accepted, or all four doors have ended or failed and no print
+/// is active.
+///
+/// Each worker waits through at most `patience` quiet reads of a connection. The call may wait without an end. If memory runs
+/// out at its beginning, nothing was touched; later it is answered to the connection that met it.
+pub fn serve<
+    R: Threads + Wait + Clone + Send + Sync + Drop,
+    L: Link,
+    T: Clock,
+    K: Keeper,
+    S: Shelf,
+    D: Door + Send + Drop,
+>(
+    rt: &R,
+    alloc: Global,
+    house: &mut House,
+    link: &mut L,
+    clock: &mut T,
+    keeper: &mut K,
+    shelf: &mut S,
+    doors: &mut Doors<D>,
+    patience: u32,
+) -> Result<Served, AllocError>
+    requires fresh { IsFresh (session_of house.old) }
+    requires down { L.up link.old ≡ false }
+
+    ensures ok { let at = setting (link_state L.kind L.past L.calls L.up L.faults) T.moment
+        (keeper_state K.tables K.faults) (shelf_state S.files S.faults) in
+        let doors_at = door_states (door_state D.coming D.served D.faults) in
+        IfOk result (λ served. HasHosted patience
+        (at house.old link.old clock.old keeper.old shelf.old)
+        (at house.new link.new clock.new keeper.new shelf.new)
+        (doors_at doors.old) (doors_at doors.new)
+        served.calls served.doors_held served.history) }
+
+    // Without memory for the workers' places nothing was touched.
+    ensures house { OnErr result (house.new ≡ house.old) }
+    ensures link { OnErr result (link.new ≡ link.old) }
+    ensures clock { OnErr result (clock.new ≡ clock.old) }
+    ensures keeper { OnErr result (keeper.new ≡ keeper.old) }
+    ensures shelf { OnErr result (shelf.new ≡ shelf.old) }
+    ensures doors { OnErr result (doors.new ≡ doors.old) }
+{
+    let (mut counter, mut workers) = ends(alloc, rt)?;
+    let (doors_held, calls) = four_beside(
+        rt,
+        alloc,
+        doors,
+        &mut workers,
+        patience,
+        &mut || -> u64
+            requires { IsFresh (session_of house.now) × (L.up link.now ≡ false)
+                × (counter.view.taken ≡ None) × (counter.view.closed ≡ false) }
+            ensures ran { let at = setting (link_state L.kind L.past L.calls L.up L.faults) T.moment
+                (keeper_state K.tables K.faults) (shelf_state S.files S.faults) in
+                Ran (at house.entry.now link.entry.now clock.entry.now keeper.entry.now shelf.entry.now)
+                (at house.exit.now link.exit.now clock.exit.now keeper.exit.now shelf.exit.now)
+                (Some counter.entry.view.history) (Some counter.exit.view.history) result }
+            ensures ended { counter.exit.view.closed ≡ true }
+            ensures place { house_place counter.exit ≡ house_place counter.entry }
+        { run_house(rt, house, &mut counter, link, clock, keeper, shelf) },
+    );
+    Ok(Served {
+        calls,
+        doors_held,
+        history: counter.end(workers),
+    })
+}
