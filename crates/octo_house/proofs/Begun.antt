@@ -1,5 +1,5 @@
 -- What a host begins with.
-use Rattle.std.proofs.Common.{◌≡◌, ℕ, List, length, map, Option, None, Some, option_map, IfSome, refl, sym, ap, ◌∙◌, subst}
+use Rattle.std.proofs.Common.{◌≡◌, ℕ, List, length, map, Option, None, Some, option_map, IfSome, sym, ap, ◌∙◌, subst}
 use Rattle.octo_access.specs.Rows.{IsUserTable}
 use Rattle.octo_keeper.specs.Files.{sizes_of}
 use Rattle.octo_keeper.specs.Tables.{AreSound, with_due_end}
@@ -7,7 +7,6 @@ use Rattle.octo_keeper.specs.declared.shelf.ShelfFile.{ShelfFile}
 use Rattle.octo_keeper.specs.declared.tables.Tables.{Tables}
 use Rattle.print_queue.specs.Lawful.{IsLawful}
 use Rattle.print_records.specs.declared.row.PrintRow.{PrintRow}
-use Rattle.house_history.specs.Begins.{row_read}
 use Rattle.house_verdicts.specs.Known.{names_of}
 use Rattle.house_tables.specs.Data.{TablesData, IsReadFrom}
 use Rattle.house_tables.specs.Kept.{AreRows, Kept}

@@ -1,5 +1,5 @@
 -- Dropping a selection changes the selected file alone, so a stored upload is selected and printed as it would have been before.
-use Rattle.std.proofs.Common.{◌≡◌, ℕ, Bool, true, false, ◌&&◌, ◌||◌, cond, is_none, not, nat_le, length, List, Option, None, Some, Err, refl, sym, ap, ◌∙◌}
+use Rattle.std.proofs.Common.{◌≡◌, ℕ, Bool, true, false, ◌&&◌, ◌||◌, cond, is_none, List, None, Err, refl, ap, ◌∙◌}
 use Rattle.temp_rules.specs.Hot.{first_hot_of}
 use Rattle.temp_rules.specs.declared.limits.Limits.{Limits}
 use Rattle.desk_steps.specs.Data.{Data, File}

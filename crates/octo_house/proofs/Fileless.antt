@@ -1,7 +1,6 @@
 -- Requests that leave the files as they are.
 use Rattle.std.proofs.Common.{◌≡◌, ℕ, Bool, true, false, cond, not, find, codes, decimal, List, [], ◌∷◌, ◌++◌, Option, None, Some, Result, Ok, Err, refl, sym, ap, ◌∙◌}
 use Rattle.std.proofs.lemmas.Bool.{false≢true}
-use Rattle.arrayvec.specs.ArrayVec.{ArrayVec}
 use Rattle.gcode_lines.specs.Commands.{job_of}
 use Rattle.gcode_lines.specs.Job.{JobData}
 use Rattle.gcode_lines.specs.declared.fault.FileFault.{FileFault}
@@ -33,7 +32,7 @@ use Rattle.octo_access.specs.Rows.{held, with_row, replaced}
 use Rattle.house_verdicts.specs.Rows.{put_by, put_user_verdict, replace_verdict, with_users, new_user, changed_user}
 use Rattle.octo_asks.specs.Shown.{shown_entry, shown_user}
 use Rattle.desk_steps.specs.Run.{Select}
-use Rattle.house_verdicts.specs.Verdict.{Verdict, Deed, at_desk, gives, makes, writes, reads, removes, stores, begins, is_fault, files_in, files_after}
+use Rattle.house_verdicts.specs.Verdict.{Verdict, at_desk, gives, makes, writes, reads, removes, stores, begins, is_fault, files_in, files_after}
 use Rattle.octo_house.specs.Answered.{Shelves}
 
 -- nothing is stored and nothing taken out

@@ -1,5 +1,5 @@
 -- The names of files that are stored and deleted.
-use Rattle.std.proofs.Common.{◌≡◌, ℕ, ◌+◌, Bool, true, false, cond, not, bytes_eq, List, [], ◌∷◌, ◌++◌, take, drop, map, filter, insert, refl, sym, ap, ◌∙◌}
+use Rattle.std.proofs.Common.{◌≡◌, ℕ, ◌+◌, Bool, true, false, not, bytes_eq, List, [], ◌∷◌, ◌++◌, take, drop, map, filter, insert, refl, sym, ap, ◌∙◌}
 use Rattle.std.specs.List.{prefix_len}
 use Rattle.std.proofs.lemmas.List.{map-append, take-map, drop-map}
 use Rattle.octo_keeper.specs.Files.{is_before, sizes_of, with_file, without_file}

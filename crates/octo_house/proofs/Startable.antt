@@ -1,10 +1,8 @@
 -- When the print of a stored and selected file may begin.
-use Rattle.std.proofs.Common.{◌≡◌, ℕ, Bool, true, false, ◌&&◌, is_none, length, List, Option, None, Some, refl, sym, ap, ◌∙◌, subst}
+use Rattle.std.proofs.Common.{◌≡◌, ℕ, Bool, true, ◌&&◌, is_none, length, List, Option, None, Some, refl, sym, ap, ◌∙◌, subst}
 use Rattle.std.proofs.lemmas.Bool.{and_parts}
 use Rattle.gcode_lines.specs.Job.{JobData}
 use Rattle.temp_rules.specs.Hot.{first_hot_of}
-use Rattle.temp_rules.specs.declared.job.HotLine.{HotLine}
-use Rattle.desk_steps.specs.Data.{File}
 use Rattle.desk_steps.specs.Table.{select_at}
 use Rattle.desk_steps.specs.declared.state.State.{State}
 use Rattle.desk_steps.specs.declared.state.State.TheVariants.{Operational}

@@ -1,5 +1,5 @@
 -- What a turn makes of a host.
-use Rattle.std.proofs.Common.{◌≡◌, ℕ, List, true, IfSome, Option, None, Some, refl, sym, ap, ◌∙◌, subst, map}
+use Rattle.std.proofs.Common.{◌≡◌, ℕ, List, IfSome, Option, None, Some, refl, sym, ap, ◌∙◌, subst, map}
 use Rattle.desk_steps.specs.Data.{Data}
 use Rattle.desk_steps.specs.Endings.{IsActive}
 use Rattle.desk_steps.specs.Issued.{line_of}

@@ -1,5 +1,5 @@
 -- What a turn's note makes of what a host knows.
-use Rattle.std.proofs.Common.{◌≡◌, ℕ, Bool, true, false, List, [], ◌∷◌, ◌++◌, map, IfSome, Option, None, Some, refl, sym, ap, ◌∙◌, subst, append-nil}
+use Rattle.std.proofs.Common.{◌≡◌, ℕ, Bool, true, false, List, [], ◌∷◌, ◌++◌, map, IfSome, Option, None, Some, refl, sym, ap, ◌∙◌, subst}
 use Rattle.std.specs.Option.{option_or}
 use Rattle.std.proofs.lemmas.Bool.{false≢true}
 use Rattle.desk_steps.specs.Data.{Data, Line}
@@ -22,7 +22,7 @@ use Rattle.octo_session.specs.declared.found.Doing.{Doing}
 use Rattle.octo_session.specs.declared.found.Doing.TheVariants.{Dialling, HangingUp, Talking, Resting}
 use Rattle.octo_session.specs.DeskTurn.{Pulls, IsNoted, IsQuietTurn}
 use Rattle.house_verdicts.specs.Known.{Known}
-use Rattle.house_history.specs.Noted.{first_fact, last_call, calls_of, called, called_all, known_after_note, kept_unless, forgets, with_temps}
+use Rattle.house_history.specs.Noted.{first_fact, last_call, called_all, known_after_note, kept_unless, forgets, with_temps}
 
 -- a desk with the prints and the desk of a turn
 abbrev pub turned_to : Data → Option Ending → Known → Known

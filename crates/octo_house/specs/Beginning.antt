@@ -1,5 +1,5 @@
 -- What a host begins with.
-use Rattle.std.specs.Prelude.{◌≡◌, ℕ, length, List, Option, None, Some}
+use Rattle.std.specs.Prelude.{◌≡◌, ℕ, List, Option, None, Some}
 use Rattle.octo_access.specs.declared.policy.Policy.{Policy}
 use Rattle.octo_keeper.specs.declared.shelf.ShelfFile.{ShelfFile}
 use Rattle.octo_keeper.specs.declared.tables.Tables.{Tables}

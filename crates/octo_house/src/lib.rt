@@ -6,6 +6,3 @@ mod house;
 
 pub use faults::BeginFault;
 pub use house::House;
-
-#[cfg(test)]
-mod tests;

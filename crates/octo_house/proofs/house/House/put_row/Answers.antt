@@ -1,4 +1,4 @@
-use Rattle.std.proofs.Common.{◌≡◌, refl}
+use Rattle.std.proofs.Common.{refl}
 use Rattle.octo_house.specs.State.{known_of}
 use Rattle.octo_house.proofs.house.House.put_row.Goals as goal
 

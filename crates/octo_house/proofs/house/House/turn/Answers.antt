@@ -1,10 +1,10 @@
-use Rattle.std.proofs.Common.{◌≡◌, sym, ap, ◌∙◌, subst}
+use Rattle.std.proofs.Common.{subst}
 use Rattle.desk_steps.specs.Data.{Data}
 use Rattle.desk_steps.specs.Endings.{IsActive}
 use Rattle.octo_keeper.specs.Tables.{with_due_end}
 use Rattle.octo_session.specs.Data.{doing}
 use Rattle.octo_house.specs.Turned.{temps_told}
-use Rattle.octo_house.proofs.Rested.{rested-none, rested-after, numbered-after, ends-rested, ends-active}
+use Rattle.octo_house.proofs.Rested.{rested-after, numbered-after, ends-rested}
 use Rattle.octo_house.proofs.TurnKnown.{turned-knows, turned-goes, known-turned}
 use Rattle.octo_house.proofs.house.House.turn.Goals as goal
 
