@@ -4,3 +4,4 @@ pub mod Hearing
 pub mod Showing
 pub mod Timing
 pub mod Turning
+pub mod Worked

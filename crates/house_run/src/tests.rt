@@ -1,7 +1,9 @@
 //! Runs over a counter, a keeper, a shelf and a link in memory.
-ghost use Rattle.std.specs.Prelude.{◌≡◌, false, IfOk};
+ghost use Rattle.std.specs.Prelude.{◌≡◌, None, false, IfOk};
 ghost use Rattle.desk_steps.specs.Data.{new_desk};
 ghost use Rattle.send_window.specs.Data.{new_sender, IsSound};
+ghost use Rattle.octo_house.specs.State.{session_of};
+ghost use Rattle.house_run.specs.Runs.{IsFresh};
 
 use crate::run;
 use byte_text::Name;
@@ -9,7 +11,7 @@ use desk_steps::{Limits, LinkFact, State};
 use job_desk::{Desk, Scripts};
 use octo_access::{Admin, Groups, Policy, digest_of};
 use octo_asks::{Answer, Ask, AskList, Entry, MemoryCounter, Request};
-use octo_house::House;
+use octo_house::{BeginFault, House};
 use octo_keeper::{KeeperFault, MemoryKeeper, MemoryShelf, Tables};
 use octo_outside::{Blob, CallList, ItemList, MemoryClock, NameList};
 use octo_session::Session;
@@ -24,16 +26,22 @@ use std::test::Fail;
 const ROOT: &[u8] = b"root-key-0123456789";
 
 // More commands than a turn issues, and than four asks wait for.
-const LONG: &[u8] =
-    b"G28 ; --XY\r\nG1 X10\nG1 X11\nG1 X12\nG1 X13\nG1 X14\nG1 X15\nG1 X16\nG1 X17\n";
+const LONG: &[u8] = b"G28 ; --XY\r\nG1 X10\nG1 X11\nG1 X12\nG1 X13\nG1 X14\nG1 X15\nG1 X16\nG1 X17\n";
 
-/// What a run left: its number of calls, its host, and the counter and the keeper that it used.
+/// A host with its keeper and its shelf.
+#[derive(Drop)]
+struct Host {
+    house: House,
+    keeper: MemoryKeeper,
+    shelf: MemoryShelf,
+}
+
+/// What a run left: its number of calls, its host, and the counter.
 #[derive(Drop)]
 struct Finished {
     calls: u64,
-    house: House,
+    host: Host,
     counter: MemoryCounter,
-    keeper: MemoryKeeper,
 }
 
 fn name(text: &str) -> Result<Name, Fail> {
@@ -86,56 +94,118 @@ fn session(alloc: Global) -> Result<Session, Fail>
     Ok(Session::new(desk, sender))
 }
 
-fn make_keeper(alloc: Global, failing: &[u64]) -> Result<MemoryKeeper, Fail> {
+/// What a host begins with.
+#[derive(Drop)]
+struct Setting {
+    session: Session,
+    policy: Policy,
+    ports: NameList,
+}
+
+fn setting_of(alloc: Global) -> Result<Setting, Fail>
+    ensures desk { IfOk result (λ s. s.session.desk
+        ≡ new_desk s.session.desk.scripts s.session.desk.limits s.session.desk.poll_ms) }
+    ensures sender { IfOk result (λ s. s.session.sender
+        ≡ new_sender s.session.sender.window s.session.sender.limit) }
+    ensures sound { IfOk result (λ s. IsSound s.session.sender) }
+    ensures down { IfOk result (λ s. s.session.up ≡ false) }
+{
+    let policy = policy(alloc)?;
+    let ports = ports(alloc)?;
+    let session = session(alloc)?;
+    Ok(Setting {
+        session,
+        policy,
+        ports,
+    })
+}
+
+/// A keeper whose calls with these numbers fail, counted from 1.
+fn keeper_of(alloc: Global, failing: &[u64]) -> Result<MemoryKeeper, Fail> {
+    let mut numbers = CallList::new(alloc);
+    for number in failing {
+        numbers.push(*number)?;
+    }
     let tables = Tables {
         users: ItemList::new(alloc),
         queue: ItemList::new(alloc),
         prints: ItemList::new(alloc),
     };
-    let mut numbers = CallList::new(alloc);
-    for number in failing {
-        numbers.push(*number)?;
-    }
     Ok(MemoryKeeper::new(tables, numbers))
 }
 
-/// Runs a new host over these asks, where the keeper's calls with these numbers fail, counted from 1.
+/// A host, if it begins.
+fn house_of(
+    alloc: Global,
+    keeper: &mut MemoryKeeper,
+    shelf: &mut MemoryShelf,
+) -> Result<Result<House, BeginFault>, Fail>
+    ensures fresh { IfOk result (λ made. IfOk made (λ house. IsFresh (session_of house))) }
+{
+    let material = name("any")?;
+    let Setting {
+        session,
+        policy,
+        ports,
+    } = setting_of(alloc)?;
+    Ok(House::begin(alloc, session, policy, ports, material, keeper, shelf))
+}
+
+/// A host at whose keeper the calls with these numbers fail.
+fn host_of(alloc: Global, failing: &[u64]) -> Result<Host, Fail>
+    ensures fresh { IfOk result (λ host. IsFresh (session_of host.house)) }
+{
+    let mut keeper = keeper_of(alloc, failing)?;
+    let mut shelf = MemoryShelf::new(alloc, CallList::new(alloc));
+    let made = house_of(alloc, &mut keeper, &mut shelf)?;
+    let house = made?;
+    Ok(Host {
+        house,
+        keeper,
+        shelf,
+    })
+}
+
+/// Runs a host over a counter and a link.
+fn finish(
+    rt: &(impl Wait + Abort),
+    mut host: Host,
+    mut counter: MemoryCounter,
+    mut link: MemoryLink,
+) -> Finished
+    requires fresh { IsFresh (session_of host.house) }
+    requires answered { counter.given ≡ None }
+    requires open { counter.closed ≡ false }
+{
+    assert!(rt; !link.is_up());
+    let mut clock = MemoryClock::new(100, 10);
+    let calls = run(
+        rt,
+        &mut host.house,
+        &mut counter,
+        &mut link,
+        &mut clock,
+        &mut host.keeper,
+        &mut host.shelf,
+    );
+    Finished {
+        calls,
+        host,
+        counter,
+    }
+}
+
+/// Runs a new host over these asks, at whose keeper the calls with these numbers fail.
 fn run_asks(
     rt: &(impl Wait + Abort),
     alloc: Global,
     asks: AskList,
     failing: &[u64],
 ) -> Result<Finished, Fail> {
-    let mut keeper = make_keeper(alloc, failing)?;
-    let mut shelf = MemoryShelf::new(alloc, CallList::new(alloc));
-    let mut clock = MemoryClock::new(100, 10);
-    let mut link = link(alloc)?;
-    let mut counter = MemoryCounter::new(alloc, asks)?;
-    let mut house = House::begin(
-        alloc,
-        session(alloc)?,
-        policy(alloc)?,
-        ports(alloc)?,
-        name("any")?,
-        &mut keeper,
-        &mut shelf,
-    )?;
-    assert!(rt; !link.is_up());
-    let calls = run(
-        rt,
-        &mut house,
-        &mut counter,
-        &mut link,
-        &mut clock,
-        &mut keeper,
-        &mut shelf,
-    );
-    Ok(Finished {
-        calls,
-        house,
-        counter,
-        keeper,
-    })
+    let counter = MemoryCounter::new(alloc, asks)?;
+    let link = link(alloc)?;
+    let host = host_of(alloc, failing)?;
+    Ok(finish(rt, host, counter, link))
 }
 
 fn add(alloc: Global, asks: &mut AskList, key: &[u8], request: Request) -> Result<(), Fail> {
@@ -230,7 +300,7 @@ fn prints_after_the_leaves(rt: HostRuntime) -> Result<(), Fail> {
         _ => panic!(rt; "no note"),
     }
     assert!(rt; matches!(&entries[entries.len() - 1], Entry::Close));
-    let tables = ran.keeper.tables().ok_or("no tables")?;
+    let tables = ran.host.keeper.tables().ok_or("no tables")?;
     assert_eq!(rt; tables.prints.as_slice().len(), 1);
     assert!(rt; tables.prints.as_slice()[0].outcome == Outcome::Done);
     Ok(())
@@ -287,18 +357,20 @@ fn upload_prints(rt: HostRuntime) -> Result<(), Fail> {
     for entry in entries {
         match entry {
             Entry::Call {
-                answer: Answer::Uploaded {
-                    select: true,
-                    print: true,
-                    ..
-                },
+                answer:
+                    Answer::Uploaded {
+                        select: true,
+                        print: true,
+                        ..
+                    },
                 ..
             } => uploads += 1,
             Entry::Call {
-                answer: Answer::Connection {
-                    state: State::Printing,
-                    ..
-                },
+                answer:
+                    Answer::Connection {
+                        state: State::Printing,
+                        ..
+                    },
                 ..
             } => prints += 1,
             _ => {}
@@ -320,10 +392,10 @@ fn end_unwritten(rt: HostRuntime) -> Result<(), Fail> {
     leave(rt.alloc(), &mut asks)?;
     let ran = run_asks(&rt, rt.alloc(), asks, &[3])?;
     assert_eq!(rt; ran.calls, 22);
-    let tables = ran.keeper.tables().ok_or("no tables")?;
+    let tables = ran.host.keeper.tables().ok_or("no tables")?;
     assert_eq!(rt; tables.prints.as_slice().len(), 1);
     assert!(rt; tables.prints.as_slice()[0].outcome == Outcome::Active);
-    assert_eq!(rt; ran.house.unwritten(), Some((1, KeeperFault::Failed)));
+    assert_eq!(rt; ran.host.house.unwritten(), Some((1, KeeperFault::Failed)));
     Ok(())
 }
 
@@ -339,9 +411,9 @@ fn end_written_later(rt: HostRuntime) -> Result<(), Fail> {
     leave(rt.alloc(), &mut asks)?;
     let ran = run_asks(&rt, rt.alloc(), asks, &[3])?;
     assert_eq!(rt; ran.calls, 62);
-    let tables = ran.keeper.tables().ok_or("no tables")?;
+    let tables = ran.host.keeper.tables().ok_or("no tables")?;
     assert_eq!(rt; tables.prints.as_slice().len(), 1);
     assert!(rt; tables.prints.as_slice()[0].outcome == Outcome::Done);
-    assert_eq!(rt; ran.house.unwritten(), None);
+    assert_eq!(rt; ran.host.house.unwritten(), None);
     Ok(())
 }
