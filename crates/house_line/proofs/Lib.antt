@@ -3,6 +3,8 @@ pub mod Earlier
 pub mod Longer
 pub mod Grown
 pub mod Turns
-pub mod Stepping
+pub mod Standing
+pub mod Noting
+pub mod Ending
 pub mod Recorded
 pub mod Later

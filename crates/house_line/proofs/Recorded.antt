@@ -18,7 +18,9 @@ use Rattle.lossy_line.proofs.Told.{IsKept, turned_by}
 use Rattle.house_line.specs.Sessions.{end_of}
 use Rattle.house_line.specs.Tied.{AreTied}
 use Rattle.house_line.specs.InStep.{AreCalls, IsUnmade, AreInStep, InStep, TiesLines}
-use Rattle.house_line.proofs.Stepping.{begin_step, calls_step, still_step, noted_step, silent_step, end_step}
+use Rattle.house_line.proofs.Ending.{begin_step, calls_step, end_step}
+use Rattle.house_line.proofs.Standing.{still_step}
+use Rattle.house_line.proofs.Noting.{noted_step, silent_step}
 
 -- a host that begins
 pub begin_in_step : (kind : LinkKind) (before : Option History) (front : Option (List WorldEvent)) (x : SessionData) → IsUnmade x → InStep kind before before front front x

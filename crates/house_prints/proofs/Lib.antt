@@ -1,9 +1,16 @@
 pub mod Lists
 pub mod Marks
+pub mod Pulled
+pub mod Noted
 pub mod Requests
+pub mod Plain
+pub mod Others
+pub mod Clear
+pub mod Ending
 pub mod Calls
 pub mod Entries
 pub mod Steps
+pub mod Notes
 pub mod Histories
 pub mod Jobs
 pub mod Executed

@@ -14,7 +14,9 @@ use Rattle.house_line.proofs.Entries.{sessions-append}
 use Rattle.house_line.proofs.Grown.{sessions-other, sessions-opened, acked-before, acked-last, acked-ended, acked-new, open-after, shut_after}
 use Rattle.house_prints.specs.Prints.{LivesIn, LeavesSo, IsUnended, IsEnded, Lives}
 use Rattle.house_prints.proofs.Lists.{none_more, none_later}
-use Rattle.house_prints.proofs.Calls.{Held, Status, LeftSo, Leads, leads_calls, ArePlain, open_by_all, Passes, passes_calls, acked_calls, desk_calls, connecting_foreign, connecting_none, held_opened, ends_opened, acked_of_opened}
+use Rattle.house_prints.proofs.Others.{Held, Status, LeftSo}
+use Rattle.house_prints.proofs.Calls.{Leads, leads_calls, ArePlain, open_by_all, Passes, passes_calls, acked_calls, connecting_foreign, connecting_none, held_opened, ends_opened, acked_of_opened}
+use Rattle.house_prints.proofs.Plain.{desk_calls}
 use Rattle.house_prints.proofs.Entries.{issued-before, issued-last, issued-ended, issued-new, issued-whole, lives_on, lives_past, lives_opened, lives_nowhere, Place, earlier, here, later, place}
 
 module _ (scripts : ScriptTexts) (p : ℕ) (positive : nat_eq 0 p ≡ false) where

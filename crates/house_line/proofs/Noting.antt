@@ -1,0 +1,221 @@
+-- A turn keeps a host in step.
+use Rattle.std.proofs.Common.{Some, length, ◌≡◌, ◌⊎◌, inl, inr, ℕ, zero, suc, ◌+◌, ◌<◌, ◌≤◌, Bool, true, false, List, [], ◌∷◌, ◌++◌, refl, sym, ◌∙◌, ap, subst, append-nil, arith}
+use Rattle.std.specs.List.{list_any}
+use Rattle.desk_steps.specs.declared.issued.Note.{Note}
+use Rattle.desk_steps.specs.declared.link_fact.LinkFact.{LinkFact}
+use Rattle.desk_steps.specs.declared.link_fact.LinkFact.TheVariants as fact
+use Rattle.printer_model.specs.Executed.{is_send, opens, till}
+use Rattle.printer_model.specs.declared.event.WorldEvent.{WorldEvent}
+use Rattle.printer_link.specs.Link.{LinkKind, world_in}
+use Rattle.send_window.specs.declared.session_end.SessionEnd.{SessionEnd}
+use Rattle.octo_session.specs.Data.{SessionData, doing}
+use Rattle.octo_session.specs.Found.{Got, can_find}
+use Rattle.octo_session.specs.Found as found
+use Rattle.octo_session.specs.Turn.{texts_in}
+use Rattle.octo_session.specs.declared.found.Doing.{Doing}
+use Rattle.octo_session.specs.declared.found.Doing.TheVariants.{Dialling, HangingUp, Talking, Resting}
+use Rattle.octo_asks.specs.History.{History}
+use Rattle.octo_asks.specs.declared.entry.Entry.{Entry}
+use Rattle.octo_asks.specs.declared.entry.Entry.TheVariants as entry
+use Rattle.house_history.specs.Issued.{is_opening}
+use Rattle.house_history.specs.Legal.{up_after}
+use Rattle.house_history.specs.Noted.{lines_in}
+use Rattle.lossy_line.specs.Linked.{opened}
+use Rattle.lossy_line.specs.Tied.{IsTied, IsEndCaused}
+use Rattle.lossy_line.proofs.Promised.{turn_caused}
+use Rattle.lossy_line.proofs.Turned.{IsTurned, talks_up}
+use Rattle.house_line.specs.Sessions.{sessions, texts_of, most_in, acked_in, is_open, end_of}
+use Rattle.house_line.specs.Tied.{TiedThroughout}
+use Rattle.house_line.specs.InStep.{IsCurrent, AreInStep}
+use Rattle.house_line.proofs.Grown.{below_or, few_other, few_open, texts-before, acked-before, sessions-other, texts-last, acked-last, sessions-opened, texts-ended, acked-ended, texts-new, acked-new, open-after}
+use Rattle.house_line.proofs.Turns.{turn_stays, turn_opens, turn_shut}
+use Rattle.house_line.proofs.Standing.{leaves_of, tied_by, longer_throughout, entry_throughout, current_as}
+
+-- whether a session is open after a turn, as the history says it
+open_turn : (d : Doing) (f : LinkFact) (was : Bool) → can_find d f ≡ true → (d ≡ Talking → was ≡ true) → up_after f was ≡ found.up_after f was
+open_turn d fact.Quiet was can up = refl
+open_turn d fact.Opened was can up = refl
+open_turn Talking fact.Ready was can up = up refl
+open_turn Dialling fact.Ready was can up = absurd (cc)
+open_turn HangingUp fact.Ready was can up = absurd (cc)
+open_turn Resting fact.Ready was can up = absurd (cc)
+open_turn d fact.Closed was can up = refl
+open_turn d fact.NoPort was can up = refl
+open_turn d fact.Failed was can up = refl
+open_turn d (fact.Ended end) was can up = refl
+
+is_fact : (f : LinkFact) → (is_opening f ≡ true) ⊎ (is_opening f ≡ false)
+is_fact fact.Opened = inl refl
+is_fact fact.Quiet = inr refl
+is_fact fact.Ready = inr refl
+is_fact fact.Closed = inr refl
+is_fact fact.NoPort = inr refl
+is_fact fact.Failed = inr refl
+is_fact (fact.Ended end) = inr refl
+
+opened_fact : (f : LinkFact) → is_opening f ≡ true → f ≡ fact.Opened
+opened_fact fact.Opened is = refl
+opened_fact fact.Quiet is = absurd (cc)
+opened_fact fact.Ready is = absurd (cc)
+opened_fact fact.Closed is = absurd (cc)
+opened_fact fact.NoPort is = absurd (cc)
+opened_fact fact.Failed is = absurd (cc)
+opened_fact (fact.Ended end) is = absurd (cc)
+
+-- a fact that is an end
+end_is : (f : LinkFact) (end : SessionEnd) → end_of f ≡ Some end → f ≡ fact.Ended end
+end_is (fact.Ended why) end is = (let same : why ≡ end = cc in ap fact.Ended same)
+end_is fact.Quiet end is = absurd (cc is)
+end_is fact.Opened end is = absurd (cc is)
+end_is fact.Ready end is = absurd (cc is)
+end_is fact.Closed end is = absurd (cc is)
+end_is fact.NoPort end is = absurd (cc is)
+end_is fact.Failed end is = absurd (cc is)
+
+-- only a turn that talks ends a session
+ends_talking : (end : SessionEnd) (d : Doing) → can_find d (fact.Ended end) ≡ true → d ≡ Talking
+ends_talking end Talking can = refl
+ends_talking end Dialling can = absurd (cc)
+ends_talking end HangingUp can = absurd (cc)
+ends_talking end Resting can = absurd (cc)
+
+other_fact : (f : LinkFact) → is_opening f ≡ false → f ≡ fact.Opened → ⊥
+other_fact f is same = (let no : true ≡ false = ap is_opening (sym same) ∙ is in absurd (cc))
+
+module _ (moment : ℕ) (kind : LinkKind) (x y : SessionData) (got : Got) (f : LinkFact) (texts : List (List ℕ)) (front : List WorldEvent) (h : History)
+    (past added : List WorldEvent) (t : IsTurned moment kind x y got f texts (world_in kind past) added) (i : AreInStep kind front h past x) where
+  -- nothing is sent in a turn over no link, until one is made
+  quiet_turn : is_open h ≡ false → list_any is_send (till 0 added) ≡ false
+  quiet_turn shut = turn_shut moment kind x y got f texts past added (sym i.open_as ∙ shut) t
+
+  along : TiedThroughout kind front h (past ++ added)
+  along = longer_throughout kind front h past added i.counted quiet_turn i.throughout
+
+  -- an end has its cause
+  caused_turn : (end : SessionEnd) → f ≡ fact.Ended end → IsEndCaused kind end (past ++ added)
+  caused_turn end is = by (sessions h) (texts_of (sessions h) h) (acked_in (sessions h) h) i.current
+    where
+      by : (n : ℕ) (issued : List (List ℕ)) (acked : ℕ) → IsCurrent kind n issued acked past x → IsEndCaused kind end (past ++ added)
+      by zero issued acked u =
+          let talks : doing x ≡ Talking = ends_talking end (doing x) (subst (λ (g : LinkFact). can_find (doing x) g ≡ true) is t.can) in
+          let no : true ≡ false = sym (talks_up x talks) ∙ u.down in
+          absurd (cc no)
+      by (suc n) issued acked c = turn_caused moment kind x y got f texts issued past added end is t (opened c.0)
+
+  open_then : (was : Bool) → was ≡ x.up → up_after f was ≡ y.up
+  open_then was is = ap (λ (b : Bool). up_after f b) is ∙ open_turn (doing x) f x.up t.can (λ talks. talks_up x talks) ∙ sym t.up
+
+  module _ (note : Note) (its_fact : note.fact ≡ f) (its_texts : texts_in (lines_in note) ≡ texts) (its_acked : y.sender.acked ≡ note.acked) where
+    abbrev e : Entry
+    e = entry.Note note
+
+    -- a note of a turn that makes no link
+    noted_other : is_opening note.fact ≡ false → AreInStep kind front (h ++ e ∷ []) (past ++ added) y
+    noted_other other =
+        let n : sessions (h ++ e ∷ []) ≡ sessions h = sessions-other h e other in
+        let l = turn_stays moment kind x y got f texts front past added (sessions h) (λ s. texts_of s h) (λ s. acked_in s h) note.acked
+        (λ is. other_fact note.fact other (its_fact ∙ is)) t its_acked (leaves_of kind front h past x i)
+        in
+        let counted : opens (past ++ added) ≡ opens front + sessions (h ++ e ∷ []) = omega (arith, l.counted, n) in
+        let former = λ (s : ℕ) (some : 1 ≤ s) (below : s < sessions (h ++ e ∷ [])). earlier s some (omega (arith, below, n)) (l.former s some (omega (arith, below, n))) in
+        let texts_now : texts_of (sessions h) (h ++ e ∷ []) ≡ texts_of (sessions h) h ++ texts =
+        texts-last h e other ∙ ap (λ (l : List (List ℕ)). texts_of (sessions h) h ++ l) its_texts
+        in
+        let few = few_other h e other i.few (subst (λ (l : List (List ℕ)). length l ≤ most_in (sessions h)) (sym texts_now) l.few) in
+        let current : IsCurrent kind (sessions (h ++ e ∷ [])) (texts_of (sessions (h ++ e ∷ [])) (h ++ e ∷ [])) (acked_in (sessions (h ++ e ∷ [])) (h ++ e ∷ [])) (past ++ added) y =
+        subst (λ (k : ℕ). IsCurrent kind k (texts_of k (h ++ e ∷ [])) (acked_in k (h ++ e ∷ [])) (past ++ added) y) (sym n)
+        (current_as kind (sessions h) (sessions h) (texts_of (sessions h) h ++ texts) (texts_of (sessions h) (h ++ e ∷ [])) note.acked (acked_in (sessions h) (h ++ e ∷ []))
+        (past ++ added) y refl (sym (texts-last h e other ∙ ap (λ (l : List (List ℕ)). texts_of (sessions h) h ++ l) its_texts)) (sym (acked-last h e other)) l.current)
+        in
+        record {
+          counted = counted;
+          former = former;
+          few = few;
+          current = current;
+          open_as = open-after h e ∙ ap (λ (g : LinkFact). up_after g (is_open h)) its_fact ∙ open_then (is_open h) i.open_as;
+          throughout = entry_throughout kind front h e (past ++ added) (tied_by kind front (h ++ e ∷ []) (past ++ added) y counted former few current)
+              (λ end ends. caused_turn end (sym its_fact ∙ end_is note.fact end ends)) along;
+        }
+      where
+        earlier : (s : ℕ) → 1 ≤ s → s < sessions h → IsTied kind (texts_of s h) (acked_in s h) (past ++ added) (opens front + s) →
+            IsTied kind (texts_of s (h ++ e ∷ [])) (acked_in s (h ++ e ∷ [])) (past ++ added) (opens front + s)
+        earlier s some below tied =
+            subst (λ (l : List (List ℕ)). IsTied kind l (acked_in s (h ++ e ∷ [])) (past ++ added) (opens front + s)) (sym (texts-before h e (e ∷ []) s below))
+            (subst (λ (a : ℕ). IsTied kind (texts_of s h) a (past ++ added) (opens front + s)) (sym (acked-before h e (e ∷ []) s below)) tied)
+
+    -- a note of one that does
+    noted_opened : (note.acked ≡ 0) → is_opening note.fact ≡ true → AreInStep kind front (h ++ e ∷ []) (past ++ added) y
+    noted_opened none_acked opens_now =
+        let n : sessions (h ++ e ∷ []) ≡ suc (sessions h) = sessions-opened h e opens_now in
+        let l = turn_opens moment kind x y got f texts front past added (sessions h) (λ s. texts_of s h) (λ s. acked_in s h) note.acked
+        (sym its_fact ∙ opened_fact note.fact opens_now) t its_acked (leaves_of kind front h past x i)
+        in
+        let counted : opens (past ++ added) ≡ opens front + sessions (h ++ e ∷ []) = omega (arith, l.counted, n) in
+        let former = λ (s : ℕ) (some : 1 ≤ s) (below : s < sessions (h ++ e ∷ [])).
+        earlier s some (below_or s (sessions h) (omega (arith, below, n))) (l.former s some (omega (arith, below, n)))
+        in
+        let few = few_open h e opens_now i.few in
+        let current : IsCurrent kind (sessions (h ++ e ∷ [])) (texts_of (sessions (h ++ e ∷ [])) (h ++ e ∷ [])) (acked_in (sessions (h ++ e ∷ [])) (h ++ e ∷ [])) (past ++ added) y =
+        subst (λ (k : ℕ). IsCurrent kind k (texts_of k (h ++ e ∷ [])) (acked_in k (h ++ e ∷ [])) (past ++ added) y) (sym n)
+        (current_as kind (suc (sessions h)) (suc (sessions h)) [] (texts_of (suc (sessions h)) (h ++ e ∷ [])) note.acked (acked_in (suc (sessions h)) (h ++ e ∷ []))
+        (past ++ added) y refl (sym (texts-new h e opens_now)) (none_acked ∙ sym (acked-new h e opens_now)) l.current)
+        in
+        record {
+          counted = counted;
+          former = former;
+          few = few;
+          current = current;
+          open_as = open-after h e ∙ ap (λ (g : LinkFact). up_after g (is_open h)) its_fact ∙ open_then (is_open h) i.open_as;
+          throughout = entry_throughout kind front h e (past ++ added) (tied_by kind front (h ++ e ∷ []) (past ++ added) y counted former few current)
+              (λ end ends. caused_turn end (sym its_fact ∙ end_is note.fact end ends)) along;
+        }
+      where
+        texts_now : (s : ℕ) → (s < sessions h) ⊎ (s ≡ sessions h) → texts_of s (h ++ e ∷ []) ≡ texts_of s h
+        texts_now s (inl below) = texts-before h e (e ∷ []) s below
+        texts_now s (inr same) = subst (λ (k : ℕ). texts_of k (h ++ e ∷ []) ≡ texts_of k h) (sym same) (texts-ended h e opens_now)
+
+        acked_now : (s : ℕ) → (s < sessions h) ⊎ (s ≡ sessions h) → acked_in s (h ++ e ∷ []) ≡ acked_in s h
+        acked_now s (inl below) = acked-before h e (e ∷ []) s below
+        acked_now s (inr same) = subst (λ (k : ℕ). acked_in k (h ++ e ∷ []) ≡ acked_in k h) (sym same) (acked-ended h e opens_now)
+
+        earlier : (s : ℕ) → 1 ≤ s → (s < sessions h) ⊎ (s ≡ sessions h) → IsTied kind (texts_of s h) (acked_in s h) (past ++ added) (opens front + s) →
+            IsTied kind (texts_of s (h ++ e ∷ [])) (acked_in s (h ++ e ∷ [])) (past ++ added) (opens front + s)
+        earlier s some at tied =
+            subst (λ (l : List (List ℕ)). IsTied kind l (acked_in s (h ++ e ∷ [])) (past ++ added) (opens front + s)) (sym (texts_now s at))
+            (subst (λ (a : ℕ). IsTied kind (texts_of s h) a (past ++ added) (opens front + s)) (sym (acked_now s at)) tied)
+
+    -- a turn with this note
+    pub noted_step : (note.fact ≡ fact.Opened → note.acked ≡ 0) → AreInStep kind front (h ++ e ∷ []) (past ++ added) y
+    noted_step none_acked = by (is_fact note.fact)
+      where
+        by : (is_opening note.fact ≡ true) ⊎ (is_opening note.fact ≡ false) → AreInStep kind front (h ++ e ∷ []) (past ++ added) y
+        by (inl opens_now) = noted_opened (none_acked (opened_fact note.fact opens_now)) opens_now
+        by (inr other) = noted_other other
+
+  -- a turn without a note
+  pub silent_step : f ≡ fact.Quiet → texts ≡ [] → y.sender.acked ≡ x.sender.acked → AreInStep kind front h (past ++ added) y
+  silent_step quiet none same = stays (sessions h) refl i.current
+    where
+      other : f ≡ fact.Opened → ⊥
+      other is = (let no : fact.Quiet ≡ fact.Opened = sym quiet ∙ is in absurd (cc))
+
+      stays : (n : ℕ) → sessions h ≡ n → IsCurrent kind n (texts_of n h) (acked_in n h) past x → AreInStep kind front h (past ++ added) y
+      stays n is c =
+          let l = turn_stays moment kind x y got f texts front past added (sessions h) (λ s. texts_of s h) (λ s. acked_in s h) y.sender.acked other t refl
+          (leaves_of kind front h past x i)
+          in
+          record {
+            counted = l.counted;
+            former = l.former;
+            few = i.few;
+            current = last (sessions h) i.current l.current;
+            open_as = sym (ap (λ (g : LinkFact). up_after g (is_open h)) quiet) ∙ open_then (is_open h) i.open_as;
+            throughout = along;
+          }
+        where
+          last : (n : ℕ) → IsCurrent kind n (texts_of n h) (acked_in n h) past x → IsCurrent kind n (texts_of n h ++ texts) y.sender.acked (past ++ added) y →
+              IsCurrent kind n (texts_of n h) (acked_in n h) (past ++ added) y
+          last zero c d = d
+          last (suc n) c d =
+              current_as kind (suc n) (suc n) (texts_of (suc n) h ++ texts) (texts_of (suc n) h) y.sender.acked (acked_in (suc n) h) (past ++ added) y refl
+              (ap (λ (l : List (List ℕ)). texts_of (suc n) h ++ l) none ∙ append-nil (texts_of (suc n) h)) (same ∙ c.1) d

@@ -1,0 +1,171 @@
+-- A host in step with its histories is tied; entries that issue and acknowledge nothing.
+use Rattle.std.proofs.Common.{Some, None, length, ◌≡◌, ◌⊎◌, inl, inr, ℕ, zero, suc, ◌+◌, ◌<◌, ◌≤◌, Bool, false, List, [], ◌∷◌, ◌++◌, refl, sym, ◌∙◌, ap, subst, append_assoc, append-nil, arith}
+use Rattle.std.specs.List.{list_any}
+use Rattle.printer_model.specs.World.{apply}
+use Rattle.printer_model.specs.Executed.{is_send, opens, till}
+use Rattle.printer_model.specs.Exchanged.{sends_since}
+use Rattle.printer_model.specs.declared.event.WorldEvent.{WorldEvent}
+use Rattle.printer_model.specs.declared.event.WorldEvent.TheVariants.{Opened}
+use Rattle.printer_model.proofs.Sessions.{opens-append}
+use Rattle.printer_link.specs.Link.{LinkKind, world_in}
+use Rattle.send_window.specs.Counting.{IsQuiet}
+use Rattle.send_window.specs.Data.{SenderData, IsSound}
+use Rattle.send_window.specs.declared.session_end.SessionEnd.{SessionEnd}
+use Rattle.octo_session.specs.Data.{SessionData}
+use Rattle.octo_session.specs.Turn.{texts_in}
+use Rattle.octo_asks.specs.History.{History}
+use Rattle.octo_asks.specs.declared.entry.Entry.{Entry}
+use Rattle.house_history.specs.Issued.{is_opened, lines_at}
+use Rattle.lossy_wires.specs.Traces.{IsTraced}
+use Rattle.lossy_line.specs.Linked.{IsCaused, IsOpened}
+use Rattle.lossy_line.specs.Tied.{IsTied, IsEndCaused}
+use Rattle.lossy_line.proofs.Tying.{opened_tied}
+use Rattle.house_line.specs.Sessions.{sessions, texts_of, most_in, acked_at, acked_in, open_at, open_after, is_open, end_at}
+use Rattle.house_line.specs.Tied.{Tied, WasTied, TiedThroughout}
+use Rattle.house_line.specs.InStep.{IsCurrent, AreInStep}
+use Rattle.house_line.proofs.Entries.{sessions-append, open_after-append, end_after-append}
+use Rattle.house_line.proofs.Earlier.{unsent_more}
+use Rattle.house_line.proofs.Grown.{below_or, few_other, texts-before, acked-before, sessions-other, texts-last, acked-last, open-after, shut_after, Split, whole, within, split}
+use Rattle.house_line.proofs.Turns.{Leaves}
+
+-- the sessions of a history and its link, as they are in step
+pub leaves_of : (kind : LinkKind) (front : List WorldEvent) (h : History) (past : List WorldEvent) (x : SessionData) → AreInStep kind front h past x →
+    Leaves kind front (sessions h) (λ s. texts_of s h) (λ s. acked_in s h) (texts_of (sessions h) h) (acked_in (sessions h) h) past x
+leaves_of kind front h past x i = record { counted = i.counted; former = i.former; current = i.current; few = i.few (sessions h) (omega arith) }
+
+-- then they are tied
+pub tied_by : (kind : LinkKind) (front : List WorldEvent) (h : History) (past : List WorldEvent) (x : SessionData) → opens past ≡ opens front + sessions h →
+    ((s : ℕ) → 1 ≤ s → s < sessions h → IsTied kind (texts_of s h) (acked_in s h) past (opens front + s)) →
+    ((s : ℕ) → s ≤ sessions h → length (texts_of s h) ≤ most_in s) → IsCurrent kind (sessions h) (texts_of (sessions h) h) (acked_in (sessions h) h) past x →
+    Tied kind front h past
+tied_by kind front h past x counted former few current = record { counted = counted; each = λ s some most. each s some (below_or s (sessions h) (omega (arith, most))); few = few }
+  where
+    last : (n : ℕ) (texts : List (List ℕ)) (acked : ℕ) → 1 ≤ n → opens past ≡ opens front + n → IsCurrent kind n texts acked past x →
+        IsTied kind texts acked past (opens front + n)
+    last zero texts acked some count c = absurd (omega arith)
+    last (suc n) texts acked some count c =
+        subst (λ (a : ℕ). IsTied kind texts a past (opens front + suc n)) c.1
+        (subst (λ (k : ℕ). IsTied kind texts x.sender.acked past k) count (opened_tied kind texts x past c.0))
+
+    each : (s : ℕ) → 1 ≤ s → (s < sessions h) ⊎ (s ≡ sessions h) → IsTied kind (texts_of s h) (acked_in s h) past (opens front + s)
+    each s some (inl below) = former s some below
+    each s some (inr same) =
+        subst (λ (k : ℕ). IsTied kind (texts_of k h) (acked_in k h) past (opens front + k)) (sym same)
+        (last (sessions h) (texts_of (sessions h) h) (acked_in (sessions h) h) (omega (arith, same, some)) counted current)
+
+pub tied_now : (kind : LinkKind) (front : List WorldEvent) (h : History) (past : List WorldEvent) (x : SessionData) → AreInStep kind front h past x → Tied kind front h past
+tied_now kind front h past x i = tied_by kind front h past x i.counted i.former i.few i.current
+
+-- more events, of which none is a sending if no session is open
+pub longer_throughout : (kind : LinkKind) (front : List WorldEvent) (h : History) (past added : List WorldEvent) → opens past ≡ opens front + sessions h →
+    (is_open h ≡ false → list_any is_send (till 0 added) ≡ false) → TiedThroughout kind front h past → TiedThroughout kind front h (past ++ added)
+longer_throughout kind front h past added counted quiet all first later is =
+    let w : WasTied kind front first past = all first later is in
+    record {
+      so_far = w.so_far;
+      since = w.since ++ added;
+      is = ap (λ (es : List WorldEvent). es ++ added) w.is ∙ append_assoc w.so_far w.since added;
+      tied = w.tied;
+      caused = w.caused;
+      unsent = λ shut. unsent_more w.since added (w.unsent shut) (λ none. quiet (still_shut w shut none));
+    }
+  where
+    still_shut : (w : WasTied kind front first past) → is_open first ≡ false → opens w.since ≡ 0 → is_open h ≡ false
+    still_shut w shut none =
+        let few : sessions later ≡ 0 =
+        omega (arith, ap sessions is, sessions-append first later, ap opens w.is, opens-append w.so_far w.since, w.tied.counted, counted, none)
+        in
+        ap is_open is ∙ open_after-append first later false ∙ ap (λ (b : Bool). open_after later b) shut ∙ shut_after later few
+
+-- an entry more, after which the two are tied
+pub entry_throughout : (kind : LinkKind) (front : List WorldEvent) (h : History) (e : Entry) (past : List WorldEvent) → Tied kind front (h ++ e ∷ []) past →
+    ((end : SessionEnd) → end_at e ≡ Some end → IsEndCaused kind end past) → TiedThroughout kind front h past → TiedThroughout kind front (h ++ e ∷ []) past
+entry_throughout kind front h e past tied caused all first later is = by (split h e first later is)
+  where
+    by : Split h e first later → WasTied kind front first past
+    by (whole same none) =
+        subst (λ (f : History). WasTied kind front f past) (sym same)
+        (record {
+          so_far = past;
+          since = [];
+          is = sym (append-nil past);
+          tied = tied;
+          caused = λ end ends. caused end (sym (end_after-append h e None) ∙ ends);
+          unsent = λ shut. refl;
+        })
+    by (within rest at behind) = all first rest at
+
+-- the session with another desk
+pub same_current : (kind : LinkKind) (n : ℕ) (texts : List (List ℕ)) (acked : ℕ) (past : List WorldEvent) (x y : SessionData) → y.sender ≡ x.sender → y.up ≡ x.up →
+    IsCurrent kind n texts acked past x → IsCurrent kind n texts acked past y
+same_current kind zero texts acked past x y sender up u =
+    record { down = up ∙ u.down; sound = subst (λ (s : SenderData). IsSound s) (sym sender) u.sound }
+same_current kind (suc n) texts acked past x y sender up c =
+    let o : IsOpened kind texts x past = c.0 in
+    let T : SenderData → Type 0 = λ s. IsTraced (world_in kind o.front).log (apply (world_in kind o.front) (Opened o.last)) texts s o.rest in
+    let Q : SenderData → Type 0 = λ s. IsQuiet (sends_since 0 o.rest) s in
+    let C : SenderData → Type 0 = λ s. IsCaused s.ended (apply (world_in kind o.front) (Opened o.last)) o.rest in (
+      record {
+        front = o.front;
+        last = o.last;
+        rest = o.rest;
+        is = o.is;
+        can = o.can;
+        traced = subst T (sym sender) o.traced;
+        open_as = o.open_as ∙ sym up;
+        quiet = λ is_up. subst Q (sym sender) (o.quiet (sym up ∙ is_up));
+        caused = subst C (sym sender) o.caused;
+      },
+      ap (λ (s : SenderData). s.acked) sender ∙ c.1,
+    )
+
+-- the current session with other words for what it issued and has acknowledged
+pub current_as : (kind : LinkKind) (n m : ℕ) (texts other : List (List ℕ)) (acked other_acked : ℕ) (past : List WorldEvent) (x : SessionData) →
+    n ≡ m → texts ≡ other → acked ≡ other_acked → IsCurrent kind n texts acked past x → IsCurrent kind m other other_acked past x
+current_as kind n m texts other acked other_acked past x same_n same_texts same_acked c =
+    subst (λ (k : ℕ). IsCurrent kind k other other_acked past x) same_n
+    (subst (λ (l : List (List ℕ)). IsCurrent kind n l other_acked past x) same_texts
+    (subst (λ (a : ℕ). IsCurrent kind n texts a past x) same_acked c))
+
+module _ (kind : LinkKind) (front : List WorldEvent) (h : History) (past : List WorldEvent) (x y : SessionData) where
+  -- an entry that issues and acknowledges nothing: a call, or a note that only the desk has changed
+  pub still_step : (e : Entry) → is_opened e ≡ false → end_at e ≡ None → lines_at e ≡ [] → ((was : ℕ) → x.sender.acked ≡ was → acked_at e was ≡ was) →
+      ((was : Bool) → open_at e was ≡ was) → y.sender ≡ x.sender → y.up ≡ x.up → AreInStep kind front h past x → AreInStep kind front (h ++ e ∷ []) past y
+  still_step e other endless silent same_acked same_open sender up i =
+      let n : sessions (h ++ e ∷ []) ≡ sessions h = sessions-other h e other in
+      let texts : texts_of (sessions h) (h ++ e ∷ []) ≡ texts_of (sessions h) h =
+      texts-last h e other ∙ ap (λ (l : List (List ℕ)). texts_of (sessions h) h ++ l) (ap texts_in silent) ∙ append-nil (texts_of (sessions h) h)
+      in
+      let counted : opens past ≡ opens front + sessions (h ++ e ∷ []) = omega (arith, i.counted, n) in
+      let former = λ (s : ℕ) (some : 1 ≤ s) (below : s < sessions (h ++ e ∷ [])). earlier s some (omega (arith, below, n)) i in
+      let few = few_other h e other i.few (subst (λ (l : List (List ℕ)). length l ≤ most_in (sessions h)) (sym texts) (i.few (sessions h) (omega arith))) in
+      let current = now (sessions h) (sessions (h ++ e ∷ [])) (sym n) (texts_of (sessions h) h) (acked_in (sessions h) h) texts (acked-last h e other) i.current in
+      record {
+        counted = counted;
+        former = former;
+        few = few;
+        current = current;
+        open_as = open-after h e ∙ same_open (is_open h) ∙ i.open_as ∙ sym up;
+        throughout = entry_throughout kind front h e past (tied_by kind front (h ++ e ∷ []) past y counted former few current)
+            (λ end ends. absurd (let no : None ≡ Some end = sym endless ∙ ends in cc no)) i.throughout;
+      }
+    where
+      earlier : (s : ℕ) → 1 ≤ s → s < sessions h → AreInStep kind front h past x →
+          IsTied kind (texts_of s (h ++ e ∷ [])) (acked_in s (h ++ e ∷ [])) past (opens front + s)
+      earlier s some below i =
+          subst (λ (l : List (List ℕ)). IsTied kind l (acked_in s (h ++ e ∷ [])) past (opens front + s)) (sym (texts-before h e (e ∷ []) s below))
+          (subst (λ (a : ℕ). IsTied kind (texts_of s h) a past (opens front + s)) (sym (acked-before h e (e ∷ []) s below)) (i.former s some below))
+
+      acked_same : (n : ℕ) (texts : List (List ℕ)) (acked : ℕ) → IsCurrent kind n texts acked past x → 1 ≤ n → acked_at e acked ≡ acked
+      acked_same zero texts acked c some = absurd (omega arith)
+      acked_same (suc n) texts acked c some = same_acked acked c.1
+
+      now : (n m : ℕ) → n ≡ m → (texts : List (List ℕ)) (acked : ℕ) → texts_of n (h ++ e ∷ []) ≡ texts → acked_in n (h ++ e ∷ []) ≡ acked_at e acked →
+          IsCurrent kind n texts acked past x → IsCurrent kind m (texts_of m (h ++ e ∷ [])) (acked_in m (h ++ e ∷ [])) past y
+      now zero m same texts acked texts_are acked_is c =
+          subst (λ (k : ℕ). IsCurrent kind k (texts_of k (h ++ e ∷ [])) (acked_in k (h ++ e ∷ [])) past y) same (same_current kind zero texts acked past x y sender up c)
+      now (suc n) m same texts acked texts_are acked_is c =
+          subst (λ (k : ℕ). IsCurrent kind k (texts_of k (h ++ e ∷ [])) (acked_in k (h ++ e ∷ [])) past y) same
+          (current_as kind (suc n) (suc n) texts (texts_of (suc n) (h ++ e ∷ [])) acked (acked_in (suc n) (h ++ e ∷ [])) past y refl (sym texts_are)
+          (sym (acked_is ∙ same_acked acked c.1))
+          (same_current kind (suc n) texts acked past x y sender up c))

@@ -1,0 +1,184 @@
+-- A print over a call: what it sees of others.
+use Rattle.std.proofs.Common.{◌≡◌, ◌⊎◌, inl, inr, ℕ, ◌<◌, ◌≤◌, Bool, false, nat_eq, List, [], ◌∷◌, ◌++◌, length, drop, Option, None, Some, Result, Ok, Err, refl, sym, ◌∙◌, ap, subst, append-nil, arith}
+use Rattle.desk_steps.specs.Data.{ScriptTexts, Data, Line}
+use Rattle.desk_steps.specs.Table.{start_at, restart_at}
+use Rattle.desk_steps.specs.Pull.{pull_step}
+use Rattle.desk_steps.specs.Note.{note_step}
+use Rattle.desk_steps.specs.Run.{Fate, Finished, Stopped, Left, Unplugged, Broken, Run, after, after_start, after_restart, after_pull, after_note, lines_of, pulled_of, of_print, DeskCall, Connect, Disconnect, Select, DropFile, Start, Restart, Pause, Resume, Toggle, Cancel, Manually, Pull, Note, MayCall}
+use Rattle.desk_steps.specs.declared.state.Refusal.{Refusal}
+use Rattle.desk_steps.specs.declared.state.State.{State}
+use Rattle.desk_steps.specs.declared.state.State.TheVariants.{Offline, Connecting, Operational, Printing, Pausing, Paused, Cancelling, Finishing, Closing, Fault}
+use Rattle.desk_steps.specs.declared.link_fact.LinkFact.{LinkFact}
+use Rattle.print_records.specs.declared.ending.Ending.{Ending}
+use Rattle.desk_steps.proofs.Foreign.{ForeignTo, IsIdle, IsNotOf, IsNoEndOf, foreign-pull, foreign-note}
+use Rattle.desk_steps.proofs.Known.{Going, KnownOf}
+use Rattle.desk_steps.proofs.Lines.{of_print-other}
+use Rattle.house_verdicts.specs.Desk.{desk_after, line_pulled}
+use Rattle.house_history.specs.Legal.{up_after}
+use Rattle.house_prints.proofs.Lists.{none_more, none_later, own_none}
+use Rattle.house_prints.proofs.Marks.{Marked, marked_request, acked_request}
+use Rattle.house_prints.proofs.Pulled.{drawn_lines, marked_pull, acked_pull}
+use Rattle.house_prints.proofs.Noted.{marked_note, acked_note}
+use Rattle.house_prints.proofs.Plain.{IsPlain, open_by, shut_by}
+
+module _ (scripts : ScriptTexts) (p : ℕ) (positive : nat_eq 0 p ≡ false) where
+  -- the print hasn't begun, is going on, or has ended
+  abbrev pub IsClear : Run → Type 0
+  IsClear run =
+      (of_print p run.begun ≡ [])
+      ⊎ (Going scripts p positive run.desk (of_print p run.begun) (pulled_of p run.pulled) (of_print p run.ends) ⊎ (of_print p run.ends ≡ [] → ⊥))
+
+  -- a run, and the lines of its last session
+  pub record Held (run : Run) (lines : List Line) : Type 0 where
+    pub scripts_are : run.desk.scripts ≡ scripts
+    pub known : KnownOf scripts p positive run
+    pub marks : Marked p run.desk lines
+    pub clear : IsClear run
+
+  -- what an ended print leaves: all its lines are acknowledged, or no session is open
+  abbrev pub LeftSo : Fate → ℕ → List Line → Bool → Type 0
+  LeftSo Finished acked lines is_open = lines_of p (drop acked lines) ≡ []
+  LeftSo Stopped acked lines is_open = lines_of p (drop acked lines) ≡ []
+  LeftSo Left acked lines is_open = lines_of p (drop acked lines) ≡ []
+  LeftSo Unplugged acked lines is_open = is_open ≡ false
+  LeftSo Broken acked lines is_open = is_open ≡ false
+
+  -- the print hasn't ended, or has ended so
+  abbrev pub Status : List Fate → ℕ → List Line → Bool → Type 0
+  Status fates acked lines is_open = (fates ≡ []) ⊎ ((f : Fate) × (fates ≡ f ∷ []) × LeftSo f acked lines is_open)
+
+  -- it stays so
+  pub left_on : (f : Fate) (acked later : ℕ) (lines more : List Line) (was now : Bool) → acked ≤ later → lines_of p more ≡ [] → (was ≡ false → now ≡ false) →
+      LeftSo f acked lines was → LeftSo f later (lines ++ more) now
+  left_on Finished acked later lines more was now below none shut l = none_later p acked later (lines ++ more) below (none_more p acked lines more l none)
+  left_on Stopped acked later lines more was now below none shut l = none_later p acked later (lines ++ more) below (none_more p acked lines more l none)
+  left_on Left acked later lines more was now below none shut l = none_later p acked later (lines ++ more) below (none_more p acked lines more l none)
+  left_on Unplugged acked later lines more was now below none shut l = shut l
+  left_on Broken acked later lines more was now below none shut l = shut l
+
+  -- a print that has ended is touched by no call
+  pub ended_foreign : (run : Run) (f : Fate) → of_print p run.ends ≡ f ∷ [] → KnownOf scripts p positive run → ForeignTo p run.desk
+  ended_foreign run f is (inl k) = k.foreign
+  ended_foreign run f is (inr (inl k)) = absurd (let no : f ∷ [] ≡ [] = sym is ∙ k.no_fate in cc no)
+  ended_foreign run f is (inr (inr k)) = k.foreign
+
+  -- a print to come isn't pulled
+  other_ahead : (moment : ℕ) (run : Run) → KnownOf scripts p positive run → run.desk.greatest < p → IsNotOf p (pull_step moment run.desk).0
+  other_ahead moment run (inl k) below = (foreign-pull p moment run.desk k.foreign).1
+  other_ahead moment run (inr (inl k)) below = absurd (let same : run.desk.greatest ≡ p = k.current.is in omega (arith, same, below))
+  other_ahead moment run (inr (inr k)) below = absurd (omega (arith, k.passed, below))
+
+  none_new : (d e : Data) (lines : List Line) → Marked p e lines → Marked p e (lines ++ [])
+  none_new d e lines m = subst (λ (l : List Line). Marked p e l) (sym (append-nil lines)) m
+
+  pub marked_call : (call : DeskCall) (run : Run) (lines : List Line) → MayCall call run.desk → IsPlain call run.desk →
+      length (lines ++ drawn_lines (line_pulled call run.desk)) ≤ 18446744073709551615 → Held run lines →
+      Marked p (desk_after call run.desk) (lines ++ drawn_lines (line_pulled call run.desk))
+  marked_call (Pull moment) run lines may plain few h = marked_pull p positive moment run.desk lines (other_ahead moment run h.known) few h.marks
+  marked_call (Note acked f moment) run lines may plain few h = none_new run.desk _ lines (marked_note p positive acked f moment run.desk lines plain.0 plain.1 h.marks)
+  marked_call (Connect port) run lines may plain few h = none_new run.desk _ lines (marked_request p (Connect port) run.desk lines tt may h.marks)
+  marked_call Disconnect run lines may plain few h = none_new run.desk _ lines (marked_request p Disconnect run.desk lines tt may h.marks)
+  marked_call (Select file) run lines may plain few h = none_new run.desk _ lines (marked_request p (Select file) run.desk lines tt may h.marks)
+  marked_call (DropFile name) run lines may plain few h = none_new run.desk _ lines (marked_request p (DropFile name) run.desk lines tt may h.marks)
+  marked_call (Start q) run lines may plain few h = none_new run.desk _ lines (marked_request p (Start q) run.desk lines tt may h.marks)
+  marked_call (Restart q) run lines may plain few h = none_new run.desk _ lines (marked_request p (Restart q) run.desk lines tt may h.marks)
+  marked_call Pause run lines may plain few h = none_new run.desk _ lines (marked_request p Pause run.desk lines tt may h.marks)
+  marked_call Resume run lines may plain few h = none_new run.desk _ lines (marked_request p Resume run.desk lines tt may h.marks)
+  marked_call Toggle run lines may plain few h = none_new run.desk _ lines (marked_request p Toggle run.desk lines tt may h.marks)
+  marked_call Cancel run lines may plain few h = none_new run.desk _ lines (marked_request p Cancel run.desk lines tt may h.marks)
+  marked_call (Manually texts) run lines may plain few h = none_new run.desk _ lines (marked_request p (Manually texts) run.desk lines tt may h.marks)
+
+  pub acked_up : (call : DeskCall) (d : Data) → IsPlain call d → d.acked ≤ (desk_after call d).acked
+  acked_up (Pull moment) d plain = omega (arith, acked_pull p positive moment d)
+  acked_up (Note acked f moment) d plain = omega (arith, acked_note p positive acked f moment d plain.0, plain.1)
+  acked_up (Connect port) d plain = omega (arith, acked_request (Connect port) d tt)
+  acked_up Disconnect d plain = omega (arith, acked_request Disconnect d tt)
+  acked_up (Select file) d plain = omega (arith, acked_request (Select file) d tt)
+  acked_up (DropFile name) d plain = omega (arith, acked_request (DropFile name) d tt)
+  acked_up (Start q) d plain = omega (arith, acked_request (Start q) d tt)
+  acked_up (Restart q) d plain = omega (arith, acked_request (Restart q) d tt)
+  acked_up Pause d plain = omega (arith, acked_request Pause d tt)
+  acked_up Resume d plain = omega (arith, acked_request Resume d tt)
+  acked_up Toggle d plain = omega (arith, acked_request Toggle d tt)
+  acked_up Cancel d plain = omega (arith, acked_request Cancel d tt)
+  acked_up (Manually texts) d plain = omega (arith, acked_request (Manually texts) d tt)
+
+  pub shut_call : (call : DeskCall) (d : Data) → IsPlain call d → (was : Bool) → was ≡ false → open_by call was ≡ false
+  shut_call (Note acked f moment) d plain was is = ap (λ (b : Bool). up_after f b) is ∙ shut_by f plain.0
+  shut_call (Pull moment) d plain was is = is
+  shut_call (Connect port) d plain was is = is
+  shut_call Disconnect d plain was is = is
+  shut_call (Select file) d plain was is = is
+  shut_call (DropFile name) d plain was is = is
+  shut_call (Start q) d plain was is = is
+  shut_call (Restart q) d plain was is = is
+  shut_call Pause d plain was is = is
+  shut_call Resume d plain was is = is
+  shut_call Toggle d plain was is = is
+  shut_call Cancel d plain was is = is
+  shut_call (Manually texts) d plain was is = is
+
+  none_drawn : (line : Option Line) → IsNotOf p line → lines_of p (drawn_lines line) ≡ []
+  none_drawn None other = refl
+  none_drawn (Some line) other = own_none p line other
+
+  -- what a foreign print sees of a call: none of its lines, and no end
+  pub none_pulled : (call : DeskCall) (d : Data) → ForeignTo p d → lines_of p (drawn_lines (line_pulled call d)) ≡ []
+  none_pulled (Pull moment) d f = none_drawn (pull_step moment d).0 (foreign-pull p moment d f).1
+  none_pulled (Note acked g moment) d f = refl
+  none_pulled (Connect port) d f = refl
+  none_pulled Disconnect d f = refl
+  none_pulled (Select file) d f = refl
+  none_pulled (DropFile name) d f = refl
+  none_pulled (Start q) d f = refl
+  none_pulled (Restart q) d f = refl
+  none_pulled Pause d f = refl
+  none_pulled Resume d f = refl
+  none_pulled Toggle d f = refl
+  none_pulled Cancel d f = refl
+  none_pulled (Manually texts) d f = refl
+
+  -- the ends of the print after a call
+  pub ends_started : (q : ℕ) (r : Result (Unit {0}) Refusal) (d : Data) (run : Run) → (after_start q (r, d) run).ends ≡ run.ends
+  ends_started q (Ok u) d run = refl
+  ends_started q (Err e) d run = refl
+
+  pub ends_pulled : (state : State) (line : Option Line) (d : Data) (run : Run) → (after_pull state (line, d) run).ends ≡ run.ends
+  ends_pulled state None d run = refl
+  ends_pulled state (Some line) d run = refl
+
+  ends_noted : (f : LinkFact) (ending : Option Ending) (d : Data) (run : Run) → IsNoEndOf p ending → of_print p (after_note f (ending, d) run).ends ≡ of_print p run.ends
+  ends_noted f None d run none = refl
+  ends_noted f (Some ending) d run none = of_print-other p ending.print _ run.ends none
+
+  -- a paused print is another one
+  other_paused : (d : Data) → d.state ≡ Paused → ForeignTo p d → nat_eq d.greatest p ≡ false
+  other_paused d is f = elim f.other [ inl o ↦ o | inr o ↦ absurd (subst IsIdle is o.1) ]
+
+  ends_left : (s : State) (q : ℕ) (run : Run) → run.desk.state ≡ s → ForeignTo p run.desk → of_print p (after_restart q (restart_at s q run.desk) run).ends ≡ of_print p run.ends
+  ends_left Paused q run is f = of_print-other p run.desk.greatest Left run.ends (other_paused run.desk is f)
+  ends_left Offline q run is f = refl
+  ends_left Connecting q run is f = refl
+  ends_left Operational q run is f = refl
+  ends_left Printing q run is f = refl
+  ends_left Pausing q run is f = refl
+  ends_left Cancelling q run is f = refl
+  ends_left Finishing q run is f = refl
+  ends_left Closing q run is f = refl
+  ends_left Fault q run is f = refl
+
+  pub ends_foreign : (call : DeskCall) (run : Run) → ForeignTo p run.desk → of_print p (after call run).ends ≡ of_print p run.ends
+  ends_foreign (Restart q) run f = ends_left run.desk.state q run refl f
+  ends_foreign (Note acked g moment) run f =
+      ends_noted g (note_step acked g moment run.desk).0 (note_step acked g moment run.desk).1 run (foreign-note p positive acked g moment run.desk f).1
+  ends_foreign (Pull moment) run f = ap (of_print p) (ends_pulled run.desk.state (pull_step moment run.desk).0 (pull_step moment run.desk).1 run)
+  ends_foreign (Start q) run f = ap (of_print p) (ends_started q (start_at run.desk.state q run.desk).0 (start_at run.desk.state q run.desk).1 run)
+  ends_foreign (Connect port) run f = refl
+  ends_foreign Disconnect run f = refl
+  ends_foreign (Select file) run f = refl
+  ends_foreign (DropFile name) run f = refl
+  ends_foreign Pause run f = refl
+  ends_foreign Resume run f = refl
+  ends_foreign Toggle run f = refl
+  ends_foreign Cancel run f = refl
+  ends_foreign (Manually texts) run f = refl
