@@ -26,7 +26,8 @@ use std::test::Fail;
 const ROOT: &[u8] = b"root-key-0123456789";
 
 // More commands than a turn issues, and than four asks wait for.
-const LONG: &[u8] = b"G28 ; --XY\r\nG1 X10\nG1 X11\nG1 X12\nG1 X13\nG1 X14\nG1 X15\nG1 X16\nG1 X17\n";
+const LONG: &[u8] =
+    b"G28 ; --XY\r\nG1 X10\nG1 X11\nG1 X12\nG1 X13\nG1 X14\nG1 X15\nG1 X16\nG1 X17\n";
 
 /// A host with its keeper and its shelf.
 #[derive(Drop)]
@@ -357,20 +358,18 @@ fn upload_prints(rt: HostRuntime) -> Result<(), Fail> {
     for entry in entries {
         match entry {
             Entry::Call {
-                answer:
-                    Answer::Uploaded {
-                        select: true,
-                        print: true,
-                        ..
-                    },
+                answer: Answer::Uploaded {
+                    select: true,
+                    print: true,
+                    ..
+                },
                 ..
             } => uploads += 1,
             Entry::Call {
-                answer:
-                    Answer::Connection {
-                        state: State::Printing,
-                        ..
-                    },
+                answer: Answer::Connection {
+                    state: State::Printing,
+                    ..
+                },
                 ..
             } => prints += 1,
             _ => {}
