@@ -1,11 +1,10 @@
 -- What four workers' work says once their calls are those of a finished history.
-use Rattle.std.proofs.Common.{◌≡◌, ℕ, Bool, true, List, [], ◌∷◌, ◌++◌, Option, Some, inl, inr, sym, refl, subst}
+use Rattle.std.proofs.Common.{◌≡◌, ℕ, Bool, true, List, [], ◌∷◌, Option, Some, inl, inr, sym, refl, subst}
 use Rattle.octo_doors.specs.Doors.{ConnState}
 use Rattle.octo_doors.specs.declared.door.Doors.{Doors}
 use Rattle.octo_asks.specs.History.{History, calls_of}
 use Rattle.api_worker.specs.Worked.{HasWorked}
 use Rattle.hand_over.specs.declared.workers.Workers.{Workers}
-use Rattle.hand_over.specs.Ends.{WorkerData}
 use Rattle.hand_over.specs.Views.{AreCalls}
 use Rattle.octo_serve.specs.Around.{DoorState}
 use Rattle.octo_serve.specs.Hosted.{Setting, Ran}
@@ -56,10 +55,14 @@ all_served {R} patience old new workers workers' history held none_a none_b none
   held_c = w.held_c;
   held_d = w.held_d;
   all = w.all;
-  a = served_by patience old.a new.a workers.a.view.mine workers'.a.view.mine (calls_of 0 history) workers'.a.view.saw_close w.held_a none_a calls.0 w.a.served;
-  b = served_by patience old.b new.b workers.b.view.mine workers'.b.view.mine (calls_of 1 history) workers'.b.view.saw_close w.held_b none_b calls.1.0 w.b.served;
-  c = served_by patience old.c new.c workers.c.view.mine workers'.c.view.mine (calls_of 2 history) workers'.c.view.saw_close w.held_c none_c calls.1.1.0 w.c.served;
-  d = served_by patience old.d new.d workers.d.view.mine workers'.d.view.mine (calls_of 3 history) workers'.d.view.saw_close w.held_d none_d calls.1.1.1.0 w.d.served;
+  a = served_by patience old.a new.a workers.a.view.mine workers'.a.view.mine (calls_of 0 history)
+      workers'.a.view.saw_close w.held_a none_a calls.0 w.a.served;
+  b = served_by patience old.b new.b workers.b.view.mine workers'.b.view.mine (calls_of 1 history)
+      workers'.b.view.saw_close w.held_b none_b calls.1.0 w.b.served;
+  c = served_by patience old.c new.c workers.c.view.mine workers'.c.view.mine (calls_of 2 history)
+      workers'.c.view.saw_close w.held_c none_c calls.1.1.0 w.c.served;
+  d = served_by patience old.d new.d workers.d.view.mine workers'.d.view.mine (calls_of 3 history)
+      workers'.d.view.saw_close w.held_d none_d calls.1.1.1.0 w.d.served;
 }
 
 -- a run of a history that was empty

@@ -1,5 +1,5 @@
 -- What a host did from its first connection to its end.
-use Rattle.std.specs.Prelude.{◌≡◌, ℕ, ◌≤◌, Bool, true, false, List, [], Option, Some}
+use Rattle.std.specs.Prelude.{◌≡◌, ℕ, ◌≤◌, Bool, true, false, [], Option, Some}
 use Rattle.octo_outside.specs.Told.{Became}
 use Rattle.octo_doors.specs.declared.door.Doors.{Doors}
 use Rattle.octo_asks.specs.History.{History}

@@ -28,7 +28,8 @@ fn work_at<R: Wait, D: Door, A: Asker>(
     worker(alloc, rt, door, asker, patience)
 }
 
-// A worker at its door in a thread of its own, and other work in this one. Returns whether the door held.
+// A worker at its door in a thread of its own, and other work in this one. Returns whether the
+// door held, and what the work returned.
 fn one_beside<R: Threads + Wait + Sync, D: Door + Send, A: Asker + Send, G: FnMut() -> B, B>(
     rt: &R,
     alloc: Global,
@@ -87,7 +88,8 @@ fn two_beside<R: Threads + Wait + Sync, D: Door + Send, A: Asker + Send, G: FnMu
     )
 }
 
-/// Four workers at four doors, each in a thread of its own, and other work in this one. Returns whether all doors held.
+/// Four workers at four doors, each in a thread of its own, and other work in this one. Returns
+/// whether all doors held, and what the work returned.
 pub(crate) fn four_beside<
     R: Threads + Wait + Send + Sync,
     D: Door + Send + Drop,

@@ -13,8 +13,8 @@ use std::time::Clock;
 
 /// A door with at most one connection. It says neither what comes nor what was served.
 ///
-/// Of four such doors, the input of the first one's connection comes only once the second one's was given back. So both
-/// are served only if two workers are at work at once.
+/// Of four such doors, the input of the first one's connection comes only once the second one's
+/// was given back. So both are served only if two workers are at work at once.
 #[derive(Drop)]
 pub struct GateDoor<R: Drop> {
     coming: Option<GateConn<R>>,
@@ -54,8 +54,9 @@ impl<R: Copy + Drop> GateDoor<R> {
         }
     }
 
-    /// Four doors: door a has one connection with the bytes `one`, door b one with the bytes `two`, and the others have none.
-    /// While door b's connection isn't given back, a read of door a's rests for a millisecond and finds nothing yet.
+    /// Four doors: door a has one connection with the bytes `one`, door b one with the bytes `two`,
+    /// and the others have none. While door b's connection isn't given back, a read of door a's
+    /// rests for a millisecond and finds nothing yet.
     pub fn four(
         rt: &R,
         alloc: Global,

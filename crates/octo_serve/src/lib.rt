@@ -1,4 +1,5 @@
-//! A print host at its four doors: four workers in threads of their own, and the house in the caller's thread.
+//! A print host at its four doors: four workers in threads of their own, and the house in the
+//! caller's thread.
 #![tactic(auto)]
 
 mod beside;

@@ -3,7 +3,8 @@ ghost use Rattle.std.specs.Prelude.{◌≡◌, false, true, None, Some, IfOk, On
 ghost use Rattle.hand_over.specs.Ends.{house_place};
 ghost use Rattle.octo_house.specs.State.{session_of};
 ghost use Rattle.house_run.specs.Runs.{IsFresh};
-ghost use Rattle.octo_serve.specs.Around.{link_state, keeper_state, shelf_state, door_state, door_states};
+ghost use Rattle.octo_serve.specs.Around.{link_state, keeper_state, shelf_state};
+ghost use Rattle.octo_serve.specs.Around.{door_state, door_states};
 ghost use Rattle.octo_serve.specs.Hosted.{setting, Ran, HasHosted};
 
 use crate::beside::four_beside;
@@ -55,12 +56,14 @@ fn run_house<R: Wait, L: Link, T: Clock, K: Keeper, S: Shelf>(
     run(rt, house, counter, link, clock, keeper, shelf)
 }
 
-/// Serves the connections of four doors by four workers, each in a thread of its own, while the house answers their asks and
-/// turns the link in this thread. It goes on until a shutdown was accepted, or all four doors have ended or failed and no print
-/// is active.
+/// Serves the connections of four doors by four workers, each in a thread of its own, while the
+/// house answers their asks and turns the link in this thread. It goes on until a shutdown was
+/// accepted, or all four workers have left and no print is active.
 ///
-/// Each worker waits through at most `patience` quiet reads of a connection. The call may wait without an end. If memory runs
-/// out at its beginning, nothing was touched; later it is answered to the connection that met it.
+/// Each worker waits through at most `patience` quiet reads of a connection. The call may wait
+/// without an end. If memory runs out at its beginning, nothing was touched; if it runs out later,
+/// the connection that met it is answered 507. A worker for which no thread can be started comes
+/// after the house has ended.
 pub fn serve<
     R: Threads + Wait + Clone + Send + Sync + Drop,
     L: Link,
@@ -111,7 +114,8 @@ pub fn serve<
                 × (counter.view.taken ≡ None) × (counter.view.closed ≡ false) }
             ensures ran { let at = setting (link_state L.kind L.past L.calls L.up L.faults) T.moment
                 (keeper_state K.tables K.faults) (shelf_state S.files S.faults) in
-                Ran (at house.entry.now link.entry.now clock.entry.now keeper.entry.now shelf.entry.now)
+                Ran
+                (at house.entry.now link.entry.now clock.entry.now keeper.entry.now shelf.entry.now)
                 (at house.exit.now link.exit.now clock.exit.now keeper.exit.now shelf.exit.now)
                 (Some counter.entry.view.history) (Some counter.exit.view.history) result }
             ensures ended { counter.exit.view.closed ≡ true }

@@ -52,7 +52,8 @@ fn serve_with<R: Threads + Wait + Clock + Clone + Send + Sync + Drop, D: Door + 
     )
 }
 
-// The connection at one door is read only once that at another was answered, whichever workers they have.
+// The connection at one door is read only once that at another was answered, whichever workers
+// they have.
 #[test]
 fn two_at_once(rt: HostRuntime) -> Result<(), Fail> {
     let mut host = make_host(&rt, rt.alloc(), 0)?;
@@ -120,8 +121,8 @@ fn is_started(reply: &[u8]) -> bool {
     status(reply) == b"204".as_slice()
 }
 
-// Doors at which two workers ask to start a print, at once after ten calls of the one. Each call is followed by a turn of the
-// link, so that the printer is operational by then.
+// Doors at which two workers ask to start a print, at once after ten calls of the one. Each call is
+// followed by a turn of the link, so that the printer is operational by then.
 fn starting_doors<R: Clock + Copy + Send + Drop>(
     rt: &R,
     alloc: Global,
@@ -144,9 +145,9 @@ fn is_one_started(one: &[u8], two: &[u8]) -> bool {
     (is_started(one) && two.ends_with(PRINTING)) || (is_started(two) && one.ends_with(PRINTING))
 }
 
-// Two workers ask at once to start the print, whose lines are lost. The first one's is started, the other one finds it
-// started, and a look at the job finds it printing. A shutdown is refused meanwhile. The host goes on until the print has
-// failed, since the printer doesn't answer.
+// Two workers ask at once to start the print, whose lines are lost. The first one's is started, the
+// other one finds it started, and a look at the job finds it printing. A shutdown is refused
+// meanwhile. The host goes on until the print has failed, since the printer doesn't answer.
 #[test]
 fn two_starts(rt: HostRuntime) -> Result<(), Fail> {
     let mut host = connecting_host(&rt, rt.alloc(), 100)?;

@@ -12,7 +12,8 @@ pub(super) fn status(reply: &[u8]) -> &[u8] {
     reply.get(9..12).unwrap_or(b"-")
 }
 
-/// A door in memory that may wait, for at most ten seconds, until another one has given back a number of connections.
+/// A door in memory that may wait, for at most ten seconds, until another one has given back a
+/// number of connections.
 #[derive(Drop)]
 pub(super) struct LateDoor<R: Drop> {
     rt: R,

@@ -91,7 +91,8 @@ fn link(alloc: Global, lost: u32) -> Result<MemoryLink, Fail>
 }
 
 fn session(alloc: Global) -> Result<Session, Fail>
-    ensures desk { IfOk result (λ s. s.desk ≡ new_desk s.desk.scripts s.desk.limits s.desk.poll_ms) }
+    ensures desk { IfOk result (λ s.
+        s.desk ≡ new_desk s.desk.scripts s.desk.limits s.desk.poll_ms) }
     ensures sender { IfOk result (λ s. s.sender ≡ new_sender s.sender.window s.sender.limit) }
     ensures sound { IfOk result (λ s. IsSound s.sender) }
     ensures down { IfOk result (λ s. s.up ≡ false) }
@@ -160,7 +161,8 @@ fn ask<R: Drop>(alloc: Global, host: &mut Host<R>, request: Request) -> Result<(
     Ok(())
 }
 
-/// The same, whose file of more commands than a window holds is selected, and whose port is being connected.
+/// The same, whose file of more commands than a window holds is selected, and whose port is being
+/// connected.
 pub(super) fn connecting_host<R: Copy + Drop>(
     rt: &R,
     alloc: Global,
