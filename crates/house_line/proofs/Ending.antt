@@ -75,21 +75,24 @@ module _ (kind : LinkKind) (front : List WorldEvent) where
           AreTied kind front (h ++ entry.Close ∷ []) (past ++ added)
       closes none quiet last =
           let n : sessions (h ++ entry.Close ∷ []) ≡ sessions h = sessions-other h entry.Close refl in
-          let few = few_other h entry.Close refl i.few (subst (λ (l : List (List ℕ)). length l ≤ most_in (sessions h)) (sym texts_now) (i.few (sessions h) (omega arith))) in
+          let few = few_other h entry.Close refl i.few
+          (subst (λ (l : List (List ℕ)). length l ≤ most_in (sessions h)) (sym texts_now) (i.few (sessions h) (omega arith))) in
           let counted : opens (past ++ added) ≡ opens front + sessions (h ++ entry.Close ∷ []) = omega (arith, opens-append past added, none, i.counted, n) in
           let tied : Tied kind front (h ++ entry.Close ∷ []) (past ++ added) =
           record { counted = counted; each = λ s some most. each s some (below_or s (sessions h) (omega (arith, most, n))) last; few = few }
           in
           record {
             now = tied;
-            throughout = entry_throughout kind front h entry.Close (past ++ added) tied (λ end ends. absurd (cc ends)) (longer_throughout kind front h past added i.counted (λ shut. quiet) i.throughout);
+            throughout = entry_throughout kind front h entry.Close (past ++ added) tied (λ end ends. absurd (cc ends))
+                (longer_throughout kind front h past added i.counted (λ shut. quiet) i.throughout);
           }
         where
           texts_now : texts_of (sessions h) (h ++ entry.Close ∷ []) ≡ texts_of (sessions h) h
           texts_now = texts-last h entry.Close refl ∙ append-nil (texts_of (sessions h) h)
 
           each : (s : ℕ) → 1 ≤ s → (s < sessions h) ⊎ (s ≡ sessions h) →
-              ((n : ℕ) (texts : List (List ℕ)) (acked : ℕ) → 1 ≤ n → IsCurrent kind n texts acked past x → IsTied kind texts acked (past ++ added) (opens past)) →
+              ((n : ℕ) (texts : List (List ℕ)) (acked : ℕ) → 1 ≤ n → IsCurrent kind n texts acked past x
+              → IsTied kind texts acked (past ++ added) (opens past)) →
               IsTied kind (texts_of s (h ++ entry.Close ∷ [])) (acked_in s (h ++ entry.Close ∷ [])) (past ++ added) (opens front + s)
           each s some (inl below) last =
               subst (λ (l : List (List ℕ)). IsTied kind l (acked_in s (h ++ entry.Close ∷ [])) (past ++ added) (opens front + s))
@@ -97,8 +100,10 @@ module _ (kind : LinkKind) (front : List WorldEvent) where
               (subst (λ (a : ℕ). IsTied kind (texts_of s h) a (past ++ added) (opens front + s)) (sym (acked-before h entry.Close (entry.Close ∷ []) s below))
               (tied_before kind (texts_of s h) (acked_in s h) past added (opens front + s) (omega (arith, i.counted, below)) (i.former s some below)))
           each s some (inr same) last =
-              subst (λ (k : ℕ). IsTied kind (texts_of k (h ++ entry.Close ∷ [])) (acked_in k (h ++ entry.Close ∷ [])) (past ++ added) (opens front + k)) (sym same)
-              (subst (λ (l : List (List ℕ)). IsTied kind l (acked_in (sessions h) (h ++ entry.Close ∷ [])) (past ++ added) (opens front + sessions h)) (sym texts_now)
+              subst (λ (k : ℕ). IsTied kind (texts_of k (h ++ entry.Close ∷ [])) (acked_in k (h ++ entry.Close ∷ [])) (past ++ added) (opens front + k))
+              (sym same)
+              (subst (λ (l : List (List ℕ)). IsTied kind l (acked_in (sessions h) (h ++ entry.Close ∷ [])) (past ++ added) (opens front + sessions h))
+              (sym texts_now)
               (subst (λ (a : ℕ). IsTied kind (texts_of (sessions h) h) a (past ++ added) (opens front + sessions h)) (sym (acked-last h entry.Close refl))
               (subst (λ (k : ℕ). IsTied kind (texts_of (sessions h) h) (acked_in (sessions h) h) (past ++ added) k) i.counted
               (last (sessions h) (texts_of (sessions h) h) (acked_in (sessions h) h) (omega (arith, same, some)) i.current))))
@@ -119,7 +124,8 @@ module _ (kind : LinkKind) (front : List WorldEvent) where
           all : past ≡ past ++ added
           all = sym (append-nil past) ∙ ap (λ (es : List WorldEvent). past ++ es) (sym none)
 
-          last : (n : ℕ) (texts : List (List ℕ)) (acked : ℕ) → 1 ≤ n → IsCurrent kind n texts acked past x → IsTied kind texts acked (past ++ added) (opens past)
+          last : (n : ℕ) (texts : List (List ℕ)) (acked : ℕ) → 1 ≤ n → IsCurrent kind n texts acked past x
+              → IsTied kind texts acked (past ++ added) (opens past)
           last zero texts acked some c = absurd (omega arith)
           last (suc n) texts acked some c =
               subst (λ (es : List WorldEvent). IsTied kind texts acked es (opens past)) all

@@ -54,7 +54,8 @@ entries-before zero (e ∷ h) es before = by (λ below. entries-before zero h es
         zero_other e (h ++ es) is
         ∙ ap (λ (more : History). e ∷ more) (rest (omega (arith, before, count_other e h is)))
         ∙ sym (zero_other e h is)
-entries-before (suc session) (e ∷ h) es before = by (λ below. entries-before session h es below) (λ below. entries-before (suc session) h es below) (is_opened e) refl
+entries-before (suc session) (e ∷ h) es before =
+    by (λ below. entries-before session h es below) (λ below. entries-before (suc session) h es below) (is_opened e) refl
   where
     by : (session < sessions h → entries_of session (h ++ es) ≡ entries_of session h) →
         (suc session < sessions h → entries_of (suc session) (h ++ es) ≡ entries_of (suc session) h) → (b : Bool) → is_opened e ≡ b →
@@ -73,15 +74,18 @@ entries-last zero [] e last other = zero_other e [] other
 entries-last (suc session) [] e last other = absurd (omega (arith, last))
 entries-last zero (f ∷ h) e last other = by (λ is. entries-last zero h e is other) (is_opened f) refl
   where
-    by : (0 ≡ sessions h → entries_of 0 (h ++ e ∷ []) ≡ entries_of 0 h ++ e ∷ []) → (b : Bool) → is_opened f ≡ b → entries_of 0 (f ∷ (h ++ e ∷ [])) ≡ entries_of 0 (f ∷ h) ++ e ∷ []
+    by : (0 ≡ sessions h → entries_of 0 (h ++ e ∷ []) ≡ entries_of 0 h ++ e ∷ []) → (b : Bool) → is_opened f ≡ b
+        → entries_of 0 (f ∷ (h ++ e ∷ [])) ≡ entries_of 0 (f ∷ h) ++ e ∷ []
     by rest true is = absurd (omega (arith, last, count_opened f h is))
     by rest false is =
         zero_other f (h ++ e ∷ []) is
         ∙ ap (λ (more : History). f ∷ more) (rest (omega (arith, last, count_other f h is)))
         ∙ sym (ap (λ (more : History). more ++ e ∷ []) (zero_other f h is))
-entries-last (suc session) (f ∷ h) e last other = by (λ is. entries-last session h e is other) (λ is. entries-last (suc session) h e is other) (is_opened f) refl
+entries-last (suc session) (f ∷ h) e last other =
+    by (λ is. entries-last session h e is other) (λ is. entries-last (suc session) h e is other) (is_opened f) refl
   where
-    by : (session ≡ sessions h → entries_of session (h ++ e ∷ []) ≡ entries_of session h ++ e ∷ []) → (suc session ≡ sessions h → entries_of (suc session) (h ++ e ∷ []) ≡ entries_of (suc session) h ++ e ∷ []) →
+    by : (session ≡ sessions h → entries_of session (h ++ e ∷ []) ≡ entries_of session h ++ e ∷ [])
+        → (suc session ≡ sessions h → entries_of (suc session) (h ++ e ∷ []) ≡ entries_of (suc session) h ++ e ∷ []) →
         (b : Bool) → is_opened f ≡ b → entries_of (suc session) (f ∷ (h ++ e ∷ [])) ≡ entries_of (suc session) (f ∷ h) ++ e ∷ []
     by one same true is =
         later_opened session f (h ++ e ∷ []) is
@@ -105,9 +109,11 @@ entries-ended zero (f ∷ h) e last opens = by (λ is. entries-ended zero h e is
         zero_other f (h ++ e ∷ []) is
         ∙ ap (λ (more : History). f ∷ more) (rest (omega (arith, last, count_other f h is)))
         ∙ sym (zero_other f h is)
-entries-ended (suc session) (f ∷ h) e last opens = by (λ is. entries-ended session h e is opens) (λ is. entries-ended (suc session) h e is opens) (is_opened f) refl
+entries-ended (suc session) (f ∷ h) e last opens =
+    by (λ is. entries-ended session h e is opens) (λ is. entries-ended (suc session) h e is opens) (is_opened f) refl
   where
-    by : (session ≡ sessions h → entries_of session (h ++ e ∷ []) ≡ entries_of session h) → (suc session ≡ sessions h → entries_of (suc session) (h ++ e ∷ []) ≡ entries_of (suc session) h) →
+    by : (session ≡ sessions h → entries_of session (h ++ e ∷ []) ≡ entries_of session h)
+        → (suc session ≡ sessions h → entries_of (suc session) (h ++ e ∷ []) ≡ entries_of (suc session) h) →
         (b : Bool) → is_opened f ≡ b → entries_of (suc session) (f ∷ (h ++ e ∷ [])) ≡ entries_of (suc session) (f ∷ h)
     by one same true is =
         later_opened session f (h ++ e ∷ []) is

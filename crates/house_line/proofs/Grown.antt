@@ -43,7 +43,8 @@ module _ (h : History) (e : Entry) where
   pub texts-last : is_opened e ≡ false → texts_of (sessions h) (h ++ e ∷ []) ≡ texts_of (sessions h) h ++ texts_in (lines_at e)
   texts-last other =
       ap (λ (part : History). texts_in (issued_in part)) (entries-last (sessions h) h e refl other)
-      ∙ ap texts_in (issued_in-append (entries_of (sessions h) h) (e ∷ []) ∙ ap (λ (l : List Line). issued_in (entries_of (sessions h) h) ++ l) (append-nil (lines_at e)))
+      ∙ ap texts_in (issued_in-append (entries_of (sessions h) h) (e ∷ [])
+      ∙ ap (λ (l : List Line). issued_in (entries_of (sessions h) h) ++ l) (append-nil (lines_at e)))
       ∙ map-append (λ (line : Line). line.text) (issued_in (entries_of (sessions h) h)) (lines_at e)
 
   pub acked-last : is_opened e ≡ false → acked_in (sessions h) (h ++ e ∷ []) ≡ acked_at e (acked_in (sessions h) h)

@@ -70,7 +70,8 @@ acked_more replies (next ∷ more) =
     let first : acked_of replies ≤ acked_of (replies ++ next ∷ []) = omega (arith, (counts_next replies next).0) in
     subst (λ (r : List Reply). acked_of replies ≤ acked_of r) (append_assoc replies (next ∷ []) more) (omega (arith, first, rest))
 
-above_by : (issued : List (List ℕ)) (acked : ℕ) (event : WorldEvent) (behind : List WorldEvent) (replies : List Reply) (w : WorldData) → acked ≤ acked_of replies →
+above_by : (issued : List (List ℕ)) (acked : ℕ) (event : WorldEvent) (behind : List WorldEvent) (replies : List Reply) (w : WorldData)
+    → acked ≤ acked_of replies →
     AreSendsFit issued replies w (event ∷ behind) → IsAbove issued acked event
 above_by issued acked (Send line) behind replies w below fits = by fits.0
   where
@@ -118,7 +119,8 @@ later_above kind front first later past some t w =
     let events : session_of s (w.so_far ++ w.since) ≡ session_of s w.so_far ++ till 0 w.since = session_past w.so_far w.since s is (omega (arith, some)) in
     let made : WorldData = world_before kind w.so_far s in
     let fits : AreSendsFit issued [] made (session_of s w.so_far ++ till 0 w.since) =
-    subst (λ (es : List WorldEvent). AreSendsFit issued [] made es) events (subst (λ (v : WorldData). AreSendsFit issued [] v (session_of s (w.so_far ++ w.since))) world here.sends)
+    subst (λ (es : List WorldEvent). AreSendsFit issued [] made es) events
+    (subst (λ (v : WorldData). AreSendsFit issued [] v (session_of s (w.so_far ++ w.since))) world here.sends)
     in
     above_all issued (acked_in n first) (till 0 w.since) (replies_from made (session_of s w.so_far)) (world_from made (session_of s w.so_far))
     (omega (arith, part.acked_is)) (fits_later issued [] made (session_of s w.so_far) (till 0 w.since) fits)

@@ -51,7 +51,8 @@ module _ (kind : LinkKind) (issued : List (List ℕ)) (x : SessionData) (past mo
   longer_tied led =
       let rest : List WorldEvent = o.rest ++ more in
       let traced = longer_traced led in
-      let tied : IsTied kind issued x.sender.acked (o.front ++ Opened o.last ∷ rest) (suc (opens o.front)) = tied_at kind issued x.sender o.front o.last rest traced in
+      let tied : IsTied kind issued x.sender.acked (o.front ++ Opened o.last ∷ rest) (suc (opens o.front)) =
+      tied_at kind issued x.sender o.front o.last rest traced in
       let all : o.front ++ Opened o.last ∷ rest ≡ past ++ more =
       sym (append_assoc o.front (Opened o.last ∷ o.rest) more) ∙ ap (λ (es : List WorldEvent). es ++ more) (sym o.is)
       in
@@ -69,13 +70,15 @@ dialled_tied kind issued x past added dial o =
     let runs : List WorldEvent = dial.runs in
     let free = runs-free runs dial.only_runs in
     let base : WorldData = apply (world_in kind o.front) (Opened o.last) in
-    let led = leads_free (world_in kind o.front).log issued x.sender (world_from base o.rest) (replies_from base o.rest) runs free o.traced.meets o.traced.tallied in
+    let led = leads_free (world_in kind o.front).log issued x.sender (world_from base o.rest)
+    (replies_from base o.rest) runs free o.traced.meets o.traced.tallied in
     let tied : IsTied kind issued x.sender.acked (past ++ runs) (opens past) = longer_tied kind issued x past runs o led in
     let some : 1 ≤ opens past = omega (arith, ap opens o.is, opens-append o.front (Opened o.last ∷ o.rest)) in
     let same : opens (past ++ runs) ≡ opens past = omega (arith, opens-append past runs, led.same_session) in
     let T : ℕ → Type 0 = λ s. IsTied kind issued x.sender.acked (past ++ runs) s in
     let former = former_tied kind issued x.sender.acked (past ++ runs) [] dial.last (omega (arith, same, some)) (subst T (sym same) tied) in
-    let whole : (past ++ runs) ++ Opened dial.last ∷ [] ≡ past ++ added = append_assoc past runs (Opened dial.last ∷ []) ∙ ap (λ (es : List WorldEvent). past ++ es) (sym dial.is) in
+    let whole : (past ++ runs) ++ Opened dial.last ∷ [] ≡ past ++ added =
+    append_assoc past runs (Opened dial.last ∷ []) ∙ ap (λ (es : List WorldEvent). past ++ es) (sym dial.is) in
     subst (λ (s : ℕ). IsTied kind issued x.sender.acked (past ++ added) s) same
     (subst (λ (es : List WorldEvent). IsTied kind issued x.sender.acked es (opens (past ++ runs))) whole former)
 
@@ -89,5 +92,6 @@ hung_tied kind issued x past added hung o =
     let H : WorldData → Type 0 = λ v. IsHangUp true v added in
     let there : IsHangUp true w added = subst H (world_since kind past o.front o.last o.rest o.is) hung in
     let steps : AreAdded 0 false (hangs_up true ∷ []) x.sender w added = (added, [], sym (append-nil added), (there, λ _. tt), refl) in
-    let led = steps_lead first 0 false (hangs_up true ∷ []) issued x.sender w (replies_from base o.rest) added (tt, tt) (tt, tt) steps o.traced.meets o.traced.tallied in
+    let led = steps_lead first 0 false (hangs_up true ∷ []) issued x.sender w (replies_from base o.rest) added (tt, tt)
+    (tt, tt) steps o.traced.meets o.traced.tallied in
     longer_tied kind issued x past added o led

@@ -117,15 +117,19 @@ module _ (moment : ℕ) (kind : LinkKind) (x y : SessionData) (got : Got) (f : L
         (λ is. other_fact note.fact other (its_fact ∙ is)) t its_acked (leaves_of kind front h past x i)
         in
         let counted : opens (past ++ added) ≡ opens front + sessions (h ++ e ∷ []) = omega (arith, l.counted, n) in
-        let former = λ (s : ℕ) (some : 1 ≤ s) (below : s < sessions (h ++ e ∷ [])). earlier s some (omega (arith, below, n)) (l.former s some (omega (arith, below, n))) in
+        let former = λ (s : ℕ) (some : 1 ≤ s) (below : s < sessions (h ++ e ∷ [])). earlier s some (omega (arith, below, n))
+        (l.former s some (omega (arith, below, n))) in
         let texts_now : texts_of (sessions h) (h ++ e ∷ []) ≡ texts_of (sessions h) h ++ texts =
         texts-last h e other ∙ ap (λ (l : List (List ℕ)). texts_of (sessions h) h ++ l) its_texts
         in
         let few = few_other h e other i.few (subst (λ (l : List (List ℕ)). length l ≤ most_in (sessions h)) (sym texts_now) l.few) in
-        let current : IsCurrent kind (sessions (h ++ e ∷ [])) (texts_of (sessions (h ++ e ∷ [])) (h ++ e ∷ [])) (acked_in (sessions (h ++ e ∷ [])) (h ++ e ∷ [])) (past ++ added) y =
+        let current : IsCurrent kind (sessions (h ++ e ∷ [])) (texts_of (sessions (h ++ e ∷ [])) (h ++ e ∷ []))
+        (acked_in (sessions (h ++ e ∷ [])) (h ++ e ∷ [])) (past ++ added) y =
         subst (λ (k : ℕ). IsCurrent kind k (texts_of k (h ++ e ∷ [])) (acked_in k (h ++ e ∷ [])) (past ++ added) y) (sym n)
-        (current_as kind (sessions h) (sessions h) (texts_of (sessions h) h ++ texts) (texts_of (sessions h) (h ++ e ∷ [])) note.acked (acked_in (sessions h) (h ++ e ∷ []))
-        (past ++ added) y refl (sym (texts-last h e other ∙ ap (λ (l : List (List ℕ)). texts_of (sessions h) h ++ l) its_texts)) (sym (acked-last h e other)) l.current)
+        (current_as kind (sessions h) (sessions h) (texts_of (sessions h) h ++ texts) (texts_of (sessions h) (h ++ e ∷ [])) note.acked
+        (acked_in (sessions h) (h ++ e ∷ []))
+        (past ++ added) y refl (sym (texts-last h e other ∙ ap (λ (l : List (List ℕ)). texts_of (sessions h) h ++ l) its_texts))
+        (sym (acked-last h e other)) l.current)
         in
         record {
           counted = counted;
@@ -155,9 +159,11 @@ module _ (moment : ℕ) (kind : LinkKind) (x y : SessionData) (got : Got) (f : L
         earlier s some (below_or s (sessions h) (omega (arith, below, n))) (l.former s some (omega (arith, below, n)))
         in
         let few = few_open h e opens_now i.few in
-        let current : IsCurrent kind (sessions (h ++ e ∷ [])) (texts_of (sessions (h ++ e ∷ [])) (h ++ e ∷ [])) (acked_in (sessions (h ++ e ∷ [])) (h ++ e ∷ [])) (past ++ added) y =
+        let current : IsCurrent kind (sessions (h ++ e ∷ [])) (texts_of (sessions (h ++ e ∷ [])) (h ++ e ∷ []))
+        (acked_in (sessions (h ++ e ∷ [])) (h ++ e ∷ [])) (past ++ added) y =
         subst (λ (k : ℕ). IsCurrent kind k (texts_of k (h ++ e ∷ [])) (acked_in k (h ++ e ∷ [])) (past ++ added) y) (sym n)
-        (current_as kind (suc (sessions h)) (suc (sessions h)) [] (texts_of (suc (sessions h)) (h ++ e ∷ [])) note.acked (acked_in (suc (sessions h)) (h ++ e ∷ []))
+        (current_as kind (suc (sessions h)) (suc (sessions h)) [] (texts_of (suc (sessions h)) (h ++ e ∷ [])) note.acked
+        (acked_in (suc (sessions h)) (h ++ e ∷ []))
         (past ++ added) y refl (sym (texts-new h e opens_now)) (none_acked ∙ sym (acked-new h e opens_now)) l.current)
         in
         record {

@@ -23,7 +23,8 @@ use Rattle.house_line.proofs.Standing.{still_step}
 use Rattle.house_line.proofs.Noting.{noted_step, silent_step}
 
 -- a host that begins
-pub begin_in_step : (kind : LinkKind) (before : Option History) (front : Option (List WorldEvent)) (x : SessionData) → IsUnmade x → InStep kind before before front front x
+pub begin_in_step : (kind : LinkKind) (before : Option History) (front : Option (List WorldEvent)) (x : SessionData) → IsUnmade x
+    → InStep kind before before front front x
 begin_in_step kind before front x u all now events there = record {
   old = all;
   added = [];
@@ -73,7 +74,8 @@ module _ (kind : LinkKind) (before now now' : Option History) (front link : Opti
       opens_none f q = ap is_opening q
 
 module _ (moment : ℕ) (kind : LinkKind) (link link' : Option (List WorldEvent)) (calls calls' : Option ℕ) (x y : SessionData) (turned : Turned)
-    (t : IsTurn moment kind link link' calls calls' x y turned) (k : IsKept moment x y turned) (before now : Option History) (front : Option (List WorldEvent)) where
+    (t : IsTurn moment kind link link' calls calls' x y turned) (k : IsKept moment x y turned) (before now : Option History)
+    (front : Option (List WorldEvent)) where
   -- a turn with a note
   pub turn_in_step : (now' : Option History) (note : Note) → turned.note ≡ Some note → (note.fact ≡ fact.Opened → y.sender.acked ≡ 0) →
       Adds now now' (entry.Note note ∷ []) → InStep kind before now front link x → InStep kind before now' front link' y
@@ -111,7 +113,8 @@ module _ (moment : ℕ) (kind : LinkKind) (link link' : Option (List WorldEvent)
         old_events = g.old_events;
         was_link = g.was_link;
         so = subst (λ (es : List WorldEvent). AreInStep kind g.old_events g.added es y) (sym by.3)
-            (silent_step moment kind x y t.got t.found (texts_in t.lines) g.old_events g.added by.0 by.1 by.4 g.so none.quiet (ap texts_in none.no_line) none.same_acked);
+            (silent_step moment kind x y t.got t.found (texts_in t.lines) g.old_events g.added by.0 by.1 by.4 g.so none.quiet
+            (ap texts_in none.no_line) none.same_acked);
       }
 
 -- the link is hung up, and the history is closed
@@ -125,7 +128,8 @@ end_ties kind before now now' front link link' x hung adds i all now_is events t
       old = g.old;
       added = g.added ++ entry.Close ∷ [];
       was = g.was;
-      grew = got.3 ∙ ap (λ (es : History). got.0 ++ es) got.4 ∙ ap (λ (h : History). h ++ entry.Close ∷ []) g.grew ∙ append_assoc g.old g.added (entry.Close ∷ []);
+      grew = got.3 ∙ ap (λ (es : History). got.0 ++ es) got.4 ∙ ap (λ (h : History). h ++ entry.Close ∷ []) g.grew
+          ∙ append_assoc g.old g.added (entry.Close ∷ []);
       old_events = g.old_events;
       was_link = g.was_link;
       so = subst (λ (es : List WorldEvent). AreTied kind g.old_events (g.added ++ entry.Close ∷ []) es) (sym grew.3)

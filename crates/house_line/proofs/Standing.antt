@@ -38,7 +38,8 @@ pub tied_by : (kind : LinkKind) (front : List WorldEvent) (h : History) (past : 
     ((s : ℕ) → 1 ≤ s → s < sessions h → IsTied kind (texts_of s h) (acked_in s h) past (opens front + s)) →
     ((s : ℕ) → s ≤ sessions h → length (texts_of s h) ≤ most_in s) → IsCurrent kind (sessions h) (texts_of (sessions h) h) (acked_in (sessions h) h) past x →
     Tied kind front h past
-tied_by kind front h past x counted former few current = record { counted = counted; each = λ s some most. each s some (below_or s (sessions h) (omega (arith, most))); few = few }
+tied_by kind front h past x counted former few current =
+    record { counted = counted; each = λ s some most. each s some (below_or s (sessions h) (omega (arith, most))); few = few }
   where
     last : (n : ℕ) (texts : List (List ℕ)) (acked : ℕ) → 1 ≤ n → opens past ≡ opens front + n → IsCurrent kind n texts acked past x →
         IsTied kind texts acked past (opens front + n)
@@ -53,7 +54,8 @@ tied_by kind front h past x counted former few current = record { counted = coun
         subst (λ (k : ℕ). IsTied kind (texts_of k h) (acked_in k h) past (opens front + k)) (sym same)
         (last (sessions h) (texts_of (sessions h) h) (acked_in (sessions h) h) (omega (arith, same, some)) counted current)
 
-pub tied_now : (kind : LinkKind) (front : List WorldEvent) (h : History) (past : List WorldEvent) (x : SessionData) → AreInStep kind front h past x → Tied kind front h past
+pub tied_now : (kind : LinkKind) (front : List WorldEvent) (h : History) (past : List WorldEvent) (x : SessionData) → AreInStep kind front h past x
+    → Tied kind front h past
 tied_now kind front h past x i = tied_by kind front h past x i.counted i.former i.few i.current
 
 -- more events, of which none is a sending if no session is open
@@ -96,7 +98,8 @@ entry_throughout kind front h e past tied caused all first later is = by (split 
     by (within rest at behind) = all first rest at
 
 -- the session with another desk
-pub same_current : (kind : LinkKind) (n : ℕ) (texts : List (List ℕ)) (acked : ℕ) (past : List WorldEvent) (x y : SessionData) → y.sender ≡ x.sender → y.up ≡ x.up →
+pub same_current : (kind : LinkKind) (n : ℕ) (texts : List (List ℕ)) (acked : ℕ) (past : List WorldEvent) (x y : SessionData) → y.sender ≡ x.sender
+    → y.up ≡ x.up →
     IsCurrent kind n texts acked past x → IsCurrent kind n texts acked past y
 same_current kind zero texts acked past x y sender up u =
     record { down = up ∙ u.down; sound = subst (λ (s : SenderData). IsSound s) (sym sender) u.sound }
@@ -139,7 +142,8 @@ module _ (kind : LinkKind) (front : List WorldEvent) (h : History) (past : List 
       let counted : opens past ≡ opens front + sessions (h ++ e ∷ []) = omega (arith, i.counted, n) in
       let former = λ (s : ℕ) (some : 1 ≤ s) (below : s < sessions (h ++ e ∷ [])). earlier s some (omega (arith, below, n)) i in
       let few = few_other h e other i.few (subst (λ (l : List (List ℕ)). length l ≤ most_in (sessions h)) (sym texts) (i.few (sessions h) (omega arith))) in
-      let current = now (sessions h) (sessions (h ++ e ∷ [])) (sym n) (texts_of (sessions h) h) (acked_in (sessions h) h) texts (acked-last h e other) i.current in
+      let current = now (sessions h) (sessions (h ++ e ∷ [])) (sym n) (texts_of (sessions h) h) (acked_in (sessions h) h) texts
+      (acked-last h e other) i.current in
       record {
         counted = counted;
         former = former;
@@ -163,7 +167,8 @@ module _ (kind : LinkKind) (front : List WorldEvent) (h : History) (past : List 
       now : (n m : ℕ) → n ≡ m → (texts : List (List ℕ)) (acked : ℕ) → texts_of n (h ++ e ∷ []) ≡ texts → acked_in n (h ++ e ∷ []) ≡ acked_at e acked →
           IsCurrent kind n texts acked past x → IsCurrent kind m (texts_of m (h ++ e ∷ [])) (acked_in m (h ++ e ∷ [])) past y
       now zero m same texts acked texts_are acked_is c =
-          subst (λ (k : ℕ). IsCurrent kind k (texts_of k (h ++ e ∷ [])) (acked_in k (h ++ e ∷ [])) past y) same (same_current kind zero texts acked past x y sender up c)
+          subst (λ (k : ℕ). IsCurrent kind k (texts_of k (h ++ e ∷ [])) (acked_in k (h ++ e ∷ [])) past y) same
+          (same_current kind zero texts acked past x y sender up c)
       now (suc n) m same texts acked texts_are acked_is c =
           subst (λ (k : ℕ). IsCurrent kind k (texts_of k (h ++ e ∷ [])) (acked_in k (h ++ e ∷ [])) past y) same
           (current_as kind (suc n) (suc n) texts (texts_of (suc n) (h ++ e ∷ [])) acked (acked_in (suc n) (h ++ e ∷ [])) past y refl (sym texts_are)

@@ -98,7 +98,8 @@ pub record Leaves (kind : LinkKind) (front : List WorldEvent) (n : ℕ) (texts :
   pub few : length last ≤ most_in n
 
 -- an opened session issued at most as many lines as it has numbers for
-pub few_opened : (kind : LinkKind) (issued : List (List ℕ)) (x : SessionData) (past : List WorldEvent) → IsOpened kind issued x past → length issued ≤ most_lines
+pub few_opened : (kind : LinkKind) (issued : List (List ℕ)) (x : SessionData) (past : List WorldEvent) → IsOpened kind issued x past
+    → length issued ≤ most_lines
 few_opened kind issued x past o =
     let n = o.traced.meets.numbers in
     omega (arith, n.holds.count, n.sound.few)
@@ -128,7 +129,8 @@ module _ (moment : ℕ) (kind : LinkKind) (old new : SessionData) (got : Got) (f
       Leaves kind front n texts acked (texts n) (acked n) past old → Leaves kind front n texts acked (texts n ++ issued) last_acked (past ++ added) new
   turn_stays front past added zero texts acked last_acked other t same l =
       let idle : doing old ≡ Talking → ⊥ = not_talking old l.current.down in
-      let none : IsIdle added = idle_added moment kind.prompt (doing old) old.up got found issued t.count old.sender (world_in kind past) added idle other t.steps in
+      let none : IsIdle added =
+      idle_added moment kind.prompt (doing old) old.up got found issued t.count old.sender (world_in kind past) added idle other t.steps in
       record {
         counted = omega (arith, opens-append past added, l.counted, none.opens_none);
         former = former_stay front past added zero texts acked l.counted l.former;
@@ -174,7 +176,8 @@ module _ (moment : ℕ) (kind : LinkKind) (old new : SessionData) (got : Got) (f
       Leaves kind front n texts acked (texts n) (acked n) past old → Leaves kind front (suc n) texts acked [] last_acked (past ++ added) new
   turn_opens front past added n texts acked last_acked is t same l =
       let dial : IsDial (world_in kind past) added = dial_of past added is t in
-      let made : IsMade kind [] new past added = made_now moment kind old new got found issued past added is (sound_at n (texts n) (acked n) past old l.current) (dials is t) t in
+      let made : IsMade kind [] new past added =
+      made_now moment kind old new got found issued past added is (sound_at n (texts n) (acked n) past old l.current) (dials is t) t in
       record {
         counted = omega (arith, opens-append past added, l.counted, made.once);
         former = λ s some below. former_by front past added n texts acked dial l s some below;
@@ -217,8 +220,12 @@ module _ (moment : ℕ) (kind : LinkKind) (old new : SessionData) (got : Got) (f
       by (inl is) =
           let dial : IsDial (world_in kind past) added = dial_of past added is t in
           let free = runs-free dial.runs dial.only_runs in
-          let here : till 0 (dial.runs ++ Opened dial.last ∷ []) ≡ dial.runs = till-none dial.runs (Opened dial.last ∷ []) (opens-free dial.runs free) ∙ append-nil dial.runs in
-          ap (λ (es : List WorldEvent). list_any is_send (till 0 es)) dial.is ∙ ap (λ (es : List WorldEvent). list_any is_send es) here ∙ unsent_free dial.runs free
+          let here : till 0 (dial.runs ++ Opened dial.last ∷ []) ≡ dial.runs =
+          till-none dial.runs (Opened dial.last ∷ []) (opens-free dial.runs free) ∙ append-nil dial.runs in
+          ap (λ (es : List WorldEvent). list_any is_send (till 0 es)) dial.is ∙ ap (λ (es : List WorldEvent). list_any is_send es) here
+          ∙ unsent_free dial.runs free
       by (inr other) =
-          let none : IsIdle added = idle_added moment kind.prompt (doing old) old.up got found issued t.count old.sender (world_in kind past) added (not_talking old down) other t.steps in
+          let none : IsIdle added =
+          idle_added moment kind.prompt (doing old) old.up got found issued t.count old.sender (world_in kind past) added
+          (not_talking old down) other t.steps in
           ap (λ (es : List WorldEvent). list_any is_send es) (till-all 0 added (omega (arith, none.opens_none))) ∙ none.sends_none

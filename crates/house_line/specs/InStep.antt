@@ -30,7 +30,8 @@ IsCurrent kind zero texts acked past x = IsUnmade x
 IsCurrent kind (suc session) texts acked past x = IsOpened kind texts x past × (x.sender.acked ≡ acked)
 
 -- a history of a host, that of its link since an earlier one, and the host's session
-pub record AreInStep (kind : LinkKind) (front : List WorldEvent) (history : History) (past : List WorldEvent) (x : SessionData) : Type 0 where
+pub record AreInStep (kind : LinkKind) (front : List WorldEvent) (history : History) (past : List WorldEvent)
+    (x : SessionData) : Type 0 where
   -- the link was made once for each session
   pub counted : opens past ≡ opens front + sessions history
   -- the sessions before the last one are tied
@@ -38,12 +39,14 @@ pub record AreInStep (kind : LinkKind) (front : List WorldEvent) (history : Hist
       → IsTied kind (texts_of session history) (acked_in session history) past (opens front + session)
   pub few : (session : ℕ) → session ≤ sessions history → length (texts_of session history) ≤ most_in session
   -- the last one is the host's
-  pub current : IsCurrent kind (sessions history) (texts_of (sessions history) history) (acked_in (sessions history) history) past x
+  pub current : IsCurrent kind (sessions history) (texts_of (sessions history) history)
+      (acked_in (sessions history) history) past x
   pub open_as : is_open history ≡ x.up
   pub throughout : TiedThroughout kind front history past
 
 -- a history that is recorded now grew by these entries, and a link's history is recorded and was
-pub record Grown (before now : Option History) (front past : Option (List WorldEvent)) (So : List WorldEvent → History → List WorldEvent → Type 0)
+pub record Grown (before now : Option History) (front past : Option (List WorldEvent))
+    (So : List WorldEvent → History → List WorldEvent → Type 0)
     (all : History) (events : List WorldEvent) : Type 0 where
   pub old : History
   pub added : History
@@ -54,7 +57,8 @@ pub record Grown (before now : Option History) (front past : Option (List WorldE
   pub so : So old_events added events
 
 -- if history and link's history are recorded, this holds of what the history grew by and of the link's history
-abbrev pub WhileRecorded : (before now : Option History) → (front past : Option (List WorldEvent)) → (List WorldEvent → History → List WorldEvent → Type 0) → Type 0
+abbrev pub WhileRecorded : (before now : Option History) → (front past : Option (List WorldEvent))
+    → (List WorldEvent → History → List WorldEvent → Type 0) → Type 0
 WhileRecorded before now front past So =
     (all : History) → now ≡ Some all → (events : List WorldEvent) → past ≡ Some events → Grown before now front past So all events
 

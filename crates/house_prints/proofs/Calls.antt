@@ -52,7 +52,11 @@ module _ (scripts : ScriptTexts) (p : ℕ) (positive : nat_eq 0 p ≡ false) whe
       let same : lines_pulled calls next.desk ≡ rest = ap (λ (d : Data). lines_pulled calls d) desk in
       let short : length drawn ≤ 18446744073709551615 = omega (arith, few, ap length whole, length-append drawn rest) in
       let first : Leads next drawn (open_by call is_open) =
-      record { held = held_call scripts p positive call run lines may.0 plain.0 short l.held; status = status_call scripts p positive call run lines is_open plain.0 l.held l.status }
+      record {
+        held = held_call scripts p positive call run lines may.0 plain.0 short l.held;
+        status =
+            status_call scripts p positive call run lines is_open plain.0 l.held l.status;
+      }
       in
       let last = leads_calls calls next drawn (open_by call is_open) may.1 (subst (λ (d : Data). ArePlain calls d) (sym desk) plain.1)
       (omega (arith, few, ap length whole, ap (λ (x : List Line). length (drawn ++ x)) same)) first
@@ -71,8 +75,10 @@ module _ (scripts : ScriptTexts) (p : ℕ) (positive : nat_eq 0 p ≡ false) whe
   drawn_first (Some line) rest = refl
 
   pub passes_calls : (f : Fate) (calls : List DeskCall) (run : Run) (lines : List Line) → MayCallAll calls run → ArePlain calls run.desk →
-      length (lines ++ lines_pulled calls run.desk) ≤ 18446744073709551615 → Held scripts p positive run lines → of_print p run.ends ≡ f ∷ [] → Passes f calls run lines
-  passes_calls f [] run lines may plain few h is = record { held = subst (λ (x : List Line). Held scripts p positive run x) (sym (append-nil lines)) h; ends = is; none = refl }
+      length (lines ++ lines_pulled calls run.desk) ≤ 18446744073709551615 → Held scripts p positive run lines → of_print p run.ends ≡ f ∷ []
+      → Passes f calls run lines
+  passes_calls f [] run lines may plain few h is =
+      record { held = subst (λ (x : List Line). Held scripts p positive run x) (sym (append-nil lines)) h; ends = is; none = refl }
   passes_calls f (call ∷ calls) run lines may plain few h is =
       let next : Run = after call run in
       let desk : next.desk ≡ desk_after call run.desk = desk_call call run in
@@ -83,14 +89,16 @@ module _ (scripts : ScriptTexts) (p : ℕ) (positive : nat_eq 0 p ≡ false) whe
       let short : length drawn ≤ 18446744073709551615 = omega (arith, few, ap length whole, length-append drawn rest) in
       let foreign : ForeignTo p run.desk = ended_foreign scripts p positive run f is h.known in
       let last = passes_calls f calls next drawn may.1 (subst (λ (d : Data). ArePlain calls d) (sym desk) plain.1)
-      (omega (arith, few, ap length whole, ap (λ (x : List Line). length (drawn ++ x)) same)) (held_call scripts p positive call run lines may.0 plain.0 short h)
+      (omega (arith, few, ap length whole, ap (λ (x : List Line). length (drawn ++ x)) same))
+      (held_call scripts p positive call run lines may.0 plain.0 short h)
       (ends_foreign scripts p positive call run foreign ∙ is)
       in
       record {
         held = subst (λ (x : List Line). Held scripts p positive (run_of calls next) x) (ap (λ (x : List Line). drawn ++ x) same ∙ sym whole) last.held;
         ends = last.ends;
         none = ap (λ (x : List Line). lines_of p x) (drawn_first (line_pulled call run.desk) rest)
-            ∙ none_both p (drawn_lines (line_pulled call run.desk)) rest (none_pulled scripts p positive call run.desk foreign) (ap (λ (x : List Line). lines_of p x) (sym same) ∙ last.none);
+            ∙ none_both p (drawn_lines (line_pulled call run.desk)) rest (none_pulled scripts p positive call run.desk foreign)
+            (ap (λ (x : List Line). lines_of p x) (sym same) ∙ last.none);
       }
 
   pub acked_calls : (calls : List DeskCall) (d : Data) → ArePlain calls d → d.acked ≤ (desk_after_all calls d).acked
@@ -101,7 +109,8 @@ module _ (scripts : ScriptTexts) (p : ℕ) (positive : nat_eq 0 p ≡ false) whe
   pub connecting_foreign : (run : Run) → run.desk.state ≡ Connecting → KnownOf scripts p positive run → ForeignTo p run.desk
   connecting_foreign run is (inl k) = k.foreign
   connecting_foreign run is (inr (inl k)) =
-      absurd (subst (λ t. Stage run.desk.scripts p k.commands t run.desk.cursor run.desk.waiting (pulled_of p run.pulled ++ lines_of p run.desk.waiting)) is k.current.stage)
+      absurd (subst (λ t. Stage run.desk.scripts p k.commands t run.desk.cursor run.desk.waiting (pulled_of p run.pulled ++ lines_of p run.desk.waiting)) is
+      k.current.stage)
   connecting_foreign run is (inr (inr k)) = k.foreign
 
   never_pulled : (begun : List (List (List ℕ))) (lines : List Line) (fates : List Fate) → Story scripts p begun lines fates → begun ≡ [] → lines ≡ []
@@ -114,7 +123,8 @@ module _ (scripts : ScriptTexts) (p : ℕ) (positive : nat_eq 0 p ≡ false) whe
   never_pulled _ _ _ (broken commands lines b) none = absurd (cc none)
 
   -- and if it hasn't ended it hasn't begun
-  pub connecting_none : (run : Run) (lines : List Line) → run.desk.state ≡ Connecting → of_print p run.ends ≡ [] → Held scripts p positive run lines → pulled_of p run.pulled ≡ []
+  pub connecting_none : (run : Run) (lines : List Line) → run.desk.state ≡ Connecting → of_print p run.ends ≡ [] → Held scripts p positive run lines
+      → pulled_of p run.pulled ≡ []
   connecting_none run lines is no_fate h = by h.clear h.known
     where
       by : IsClear scripts p positive run → KnownOf scripts p positive run → pulled_of p run.pulled ≡ []
@@ -129,7 +139,8 @@ module _ (scripts : ScriptTexts) (p : ℕ) (positive : nat_eq 0 p ≡ false) whe
       by (inr (inr some)) (inr (inr k)) = absurd (some no_fate)
 
   -- a session is opened
-  pub held_opened : (acked moment : ℕ) (run : Run) (lines : List Line) → Held scripts p positive run lines → Held scripts p positive (after (Note acked fact.Opened moment) run) []
+  pub held_opened : (acked moment : ℕ) (run : Run) (lines : List Line) → Held scripts p positive run lines
+      → Held scripts p positive (after (Note acked fact.Opened moment) run) []
   held_opened acked moment run lines h =
       let call : DeskCall = Note acked fact.Opened moment in
       let desk : (after call run).desk ≡ desk_after call run.desk = desk_call call run in

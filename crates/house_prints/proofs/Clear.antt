@@ -87,7 +87,8 @@ module _ (scripts : ScriptTexts) (p : ℕ) (positive : nat_eq 0 p ≡ false) whe
     coming_clear (Start q) none f = start_clear run.desk.state q none f
     coming_clear (Restart q) none f = restart_clear run.desk.state q none f
     coming_clear (Pull moment) none f = inl (ap (of_print p) (begun_pulled run.desk.state (pull_step moment run.desk).0 (pull_step moment run.desk).1) ∙ none)
-    coming_clear (Note acked g moment) none f = inl (ap (of_print p) (begun_noted g (note_step acked g moment run.desk).0 (note_step acked g moment run.desk).1) ∙ none)
+    coming_clear (Note acked g moment) none f =
+        inl (ap (of_print p) (begun_noted g (note_step acked g moment run.desk).0 (note_step acked g moment run.desk).1) ∙ none)
     coming_clear (Connect port) none f = inl none
     coming_clear Disconnect none f = inl none
     coming_clear (Select file) none f = inl none
@@ -108,7 +109,8 @@ module _ (scripts : ScriptTexts) (p : ℕ) (positive : nat_eq 0 p ≡ false) whe
 
       one_more : (q : ℕ) (fate : Fate) → nat_eq q p ≡ true → of_print p (run.ends ++ (q, fate) ∷ []) ≡ [] → ⊥
       one_more q fate own none =
-          let is : of_print p (run.ends ++ (q, fate) ∷ []) ≡ fate ∷ [] = of_print-own p q fate run.ends own ∙ ap (λ (l : List Fate). l ++ fate ∷ []) k.no_fate in
+          let is : of_print p (run.ends ++ (q, fate) ∷ []) ≡ fate ∷ [] =
+          of_print-own p q fate run.ends own ∙ ap (λ (l : List Fate). l ++ fate ∷ []) k.no_fate in
           let no : fate ∷ [] ≡ [] = sym is ∙ none in
           absurd (cc no)
 
@@ -141,7 +143,8 @@ module _ (scripts : ScriptTexts) (p : ℕ) (positive : nat_eq 0 p ≡ false) whe
       going_restart Closing q f = still run.desk refl refl f
       going_restart Fault q f = still run.desk refl refl f
 
-      going_pull : (state : State) (line : Option Line) (e : Data) → e.active ≡ run.desk.active → e.greatest ≡ run.desk.greatest → Next (after_pull state (line, e) run)
+      going_pull : (state : State) (line : Option Line) (e : Data) → e.active ≡ run.desk.active → e.greatest ≡ run.desk.greatest
+          → Next (after_pull state (line, e) run)
       going_pull state None e active greatest f = still e active greatest f
       going_pull state (Some line) e active greatest f = still e active greatest f
 
@@ -157,9 +160,11 @@ module _ (scripts : ScriptTexts) (p : ℕ) (positive : nat_eq 0 p ≡ false) whe
       going_clear (Start q) f = going_start run.desk.state q refl f
       going_clear (Restart q) f = going_restart run.desk.state q f
       going_clear (Pull moment) f =
-          going_pull run.desk.state (pull_step moment run.desk).0 (pull_step moment run.desk).1 (print_pull p positive moment run.desk).0 (print_pull p positive moment run.desk).1 f
+          going_pull run.desk.state (pull_step moment run.desk).0 (pull_step moment run.desk).1 (print_pull p positive moment run.desk).0
+          (print_pull p positive moment run.desk).1 f
       going_clear (Note acked g moment) f =
-          going_note acked g (note_step acked g moment run.desk).0 (note_step acked g moment run.desk).1 (note_ends acked moment run.desk (λ busy. k.current.active_is) g) f
+          going_note acked g (note_step acked g moment run.desk).0 (note_step acked g moment run.desk).1
+          (note_ends acked moment run.desk (λ busy. k.current.active_is) g) f
       going_clear (Connect port) f = going_moved (Connect port) tt f
       going_clear Disconnect f = going_moved Disconnect tt f
       going_clear (Select file) f = going_moved (Select file) tt f
@@ -176,7 +181,8 @@ module _ (scripts : ScriptTexts) (p : ℕ) (positive : nat_eq 0 p ≡ false) whe
   late_foreign run some (inr (inl k)) = absurd (some k.no_fate)
   late_foreign run some (inr (inr k)) = k.foreign
 
-  pub clear_call : (call : DeskCall) (run : Run) → KnownOf scripts p positive run → KnownOf scripts p positive (after call run) → IsClear scripts p positive run → IsClear scripts p positive (after call run)
+  pub clear_call : (call : DeskCall) (run : Run) → KnownOf scripts p positive run → KnownOf scripts p positive (after call run)
+      → IsClear scripts p positive run → IsClear scripts p positive (after call run)
   clear_call call run before (inl k) clear = inl k.no_begin
   clear_call call run before (inr (inl k)) clear = inr (inl k)
   clear_call call run before (inr (inr k)) clear = by clear
@@ -196,5 +202,6 @@ module _ (scripts : ScriptTexts) (p : ℕ) (positive : nat_eq 0 p ≡ false) whe
         scripts_are = ap (λ (d : Data). d.scripts) desk ∙ scripts_call call run.desk ∙ h.scripts_are;
         known = known-after scripts p positive call run h.scripts_are may h.known;
         clear = clear_call call run h.known (known-after scripts p positive call run h.scripts_are may h.known) h.clear;
-        marks = subst (λ (d : Data). Marked p d (lines ++ drawn_lines (line_pulled call run.desk))) (sym desk) (marked_call scripts p positive call run lines may plain few h);
+        marks = subst (λ (d : Data). Marked p d (lines ++ drawn_lines (line_pulled call run.desk))) (sym desk)
+            (marked_call scripts p positive call run lines may plain few h);
       }

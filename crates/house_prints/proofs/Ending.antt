@@ -32,14 +32,17 @@ module _ (scripts : ScriptTexts) (p : ℕ) (positive : nat_eq 0 p ≡ false) whe
   -- a call where the print is foreign
   status_foreign : (call : DeskCall) (run : Run) (lines : List Line) (is_open : Bool) → IsPlain call run.desk → ForeignTo p run.desk →
       Status scripts p positive (of_print p run.ends) run.desk.acked lines is_open →
-      Status scripts p positive (of_print p (after call run).ends) (after call run).desk.acked (lines ++ drawn_lines (line_pulled call run.desk)) (open_by call is_open)
+      Status scripts p positive (of_print p (after call run).ends) (after call run).desk.acked (lines ++ drawn_lines (line_pulled call run.desk))
+      (open_by call is_open)
   status_foreign call run lines is_open plain f (inl none) = inl (ends_foreign scripts p positive call run f ∙ none)
   status_foreign call run lines is_open plain f (inr so) =
       inr (
         so.0,
         ends_foreign scripts p positive call run f ∙ so.1,
-        left_on scripts p positive so.0 run.desk.acked (after call run).desk.acked lines (drawn_lines (line_pulled call run.desk)) is_open (open_by call is_open)
-            (omega (arith, acked_up scripts p positive call run.desk plain, ap (λ (d : Data). d.acked) (desk_call call run))) (none_pulled scripts p positive call run.desk f)
+        left_on scripts p positive so.0 run.desk.acked (after call run).desk.acked lines (drawn_lines (line_pulled call run.desk)) is_open
+            (open_by call is_open)
+            (omega (arith, acked_up scripts p positive call run.desk plain, ap (λ (d : Data). d.acked) (desk_call call run)))
+            (none_pulled scripts p positive call run.desk f)
             (λ shut. shut_call scripts p positive call run.desk plain is_open shut) so.2,
       )
 
@@ -53,7 +56,8 @@ module _ (scripts : ScriptTexts) (p : ℕ) (positive : nat_eq 0 p ≡ false) whe
     own_end : nat_eq run.desk.greatest p ≡ true
     own_end = subst (λ (g : ℕ). nat_eq g p ≡ true) (sym k.current.is) (same_test p)
 
-    cancelled_so : (f : LinkFact) (acked : ℕ) → lines_of p (drop acked lines) ≡ [] ⊎ (f ≡ fact.Closed) → LeftSo scripts p positive (cancelled_by f) acked lines (up_after f is_open)
+    cancelled_so : (f : LinkFact) (acked : ℕ) → lines_of p (drop acked lines) ≡ [] ⊎ (f ≡ fact.Closed)
+        → LeftSo scripts p positive (cancelled_by f) acked lines (up_after f is_open)
     cancelled_so fact.Closed acked so = refl
     cancelled_so fact.Quiet acked (inl so) = so
     cancelled_so fact.Quiet acked (inr is) = absurd (cc is)
@@ -72,7 +76,8 @@ module _ (scripts : ScriptTexts) (p : ℕ) (positive : nat_eq 0 p ≡ false) whe
     acknowledged acked f other (inl is) = absurd (other is)
     acknowledged acked f other (inr below) = all_acked acked below
 
-    ended_so : (acked : ℕ) (f : LinkFact) (o : Outcome) → (f ≡ fact.Opened → ⊥) → EndsAs o acked f run.desk → LeftSo scripts p positive (fate_of f o) acked lines (up_after f is_open)
+    ended_so : (acked : ℕ) (f : LinkFact) (o : Outcome) → (f ≡ fact.Opened → ⊥) → EndsAs o acked f run.desk
+        → LeftSo scripts p positive (fate_of f o) acked lines (up_after f is_open)
     ended_so acked f outcome.Active other by = absurd by
     ended_so acked f outcome.Done other by = acknowledged acked f other by.1.last_line
     ended_so acked f outcome.Cancelled other (inl by) = cancelled_so f acked (inl (acknowledged acked f other by.1.last_line))
@@ -91,12 +96,14 @@ module _ (scripts : ScriptTexts) (p : ℕ) (positive : nat_eq 0 p ≡ false) whe
         )
 
     -- the same with nothing pulled
-    status_same : (fates : List Fate) (acked later : ℕ) (now : Bool) → later ≡ acked → Status scripts p positive fates acked lines now → Status scripts p positive fates later (lines ++ []) now
+    status_same : (fates : List Fate) (acked later : ℕ) (now : Bool) → later ≡ acked → Status scripts p positive fates acked lines now
+        → Status scripts p positive fates later (lines ++ []) now
     status_same fates acked later now same (inl none) = inl none
     status_same fates acked later now same (inr so) =
         inr (so.0, so.1, left_on scripts p positive so.0 acked later lines [] now now (omega (arith, same)) refl (λ shut. shut) so.2)
 
-    left_so : (s : State) (q : ℕ) → run.desk.state ≡ s → Status scripts p positive (of_print p (after_restart q (restart_at s q run.desk) run).ends) run.desk.acked lines is_open
+    left_so : (s : State) (q : ℕ) → run.desk.state ≡ s
+        → Status scripts p positive (of_print p (after_restart q (restart_at s q run.desk) run).ends) run.desk.acked lines is_open
     left_so Paused q is =
         inr (
           Left,
@@ -114,7 +121,8 @@ module _ (scripts : ScriptTexts) (p : ℕ) (positive : nat_eq 0 p ≡ false) whe
     left_so Fault q is = inl k.no_fate
 
     status_going : (call : DeskCall) → IsPlain call run.desk →
-        Status scripts p positive (of_print p (after call run).ends) (after call run).desk.acked (lines ++ drawn_lines (line_pulled call run.desk)) (open_by call is_open)
+        Status scripts p positive (of_print p (after call run).ends) (after call run).desk.acked (lines ++ drawn_lines (line_pulled call run.desk))
+        (open_by call is_open)
     status_going (Restart q) plain =
         status_same (of_print p (after (Restart q) run).ends) run.desk.acked (after (Restart q) run).desk.acked is_open
         (ap (λ (d : Data). d.acked) (desk_call (Restart q) run) ∙ acked_request (Restart q) run.desk tt) (left_so run.desk.state q refl)
@@ -123,8 +131,10 @@ module _ (scripts : ScriptTexts) (p : ℕ) (positive : nat_eq 0 p ≡ false) whe
         (ap (λ (d : Data). d.acked) (desk_call (Note acked f moment) run) ∙ acked_note p positive acked f moment run.desk plain.0)
         (noted_so acked f (note_step acked f moment run.desk).0 (note_step acked f moment run.desk).1 plain.0
         (ending_is acked f moment run.desk (λ busy. k.current.active_is)))
-    status_going (Pull moment) plain = inl (ap (of_print p) (ends_pulled scripts p positive run.desk.state (pull_step moment run.desk).0 (pull_step moment run.desk).1 run) ∙ k.no_fate)
-    status_going (Start q) plain = inl (ap (of_print p) (ends_started scripts p positive q (start_at run.desk.state q run.desk).0 (start_at run.desk.state q run.desk).1 run) ∙ k.no_fate)
+    status_going (Pull moment) plain =
+        inl (ap (of_print p) (ends_pulled scripts p positive run.desk.state (pull_step moment run.desk).0 (pull_step moment run.desk).1 run) ∙ k.no_fate)
+    status_going (Start q) plain =
+        inl (ap (of_print p) (ends_started scripts p positive q (start_at run.desk.state q run.desk).0 (start_at run.desk.state q run.desk).1 run) ∙ k.no_fate)
     status_going (Connect port) plain = inl k.no_fate
     status_going Disconnect plain = inl k.no_fate
     status_going (Select file) plain = inl k.no_fate
@@ -138,11 +148,13 @@ module _ (scripts : ScriptTexts) (p : ℕ) (positive : nat_eq 0 p ≡ false) whe
   -- a call
   pub status_call : (call : DeskCall) (run : Run) (lines : List Line) (is_open : Bool) → IsPlain call run.desk → Held scripts p positive run lines →
       Status scripts p positive (of_print p run.ends) run.desk.acked lines is_open →
-      Status scripts p positive (of_print p (after call run).ends) (after call run).desk.acked (lines ++ drawn_lines (line_pulled call run.desk)) (open_by call is_open)
+      Status scripts p positive (of_print p (after call run).ends) (after call run).desk.acked (lines ++ drawn_lines (line_pulled call run.desk))
+      (open_by call is_open)
   status_call call run lines is_open plain h status = by h.known
     where
       by : KnownOf scripts p positive run →
-          Status scripts p positive (of_print p (after call run).ends) (after call run).desk.acked (lines ++ drawn_lines (line_pulled call run.desk)) (open_by call is_open)
+          Status scripts p positive (of_print p (after call run).ends) (after call run).desk.acked (lines ++ drawn_lines (line_pulled call run.desk))
+          (open_by call is_open)
       by (inl k) = status_foreign call run lines is_open plain k.foreign status
       by (inr (inl k)) = status_going run lines is_open k h.marks call plain
       by (inr (inr k)) = status_foreign call run lines is_open plain k.foreign status

@@ -85,7 +85,8 @@ module _ (p : ℕ) (h : History) (e : Entry) where
   pub lives_past : is_opened e ≡ false → (home : ℕ) → home ≤ sessions h → lines_of p (lines_at e) ≡ [] → LivesIn p h home → LivesIn p (h ++ e ∷ []) home
   lives_past other home within none l = record {
     alone = λ k off. kept k (place k (sessions h)) ∙ l.alone k off;
-    all = lines_whole ∙ ap (λ (x : List Line). lines_of p (issued_in h) ++ x) none ∙ append-nil (lines_of p (issued_in h)) ∙ l.all ∙ sym (kept home (place home (sessions h)));
+    all = lines_whole ∙ ap (λ (x : List Line). lines_of p (issued_in h) ++ x) none ∙ append-nil (lines_of p (issued_in h)) ∙ l.all
+        ∙ sym (kept home (place home (sessions h)));
   }
     where
       kept : (k : ℕ) → Place k (sessions h) → lines_of p (issued_of k (h ++ e ∷ [])) ≡ lines_of p (issued_of k h)
@@ -102,7 +103,8 @@ module _ (p : ℕ) (h : History) (e : Entry) where
   pub lives_opened : is_opened e ≡ true → (home : ℕ) → lines_of p (lines_at e) ≡ [] → LivesIn p h home → LivesIn p (h ++ e ∷ []) home
   lives_opened opens home none l = record {
     alone = λ k off. kept k (place k (sessions h)) ∙ l.alone k off;
-    all = lines_whole ∙ ap (λ (x : List Line). lines_of p (issued_in h) ++ x) none ∙ append-nil (lines_of p (issued_in h)) ∙ l.all ∙ sym (kept home (place home (sessions h)));
+    all = lines_whole ∙ ap (λ (x : List Line). lines_of p (issued_in h) ++ x) none ∙ append-nil (lines_of p (issued_in h)) ∙ l.all
+        ∙ sym (kept home (place home (sessions h)));
   }
     where
       kept : (k : ℕ) → Place k (sessions h) → lines_of p (issued_of k (h ++ e ∷ [])) ≡ lines_of p (issued_of k h)

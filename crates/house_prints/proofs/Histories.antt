@@ -43,7 +43,8 @@ record Answered (calls : List DeskCall) (k l : Known) : Type 0 where
   may : MayAll calls k.desk
   numbered : IsNumbered l
 
-answered : (fault : Bool) (v : Verdict) (k : Known) (x : Answer) → is_fault x ≡ fault → IsNumbered k → Led v k x → Answered (calls_after v x) k (after_verdict v k x)
+answered : (fault : Bool) (v : Verdict) (k : Known) (x : Answer) → is_fault x ≡ fault → IsNumbered k → Led v k x
+    → Answered (calls_after v x) k (after_verdict v k x)
 answered true v k x e n l = rw e (record { desk = refl; silent = refl; may = tt; numbered = n })
 answered false v k x e n l = rw e (record { desk = l.desk; silent = l.silent; may = l.may; numbered = l.numbered })
 
@@ -116,7 +117,8 @@ module _ (scripts : ScriptTexts) (p : ℕ) (positive : nat_eq 0 p ≡ false) whe
         let v : Verdict = verdict ask t.files t.known in
         let calls : List DeskCall = calls_after v x in
         let a : Answered calls t.known (after_verdict v t.known x) =
-        answered (is_fault x) v t.known x refl f.numbered (led v t.known x f.numbered (asks_play (needed ask.request) ask.key ask.request t.files t.known f.numbered))
+        answered (is_fault x) v t.known x refl f.numbered
+        (led v t.known x f.numbered (asks_play (needed ask.request) ask.key ask.request t.files t.known f.numbered))
         in
         let r : AreRequests calls = calls_requests (needed ask.request) ask.key ask.request t.files t.known x in
         record {
@@ -152,7 +154,8 @@ module _ (scripts : ScriptTexts) (p : ℕ) (positive : nat_eq 0 p ≡ false) whe
           opened = λ was shut. sym (open_pulls scripts p positive note.fact note.acked note.moment note.issued.items was) ∙ shut;
         })
 
-    open_kind : (note : declared_note.Note) → note.fact ≡ fact.Opened → MayFind note.fact note.acked note.moment t → lines_pulled (calls_of note) t.known.desk ≡ lines_in note →
+    open_kind : (note : declared_note.Note) → note.fact ≡ fact.Opened → MayFind note.fact note.acked note.moment t
+        → lines_pulled (calls_of note) t.known.desk ≡ lines_in note →
         Kind h (entry.Note note) run (calls_of note)
     open_kind note opens may lines =
         let dials : t.known.desk.state ≡ Connecting = (subst (λ (g : LinkFact). MayFind g note.acked note.moment t) opens may).0 in
@@ -190,7 +193,8 @@ module _ (scripts : ScriptTexts) (p : ℕ) (positive : nat_eq 0 p ≡ false) whe
       let next = next_follows h t run f e (steps_of h t run f e legal.0) (short more es (sym whole)) in
       let rest = follows_all es more (after_entry e t) (run_of (calls_at e t) run) next legal.1 (λ first later is. short first later (sym whole ∙ is)) in
       subst (λ (x : History). Follows x (after_all es (after_entry e t)) (run_of (calls_at e t ++ calls_of_all es (after_entry e t)) run)) whole
-      (subst (λ (r : Run). Follows (more ++ es) (after_all es (after_entry e t)) r) (sym (run_append (calls_at e t) (calls_of_all es (after_entry e t)) run)) rest)
+      (subst (λ (r : Run). Follows (more ++ es) (after_all es (after_entry e t)) r)
+      (sym (run_append (calls_at e t) (calls_of_all es (after_entry e t)) run)) rest)
 
   stays_all : (es h : History) (t : Standing) (run : Run) → Follows h t run → Legal es t → IsShort (h ++ es) → (f : Fate) (home a : ℕ) → home ≤ sessions h →
       Stays h run f home a → LivesIn p (h ++ es) home × (lines_of p (drop a (issued_of home (h ++ es))) ≡ [])
@@ -211,7 +215,8 @@ legal_first [] fs s l = (tt, l)
 legal_first (e ∷ es) fs s l = (let rest = legal_first es fs (after_entry e s) l.1 in ((l.0, rest.0), rest.1))
 
 -- legal histories of a host that began with a new desk
-module _ (scripts : ScriptTexts) (limits : Limits) (poll_ms : ℕ) (p : ℕ) (some : 0 < p) (s : Standing) (new : s.known.desk ≡ new_desk scripts limits poll_ms) where
+module _ (scripts : ScriptTexts) (limits : Limits) (poll_ms : ℕ) (p : ℕ) (some : 0 < p) (s : Standing)
+    (new : s.known.desk ≡ new_desk scripts limits poll_ms) where
   positive_is : nat_eq 0 p ≡ false
   positive_is = below_test 0 p some
 
@@ -249,4 +254,5 @@ module _ (scripts : ScriptTexts) (limits : Limits) (poll_ms : ℕ) (p : ℕ) (so
       let begun = follows_all scripts p positive_is first [] s (new_run s.known.desk) begins_so parts.0
       (λ one two is. short one (two ++ later) (ap (λ (x : History). x ++ later) is ∙ append_assoc one two later))
       in
-      stays_all scripts p positive_is later first (after_all first s) (run_of (calls_of_all first s) (new_run s.known.desk)) begun parts.1 short f home a within (ended, l, none)
+      stays_all scripts p positive_is later first (after_all first s)
+      (run_of (calls_of_all first s) (new_run s.known.desk)) begun parts.1 short f home a within (ended, l, none)

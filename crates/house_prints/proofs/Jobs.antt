@@ -29,7 +29,8 @@ module _ (p : ℕ) where
   jobs_own [] = refl
   jobs_own (line ∷ lines) = by (jobs_own lines) (is_of p line.tag) refl
     where
-      by : job_part p (lines_of p lines) ≡ job_part p lines → (b : Bool) → is_of p line.tag ≡ b → job_part p (lines_of p (line ∷ lines)) ≡ job_part p (line ∷ lines)
+      by : job_part p (lines_of p lines) ≡ job_part p lines → (b : Bool) → is_of p line.tag ≡ b
+          → job_part p (lines_of p (line ∷ lines)) ≡ job_part p (line ∷ lines)
       by rest true is =
           ap (λ (b : Bool). job_part p (cond b (line ∷ lines_of p lines) (lines_of p lines))) is
           ∙ ap (λ (x : List Line). cond (is_job_of p line.tag) (line ∷ x) x) rest
@@ -88,7 +89,8 @@ module _ (p : ℕ) where
     course_jobs _ _ (cancelled index lines b) = record { count = index; are = with_scripts scripts point.Cancelled lines ∙ body_jobs index lines b }
     course_jobs _ _ (cancelled_paused index lines b) = record {
       count = index;
-      are = with_scripts scripts point.Cancelled (lines ++ script_lines scripts point.Paused p) ∙ with_scripts scripts point.Paused lines ∙ body_jobs index lines b;
+      are = with_scripts scripts point.Cancelled (lines ++ script_lines scripts point.Paused p) ∙ with_scripts scripts point.Paused lines
+          ∙ body_jobs index lines b;
     }
     course_jobs _ _ (done lines b) = record { count = length commands; are = with_scripts scripts point.Done lines ∙ body_jobs (length commands) lines b }
 
@@ -122,12 +124,18 @@ module _ (p : ℕ) where
   pub story_jobs : (scripts : ScriptTexts) (commands : List (List ℕ)) (begun : List (List (List ℕ))) (lines : List Line) (fates : List Fate) →
       Story scripts p begun lines fates → begun ≡ commands ∷ [] → AreFirst scripts commands lines
   story_jobs scripts commands _ _ _ never is = absurd (cc is)
-  story_jobs scripts commands _ _ _ (going c lines b) is = subst (λ (x : List (List ℕ)). AreFirst scripts x lines) (head_same c commands is) (begun_jobs scripts c lines b)
-  story_jobs scripts commands _ _ _ (finished c lines b) is = subst (λ (x : List (List ℕ)). AreFirst scripts x lines) (head_same c commands is) (course_jobs scripts c Done lines b)
-  story_jobs scripts commands _ _ _ (stopped c lines b) is = subst (λ (x : List (List ℕ)). AreFirst scripts x lines) (head_same c commands is) (course_jobs scripts c Cancelled lines b)
-  story_jobs scripts commands _ _ _ (left c lines b) is = subst (λ (x : List (List ℕ)). AreFirst scripts x lines) (head_same c commands is) (course_jobs scripts c Paused lines b)
-  story_jobs scripts commands _ _ _ (unplugged c lines b) is = subst (λ (x : List (List ℕ)). AreFirst scripts x lines) (head_same c commands is) (begun_jobs scripts c lines b)
-  story_jobs scripts commands _ _ _ (broken c lines b) is = subst (λ (x : List (List ℕ)). AreFirst scripts x lines) (head_same c commands is) (begun_jobs scripts c lines b)
+  story_jobs scripts commands _ _ _ (going c lines b) is =
+      subst (λ (x : List (List ℕ)). AreFirst scripts x lines) (head_same c commands is) (begun_jobs scripts c lines b)
+  story_jobs scripts commands _ _ _ (finished c lines b) is =
+      subst (λ (x : List (List ℕ)). AreFirst scripts x lines) (head_same c commands is) (course_jobs scripts c Done lines b)
+  story_jobs scripts commands _ _ _ (stopped c lines b) is =
+      subst (λ (x : List (List ℕ)). AreFirst scripts x lines) (head_same c commands is) (course_jobs scripts c Cancelled lines b)
+  story_jobs scripts commands _ _ _ (left c lines b) is =
+      subst (λ (x : List (List ℕ)). AreFirst scripts x lines) (head_same c commands is) (course_jobs scripts c Paused lines b)
+  story_jobs scripts commands _ _ _ (unplugged c lines b) is =
+      subst (λ (x : List (List ℕ)). AreFirst scripts x lines) (head_same c commands is) (begun_jobs scripts c lines b)
+  story_jobs scripts commands _ _ _ (broken c lines b) is =
+      subst (λ (x : List (List ℕ)). AreFirst scripts x lines) (head_same c commands is) (begun_jobs scripts c lines b)
 
   take_whole : {X : Type 0} (xs : List X) → take (length xs) xs ≡ xs
   take_whole [] = refl
@@ -143,13 +151,15 @@ module _ (p : ℕ) where
   done_jobs : (scripts : ScriptTexts) (commands : List (List ℕ)) (e : End) (lines : List Line) → e ≡ Done → Course scripts p commands e lines →
       job_part p lines ≡ jobs_from p 0 commands
   done_jobs scripts commands _ _ is (done lines b) =
-      with_scripts scripts point.Done lines ∙ body_jobs scripts commands (length commands) lines b ∙ ap (λ (c : List (List ℕ)). jobs_from p 0 c) (take_whole commands)
+      with_scripts scripts point.Done lines ∙ body_jobs scripts commands (length commands) lines b
+      ∙ ap (λ (c : List (List ℕ)). jobs_from p 0 c) (take_whole commands)
   done_jobs scripts commands _ _ is (still_open index lines b) = absurd (cc is)
   done_jobs scripts commands _ _ is (paused index lines b) = absurd (cc is)
   done_jobs scripts commands _ _ is (cancelled index lines b) = absurd (cc is)
   done_jobs scripts commands _ _ is (cancelled_paused index lines b) = absurd (cc is)
 
-  pub story_done : (scripts : ScriptTexts) (begun : List (List (List ℕ))) (lines : List Line) (fates : List Fate) → Story scripts p begun lines fates → fates ≡ Finished ∷ [] →
+  pub story_done : (scripts : ScriptTexts) (begun : List (List (List ℕ))) (lines : List Line) (fates : List Fate) → Story scripts p begun lines fates
+      → fates ≡ Finished ∷ [] →
       IsWhole scripts begun lines
   story_done scripts _ _ _ (finished c lines b) is = record { commands = c; began = refl; course = b; jobs = done_jobs scripts c Done lines refl b }
   story_done scripts _ _ _ never is = absurd (cc is)

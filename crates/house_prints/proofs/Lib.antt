@@ -15,3 +15,4 @@ pub mod Histories
 pub mod Jobs
 pub mod Executed
 pub mod Sent
+pub mod Recorded

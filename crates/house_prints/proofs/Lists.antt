@@ -38,7 +38,8 @@ module _ (p : ℕ) where
   pub none_later : (n m : ℕ) (xs : List Line) → n ≤ m → lines_of p (drop n xs) ≡ [] → lines_of p (drop m xs) ≡ []
   none_later n m xs below none =
       let is : n + (m - n) ≡ m = omega (arith, below) in
-      ap (λ (k : ℕ). lines_of p (drop k xs)) (sym is) ∙ ap (λ (l : List Line). lines_of p l) (sym (drop-drop (m - n) n xs)) ∙ none_dropped (m - n) (drop n xs) none
+      ap (λ (k : ℕ). lines_of p (drop k xs)) (sym is) ∙ ap (λ (l : List Line). lines_of p l) (sym (drop-drop (m - n) n xs))
+      ∙ none_dropped (m - n) (drop n xs) none
 
   -- past the last line
   pub none_past : (n : ℕ) (xs : List Line) → length xs ≤ n → lines_of p (drop n xs) ≡ []
@@ -47,7 +48,8 @@ module _ (p : ℕ) where
   -- all of the print's lines stand before a place
   pub all_before : (n : ℕ) (xs : List Line) → lines_of p (drop n xs) ≡ [] → lines_of p (take n xs) ≡ lines_of p xs
   all_before n xs none =
-      sym (append-nil (lines_of p (take n xs))) ∙ ap (λ (l : List Line). lines_of p (take n xs) ++ l) (sym none) ∙ sym (lines_of-append p (take n xs) (drop n xs))
+      sym (append-nil (lines_of p (take n xs))) ∙ ap (λ (l : List Line). lines_of p (take n xs) ++ l) (sym none)
+      ∙ sym (lines_of-append p (take n xs) (drop n xs))
       ∙ ap (λ (l : List Line). lines_of p l) (take-append-drop n xs)
 
   -- a line of something else

@@ -30,11 +30,14 @@ choose_pair P true x y hx hy = hx
 choose_pair P false x y hx hy = hy
 
 -- another state, in which no print is paused
-pub moved : (d e : Data) → e.issued ≡ d.issued → e.acked ≡ d.acked → e.print_line ≡ d.print_line → e.greatest ≡ d.greatest → e.active ≡ d.active → (e.state ≡ Paused → ⊥) → IsSame d e
-moved d e issued acked line greatest active other = record { issued = issued; acked = acked; line = line; greatest = greatest; active = active; paused = λ is. absurd (other is) }
+pub moved : (d e : Data) → e.issued ≡ d.issued → e.acked ≡ d.acked → e.print_line ≡ d.print_line → e.greatest ≡ d.greatest → e.active ≡ d.active
+    → (e.state ≡ Paused → ⊥) → IsSame d e
+moved d e issued acked line greatest active other =
+    record { issued = issued; acked = acked; line = line; greatest = greatest; active = active; paused = λ is. absurd (other is) }
 
 -- other fields
-pub kept : (d e : Data) → e.issued ≡ d.issued → e.acked ≡ d.acked → e.print_line ≡ d.print_line → e.greatest ≡ d.greatest → e.active ≡ d.active → e.state ≡ d.state → e.waiting ≡ d.waiting → IsSame d e
+pub kept : (d e : Data) → e.issued ≡ d.issued → e.acked ≡ d.acked → e.print_line ≡ d.print_line → e.greatest ≡ d.greatest → e.active ≡ d.active
+    → e.state ≡ d.state → e.waiting ≡ d.waiting → IsSame d e
 kept d e issued acked line greatest active state waiting =
     record { issued = issued; acked = acked; line = line; greatest = greatest; active = active; paused = λ is. (sym state ∙ is, waiting) }
 
@@ -161,7 +164,8 @@ IsRequest (Pull moment) = ⊥
 IsRequest (Note acked found moment) = ⊥
 IsRequest _ = Unit {0}
 
-pub marked_request : (p : ℕ) (call : DeskCall) (d : Data) (lines : List Line) → IsRequest call → MayCall call d → Marked p d lines → Marked p (desk_after call d) lines
+pub marked_request : (p : ℕ) (call : DeskCall) (d : Data) (lines : List Line) → IsRequest call → MayCall call d → Marked p d lines
+    → Marked p (desk_after call d) lines
 marked_request p (Connect port) d lines r may m = marked_same p d _ lines (same-connect d.state port d) m
 marked_request p Disconnect d lines r may m = marked_same p d _ lines (same-disconnect d.state d) m
 marked_request p (Select file) d lines r may m = marked_same p d _ lines (same-select d.state file d) m

@@ -25,8 +25,10 @@ module _ (p : ℕ) (positive : nat_eq 0 p ≡ false) where
     greatest : e.greatest ≡ t.greatest
     paused : e.state ≡ Paused → ((t.state ≡ Paused) × (e.waiting ≡ t.waiting)) ⊎ ((e.waiting ≡ []) × (e.print_line ≤ e.acked))
 
-  after_moved : (t e : Data) → e.issued ≡ t.issued → e.acked ≡ t.acked → e.print_line ≡ t.print_line → e.greatest ≡ t.greatest → (e.state ≡ Paused → ⊥) → IsAfter t e
-  after_moved t e issued acked line greatest other = record { issued = issued; acked = acked; line = line; greatest = greatest; paused = λ is. absurd (other is) }
+  after_moved : (t e : Data) → e.issued ≡ t.issued → e.acked ≡ t.acked → e.print_line ≡ t.print_line → e.greatest ≡ t.greatest → (e.state ≡ Paused → ⊥)
+      → IsAfter t e
+  after_moved t e issued acked line greatest other =
+      record { issued = issued; acked = acked; line = line; greatest = greatest; paused = λ is. absurd (other is) }
 
   after_same : (t : Data) → IsAfter t t
   after_same t = record { issued = refl; acked = refl; line = refl; greatest = refl; paused = λ is. inl (is, refl) }
@@ -47,7 +49,8 @@ module _ (p : ℕ) (positive : nat_eq 0 p ≡ false) where
   after_end : (s : State) (t : Data) → IsAfter t (end_at s t).1
   after_end Pausing t = by_over t (is_over t) (None, record t { state = Paused }) (None, t) (λ over. pausing t over) (after_same t)
   after_end Cancelling t =
-      by_over t (is_over t) (finish outcome.Cancelled t) (None, t) (λ over. after_moved t (finish outcome.Cancelled t).1 refl refl refl refl (λ e. cc e)) (after_same t)
+      by_over t (is_over t) (finish outcome.Cancelled t) (None, t) (λ over. after_moved t (finish outcome.Cancelled t).1 refl refl refl refl (λ e. cc e))
+      (after_same t)
   after_end Finishing t =
       by_over t (is_over t) (finish outcome.Done t) (None, t) (λ over. after_moved t (finish outcome.Done t).1 refl refl refl refl (λ e. cc e)) (after_same t)
   after_end _ t = after_same t
@@ -72,14 +75,16 @@ module _ (p : ℕ) (positive : nat_eq 0 p ≡ false) where
       by (inr over) = inr over
       by (inl was) = again was (first.paused was.0)
         where
-          again : (u.state ≡ Paused) × (e.waiting ≡ u.waiting) → ((t.state ≡ Paused) × (u.waiting ≡ t.waiting)) ⊎ ((u.waiting ≡ []) × (u.print_line ≤ u.acked)) →
+          again : (u.state ≡ Paused) × (e.waiting ≡ u.waiting) → ((t.state ≡ Paused) × (u.waiting ≡ t.waiting))
+              ⊎ ((u.waiting ≡ []) × (u.print_line ≤ u.acked)) →
               ((t.state ≡ Paused) × (e.waiting ≡ t.waiting)) ⊎ ((e.waiting ≡ []) × (e.print_line ≤ e.acked))
           again w (inl before) = inl (before.0, w.1 ∙ before.1)
           again w (inr over) = inr (w.1 ∙ over.0, omega (arith, over.1, second.line, second.acked))
 
   after_fail : (t : Data) (noted : Noted) → IsAfter t noted.1 → IsAfter t (fail noted).1
   after_fail t (None, e) h = after_then t e (leave Fault outcome.Failed e).1 h (after_moved e (leave Fault outcome.Failed e).1 refl refl refl refl (λ e. cc e))
-  after_fail t (Some ending, e) h = after_then t e (leave Fault outcome.Failed e).1 h (after_moved e (leave Fault outcome.Failed e).1 refl refl refl refl (λ e. cc e))
+  after_fail t (Some ending, e) h =
+      after_then t e (leave Fault outcome.Failed e).1 h (after_moved e (leave Fault outcome.Failed e).1 refl refl refl refl (λ e. cc e))
 
   after_fact : (f : LinkFact) (moment : ℕ) (t : Data) → (f ≡ fact.Opened → ⊥) → IsAfter t (note_fact f moment t).1
   after_fact fact.Quiet moment t other = after_end t.state t

@@ -106,7 +106,8 @@ acked_rises fact.NoPort acked d other well = well.0
 acked_rises fact.Failed acked d other well = well.0
 acked_rises (fact.Ended end) acked d other well = well.0
 
-pub may_pulls : (f : LinkFact) (acked moment : ℕ) (issued : List Issued) (d : Data) → MayAll (map (λ (one : Issued). Pull moment) issued ++ last_call f acked moment) d
+pub may_pulls : (f : LinkFact) (acked moment : ℕ) (issued : List Issued) (d : Data)
+    → MayAll (map (λ (one : Issued). Pull moment) issued ++ last_call f acked moment) d
 may_pulls fact.Failed acked moment [] d = (tt, tt)
 may_pulls fact.Quiet acked moment [] d = tt
 may_pulls fact.Opened acked moment [] d = tt
@@ -206,10 +207,12 @@ none_of f (x ∷ xs) none = absurd (cc none)
 
 -- the note that opens a session issues nothing
 pub opened_silent : (f : LinkFact) (acked moment : ℕ) (issued : List Issued) (d : Data) → f ≡ fact.Opened → d.state ≡ Connecting →
-    lines_pulled (Note acked (first_fact f) moment ∷ (map (λ (one : Issued). Pull moment) issued ++ last_call f acked moment)) d ≡ map line_of issued → issued ≡ []
+    lines_pulled (Note acked (first_fact f) moment ∷ (map (λ (one : Issued). Pull moment) issued ++ last_call f acked moment)) d ≡ map line_of issued
+    → issued ≡ []
 opened_silent fact.Opened acked moment issued d opens is lines =
     none_of line_of issued
-    (sym lines ∙ ap (λ (calls : List DeskCall). lines_pulled calls (note_step acked fact.Opened moment d).1) (append-nil (map (λ (one : Issued). Pull moment) issued))
+    (sym lines ∙ ap (λ (calls : List DeskCall). lines_pulled calls (note_step acked fact.Opened moment d).1)
+    (append-nil (map (λ (one : Issued). Pull moment) issued))
     ∙ none_pulled moment issued (note_step acked fact.Opened moment d).1 (opened_connecting acked moment d is))
 opened_silent fact.Quiet acked moment issued d opens is lines = absurd (cc opens)
 opened_silent fact.Ready acked moment issued d opens is lines = absurd (cc opens)

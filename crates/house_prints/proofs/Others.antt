@@ -75,7 +75,8 @@ module _ (scripts : ScriptTexts) (p : ℕ) (positive : nat_eq 0 p ≡ false) whe
       length (lines ++ drawn_lines (line_pulled call run.desk)) ≤ 18446744073709551615 → Held run lines →
       Marked p (desk_after call run.desk) (lines ++ drawn_lines (line_pulled call run.desk))
   marked_call (Pull moment) run lines may plain few h = marked_pull p positive moment run.desk lines (other_ahead moment run h.known) few h.marks
-  marked_call (Note acked f moment) run lines may plain few h = none_new run.desk _ lines (marked_note p positive acked f moment run.desk lines plain.0 plain.1 h.marks)
+  marked_call (Note acked f moment) run lines may plain few h =
+      none_new run.desk _ lines (marked_note p positive acked f moment run.desk lines plain.0 plain.1 h.marks)
   marked_call (Connect port) run lines may plain few h = none_new run.desk _ lines (marked_request p (Connect port) run.desk lines tt may h.marks)
   marked_call Disconnect run lines may plain few h = none_new run.desk _ lines (marked_request p Disconnect run.desk lines tt may h.marks)
   marked_call (Select file) run lines may plain few h = none_new run.desk _ lines (marked_request p (Select file) run.desk lines tt may h.marks)
@@ -147,7 +148,8 @@ module _ (scripts : ScriptTexts) (p : ℕ) (positive : nat_eq 0 p ≡ false) whe
   ends_pulled state None d run = refl
   ends_pulled state (Some line) d run = refl
 
-  ends_noted : (f : LinkFact) (ending : Option Ending) (d : Data) (run : Run) → IsNoEndOf p ending → of_print p (after_note f (ending, d) run).ends ≡ of_print p run.ends
+  ends_noted : (f : LinkFact) (ending : Option Ending) (d : Data) (run : Run) → IsNoEndOf p ending
+      → of_print p (after_note f (ending, d) run).ends ≡ of_print p run.ends
   ends_noted f None d run none = refl
   ends_noted f (Some ending) d run none = of_print-other p ending.print _ run.ends none
 
@@ -155,7 +157,8 @@ module _ (scripts : ScriptTexts) (p : ℕ) (positive : nat_eq 0 p ≡ false) whe
   other_paused : (d : Data) → d.state ≡ Paused → ForeignTo p d → nat_eq d.greatest p ≡ false
   other_paused d is f = elim f.other [ inl o ↦ o | inr o ↦ absurd (subst IsIdle is o.1) ]
 
-  ends_left : (s : State) (q : ℕ) (run : Run) → run.desk.state ≡ s → ForeignTo p run.desk → of_print p (after_restart q (restart_at s q run.desk) run).ends ≡ of_print p run.ends
+  ends_left : (s : State) (q : ℕ) (run : Run) → run.desk.state ≡ s → ForeignTo p run.desk
+      → of_print p (after_restart q (restart_at s q run.desk) run).ends ≡ of_print p run.ends
   ends_left Paused q run is f = of_print-other p run.desk.greatest Left run.ends (other_paused run.desk is f)
   ends_left Offline q run is f = refl
   ends_left Connecting q run is f = refl

@@ -66,7 +66,8 @@ module _ (p : ℕ) (positive : nat_eq 0 p ≡ false) where
     active : y.active ≡ x.active
     line : (y.print_line ≡ number) ⊎ ((y.print_line ≡ x.print_line) × (is_of p tag ≡ false))
 
-  keep_script : (q : ℕ) (at : Point) (number : ℕ) (x : Data) (b : Bool) → nat_eq q 0 ≡ b → Keeps (Script at q) number x (cond b x (record x { print_line = number }))
+  keep_script : (q : ℕ) (at : Point) (number : ℕ) (x : Data) (b : Bool) → nat_eq q 0 ≡ b
+      → Keeps (Script at q) number x (cond b x (record x { print_line = number }))
   keep_script q at number x true is =
       let none : q ≡ 0 = grind (arith, nat_tests) in
       record { issued = refl; acked = refl; greatest = refl; state = refl; active = refl; line = inr (refl, ap (λ (k : ℕ). nat_eq k p) none ∙ positive) }
@@ -82,7 +83,8 @@ module _ (p : ℕ) (positive : nat_eq 0 p ≡ false) where
       (d.state ≡ Paused → d.waiting ≡ [] → ((issue line e).1.waiting ≡ []) × ((issue line e).1.print_line ≡ d.print_line)) → Draws d (issue line e)
   draws_issue line d e near quiet =
       let counted : Data = record e { issued = next_number e.issued } in
-      let k : Keeps line.tag (next_number e.issued) counted (keep_number line.tag (next_number e.issued) counted) = keeps line.tag (next_number e.issued) counted in
+      let k : Keeps line.tag (next_number e.issued) counted (keep_number line.tag (next_number e.issued) counted) =
+      keeps line.tag (next_number e.issued) counted in
       record {
         issued = k.issued ∙ ap next_number near.issued;
         acked = k.acked ∙ near.acked;
@@ -96,7 +98,8 @@ module _ (p : ℕ) (positive : nat_eq 0 p ≡ false) where
         quiet = quiet;
       }
 
-  near : (d e : Data) → e.issued ≡ d.issued → e.acked ≡ d.acked → e.greatest ≡ d.greatest → e.state ≡ d.state → e.active ≡ d.active → e.print_line ≡ d.print_line → IsNear d e
+  near : (d e : Data) → e.issued ≡ d.issued → e.acked ≡ d.acked → e.greatest ≡ d.greatest → e.state ≡ d.state → e.active ≡ d.active
+      → e.print_line ≡ d.print_line → IsNear d e
   near d e issued acked greatest state active line = record { issued = issued; acked = acked; greatest = greatest; state = state; active = active; line = line }
 
   draws_scripts : (w : List Line) (d : Data) (next : Drawn) → d.waiting ≡ w → Draws d next → Draws d (from_scripts w d next)
@@ -108,7 +111,8 @@ module _ (p : ℕ) (positive : nat_eq 0 p ≡ false) where
   draws_manual : (m : List (List ℕ)) (d : Data) (next : Drawn) → Draws d next → Draws d (from_manual m d next)
   draws_manual [] d next h = h
   draws_manual (text ∷ texts) d next h =
-      draws_issue (record { text = text; tag = Manual }) d (record d { manual = texts }) (near d (record d { manual = texts }) refl refl refl refl refl refl) (λ is none. (none, refl))
+      draws_issue (record { text = text; tag = Manual }) d (record d { manual = texts }) (near d (record d { manual = texts }) refl refl refl refl refl refl)
+      (λ is none. (none, refl))
 
   draws_poll : (moment : ℕ) (d : Data) (next : Drawn) → Draws d next → Draws d (from_poll moment d next)
   draws_poll moment d next h =
@@ -119,7 +123,8 @@ module _ (p : ℕ) (positive : nat_eq 0 p ≡ false) where
   draws_file : (text : Option (List ℕ)) (d : Data) → d.state ≡ Printing → Draws d (from_file text d)
   draws_file None d e = draws_none d
   draws_file (Some text) d e =
-      draws_issue (job_line d.greatest d.cursor text) d (record d { cursor = d.cursor + 1 }) (near d (record d { cursor = d.cursor + 1 }) refl refl refl refl refl refl)
+      draws_issue (job_line d.greatest d.cursor text) d (record d { cursor = d.cursor + 1 })
+      (near d (record d { cursor = d.cursor + 1 }) refl refl refl refl refl refl)
       (λ is none. absurd (let no : Printing ≡ Paused = sym e ∙ is in cc no))
 
   draws_talk : (moment : ℕ) (d : Data) (next : Drawn) → Draws d next → Draws d (talk moment d next)
@@ -157,7 +162,14 @@ module _ (p : ℕ) (positive : nat_eq 0 p ≡ false) where
         let was : d.state ≡ Paused = sym w.state ∙ is in let h = m.paused was in let q = w.quiet was h.0 in (q.0, omega (arith, h.1, q.1, w.acked)));
   }
   marked_drawn (Some line) d e lines w other few m = record {
-    counted = omega (arith, w.issued, one_more d.issued (omega (arith, m.counted, few, length-append lines (line ∷ []))), m.counted, length-append lines (line ∷ []));
+    counted = omega (
+      arith,
+      w.issued,
+      one_more d.issued (omega (arith, m.counted, few, length-append lines (line ∷ []))),
+      m.counted,
+      length-append lines
+          (line ∷ []),
+    );
     ahead = λ below. (
         let low : d.greatest < p = subst (λ g. g < p) w.greatest below in none_both p lines (line ∷ []) (m.ahead low) (own_none p line (other low)));
     marked = λ is. elim w.marks [

@@ -132,16 +132,22 @@ by-storing true true user file k = begins-one (answer.Uploaded file.name true tr
 module _ (user : UserRow) (files : List ShelfFile) (k : Known) where
   by-store : (bytes : List ℕ) (select print : Bool) (file : File) → Asks (store_verdict user bytes select print k file)
   by-store bytes select print file =
-      by-desk k _ _ (by-test k _ _ _ (stores-one file.name bytes (stored (is_selected user select print k) file k) _ (stored-asks k (is_selected user select print k) file) (by-storing (is_selected user select print k) (is_printed user print file k) user.name file (known_after (stored (is_selected user select print k) file k) k))))
+      by-desk k _ _ (by-test k _ _ _
+      (stores-one file.name bytes (stored (is_selected user select print k) file k) _ (stored-asks k (is_selected user select print k) file)
+      (by-storing (is_selected user select print k) (is_printed user print file k) user.name file
+      (known_after (stored (is_selected user select print k) file k) k))))
 
   by-take : (entry : QueueEntry) → Asks (take_verdict files k entry)
-  by-take entry = by-test k _ _ _ (by-file k entry.file files _ (λ file. by-print k (answer.TakenEntry (shown_entry entry)) entry.user (without_copy entry.user entry.name k.queue) file))
+  by-take entry = by-test k _ _ _
+      (by-file k entry.file files _ (λ file. by-print k (answer.TakenEntry (shown_entry entry)) entry.user (without_copy entry.user entry.name k.queue) file))
 
   -- every request's verdict
   plays : (asked : Request) → Asks (request_verdict asked user files k)
   plays request.Version = gives-one _
   plays request.GetConnection = gives-one _
-  plays (request.Connect port) = by-found k (port_for port k.ports) _ _ (λ p. by-desk k (connect_at k.desk.state p k.desk).0 _ (makes-one answer.Accepted (at_desk (Connect p ∷ []) k) (tt, tt)))
+  plays (request.Connect port) =
+      by-found k (port_for port k.ports) _ _
+      (λ p. by-desk k (connect_at k.desk.state p k.desk).0 _ (makes-one answer.Accepted (at_desk (Connect p ∷ []) k) (tt, tt)))
   plays request.Disconnect = makes-one answer.Accepted _ (tt, tt)
   plays request.GetPrinter = by-test k _ _ _ (gives-one _)
   plays (request.HeatTool degrees) = by-manual k ((codes "M104 S" ++ decimal degrees) ∷ [])
@@ -150,7 +156,9 @@ module _ (user : UserRow) (files : List ShelfFile) (k : Known) where
   plays request.GetJob = gives-one _
   plays request.Start = by-desk k _ _ (by-test k _ _ _ (writes-one answer.Accepted _ (tt, tt)))
   plays request.Cancel = by-desk k _ _ (makes-one answer.Accepted _ (tt, tt))
-  plays request.Restart = by-answer k (restart_at k.desk.state (next_number k) k.desk).0 _ (λ former allowed. by-test k _ _ _ (writes-one answer.Accepted (restarted user.name k) (tt, tt)))
+  plays request.Restart =
+      by-answer k (restart_at k.desk.state (next_number k) k.desk).0 _
+      (λ former allowed. by-test k _ _ _ (writes-one answer.Accepted (restarted user.name k) (tt, tt)))
   plays request.Pause = by-desk k _ _ (makes-one answer.Accepted _ (tt, tt))
   plays request.Resume = by-desk k _ _ (makes-one answer.Accepted _ (tt, tt))
   plays request.Toggle = by-desk k _ _ (makes-one answer.Accepted _ (tt, tt))
@@ -176,7 +184,8 @@ by-allowed : (o : Option Permission) (v : Verdict) (k : Known) → Asks v → As
 by-allowed None v k p = p
 by-allowed (Some permission) v k p = gives-one _
 
-by-permitted : (o : Option UserRow) (ps : List Permission) (k : Known) (next : UserRow → Verdict) → ((user : UserRow) → Asks (next user)) → Asks (permitted o ps k next)
+by-permitted : (o : Option UserRow) (ps : List Permission) (k : Known) (next : UserRow → Verdict) → ((user : UserRow) → Asks (next user))
+    → Asks (permitted o ps k next)
 by-permitted None ps k next p = gives-one _
 by-permitted (Some user) ps k next p = by-allowed (lacking k user ps) (next user) k (p user)
 

@@ -27,7 +27,8 @@ use Rattle.house_prints.proofs.Histories.{IsShort, legal_first, lives_in, stays_
 use Rattle.house_prints.proofs.Lists.{none_past}
 
 -- a line past a place after which none is the print's
-other_past : (p a : ℕ) (lines : List Line) (i : ℕ) (line : Line) → a ≤ i → slice_get lines i ≡ Some line → lines_of p (drop a lines) ≡ [] → is_of p line.tag ≡ false
+other_past : (p a : ℕ) (lines : List Line) (i : ℕ) (line : Line) → a ≤ i → slice_get lines i ≡ Some line → lines_of p (drop a lines) ≡ []
+    → is_of p line.tag ≡ false
 other_past p a [] i line past found none = absurd (cc found)
 other_past p zero (first ∷ lines) zero line past found none =
     let same : first ≡ line = cc in
@@ -66,7 +67,8 @@ module _ (p a : ℕ) (lines : List Line) (none : lines_of p (drop a lines) ≡ [
         place = l.place - 1;
         line = at.line;
         its = at.its;
-        framed = l.framed ∙ ap (λ (n : ℕ). frame_of (wire_number n) l.text) same ∙ ap (λ (t : List ℕ). frame_of (wire_number ((l.place - 1) + 1)) t) (sym at.text_is);
+        framed = l.framed ∙ ap (λ (n : ℕ). frame_of (wire_number n) l.text) same
+            ∙ ap (λ (t : List ℕ). frame_of (wire_number ((l.place - 1) + 1)) t) (sym at.text_is);
         other = other_past p a lines (l.place - 1) at.line (omega (arith, l.above)) at.its none;
       }
 
@@ -136,7 +138,8 @@ sent_no_more kind scripts front s h past run first more split p some fate ends =
     let whole : Legal (first ++ more) s = subst (λ (x : History). Legal x s) split run.legal in
     let short : IsShort (first ++ more) = subst (λ (x : History). IsShort x) split (short_of kind front h past run.tied.throughout) in
     let o : IsEnded p first (of_print p (run_in first s).ends) =
-    ended_of p first _ fate ends (lives_in scripts run.limits run.poll_ms p some s run.new first (legal_first first more s whole).0 (short_first first more short))
+    ended_of p first _ fate ends
+    (lives_in scripts run.limits run.poll_ms p some s run.new first (legal_first first more s whole).0 (short_first first more short))
     in
     let so : IsPast p first o.home = past_of p first o.fate o.home o.leaves in
     let stays = stays_in scripts run.limits run.poll_ms p some s run.new first more whole short o.fate o.home so.reach o.within o.is o.lives so.none in
@@ -176,7 +179,8 @@ sent_no_more kind scripts front s h past run first more split p some fate ends =
     by w tied home (later above) within so none = absurd (omega (arith, above, within))
     by w tied home (here same) within so none = inr (how so.how)
       where
-        how : ((so.reach ≡ acked_in home first)) ⊎ ((home < sessions first) ⊎ (is_open first ≡ false)) → AreSentOther p (issued_of home (first ++ more)) (till 0 w.since)
+        how : ((so.reach ≡ acked_in home first)) ⊎ ((home < sessions first) ⊎ (is_open first ≡ false))
+            → AreSentOther p (issued_of home (first ++ more)) (till 0 w.since)
         how (inl acked) = last w tied home (sym same) so.reach acked none
         how (inr (inl below)) = absurd (omega (arith, below, same))
         how (inr (inr closed)) = shut w home closed

@@ -31,7 +31,8 @@ module _ (scripts : ScriptTexts) (p : ℕ) (positive : nat_eq 0 p ≡ false) whe
   module _ (h : History) (e : Entry) (run : Run) (calls : List DeskCall) (other : is_opened e ≡ false) (t : Tells h run) (may : MayCallAll calls run)
       (plain : ArePlain scripts p positive calls run.desk) (lines : lines_pulled calls run.desk ≡ lines_at e)
       (few : length (issued_of (sessions (h ++ e ∷ [])) (h ++ e ∷ [])) ≤ 18446744073709551615)
-      (acked : (desk_after_all calls run.desk).acked ≡ acked_at e run.desk.acked) (opened : (was : Bool) → open_by_all scripts p positive calls was ≡ false → open_at e was ≡ false) where
+      (acked : (desk_after_all calls run.desk).acked ≡ acked_at e run.desk.acked)
+      (opened : (was : Bool) → open_by_all scripts p positive calls was ≡ false → open_at e was ≡ false) where
     abbrev more : History
     more = h ++ e ∷ []
 
@@ -71,11 +72,15 @@ module _ (scripts : ScriptTexts) (p : ℕ) (positive : nat_eq 0 p ≡ false) whe
     shut_now shut = open-after h e ∙ opened (is_open h) shut
 
     -- the print ends by one of the calls
-    ends_so : (f : Fate) → LeftSo scripts p positive f (run_of calls run).desk.acked (issued_of (sessions h) h ++ lines_pulled calls run.desk) (open_by_all scripts p positive calls (is_open h)) →
+    ends_so : (f : Fate) → LeftSo scripts p positive f (run_of calls run).desk.acked (issued_of (sessions h) h ++ lines_pulled calls run.desk)
+        (open_by_all scripts p positive calls (is_open h)) →
         LeavesSo p f (sessions more) more
-    ends_so Finished l = ap (λ (n : ℕ). lines_of p (drop n (issued_of (sessions more) more))) (sym acked_now) ∙ ap (λ (x : List Line). lines_of p (drop (run_of calls run).desk.acked x)) now ∙ l
-    ends_so Stopped l = ap (λ (n : ℕ). lines_of p (drop n (issued_of (sessions more) more))) (sym acked_now) ∙ ap (λ (x : List Line). lines_of p (drop (run_of calls run).desk.acked x)) now ∙ l
-    ends_so Left l = ap (λ (n : ℕ). lines_of p (drop n (issued_of (sessions more) more))) (sym acked_now) ∙ ap (λ (x : List Line). lines_of p (drop (run_of calls run).desk.acked x)) now ∙ l
+    ends_so Finished l = ap (λ (n : ℕ). lines_of p (drop n (issued_of (sessions more) more))) (sym acked_now)
+        ∙ ap (λ (x : List Line). lines_of p (drop (run_of calls run).desk.acked x)) now ∙ l
+    ends_so Stopped l = ap (λ (n : ℕ). lines_of p (drop n (issued_of (sessions more) more))) (sym acked_now)
+        ∙ ap (λ (x : List Line). lines_of p (drop (run_of calls run).desk.acked x)) now ∙ l
+    ends_so Left l = ap (λ (n : ℕ). lines_of p (drop n (issued_of (sessions more) more))) (sym acked_now)
+        ∙ ap (λ (x : List Line). lines_of p (drop (run_of calls run).desk.acked x)) now ∙ l
     ends_so Unplugged l = inr (shut_now l)
     ends_so Broken l = inr (shut_now l)
 
@@ -107,7 +112,8 @@ module _ (scripts : ScriptTexts) (p : ℕ) (positive : nat_eq 0 p ≡ false) whe
 
     unended : IsUnended p h (of_print p run.ends) → Tells more (run_of calls run)
     unended u =
-        let led : Leads scripts p positive (run_of calls run) (issued_of (sessions h) h ++ lines_pulled calls run.desk) (open_by_all scripts p positive calls (is_open h)) =
+        let led : Leads scripts p positive (run_of calls run) (issued_of (sessions h) h ++ lines_pulled calls run.desk)
+        (open_by_all scripts p positive calls (is_open h)) =
         leads_calls scripts p positive calls run (issued_of (sessions h) h) (is_open h) may plain short (record { held = t.held; status = inl u.no_fate })
         in
         let live : LivesIn p more (sessions more) = subst (λ (n : ℕ). LivesIn p more n) (sym same_count) (lives_on p h e other u.lives) in
@@ -118,7 +124,9 @@ module _ (scripts : ScriptTexts) (p : ℕ) (positive : nat_eq 0 p ≡ false) whe
           lives = by live led.status;
         }
       where
-        by : LivesIn p more (sessions more) → Status scripts p positive (of_print p (run_of calls run).ends) (run_of calls run).desk.acked (issued_of (sessions h) h ++ lines_pulled calls run.desk)
+        by : LivesIn p more (sessions more)
+            → Status scripts p positive (of_print p (run_of calls run).ends) (run_of calls run).desk.acked
+            (issued_of (sessions h) h ++ lines_pulled calls run.desk)
             (open_by_all scripts p positive calls (is_open h)) → Lives p more (of_print p (run_of calls run).ends)
         by live (inl none) = inl (record { no_fate = none; lives = live })
         by live (inr so) = inr (record { fate = so.0; is = so.1; home = sessions more; within = omega arith; lives = live; leaves = ends_so so.0 so.2 })
@@ -151,7 +159,8 @@ module _ (scripts : ScriptTexts) (p : ℕ) (positive : nat_eq 0 p ≡ false) whe
         by (inr o) = ended o
 
     -- a print that had ended: it lives where it lived, and no later line is its own
-    pub stays_ended : (f : Fate) → of_print p run.ends ≡ f ∷ [] → (home : ℕ) → home ≤ sessions h → LivesIn p h home → (a : ℕ) → lines_of p (drop a (issued_of home h)) ≡ [] →
+    pub stays_ended : (f : Fate) → of_print p run.ends ≡ f ∷ [] → (home : ℕ) → home ≤ sessions h → LivesIn p h home → (a : ℕ)
+        → lines_of p (drop a (issued_of home h)) ≡ [] →
         (of_print p (run_of calls run).ends ≡ f ∷ []) × LivesIn p more home × (lines_of p (drop a (issued_of home more)) ≡ [])
     stays_ended f is home within l a none =
         let passed : Passes scripts p positive f calls run (issued_of (sessions h) h) =
@@ -206,7 +215,8 @@ module _ (scripts : ScriptTexts) (p : ℕ) (positive : nat_eq 0 p ≡ false) whe
     opened_lives (inl u) =
         let ends = ends_opened scripts p positive acked moment run (connecting_foreign scripts p positive run is t.held.known) in
         let none : lines_of p (issued_in h) ≡ [] =
-        ap (λ (x : List Line). lines_of p x) (sym t.pulled) ∙ sym (of_pulled p run.pulled) ∙ connecting_none scripts p positive run (issued_of (sessions h) h) is u.no_fate t.held
+        ap (λ (x : List Line). lines_of p x) (sym t.pulled) ∙ sym (of_pulled p run.pulled)
+        ∙ connecting_none scripts p positive run (issued_of (sessions h) h) is u.no_fate t.held
         in
         let nothing : lines_of p (issued_in after_it) ≡ [] =
         ap (λ (x : List Line). lines_of p x) (issued-whole h e ∙ ap (λ (x : List Line). issued_in h ++ x) silent ∙ append-nil (issued_in h)) ∙ none
@@ -232,12 +242,14 @@ module _ (scripts : ScriptTexts) (p : ℕ) (positive : nat_eq 0 p ≡ false) whe
         record {
           pulled = pulled_all (Note acked fact.Opened moment ∷ []) run ∙ append-nil (map (λ (one : Pulled). one.line) run.pulled) ∙ t.pulled
               ∙ sym (issued-whole h e ∙ ap (λ (x : List Line). issued_in h ++ x) silent ∙ append-nil (issued_in h));
-          held = subst (λ (x : List Line). Held scripts p positive next x) (sym empty) (held_opened scripts p positive acked moment run (issued_of (sessions h) h) t.held);
+          held = subst (λ (x : List Line). Held scripts p positive next x) (sym empty)
+              (held_opened scripts p positive acked moment run (issued_of (sessions h) h) t.held);
           acked = acked_of_opened scripts p positive acked moment run ∙ sym (ap (λ (n : ℕ). acked_in n after_it) one_more ∙ acked-new h e opens);
           lives = opened_lives t.lives;
         }
 
-    pub opened_ended : (f : Fate) → of_print p run.ends ≡ f ∷ [] → (home : ℕ) → home ≤ sessions h → LivesIn p h home → (a : ℕ) → lines_of p (drop a (issued_of home h)) ≡ [] →
+    pub opened_ended : (f : Fate) → of_print p run.ends ≡ f ∷ [] → (home : ℕ) → home ≤ sessions h → LivesIn p h home → (a : ℕ)
+        → lines_of p (drop a (issued_of home h)) ≡ [] →
         (of_print p next.ends ≡ f ∷ []) × LivesIn p after_it home × (lines_of p (drop a (issued_of home after_it)) ≡ [])
     opened_ended f ended_so home within l a none = (
       ends_opened scripts p positive acked moment run (connecting_foreign scripts p positive run is t.held.known) ∙ ended_so,

@@ -1,5 +1,11 @@
 //! The laws of prints over a lossy line. A law's function does nothing: its contract is the law.
-ghost use Rattle.house_prints.specs.Laws.{EveryPrintIsExecutedInOrder, EveryDonePrintIsExecuted, EveryDoneRecordIsTrue, EveryEndedPrintIsSentNoMore, EveryEndIsTrue};
+ghost use Rattle.house_prints.specs.Laws.{EveryPrintIsExecutedInOrder, EveryDonePrintIsExecuted, EveryDoneRecordIsTrue, EveryEndedPrintIsSentNoMore, EveryEndIsTrue, LegalAndTiedIsRun};
+
+/// What the run of a host says of its recorded history, that it is legal from a standing with a new desk, and that it is
+/// tied to the recorded history of the link, is the premise of the laws below.
+pub fn legal_and_tied_is_a_run()
+    ensures { LegalAndTiedIsRun }
+{}
 
 /// In every run of a host that begins with a new desk each print lives in one session, and the file commands that the
 /// printer executed of it are the first of its file's commands, in order and each once.

@@ -6,5 +6,5 @@ mod laws;
 
 pub use laws::{
     every_done_print_is_executed, every_done_record_is_true, every_end_is_true,
-    every_ended_print_is_sent_no_more, every_print_is_executed_in_order,
+    every_ended_print_is_sent_no_more, every_print_is_executed_in_order, legal_and_tied_is_a_run,
 };
