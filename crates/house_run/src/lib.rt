@@ -7,6 +7,3 @@ mod link_turn;
 mod tally;
 
 pub use host_run::run;
-
-#[cfg(test)]
-mod tests;

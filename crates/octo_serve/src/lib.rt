@@ -10,6 +10,3 @@ mod serving;
 pub use gate_conn::GateConn;
 pub use gate_door::GateDoor;
 pub use serving::{Served, serve};
-
-#[cfg(test)]
-mod tests;
