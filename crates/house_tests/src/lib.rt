@@ -1,0 +1,6 @@
+//! Tests of a host: what it answers, records and keeps, over a keeper, a shelf and a link in memory. They stand apart from `octo_house`
+//! because their proofs are slow.
+#![tactic(auto)]
+
+#[cfg(test)]
+mod tests;

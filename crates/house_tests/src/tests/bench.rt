@@ -1,0 +1,145 @@
+//! A host with its keeper, its shelf and its link.
+use super::ANA;
+use super::makers::{blob, house_of, keeper_of, link, name, shelf_of};
+use super::seen::{Seen, seen_of};
+use desk_steps::State;
+use octo_asks::{Ask, Request};
+use octo_house::House;
+use octo_keeper::{KeeperFault, MemoryKeeper, MemoryShelf};
+use print_records::Outcome;
+use printer_link::MemoryLink;
+use std::alloc::Global;
+use std::process::Abort;
+
+/// A host with its keeper, its shelf and its link.
+#[derive(Drop)]
+pub(super) struct Bench {
+    alloc: Global,
+    house: House,
+    keeper: MemoryKeeper,
+    shelf: MemoryShelf,
+    link: MemoryLink,
+}
+
+/// A begun host, and nothing else.
+fn begun(
+    rt: &impl Abort,
+    alloc: Global,
+    material: &str,
+    keeper: &mut MemoryKeeper,
+    shelf: &mut MemoryShelf,
+) -> House {
+    match house_of(rt, alloc, material, keeper, shelf) {
+        Ok(house) => house,
+        Err(_) => panic!(rt; "it doesn't begin"),
+    }
+}
+
+impl Bench {
+    /// A host with a printer of a material, at whose keeper and shelf these calls fail, counted from 1.
+    pub(super) fn failing(
+        rt: &impl Abort,
+        alloc: Global,
+        material: &str,
+        keeper: &[u64],
+        shelf: &[u64],
+    ) -> Bench {
+        let mut keeper = keeper_of(rt, alloc, keeper);
+        let mut shelf = shelf_of(rt, alloc, shelf);
+        let house = begun(rt, alloc, material, &mut keeper, &mut shelf);
+        let link = link(rt, alloc);
+        Bench {
+            alloc,
+            house,
+            keeper,
+            shelf,
+            link,
+        }
+    }
+
+    /// A host with a printer of any material, at which nothing fails.
+    pub(super) fn sound(rt: &impl Abort, alloc: Global) -> Bench {
+        Bench::failing(rt, alloc, "any", &[], &[])
+    }
+
+    /// Ends the host. A test that let its bench fall would prove the drops of all that it has again.
+    pub(super) fn end(self) {}
+
+    /// Another host takes the place of this one, on what the keeper and the shelf hold.
+    pub(super) fn begin_again(&mut self, rt: &impl Abort) {
+        self.house = begun(rt, self.alloc, "any", &mut self.keeper, &mut self.shelf);
+    }
+
+    pub(super) fn ask(&mut self, rt: &impl Abort, key: &[u8], request: Request) -> Seen {
+        let key = blob(rt, self.alloc, key);
+        let ask = Ask { key, request };
+        let answer = self.house.ask(&mut self.keeper, &mut self.shelf, ask, 7);
+        seen_of(&answer)
+    }
+
+    pub(super) fn state(&self) -> State {
+        self.house.session().desk().state()
+    }
+
+    pub(super) fn unwritten(&self) -> Option<(u32, KeeperFault)> {
+        self.house.unwritten()
+    }
+
+    pub(super) fn turn(&mut self, rt: &impl Abort) {
+        assert!(rt; self.link.is_up() == self.house.session().up());
+        self.house.turn(&mut self.link, &mut self.keeper, 7);
+    }
+
+    /// Turns until the desk is in a state, 50 at most.
+    pub(super) fn turn_until(&mut self, rt: &impl Abort, state: State) {
+        for _ in 0..50 {
+            if self.state() == state {
+                return;
+            }
+            self.turn(rt);
+        }
+        panic!(rt; "not in the state {state:?}");
+    }
+
+    pub(super) fn accepts(&mut self, rt: &impl Abort, key: &[u8], request: Request) {
+        assert!(rt; matches!(self.ask(rt, key, request), Seen::Accepted));
+    }
+
+    pub(super) fn connect(&mut self, rt: &impl Abort) {
+        self.accepts(rt, ANA, Request::Connect { port: None });
+        self.turn_until(rt, State::Operational);
+    }
+
+    pub(super) fn upload(&mut self, rt: &impl Abort, file: &str, text: &[u8], print: bool) -> Seen {
+        let request = Request::PutFile {
+            name: name(rt, file),
+            bytes: blob(rt, self.alloc, text),
+            select: false,
+            print,
+        };
+        self.ask(rt, ANA, request)
+    }
+
+    /// Stores and selects a file.
+    pub(super) fn select(&mut self, rt: &impl Abort, file: &str, text: &[u8]) {
+        assert!(rt;
+            matches!(
+                self.upload(rt, file, text, false),
+                Seen::Uploaded(false, false)
+            )
+        );
+        let request = Request::SelectFile {
+            name: name(rt, file),
+            print: false,
+        };
+        self.accepts(rt, ANA, request);
+    }
+
+    /// The outcome of a kept record.
+    pub(super) fn kept_outcome(&self, place: usize) -> Option<Outcome> {
+        match self.keeper.tables() {
+            Some(tables) => Some(tables.prints.as_slice().get(place)?.outcome),
+            None => None,
+        }
+    }
+}

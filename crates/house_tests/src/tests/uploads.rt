@@ -1,0 +1,147 @@
+//! Files are stored, printed, shown and deleted.
+use super::*;
+use gcode_lines::FileFault;
+use octo_asks::StoredCause;
+
+fn deletes(bench: &mut Bench, rt: &impl Abort) -> Seen {
+    let request = Request::DeleteFile {
+        name: name(rt, "a.gcode"),
+    };
+    bench.ask(rt, ANA, request)
+}
+
+fn shows(bench: &mut Bench, rt: &impl Abort) -> Seen {
+    let request = Request::GetFile {
+        name: name(rt, "a.gcode"),
+    };
+    bench.ask(rt, ANA, request)
+}
+
+fn downloads(bench: &mut Bench, rt: &impl Abort) -> Seen {
+    let request = Request::Download {
+        name: name(rt, "a.gcode"),
+    };
+    bench.ask(rt, ANA, request)
+}
+
+fn selects(bench: &mut Bench, rt: &impl Abort) -> Seen {
+    let request = Request::SelectFile {
+        name: name(rt, "a.gcode"),
+        print: false,
+    };
+    bench.ask(rt, ANA, request)
+}
+
+// An upload with the flag is selected and printed.
+#[test]
+fn upload_prints(rt: HostRuntime) {
+    let mut bench = Bench::sound(&rt, rt.alloc());
+    bench.connect(&rt);
+    assert!(rt;
+        matches!(
+            bench.upload(&rt, "a.gcode", b"G28\n", true),
+            Seen::Uploaded(true, true)
+        )
+    );
+    bench.turn_until(&rt, State::Operational);
+    assert_eq!(rt; bench.kept_outcome(0), Some(Outcome::Done));
+    bench.end();
+}
+
+// The commit of its print fails: it is stored and selected.
+#[test]
+fn stored_upload(rt: HostRuntime) {
+    let mut bench = Bench::failing(&rt, rt.alloc(), "any", &[2], &[]);
+    bench.connect(&rt);
+    assert!(rt;
+        matches!(
+            bench.upload(&rt, "a.gcode", b"G28\n", true),
+            Seen::Stored(StoredCause::KeeperFault)
+        )
+    );
+    assert!(rt; matches!(bench.ask(&rt, ANA, Request::ListFiles), Seen::Files(1)));
+    assert!(rt;
+        matches!(
+            bench.ask(&rt, ANA, Request::GetJob),
+            Seen::Job(4, State::Operational)
+        )
+    );
+    bench.end();
+}
+
+// While offline the flags of an upload are no more than wishes.
+#[test]
+fn upload_while_offline(rt: HostRuntime) {
+    let mut bench = Bench::sound(&rt, rt.alloc());
+    assert!(rt;
+        matches!(
+            bench.upload(&rt, "a.gcode", b"G28\n", true),
+            Seen::Uploaded(true, false)
+        )
+    );
+    bench.end();
+}
+
+// A file that is printed is busy; later it goes.
+#[test]
+fn delete_printed(rt: HostRuntime) {
+    let mut bench = Bench::sound(&rt, rt.alloc());
+    bench.connect(&rt);
+    bench.upload(&rt, "a.gcode", b"G28\n", true);
+    assert!(rt; matches!(deletes(&mut bench, &rt), Seen::FileBusy));
+    assert!(rt;
+        matches!(
+            bench.upload(&rt, "a.gcode", b"G1 X1\n", false),
+            Seen::FileBusy
+        )
+    );
+    bench.turn_until(&rt, State::Operational);
+    assert!(rt; matches!(deletes(&mut bench, &rt), Seen::Accepted));
+    assert!(rt; matches!(downloads(&mut bench, &rt), Seen::NoFile));
+    bench.end();
+}
+
+// A shelf that can't remove leaves the file: list, put, remove.
+#[test]
+fn failed_remove(rt: HostRuntime) {
+    let mut bench = Bench::failing(&rt, rt.alloc(), "any", &[], &[3]);
+    bench.upload(&rt, "a.gcode", b"G28\n", false);
+    assert!(rt; matches!(deletes(&mut bench, &rt), Seen::ShelfFault));
+    assert!(rt; matches!(shows(&mut bench, &rt), Seen::File(4)));
+    bench.end();
+}
+
+// A shelf that can't store leaves all as it was, and one that can't read selects nothing: list, put, put, get.
+#[test]
+fn failed_put(rt: HostRuntime) {
+    let mut bench = Bench::failing(&rt, rt.alloc(), "any", &[], &[2, 4]);
+    assert!(rt;
+        matches!(
+            bench.upload(&rt, "a.gcode", b"G28\n", true),
+            Seen::ShelfFault
+        )
+    );
+    assert!(rt; matches!(shows(&mut bench, &rt), Seen::NoFile));
+    bench.upload(&rt, "a.gcode", b"G28\n", false);
+    assert!(rt; matches!(selects(&mut bench, &rt), Seen::ShelfFault));
+    assert!(rt;
+        matches!(
+            bench.ask(&rt, ANA, Request::Start),
+            Seen::WrongState(State::Offline)
+        )
+    );
+    bench.end();
+}
+
+// A file with a control byte in its second line.
+#[test]
+fn bad_file(rt: HostRuntime) {
+    let mut bench = Bench::sound(&rt, rt.alloc());
+    assert!(rt;
+        matches!(
+            bench.upload(&rt, "a.gcode", b"G28\nG1\x07X\n", false),
+            Seen::BadFile(FileFault::ControlByte { line: 2 })
+        )
+    );
+    bench.end();
+}
