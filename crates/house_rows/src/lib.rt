@@ -19,7 +19,7 @@ pub use files::{bad_file, read_bytes, read_job};
 pub use jobs::{check_job, progress};
 pub use lists::{copy_names, shown_entries, shown_files, shown_prints, shown_users};
 pub use names::{add_name, drop_name, is_among, names_in, port_for, reserve_name};
-pub use prints::{add_print, end_print, new_row, read_prints, reserve_print};
+pub use prints::{add_print, new_row, read_prints, reserve_print};
 pub use refusals::{keeper_refused, queue_refused, refused, shelf_refused, user_refused};
 pub use states::{may_select, may_show, may_shut_down};
 pub use temps::{shown_heat, temps_after};

@@ -1,12 +1,11 @@
 //! Records of prints.
 ghost use Rattle.std.specs.Prelude.{◌≡◌, ◌<◌, ◌++◌, ◌∷◌, [], length, map, vec_len, Some, OnOk};
 ghost use Rattle.std.specs.Vec.{vec_capacity};
-ghost use Rattle.octo_keeper.specs.Tables.{ended_row, with_end};
 ghost use Rattle.house_history.specs.Begins.{row_read};
 ghost use Rattle.print_records.specs.declared.ending.Outcome.TheVariants as outcome;
 
 use byte_text::Name;
-use print_records::{Ending, Outcome, PrintRow};
+use print_records::{Outcome, PrintRow};
 use std::alloc::AllocError;
 
 // A record as a new host reads it: a print that was still going on has failed.
@@ -24,24 +23,6 @@ pub fn read_prints(rows: &mut [PrintRow])
 {
     for row in rows.iter_mut() {
         read_row(row);
-    }
-}
-
-// Ends a print if it has this number.
-fn end_row(row: &mut PrintRow, ending: Ending)
-    ensures { row.new ≡ ended_row ending row.old }
-{
-    if row.number == ending.print {
-        row.outcome = ending.outcome;
-    }
-}
-
-/// Ends the print of a number.
-pub fn end_print(rows: &mut [PrintRow], ending: Ending)
-    ensures { rows.new ≡ with_end ending rows.old }
-{
-    for row in rows.iter_mut() {
-        end_row(row, ending);
     }
 }
 

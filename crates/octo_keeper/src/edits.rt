@@ -117,7 +117,7 @@ fn end_row(row: &mut PrintRow, ending: Ending)
     }
 }
 
-// Ends the print of a number.
+/// Ends the print of a number: its record has the outcome of the ending.
 pub fn end_print(rows: &mut [PrintRow], ending: Ending)
     ensures { rows.new ≡ with_end ending rows.old }
 {

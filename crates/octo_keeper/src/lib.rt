@@ -13,6 +13,7 @@ mod shelf;
 mod tables;
 
 pub use checks::are_sound;
+pub use edits::end_print;
 pub use keeper::{Keeper, KeeperFault};
 pub use memory_keeper::MemoryKeeper;
 pub use memory_shelf::MemoryShelf;

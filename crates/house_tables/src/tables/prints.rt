@@ -11,8 +11,8 @@ ghost use Rattle.house_tables.specs.Kept.{KeepsRows};
 
 use super::{HostTables, Unwritten};
 use byte_text::Name;
-use house_rows::{add_print, end_print, new_row, reserve_print};
-use octo_keeper::{Change, Keeper, KeeperFault};
+use house_rows::{add_print, new_row, reserve_print};
+use octo_keeper::{Change, Keeper, KeeperFault, end_print};
 use print_queue::QueueEntry;
 use print_records::{Ending, PrintRow};
 
