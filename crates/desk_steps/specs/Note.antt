@@ -81,3 +81,13 @@ note_fact (fact.Ended end) moment d = fail (ended d)
 -- what one note returns and leaves
 abbrev pub note_step : ℕ → LinkFact → ℕ → Data → Noted
 note_step acked fact moment d = let noted = note_fact fact moment (record d { acked = acked }) in (noted.0, settled noted.1)
+
+-- the fact that the desk is given before the pulls: a failure comes last, since what was acknowledged before it counts
+abbrev pub first_fact : LinkFact → LinkFact
+first_fact fact.Quiet = fact.Quiet
+first_fact fact.Opened = fact.Opened
+first_fact fact.Ready = fact.Ready
+first_fact fact.Closed = fact.Closed
+first_fact fact.NoPort = fact.NoPort
+first_fact fact.Failed = fact.Quiet
+first_fact (fact.Ended end) = fact.Ended end

@@ -3,7 +3,7 @@ use Rattle.std.proofs.Common.{◌≡◌, ℕ, ◌≤◌, Bool, true, false, List
 use Rattle.std.proofs.lemmas.List.{length-map}
 use Rattle.std.proofs.lemmas.List.Elements.{All-nil, All-cons, All-head, All-tail}
 use Rattle.desk_steps.specs.Data.{Data, Line, new_desk}
-use Rattle.desk_steps.specs.Note.{note_step}
+use Rattle.desk_steps.specs.Note.{note_step, first_fact}
 use Rattle.desk_steps.specs.Run.{Fate, fate_of, DeskCall, Pull, Note, new_run, run_of, lines_of, pulled_of, of_print, MayCall}
 use Rattle.desk_steps.specs.Story.{Story, TellsStories}
 use Rattle.desk_steps.specs.declared.issued.Issued.{Issued}
@@ -27,7 +27,7 @@ use Rattle.house_verdicts.specs.Verdict.{Verdict, is_fault, after, calls_after}
 use Rattle.house_history.specs.Issued.{issued_in, lines_at, trace}
 use Rattle.house_history.specs.Legal.{Standing, after_entry, after_all, IsLegal, Legal}
 use Rattle.house_history.specs.Outcomes.{HasOutcome, EveryHistoryKeepsOutcomes}
-use Rattle.house_history.specs.Noted.{calls_of, called, called_all, first_fact, last_call, known_after_note, lines_in}
+use Rattle.house_history.specs.Noted.{calls_of, called, called_all, last_call, known_after_note, lines_in}
 use Rattle.house_history.specs.Scripts.{calls_at, calls_of_all, run_in, EveryHistoryKeepsScripts}
 use Rattle.house_history.proofs.Asked.{asks_play}
 use Rattle.house_history.proofs.Fates.{noted_by, ends_after, ends_all, ends_append, ends_run, Each, Tells, tells_end, Named, named_note}

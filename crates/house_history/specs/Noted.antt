@@ -7,6 +7,7 @@ use Rattle.desk_steps.specs.declared.link_fact.LinkFact.TheVariants as fact
 use Rattle.desk_steps.specs.declared.issued.Note.{Note}
 use Rattle.desk_steps.specs.Data.{Line}
 use Rattle.desk_steps.specs.Issued.{line_of}
+use Rattle.desk_steps.specs.Note.{first_fact}
 use Rattle.desk_steps.specs.Run.{DeskCall, Pull}
 use Rattle.desk_steps.specs.Run as run
 use Rattle.octo_keeper.specs.Tables.{with_due_end}
@@ -16,16 +17,6 @@ use Rattle.house_verdicts.specs.Known.{Known}
 -- the lines that a note issued
 abbrev pub lines_in : Note → List Line
 lines_in note = map line_of note.issued.items
-
--- the fact that the desk is told first: a failure comes last, since what was acknowledged before it counts
-abbrev pub first_fact : LinkFact → LinkFact
-first_fact fact.Quiet = fact.Quiet
-first_fact fact.Opened = fact.Opened
-first_fact fact.Ready = fact.Ready
-first_fact fact.Closed = fact.Closed
-first_fact fact.NoPort = fact.NoPort
-first_fact fact.Failed = fact.Quiet
-first_fact (fact.Ended end) = fact.Ended end
 
 -- a failure after the lines
 abbrev pub last_call : LinkFact → ℕ → ℕ → List DeskCall

@@ -2,7 +2,7 @@
 use Rattle.std.proofs.Common.{zero, suc, ◌≡◌, ◌⊎◌, inl, inr, ℕ, ◌<◌, ◌≤◌, Bool, true, false, nat_eq, List, [], ◌∷◌, ◌++◌, length, map, drop, refl, sym, ◌∙◌, ap, subst, append-nil, append_assoc, arith}
 use Rattle.desk_steps.specs.Data.{ScriptTexts, Data, new_desk}
 use Rattle.desk_steps.specs.Issued.{line_of}
-use Rattle.desk_steps.specs.Note.{ended, note_step}
+use Rattle.desk_steps.specs.Note.{ended, note_step, first_fact}
 use Rattle.desk_steps.specs.Run.{Fate, Run, after, run_of, new_run, lines_of, of_print, DeskCall, Note, MayCallAll}
 use Rattle.desk_steps.specs.declared.issued.Note as declared_note
 use Rattle.desk_steps.specs.declared.link_fact.LinkFact.{LinkFact}
@@ -21,7 +21,7 @@ use Rattle.house_verdicts.specs.Known.{Known}
 use Rattle.house_verdicts.specs.Verdict.{Verdict, is_fault, after as after_verdict, calls_after}
 use Rattle.house_history.specs.Issued.{is_opened, is_opening, lines_at, issued_of}
 use Rattle.house_history.specs.Legal.{Standing, after_entry, after_all, IsLegal, Legal, MayFind, IsAckedWell}
-use Rattle.house_history.specs.Noted.{calls_of, first_fact, lines_in}
+use Rattle.house_history.specs.Noted.{calls_of, lines_in}
 use Rattle.house_history.specs.Scripts.{calls_at, calls_of_all, run_in}
 use Rattle.house_history.proofs.Asked.{asks_play}
 use Rattle.house_history.proofs.Played.{IsNumbered, Led, led}

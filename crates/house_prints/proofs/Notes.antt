@@ -3,7 +3,7 @@ use Rattle.std.proofs.Common.{◌≡◌, ◌⊎◌, inl, inr, ℕ, ◌≤◌, Bo
 use Rattle.std.proofs.lemmas.List.{length-map}
 use Rattle.desk_steps.specs.Data.{ScriptTexts, Data, Line}
 use Rattle.desk_steps.specs.Issued.{line_of}
-use Rattle.desk_steps.specs.Note.{opened, ended, end_at, note_step}
+use Rattle.desk_steps.specs.Note.{opened, ended, end_at, note_step, first_fact}
 use Rattle.desk_steps.specs.Pull.{pull_step, draw_at, settle_at}
 use Rattle.desk_steps.specs.Run.{DeskCall, Pull, Note}
 use Rattle.desk_steps.specs.declared.issued.Issued.{Issued}
@@ -20,7 +20,7 @@ use Rattle.house_verdicts.specs.Desk.{desk_after, desk_after_all, lines_pulled, 
 use Rattle.house_verdicts.specs.Known.{Known}
 use Rattle.house_history.specs.Issued.{is_opening}
 use Rattle.house_history.specs.Legal.{up_after, IsAckedWell}
-use Rattle.house_history.specs.Noted.{called, called_all, first_fact, last_call, known_after_note}
+use Rattle.house_history.specs.Noted.{called, called_all, last_call, known_after_note}
 use Rattle.house_history.proofs.Played.{IsNumbered}
 use Rattle.house_history.proofs.Runs.{MayAll}
 use Rattle.house_prints.proofs.Marks.{IsRequest, acked_request}

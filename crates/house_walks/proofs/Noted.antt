@@ -8,17 +8,16 @@ use Rattle.desk_steps.specs.declared.issued.Issued.{Issued}
 use Rattle.desk_steps.specs.declared.issued.Note as declared_note
 use Rattle.desk_steps.specs.Data.{Data, Line}
 use Rattle.desk_steps.specs.Issued.{line_of}
-use Rattle.desk_steps.specs.Note.{note_step}
+use Rattle.desk_steps.specs.Note.{note_step, first_fact}
 use Rattle.desk_steps.specs.Pull.{pull_step}
 use Rattle.desk_steps.specs.Run.{Pull}
 use Rattle.octo_session.specs.Data.{SessionData, IsSession}
 use Rattle.octo_session.specs.DeskTurn.{Pulls, IsNoted}
-use Rattle.octo_session.specs.DeskTurn as turn
 use Rattle.octo_session.specs.Turn.{IsNoteOn}
 use Rattle.house_verdicts.specs.Known.{Known}
 use Rattle.house_verdicts.specs.Desk.{desk_after_all, lines_pulled, with_line}
 use Rattle.house_history.specs.Legal.{Standing, IsAckedWell}
-use Rattle.house_history.specs.Noted.{calls_of, lines_in, first_fact, last_call}
+use Rattle.house_history.specs.Noted.{calls_of, lines_in, last_call}
 use Rattle.house_history.proofs.Runs.{lines_append}
 use Rattle.house_walks.specs.Stands.{StandsAt}
 use Rattle.house_walks.proofs.Found.{desk_is}
@@ -42,25 +41,15 @@ last_silent fact.NoPort acked moment d = refl
 last_silent fact.Failed acked moment d = refl
 last_silent (fact.Ended end) acked moment d = refl
 
--- the desk is told the same fact first
-same_first : (found : LinkFact) → turn.first_fact found ≡ first_fact found
-same_first fact.Quiet = refl
-same_first fact.Opened = refl
-same_first fact.Ready = refl
-same_first fact.Closed = refl
-same_first fact.NoPort = refl
-same_first fact.Failed = refl
-same_first (fact.Ended end) = refl
-
 -- the lines of a note are what successive pulls give
 pub lines_legal : (moment acked : ℕ) (old new : Data) (ending : Option Ending) (note : declared_note.Note) → IsNoteOn moment acked old new ending note
     → lines_pulled (calls_of note) old ≡ lines_in note
 lines_legal moment acked old new ending note n =
-    let Moved : ℕ → Type 0 = λ m. Pulls m (map line_of note.issued.items) (note_step acked (turn.first_fact note.fact) m old).1 n.noted.pulled in
-    let Acked : ℕ → Type 0 = λ a. Pulls note.moment (map line_of note.issued.items) (note_step a (turn.first_fact note.fact) note.moment old).1 n.noted.pulled in
+    let Moved : ℕ → Type 0 = λ m. Pulls m (map line_of note.issued.items) (note_step acked (first_fact note.fact) m old).1 n.noted.pulled in
+    let Acked : ℕ → Type 0 = λ a. Pulls note.moment (map line_of note.issued.items) (note_step a (first_fact note.fact) note.moment old).1 n.noted.pulled in
     let First : LinkFact → Type 0 = λ f. Pulls note.moment (map line_of note.issued.items) (note_step note.acked f note.moment old).1 n.noted.pulled in
     let pulls : First (first_fact note.fact) =
-    subst First (same_first note.fact) (subst Acked (sym n.its_acked) (subst Moved (sym n.its_moment) n.noted.pulls))
+    subst Acked (sym n.its_acked) (subst Moved (sym n.its_moment) n.noted.pulls)
     in
     let noted = (note_step note.acked (first_fact note.fact) note.moment old).1 in
     let calls = map (λ (one : Issued). Pull note.moment) note.issued.items in

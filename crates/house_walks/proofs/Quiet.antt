@@ -10,7 +10,7 @@ use Rattle.desk_steps.specs.declared.issued.Issued.{Issued}
 use Rattle.desk_steps.specs.declared.issued.Note as declared_note
 use Rattle.desk_steps.specs.Data.{Data, Line}
 use Rattle.desk_steps.specs.Issued.{line_of}
-use Rattle.desk_steps.specs.Note.{Noted, note_step}
+use Rattle.desk_steps.specs.Note.{Noted, note_step, first_fact}
 use Rattle.desk_steps.specs.Run.{Pull, Note}
 use Rattle.send_window.specs.Data.{IsSound}
 use Rattle.send_window.specs.declared.session_end.SessionEnd.{SessionEnd}
@@ -24,7 +24,7 @@ use Rattle.octo_session.specs.declared.found.Doing.TheVariants.{Dialling, Hangin
 use Rattle.lossy_turns.specs.Patience.{IsPatient}
 use Rattle.house_verdicts.specs.Known.{Known}
 use Rattle.house_history.specs.Legal.{Standing, IsLegal, after_entry}
-use Rattle.house_history.specs.Noted.{known_after_note, called_all, first_fact, last_call, forgets, with_temps, kept_unless}
+use Rattle.house_history.specs.Noted.{known_after_note, called_all, last_call, forgets, with_temps, kept_unless}
 use Rattle.house_walks.specs.Stands.{StandsAt}
 use Rattle.house_walks.proofs.Rising.{Risen}
 use Rattle.house_walks.proofs.Still.{quiet_keeps}

@@ -5,7 +5,7 @@ use Rattle.std.proofs.lemmas.Bool.{false≢true}
 use Rattle.desk_steps.specs.Data.{Data, Line}
 use Rattle.desk_steps.specs.Endings.{IsActive, IsEnding}
 use Rattle.desk_steps.specs.Issued.{line_of}
-use Rattle.desk_steps.specs.Note.{Noted, note_step}
+use Rattle.desk_steps.specs.Note.{Noted, note_step, first_fact}
 use Rattle.desk_steps.specs.Pull.{pull_step}
 use Rattle.desk_steps.specs.Run.{DeskCall, Pull}
 use Rattle.desk_steps.specs.Run as run
@@ -22,7 +22,7 @@ use Rattle.octo_session.specs.declared.found.Doing.{Doing}
 use Rattle.octo_session.specs.declared.found.Doing.TheVariants.{Dialling, HangingUp, Talking, Resting}
 use Rattle.octo_session.specs.DeskTurn.{Pulls, IsNoted, IsQuietTurn}
 use Rattle.house_verdicts.specs.Known.{Known}
-use Rattle.house_history.specs.Noted.{first_fact, last_call, called_all, known_after_note, kept_unless, forgets, with_temps}
+use Rattle.house_history.specs.Noted.{last_call, called_all, known_after_note, kept_unless, forgets, with_temps}
 
 -- a desk with the prints and the desk of a turn
 abbrev pub turned_to : Data → Option Ending → Known → Known

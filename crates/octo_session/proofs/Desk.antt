@@ -7,14 +7,14 @@ use Rattle.desk_steps.specs.Data.{Data, Line}
 use Rattle.desk_steps.specs.Pull.{pull_step, settled}
 use Rattle.desk_steps.proofs.Settled.{settled_by_steps}
 use Rattle.send_window.specs.Sending.{push_step}
-use Rattle.desk_steps.specs.Note.{note_step}
+use Rattle.desk_steps.specs.Note.{note_step, first_fact}
 use Rattle.desk_steps.proofs.Steady.{steady-pull, steady-note}
 use Rattle.desk_steps.specs.declared.link_fact.LinkFact.{LinkFact}
 use Rattle.desk_steps.specs.declared.link_fact.LinkFact.TheVariants as fact
 use Rattle.print_records.specs.declared.ending.Ending.{Ending}
 use Rattle.send_window.specs.Data.{SenderData}
 use Rattle.octo_session.specs.Data.{IsJoined}
-use Rattle.octo_session.specs.DeskTurn.{Pulls, IsNoted, first_fact, last_noted}
+use Rattle.octo_session.specs.DeskTurn.{Pulls, IsNoted, last_noted}
 use Rattle.octo_session.specs.Steps.{Step, issues, after_steps, AreAllowed, Issues, issuing}
 use Rattle.desk_steps.specs.Issued.{line_of}
 use Rattle.desk_steps.specs.declared.issued.Issued.{Issued}

@@ -5,7 +5,7 @@ use Rattle.std.specs.Option.{option_or}
 use Rattle.std.proofs.lemmas.Bool.{false≢true}
 use Rattle.desk_steps.specs.Data.{Data, Line}
 use Rattle.desk_steps.specs.Pull.{pull_step}
-use Rattle.desk_steps.specs.Note.{Noted, note_step}
+use Rattle.desk_steps.specs.Note.{Noted, note_step, first_fact}
 use Rattle.desk_steps.specs.Endings.{IsActive, is_failure, EndsAs}
 use Rattle.desk_steps.proofs.Endings.{IsFree, LeavesFree, EndsIn, note_ends}
 use Rattle.desk_steps.proofs.Going.{Goes, goes_then, goes_pull, goes_note, goes_rested, free_pull, free_failed}
@@ -16,7 +16,7 @@ use Rattle.print_records.specs.declared.ending.Outcome.{Outcome}
 use Rattle.print_records.specs.declared.ending.Outcome.TheVariants as outcome
 use Rattle.octo_session.specs.declared.found.Doing.{Doing}
 use Rattle.octo_session.specs.declared.found.Doing.TheVariants.{Dialling, HangingUp, Talking, Resting}
-use Rattle.octo_session.specs.DeskTurn.{Pulls, first_fact, IsNoted, IsRunOut, EndsSo, IsTurnEnding}
+use Rattle.octo_session.specs.DeskTurn.{Pulls, IsNoted, IsRunOut, EndsSo, IsTurnEnding}
 use Rattle.octo_session.specs.Turn.{IsDeskTurn}
 use Rattle.octo_session.proofs.Desk.{pulls_greatest}
 

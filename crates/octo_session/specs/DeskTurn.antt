@@ -3,7 +3,7 @@ use Rattle.std.specs.Prelude.{◌≡◌, ◌⊎◌, ℕ, ◌≤◌, true, false,
 use Rattle.std.specs.Option.{option_or}
 use Rattle.desk_steps.specs.Data.{Data, Line}
 use Rattle.desk_steps.specs.Pull.{pull_step}
-use Rattle.desk_steps.specs.Note.{Noted, note_step}
+use Rattle.desk_steps.specs.Note.{Noted, first_fact, note_step}
 use Rattle.desk_steps.specs.Endings.{is_failure}
 use Rattle.desk_steps.specs.declared.link_fact.LinkFact.{LinkFact}
 use Rattle.desk_steps.specs.declared.link_fact.LinkFact.TheVariants as fact
@@ -17,16 +17,6 @@ use Rattle.octo_session.specs.declared.found.Doing.TheVariants.{Dialling, Hangin
 abbrev pub Pulls : ℕ → List Line → Data → Data → Type 0
 Pulls moment [] old new = new ≡ old
 Pulls moment (line ∷ lines) old new = ((pull_step moment old).0 ≡ Some line) × Pulls moment lines (pull_step moment old).1 new
-
--- the fact that the desk is given before the pulls: a failure comes last, since what was acknowledged before it counts
-abbrev pub first_fact : LinkFact → LinkFact
-first_fact fact.Quiet = fact.Quiet
-first_fact fact.Opened = fact.Opened
-first_fact fact.Ready = fact.Ready
-first_fact fact.Closed = fact.Closed
-first_fact fact.NoPort = fact.NoPort
-first_fact fact.Failed = fact.Quiet
-first_fact (fact.Ended end) = fact.Ended end
 
 -- a failure is noted with the ending that came before it, if one did
 abbrev pub then_failed : ℕ → ℕ → Noted → Noted

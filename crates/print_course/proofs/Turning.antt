@@ -11,13 +11,13 @@ use Rattle.print_records.specs.declared.ending.Outcome.TheVariants as outcome
 use Rattle.desk_steps.specs.Data.{Data, Line}
 use Rattle.desk_steps.specs.Table.{is_closable_at}
 use Rattle.desk_steps.specs.Pull.{pull_step}
-use Rattle.desk_steps.specs.Note.{Noted, ended, end_at, is_over, finish, note_step}
+use Rattle.desk_steps.specs.Note.{Noted, ended, end_at, is_over, finish, note_step, first_fact}
 use Rattle.desk_steps.specs.declared.state.State.{State}
 use Rattle.desk_steps.specs.declared.state.State.TheVariants.{Offline, Connecting, Operational, Printing, Pausing, Paused, Cancelling, Finishing, Closing, Fault}
 use Rattle.printer_link.specs.Link.{LinkKind}
 use Rattle.printer_model.specs.declared.event.WorldEvent.{WorldEvent}
 use Rattle.octo_session.specs.Data.{SessionData, IsSession, is_connecting, doing}
-use Rattle.octo_session.specs.DeskTurn.{Pulls, first_fact, last_noted, IsNoted}
+use Rattle.octo_session.specs.DeskTurn.{Pulls, last_noted, IsNoted}
 use Rattle.octo_session.specs.Found.{Got, unasked, lost, nothing as silence, whole, can_find, may_issue}
 use Rattle.octo_session.specs.Turn.{fact_of, lines_of, IsTurn, IsDeskTurn}
 use Rattle.octo_session.specs.declared.found.Doing.{Doing}
