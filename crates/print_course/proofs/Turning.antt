@@ -24,6 +24,7 @@ use Rattle.octo_session.specs.declared.found.Doing.{Doing}
 use Rattle.octo_session.specs.declared.found.Doing.TheVariants.{Dialling, HangingUp, Talking, Resting}
 use Rattle.octo_session.proofs.Desk.{noted_greatest}
 use Rattle.octo_session.proofs.Counts.{begins, counts_note}
+use Rattle.octo_session.proofs.Doing.{dials_at, hangs_up_at}
 use Rattle.lossy_line.specs.Issuing.{issued_in}
 use Rattle.octo_session.proofs.Noting.{noted_fact, noted_lines}
 use Rattle.octo_session.specs.declared.found.Turned.{Turned}
@@ -38,41 +39,6 @@ use Rattle.print_course.proofs.States.{stays_silent, acked_pulls, pulls_open, se
 use Rattle.print_course.proofs.Noting.{NotedSo, still_so, acked_more, note-underway}
 
 -- What a turn does, by the desk.
-
-chosen_first : (a b c : Bool) → cond a Dialling (cond b HangingUp (cond c Talking Resting)) ≡ Dialling → a ≡ true
-chosen_first true b c e = refl
-chosen_first false true c e = absurd (cc e)
-chosen_first false false true e = absurd (cc e)
-chosen_first false false false e = absurd (cc e)
-
-chosen_second : (a b c : Bool) → cond a Dialling (cond b HangingUp (cond c Talking Resting)) ≡ HangingUp → b ≡ true
-chosen_second false true c e = refl
-chosen_second true b c e = absurd (cc e)
-chosen_second false false true e = absurd (cc e)
-chosen_second false false false e = absurd (cc e)
-
-is_second : (a b : Bool) → (a && b) ≡ true → b ≡ true
-is_second true b e = e
-is_second false b e = absurd (false≢true e)
-
-connects_at : (s : State) → is_connecting s ≡ true → s ≡ Connecting
-connects_at Connecting e = refl
-connects_at Offline e = absurd (false≢true e)
-connects_at Operational e = absurd (false≢true e)
-connects_at Printing e = absurd (false≢true e)
-connects_at Pausing e = absurd (false≢true e)
-connects_at Paused e = absurd (false≢true e)
-connects_at Cancelling e = absurd (false≢true e)
-connects_at Finishing e = absurd (false≢true e)
-connects_at Closing e = absurd (false≢true e)
-connects_at Fault e = absurd (false≢true e)
-
-dials_at : (x : SessionData) → doing x ≡ Dialling → x.desk.state ≡ Connecting
-dials_at x e = connects_at x.desk.state (is_second (not x.up) (is_connecting x.desk.state)
-    (chosen_first (not x.up && is_connecting x.desk.state) (is_closable_at x.desk.state x.desk) x.up e))
-
-hangs_up_at : (x : SessionData) → doing x ≡ HangingUp → is_closable_at x.desk.state x.desk ≡ true
-hangs_up_at x e = chosen_second (not x.up && is_connecting x.desk.state) (is_closable_at x.desk.state x.desk) x.up e
 
 suits : (now : Doing) (found : LinkFact) (x : SessionData) (acked : ℕ) → doing x ≡ now → can_find now found ≡ true
     → (begins found ≡ false → x.desk.acked ≤ acked) → Suits (first_fact found) acked x.desk
