@@ -1,7 +1,7 @@
 //! Makes replies of the REST API, or reads its requests, again and again, for bench/api.sh.
 //!
-//! Without arguments it does so once for each kind. With `reply KIND COUNT` it makes so many replies, each from an answer of its
-//! own, and prints how many bytes their bodies have in all. With `request KIND COUNT` it reads so many messages, each made
+//! Without arguments it does so once for each kind. With `reply KIND COUNT` it makes COUNT replies, each from an answer of its
+//! own, and prints how many bytes their bodies have in all. With `request KIND COUNT` it reads COUNT messages, each made
 //! anew, and prints how many of them are requests.
 #![tactic(auto)]
 
@@ -45,7 +45,7 @@ const REQUESTS: [&str; 12] = [
     "upload_30720",
 ];
 
-// Makes so many replies of a kind, and returns how many bytes their bodies have.
+// Makes `count` replies of a kind, and returns how many bytes their bodies have.
 fn make_replies(alloc: Global, kind: &str, count: u64) -> anyhow::Result<u64> {
     let mut bytes: u64 = 0;
     for _ in 0..count {
@@ -55,7 +55,7 @@ fn make_replies(alloc: Global, kind: &str, count: u64) -> anyhow::Result<u64> {
     Ok(bytes)
 }
 
-// Reads so many messages of a kind, and returns how many are requests.
+// Reads `count` messages of a kind, and returns how many are requests.
 fn read_requests(alloc: Global, kind: &str, count: u64) -> anyhow::Result<u64> {
     let pattern = pattern_of(alloc, kind)?;
     let mut requests: u64 = 0;
@@ -67,14 +67,14 @@ fn read_requests(alloc: Global, kind: &str, count: u64) -> anyhow::Result<u64> {
     Ok(requests)
 }
 
-// Makes so many replies of a kind.
+// Makes `count` replies of a kind.
 fn show_replies(rt: HostRuntime, kind: &str, count: u64) -> anyhow::Result<()> {
     let bytes = make_replies(rt.alloc(), kind, count)?;
     println!(rt; "reply {kind}: {bytes}")?;
     Ok(())
 }
 
-// Reads so many messages of a kind.
+// Reads `count` messages of a kind.
 fn show_requests(rt: HostRuntime, kind: &str, count: u64) -> anyhow::Result<()> {
     let requests = read_requests(rt.alloc(), kind, count)?;
     println!(rt; "request {kind}: {requests}")?;

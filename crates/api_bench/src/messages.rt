@@ -53,7 +53,7 @@ fn lines(alloc: Global, count: usize) -> anyhow::Result<Pattern> {
     })
 }
 
-// An upload of a file with so many lines.
+// An upload of a file with this number of lines.
 fn upload(alloc: Global, count: usize) -> anyhow::Result<Pattern> {
     let mut body = Blob::from_slice(
         alloc,

@@ -152,7 +152,7 @@ job_data file progress state = object (
 abbrev pub list_data : List ℕ → List Data → Data
 list_data name items = object (member name (array (items_of items)) no_members)
 
--- where a file was stored
+-- the place of a file that was stored
 abbrev pub stored_place : List ℕ → Data
 stored_place name = object (
     member (codes "local") (object (

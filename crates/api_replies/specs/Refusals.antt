@@ -36,7 +36,7 @@ bad_line_data name line = object (
     (member (codes "line") (count line)
     no_members)))
 
--- a file that gives no job; its fault is never want of memory
+-- a file that has no job; its fault is never out of memory
 abbrev pub bad_file_data : FileFault → Data
 bad_file_data (fault.TooLong line) = bad_line_data (codes "TooLong") line
 bad_file_data (fault.ControlByte line) = bad_line_data (codes "ControlByte") line

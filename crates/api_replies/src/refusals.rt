@@ -56,7 +56,7 @@ fn bad_line_value(alloc: Global, fault: &str, line: u32) -> Result<Value, AllocE
     json!(in alloc; {"error": "BadFile", "fault": fault, "line": line})
 }
 
-/// A file that gives no job.
+/// A file that has no job.
 pub(crate) fn bad_file_value(alloc: Global, fault: FileFault) -> Result<Value, AllocError>
     ensures { IfOk result (λ value. view value ≡ bad_file_data fault) }
 {

@@ -21,7 +21,7 @@ one_json body (Some a) None (json _ u e) (no_json h) = sym e ∙ h u
 one_json body None (Some b) (no_json h) (json _ u e) = sym (h u) ∙ e
 one_json body None None (no_json h) (no_json k) = refl
 
--- what a reading gives is a request, or BadBody
+-- a reading returns a request, or BadBody
 pub gives_one : (read : Option Request) (result : Result Request Direct) → Gives read result → (result ≡ Err direct.NoMemory) ⊎ (result ≡ or_bad read)
 gives_one read (Ok request) e = inr (sym (ap or_bad e))
 gives_one read (Err e) (inl none) = inl (ap Err none)

@@ -11,7 +11,7 @@ use Rattle.api_direct.specs.declared.direct.Direct.TheVariants as direct
 use Rattle.file_names.specs.Names.{file_name_of}
 use Rattle.api_routes.specs.Ascii.{is_key}
 
--- a result is what a reading gives, BadBody if it gives nothing; memory may run out
+-- a result is what a reading returns, BadBody if it returns nothing; memory may run out
 abbrev pub Gives : {A : Type 0} → Option A → Result A Direct → Type 0
 Gives read (Ok a) = read ≡ Some a
 Gives read (Err e) = (e ≡ direct.NoMemory) ⊎ ((read ≡ None) × (e ≡ direct.BadBody))
@@ -72,7 +72,7 @@ abbrev pub all_of : {A : Type 0} → (Data → Option A) → Items → Option (L
 all_of read no_items = Some []
 all_of read (item found rest) = option_and_then (λ first. option_map (λ others. first ∷ others) (all_of read rest)) (read found)
 
--- the items of a list that has so many of them
+-- the items of a list whose length is in this range
 abbrev pub in_bounds : ℕ → ℕ → Items → Option Items
 in_bounds least most items = if nat_le least (items_len items) && nat_le (items_len items) most then Some items else None
 

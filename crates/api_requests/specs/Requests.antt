@@ -31,7 +31,7 @@ pub data IsJson (body : List ℕ) : Option Data → Type 0 where
 abbrev pub takes_json : Option (List ℕ) → Bool
 takes_json kind = option_map_or (has_type (codes "application/json")) kind true
 
--- what a reading gives, BadBody if it gives nothing
+-- what a reading returns, BadBody if it returns nothing
 abbrev pub or_bad : Option Request → Result Request Direct
 or_bad None = Err direct.BadBody
 or_bad (Some request) = Ok request

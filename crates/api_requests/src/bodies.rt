@@ -161,7 +161,7 @@ fn plain_request(form: &Form, body: &Value) -> Option<Request>
     }
 }
 
-// What a reading gives, BadBody if it gives nothing.
+// What a reading returns, BadBody if it returns nothing.
 fn given(read: Option<Request>) -> Result<Request, Direct>
     ensures { Gives read result }
 {

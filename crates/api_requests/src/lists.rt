@@ -14,7 +14,7 @@ use octo_outside::Blob;
 use serde_json::Value;
 use std::alloc::Global;
 
-// The items of a list that has so many of them.
+// The items of a list whose length is in this range.
 #[tactic(auto, using(crate::proofs::Items::item_counts))]
 fn items_in(found: &Value, least: usize, most: usize) -> Option<&[Value]>
     ensures value { option_map (λ values. items_view values.now) result ≡ items_in least most (view found.now) }

@@ -147,7 +147,7 @@ fn key_of(alloc: Global, message: Message) -> Blob
     }
 }
 
-/// What a message asks. Of several faults the path's is told first, then the method's, a missing length, the type and the
+/// What a message asks. Of several faults the path's is returned first, then the method's, a missing length, the type and the
 /// body. Source: OctoPrint's REST API; RFC 9110, section 15.5.
 pub fn to_request(alloc: Global, message: Message) -> Result<Ask, Direct>
     ensures { Says message result }

@@ -1,4 +1,4 @@
--- What the paths of the interface stand for.
+-- What the paths of the interface mean.
 use Rattle.std.specs.Prelude.{ℕ, Bool, true, false, List, [], ◌∷◌, length, drop, take, fold, codes, if◌then◌else◌, Option, Some, None, option_map, option_and_then, Result, Ok, Err, ◌==◌, ◌+◌, not}
 use Rattle.std.specs.List.{prefix_len, list_all}
 use Rattle.percent_encoding.specs.Percent.{percent_decode}
@@ -52,7 +52,7 @@ with_route rows route = with_scan (parse_route route.0) route.1 rows
 abbrev pub rows_of : List (List ℕ × Place) → RowsOf (RouteOf Place)
 rows_of table = fold with_route [] table
 
--- what a path stands for; one that isn't ASCII stands for nothing
+-- what a path means; one that isn't ASCII means nothing
 abbrev pub place_of : List ℕ → Option Place
 place_of path =
     if list_all is_ascii_byte path then option_map (λ (route : RouteOf Place). route.value) (first (rows_of routes) path) else None

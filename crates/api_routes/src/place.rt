@@ -1,4 +1,4 @@
-//! What the paths of the interface stand for.
+//! What the paths of the interface mean.
 ghost use Rattle.std.specs.Prelude.{◌≡◌, map, OnOk, IfOk, IfErr};
 ghost use Rattle.api_routes.specs.Places.{routes, with_route, rows_of, place_of};
 
@@ -7,7 +7,7 @@ use api_direct::Direct;
 use matchit::Router;
 use std::alloc::Global;
 
-/// What a path stands for.
+/// What a path means.
 #[derive(Clone, Copy, Debug, PartialEq, Eq)]
 pub enum Place {
     Version,
@@ -84,7 +84,7 @@ fn router_of(alloc: Global, table: &[(&'static str, Place)]) -> Result<Router<Pl
     Ok(router)
 }
 
-/// What a path stands for.
+/// What a path means.
 pub(crate) fn place_of(alloc: Global, path: &[u8]) -> Result<Option<Place>, Direct>
     ensures ok { IfOk result (λ place. place ≡ place_of path.now) }
     ensures err { IfErr result (λ e. e ≡ Direct.NoMemory) }

@@ -72,7 +72,7 @@ fn file_named(alloc: Global, part: &[u8]) -> Result<Option<Name>, Direct>
     }
 }
 
-// What comes after a prefix of so many bytes.
+// What comes after a prefix of this length.
 fn after(path: &[u8], count: usize) -> &[u8]
     ensures { result.now ≡ drop count path.now }
 {

@@ -20,7 +20,7 @@ none_some x e = cc
 some_is : {A : Type 0} (a b : A) → Some a ≡ Some b → a ≡ b
 some_is a b e = cc
 
--- nothing is added where all stays
+-- nothing is added if all stays
 pub added_none : {A : Type 0} (old new : Option (List A)) → new ≡ old → Adds old new []
 added_none {A} old new same =
     let At : Option (List A) → Type 0 = λ now. Adds old now [] in

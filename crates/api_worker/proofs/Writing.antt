@@ -34,7 +34,7 @@ none_some x e = cc
 above_none : (faults faults' : ℕ) → faults ≤ faults' → Rose faults faults' → 0 < faults'
 above_none faults faults' below rose = grind (arith, rose)
 
--- bytes that are written behind others
+-- bytes that are written after others
 wrote_then : (before after : Option (List ℕ)) (faults faults' : ℕ) (sent bytes : List ℕ)
     → IfSome before (λ w. w ≡ sent) → faults ≤ faults' → Sends before after faults faults' bytes → Tells after faults' (sent ++ bytes)
 wrote_then before None faults faults' sent bytes held below sends = tt

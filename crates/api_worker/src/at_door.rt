@@ -53,7 +53,7 @@ fn look_at_door<D: Door, A: Asker>(
     }
 }
 
-// Serves a connection and gives it back.
+// Serves a connection and returns it to the door.
 fn serve_and_finish<D: Door, A: Asker>(
     alloc: Global,
     door: &mut D,
@@ -79,7 +79,7 @@ fn serve_and_finish<D: Door, A: Asker>(
     if is_open { Visit::Open } else { Visit::Closed }
 }
 
-// Says that this worker leaves. The answer tells it nothing.
+// Says that this worker leaves. The answer doesn't matter.
 fn leave<A: Asker>(alloc: Global, asker: &mut A)
     ensures left { (calls : History) × Leaves calls
         × Adds (A.mine asker.old) (A.mine asker.new) calls }

@@ -11,7 +11,7 @@ use octo_http::{HttpReply, MessageFault, read_message, write_reply};
 use octo_outside::{Conn, Failed};
 use std::alloc::Global;
 
-// Writes a reply. A failure is the connection's, which counts it; nobody is left to be told.
+// Writes a reply. A failure is the connection's, which counts it; nobody is left who could be answered.
 fn write_or_leave<C: Conn>(conn: &mut C, reply: &HttpReply)
     ensures written { Sends (C.written conn.old) (C.written conn.new)
         (C.faults conn.old) (C.faults conn.new) (reply_bytes reply.now) }

@@ -111,7 +111,7 @@ fn replies_and_leaves(rt: HostRuntime) -> Result<(), Fail> {
     Ok(())
 }
 
-// Once the host has ended, the connection at hand is told so, and no further one is accepted.
+// Once the host has ended, the connection at hand is answered so, and no other one is accepted.
 #[test]
 fn a_host_that_ends(rt: HostRuntime) -> Result<(), Fail> {
     let alloc = rt.alloc();
@@ -140,7 +140,7 @@ fn a_door_that_fails(rt: HostRuntime) -> Result<(), Fail> {
     Ok(())
 }
 
-// A peer that sends half a message and then nothing is told that it is too slow.
+// A peer that sends half a message and then nothing is answered that it is too slow.
 #[test]
 fn a_slow_peer(rt: HostRuntime) -> Result<(), Fail> {
     let alloc = rt.alloc();

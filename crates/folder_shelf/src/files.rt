@@ -48,7 +48,7 @@ fn read_bytes<R: Files + AllocGlobal + Clone + Drop>(
     }
 }
 
-/// The bytes of a file, `None` if there is none of that name.
+/// The bytes of a file, `None` if the folder has none of that name.
 pub fn read_file<R: Files + AllocGlobal + Clone + Drop>(
     alloc: Global,
     rt: &R,
@@ -79,7 +79,7 @@ fn sync_folder<R: Files>(rt: &R, folder: &Name) -> io::Result<()> {
     file.sync_all()
 }
 
-// Writes the new file beside the former one, and gives it its name.
+// Writes the new file beside the former one, and renames it.
 fn replace<R: Files>(rt: &R, part: &str, path: &str, bytes: &[u8]) -> io::Result<()> {
     write_new(rt, part, bytes)?;
     fs::rename(rt, part, path)
@@ -109,7 +109,7 @@ pub fn write_file<R: Files>(
     }
 }
 
-/// Takes a file out, if there is one of that name.
+/// Takes the file of that name out, if the folder has it.
 pub fn remove_file<R: Files>(rt: &R, folder: &Name, name: &Name) -> Result<(), ShelfFault> {
     if !is_file_name(name.as_str()) {
         return Ok(());

@@ -61,6 +61,6 @@ pub all_calls : (me : Sitter) → ((worker : ℕ) (mine : History) → get_elem?
 all_calls me f = are_calls (house_of me.0).history 0 (house_of me.0).joined
     (λ i mine e. let same : i ≡ 0 + i = omega arith in subst (λ (k : ℕ). calls_of k (house_of me.0).history ≡ mine) same (f i mine e))
 
--- the seats beside a house end stay where they are
+-- the seats beside a house end stay as they are
 pub seat_beside : (old new : HouseData) (n : ℕ) → house_place new ≡ house_place old → seat_at old.table n ≡ seat_at new.table n
 seat_beside old new n e = ap (λ (p : Place). let x : Place = record { table = p.table; seat = n + 1 } in x) (sym e)

@@ -1,4 +1,4 @@
--- What each step on the table tells: of the step, the seat before, the number found and the seat after.
+-- What is learned by each step on the table: from the step, the seat before, the number found and the seat after.
 use Rattle.std.specs.Prelude.{◌≡◌, ◌≢◌, ℕ, ◌+◌, true, false, List, [], ◌∷◌, ◌++◌, Option, Some, None}
 use mathlib.Core.Option.{some, none}
 use mathlib.Core.Option as maybe

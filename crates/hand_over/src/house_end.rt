@@ -82,7 +82,7 @@ impl Counter for HouseEnd {
     ghost closed = { λ e. e.view.closed };
 
     /// Looks at the four workers' words once each.
-    /// The first is that of the worker after the one last given out.
+    /// The first word is the one of the worker after the one last handed out.
     fn next(&mut self) -> Next
         requires answered { self.old.view.taken ≡ None }
         requires open { self.old.view.closed ≡ false }

@@ -1,4 +1,4 @@
-//! What each step on the table tells.
+//! What is learned by each step on the table.
 ghost use Rattle.hand_over.specs.declared.board.View.TheVariants.{Spent};
 ghost use Rattle.hand_over.specs.Steps.{slot_taken, ask_put, answer_looked_for, idle_put, close_looked_for, looked, answer_put, note_put, close_put, learnt, house_left, worker_right, joined_with};
 

@@ -25,7 +25,7 @@ fn answer_to(ask: Ask) -> Answer {
     }
 }
 
-// Answers the next ask, if there is one.
+// Answers the next ask, if one waits.
 fn answer_next(house: &mut HouseEnd, moment: u64) -> bool
     requires { (house.old.view.taken ≡ None) × (house.old.view.closed ≡ false) }
     ensures state { (house.new.view.taken ≡ None) × (house.new.view.closed ≡ false) }
@@ -40,7 +40,7 @@ fn answer_next(house: &mut HouseEnd, moment: u64) -> bool
     }
 }
 
-// Answers so many asks.
+// Answers this number of asks.
 fn answer_all<R: Wait>(rt: &R, house: &mut HouseEnd, asks: u64)
     requires { (house.old.view.taken ≡ None) × (house.old.view.closed ≡ false) }
     ensures state { (house.new.view.taken ≡ None) × (house.new.view.closed ≡ false) }
@@ -58,7 +58,7 @@ fn answer_all<R: Wait>(rt: &R, house: &mut HouseEnd, asks: u64)
     }
 }
 
-// Asks, if there is an ask.
+// Asks, if an ask is left.
 fn answer_of<R: Wait>(worker: &mut WorkerEnd<R>, ask: &mut Option<Ask>) -> Option<Answer>
     ensures { worker_place worker.new ≡ worker_place worker.old }
 {

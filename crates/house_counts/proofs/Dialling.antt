@@ -24,7 +24,7 @@ use Rattle.house_counts.specs.LinkUse.{is_of_dial, is_closing, is_close_note, Is
 use Rattle.house_counts.specs.Rounds.{AsksAt, NotesAt, TurnsAt, noted, one_if}
 use Rattle.house_counts.proofs.Counting.{count_append}
 
--- a count of calls that rose by so many, by fewer, and by more after that
+-- a count of calls that rose by a number, by fewer, and by more after that
 pub rose_less : (n m : ℕ) (before now : Option ℕ) → m ≤ n → RoseBy n before now → RoseBy m before now
 rose_less n m None None less rose = tt
 rose_less n m None (Some now) less rose = rose

@@ -27,7 +27,7 @@ abbrev pub is_links_fault : Entry → Bool
 is_links_fault (entry.Note note) = is_failure note.fact
 is_links_fault _ = false
 
--- a count of faults didn't fall, and rose by at least so many, or is at its type's last value
+-- a count of faults didn't fall, and rose by at least this number, or is at its type's last value
 pub record HasRisen (n before now : ℕ) : Type 0 where
   pub later : before ≤ now
   pub rose : now < 18446744073709551615 → before + n ≤ now

@@ -52,11 +52,11 @@ played_none deed k none same n = record {
   told = λ before ends t. (subst (λ calls. Tells before (ends_all calls k.desk ends) deed.prints) (sym none) (subst (λ (rows : List PrintRow). Tells before ends rows) (sym same) t));
 }
 
--- numbers stay in order where a steady call is made and no record is added
+-- numbers stay in order if a steady call is made and no record is added
 pub stays_numbered : (d e : Data) (rows : List PrintRow) → Steady d e → d.greatest ≤ length rows → e.greatest ≤ length rows
 stays_numbered d e rows s n = subst (λ g. g ≤ length rows) (sym s.greatest) n
 
--- a start gives at most its number
+-- after a start the greatest number is at most its own
 start_hot : (hot : Option HotLine) (print m : ℕ) (d : Data) → print ≡ m + 1 → d.greatest ≤ m → (start_checked hot print d).1.greatest ≤ m + 1
 start_hot None print m d is n = omega arith
 start_hot (Some hot) print m d is n = omega arith

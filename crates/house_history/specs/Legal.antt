@@ -89,7 +89,7 @@ pub record IsLegalCall (ask : Ask) (moment : ℕ) (x : Answer) (s : Standing) : 
   pub later : s.moment ≤ moment
   pub may : (x ≡ answer.NoMemory) ⊎ May (verdict ask s.files s.known) x
 
--- how many lines are acknowledged falls only where a session begins, with 0, and is at most how many were issued
+-- the number of acknowledged lines falls only as a session begins, to 0, and is at most the number of issued ones
 abbrev pub IsAckedWell : LinkFact → ℕ → Data → Type 0
 IsAckedWell fact.Opened acked d = acked ≡ 0
 IsAckedWell _ acked d = (d.acked ≤ acked) × (acked ≤ d.issued)
@@ -131,7 +131,7 @@ pub record IsLegalNote (note : Note) (s : Standing) : Type 0 where
   pub later : s.moment ≤ note.moment
   pub acked : IsAckedWell note.fact note.acked s.known.desk
   pub found : MayFind note.fact note.acked note.moment s
-  -- the issued lines are what successive pulls give
+  -- successive pulls return the issued lines
   pub lines : lines_pulled (calls_of note) s.known.desk ≡ lines_in note
   pub spent : note.fact ≡ fact.Quiet → s.up ≡ true → s.ready ≡ true → IsSpent note.moment (after_note note s)
 

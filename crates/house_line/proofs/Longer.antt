@@ -63,7 +63,7 @@ module _ (kind : LinkKind) (issued : List (List ℕ)) (x : SessionData) (past mo
   here : world_in kind past ≡ world_from made o.rest
   here = world_since kind past o.front o.last o.rest o.is
 
--- a session before a further one, with what ran in the dial
+-- a session before another one, with what ran in the dial
 pub dialled_tied : (kind : LinkKind) (issued : List (List ℕ)) (x : SessionData) (past added : List WorldEvent) → IsDial (world_in kind past) added →
     IsOpened kind issued x past → IsTied kind issued x.sender.acked (past ++ added) (opens past)
 dialled_tied kind issued x past added dial o =

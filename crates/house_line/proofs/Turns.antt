@@ -89,7 +89,7 @@ is_opened_fact fact.NoPort = inr (λ (e : fact.NoPort ≡ fact.Opened). absurd (
 is_opened_fact fact.Failed = inr (λ (e : fact.Failed ≡ fact.Opened). absurd (cc))
 is_opened_fact (fact.Ended end) = inr (λ (e : fact.Ended end ≡ fact.Opened). absurd (cc))
 
--- what a turn leaves of n sessions, of which these texts were issued and so many lines acknowledged
+-- what a turn leaves of n sessions, of which these texts were issued and this number of lines acknowledged
 pub record Leaves (kind : LinkKind) (front : List WorldEvent) (n : ℕ) (texts : ℕ → List (List ℕ)) (acked : ℕ → ℕ) (last : List (List ℕ)) (last_acked : ℕ)
     (past : List WorldEvent) (x : SessionData) : Type 0 where
   pub counted : opens past ≡ opens front + n

@@ -29,7 +29,7 @@ abbrev pub IsCurrent : LinkKind → ℕ → List (List ℕ) → ℕ → List Wor
 IsCurrent kind zero texts acked past x = IsUnmade x
 IsCurrent kind (suc session) texts acked past x = IsOpened kind texts x past × (x.sender.acked ≡ acked)
 
--- a history of a host, that of its link since an earlier one, and the host's session
+-- a host's history, its link's history since an earlier one, and the host's session
 pub record AreInStep (kind : LinkKind) (front : List WorldEvent) (history : History) (past : List WorldEvent)
     (x : SessionData) : Type 0 where
   -- the link was made once for each session

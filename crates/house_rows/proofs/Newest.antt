@@ -3,7 +3,7 @@ use Rattle.std.proofs.Common.{◌≡◌, ℕ, suc, ◌+◌, ◌<◌, Bool, true,
 use Rattle.std.proofs.lemmas.List.{take_more, reverse-append}
 use Rattle.std.proofs.lemmas.List.Elements.{filter-append}
 
--- at most so many of the first rows that pass, newest first, as they are shown
+-- the first rows that pass, newest first, as they are shown, at most this number of them
 abbrev pub newest : {X Y : Type 0} → (X → Y) → (X → Bool) → ℕ → ℕ → List X → List Y
 newest show test free left rows = map show (take free (reverse (filter test (take left rows))))
 

@@ -12,6 +12,6 @@ pub record AreLines (texts : List (List ℕ)) (lines : List (ArrayVec ℕ)) : Ty
   pub are : commands_in texts ≡ Some (bytes_of lines)
   pub sendable : All IsSendable (bytes_of lines)
 
--- why texts give no lines: memory ran out, or one is no command
+-- why texts are no lines: memory ran out, or one is no command
 abbrev pub AreNoLines : List (List ℕ) → Answer → Type 0
 AreNoLines texts x = (x ≡ answer.NoMemory) ⊎ ((x ≡ answer.BadCommand) × (commands_in texts ≡ None))

@@ -10,7 +10,7 @@ use Rattle.octo_asks.specs.declared.answer.Answer.{Answer}
 use Rattle.octo_asks.specs.declared.answer.Answer.TheVariants as answer
 use Rattle.house_rows.specs.Counts.{is_keepers, is_shelfs}
 
--- why a file gives no job
+-- why a file has no job
 abbrev pub file_refused : FileFault → Answer
 file_refused file_fault.NoMemory = answer.NoMemory
 file_refused fault = answer.BadFile fault
@@ -35,7 +35,7 @@ job_in (Err x) = Err x
 abbrev pub job_at : List ℕ → List ShelfFile → Result JobData Answer
 job_at name files = job_in (bytes_at name files)
 
--- what reading it may give: it, or a fault
+-- what reading it may return: it, or a fault
 abbrev pub IsReadAs : {A : Type 0} → Result A Answer → Result A Answer → Type 0
 IsReadAs wanted got = (got ≡ wanted) ⊎ ((got ≡ Err answer.ShelfFault) ⊎ (got ≡ Err answer.NoMemory))
 

@@ -1,4 +1,4 @@
--- A user's row with what a request gives.
+-- A user's row with what a request names.
 use Rattle.std.specs.Prelude.{ℕ, Bool, List, Option, option_map, unwrap_or}
 use Rattle.arrayvec.specs.ArrayVec.{ArrayVec}
 use Rattle.sha2.specs.Sha256.{sha256}

@@ -1,4 +1,4 @@
-//! Entries of the queue as requests give them.
+//! Entries of the queue as requests name them.
 ghost use Rattle.std.specs.Prelude.{◌≡◌, ◌≤◌, length, is_some};
 ghost use Rattle.std.specs.List.{position_or_len};
 ghost use Rattle.print_queue.specs.Rows.{held, is_key};

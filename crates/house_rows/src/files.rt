@@ -12,7 +12,7 @@ use octo_keeper::Shelf;
 use octo_outside::Blob;
 use std::alloc::Global;
 
-/// A file that gives no job, as an answer.
+/// A file that has no job, as an answer.
 pub fn bad_file(fault: FileFault) -> Answer
     ensures { result ≡ file_refused fault }
 {

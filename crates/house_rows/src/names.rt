@@ -49,7 +49,7 @@ pub fn names_in(alloc: Global, files: &[(Name, u64)]) -> Result<Vec<Name>, Alloc
     Ok(names)
 }
 
-/// Makes room for one more name; without memory there is none.
+/// Makes room for one more name, unless memory runs out.
 pub fn reserve_name(names: &mut Vec<Name>) -> Result<(), AllocError>
     ensures items { names.new.items ≡ names.old.items }
     ensures room { OnOk result (vec_len names.new < vec_capacity names.new) }

@@ -1,4 +1,4 @@
-//! Users as requests give them.
+//! Users as requests name them.
 ghost use Rattle.std.specs.Prelude.{◌≡◌, ◌≤◌, [], length, option_map, unwrap_or};
 ghost use Rattle.std.specs.List.{position_or_len};
 ghost use Rattle.octo_access.specs.Rows.{held, is_named};
@@ -52,7 +52,7 @@ fn groups_or(groups: &Option<ArrayVec<Name, 8>>, former: &ArrayVec<Name, 8>) -> 
     }
 }
 
-/// A user's row with what a request gives; the rest is as before.
+/// A user's row with what a request names; the rest is as before.
 pub fn changed_user(
     former: &UserRow,
     key: &Option<Blob>,

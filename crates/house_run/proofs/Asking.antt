@@ -31,7 +31,7 @@ module _ (known known' : Known) (x y : SessionData) (past past' : Option History
         λ s at. call_leads s known known' x y was (files_after (verdict ask was known) answer was) before moment worker ask answer at below (done was was_is) refl sender up desk,
       ))
 
--- nothing was asked: the host stands where it stood, at a later moment
+-- nothing was asked: the host is as it was, at a later moment
 pub later_walks : (known : Known) (x : SessionData) (past past' : Option History) (files files' : Option (List ShelfFile)) (moment : ℕ)
     → past' ≡ past → files' ≡ files → (before : ℕ) → before ≤ moment
     → Walks past past' files files' (λ held s. StandsAt s known x held before false) (λ held s. StandsAt s known x held moment false)

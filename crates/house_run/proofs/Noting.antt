@@ -59,7 +59,7 @@ pub record HasTurned (moment : ℕ) (kind : LinkKind) (past past' : Option (List
 module _ (moment : ℕ) (kind : LinkKind) (link link' : Option (List WorldEvent)) (calls calls' : Option ℕ) (x y : SessionData) (turned : Turned)
     (known known' : Known) (t : HasTurned moment kind link link' calls calls' x y turned) (desk : known'.desk ≡ y.desk)
     (past past' : Option History) (files : Option (List ShelfFile)) where
-  -- where the host stands after it
+  -- how far the host is after it
   abbrev After : List ShelfFile → Standing → Type 0
   After held s = StandsAt s known' y held moment false
 

@@ -65,7 +65,7 @@ module _ {X : Type 0} (test : X → Bool) where
     there [] at = absurd (cc)
     there (x ∷ xs) at = there-more x xs (test x) refl at (there xs)
 
--- where no user has a name, a row for it changes nothing
+-- if no user has a name, a row for it changes nothing
 none-more : (row x : UserRow) (xs : List UserRow) (b : Bool) → is_named row.name x ≡ b → count_by (is_named row.name) (x ∷ xs) ≡ 0
     → (count_by (is_named row.name) xs ≡ 0 → with_user row xs ≡ xs) → with_user row (x ∷ xs) ≡ x ∷ xs
 none-more row x xs true is none rest =

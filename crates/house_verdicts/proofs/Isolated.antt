@@ -67,7 +67,7 @@ same-fresh : (fresh : Bool) (x : Answer) (d e : Deed) → answer_in (cond fresh 
 same-fresh true x d e = refl
 same-fresh false x d e = refl
 
--- the answer to a put is that of the queue
+-- the queue answers a put in the same way
 same-put : (r : Result Put QueueRefusal) (a b : Known) → answer_in (put_by r a) ≡ answer_in (put_by r b)
 same-put (Ok put) a b = same-fresh put.fresh _ _ _
 same-put (Err refused) a b = refl

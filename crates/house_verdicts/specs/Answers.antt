@@ -1,4 +1,4 @@
--- The answer to every request: nobody's and the unpermitted ones are denied, and else the request's own verdict stands.
+-- The answer to every request: nobody's and the unpermitted ones are denied, and any other has its own verdict.
 use Rattle.std.specs.Prelude.{ℕ, not, List, [], ◌∷◌, Option, None, Some, find}
 use Rattle.octo_access.specs.Rights.{has, caller}
 use Rattle.octo_access.specs.declared.permission.Permission.{Permission}

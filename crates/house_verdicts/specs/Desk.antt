@@ -28,7 +28,7 @@ abbrev pub desk_after_all : List DeskCall → Data → Data
 desk_after_all [] d = d
 desk_after_all (call ∷ calls) d = desk_after_all calls (desk_after call d)
 
--- the end of a print that a call brings; what a restart leaves isn't told by the desk
+-- how a call ends a print; the desk doesn't say what a restart leaves
 abbrev pub ended_by : DeskCall → Data → Option Ending
 ended_by (Note acked fact moment) d = (note_step acked fact moment d).0
 ended_by _ d = None

@@ -89,7 +89,7 @@ has_room k = not (nat_le 100000 (length k.prints))
 abbrev pub roomed : Known → Verdict → Verdict
 roomed k v = refused_if (not (has_room k)) (answer.Full (shown_count (length k.prints))) v
 
--- the name of a selection, empty where nothing is selected
+-- the name of a selection, empty if nothing is selected
 abbrev pub selected_name : Option File → List ℕ
 selected_name None = []
 selected_name (Some file) = file.name

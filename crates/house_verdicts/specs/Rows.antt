@@ -33,7 +33,7 @@ abbrev pub put_user_verdict : UserRow → Known → Verdict
 put_user_verdict row k =
     granted_user (put_refusal k.policy row k.users) (writes (answer.User (shown_user row)) (with_users (with_row row k.users) k))
 
--- a user with what a request gives; without a former one it has nothing else
+-- a user with what a request names; without a former one it has nothing else
 abbrev pub changed_user : List ℕ → Option (List ℕ) → Option (ArrayVec (List ℕ)) → Option Bool → Option UserRow → UserRow
 changed_user name key groups active None =
     record { name = name; digest = unwrap_or (option_map sha256 key) []; groups = unwrap_or groups (record { items = [] }); active = unwrap_or active true }

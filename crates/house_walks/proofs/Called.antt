@@ -18,7 +18,7 @@ use Rattle.house_walks.specs.Stands.{StandsAt}
 ap2 : {A B C : Type 0} (f : A → B → C) {a a' : A} {b b' : B} → a ≡ a' → b ≡ b' → f a b ≡ f a' b'
 ap2 f {a} {a'} {b} {b'} one two = ap (λ x. f x b) one ∙ ap (λ y. f a' y) two
 
--- the answer is legal where the host stands
+-- the answer is legal for the host as it is
 call_legal : (s : Standing) (known : Known) (session : SessionData) (files : List ShelfFile) (moment later : ℕ) (worker : ℕ) (ask : Ask) (x : Answer)
     → StandsAt s known session files moment false → moment ≤ later
     → (x ≡ answer.NoMemory) ⊎ May (verdict ask files known) x → IsLegal (entry.Call worker ask later x) s
@@ -60,7 +60,7 @@ call_leads s known known' session session' files files' moment later worker ask 
       },
     )
 
--- time goes on where the host stands
+-- time goes on and the host stays as it is
 pub stands_later : (s : Standing) (known : Known) (session : SessionData) (files : List ShelfFile) (moment later : ℕ)
     → StandsAt s known session files moment false → moment ≤ later → StandsAt s known session files later false
 stands_later s known session files moment later at below = record {

@@ -1,4 +1,4 @@
--- What a note of a turn says of the desk where the host stands.
+-- What a note of a turn says of the desk of a host that a history has led there.
 use Rattle.std.proofs.Common.{◌≡◌, ◌⊎◌, inl, inr, ℕ, ◌≤◌, false, List, [], ◌∷◌, ◌++◌, map, Option, refl, sym, ap, subst, ◌∙◌, arith, append-nil}
 use Rattle.octo_keeper.specs.declared.shelf.ShelfFile.{ShelfFile}
 use Rattle.print_records.specs.declared.ending.Ending.{Ending}
@@ -41,7 +41,7 @@ last_silent fact.NoPort acked moment d = refl
 last_silent fact.Failed acked moment d = refl
 last_silent (fact.Ended end) acked moment d = refl
 
--- the lines of a note are what successive pulls give
+-- successive pulls return the lines of a note
 pub lines_legal : (moment acked : ℕ) (old new : Data) (ending : Option Ending) (note : declared_note.Note) → IsNoteOn moment acked old new ending note
     → lines_pulled (calls_of note) old ≡ lines_in note
 lines_legal moment acked old new ending note n =
@@ -59,7 +59,7 @@ lines_legal moment acked old new ending note n =
     ∙ ap (λ (rest : List Line). map line_of note.issued.items ++ rest) (last_silent note.fact note.acked note.moment (desk_after_all calls noted))
     ∙ append-nil (map line_of note.issued.items)
 
--- what is acknowledged falls only where a session begins, and is at most what was issued
+-- the number of acknowledged lines falls only as a session begins, and is at most the number of issued ones
 pub acked_well : (s : Standing) (known : Known) (x : SessionData) (files : List ShelfFile) (moment : ℕ) (found : LinkFact) (acked : ℕ)
     → StandsAt s known x files moment false → IsSession x
     → (found ≡ fact.Opened → acked ≡ 0) → (found ≡ fact.Opened) ⊎ (x.sender.acked ≤ acked) → acked ≤ x.sender.issued

@@ -1,4 +1,4 @@
--- A turn that makes no note leads a host on by a quiet note, or leaves it where it stands.
+-- A turn that makes no note leads a host on by a quiet note, or leaves it as it is.
 use Rattle.std.proofs.Common.{◌≡◌, inr, ℕ, ◌≤◌, Bool, true, false, List, [], ◌∷◌, ◌++◌, map, Option, None, refl, sym, ap, subst, ◌∙◌, arith}
 use Rattle.octo_keeper.specs.declared.shelf.ShelfFile.{ShelfFile}
 use Rattle.octo_keeper.specs.Tables.{with_due_end}
@@ -95,7 +95,7 @@ kept_still Resting moment old new ending quiet same = (quiet.0, quiet.1)
 module _ (s : Standing) (known known' : Known) (x y : SessionData) (files : List ShelfFile) (moment at_moment : ℕ) (ending : Option Ending)
     (at : StandsAt s known x files moment false) (t : TookQuiet at_moment x y ending)
     (after : known' ≡ known_quietly ending y.desk known) (below : moment ≤ at_moment) where
-  -- the desk is in the same state: the host stands where it stood
+  -- the desk is in the same state: the host is as it was
   pub quiet_stays : y.desk.state ≡ x.desk.state → StandsAt s known' y files at_moment false
   quiet_stays same =
       let still = kept_still (doing x) at_moment x.desk y.desk ending t.desk same in

@@ -152,7 +152,7 @@ raised_is fact.NoPort acked moment s = refl
 raised_is fact.Failed acked moment s = refl
 raised_is (fact.Ended end) acked moment s = refl
 
--- how many lines there is room for, by the window and how many are issued and acknowledged
+-- how many lines have room, by the window and by how many are issued and acknowledged
 abbrev room_by : ℕ → ℕ → ℕ → ℕ
 room_by window issued acked = min (window - (issued - acked)) (most_lines - issued)
 
@@ -217,7 +217,7 @@ module _ (s : Standing) (known known' : Known) (x y : SessionData) (files : List
       let Can : LinkFact → Type 0 = λ g. found.can_find (doing x) g ≡ true in
       talks_up x (ended_talks (doing x) end (subst Can is t.can))
 
-  -- the note is legal where the host stands
+  -- the note is legal for the host as it is
   pub note_legal : moment ≤ at_moment → IsLegal (entry.Note note) s
   note_legal below =
       let May : ℕ → Type 0 = λ m. MayFind note.fact note.acked m s in

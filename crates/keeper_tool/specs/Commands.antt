@@ -10,7 +10,7 @@ use Rattle.keeper_tool.specs.declared.command.Work.TheVariants.{Show, Add}
 abbrev pub on_file : List ℕ → Work → Option Command
 on_file file work = if nat_le 1 (length file) && nat_le (length file) 100 then Some (record { file = file; work = work }) else None
 
--- so many prints are added
+-- this number of prints is added
 abbrev pub adding : List ℕ → Option ℕ → Option Command
 adding file (Some prints) = on_file file (Add prints)
 adding file None = None

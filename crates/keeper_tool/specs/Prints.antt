@@ -19,19 +19,19 @@ finished number = record {
 abbrev pub with_print : ℕ → Tables → Tables
 with_print number t = record t { prints = t.prints ++ finished number ∷ [] }
 
--- the tables with so many more, from a number on
+-- the tables with a number of records more, numbered from `first` on
 abbrev pub with_prints : ℕ → ℕ → Tables → Tables
 with_prints first zero t = t
 with_prints first (suc n) t = with_print (first + n) (with_prints first n t)
 
--- the tables with so many more, numbered after those that they hold
+-- the tables with a number of records more, numbered after those that they hold
 abbrev pub with_more : ℕ → Tables → Tables
 with_more n t = with_prints (length t.prints + 1) n t
 
--- at most so many were added, from a number on
+-- at most that number of records was added, numbered from `first` on
 abbrev pub AddsFrom : ℕ → ℕ → Option Tables → Option Tables → Type 0
 AddsFrom first most old new = (n : ℕ) × (n ≤ most) × (new ≡ option_map (with_prints first n) old)
 
--- at most so many were added
+-- at most that number of records was added
 abbrev pub AddsUpTo : ℕ → Option Tables → Option Tables → Type 0
 AddsUpTo most old new = (n : ℕ) × (n ≤ most) × (new ≡ option_map (with_more n) old)

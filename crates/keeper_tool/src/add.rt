@@ -78,7 +78,7 @@ fn first_number(held: usize, prints: u32) -> Option<u32>
     Some(first)
 }
 
-/// Adds so many records of finished prints, each by a change of its own, numbered after those that the tables hold.
+/// Adds records of finished prints, each by a change of its own, numbered after those that the tables hold.
 pub fn add_prints<K: Keeper>(alloc: Global, keeper: &mut K, prints: u32) -> ToolEnd
     ensures all { result ≡ end.Added prints → K.tables keeper.new ≡ option_map (with_more prints) (K.tables keeper.old) }
     ensures some { AddsUpTo prints (K.tables keeper.old) (K.tables keeper.new) }

@@ -1,5 +1,5 @@
 //! Tests of the settings: each key that is missing, of the wrong kind and at both ends of its range, and which fault comes first. They
-//! stand apart from `octo_settings` because their proofs are slow.
+//! are apart from `octo_settings` because their proofs are slow.
 #![tactic(auto)]
 
 #[cfg(test)]

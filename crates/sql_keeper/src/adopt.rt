@@ -39,7 +39,7 @@ fn rows_of<S: Alter>(
     }
 }
 
-// The number of the schema, 0 if there is none yet.
+// The number of the schema, 0 if the database has none yet.
 fn schema_of<S: Alter>(transaction: &mut Transaction<'_, S>) -> Result<i64, KeeperFault>
     ensures same_reference { transaction.new.conn.ghost_name ≡ transaction.old.conn.ghost_name }
     ensures stores { StoresNothing (state S.Store transaction.old.conn.now) (state S.Store transaction.new.conn.now) }

@@ -132,7 +132,7 @@ fn commands(rt: HostRuntime) -> Result<(), Fail> {
     come_to(&rt, alloc, "/api/printer/command", "BadBody", &bodies)
 }
 
-// A body with so many lines.
+// A body with this number of lines.
 fn many_lines(alloc: Global, count: u32) -> Result<Vec<u8>, Fail> {
     let mut body = Vec::from_slice(alloc, b"{\"commands\":[\"G28\"")?;
     for _ in 1..count {

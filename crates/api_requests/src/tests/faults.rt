@@ -92,7 +92,7 @@ fn bodies_not_looked_at(rt: HostRuntime) -> Result<(), Fail> {
     Ok(())
 }
 
-// What a JSON body of so many bytes comes to.
+// What a JSON body of this length comes to.
 fn sized_post(alloc: Global, count: usize) -> Result<&'static str, Fail> {
     let mut body = Vec::from_slice(alloc, b"{\"command\":\"start\"}")?;
     for _ in body.len()..count {

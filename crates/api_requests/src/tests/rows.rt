@@ -50,7 +50,7 @@ fn no_entries(rt: HostRuntime) -> Result<(), Fail> {
     come_to(&rt, rt.alloc(), "/api/queue", "BadBody", &bodies)
 }
 
-// Whether a body asks for the user eve with her key and so many groups.
+// Whether a body asks for the user eve with her key and this number of groups.
 fn adds_eve(alloc: Global, body: &str, count: usize, on: bool) -> Result<bool, Fail> {
     let ask = posted(alloc, "/api/access/users", body)??;
     let Request::PutUser {

@@ -36,7 +36,7 @@ fn end_due(rows: &mut [PrintRow], ended: Option<Ending>)
 }
 
 impl HostTables {
-    /// The record of a print that begins, for which there is room.
+    /// The record of a print that begins; the tables have room for it.
     pub fn next_row(&self, user: &Name, file: &Name, commands: usize) -> PrintRow
         requires room { has_room_for self.now.prints ≡ true }
         requires few { commands ≤ most_bytes }
@@ -119,7 +119,7 @@ impl HostTables {
         });
     }
 
-    /// Ends a print, if one has ended. Then the keeper writes the end that isn't written, if there is one. If it can't, the
+    /// Ends a print, if one has ended. Then the keeper writes the end that isn't written, if one is left. If it can't, the
     /// end stays unwritten with that fault.
     pub fn note_end<K: Keeper>(&mut self, keeper: &mut K, ended: Option<Ending>)
         requires { ended ≢ None → self.old.unwritten ≡ None }

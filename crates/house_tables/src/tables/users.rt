@@ -90,7 +90,7 @@ impl HostTables {
         self.set_user_row(keeper, policy, &changed_user(&former, key, groups, active))
     }
 
-    // Puts a row in the place of that of its name; if the keeper can't write it, the former one is put back.
+    // Replaces the row of the same name; if the keeper can't write the new one, the former one is put back.
     fn set_user_row<K: Keeper>(&mut self, keeper: &mut K, policy: &Policy, row: &UserRow) -> Answer
         requires { IsUserTable self.old.users }
         ensures done { (k : Known) → k.policy ≡ policy.now → IsDone

@@ -18,7 +18,7 @@ fn upload(rt: HostRuntime) -> Result<(), Fail> {
     Ok(())
 }
 
-// What is read of the upload byte by byte, where these calls find nothing.
+// What is read of the upload byte by byte, if these calls find nothing.
 fn read_with(alloc: Global, quiet: &[u64]) -> Result<Result<Message, MessageFault>, AllocError> {
     let quiet_at = CallList::from_items(Vec::from_slice(alloc, quiet)?);
     let conn = MemoryConn::new(alloc, UPLOAD, quiet_at, CallList::new(alloc))?;

@@ -39,7 +39,7 @@ fn numbers(settings: &Settings) -> [u64; 6] {
     ]
 }
 
-/// Its ports are so many; this is its material, and these are its whole numbers.
+/// It has this number of ports, this material, and these whole numbers.
 fn assert_values(
     rt: &impl Abort,
     settings: &Settings,
@@ -161,7 +161,7 @@ const SCRIPTS: &str =
 afterPrinterConnected = ['M115']\nbeforePrinterDisconnected = ['M18']\nafterPrintPaused = ['G91']\n\
 beforePrintResumed = ['G90']\nafterPrintCancelled = ['M104 S0']\n";
 
-// Scripts are the commands of their lines; each stands at its point.
+// Scripts are the commands of their lines; each is at its point.
 #[test]
 fn scripts(rt: HostRuntime) -> Result<(), Fail> {
     let scripts = read(rt.alloc(), PRINTER, ADMIN, SCRIPTS)??.scripts;
