@@ -1,5 +1,5 @@
 -- What a print with enough turns reports.
-use Rattle.std.proofs.Common.{◌≡◌, inl, inr, ℕ, List, Option, None, Some, Result, Ok, Err, sym, ◌∙◌, ap, subst}
+use Rattle.std.proofs.Common.{◌≡◌, refl, inl, inr, ℕ, List, Option, None, Some, Result, Ok, Err, sym, ◌∙◌, ap, subst}
 use Rattle.std.specs.Prelude.{IsUtf8}
 use Rattle.std.proofs.lemmas.Option.{same_Some}
 use Rattle.octo_outside.specs.Traits.{Files}
@@ -9,6 +9,7 @@ use Rattle.printer_link.specs.Link.{LinkKind}
 use Rattle.session_print.specs.declared.end.PrintEnd.{PrintEnd}
 use Rattle.octo_settings.specs.Config.{config, plain_settings}
 use Rattle.octo_settings.specs.declared.settings.Settings.{Settings}
+use Rattle.octo_words.specs.Words.{command_of}
 use Rattle.octo_words.specs.declared.command.Command.{Command}
 use Rattle.octo_words.specs.declared.command.Command.TheVariants as command
 use Rattle.octo_report.specs.declared.report.Report.{Report}
@@ -17,7 +18,11 @@ use Rattle.octo_files.specs.Jobs.{job_in}
 use Rattle.octo_files.specs.Reading.{IsHeld, IsTrouble}
 use Rattle.octo_files.specs.Settings.{HaveSettings, settings_or}
 use Rattle.octo_print.specs.Printing.{Seen, HaveJob, Reads, no_settings, no_job, both, Follows, IsRun, reported, over_port}
-use Rattle.octo.specs.Commands.{Comes, out_of_memory, no_command, carried_out, Reports}
+use Rattle.octo.specs.Commands.{Comes, out_of_memory, no_command, carried_out, hosted, hosted_by, Reports, seen_in}
+use Rattle.hand_over.specs.Ends.{HistoryData}
+use Rattle.octo_host.specs.Hosting.{Around}
+use Rattle.octo_host.specs.declared.report.HostReport.{HostReport}
+use Rattle.octo_host.specs.declared.report.HostReport.TheVariants as host
 use Rattle.octo.specs.Enough.{Holds, GiveSettings, HasEnough, IsPrinted}
 
 ok_of : {A : Type 0} → A → Result A Report → A
@@ -97,12 +102,26 @@ module _ (words : List (List ℕ)) (kind : LinkKind) (files : Option Files) (h :
       by_job s job their (job_same files e.file e.bytes e.by.limits e.job job e.held e.its_job (subst L their its)) so
 
   -- a print with enough turns was printed, unless memory ran out
-  pub comes_printed : Comes words kind files h r → IsPrinted e.job r
-  comes_printed (out_of_memory is unused) = inr is
-  comes_printed (no_command is none unused) =
-      let no : None ≡ Some (command.Print e.port e.file e.turns e.settings) = sym none ∙ e.asked in
-      absurd (cc)
-  comes_printed (carried_out asked is reports) =
+  reports_printed : (asked : Command) → command_of words ≡ Some asked → Reports kind files h asked r → IsPrinted e.job r
+  reports_printed asked is reports =
       let R : Command → Type 0 = λ c. Reports kind files h c r in
       let so = subst R (same_Some asked (command.Print e.port e.file e.turns e.settings) (sym is ∙ e.asked)) reports in
       by_reads so.found so.reads so.follows
+
+-- the report of a print that has enough turns
+abbrev pub EndsPrinted : JobData → HostReport → Type 0
+EndsPrinted job r = (plain : Report) × (r ≡ host.Command plain) × IsPrinted job plain
+
+-- what arguments that ask for such a print come to
+pub comes_printed : (words : List (List ℕ)) (files : Option Files) (old new : Around) (r : HostReport) (known : Option HistoryData) (e : HasEnough words old.link.kind files (seen_in old new)) →
+    (r ≡ host.Command report.SourceFailed → ⊥) → Comes words files old new r known → EndsPrinted e.job r
+comes_printed words files old new r known e sure (out_of_memory is unused none) = (report.NoMemory, is, inr refl)
+comes_printed words files old new r known e sure (no_command is none unused unknown) =
+    let no : None ≡ Some (command.Print e.port e.file e.turns e.settings) = sym none ∙ e.asked in
+    absurd (cc)
+comes_printed words files old new r known e sure (carried_out asked plain is r_is reports aside none) =
+    (plain, r_is, reports_printed words old.link.kind files (seen_in old new) plain e (λ failed. sure (r_is ∙ ap (λ (p : Report). host.Command p) failed)) asked is reports)
+comes_printed words files old new r known e sure (hosted asked settings is by hosts) =
+    let same = same_Some asked (command.Print e.port e.file e.turns e.settings) (sym is ∙ e.asked) in
+    let no : None ≡ Some settings = sym (ap hosted_by same) ∙ by in
+    absurd (cc)

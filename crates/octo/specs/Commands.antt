@@ -20,7 +20,14 @@ use Rattle.octo_files.specs.Checks.{check_report}
 use Rattle.octo_files.specs.Measures.{measure_report, IsRestReport}
 use Rattle.octo_files.specs.Reading.{FileGives, IsTrouble}
 use Rattle.octo_files.specs.Settings.{HaveSettings}
-use Rattle.octo_print.specs.Printing.{Seen, IsFilePrint, over_port}
+use Rattle.octo_print.specs.Printing.{Seen, IsFilePrint, over_port, seen_of}
+use Rattle.hand_over.specs.Ends.{HistoryData}
+use Rattle.octo_host.specs.Hosting.{Around, Hosts, HasHostCauses}
+use Rattle.octo_host.specs.Reports.{host_code, host_text}
+use Rattle.octo_host.specs.declared.report.HostReport.{HostReport}
+use Rattle.octo_host.specs.declared.report.HostReport.TheVariants as host
+use Rattle.octo_words.specs.declared.command.WordsFault.{WordsFault}
+use Rattle.octo_words.specs.declared.command.WordsFault.TheVariants as words
 use Rattle.octo_outside.specs.declared.command_line.ArgumentsFault.{ArgumentsFault}
 use Rattle.octo_outside.specs.declared.command_line.ArgumentsFault.TheVariants as arguments
 
@@ -56,7 +63,7 @@ pub record IsSummary (seed commands : ℕ) (r : Report) : Type 0 where
   pub code : code_of r ≡ status_of demo.end
   pub text : text_of r ≡ summary_of seed commands (counts_of demo.link) (status_of demo.end)
 
--- what a command reports; only a print adds to the history
+-- what a command that doesn't serve reports; only a print adds to the history of the link
 abbrev pub Reports : LinkKind → Option Files → Seen → Command → Report → Type 0
 Reports kind files h (command.Print port file turns settings) r =
     IsFilePrint kind files settings file (over_port port turns) h r
@@ -67,25 +74,56 @@ Reports kind files h (command.Measure file) r =
     Given files file r (λ bytes. r ≡ measure_report bytes) × (h.now ≡ h.first)
 Reports kind files h (command.Rest file from) r =
     Given files file r (λ bytes. IsRestReport from bytes r) × (h.now ≡ h.first)
+Reports kind files h (command.Serve address folder database settings) r = ⊥
 
--- what arguments come to: they are no command, or theirs is carried out; or memory runs out before
-pub data Comes (words : List (List ℕ)) (kind : LinkKind) (files : Option Files) (h : Seen) (r : Report) : Type 0 where
-  out_of_memory : r ≡ report.NoMemory → h.now ≡ h.first → Comes words kind files h r
-  no_command : r ≡ report.BadWords → command_of words ≡ None → h.now ≡ h.first → Comes words kind files h r
-  carried_out : (asked : Command) → command_of words ≡ Some asked → Reports kind files h asked r → Comes words kind files h r
+-- the file of settings of a command that serves
+abbrev pub hosted_by : Command → Option (List ℕ)
+hosted_by (command.Serve address folder database settings) = Some settings
+hosted_by asked = None
+
+-- what is seen of the link and the clock of a command
+abbrev pub seen_in : Around → Around → Seen
+seen_in old new = seen_of old.link.past new.link.past old.link.faults new.link.faults new.moment
+
+-- what the other commands leave as it is
+pub record AreAside (old new : Around) : Type 0 where
+  pub keeper : new.keeper ≡ old.keeper
+  pub shelf : new.shelf ≡ old.shelf
+  pub doors : new.doors ≡ old.doors
+
+-- what arguments come to: they are no command, or theirs is carried out, or serves; or memory runs out before
+pub data Comes (words : List (List ℕ)) (files : Option Files) (old new : Around) (r : HostReport) (known : Option HistoryData) : Type 0 where
+  out_of_memory : r ≡ host.Command report.NoMemory → new ≡ old → known ≡ None → Comes words files old new r known
+  no_command : r ≡ host.Command report.BadWords → command_of words ≡ None → new ≡ old → known ≡ None → Comes words files old new r known
+  carried_out : (asked : Command) (plain : Report) → command_of words ≡ Some asked → r ≡ host.Command plain
+      → Reports old.link.kind files (seen_in old new) asked plain → AreAside old new → known ≡ None → Comes words files old new r known
+  hosted : (asked : Command) (settings : List ℕ) → command_of words ≡ Some asked → hosted_by asked ≡ Some settings
+      → Hosts files settings old new r known → Comes words files old new r known
 
 -- a failure is reported only if the object's count rose, and used turns only if the link's calls rose by them
-pub record HasCauses (source source' link link' : ℕ) (calls calls' : Option ℕ) (r : Report) : Type 0 where
+pub record HasPlainCauses (source source' link link' : ℕ) (calls calls' : Option ℕ) (r : Report) : Type 0 where
   pub source_failed : r ≡ report.SourceFailed → Rose source source'
   pub link_failed : r ≡ report.LinkFailed → Rose link link'
   pub turns_used : (turns : ℕ) → r ≡ report.TurnsUsed turns → RoseBy turns calls calls'
 
+-- the same of a command that may serve
+pub record HasCauses (source source' : ℕ) (old new : Around) (r : HostReport) : Type 0 where
+  pub source_failed : r ≡ host.Command report.SourceFailed → Rose source source'
+  pub link_failed : r ≡ host.Command report.LinkFailed → Rose old.link.faults new.link.faults
+  pub turns_used : (turns : ℕ) → r ≡ host.Command (report.TurnsUsed turns) → RoseBy turns old.link.calls new.link.calls
+  pub hosting : HasHostCauses old new r
+
 -- a report was written and its status returned, or the sink failed
-abbrev pub IsWritten : Report → ℕ → Option (List ℕ) → Option (List ℕ) → Type 0
+abbrev pub IsWritten : HostReport → ℕ → Option (List ℕ) → Option (List ℕ) → Type 0
 IsWritten r code old new =
-    ((code ≡ code_of r) × Adds old new (text_of r)) ⊎ ((code ≡ 8) × AddsPrefix old new (text_of r))
+    ((code ≡ host_code r) × Adds old new (host_text r)) ⊎ ((code ≡ 8) × AddsPrefix old new (host_text r))
 
 -- the report on arguments of the program that can't be used
-abbrev pub refused : ArgumentsFault → Report
-refused arguments.NotText = report.BadWords
-refused arguments.NoMemory = report.NoMemory
+abbrev pub refused : ArgumentsFault → HostReport
+refused arguments.NotText = host.Command report.BadWords
+refused arguments.NoMemory = host.Command report.NoMemory
+
+-- and on arguments that are no command
+abbrev pub unread : WordsFault → HostReport
+unread words.BadWords = host.Command report.BadWords
+unread words.NoMemory = host.Command report.NoMemory

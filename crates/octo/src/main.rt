@@ -1,27 +1,39 @@
-//! A print host for one 3D printer: prints a file over a link to the printer, and checks files.
+//! A print host for one 3D printer: prints a file over a link to the printer, checks files, and serves the API of a host.
 #![tactic(auto)]
 
 ghost use Rattle.std.specs.Prelude.{◌≡◌};
 ghost use Rattle.octo.specs.Commands.{refused};
 
 mod demo;
+mod objects;
 mod run;
 #[cfg(test)]
 mod tests;
 
+use objects::{close, objects_of};
+use octo_host::{HostReport, write_host_report};
 use octo_outside::{ArgumentsFault, FileSource, StdSink, SystemClock, arguments};
-use octo_report::{Report, write_report};
+use octo_report::Report;
 use run::octo;
 use socket_link::SocketLink;
+use std::alloc::AllocError;
 use std::process::ExitCode;
 
 // The report on arguments that can't be used.
-fn refused(fault: ArgumentsFault) -> Report
+fn refused(fault: ArgumentsFault) -> HostReport
     ensures { result ≡ refused fault }
 {
-    match fault {
+    HostReport::Command(match fault {
         ArgumentsFault::NotText => Report::BadWords,
         ArgumentsFault::NoMemory => Report::NoMemory,
+    })
+}
+
+// Writes a report, and returns the program's exit status.
+fn end_with(out: &mut StdSink<HostRuntime>, report: &HostReport) -> ExitCode {
+    match write_host_report(out, report) {
+        Ok(()) => ExitCode::from(report.code()),
+        Err(_) => ExitCode::from(8),
     }
 }
 
@@ -29,11 +41,11 @@ fn main(rt: HostRuntime) -> ExitCode {
     let mut out = StdSink::new(rt);
     let words = match arguments(&rt) {
         Ok(words) => words,
-        Err(fault) => {
-            let report = refused(fault);
-            let _ = write_report(&mut out, &report);
-            return ExitCode::from(report.code());
-        }
+        Err(fault) => return end_with(&mut out, &refused(fault)),
+    };
+    let mut objects = match objects_of(&rt, &words) {
+        Ok(objects) => objects,
+        Err(AllocError) => return end_with(&mut out, &HostReport::Command(Report::NoMemory)),
     };
     let mut files = FileSource::new(rt);
     let mut link = SocketLink::new(&rt);
@@ -46,6 +58,10 @@ fn main(rt: HostRuntime) -> ExitCode {
         &mut link,
         &mut out,
         &mut clock,
+        &mut objects.keeper,
+        &mut objects.shelf,
+        &mut objects.doors,
     );
+    close(objects);
     ExitCode::from(status.code)
 }

@@ -1,29 +1,40 @@
 //! The commands of the print host.
-ghost use Rattle.std.specs.Prelude.{◌≡◌, ◌≢◌, ◌⊎◌, ◌≤◌, false};
+ghost use Rattle.std.specs.Prelude.{◌≡◌, ◌≢◌, ◌⊎◌, ◌≤◌, false, None};
 ghost use Rattle.std.specs.Option.{option_map};
 ghost use Rattle.octo_outside.specs.Told.{Rose, Steady};
 ghost use Rattle.octo_words.specs.Words.{IsInRange};
 ghost use Rattle.octo_report.specs.Status.{code_of};
-ghost use Rattle.octo_report.specs.declared.report.Report.{Report};
 ghost use Rattle.octo_report.specs.declared.report.Report.TheVariants as report;
 ghost use Rattle.octo_print.specs.Printing.{seen_of};
-ghost use Rattle.octo.specs.Commands.{Comes, HasCauses, IsCheck, IsWritten, Reports};
+ghost use Rattle.octo_serve.specs.Around.{link_state, keeper_state, shelf_state, door_state};
+ghost use Rattle.octo_host.specs.Hosting.{around};
+ghost use Rattle.octo_host.specs.Reports.{host_code};
+ghost use Rattle.octo_host.specs.declared.report.HostReport.{HostReport};
+ghost use Rattle.octo.specs.Commands.{Comes, HasCauses, HasPlainCauses, IsCheck, IsWritten, Reports, hosted_by, unread};
 ghost use Rattle.octo.specs.Enough.{HasEnough};
 
 use crate::demo::demo;
+use hand_over::History;
+use octo_doors::{Door, Doors};
 use octo_files::{check_file, measure_file, read_settings_of, rest_of_file};
+use octo_host::{HostEnd, HostReport, host, write_host_report};
+use octo_keeper::{Keeper, Shelf};
 use octo_outside::{Clock, Failed, Sink, Source, WordList};
 use octo_print::print_file;
-use octo_report::{Report, write_report};
+use octo_report::Report;
 use octo_words::{Command, FilePath, WordsFault, read_words};
 use printer_link::Link;
 use std::alloc::Global;
+use std::sync::Wait;
+use std::thread::Threads;
 
 /// How a command ended.
-#[derive(Clone, Copy, Debug, PartialEq, Eq)]
+#[derive(Drop)]
 pub struct Status {
     /// The exit status of the program.
     pub code: u8,
+    /// What was asked, answered and noted, exactly if a host served.
+    pub history: Option<History>,
 }
 
 // The name of the settings' file, if one is named.
@@ -53,7 +64,17 @@ fn check<F: Source>(
     }
 }
 
-// Carries out a command.
+// The settings of a command that serves.
+fn hosted_by(command: &Command) -> Option<&str>
+    ensures { option_map (λ s. s.now) result ≡ hosted_by command.now }
+{
+    match command {
+        Command::Serve { settings, .. } => Some(settings.as_str()),
+        _ => None,
+    }
+}
+
+// Carries out a command that doesn't serve.
 fn carry_out<F: Source, L: Link, T: Clock>(
     alloc: Global,
     command: &Command,
@@ -63,10 +84,11 @@ fn carry_out<F: Source, L: Link, T: Clock>(
 ) -> Report
     requires down { L.up link.old ≡ false }
     requires range { IsInRange command.now }
+    requires plain { hosted_by command.now ≡ None }
     ensures reports { Reports (L.kind link.old) (F.files files.old)
         (seen_of (L.past link.old) (L.past link.new)
         (L.faults link.old) (L.faults link.new) (T.moment clock.new)) command.now result }
-    ensures causes { HasCauses (F.faults files.old) (F.faults files.new)
+    ensures causes { HasPlainCauses (F.faults files.old) (F.faults files.new)
         (L.faults link.old) (L.faults link.new) (L.calls link.old) (L.calls link.new) result }
     ensures output { code_of result ≢ 8 }
     ensures kind { L.kind link.new ≡ L.kind link.old }
@@ -95,54 +117,112 @@ fn carry_out<F: Source, L: Link, T: Clock>(
         Command::Rest { file, command } => {
             rest_of_file(alloc, files, file.as_str(), *command as usize)
         }
+        Command::Serve { .. } => unreachable!(),
     }
 }
 
+// Why the arguments give no command.
+fn unread(fault: WordsFault) -> HostEnd
+    ensures { result ≡ record { report = unread fault; history = None } }
+{
+    HostEnd::unserved(HostReport::Command(match fault {
+        WordsFault::BadWords => Report::BadWords,
+        WordsFault::NoMemory => Report::NoMemory,
+    }))
+}
+
 // Carries out the command that the arguments are.
-fn run<F: Source, L: Link, T: Clock>(
+fn run<
+    R: Threads + Wait + Clone + Send + Sync + Drop,
+    F: Source,
+    L: Link,
+    T: Clock,
+    K: Keeper,
+    S: Shelf,
+    D: Door + Send + Drop,
+>(
+    rt: &R,
     alloc: Global,
     words: &WordList,
     files: &mut F,
     link: &mut L,
     clock: &mut T,
-) -> Report
+    keeper: &mut K,
+    shelf: &mut S,
+    doors: &mut Doors<D>,
+) -> HostEnd
     requires { L.up link.old ≡ false }
-    ensures comes { Comes words.now (L.kind link.old) (F.files files.old)
-        (seen_of (L.past link.old) (L.past link.new)
-        (L.faults link.old) (L.faults link.new) (T.moment clock.new)) result }
-    ensures causes { HasCauses (F.faults files.old) (F.faults files.new)
-        (L.faults link.old) (L.faults link.new) (L.calls link.old) (L.calls link.new) result }
-    ensures output { code_of result ≢ 8 }
+    ensures comes { let at = around (link_state L.kind L.past L.calls L.up L.faults) T.moment
+        (keeper_state K.tables K.faults) (shelf_state S.files S.faults)
+        (door_state D.coming D.served D.faults) in
+        Comes words.now (F.files files.old)
+        (at link.old clock.old keeper.old shelf.old doors.old)
+        (at link.new clock.new keeper.new shelf.new doors.new)
+        result.report result.history }
+    ensures causes { let at = around (link_state L.kind L.past L.calls L.up L.faults) T.moment
+        (keeper_state K.tables K.faults) (shelf_state S.files S.faults)
+        (door_state D.coming D.served D.faults) in
+        HasCauses (F.faults files.old) (F.faults files.new)
+        (at link.old clock.old keeper.old shelf.old doors.old)
+        (at link.new clock.new keeper.new shelf.new doors.new) result.report }
+    ensures output { host_code result.report ≢ 8 }
     ensures kind { L.kind link.new ≡ L.kind link.old }
     ensures counted { F.faults files.old ≤ F.faults files.new }
-    ensures link_counted { L.faults link.old ≤ L.faults link.new }
 {
-    match read_words(alloc, words) {
-        Ok(command) => carry_out(alloc, &command, files, link, clock),
-        Err(WordsFault::BadWords) => Report::BadWords,
-        Err(WordsFault::NoMemory) => Report::NoMemory,
+    let command = match read_words(alloc, words) {
+        Ok(command) => command,
+        Err(fault) => return unread(fault),
+    };
+    match hosted_by(&command) {
+        Some(settings) => host(
+            rt, alloc, files, settings, link, clock, keeper, shelf, doors,
+        ),
+        None => {
+            let report = carry_out(alloc, &command, files, link, clock);
+            HostEnd::unserved(HostReport::Command(report))
+        }
     }
 }
 
 /// Carries out the command that the arguments are, without the program's name, and writes its report to `out`: `print`,
-/// `check`, `demo`, `measure` or `rest`, as `octo_words` reads them. The status is the report's, or 8 if the output failed.
-pub fn octo<R, F: Source, L: Link, O: Sink, T: Clock>(
-    _rt: &R,
+/// `check`, `demo`, `measure`, `rest` or `serve`, as `octo_words` reads them. The status is the report's, or 8 if the output
+/// failed.
+///
+/// The keeper, the shelf and the doors are those of `serve`; what it says of the database, the folder and the address was used to
+/// make them. It waits for connections, and for an end that may never come. Every other command returns.
+pub fn octo<
+    R: Threads + Wait + Clone + Send + Sync + Drop,
+    F: Source,
+    L: Link,
+    O: Sink,
+    T: Clock,
+    K: Keeper,
+    S: Shelf,
+    D: Door + Send + Drop,
+>(
+    rt: &R,
     alloc: Global,
     words: &WordList,
     files: &mut F,
     link: &mut L,
     out: &mut O,
     clock: &mut T,
+    keeper: &mut K,
+    shelf: &mut S,
+    doors: &mut Doors<D>,
 ) -> Status
     requires { L.up link.old ≡ false }
 
     // What the arguments come to is written, each failure by its cause.
-    ensures comes { (r : Report) × Comes words.now (L.kind link.old) (F.files files.old)
-        (seen_of (L.past link.old) (L.past link.new)
-        (L.faults link.old) (L.faults link.new) (T.moment clock.new)) r
+    ensures comes { let at = around (link_state L.kind L.past L.calls L.up L.faults) T.moment
+        (keeper_state K.tables K.faults) (shelf_state S.files S.faults)
+        (door_state D.coming D.served D.faults) in
+        (r : HostReport) × Comes words.now (F.files files.old)
+        (at link.old clock.old keeper.old shelf.old doors.old)
+        (at link.new clock.new keeper.new shelf.new doors.new) r result.history
         × HasCauses (F.faults files.old) (F.faults files.new)
-        (L.faults link.old) (L.faults link.new) (L.calls link.old) (L.calls link.new) r
+        (at link.old clock.old keeper.old shelf.old doors.old)
+        (at link.new clock.new keeper.new shelf.new doors.new) r
         × IsWritten r result.code (O.written out.old) (O.written out.new) }
     ensures sink { result.code ≡ 8 → Rose (O.faults out.old) (O.faults out.new) }
 
@@ -159,11 +239,14 @@ pub fn octo<R, F: Source, L: Link, O: Sink, T: Clock>(
     ensures link_counted { L.faults link.old ≤ L.faults link.new }
     ensures sink_counted { O.faults out.old ≤ O.faults out.new }
 {
-    let report = run(alloc, words, files, link, clock);
-    match write_report(out, &report) {
+    let HostEnd { report, history } = run(
+        rt, alloc, words, files, link, clock, keeper, shelf, doors,
+    );
+    match write_host_report(out, &report) {
         Ok(()) => Status {
             code: report.code(),
+            history,
         },
-        Err(Failed) => Status { code: 8 },
+        Err(Failed) => Status { code: 8, history },
     }
 }

@@ -1,6 +1,6 @@
 -- The literal command line of the host: its commands, their operands and their options.
 use Rattle.std.specs.Prelude.{List, [], ◌∷◌, fold, codes, true, Some}
-use Rattle.clap.specs.Words.{App, Rule, Shape, Text, new_app, new_rule, with_rule, with_subcommand}
+use Rattle.clap.specs.Words.{App, Rule, Text, new_app, new_rule, with_rule, with_subcommand}
 use Rattle.clap.specs.declared.builder.action.ArgAction.TheVariants.{Set}
 
 -- an argument that has its place and must be given
@@ -10,6 +10,10 @@ operand id = record (new_rule id) { required = true; action = Some Set }
 -- an option `--id VALUE`, which may be left out
 abbrev pub option : Text → Rule
 option id = record (new_rule id) { long = Some id; action = Some Set }
+
+-- an option `--id VALUE` that must be given
+abbrev pub needed_option : Text → Rule
+needed_option id = record (new_rule id) { long = Some id; required = true; action = Some Set }
 
 -- a command of that name with those arguments
 abbrev pub command_app : Text → List Rule → App
@@ -35,6 +39,10 @@ measure_app = command_app (codes "measure") (operand (codes "file") ∷ [])
 abbrev pub rest_app : App
 rest_app = command_app (codes "rest") (operand (codes "file") ∷ operand (codes "command") ∷ [])
 
+-- `serve ADDRESS FOLDER DATABASE --settings FILE`
+abbrev pub serve_app : App
+serve_app = command_app (codes "serve") (operand (codes "address") ∷ operand (codes "folder") ∷ operand (codes "database") ∷ needed_option (codes "settings") ∷ [])
+
 -- the program without its commands: the arguments come without its name, one command is wanted, and none shows help
 abbrev pub bare_app : App
 bare_app = record (new_app (codes "octo")) {
@@ -57,4 +65,4 @@ printing_app = with_commands bare_app (print_app ∷ check_app ∷ demo_app ∷ 
 
 -- the program with all its commands
 abbrev pub octo_app : App
-octo_app = with_commands printing_app (measure_app ∷ rest_app ∷ [])
+octo_app = with_commands printing_app (measure_app ∷ rest_app ∷ serve_app ∷ [])

@@ -6,7 +6,7 @@ use Rattle.clap.specs.declared.parser.matches.ArgMatches.{ArgMatches}
 use Rattle.byte_text.specs.Number.{whole_number}
 use Rattle.octo_words.specs.Apps.{octo_app}
 use Rattle.octo_words.specs.declared.command.Command.{Command}
-use Rattle.octo_words.specs.declared.command.Command.TheVariants.{Print, Check, Demo, Measure, Rest}
+use Rattle.octo_words.specs.declared.command.Command.TheVariants.{Print, Check, Demo, Measure, Rest, Serve}
 use Rattle.octo_words.specs.declared.command.WordsFault.{WordsFault}
 use Rattle.octo_words.specs.declared.command.WordsFault.TheVariants.{BadWords}
 
@@ -19,13 +19,13 @@ unless (fault ∷ faults) rows = None
 unfoldable pub rows_named : List Text → Option (Text × List Row)
 rows_named words = unless (fault_of octo_app words) (subcommand_of octo_app words)
 
--- whether a text may name a port: 1 to 100 bytes
-abbrev pub is_port : Text → Bool
-is_port text = nat_le 1 (length text) && nat_le (length text) 100
+-- whether a text may name a port, an address, a folder or a database: 1 to 100 bytes
+abbrev pub is_name : Text → Bool
+is_name text = nat_le 1 (length text) && nat_le (length text) 100
 
--- a text as a port
-abbrev pub port_of : Text → Option Text
-port_of text = if is_port text then Some text else None
+-- a text as a name
+abbrev pub name_of : Text → Option Text
+name_of text = if is_name text then Some text else None
 
 -- a number from least to most
 abbrev pub in_range : (least most : ℕ) → ℕ → Option ℕ
@@ -47,7 +47,7 @@ print_of rows =
     Print port file turns (first_of (codes "settings") rows))
     (turns_of (first_of (codes "turns") rows)))
     (first_of (codes "file") rows))
-    (option_and_then port_of (first_of (codes "port") rows))
+    (option_and_then name_of (first_of (codes "port") rows))
 
 -- `check`
 abbrev pub check_of : List Row → Option Command
@@ -71,6 +71,16 @@ rest_of rows =
     (option_and_then (number_of 0 9999999999999) (first_of (codes "command") rows)))
     (first_of (codes "file") rows)
 
+-- `serve`
+abbrev pub serve_of : List Row → Option Command
+serve_of rows =
+    option_and_then (λ address. option_and_then (λ folder. option_and_then (λ database. option_map (λ settings.
+    Serve address folder database settings)
+    (first_of (codes "settings") rows))
+    (option_and_then name_of (first_of (codes "database") rows)))
+    (option_and_then name_of (first_of (codes "folder") rows)))
+    (option_and_then name_of (first_of (codes "address") rows))
+
 -- the command of that name
 abbrev pub command_named : Text → List Row → Option Command
 command_named name rows =
@@ -79,6 +89,7 @@ command_named name rows =
     else if bytes_eq name (codes "demo") then demo_of rows
     else if bytes_eq name (codes "measure") then measure_of rows
     else if bytes_eq name (codes "rest") then rest_of rows
+    else if bytes_eq name (codes "serve") then serve_of rows
     else None
 
 -- the command that arguments are, if they are one

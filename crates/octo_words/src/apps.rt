@@ -2,7 +2,7 @@
 ghost use Rattle.std.specs.Prelude.{◌≡◌, false, true, IfOk};
 ghost use Rattle.clap.specs.Words.{app_of, rule_of};
 ghost use Rattle.clap.specs.declared.builder.command.Command.TheViews.{out-Command};
-ghost use Rattle.octo_words.specs.Apps.{operand, option, print_app, check_app, demo_app, measure_app, rest_app, bare_app, printing_app, octo_app};
+ghost use Rattle.octo_words.specs.Apps.{operand, option, needed_option, print_app, check_app, demo_app, measure_app, rest_app, serve_app, bare_app, printing_app, octo_app};
 
 use clap::{Arg, ArgAction, Command};
 use std::alloc::{AllocError, Global};
@@ -21,6 +21,17 @@ fn option<'a>(alloc: Global, id: &'a str) -> Arg<'a>
     ensures local { result.global ≡ false }
 {
     Arg::new(alloc, id).long(id).action(ArgAction::Set)
+}
+
+// An option `--id VALUE` that must be given.
+fn needed_option<'a>(alloc: Global, id: &'a str) -> Arg<'a>
+    ensures rule { rule_of result ≡ needed_option id.entry.now }
+    ensures local { result.global ≡ false }
+{
+    Arg::new(alloc, id)
+        .long(id)
+        .required(true)
+        .action(ArgAction::Set)
 }
 
 fn print_app<'a>(alloc: Global) -> Result<Command<'a>, AllocError>
@@ -68,6 +79,17 @@ fn rest_app<'a>(alloc: Global) -> Result<Command<'a>, AllocError>
         .arg(operand(alloc, "command"))
 }
 
+fn serve_app<'a>(alloc: Global) -> Result<Command<'a>, AllocError>
+    ensures app { IfOk result (λ c. app_of c ≡ serve_app) }
+    ensures local { IfOk result (λ c. (out-Command c).has_globals ≡ false) }
+{
+    Command::new(alloc, "serve")
+        .arg(operand(alloc, "address"))?
+        .arg(operand(alloc, "folder"))?
+        .arg(operand(alloc, "database"))?
+        .arg(needed_option(alloc, "settings"))
+}
+
 // The program without its commands.
 fn bare_app<'a>(alloc: Global) -> Command<'a>
     ensures app { app_of result ≡ bare_app }
@@ -97,5 +119,6 @@ pub(crate) fn octo_app<'a>(alloc: Global) -> Result<Command<'a>, AllocError>
 {
     printing_app(alloc)?
         .subcommand(measure_app(alloc)?)?
-        .subcommand(rest_app(alloc)?)
+        .subcommand(rest_app(alloc)?)?
+        .subcommand(serve_app(alloc)?)
 }

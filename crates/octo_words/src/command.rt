@@ -68,6 +68,14 @@ pub enum Command {
         file: FilePath,
         command: u64,
     },
+    /// `serve ADDRESS FOLDER DATABASE --settings FILE`: serves the API at an address, over the files of a folder and the tables
+    /// of a database; each of the three has 1 to 100 bytes.
+    Serve {
+        address: Name,
+        folder: Name,
+        database: Name,
+        settings: FilePath,
+    },
 }
 
 /// Why the arguments give no command.

@@ -1,7 +1,7 @@
 //! The operands and options of a command.
 ghost use Rattle.std.specs.Prelude.{◌≡◌, ◌≤◌, option_map, option_and_then, codes, IfOk};
 ghost use Rattle.clap.specs.Words.{first_of, found_of, rows_of};
-ghost use Rattle.octo_words.specs.Words.{Reads, is_port, port_of, in_range, number_of, turns_of};
+ghost use Rattle.octo_words.specs.Words.{Reads, is_name, name_of, in_range, number_of, turns_of};
 
 use crate::command::{FilePath, WordsFault};
 use byte_text::{Name, whole_number};
@@ -50,9 +50,9 @@ pub(crate) fn optional_file_in(
     }
 }
 
-// A text as a port.
-fn port_of(text: &str) -> Option<Name>
-    ensures { result ≡ port_of text.now }
+// A text as a name.
+fn name_of(text: &str) -> Option<Name>
+    ensures { result ≡ name_of text.now }
 {
     if text.is_empty() {
         return None;
@@ -60,12 +60,12 @@ fn port_of(text: &str) -> Option<Name>
     Name::from_text(text)
 }
 
-/// The port.
-pub(crate) fn port_in(found: &ArgMatches<'_>, id: &str) -> Result<Name, WordsFault>
-    ensures { Reads (option_and_then port_of (first_of id.now (rows_of (found_of found.now)))) result }
+/// A name that must be given.
+pub(crate) fn name_in(found: &ArgMatches<'_>, id: &str) -> Result<Name, WordsFault>
+    ensures { Reads (option_and_then name_of (first_of id.now (rows_of (found_of found.now)))) result }
 {
     match text_in(found, id) {
-        Some(text) => port_of(text).ok_or(WordsFault::BadWords),
+        Some(text) => name_of(text).ok_or(WordsFault::BadWords),
         None => Err(WordsFault::BadWords),
     }
 }

@@ -1,10 +1,10 @@
 //! The command that the arguments are.
 ghost use Rattle.std.specs.Prelude.{◌≡◌, map, IfOk};
 ghost use Rattle.clap.specs.Words.{found_of, rows_of};
-ghost use Rattle.octo_words.specs.Words.{IsInRange, Reads, print_of, check_of, demo_of, measure_of, rest_of, command_named, command_of};
+ghost use Rattle.octo_words.specs.Words.{IsInRange, Reads, print_of, check_of, demo_of, measure_of, rest_of, serve_of, command_named, command_of};
 
 use crate::command::{Command, WordsFault};
-use crate::fields::{file_in, number_in, optional_file_in, port_in, turns_in};
+use crate::fields::{file_in, name_in, number_in, optional_file_in, turns_in};
 use crate::parse::{parse, texts_of};
 use clap::ArgMatches;
 use octo_outside::WordList;
@@ -20,7 +20,7 @@ fn read_print(alloc: Global, found: &ArgMatches<'_>) -> Result<Command, WordsFau
     ensures read { Reads (print_of (rows_of (found_of found.now))) result }
     ensures range { IfOk result IsInRange }
 {
-    let port = port_in(found, "port")?;
+    let port = name_in(found, "port")?;
     let file = file_in(alloc, found, "file")?;
     let turns = turns_in(found, "turns")?;
     let settings = optional_file_in(alloc, found, "settings")?;
@@ -70,6 +70,22 @@ fn read_rest(alloc: Global, found: &ArgMatches<'_>) -> Result<Command, WordsFaul
     Ok(Command::Rest { file, command })
 }
 
+fn read_serve(alloc: Global, found: &ArgMatches<'_>) -> Result<Command, WordsFault>
+    ensures read { Reads (serve_of (rows_of (found_of found.now))) result }
+    ensures range { IfOk result IsInRange }
+{
+    let address = name_in(found, "address")?;
+    let folder = name_in(found, "folder")?;
+    let database = name_in(found, "database")?;
+    let settings = file_in(alloc, found, "settings")?;
+    Ok(Command::Serve {
+        address,
+        folder,
+        database,
+        settings,
+    })
+}
+
 // The command of that name.
 fn read_named(alloc: Global, name: &str, found: &ArgMatches<'_>) -> Result<Command, WordsFault>
     ensures read { Reads (command_named name.now (rows_of (found_of found.now))) result }
@@ -81,6 +97,7 @@ fn read_named(alloc: Global, name: &str, found: &ArgMatches<'_>) -> Result<Comma
         "demo" => read_demo(found),
         "measure" => read_measure(alloc, found),
         "rest" => read_rest(alloc, found),
+        "serve" => read_serve(alloc, found),
         _ => Err(WordsFault::BadWords),
     }
 }

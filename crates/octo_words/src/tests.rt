@@ -41,6 +41,18 @@ fn shown(alloc: Global, command: &Command) -> Result<String, Fail> {
         Command::Rest { file, command } => {
             format!(in alloc; "rest {} {command}", file.as_str())?
         }
+        Command::Serve {
+            address,
+            folder,
+            database,
+            settings,
+        } => format!(in alloc;
+            "serve {} {} {} {}",
+            address.as_str(),
+            folder.as_str(),
+            database.as_str(),
+            settings.as_str()
+        )?,
     })
 }
 
@@ -87,6 +99,9 @@ fn options_anywhere(rt: HostRuntime) -> Result<(), Fail> {
         ("check a", "check a none"),
         ("check --settings=s a", "check a s"),
         ("check a --settings s", "check a s"),
+        ("serve a f d --settings s", "serve a f d s"),
+        ("serve --settings=s a f d", "serve a f d s"),
+        ("serve a f --settings s d", "serve a f d s"),
     ];
     reads(&rt, rt.alloc(), rows.as_slice())
 }
@@ -104,6 +119,9 @@ fn hyphens_taken(rt: HostRuntime) -> Result<(), Fail> {
         ("print help help", "print help help 1000000000 none"),
         ("print p a --settings=", "print p a 1000000000 "),
         ("print p ", "print p  1000000000 none"),
+        ("serve - f d --settings=-s", "serve - f d -s"),
+        ("serve --settings s -- -a -f -d", "serve -a -f -d s"),
+        ("serve a f d --settings=", "serve a f d "),
     ];
     reads(&rt, rt.alloc(), rows.as_slice())
 }
@@ -161,6 +179,12 @@ fn options_refused(rt: HostRuntime) -> Result<(), Fail> {
         "check a --turns 5",
         "demo 1 -5",
         "measure a --settings s",
+        "serve a f d",
+        "serve a f d --settings",
+        "serve a f d --settings -s",
+        "serve a f d --settings s --settings s",
+        "serve a f d --settings s --turns 5",
+        "--settings s serve a f d",
     ];
     refuses(&rt, rt.alloc(), lines.as_slice())
 }
@@ -178,6 +202,12 @@ fn operands_refused(rt: HostRuntime) -> Result<(), Fail> {
         "demo 1 2 3",
         "measure",
         "rest a",
+        "serve",
+        "serve a f --settings s",
+        "serve a f d e --settings s",
+        "serve  f d --settings s",
+        "serve a  d --settings s",
+        "serve a f  --settings s",
         "-- print p a",
         "print -- p a --turns=5",
         "Print p a",
@@ -192,13 +222,24 @@ fn operands_refused(rt: HostRuntime) -> Result<(), Fail> {
     refuses(&rt, rt.alloc(), lines.as_slice())
 }
 
-// A port of 100 bytes is taken, and one of 101 isn't.
+// A name of 100 bytes is taken, and one of 101 isn't.
 #[test]
-fn long_ports(rt: HostRuntime) -> Result<(), Fail> {
+fn long_names(rt: HostRuntime) -> Result<(), Fail> {
     let alloc = rt.alloc();
-    let port = "0123456789".repeat(alloc, 10)?;
-    let line = format!(in alloc; "print {port} a")?;
-    assert!(rt; read(alloc, line.as_str())?.is_ok());
-    let line = format!(in alloc; "print {port}x a")?;
-    refuses(&rt, alloc, &[line.as_str()])
+    let name = "0123456789".repeat(alloc, 10)?;
+    for line in [
+        format!(in alloc; "print {name} a")?,
+        format!(in alloc; "serve {name} {name} {name} --settings s")?,
+    ] {
+        assert!(rt; read(alloc, line.as_str())?.is_ok());
+    }
+    for line in [
+        format!(in alloc; "print {name}x a")?,
+        format!(in alloc; "serve {name}x f d --settings s")?,
+        format!(in alloc; "serve a {name}x d --settings s")?,
+        format!(in alloc; "serve a f {name}x --settings s")?,
+    ] {
+        refuses(&rt, alloc, &[line.as_str()])?;
+    }
+    Ok(())
 }

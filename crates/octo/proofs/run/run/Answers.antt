@@ -1,5 +1,26 @@
-use Rattle.octo.specs.Commands.{carried_out}
+use Rattle.std.proofs.Common.{◌≡◌, refl, sym, ap, true, false}
+use Rattle.octo_host.specs.declared.hosting.HostEnd.{HostEnd}
+use Rattle.octo_report.specs.declared.report.Report.TheVariants as report
+use Rattle.octo.specs.Commands.{carried_out, hosted}
+use Rattle.octo.proofs.Refusals.{other_host}
 use Rattle.octo.proofs.run.run.Goals as goal
 
-pub returns-in-Ok-clause-comes : goal.returns-in-Ok-clause-comes
-returns-in-Ok-clause-comes g c = carried_out c.in-Ok.command c.in-Ok.ensures.read c.carry_out.ensures.reports
+pub returns-in-Some-clause-comes : goal.returns-in-Some-clause-comes
+returns-in-Some-clause-comes g c =
+    hosted c.in-Ok.command c.in-Some.settings.now c.in-Ok.ensures.read (sym c.in-Some.ensures) c.host.ensures.hosts
+
+pub returns-in-Some-clause-causes : goal.returns-in-Some-clause-causes
+returns-in-Some-clause-causes g c = record {
+  source_failed = c.host.ensures.source_failed;
+  link_failed = λ is. let no : false ≡ true = c.host.ensures.refusal report.LinkFailed is in absurd (cc);
+  turns_used = λ turns is. let no : false ≡ true = c.host.ensures.refusal (report.TurnsUsed turns) is in absurd (cc);
+  hosting = c.host.ensures.causes;
+}
+
+pub returns-in-Some-clause-output : goal.returns-in-Some-clause-output
+returns-in-Some-clause-output g c = other_host c.host.result.report c.host.ensures.refusal
+
+pub returns-clause-comes : goal.returns-clause-comes
+returns-clause-comes g c =
+    carried_out c.in-Ok.command c.carry_out-report.result c.in-Ok.ensures.read (ap (λ (h : HostEnd). h.report) c.unserved.ensures)
+    c.carry_out-report.ensures.reports (record { keeper = refl; shelf = refl; doors = refl }) (ap (λ (h : HostEnd). h.history) c.unserved.ensures)

@@ -2,7 +2,6 @@ use Rattle.std.proofs.Common.{◌≡◌, ◌∙◌, ℕ, List, [], map, ap, sym,
 use Rattle.std.specs.Borrow.{Bor}
 use Rattle.clap.specs.Words.{App, HasKind, fault_of, is_simple, is_simple_and_free, subcommand_of}
 use Rattle.clap.specs.declared.error.kind.ErrorKind.TheVariants.{OutOfMemory}
-use Rattle.octo_words.specs.Apps.{octo_app}
 use Rattle.octo_words.proofs.Parsed.{octo_is_free, octo_is_simple, rows_with_fault, rows_without_fault}
 use Rattle.octo_words.proofs.parse.parse.Goals as goal
 

@@ -1,0 +1,4 @@
+pub mod Beginning
+pub mod Hosting
+pub mod Opened
+pub mod Reports

@@ -1,0 +1,40 @@
+-- The exit status and the text of each report.
+use Rattle.std.specs.Prelude.{ℕ, Bool, true, false, List, ◌++◌, codes, decimal}
+use Rattle.octo_house.specs.declared.faults.BeginFault.{BeginFault}
+use Rattle.octo_house.specs.declared.faults.BeginFault.TheVariants as begin
+use Rattle.octo_report.specs.declared.report.Report.TheVariants as report
+use Rattle.octo_report.specs.Status.{code_of}
+use Rattle.octo_report.specs.Texts.{text_of}
+use Rattle.octo_host.specs.declared.report.HostReport.{HostReport}
+use Rattle.octo_host.specs.declared.report.HostReport.TheVariants as host
+
+-- the exit status
+abbrev pub host_code : HostReport → ℕ
+host_code (host.Served calls) = 0
+host_code (host.DoorFailed calls) = 12
+host_code host.KeeperFailed = 9
+host_code host.ShelfFailed = 9
+host_code (host.Command report) = code_of report
+
+-- how many calls were served
+abbrev pub calls_text : ℕ → List ℕ
+calls_text calls = codes "served " ++ decimal calls ++ codes " calls\n"
+
+-- the printed text
+abbrev pub host_text : HostReport → List ℕ
+host_text (host.Served calls) = calls_text calls
+host_text (host.DoorFailed calls) = calls_text calls ++ codes "door failed\n"
+host_text host.KeeperFailed = codes "keeper failed\n"
+host_text host.ShelfFailed = codes "shelf failed\n"
+host_text (host.Command report) = text_of report
+
+-- why a host didn't begin
+abbrev pub refused : BeginFault → HostReport
+refused begin.KeeperFailed = host.KeeperFailed
+refused begin.ShelfFailed = host.ShelfFailed
+refused begin.NoMemory = host.Command report.NoMemory
+
+-- what is reported of a host that has served
+abbrev pub reported : ℕ → Bool → HostReport
+reported calls true = host.Served calls
+reported calls false = host.DoorFailed calls

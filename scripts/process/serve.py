@@ -1,0 +1,268 @@
+"""Checks of `octo serve` over whole processes; see serve.sh."""
+
+import os
+import shutil
+import socket
+import subprocess
+import sys
+import tempfile
+import threading
+import time
+
+from serving import LIMIT, Host, Printer, form, message
+
+failed = False
+LAYER = b"".join(b"G1 X%d Y%d E%d.5 ; move\n" % (n % 200, n * 7 % 200, n) for n in range(200))
+
+
+def commands(content):
+    """A file's commands as the printer gets them."""
+    texts = []
+    for line in content.split(b"\n"):
+        text = line.split(b";")[0].split(b"*")[0].strip(b" \t\r")
+        if text:
+            texts.append(text.decode())
+    return texts
+
+
+def check(name, found, wanted):
+    global failed
+    if found == wanted:
+        print("ok: " + name, flush=True)
+    else:
+        print("failed: %s: %r, wanted %r" % (name, found, wanted), flush=True)
+        failed = True
+
+
+def slicer_upload(folder):
+    """As PrusaSlicer sends it: the key as a field of the head, `print` and `path` before the file, the file with a type of its own."""
+    printer = Printer(folder)
+    host = Host(folder, printer.port).start()
+    try:
+        host.connect()
+        body, kind = form([("print", None, b"true"), ("path", None, b""), ("file", "../slices/cube 1.gcode", LAYER)])
+        reply = host.ask("POST", "/api/files/local", body, kind, ("User-Agent: PrusaSlicer/2.7", "Accept: */*", "Expect: 100-continue"))
+        check("a slicer's upload", (reply.status, reply.json().get("effectivePrint")), (201, True))
+        host.until_state("Operational")
+        prints = host.ask("GET", "/api/prints").json()["prints"]
+        check("its print", [(p["file"], p["outcome"], p["commands"]) for p in prints], [("cube_1.gcode", "Done", 200)])
+        check("its file", open(os.path.join(host.files, "cube_1.gcode"), "rb").read() == LAYER, True)
+        status, text = host.shut_down()
+        check("the end of the host", (status, text.startswith(b"served ")), (0, True))
+        check("what the printer executed", printer.end() == commands(LAYER), True)
+    finally:
+        host.kill()
+        printer.kill()
+
+
+def silent_peers(folder):
+    """Connections that send nothing keep a worker each until its patience ends: with three of them others are answered at once, with
+    four after that."""
+    host = Host(folder, 9, "[serve]\npatience = 300\n").start()
+    silent = []
+    try:
+        for count in (3, 4):
+            while len(silent) < count:
+                silent.append(socket.create_connection(("127.0.0.1", host.port), timeout=LIMIT))
+                time.sleep(0.05)
+            began = time.monotonic()
+            status = host.ask("GET", "/api/version").status
+            taken = time.monotonic() - began
+            check("a request beside %d silent connections" % count, (status, taken < (1 if count == 3 else 10)), (200, True))
+        replies = []
+        for conn in silent:
+            conn.settimeout(LIMIT)
+            replies.append(conn.recv(4096).split(b"\r\n")[0].split(b" ")[1:2])
+            conn.close()
+        check("the silent connections", replies, [[b"408"]] * 4)
+        check("the end after them", host.shut_down()[0], 0)
+    finally:
+        host.kill()
+
+
+def vanishing_peers(folder):
+    """A peer that closes in mid-request, at once or by a reset, leaves the host as it was."""
+    host = Host(folder, 9).start()
+    try:
+        body, kind = form([("file", "a.gcode", LAYER)])
+        whole = message("POST", "/api/files/local", host.key, body, kind)
+        for place in (0, 1, 20, whole.index(b"\r\n\r\n") + 2, whole.index(b"\r\n\r\n") + 4, len(whole) - 200, len(whole) - 1):
+            for reset in (False, True):
+                conn = socket.create_connection(("127.0.0.1", host.port), timeout=LIMIT)
+                conn.sendall(whole[:place])
+                if reset:
+                    conn.setsockopt(socket.SOL_SOCKET, socket.SO_LINGER, b"\x01\0\0\0\0\0\0\0")
+                conn.close()
+        check("files after peers that vanished", host.ask("GET", "/api/files").json(), {"files": []})
+        # Four at once: a peer that closes frees its worker.
+        for _ in range(4):
+            conn = socket.create_connection(("127.0.0.1", host.port), timeout=LIMIT)
+            conn.sendall(whole[:30])
+            conn.close()
+        began = time.monotonic()
+        status = host.ask("GET", "/api/version").status
+        check("a request after them", (status, time.monotonic() - began < 1), (200, True))
+        check("the end after them", host.shut_down()[0], 0)
+    finally:
+        host.kill()
+
+
+def many_requests(folder):
+    """No descriptor is lost in 1,000 requests, a fifth of which are refused."""
+    host = Host(folder, 9).start()
+    try:
+        kinds = [("GET", "/api/version", 200), ("GET", "/api/job", 200), ("GET", "/api/files/local/none.gcode", 404),
+                 ("GET", "/api/connection", 200), ("GET", "/api/prints", 200)]
+        for method, path, _ in kinds:
+            host.ask(method, path)
+        before = host.descriptors()
+        wrong = 0
+        for number in range(1000):
+            method, path, status = kinds[number % len(kinds)]
+            wrong += host.ask(method, path).status != status
+        check("1,000 requests", wrong, 0)
+        # A connection is closed in order, which may take a moment after its reply.
+        end = time.monotonic() + 10
+        while host.descriptors() != before and time.monotonic() < end:
+            time.sleep(0.05)
+        check("descriptors after them", host.descriptors(), before)
+        status, text = host.shut_down()
+        check("the calls counted", (status, text), (0, b"served %d calls\n" % (1000 + len(kinds) + 1)))
+    finally:
+        host.kill()
+
+
+def killed_print(folder, after):
+    """Kills the host some time after a print began. Begun again it finds its tables, its files whole, and the print as Failed, or as Done
+    if it was over."""
+    printer = Printer(folder)
+    host = Host(folder, printer.port).start()
+    long = LAYER * 200
+    other = LAYER * 100
+    try:
+        host.connect()
+        check("an upload before the kill", host.upload("long.gcode", long, True).status, 201)
+        threading.Thread(target=lambda: quiet(lambda: host.upload("other.gcode", other)), daemon=True).start()
+        time.sleep(after)
+        host.kill()
+        executed = printer.end()
+        wanted = commands(long)
+        check("what the printer executed of a print killed after %.2f s" % after, executed == wanted[:len(executed)], True)
+        new = Printer(folder)
+        host.set_printer(new.port)
+        host.start()
+        prints = host.ask("GET", "/api/prints").json()["prints"]
+        outcomes = [p["outcome"] for p in prints]
+        check("its record", outcomes == ["Failed"] or (outcomes == ["Done"] and executed == wanted), True)
+        files = {f["name"]: f["size"] for f in host.ask("GET", "/api/files").json()["files"]}
+        whole = {"long.gcode": len(long), "other.gcode": len(other)}
+        check("the files' sizes", "long.gcode" in files and all(whole[name] == size for name, size in files.items()), True)
+        for name, content in (("long.gcode", long), ("other.gcode", other)):
+            if name in files:
+                check("the whole file %s" % name, host.ask("GET", "/downloads/files/local/" + name).body == content, True)
+        host.connect()
+        small = LAYER
+        check("an upload after it", host.upload("small.gcode", small, True).status, 201)
+        host.until_state("Operational")
+        check("the end after it", host.shut_down()[0], 0)
+        check("the next print", new.end() == commands(small), True)
+        new.kill()
+    finally:
+        host.kill()
+        printer.kill()
+
+
+def quiet(work):
+    try:
+        work()
+    except OSError:
+        pass  # the host was killed
+
+
+def install_sqlite3():
+    if shutil.which("sqlite3"):
+        return
+    subprocess.run(["apt-get", "install", "-y", "sqlite3"], stdout=subprocess.DEVNULL, stderr=subprocess.DEVNULL)
+    if not shutil.which("sqlite3"):
+        subprocess.run(["apt-get", "update"], stdout=subprocess.DEVNULL, stderr=subprocess.DEVNULL)
+        subprocess.run(["apt-get", "install", "-y", "sqlite3"], stdout=subprocess.DEVNULL, stderr=subprocess.DEVNULL)
+
+
+def tables(folder):
+    """What the host kept, as the stock sqlite3 reads it, and while the host runs that it is locked."""
+    install_sqlite3()
+    printer = Printer(folder)
+    host = Host(folder, printer.port).start()
+
+    def sqlite(statement):
+        run = subprocess.run(["sqlite3", host.database, statement], capture_output=True, timeout=LIMIT)
+        return run.stdout.decode()
+
+    try:
+        host.connect()
+        ana = {"name": "ana", "key": "anakey0000000001", "groups": ["users"]}
+        check("a user", host.post("/api/access/users", ana).status, 201)
+        check("an upload", host.upload("a.gcode", LAYER, True).status, 201)
+        host.until_state("Operational")
+        check("an entry", host.post("/api/queue", {"name": "job-1", "file": "a.gcode", "priority": 5}).status, 201)
+        check("sqlite3 while the host runs", sqlite("SELECT count(*) FROM prints;"), "")
+        check("the end", host.shut_down()[0], 0)
+        printer.end()
+        check("the database", sqlite("PRAGMA integrity_check; SELECT schema FROM meta;"), "ok\n2\n")
+        check("its users", sqlite("SELECT name, length(digest), groups, active FROM users;"), "ana|32|users|1\n")
+        check("its entries", sqlite("SELECT user, name, file, priority FROM entries;"), "root|job-1|a.gcode|5\n")
+        check("its prints", sqlite("SELECT number, user, file, commands, outcome FROM prints;"), "1|root|a.gcode|200|1\n")
+        host.start()
+        check("the user again", [u["name"] for u in host.ask("GET", "/api/access/users").json()["users"]], ["ana"])
+        words = [host.program, "serve", "127.0.0.1:9", host.files, host.database, "--settings", host.settings]
+        run = subprocess.run(words, capture_output=True, timeout=LIMIT)
+        check("a second host on the same database", (run.returncode, run.stdout), (9, b"keeper failed\n"))
+        check("the end again", host.shut_down()[0], 0)
+    finally:
+        host.kill()
+        printer.kill()
+
+
+def refusals(folder):
+    """What keeps a host from serving: its settings, its folder, its address."""
+    host = Host(folder, 9)
+    words = [host.program, "serve", "127.0.0.1:%d" % free_and_taken().getsockname()[1], host.files, host.database, "--settings", host.settings]
+
+    def status(words):
+        run = subprocess.run(words, capture_output=True, timeout=LIMIT)
+        return run.returncode, run.stdout
+
+    check("an address in use", status(words), (12, b"served 0 calls\ndoor failed\n"))
+    check("no such folder", status(words[:3] + [os.path.join(folder, "none")] + words[4:]), (9, b"shelf failed\n"))
+    check("a database that is none", status(words[:4] + [host.settings] + words[5:]), (9, b"keeper failed\n"))
+    check("no such settings", status(words[:-1] + [os.path.join(folder, "none")]), (4, b"source failed\n"))
+    with open(host.settings, "a") as out:
+        out.write("[printer]\n")
+    check("settings that are refused", status(words), (7, b"settings: not toml\n"))
+    check("serve without settings", status(words[:-2]), (2, b"octo: bad words\n"))
+
+
+taken = []
+
+
+def free_and_taken():
+    """A listener, which keeps its port from others."""
+    listener = socket.create_server(("127.0.0.1", 0))
+    taken.append(listener)
+    return listener
+
+
+def main():
+    checks = [slicer_upload, silent_peers, vanishing_peers, many_requests, tables, refusals]
+    checks += [lambda folder, after=after: killed_print(folder, after) for after in (0, 0.02, 0.1, 0.3, 0.7)]
+    for work in checks:
+        with tempfile.TemporaryDirectory() as folder:
+            try:
+                work(folder)
+            except (OSError, KeyError, ValueError, subprocess.TimeoutExpired, SystemExit) as fault:
+                check("a check without a fault of its own", repr(fault), "")
+    sys.exit(1 if failed else 0)
+
+
+if __name__ == "__main__":
+    main()
