@@ -1,5 +1,5 @@
 -- How an object of the outside tells what it holds or did, and how its count of faults moves.
-use Rattle.std.specs.Prelude.{◌≡◌, ℕ, ◌<◌, List, ◌++◌, Option, Some, take}
+use Rattle.std.specs.Prelude.{◌≡◌, ℕ, ◌<◌, ◌≤◌, List, ◌++◌, Option, Some, take}
 
 -- told afterwards: it was told before, and grew by an addition of this kind
 abbrev pub Became : {A : Type 0} → Option (List A) → Option (List A) → (List A → List A → Type 0) → Type 0
@@ -16,6 +16,13 @@ AddsPrefix old new list = Became old new (λ _ added. (n : ℕ) × (added ≡ ta
 -- a count of faults rose, or stands at its type's last value
 abbrev pub Rose : ℕ → ℕ → Type 0
 Rose before now = before < 18446744073709551615 → before < now
+
+-- the count of an object's faults after a call, which failed in this case
+pub record Counts (Failed : Type 0) (old new : ℕ) : Type 0 where
+  -- it didn't fall
+  pub later : old ≤ new
+  -- and if the call failed, it rose
+  pub rose : Failed → Rose old new
 
 -- a count of faults didn't rise, and would have shown it
 pub record Steady (before now : ℕ) : Type 0 where

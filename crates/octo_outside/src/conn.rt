@@ -1,6 +1,6 @@
 //! A connection to a peer.
-ghost use Rattle.std.specs.Prelude.{◌≡◌, ℕ, ◌<◌, ◌≤◌, List, [], ◌++◌, ◌-◌, Option, Some, length, take, IfOk, OnOk, OnErr, IfSome};
-ghost use Rattle.octo_outside.specs.Told.{Adds, AddsPrefix, Rose};
+ghost use Rattle.std.specs.Prelude.{◌≡◌, ℕ, ◌<◌, ◌≤◌, List, [], ◌++◌, ◌-◌, Option, Some, length, take, IfOk, OnOk, OnErr, IsErr, IfSome};
+ghost use Rattle.octo_outside.specs.Told.{Adds, AddsPrefix, Counts};
 ghost use Rattle.octo_outside.specs.Traits.{Receives, IsWithin, quiets_after};
 
 use crate::Failed;
@@ -40,8 +40,7 @@ pub trait Conn {
         ensures quiet { IfOk result (λ got. quiets self.new ≡ quiets_after (quiets self.old) got) }
         ensures quiet_err { OnErr result (quiets self.new ≡ quiets self.old) }
         ensures quiets_counted { quiets self.old ≤ quiets self.new }
-        ensures counted { faults self.old ≤ faults self.new }
-        ensures failed { OnErr result (Rose (faults self.old) (faults self.new)) };
+        ensures counts { Counts (IsErr result) (faults self.old) (faults self.new) };
 
     /// Writes 1 to all of the bytes, a prefix.
     fn write(&mut self, bytes: &[u8]) -> Result<usize, Failed>
@@ -50,8 +49,7 @@ pub trait Conn {
         ensures err { OnErr result (Adds (written self.old) (written self.new) []) }
         ensures left { left self.new ≡ left self.old }
         ensures quiets { quiets self.new ≡ quiets self.old }
-        ensures counted { faults self.old ≤ faults self.new }
-        ensures failed { OnErr result (Rose (faults self.old) (faults self.new)) };
+        ensures counts { Counts (IsErr result) (faults self.old) (faults self.new) };
 }
 
 /// Writes all the bytes; after a failed call a prefix of them was written. What is left to read stays.
@@ -60,8 +58,7 @@ pub fn send_all<C: Conn>(conn: &mut C, bytes: &[u8]) -> Result<(), Failed>
     ensures err { OnErr result (AddsPrefix (C.written conn.old) (C.written conn.new) bytes.now) }
     ensures left { C.left conn.new ≡ C.left conn.old }
     ensures quiets { C.quiets conn.new ≡ C.quiets conn.old }
-    ensures counted { C.faults conn.old ≤ C.faults conn.new }
-    ensures failed { OnErr result (Rose (C.faults conn.old) (C.faults conn.new)) }
+    ensures counts { Counts (IsErr result) (C.faults conn.old) (C.faults conn.new) }
 {
     let mut done = 0;
     while done < bytes.len() {

@@ -28,7 +28,6 @@ impl Model for MemoryConn {
 
 impl MemoryConn {
     ghost use Rattle.std.specs.Prelude.{◌≡◌, ◌<◌, ◌≤◌, [], ◌++◌, Some, IfOk, drop, length, min, take};
-    ghost use Rattle.octo_outside.specs.Told.{Rose};
     ghost use Rattle.octo_outside.specs.Memory.{ConnData, one_more, is_listed};
 
     /// A connection with this input. Of its calls, counted from 1, those of `fail_at` fail, and those of `quiet_at` find
@@ -113,7 +112,7 @@ impl MemoryConn {
 
 impl Conn for MemoryConn {
     ghost use Rattle.std.specs.Prelude.{◌≡◌, ◌<◌, ◌≤◌, ◌↔◌, ◌++◌, [], Some, true, false, length, min, take, IfOk, OnOk, OnErr, IsErr, IsTrue};
-    ghost use Rattle.octo_outside.specs.Told.{Adds, Rose};
+    ghost use Rattle.octo_outside.specs.Told.{Adds, Counts};
     ghost use Rattle.octo_outside.specs.Traits.{Receives, IsWithin, quiets_after};
     ghost use Rattle.octo_outside.specs.Memory.{ConnData, next_got, after_got, one_more, is_listed};
 
@@ -138,8 +137,7 @@ impl Conn for MemoryConn {
         ensures quiet { IfOk result (λ got. self.new.quiets ≡ quiets_after self.old.quiets got) }
         ensures quiet_err { OnErr result (self.new.quiets ≡ self.old.quiets) }
         ensures quiets_counted { self.old.quiets ≤ self.new.quiets }
-        ensures counted { self.old.faults ≤ self.new.faults }
-        ensures failed { OnErr result (Rose self.old.faults self.new.faults) }
+        ensures counts { Counts (IsErr result) self.old.faults self.new.faults }
     {
         if self.calls.begin() {
             self.calls.fail();
@@ -165,8 +163,7 @@ impl Conn for MemoryConn {
         ensures err { OnErr result (Adds (Some self.old.written) (Some self.new.written) []) }
         ensures left { self.new.left ≡ self.old.left }
         ensures quiets { self.new.quiets ≡ self.old.quiets }
-        ensures counted { self.old.faults ≤ self.new.faults }
-        ensures failed { OnErr result (Rose self.old.faults self.new.faults) }
+        ensures counts { Counts (IsErr result) self.old.faults self.new.faults }
     {
         if self.calls.begin() || self.written.append(bytes).is_err() {
             self.calls.fail();

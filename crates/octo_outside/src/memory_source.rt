@@ -49,7 +49,6 @@ fn place_of(files: &[MemoryFile], name: &str) -> Option<usize>
 
 impl MemorySource {
     ghost use Rattle.std.specs.Prelude.{◌≡◌, ◌≤◌, [], ◌∷◌, OnOk, OnErr, drop, length};
-    ghost use Rattle.octo_outside.specs.Told.{Rose};
     ghost use Rattle.octo_outside.specs.Memory.{SourceData, one_more, is_listed, bytes_at};
 
     /// A source without files whose calls with these numbers, from 1, fail; takes no memory.
@@ -121,7 +120,7 @@ impl MemorySource {
 
 impl Source for MemorySource {
     ghost use Rattle.std.specs.Prelude.{◌≡◌, ◌<◌, ◌≤◌, ◌⊎◌, ◌↔◌, [], Some, None, true, length, min, IfOk, OnOk, OnErr, IsErr, unwrap_or};
-    ghost use Rattle.octo_outside.specs.Told.{Rose};
+    ghost use Rattle.octo_outside.specs.Told.{Counts};
     ghost use Rattle.octo_outside.specs.Traits.{Begins, Reads};
     ghost use Rattle.octo_outside.specs.Memory.{SourceData, held, one_more, is_listed};
 
@@ -138,8 +137,7 @@ impl Source for MemorySource {
         ensures ok { OnOk result (Begins (held self.old.files) name.now (Some self.new.left)) }
         ensures err { OnErr result (self.new.left ≡ []) }
         ensures files { self.new.files ≡ self.old.files }
-        ensures counted { self.old.faults ≤ self.new.faults }
-        ensures failed { OnErr result (Rose self.old.faults self.new.faults) }
+        ensures counts { Counts (IsErr result) self.old.faults self.new.faults }
     {
         if !self.calls.begin()
             && let Some(place) = place_of(&self.files, name)
@@ -160,8 +158,7 @@ impl Source for MemorySource {
         ensures bound { IfOk result (λ n. n ≤ length into.new) }
         ensures err { OnErr result (self.new.left ≡ self.old.left) }
         ensures files { self.new.files ≡ self.old.files }
-        ensures counted { self.old.faults ≤ self.new.faults }
-        ensures failed { OnErr result (Rose self.old.faults self.new.faults) }
+        ensures counts { Counts (IsErr result) self.old.faults self.new.faults }
     {
         if self.calls.begin() {
             self.calls.fail();

@@ -1,6 +1,6 @@
 //! Where bytes are written.
 ghost use Rattle.std.specs.Prelude.{◌≡◌, ℕ, ◌+◌, ◌<◌, ◌≤◌, List, [], ◌∷◌, ◌++◌, Option, Some, None, true, length, take, IfOk, OnOk, OnErr, IsErr, IsTrue, MatchResult, ◌↔◌};
-ghost use Rattle.octo_outside.specs.Told.{Became, Adds, AddsPrefix, Rose};
+ghost use Rattle.octo_outside.specs.Told.{Became, Adds, AddsPrefix, Counts};
 ghost use Rattle.octo_outside.specs.Memory.{SinkData, one_more, is_listed};
 
 use crate::{Blob, CallList, Calls, Failed};
@@ -22,16 +22,14 @@ pub trait Sink {
         ensures ok { IfOk result (λ n. Adds (written self.old) (written self.new) (take n bytes.now)) }
         ensures some { IfOk result (λ n. (0 < n) × (n ≤ length bytes.now)) }
         ensures err { OnErr result (Adds (written self.old) (written self.new) []) }
-        ensures counted { faults self.old ≤ faults self.new }
-        ensures failed { OnErr result (Rose (faults self.old) (faults self.new)) };
+        ensures counts { Counts (IsErr result) (faults self.old) (faults self.new) };
 }
 
 /// Writes all the bytes; after a failed call a prefix of them was written.
 pub fn write_all<S: Sink>(sink: &mut S, bytes: &[u8]) -> Result<(), Failed>
     ensures ok { OnOk result (Adds (S.written sink.old) (S.written sink.new) bytes.now) }
     ensures err { OnErr result (AddsPrefix (S.written sink.old) (S.written sink.new) bytes.now) }
-    ensures counted { S.faults sink.old ≤ S.faults sink.new }
-    ensures failed { OnErr result (Rose (S.faults sink.old) (S.faults sink.new)) }
+    ensures counts { Counts (IsErr result) (S.faults sink.old) (S.faults sink.new) }
 {
     let mut done = 0;
     while done < bytes.len() {
@@ -86,8 +84,7 @@ impl Sink for MemorySink {
         ensures ok { IfOk result (λ n. Adds (Some self.old.written) (Some self.new.written) (take n bytes.now)) }
         ensures some { IfOk result (λ n. (0 < n) × (n ≤ length bytes.now)) }
         ensures err { OnErr result (Adds (Some self.old.written) (Some self.new.written) []) }
-        ensures counted { self.old.faults ≤ self.new.faults }
-        ensures failed { OnErr result (Rose self.old.faults self.new.faults) }
+        ensures counts { Counts (IsErr result) self.old.faults self.new.faults }
     {
         if self.calls.begin() || self.written.append(bytes).is_err() {
             self.calls.fail();
