@@ -1,6 +1,6 @@
 //! A turn of a session, with what holds of it whatever the line does.
 ghost use Rattle.std.specs.Prelude.{◌≡◌, ◌⊎◌, ◌↔◌, ◌≤◌, ℕ, List, [], true, false, None, IfSome};
-ghost use Rattle.octo_outside.specs.Told.{Rose};
+ghost use Rattle.octo_outside.specs.Told.{Counts};
 ghost use Rattle.desk_steps.specs.declared.link_fact.LinkFact.TheVariants as fact;
 ghost use Rattle.printer_link.specs.Link.{RoseBy};
 ghost use Rattle.send_window.specs.Sending.{next_of};
@@ -67,11 +67,10 @@ pub fn turn_over_link<L: Link>(session: &mut Session, link: &mut L, moment: u64)
     ensures before { IsSession session.old }
     ensures joined { IsSession session.new }
     ensures kind { L.kind link.new ≡ L.kind link.old }
-    ensures counted { L.faults link.old ≤ L.faults link.new }
+    ensures counts { Counts (fact_of result.note ≡ fact.Failed)
+        (L.faults link.old) (L.faults link.new) }
     ensures calls { is_calling (doing session.old) ≡ true
         → RoseBy 1 (L.calls link.old) (L.calls link.new) }
-    ensures failed { fact_of result.note ≡ fact.Failed
-        → Rose (L.faults link.old) (L.faults link.new) }
     ensures ready_is { session.new.sender.ready
         ≡ ready_after (fact_of result.note) session.old.sender.ready }
     ensures not_fallen { (fact_of result.note ≡ fact.Opened)

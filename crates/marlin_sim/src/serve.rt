@@ -1,6 +1,6 @@
 //! Serves a connection: turns of reading, taking and running, and what they write and print.
-ghost use Rattle.std.specs.Prelude.{◌≡◌, ◌≢◌, ◌⊎◌, ◌<◌, ◌≤◌, ◌++◌, ℕ, List, [], Option, true, false, length, IfOk, OnOk, OnErr, IfSome, Some, if◌then◌else◌};
-ghost use Rattle.octo_outside.specs.Told.{Adds, AddsPrefix, Rose};
+ghost use Rattle.std.specs.Prelude.{◌≡◌, ◌≢◌, ◌⊎◌, ◌<◌, ◌≤◌, ◌++◌, ℕ, List, [], Option, true, false, length, IfOk, OnOk, OnErr, IsErr, IfSome, Some, if◌then◌else◌};
+ghost use Rattle.octo_outside.specs.Told.{Adds, AddsPrefix, Counts};
 ghost use Rattle.marlin_sim.specs.declared.end.SimEnd.TheVariants as end;
 ghost use Rattle.marlin_sim.specs.declared.plan.SimPlan.{SimPlan};
 ghost use Rattle.marlin_sim.specs.declared.serve.Next.TheVariants as next;
@@ -42,8 +42,7 @@ pub fn send_replies<C: Conn>(conn: &mut C, sim: &mut Sim) -> Result<(), Failed>
     ensures same { OnErr result (sim.new ≡ sim.old) }
     ensures left { C.left conn.new ≡ C.left conn.old }
     ensures quiets { C.quiets conn.new ≡ C.quiets conn.old }
-    ensures counted { C.faults conn.old ≤ C.faults conn.new }
-    ensures failed { OnErr result (Rose (C.faults conn.old) (C.faults conn.new)) }
+    ensures counts { Counts (IsErr result) (C.faults conn.old) (C.faults conn.new) }
 {
     send_all(conn, sim.replies())?;
     sim.clear_replies();
@@ -56,8 +55,7 @@ pub fn print_text<O: Sink>(out: &mut O, sim: &mut Sim) -> Result<(), Failed>
     ensures after { OnOk result (sim.new ≡ record sim.old { text = [] }) }
     ensures err { OnErr result (AddsPrefix (O.written out.old) (O.written out.new) sim.old.text) }
     ensures same { OnErr result (sim.new ≡ sim.old) }
-    ensures counted { O.faults out.old ≤ O.faults out.new }
-    ensures failed { OnErr result (Rose (O.faults out.old) (O.faults out.new)) }
+    ensures counts { Counts (IsErr result) (O.faults out.old) (O.faults out.new) }
 {
     write_all(out, sim.text())?;
     sim.clear_text();
@@ -81,10 +79,8 @@ fn deliver<C: Conn, O: Sink>(conn: &mut C, out: &mut O, sim: &mut Sim, ran: bool
     ensures written { (result ≡ next.On) ⊎ (result ≡ next.Over) → sim.new.replies ≡ [] }
     ensures left { C.left conn.new ≡ C.left conn.old }
     ensures quiets { C.quiets conn.new ≡ C.quiets conn.old }
-    ensures conn_counted { C.faults conn.old ≤ C.faults conn.new }
-    ensures sink_counted { O.faults out.old ≤ O.faults out.new }
-    ensures conn_failed { result ≡ next.ConnFailed → Rose (C.faults conn.old) (C.faults conn.new) }
-    ensures sink_failed { result ≡ next.SinkFailed → Rose (O.faults out.old) (O.faults out.new) }
+    ensures conn { Counts (result ≡ next.ConnFailed) (C.faults conn.old) (C.faults conn.new) }
+    ensures sink { Counts (result ≡ next.SinkFailed) (O.faults out.old) (O.faults out.new) }
 {
     let Ok(()) = send_replies(conn, sim) else {
         return Next::ConnFailed;
@@ -107,10 +103,8 @@ fn act<C: Conn, O: Sink>(conn: &mut C, out: &mut O, sim: &mut Sim) -> Next
     ensures places { (result ≡ next.On) ⊎ (result ≡ next.Over) → sim.new.printer.places ≡ sim.old.printer.places }
     ensures left { C.left conn.new ≡ C.left conn.old }
     ensures quiets { C.quiets conn.new ≡ C.quiets conn.old }
-    ensures conn_counted { C.faults conn.old ≤ C.faults conn.new }
-    ensures sink_counted { O.faults out.old ≤ O.faults out.new }
-    ensures conn_failed { result ≡ next.ConnFailed → Rose (C.faults conn.old) (C.faults conn.new) }
-    ensures sink_failed { result ≡ next.SinkFailed → Rose (O.faults out.old) (O.faults out.new) }
+    ensures conn { Counts (result ≡ next.ConnFailed) (C.faults conn.old) (C.faults conn.new) }
+    ensures sink { Counts (result ≡ next.SinkFailed) (O.faults out.old) (O.faults out.new) }
 {
     match sim.step() {
         Ok(ran) => deliver(conn, out, sim, ran),
@@ -125,10 +119,8 @@ fn drain<C: Conn, O: Sink>(conn: &mut C, out: &mut O, sim: &mut Sim) -> SimEnd
     ensures plan { result ≢ end.BadPlan }
     ensures turns { (turns : ℕ) → result ≢ end.TurnsUsed turns }
     ensures quiets { C.quiets conn.new ≡ C.quiets conn.old }
-    ensures conn_counted { C.faults conn.old ≤ C.faults conn.new }
-    ensures sink_counted { O.faults out.old ≤ O.faults out.new }
-    ensures conn_failed { result ≡ end.ConnFailed → Rose (C.faults conn.old) (C.faults conn.new) }
-    ensures sink_failed { result ≡ end.SinkFailed → Rose (O.faults out.old) (O.faults out.new) }
+    ensures conn { Counts (result ≡ end.ConnFailed) (C.faults conn.old) (C.faults conn.new) }
+    ensures sink { Counts (result ≡ end.SinkFailed) (O.faults out.old) (O.faults out.new) }
 {
     loop {
         match act(conn, out, sim) {
@@ -149,10 +141,8 @@ fn go_on<C: Conn, O: Sink>(conn: &mut C, out: &mut O, sim: &mut Sim) -> Next
     ensures places { result ≡ next.On → sim.new.printer.places ≡ sim.old.printer.places }
     ensures left { C.left conn.new ≡ C.left conn.old }
     ensures quiets { C.quiets conn.new ≡ C.quiets conn.old }
-    ensures conn_counted { C.faults conn.old ≤ C.faults conn.new }
-    ensures sink_counted { O.faults out.old ≤ O.faults out.new }
-    ensures conn_failed { result ≡ next.ConnFailed → Rose (C.faults conn.old) (C.faults conn.new) }
-    ensures sink_failed { result ≡ next.SinkFailed → Rose (O.faults out.old) (O.faults out.new) }
+    ensures conn { Counts (result ≡ next.ConnFailed) (C.faults conn.old) (C.faults conn.new) }
+    ensures sink { Counts (result ≡ next.SinkFailed) (O.faults out.old) (O.faults out.new) }
 {
     match act(conn, out, sim) {
         Next::On => Next::On,
@@ -178,10 +168,8 @@ fn receive<C: Conn, O: Sink>(
     ensures places { result ≡ next.On → sim.new.printer.places ≡ sim.old.printer.places }
     ensures left { C.left conn.new ≡ C.left conn.old }
     ensures quiets { C.quiets conn.new ≡ C.quiets conn.old }
-    ensures conn_counted { C.faults conn.old ≤ C.faults conn.new }
-    ensures sink_counted { O.faults out.old ≤ O.faults out.new }
-    ensures conn_failed { result ≡ next.ConnFailed → Rose (C.faults conn.old) (C.faults conn.new) }
-    ensures sink_failed { result ≡ next.SinkFailed → Rose (O.faults out.old) (O.faults out.new) }
+    ensures conn { Counts (result ≡ next.ConnFailed) (C.faults conn.old) (C.faults conn.new) }
+    ensures sink { Counts (result ≡ next.SinkFailed) (O.faults out.old) (O.faults out.new) }
 {
     match sim.receive(plan, bytes) {
         Ok(()) => go_on(conn, out, sim),
@@ -199,10 +187,8 @@ fn take_turn<C: Conn, O: Sink>(conn: &mut C, out: &mut O, sim: &mut Sim, plan: &
     ensures used { result ≡ next.On → IfSome (C.left conn.old) (λ before. IsUsed 1 before (C.left conn.new) (C.quiets conn.old) (C.quiets conn.new)) }
     ensures places { (result ≡ next.On) ⊎ (result ≡ next.Over) → sim.new.printer.places ≡ sim.old.printer.places }
     ensures quiets_counted { C.quiets conn.old ≤ C.quiets conn.new }
-    ensures conn_counted { C.faults conn.old ≤ C.faults conn.new }
-    ensures sink_counted { O.faults out.old ≤ O.faults out.new }
-    ensures conn_failed { result ≡ next.ConnFailed → Rose (C.faults conn.old) (C.faults conn.new) }
-    ensures sink_failed { result ≡ next.SinkFailed → Rose (O.faults out.old) (O.faults out.new) }
+    ensures conn { Counts (result ≡ next.ConnFailed) (C.faults conn.old) (C.faults conn.new) }
+    ensures sink { Counts (result ≡ next.SinkFailed) (O.faults out.old) (O.faults out.new) }
 {
     let mut chunk = [0; CHUNK];
     match conn.read(&mut chunk) {
@@ -226,10 +212,8 @@ pub fn take_turns<C: Conn, O: Sink>(
     ensures plan { result ≢ end.BadPlan }
     ensures turns { (turns : ℕ) → result ≡ end.TurnsUsed turns → turns ≡ plan.now.turns }
     ensures used { (turns : ℕ) → result ≡ end.TurnsUsed turns → IfSome (C.left conn.old) (λ before. IsUsed turns before (C.left conn.new) (C.quiets conn.old) (C.quiets conn.new)) }
-    ensures conn_counted { C.faults conn.old ≤ C.faults conn.new }
-    ensures sink_counted { O.faults out.old ≤ O.faults out.new }
-    ensures conn_failed { result ≡ end.ConnFailed → Rose (C.faults conn.old) (C.faults conn.new) }
-    ensures sink_failed { result ≡ end.SinkFailed → Rose (O.faults out.old) (O.faults out.new) }
+    ensures conn { Counts (result ≡ end.ConnFailed) (C.faults conn.old) (C.faults conn.new) }
+    ensures sink { Counts (result ≡ end.SinkFailed) (O.faults out.old) (O.faults out.new) }
 {
     for _ in 0..plan.turns {
         match take_turn(conn, out, sim, plan) {

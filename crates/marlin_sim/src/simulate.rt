@@ -1,6 +1,6 @@
 //! A whole simulation, by a plan or by the words that give one.
 ghost use Rattle.std.specs.Prelude.{◌≡◌, ◌≢◌, ◌⊎◌, ◌≤◌, ℕ, List, Option, None, Some, IfSome};
-ghost use Rattle.octo_outside.specs.Told.{Rose};
+ghost use Rattle.octo_outside.specs.Told.{Rose, Counts};
 ghost use Rattle.marlin_sim.specs.declared.end.SimEnd.TheVariants as end;
 ghost use Rattle.marlin_sim.specs.declared.plan.SimPlan.{SimPlan};
 ghost use Rattle.marlin_sim.specs.Plan.{IsPlan, plan_of};
@@ -21,10 +21,8 @@ fn begin<C: Conn, O: Sink>(conn: &mut C, out: &mut O, sim: &mut Sim, plan: &SimP
     ensures plan { result ≢ end.BadPlan }
     ensures turns { (turns : ℕ) → result ≡ end.TurnsUsed turns → turns ≡ plan.now.turns }
     ensures used { (turns : ℕ) → result ≡ end.TurnsUsed turns → IfSome (C.left conn.old) (λ before. IsUsed turns before (C.left conn.new) (C.quiets conn.old) (C.quiets conn.new)) }
-    ensures conn_counted { C.faults conn.old ≤ C.faults conn.new }
-    ensures sink_counted { O.faults out.old ≤ O.faults out.new }
-    ensures conn_failed { result ≡ end.ConnFailed → Rose (C.faults conn.old) (C.faults conn.new) }
-    ensures sink_failed { result ≡ end.SinkFailed → Rose (O.faults out.old) (O.faults out.new) }
+    ensures conn { Counts (result ≡ end.ConnFailed) (C.faults conn.old) (C.faults conn.new) }
+    ensures sink { Counts (result ≡ end.SinkFailed) (O.faults out.old) (O.faults out.new) }
 {
     match send_replies(conn, sim) {
         Ok(()) => take_turns(conn, out, sim, plan),
@@ -69,10 +67,8 @@ pub fn simulate<C: Conn, O: Sink>(
     ensures plan { result ≢ end.BadPlan }
     ensures turns { (turns : ℕ) → result ≡ end.TurnsUsed turns → turns ≡ plan.now.turns }
     ensures used { (turns : ℕ) → result ≡ end.TurnsUsed turns → IfSome (C.left conn.old) (λ before. IsUsed turns before (C.left conn.new) (C.quiets conn.old) (C.quiets conn.new)) }
-    ensures conn_counted { C.faults conn.old ≤ C.faults conn.new }
-    ensures sink_counted { O.faults out.old ≤ O.faults out.new }
-    ensures conn_failed { result ≡ end.ConnFailed → Rose (C.faults conn.old) (C.faults conn.new) }
-    ensures sink_failed { result ≡ end.SinkFailed → Rose (O.faults out.old) (O.faults out.new) }
+    ensures conn { Counts (result ≡ end.ConnFailed) (C.faults conn.old) (C.faults conn.new) }
+    ensures sink { Counts (result ≡ end.SinkFailed) (O.faults out.old) (O.faults out.new) }
 {
     let mut sim = match Sim::new(alloc, plan) {
         Ok(sim) => sim,
@@ -90,10 +86,8 @@ pub fn sim<C: Conn, O: Sink>(alloc: Global, words: &WordList, conn: &mut C, out:
     ensures served { (plan : SimPlan) → plan_of words.now ≡ Some plan → IfSome (C.left conn.old) (λ input. Outcome result plan input (outside (C.left conn.old) (C.written conn.old) (O.written out.old)) (outside (C.left conn.new) (C.written conn.new) (O.written out.new))) }
     ensures turns { (plan : SimPlan) (turns : ℕ) → plan_of words.now ≡ Some plan → result ≡ end.TurnsUsed turns → turns ≡ plan.turns }
     ensures used { (turns : ℕ) → result ≡ end.TurnsUsed turns → IfSome (C.left conn.old) (λ before. IsUsed turns before (C.left conn.new) (C.quiets conn.old) (C.quiets conn.new)) }
-    ensures conn_counted { C.faults conn.old ≤ C.faults conn.new }
-    ensures sink_counted { O.faults out.old ≤ O.faults out.new }
-    ensures conn_failed { result ≡ end.ConnFailed → Rose (C.faults conn.old) (C.faults conn.new) }
-    ensures sink_failed { result ≡ end.SinkFailed → Rose (O.faults out.old) (O.faults out.new) }
+    ensures conn { Counts (result ≡ end.ConnFailed) (C.faults conn.old) (C.faults conn.new) }
+    ensures sink { Counts (result ≡ end.SinkFailed) (O.faults out.old) (O.faults out.new) }
 {
     match read_plan(alloc, words) {
         Ok(Some(plan)) => simulate(alloc, conn, out, &plan),

@@ -1,6 +1,6 @@
 //! One message of a connection.
-ghost use Rattle.std.specs.Prelude.{◌≡◌, ◌<◌, ◌≤◌, ℕ, List, Some, Ok, Err, OnOk, OnErr, IfErr, IsErrOf};
-ghost use Rattle.octo_outside.specs.Told.{Adds, AddsPrefix, Rose};
+ghost use Rattle.std.specs.Prelude.{◌≡◌, ◌<◌, ℕ, List, Some, Ok, Err, OnOk, OnErr, IsErr, IfErr, IsErrOf};
+ghost use Rattle.octo_outside.specs.Told.{Adds, AddsPrefix, Counts};
 ghost use Rattle.octo_http.specs.Message.{has_body, leave, asked, message_of, Answers, Writes, IsPatient};
 
 use crate::MessageFault;
@@ -59,8 +59,7 @@ fn give_leave<C: Conn>(conn: &mut C, head: &Head) -> Result<(), Failed>
     ensures err { OnErr result (AddsPrefix (C.written conn.old) (C.written conn.new) (asked head.now)) }
     ensures left { C.left conn.new ≡ C.left conn.old }
     ensures quiets { C.quiets conn.new ≡ C.quiets conn.old }
-    ensures counted { C.faults conn.old ≤ C.faults conn.new }
-    ensures failed { OnErr result (Rose (C.faults conn.old) (C.faults conn.new)) }
+    ensures counts { Counts (IsErr result) (C.faults conn.old) (C.faults conn.new) }
 {
     send_all(conn, leave_for(head))?;
     Ok(())
@@ -103,8 +102,8 @@ pub fn read_message<C: Conn>(
 
     // Counts.
     ensures patient { IsPatient patience (C.quiets conn.old) (C.quiets conn.new) result }
-    ensures counted { C.faults conn.old ≤ C.faults conn.new }
-    ensures failed { IsErrOf result MessageFault.ReadFault → Rose (C.faults conn.old) (C.faults conn.new) }
+    ensures counts { Counts (IsErrOf result MessageFault.ReadFault)
+        (C.faults conn.old) (C.faults conn.new) }
 {
     let mut intake = Intake::new(alloc, patience);
     let head = read_head(alloc, &mut intake, conn)?;

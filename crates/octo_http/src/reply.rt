@@ -1,7 +1,7 @@
 //! The reply to a message.
-ghost use Rattle.std.specs.Prelude.{◌≡◌, ◌≤◌, ◌<◌, ◌+◌, ◌++◌, length, codes, decimal, OnOk, OnErr};
+ghost use Rattle.std.specs.Prelude.{◌≡◌, ◌≤◌, ◌<◌, ◌+◌, ◌++◌, length, codes, decimal, OnOk, OnErr, IsErr};
 ghost use Rattle.arrayvec.specs.ArrayVec.{array_vec_len};
-ghost use Rattle.octo_outside.specs.Told.{Adds, AddsPrefix, Rose};
+ghost use Rattle.octo_outside.specs.Told.{Adds, AddsPrefix, Counts};
 ghost use Rattle.octo_http.specs.Part.{crlf};
 ghost use Rattle.octo_http.specs.Reply.{reason_of, phrase_of, first_lines, type_line, head_bytes, sent_body, reply_bytes};
 
@@ -131,8 +131,7 @@ pub fn write_reply<C: Conn>(conn: &mut C, reply: &HttpReply) -> Result<(), Faile
     ensures err { OnErr result (AddsPrefix (C.written conn.old) (C.written conn.new) (reply_bytes reply.now)) }
     ensures left { C.left conn.new ≡ C.left conn.old }
     ensures quiets { C.quiets conn.new ≡ C.quiets conn.old }
-    ensures counted { C.faults conn.old ≤ C.faults conn.new }
-    ensures failed { OnErr result (Rose (C.faults conn.old) (C.faults conn.new)) }
+    ensures counts { Counts (IsErr result) (C.faults conn.old) (C.faults conn.new) }
 {
     let body = sent_body(reply);
     let head = head_of(reply.status, reply.kind, body.len());

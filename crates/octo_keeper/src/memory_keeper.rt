@@ -42,8 +42,8 @@ impl MemoryKeeper {
 }
 
 impl Keeper for MemoryKeeper {
-    ghost use Rattle.std.specs.Prelude.{◌≡◌, ◌≤◌, ◌↔◌, ◌⊎◌, true, false, Some, IfOk, OnOk, OnErr, IsErrOf};
-    ghost use Rattle.octo_outside.specs.Told.{Rose};
+    ghost use Rattle.std.specs.Prelude.{◌≡◌, ◌↔◌, ◌⊎◌, true, false, Some, IfOk, OnOk, OnErr, IsErrOf};
+    ghost use Rattle.octo_outside.specs.Told.{Counts};
     ghost use Rattle.octo_outside.specs.Memory.{one_more, is_listed};
     ghost use Rattle.octo_keeper.specs.declared.keeper.KeeperFault.TheVariants as fault;
     ghost use Rattle.octo_keeper.specs.Tables.{changed, AreSound};
@@ -61,8 +61,8 @@ impl Keeper for MemoryKeeper {
 
         ensures fails { IsErrOf result fault.Failed
             ↔ ((is_listed self.old.calls.fail_at (one_more self.old.calls.made) ≡ true) ⊎ (are_sound self.old.tables ≡ false)) }
-        ensures counted { self.old.calls.faults ≤ self.new.calls.faults }
-        ensures failed { IsErrOf result fault.Failed → Rose self.old.calls.faults self.new.calls.faults }
+        ensures counts { Counts (IsErrOf result fault.Failed)
+            self.old.calls.faults self.new.calls.faults }
     {
         if self.calls.begin() {
             self.calls.fail();
@@ -83,8 +83,8 @@ impl Keeper for MemoryKeeper {
         ensures err { OnErr result (self.new.tables ≡ self.old.tables) }
 
         ensures fails { IsErrOf result fault.Failed ↔ (is_listed self.old.calls.fail_at (one_more self.old.calls.made) ≡ true) }
-        ensures counted { self.old.calls.faults ≤ self.new.calls.faults }
-        ensures failed { IsErrOf result fault.Failed → Rose self.old.calls.faults self.new.calls.faults }
+        ensures counts { Counts (IsErrOf result fault.Failed)
+            self.old.calls.faults self.new.calls.faults }
     {
         if self.calls.begin() {
             self.calls.fail();

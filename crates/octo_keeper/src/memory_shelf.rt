@@ -36,8 +36,8 @@ impl MemoryShelf {
 }
 
 impl Shelf for MemoryShelf {
-    ghost use Rattle.std.specs.Prelude.{◌≡◌, ◌≤◌, ◌↔◌, true, Some, IfOk, OnOk, OnErr, IsErrOf};
-    ghost use Rattle.octo_outside.specs.Told.{Rose};
+    ghost use Rattle.std.specs.Prelude.{◌≡◌, ◌↔◌, true, Some, IfOk, OnOk, OnErr, IsErrOf};
+    ghost use Rattle.octo_outside.specs.Told.{Counts};
     ghost use Rattle.octo_outside.specs.Memory.{one_more, is_listed};
     ghost use Rattle.octo_keeper.specs.declared.shelf.ShelfFault.TheVariants as fault;
     ghost use Rattle.octo_keeper.specs.Files.{bytes_of, sizes_of, with_file, without_file};
@@ -52,8 +52,8 @@ impl Shelf for MemoryShelf {
         ensures stays { self.new.files ≡ self.old.files }
 
         ensures fails { IsErrOf result fault.Failed ↔ (is_listed self.old.calls.fail_at (one_more self.old.calls.made) ≡ true) }
-        ensures counted { self.old.calls.faults ≤ self.new.calls.faults }
-        ensures failed { IsErrOf result fault.Failed → Rose self.old.calls.faults self.new.calls.faults }
+        ensures counts { Counts (IsErrOf result fault.Failed)
+            self.old.calls.faults self.new.calls.faults }
     {
         if self.calls.begin() {
             self.calls.fail();
@@ -70,8 +70,8 @@ impl Shelf for MemoryShelf {
         ensures stays { self.new.files ≡ self.old.files }
 
         ensures fails { IsErrOf result fault.Failed ↔ (is_listed self.old.calls.fail_at (one_more self.old.calls.made) ≡ true) }
-        ensures counted { self.old.calls.faults ≤ self.new.calls.faults }
-        ensures failed { IsErrOf result fault.Failed → Rose self.old.calls.faults self.new.calls.faults }
+        ensures counts { Counts (IsErrOf result fault.Failed)
+            self.old.calls.faults self.new.calls.faults }
     {
         if self.calls.begin() {
             self.calls.fail();
@@ -88,8 +88,8 @@ impl Shelf for MemoryShelf {
         ensures err { OnErr result (self.new.files ≡ self.old.files) }
 
         ensures fails { IsErrOf result fault.Failed ↔ (is_listed self.old.calls.fail_at (one_more self.old.calls.made) ≡ true) }
-        ensures counted { self.old.calls.faults ≤ self.new.calls.faults }
-        ensures failed { IsErrOf result fault.Failed → Rose self.old.calls.faults self.new.calls.faults }
+        ensures counts { Counts (IsErrOf result fault.Failed)
+            self.old.calls.faults self.new.calls.faults }
     {
         if self.calls.begin() {
             self.calls.fail();
@@ -107,8 +107,8 @@ impl Shelf for MemoryShelf {
 
         ensures fails { IsErrOf result fault.Failed ↔ (is_listed self.old.calls.fail_at (one_more self.old.calls.made) ≡ true) }
         ensures memory { IsErrOf result fault.NoMemory → ⊥ }
-        ensures counted { self.old.calls.faults ≤ self.new.calls.faults }
-        ensures failed { IsErrOf result fault.Failed → Rose self.old.calls.faults self.new.calls.faults }
+        ensures counts { Counts (IsErrOf result fault.Failed)
+            self.old.calls.faults self.new.calls.faults }
     {
         if self.calls.begin() {
             self.calls.fail();

@@ -1,7 +1,7 @@
 //! A connection in memory whose input comes only once a gate is open.
-ghost use Rattle.std.specs.Prelude.{◌≡◌, ◌≤◌, None};
+ghost use Rattle.std.specs.Prelude.{◌≡◌, ◌≤◌, None, ⊤};
 ghost use Rattle.octo_outside.specs.Memory.{one_more};
-ghost use Rattle.octo_outside.specs.Told.{Rose};
+ghost use Rattle.octo_outside.specs.Told.{Counts};
 
 use arrayvec::ArrayVec;
 use octo_outside::{Conn, Failed, Got, MemoryConn};
@@ -41,8 +41,7 @@ impl<R: Drop> GateConn<R> {
 
     fn fail(&mut self) -> Failed
         ensures quiets { self.new.quiets ≡ self.old.quiets }
-        ensures counted { self.old.faults ≤ self.new.faults }
-        ensures rose { Rose self.old.faults self.new.faults }
+        ensures counts { Counts ⊤ self.old.faults self.new.faults }
     {
         self.faults = self.faults.saturating_add(1);
         Failed

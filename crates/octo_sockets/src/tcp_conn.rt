@@ -1,7 +1,7 @@
 //! Connections over TCP, and over a Unix socket.
-ghost use Rattle.std.specs.Prelude.{◌≡◌, ◌≤◌, None, IfOk};
+ghost use Rattle.std.specs.Prelude.{◌≡◌, ◌≤◌, None, IfOk, ⊤};
 ghost use Rattle.octo_outside.specs.Memory.{one_more};
-ghost use Rattle.octo_outside.specs.Told.{Rose};
+ghost use Rattle.octo_outside.specs.Told.{Counts};
 
 use crate::socket_stream::{SocketStream, unix_path};
 use crate::streams::{linger, may_come_later, prepare, write_some};
@@ -91,8 +91,7 @@ impl<R: Net + Drop> TcpConn<R> {
     fn fail(&mut self) -> Failed
         ensures counts { self.new.faults ≡ one_more self.old.faults }
         ensures quiets { self.new.quiets ≡ self.old.quiets }
-        ensures counted { self.old.faults ≤ self.new.faults }
-        ensures rose { Rose self.old.faults self.new.faults }
+        ensures counts { Counts ⊤ self.old.faults self.new.faults }
     {
         self.faults = self.faults.saturating_add(1);
         Failed

@@ -1,6 +1,6 @@
 //! The turns of a print, from the dial to the hang-up.
 ghost use Rattle.std.specs.Prelude.{◌≡◌, ◌≢◌, ◌↔◌, ◌≤◌, ◌+◌, ◌-◌, ◌*◌, ℕ, List, length, true, false, Option, Some, None, is_some};
-ghost use Rattle.octo_outside.specs.Told.{Rose, Steady};
+ghost use Rattle.octo_outside.specs.Told.{Counts, Steady};
 ghost use Rattle.octo_outside.specs.Traits.{NotBefore};
 ghost use Rattle.desk_steps.specs.Table.{connect_at, select_at, disconnect_at, start_at};
 ghost use Rattle.gcode_lines.specs.Job.{texts_of};
@@ -63,7 +63,6 @@ pub fn run_print<L: Link, T: Clock>(
     ensures too_hot { IsTooHot (first_hot_of session.old.desk.limits job.commands) result }
     ensures no_port { (result ≡ end.NoPort) ↔ IsUnlisted (first_hot_of session.old.desk.limits job.commands)
         turns ((L.kind link.old).listed port.now) }
-    ensures failed { result ≡ end.LinkFailed → Rose (L.faults link.old) (L.faults link.new) }
     ensures ended { (why : SessionEnd) → result ≡ end.Ended why
         → HasEnded (L.kind link.old) (L.past link.new) session.new.sender why }
     ensures waited { HasWaited result (T.moment clock.old) session.old.sender.limit (T.moment clock.new) }
@@ -81,7 +80,7 @@ pub fn run_print<L: Link, T: Clock>(
     // The link afterwards, and what a print leaves that sent nothing.
     ensures down { L.up link.new ≡ false }
     ensures kind { L.kind link.new ≡ L.kind link.old }
-    ensures counted { L.faults link.old ≤ L.faults link.new }
+    ensures counts { Counts (result ≡ end.LinkFailed) (L.faults link.old) (L.faults link.new) }
     ensures unsent { IsUnsent result → L.past link.new ≡ L.past link.old }
     ensures refused { is_too_hot result ≡ true → session.new ≡ session.old }
 {
@@ -125,8 +124,7 @@ fn make_turns<L: Link, T: Clock>(
         ↔ ((1 ≤ turns) × ((L.kind link.old).listed (port_of session.old.desk) ≡ false)) }
     ensures down { L.up link.new ≡ false }
     ensures kind { L.kind link.new ≡ L.kind link.old }
-    ensures counted { L.faults link.old ≤ L.faults link.new }
-    ensures failed { result ≡ end.LinkFailed → Rose (L.faults link.old) (L.faults link.new) }
+    ensures counts { Counts (result ≡ end.LinkFailed) (L.faults link.old) (L.faults link.new) }
     ensures used { (made : ℕ) → result ≡ end.TurnsUsed made
         → (made ≡ turns) × RoseBy turns (L.calls link.old) (L.calls link.new) }
     ensures waited { HasWaited result (T.moment clock.old) session.old.sender.limit (T.moment clock.new) }
@@ -168,8 +166,7 @@ fn make_turn<L: Link, T: Clock>(
     ensures up { result ≡ None → L.up link.new ≡ session.new.up }
     ensures down { is_some result ≡ true → L.up link.new ≡ false }
     ensures kind { L.kind link.new ≡ L.kind link.old }
-    ensures counted { L.faults link.old ≤ L.faults link.new }
-    ensures failed { result ≡ Some end.LinkFailed → Rose (L.faults link.old) (L.faults link.new) }
+    ensures counts { Counts (result ≡ Some end.LinkFailed) (L.faults link.old) (L.faults link.new) }
     ensures calls { (session.old.up ≡ false → doing session.old ≡ now_doing.Dialling)
         → result ≡ None → RoseBy 1 (L.calls link.old) (L.calls link.new) }
     ensures unused { (made : ℕ) → result ≢ Some (end.TurnsUsed made) }

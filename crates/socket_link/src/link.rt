@@ -1,8 +1,8 @@
 //! A link to a printer over TCP or a Unix socket.
-ghost use Rattle.std.specs.Prelude.{◌≡◌, ◌+◌, ◌<◌, ◌≤◌, ◌⊎◌, ◌↔◌, ◌++◌, ◌∷◌, [], length, true, false, is_some, Some, None, Ok, OnOk, OnErr, IsOk, IsErrOf, IsTrue, MatchResult};
+ghost use Rattle.std.specs.Prelude.{◌≡◌, ◌+◌, ◌<◌, ◌≤◌, ◌⊎◌, ◌↔◌, ◌++◌, ◌∷◌, [], length, true, false, is_some, Some, None, Ok, OnOk, OnErr, IsErr, IsOk, IsErrOf, IsTrue, MatchResult, ⊤};
 ghost use Rattle.std.specs.IoError.{error_kind};
 ghost use Rattle.std.specs.List.{list_any, before_first, after_first};
-ghost use Rattle.octo_outside.specs.Told.{Rose};
+ghost use Rattle.octo_outside.specs.Told.{Counts};
 ghost use Rattle.socket_link.specs.Address.{names_port};
 ghost use Rattle.octo_sockets.specs.Streams.{of_stream};
 ghost use Rattle.socket_link.specs.Lines.{cut, ends_line};
@@ -122,8 +122,7 @@ impl<R: Net + Drop> SocketLink<R> {
     fn fail(&mut self) -> LinkFault
         ensures fault { result ≡ fault.Failed }
         ensures down { self.new.up ≡ false }
-        ensures counted { self.old.faults ≤ self.new.faults }
-        ensures rose { Rose self.old.faults self.new.faults }
+        ensures counts { Counts ⊤ self.old.faults self.new.faults }
     {
         self.stream = None;
         self.up = false;
@@ -253,9 +252,8 @@ impl<R: Net + Clock + Drop> Link for SocketLink<R> {
         ensures no_port { IsErrOf result fault.NoPort → ⊥ }
         ensures up { OnOk result (self.new.up ≡ true) }
         ensures down { OnErr result (self.new.up ≡ false) }
-        ensures counted { self.old.faults ≤ self.new.faults }
+        ensures counts { Counts (IsErr result) self.old.faults self.new.faults }
         ensures steady { OnOk result (self.new.faults ≡ self.old.faults) }
-        ensures failed { OnErr result (Rose self.old.faults self.new.faults) }
     {
         if self.gather(line) {
             return Ok(());
@@ -278,9 +276,8 @@ impl<R: Net + Clock + Drop> Link for SocketLink<R> {
         ensures no_port { IsErrOf result fault.NoPort → ⊥ }
         ensures up { OnOk result (self.new.up ≡ true) }
         ensures down { OnErr result (self.new.up ≡ false) }
-        ensures counted { self.old.faults ≤ self.new.faults }
+        ensures counts { Counts (IsErr result) self.old.faults self.new.faults }
         ensures steady { OnOk result (self.new.faults ≡ self.old.faults) }
-        ensures failed { OnErr result (Rose self.old.faults self.new.faults) }
     {
         match self.hear(into) {
             Some(got) => Ok(got),

@@ -1,10 +1,11 @@
 //! Users are added and changed.
-ghost use Rattle.std.specs.Prelude.{◌≡◌, false};
+ghost use Rattle.std.specs.Prelude.{◌≡◌, true, false};
 ghost use Rattle.octo_access.specs.Rows.{IsUserTable};
 ghost use Rattle.house_verdicts.specs.Known.{Known};
 ghost use Rattle.house_verdicts.specs.Rows.{put_user_verdict, change_user_verdict, replace_verdict, new_user};
 ghost use Rattle.house_verdicts.specs.Verdict.{IsDone};
-ghost use Rattle.house_rows.specs.Counts.{Counts, is_keepers, is_shelfs};
+ghost use Rattle.octo_outside.specs.Told.{Counts};
+ghost use Rattle.house_rows.specs.Counts.{is_keepers, is_shelfs};
 ghost use Rattle.house_tables.specs.Data.{over};
 ghost use Rattle.house_tables.specs.Kept.{KeepsRows};
 
@@ -34,7 +35,8 @@ impl HostTables {
         ensures written { self.new.unwritten ≡ self.old.unwritten }
         ensures prints { self.new.prints ≡ self.old.prints }
         ensures kept { KeepsRows (K.tables keeper.old) (K.tables keeper.new) self.old self.new }
-        ensures keeper { Counts (is_keepers result) (K.faults keeper.old) (K.faults keeper.new) }
+        ensures keeper { Counts (is_keepers result ≡ true)
+            (K.faults keeper.old) (K.faults keeper.new) }
         ensures shelf { is_shelfs result ≡ false }
     {
         self.put_user_row(keeper, policy, &new_user(name, key, groups, active))
@@ -47,7 +49,8 @@ impl HostTables {
         ensures written { self.new.unwritten ≡ self.old.unwritten }
         ensures prints { self.new.prints ≡ self.old.prints }
         ensures kept { KeepsRows (K.tables keeper.old) (K.tables keeper.new) self.old self.new }
-        ensures keeper { Counts (is_keepers result) (K.faults keeper.old) (K.faults keeper.new) }
+        ensures keeper { Counts (is_keepers result ≡ true)
+            (K.faults keeper.old) (K.faults keeper.new) }
         ensures shelf { is_shelfs result ≡ false }
     {
         if let Err(refusal) = self.users.put(row, policy) {
@@ -80,7 +83,8 @@ impl HostTables {
         ensures written { self.new.unwritten ≡ self.old.unwritten }
         ensures prints { self.new.prints ≡ self.old.prints }
         ensures kept { KeepsRows (K.tables keeper.old) (K.tables keeper.new) self.old self.new }
-        ensures keeper { Counts (is_keepers result) (K.faults keeper.old) (K.faults keeper.new) }
+        ensures keeper { Counts (is_keepers result ≡ true)
+            (K.faults keeper.old) (K.faults keeper.new) }
         ensures shelf { is_shelfs result ≡ false }
     {
         let Some(former) = user_named(self.users.rows(), name) else {
@@ -98,7 +102,8 @@ impl HostTables {
         ensures written { self.new.unwritten ≡ self.old.unwritten }
         ensures prints { self.new.prints ≡ self.old.prints }
         ensures kept { KeepsRows (K.tables keeper.old) (K.tables keeper.new) self.old self.new }
-        ensures keeper { Counts (is_keepers result) (K.faults keeper.old) (K.faults keeper.new) }
+        ensures keeper { Counts (is_keepers result ≡ true)
+            (K.faults keeper.old) (K.faults keeper.new) }
         ensures shelf { is_shelfs result ≡ false }
     {
         let former = match self.users.change(row, policy) {

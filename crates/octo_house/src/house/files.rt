@@ -1,10 +1,11 @@
 //! The requests that list, show and delete files.
-ghost use Rattle.std.specs.Prelude.{◌≡◌, false};
+ghost use Rattle.std.specs.Prelude.{◌≡◌, true, false};
 ghost use Rattle.desk_steps.specs.Table.{drop_file_step};
 ghost use Rattle.house_verdicts.specs.Reads.{list_files_verdict, get_file_verdict, download_verdict};
 ghost use Rattle.house_verdicts.specs.Uploads.{delete_verdict};
 ghost use Rattle.octo_house.specs.Answered.{Answers, AnswersOn, Shelves};
-ghost use Rattle.house_rows.specs.Counts.{Counts, is_keepers, is_shelfs};
+ghost use Rattle.octo_outside.specs.Told.{Counts};
+ghost use Rattle.house_rows.specs.Counts.{is_keepers, is_shelfs};
 ghost use Rattle.octo_house.specs.State.{AreRowsLeft, IsListed, known_of};
 
 use super::House;
@@ -19,7 +20,7 @@ impl House {
     pub(super) fn list_files<S: Shelf>(&self, shelf: &mut S) -> Answer
         ensures done { AnswersOn (S.files shelf.old) list_files_verdict result self.now self.now }
         ensures stays { S.files shelf.new ≡ S.files shelf.old }
-        ensures shelf { Counts (is_shelfs result) (S.faults shelf.old) (S.faults shelf.new) }
+        ensures shelf { Counts (is_shelfs result ≡ true) (S.faults shelf.old) (S.faults shelf.new) }
         ensures keeper { is_keepers result ≡ false }
     {
         let files = match shelf.list(self.desk.alloc) {
@@ -37,7 +38,7 @@ impl House {
         ensures done { AnswersOn (S.files shelf.old)
             (λ files. get_file_verdict name.now files (known_of self.now)) result self.now self.now }
         ensures stays { S.files shelf.new ≡ S.files shelf.old }
-        ensures shelf { Counts (is_shelfs result) (S.faults shelf.old) (S.faults shelf.new) }
+        ensures shelf { Counts (is_shelfs result ≡ true) (S.faults shelf.old) (S.faults shelf.new) }
         ensures keeper { is_keepers result ≡ false }
     {
         if !self.holds(name) {
@@ -59,7 +60,7 @@ impl House {
         ensures done { AnswersOn (S.files shelf.old)
             (λ files. download_verdict name.now files (known_of self.now)) result self.now self.now }
         ensures stays { S.files shelf.new ≡ S.files shelf.old }
-        ensures shelf { Counts (is_shelfs result) (S.faults shelf.old) (S.faults shelf.new) }
+        ensures shelf { Counts (is_shelfs result ≡ true) (S.faults shelf.old) (S.faults shelf.new) }
         ensures keeper { is_keepers result ≡ false }
     {
         if !self.holds(name) {
@@ -93,7 +94,7 @@ impl House {
         ensures rows { AreRowsLeft self.old self.new }
         ensures listed { IsListed (S.files shelf.old) self.old
             → IsListed (S.files shelf.new) self.new }
-        ensures shelf { Counts (is_shelfs result) (S.faults shelf.old) (S.faults shelf.new) }
+        ensures shelf { Counts (is_shelfs result ≡ true) (S.faults shelf.old) (S.faults shelf.new) }
         ensures keeper { is_keepers result ≡ false }
     {
         if !self.holds(name) {

@@ -1,6 +1,5 @@
 //! Turns of the link, and the ends of prints that they bring.
 ghost use Rattle.std.specs.Prelude.{◌≡◌, ◌↔◌, ◌≤◌, ◌⊎◌, [], true, false, None, IfSome};
-ghost use Rattle.octo_outside.specs.Told.{Rose};
 ghost use Rattle.desk_steps.specs.Endings.{IsActive};
 ghost use Rattle.desk_steps.specs.declared.link_fact.LinkFact.TheVariants as fact;
 ghost use Rattle.printer_link.specs.Link.{RoseBy};
@@ -11,7 +10,7 @@ ghost use Rattle.octo_session.specs.declared.found.Doing.TheVariants as now_doin
 ghost use Rattle.octo_session.specs.Found.{up_after, ready_after, can_find};
 ghost use Rattle.octo_session.specs.Turn.{fact_of, lines_of, IsNoteOn, IsSpent, IsTurn};
 ghost use Rattle.house_tables.specs.Kept.{KeepsRows};
-ghost use Rattle.house_rows.specs.Counts.{Counts};
+ghost use Rattle.octo_outside.specs.Told.{Counts};
 ghost use Rattle.house_tables.specs.Data.{is_unwritten_by_fault};
 ghost use Rattle.octo_house.specs.Turned.{Turns, temps_told};
 
@@ -89,10 +88,9 @@ impl House {
         // Counts: of the link's calls and faults, and of the keeper's faults if an end isn't written.
         ensures calls { is_calling (doing self.old.desk.session) ≡ true
             → RoseBy 1 (L.calls link.old) (L.calls link.new) }
-        ensures counted { L.faults link.old ≤ L.faults link.new }
-        ensures failed { fact_of result.note ≡ fact.Failed
-            → Rose (L.faults link.old) (L.faults link.new) }
-        ensures unwritten { Counts (is_unwritten_by_fault self.new.tables.unwritten)
+        ensures counts { Counts (fact_of result.note ≡ fact.Failed)
+            (L.faults link.old) (L.faults link.new) }
+        ensures unwritten { Counts (is_unwritten_by_fault self.new.tables.unwritten ≡ true)
             (K.faults keeper.old) (K.faults keeper.new) }
     {
         is_active(self.desk.session.desk());
