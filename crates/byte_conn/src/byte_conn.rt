@@ -51,7 +51,8 @@ impl<C: Conn + Drop> Conn for ByteConn<C> {
         ensures written { C.written self.new.conn ≡ C.written self.old.conn }
 
         // Counts.
-        ensures quiet { IfOk result (λ got. C.quiets self.new.conn ≡ quiets_after (C.quiets self.old.conn) got) }
+        ensures quiet { IfOk result
+            (λ got. C.quiets self.new.conn ≡ quiets_after (C.quiets self.old.conn) got) }
         ensures quiet_err { OnErr result (C.quiets self.new.conn ≡ C.quiets self.old.conn) }
         ensures quiets_counted { C.quiets self.old.conn ≤ C.quiets self.new.conn }
         ensures counts { Counts (IsErr result) (C.faults self.old.conn) (C.faults self.new.conn) }

@@ -36,7 +36,8 @@ fn finished(number: u32) -> PrintRow
 }
 
 fn add_print<K: Keeper>(alloc: Global, keeper: &mut K, number: u32) -> Result<(), KeeperFault>
-    ensures ok { OnOk result (K.tables keeper.new ≡ option_map (with_print number) (K.tables keeper.old)) }
+    ensures ok { OnOk result
+        (K.tables keeper.new ≡ option_map (with_print number) (K.tables keeper.old)) }
     ensures err { OnErr result (K.tables keeper.new ≡ K.tables keeper.old) }
     ensures counts { Counts (IsErrOf result fault.Failed)
         (K.faults keeper.old) (K.faults keeper.new) }
@@ -57,7 +58,8 @@ fn add_from<K: Keeper>(
     prints: u32,
 ) -> Result<(), KeeperFault>
     requires { first + prints ≤ 4294967295 }
-    ensures ok { OnOk result (K.tables keeper.new ≡ option_map (with_prints first prints) (K.tables keeper.old)) }
+    ensures ok { OnOk result
+        (K.tables keeper.new ≡ option_map (with_prints first prints) (K.tables keeper.old)) }
     ensures err { OnErr result (AddsFrom first prints (K.tables keeper.old) (K.tables keeper.new)) }
     ensures counts { Counts (IsErrOf result fault.Failed)
         (K.faults keeper.old) (K.faults keeper.new) }
@@ -80,7 +82,8 @@ fn first_number(held: usize, prints: u32) -> Option<u32>
 
 /// Adds records of finished prints, each by a change of its own, numbered after those that the tables hold.
 pub fn add_prints<K: Keeper>(alloc: Global, keeper: &mut K, prints: u32) -> ToolEnd
-    ensures all { result ≡ end.Added prints → K.tables keeper.new ≡ option_map (with_more prints) (K.tables keeper.old) }
+    ensures all { result ≡ end.Added prints
+        → K.tables keeper.new ≡ option_map (with_more prints) (K.tables keeper.old) }
     ensures some { AddsUpTo prints (K.tables keeper.old) (K.tables keeper.new) }
     ensures count { (n : ℕ) → result ≡ end.Added n → n ≡ prints }
     ensures only { result ≢ end.Shown }

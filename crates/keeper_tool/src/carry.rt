@@ -17,7 +17,8 @@ use std::alloc::Global;
 
 // Writes the tables out.
 fn show<K: Keeper, O: Sink>(alloc: Global, keeper: &mut K, out: &mut O) -> ToolEnd
-    ensures shown { result ≡ end.Shown → IfSome (K.tables keeper.old) (λ t. Adds (O.written out.old) (O.written out.new) (tables_text t)) }
+    ensures shown { result ≡ end.Shown → IfSome (K.tables keeper.old)
+        (λ t. Adds (O.written out.old) (O.written out.new) (tables_text t)) }
     ensures only { (n : ℕ) → result ≢ end.Added n }
     ensures stays { K.tables keeper.new ≡ K.tables keeper.old }
     ensures counts { Counts (result ≡ end.KeeperFailed)
@@ -44,9 +45,12 @@ pub fn carry_out<K: Keeper, O: Sink>(
     work: Work,
     out: &mut O,
 ) -> ToolEnd
-    ensures shown { result ≡ end.Shown → IfSome (K.tables keeper.old) (λ t. Adds (O.written out.old) (O.written out.new) (tables_text t)) }
-    ensures added { (n : ℕ) → result ≡ end.Added n → (work ≡ todo.Add n) × (K.tables keeper.new ≡ option_map (with_more n) (K.tables keeper.old)) }
-    ensures some { (n : ℕ) → work ≡ todo.Add n → AddsUpTo n (K.tables keeper.old) (K.tables keeper.new) }
+    ensures shown { result ≡ end.Shown → IfSome (K.tables keeper.old)
+        (λ t. Adds (O.written out.old) (O.written out.new) (tables_text t)) }
+    ensures added { (n : ℕ) → result ≡ end.Added n → (work ≡ todo.Add n)
+        × (K.tables keeper.new ≡ option_map (with_more n) (K.tables keeper.old)) }
+    ensures some { (n : ℕ) → work ≡ todo.Add n
+        → AddsUpTo n (K.tables keeper.old) (K.tables keeper.new) }
     ensures stays { work ≡ todo.Show → K.tables keeper.new ≡ K.tables keeper.old }
     ensures counts { Counts (result ≡ end.KeeperFailed)
         (K.faults keeper.old) (K.faults keeper.new) }

@@ -17,10 +17,15 @@ use std::alloc::Global;
 fn begin<C: Conn, O: Sink>(conn: &mut C, out: &mut O, sim: &mut Sim, plan: &SimPlan) -> SimEnd
     requires plan { IsPlan plan.now }
     requires places { sim.old.printer.places ≡ plan.now.places }
-    ensures told { (input : List ℕ) (first : Outside) → Serves plan.now input first (outside (C.left conn.old) (C.written conn.old) (O.written out.old)) sim.old → Ending result plan.now input first (outside (C.left conn.new) (C.written conn.new) (O.written out.new)) sim.new }
+    ensures told { (input : List ℕ) (first : Outside)
+        → Serves plan.now input first
+        (outside (C.left conn.old) (C.written conn.old) (O.written out.old)) sim.old
+        → Ending result plan.now input first
+        (outside (C.left conn.new) (C.written conn.new) (O.written out.new)) sim.new }
     ensures plan { result ≢ end.BadPlan }
     ensures turns { (turns : ℕ) → result ≡ end.TurnsUsed turns → turns ≡ plan.now.turns }
-    ensures used { (turns : ℕ) → result ≡ end.TurnsUsed turns → IfSome (C.left conn.old) (λ before. IsUsed turns before (C.left conn.new) (C.quiets conn.old) (C.quiets conn.new)) }
+    ensures used { (turns : ℕ) → result ≡ end.TurnsUsed turns → IfSome (C.left conn.old)
+        (λ before. IsUsed turns before (C.left conn.new) (C.quiets conn.old) (C.quiets conn.new)) }
     ensures conn { Counts (result ≡ end.ConnFailed) (C.faults conn.old) (C.faults conn.new) }
     ensures sink { Counts (result ≡ end.SinkFailed) (O.faults out.old) (O.faults out.new) }
 {
@@ -63,10 +68,13 @@ pub fn simulate<C: Conn, O: Sink>(
     plan: &SimPlan,
 ) -> SimEnd
     requires { IsPlan plan.now }
-    ensures served { IfSome (C.left conn.old) (λ input. Outcome result plan.now input (outside (C.left conn.old) (C.written conn.old) (O.written out.old)) (outside (C.left conn.new) (C.written conn.new) (O.written out.new))) }
+    ensures served { IfSome (C.left conn.old) (λ input. Outcome result plan.now input
+        (outside (C.left conn.old) (C.written conn.old) (O.written out.old))
+        (outside (C.left conn.new) (C.written conn.new) (O.written out.new))) }
     ensures plan { result ≢ end.BadPlan }
     ensures turns { (turns : ℕ) → result ≡ end.TurnsUsed turns → turns ≡ plan.now.turns }
-    ensures used { (turns : ℕ) → result ≡ end.TurnsUsed turns → IfSome (C.left conn.old) (λ before. IsUsed turns before (C.left conn.new) (C.quiets conn.old) (C.quiets conn.new)) }
+    ensures used { (turns : ℕ) → result ≡ end.TurnsUsed turns → IfSome (C.left conn.old)
+        (λ before. IsUsed turns before (C.left conn.new) (C.quiets conn.old) (C.quiets conn.new)) }
     ensures conn { Counts (result ≡ end.ConnFailed) (C.faults conn.old) (C.faults conn.new) }
     ensures sink { Counts (result ≡ end.SinkFailed) (O.faults out.old) (O.faults out.new) }
 {
@@ -82,10 +90,17 @@ pub fn simulate<C: Conn, O: Sink>(
 pub fn sim<C: Conn, O: Sink>(alloc: Global, words: &WordList, conn: &mut C, out: &mut O) -> SimEnd
     ensures no_plan { plan_of words.now ≡ None → (result ≡ end.BadPlan) ⊎ (result ≡ end.NoMemory) }
     ensures bad_plan { result ≡ end.BadPlan → plan_of words.now ≡ None }
-    ensures unused { plan_of words.now ≡ None → outside (C.left conn.new) (C.written conn.new) (O.written out.new) ≡ outside (C.left conn.old) (C.written conn.old) (O.written out.old) }
-    ensures served { (plan : SimPlan) → plan_of words.now ≡ Some plan → IfSome (C.left conn.old) (λ input. Outcome result plan input (outside (C.left conn.old) (C.written conn.old) (O.written out.old)) (outside (C.left conn.new) (C.written conn.new) (O.written out.new))) }
-    ensures turns { (plan : SimPlan) (turns : ℕ) → plan_of words.now ≡ Some plan → result ≡ end.TurnsUsed turns → turns ≡ plan.turns }
-    ensures used { (turns : ℕ) → result ≡ end.TurnsUsed turns → IfSome (C.left conn.old) (λ before. IsUsed turns before (C.left conn.new) (C.quiets conn.old) (C.quiets conn.new)) }
+    ensures unused { plan_of words.now ≡ None
+        → outside (C.left conn.new) (C.written conn.new) (O.written out.new)
+        ≡ outside (C.left conn.old) (C.written conn.old) (O.written out.old) }
+    ensures served { (plan : SimPlan) → plan_of words.now ≡ Some plan
+        → IfSome (C.left conn.old) (λ input. Outcome result plan input
+        (outside (C.left conn.old) (C.written conn.old) (O.written out.old))
+        (outside (C.left conn.new) (C.written conn.new) (O.written out.new))) }
+    ensures turns { (plan : SimPlan) (turns : ℕ) → plan_of words.now ≡ Some plan
+        → result ≡ end.TurnsUsed turns → turns ≡ plan.turns }
+    ensures used { (turns : ℕ) → result ≡ end.TurnsUsed turns → IfSome (C.left conn.old)
+        (λ before. IsUsed turns before (C.left conn.new) (C.quiets conn.old) (C.quiets conn.new)) }
     ensures conn { Counts (result ≡ end.ConnFailed) (C.faults conn.old) (C.faults conn.new) }
     ensures sink { Counts (result ≡ end.SinkFailed) (O.faults out.old) (O.faults out.new) }
 {

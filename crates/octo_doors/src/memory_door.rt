@@ -77,7 +77,11 @@ impl MemoryDoor {
 
     // A call fails: nothing comes any more.
     fn fail(&mut self) -> Failed
-        ensures after { self.new ≡ record self.old { coming = []; faults = one_more self.old.faults; has_failed = true } }
+        ensures after { self.new ≡ record self.old {
+          coming = [];
+          faults = one_more self.old.faults;
+          has_failed = true;
+        } }
         ensures counts { Counts ⊤ self.old.faults self.new.faults }
     {
         self.calls.fail();
@@ -112,7 +116,8 @@ impl Door for MemoryDoor {
 
         ensures ok { IfOk result (λ knock.
             Comes conn_state (inputs_of self.old.coming) knock (Some (inputs_of self.new.coming))) }
-        ensures fresh { IfOk result (λ knock. IsNew (λ (c : ConnData). c.faults) (λ (c : ConnData). c.quiets) knock) }
+        ensures fresh { IfOk result
+            (λ knock. IsNew (λ (c : ConnData). c.faults) (λ (c : ConnData). c.quiets) knock) }
         ensures err { OnErr result (self.new.coming ≡ []) }
         ensures has_failed { self.new.has_failed ≡ (self.old.has_failed || is_err result) }
         ensures after { self.old.has_failed ≡ true → IsOkAnd result IsEnded }

@@ -56,7 +56,8 @@ fn leave_for(head: &Head) -> &'static [u8]
 // Gives the client leave to send the body, if it waits for that.
 fn give_leave<C: Conn>(conn: &mut C, head: &Head) -> Result<(), Failed>
     ensures ok { OnOk result (Adds (C.written conn.old) (C.written conn.new) (asked head.now)) }
-    ensures err { OnErr result (AddsPrefix (C.written conn.old) (C.written conn.new) (asked head.now)) }
+    ensures err { OnErr result
+        (AddsPrefix (C.written conn.old) (C.written conn.new) (asked head.now)) }
     ensures left { C.left conn.new ≡ C.left conn.old }
     ensures quiets { C.quiets conn.new ≡ C.quiets conn.old }
     ensures counts { Counts (IsErr result) (C.faults conn.old) (C.faults conn.new) }
@@ -97,7 +98,8 @@ pub fn read_message<C: Conn>(
 ) -> Result<Message, MessageFault>
     // What the input says is answered, and the leave to send a body is written before the body is read.
     ensures answer { (input : List ℕ) → C.left conn.old ≡ Some input
-        → Writes (C.written conn.old) (C.written conn.new) (Answers input (C.left conn.new) result) }
+        → Writes (C.written conn.old) (C.written conn.new)
+        (Answers input (C.left conn.new) result) }
     ensures bounded { AddsPrefix (C.written conn.old) (C.written conn.new) leave }
 
     // Counts.

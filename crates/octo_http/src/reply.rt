@@ -127,8 +127,10 @@ fn sent_body(reply: &HttpReply) -> &[u8]
 
 /// Writes the bytes of a reply; after a failed call a prefix of them was written. Source: RFC 9112, section 4.
 pub fn write_reply<C: Conn>(conn: &mut C, reply: &HttpReply) -> Result<(), Failed>
-    ensures ok { OnOk result (Adds (C.written conn.old) (C.written conn.new) (reply_bytes reply.now)) }
-    ensures err { OnErr result (AddsPrefix (C.written conn.old) (C.written conn.new) (reply_bytes reply.now)) }
+    ensures ok { OnOk result
+        (Adds (C.written conn.old) (C.written conn.new) (reply_bytes reply.now)) }
+    ensures err { OnErr result
+        (AddsPrefix (C.written conn.old) (C.written conn.new) (reply_bytes reply.now)) }
     ensures left { C.left conn.new ≡ C.left conn.old }
     ensures quiets { C.quiets conn.new ≡ C.quiets conn.old }
     ensures counts { Counts (IsErr result) (C.faults conn.old) (C.faults conn.new) }

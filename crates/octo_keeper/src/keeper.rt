@@ -57,7 +57,8 @@ pub trait Keeper {
 
     /// Makes all of a change, or after a fault nothing of it. All rows that the change doesn't name stay.
     fn commit(&mut self, alloc: Global, change: &Change) -> Result<(), KeeperFault>
-        ensures ok { OnOk result (tables self.new ≡ option_map (changed change.now) (tables self.old)) }
+        ensures ok { OnOk result
+            (tables self.new ≡ option_map (changed change.now) (tables self.old)) }
         ensures err { OnErr result (tables self.new ≡ tables self.old) }
 
         ensures counts { Counts (IsErrOf result fault.Failed) (faults self.old) (faults self.new) };

@@ -60,7 +60,8 @@ impl Keeper for MemoryKeeper {
         ensures stays { self.new.tables ≡ self.old.tables }
 
         ensures fails { IsErrOf result fault.Failed
-            ↔ ((is_listed self.old.calls.fail_at (one_more self.old.calls.made) ≡ true) ⊎ (are_sound self.old.tables ≡ false)) }
+            ↔ ((is_listed self.old.calls.fail_at (one_more self.old.calls.made) ≡ true)
+            ⊎ (are_sound self.old.tables ≡ false)) }
         ensures counts { Counts (IsErrOf result fault.Failed)
             self.old.calls.faults self.new.calls.faults }
     {
@@ -82,7 +83,8 @@ impl Keeper for MemoryKeeper {
         ensures ok { OnOk result (self.new.tables ≡ changed change.now self.old.tables) }
         ensures err { OnErr result (self.new.tables ≡ self.old.tables) }
 
-        ensures fails { IsErrOf result fault.Failed ↔ (is_listed self.old.calls.fail_at (one_more self.old.calls.made) ≡ true) }
+        ensures fails { IsErrOf result fault.Failed
+            ↔ (is_listed self.old.calls.fail_at (one_more self.old.calls.made) ≡ true) }
         ensures counts { Counts (IsErrOf result fault.Failed)
             self.old.calls.faults self.new.calls.faults }
     {

@@ -51,7 +51,8 @@ impl Shelf for MemoryShelf {
         ensures ok { IfOk result (λ list. list ≡ sizes_of self.old.files) }
         ensures stays { self.new.files ≡ self.old.files }
 
-        ensures fails { IsErrOf result fault.Failed ↔ (is_listed self.old.calls.fail_at (one_more self.old.calls.made) ≡ true) }
+        ensures fails { IsErrOf result fault.Failed
+            ↔ (is_listed self.old.calls.fail_at (one_more self.old.calls.made) ≡ true) }
         ensures counts { Counts (IsErrOf result fault.Failed)
             self.old.calls.faults self.new.calls.faults }
     {
@@ -69,7 +70,8 @@ impl Shelf for MemoryShelf {
         ensures ok { IfOk result (λ bytes. bytes ≡ bytes_of name.now self.old.files) }
         ensures stays { self.new.files ≡ self.old.files }
 
-        ensures fails { IsErrOf result fault.Failed ↔ (is_listed self.old.calls.fail_at (one_more self.old.calls.made) ≡ true) }
+        ensures fails { IsErrOf result fault.Failed
+            ↔ (is_listed self.old.calls.fail_at (one_more self.old.calls.made) ≡ true) }
         ensures counts { Counts (IsErrOf result fault.Failed)
             self.old.calls.faults self.new.calls.faults }
     {
@@ -87,7 +89,8 @@ impl Shelf for MemoryShelf {
         ensures ok { OnOk result (self.new.files ≡ with_file name.now bytes.now self.old.files) }
         ensures err { OnErr result (self.new.files ≡ self.old.files) }
 
-        ensures fails { IsErrOf result fault.Failed ↔ (is_listed self.old.calls.fail_at (one_more self.old.calls.made) ≡ true) }
+        ensures fails { IsErrOf result fault.Failed
+            ↔ (is_listed self.old.calls.fail_at (one_more self.old.calls.made) ≡ true) }
         ensures counts { Counts (IsErrOf result fault.Failed)
             self.old.calls.faults self.new.calls.faults }
     {
@@ -105,7 +108,8 @@ impl Shelf for MemoryShelf {
         ensures ok { OnOk result (self.new.files ≡ without_file name.now self.old.files) }
         ensures err { OnErr result (self.new.files ≡ self.old.files) }
 
-        ensures fails { IsErrOf result fault.Failed ↔ (is_listed self.old.calls.fail_at (one_more self.old.calls.made) ≡ true) }
+        ensures fails { IsErrOf result fault.Failed
+            ↔ (is_listed self.old.calls.fail_at (one_more self.old.calls.made) ≡ true) }
         ensures memory { IsErrOf result fault.NoMemory → ⊥ }
         ensures counts { Counts (IsErrOf result fault.Failed)
             self.old.calls.faults self.new.calls.faults }

@@ -67,21 +67,24 @@ pub trait Shelf {
 
     /// The bytes of a file, `None` if there is no file of that name.
     fn get(&mut self, alloc: Global, name: &Name) -> Result<Option<Blob>, ShelfFault>
-        ensures ok { IfOk result (λ bytes. IfSome (files self.old) (λ held. bytes ≡ bytes_of name.now held)) }
+        ensures ok { IfOk result
+            (λ bytes. IfSome (files self.old) (λ held. bytes ≡ bytes_of name.now held)) }
         ensures stays { files self.new ≡ files self.old }
 
         ensures counts { Counts (IsErrOf result fault.Failed) (faults self.old) (faults self.new) };
 
     /// Sets the bytes of that name alone.
     fn put(&mut self, alloc: Global, name: &Name, bytes: &[u8]) -> Result<(), ShelfFault>
-        ensures ok { OnOk result (files self.new ≡ option_map (with_file name.now bytes.now) (files self.old)) }
+        ensures ok { OnOk result
+            (files self.new ≡ option_map (with_file name.now bytes.now) (files self.old)) }
         ensures err { OnErr result (files self.new ≡ files self.old) }
 
         ensures counts { Counts (IsErrOf result fault.Failed) (faults self.old) (faults self.new) };
 
     /// Takes the file of that name alone out, if there is one.
     fn remove(&mut self, alloc: Global, name: &Name) -> Result<(), ShelfFault>
-        ensures ok { OnOk result (files self.new ≡ option_map (without_file name.now) (files self.old)) }
+        ensures ok { OnOk result
+            (files self.new ≡ option_map (without_file name.now) (files self.old)) }
         ensures err { OnErr result (files self.new ≡ files self.old) }
 
         ensures counts { Counts (IsErrOf result fault.Failed) (faults self.old) (faults self.new) };

@@ -33,7 +33,8 @@ pub trait Conn {
     /// Reads the next bytes. `Ended` comes where nothing is left and the peer has closed.
     fn read(&mut self, into: &mut [u8]) -> Result<Got, Failed>
         requires { 0 < length into.old }
-        ensures ok { IfOk result (λ got. IfSome (left self.old) (λ before. Receives before got into.new (left self.new))) }
+        ensures ok { IfOk result (λ got. IfSome (left self.old)
+            (λ before. Receives before got into.new (left self.new))) }
         ensures bound { IfOk result (λ got. IsWithin got (length into.new)) }
         ensures err { OnErr result (left self.new ≡ left self.old) }
         ensures written { written self.new ≡ written self.old }
@@ -45,7 +46,8 @@ pub trait Conn {
     /// Writes 1 to all of the bytes, a prefix.
     fn write(&mut self, bytes: &[u8]) -> Result<usize, Failed>
         requires { 0 < length bytes.now }
-        ensures ok { IfOk result (λ n. (0 < n) × (n ≤ length bytes.now) × Adds (written self.old) (written self.new) (take n bytes.now)) }
+        ensures ok { IfOk result (λ n. (0 < n) × (n ≤ length bytes.now)
+            × Adds (written self.old) (written self.new) (take n bytes.now)) }
         ensures err { OnErr result (Adds (written self.old) (written self.new) []) }
         ensures left { left self.new ≡ left self.old }
         ensures quiets { quiets self.new ≡ quiets self.old }

@@ -126,9 +126,13 @@ impl Conn for MemoryConn {
 
     fn read(&mut self, into: &mut [u8]) -> Result<Got, Failed>
         requires { 0 < length into.old }
-        ensures fails { IsErr result ↔ (is_listed self.old.fail_at (one_more self.old.calls) ≡ true) }
+        ensures fails { IsErr result
+            ↔ (is_listed self.old.fail_at (one_more self.old.calls) ≡ true) }
         ensures got { IfOk result (λ got. got ≡ next_got self.old (length into.old)) }
-        ensures refused { OnErr result (self.new ≡ record self.old { calls = one_more self.old.calls; faults = one_more self.old.faults }) }
+        ensures refused { OnErr result (self.new ≡ record self.old {
+          calls = one_more self.old.calls;
+          faults = one_more self.old.faults;
+        }) }
         ensures after { IfOk result (λ got. self.new ≡ after_got self.old got) }
         ensures ok { IfOk result (λ got. Receives self.old.left got into.new (Some self.new.left)) }
         ensures bound { IfOk result (λ got. IsWithin got (length into.new)) }
@@ -156,10 +160,18 @@ impl Conn for MemoryConn {
     fn write(&mut self, bytes: &[u8]) -> Result<usize, Failed>
         requires { 0 < length bytes.now }
         ensures all { IfOk result (λ n. n ≡ length bytes.now) }
-        ensures kept { OnOk result (self.new ≡ record self.old { written = self.old.written ++ bytes.now; calls = one_more self.old.calls }) }
-        ensures refused { OnErr result (self.new ≡ record self.old { calls = one_more self.old.calls; faults = one_more self.old.faults }) }
-        ensures fails { IsTrue (is_listed self.old.fail_at (one_more self.old.calls)) → IsErr result }
-        ensures ok { IfOk result (λ n. (0 < n) × (n ≤ length bytes.now) × Adds (Some self.old.written) (Some self.new.written) (take n bytes.now)) }
+        ensures kept { OnOk result (self.new ≡ record self.old {
+          written = self.old.written ++ bytes.now;
+          calls = one_more self.old.calls;
+        }) }
+        ensures refused { OnErr result (self.new ≡ record self.old {
+          calls = one_more self.old.calls;
+          faults = one_more self.old.faults;
+        }) }
+        ensures fails { IsTrue (is_listed self.old.fail_at (one_more self.old.calls))
+            → IsErr result }
+        ensures ok { IfOk result (λ n. (0 < n) × (n ≤ length bytes.now)
+            × Adds (Some self.old.written) (Some self.new.written) (take n bytes.now)) }
         ensures err { OnErr result (Adds (Some self.old.written) (Some self.new.written) []) }
         ensures left { self.new.left ≡ self.old.left }
         ensures quiets { self.new.quiets ≡ self.old.quiets }

@@ -131,9 +131,18 @@ impl Source for MemorySource {
     ghost faults = { λ s. s.faults };
 
     fn choose(&mut self, name: &str) -> Result<(), Failed>
-        ensures chosen { OnOk result (self.new ≡ record self.old { left = unwrap_or (held self.old.files name.now) []; calls = one_more self.old.calls }) }
-        ensures refused { OnErr result (self.new ≡ record self.old { left = []; calls = one_more self.old.calls; faults = one_more self.old.faults }) }
-        ensures fails { IsErr result ↔ ((is_listed self.old.fail_at (one_more self.old.calls) ≡ true) ⊎ (held self.old.files name.now ≡ None)) }
+        ensures chosen { OnOk result (self.new ≡ record self.old {
+          left = unwrap_or (held self.old.files name.now) [];
+          calls = one_more self.old.calls;
+        }) }
+        ensures refused { OnErr result (self.new ≡ record self.old {
+          left = [];
+          calls = one_more self.old.calls;
+          faults = one_more self.old.faults;
+        }) }
+        ensures fails { IsErr result
+            ↔ ((is_listed self.old.fail_at (one_more self.old.calls) ≡ true)
+            ⊎ (held self.old.files name.now ≡ None)) }
         ensures ok { OnOk result (Begins (held self.old.files) name.now (Some self.new.left)) }
         ensures err { OnErr result (self.new.left ≡ []) }
         ensures files { self.new.files ≡ self.old.files }
@@ -152,7 +161,8 @@ impl Source for MemorySource {
 
     fn read(&mut self, into: &mut [u8]) -> Result<usize, Failed>
         requires { 0 < length into.old }
-        ensures fails { IsErr result ↔ (is_listed self.old.fail_at (one_more self.old.calls) ≡ true) }
+        ensures fails { IsErr result
+            ↔ (is_listed self.old.fail_at (one_more self.old.calls) ≡ true) }
         ensures reads { IfOk result (λ n. n ≡ min (length into.old) (length self.old.left)) }
         ensures ok { IfOk result (λ n. Reads self.old.left n into.new (Some self.new.left)) }
         ensures bound { IfOk result (λ n. n ≤ length into.new) }

@@ -19,7 +19,8 @@ pub trait Sink {
     /// Takes 1 to all of the bytes, a prefix. After a failed call nothing was taken.
     fn write(&mut self, bytes: &[u8]) -> Result<usize, Failed>
         requires { 0 < length bytes.now }
-        ensures ok { IfOk result (λ n. Adds (written self.old) (written self.new) (take n bytes.now)) }
+        ensures ok { IfOk result
+            (λ n. Adds (written self.old) (written self.new) (take n bytes.now)) }
         ensures some { IfOk result (λ n. (0 < n) × (n ≤ length bytes.now)) }
         ensures err { OnErr result (Adds (written self.old) (written self.new) []) }
         ensures counts { Counts (IsErr result) (faults self.old) (faults self.new) };
@@ -78,10 +79,18 @@ impl Sink for MemorySink {
     fn write(&mut self, bytes: &[u8]) -> Result<usize, Failed>
         requires { 0 < length bytes.now }
         ensures all { IfOk result (λ n. n ≡ length bytes.now) }
-        ensures kept { OnOk result (self.new ≡ record self.old { written = self.old.written ++ bytes.now; calls = one_more self.old.calls }) }
-        ensures refused { OnErr result (self.new ≡ record self.old { calls = one_more self.old.calls; faults = one_more self.old.faults }) }
-        ensures fails { IsTrue (is_listed self.old.fail_at (one_more self.old.calls)) → IsErr result }
-        ensures ok { IfOk result (λ n. Adds (Some self.old.written) (Some self.new.written) (take n bytes.now)) }
+        ensures kept { OnOk result (self.new ≡ record self.old {
+          written = self.old.written ++ bytes.now;
+          calls = one_more self.old.calls;
+        }) }
+        ensures refused { OnErr result (self.new ≡ record self.old {
+          calls = one_more self.old.calls;
+          faults = one_more self.old.faults;
+        }) }
+        ensures fails { IsTrue (is_listed self.old.fail_at (one_more self.old.calls))
+            → IsErr result }
+        ensures ok { IfOk result
+            (λ n. Adds (Some self.old.written) (Some self.new.written) (take n bytes.now)) }
         ensures some { IfOk result (λ n. (0 < n) × (n ≤ length bytes.now)) }
         ensures err { OnErr result (Adds (Some self.old.written) (Some self.new.written) []) }
         ensures counts { Counts (IsErr result) self.old.faults self.new.faults }

@@ -57,22 +57,27 @@ pub fn run_print<L: Link, T: Clock>(
 
     // The first lines of the plan were printed, in one session at most; all of it if the print is done.
     ensures printed { Recorded (L.past link.old) (L.past link.new)
-        (HasPrinted (L.kind link.old) (plan session.old.desk.scripts (texts_of job)) result session.new.sender.acked) }
+        (HasPrinted (L.kind link.old) (plan session.old.desk.scripts (texts_of job))
+        result session.new.sender.acked) }
 
     // Each end by its cause.
     ensures too_hot { IsTooHot (first_hot_of session.old.desk.limits job.commands) result }
-    ensures no_port { (result ≡ end.NoPort) ↔ IsUnlisted (first_hot_of session.old.desk.limits job.commands)
+    ensures no_port { (result ≡ end.NoPort)
+        ↔ IsUnlisted (first_hot_of session.old.desk.limits job.commands)
         turns ((L.kind link.old).listed port.now) }
     ensures ended { (why : SessionEnd) → result ≡ end.Ended why
         → HasEnded (L.kind link.old) (L.past link.new) session.new.sender why }
-    ensures waited { HasWaited result (T.moment clock.old) session.old.sender.limit (T.moment clock.new) }
-    ensures unanswered { (count : ℕ) → result ≡ end.Ended (NoAnswer count) → IsUnanswered session.new.sender }
+    ensures waited { HasWaited result (T.moment clock.old)
+        session.old.sender.limit (T.moment clock.new) }
+    ensures unanswered { (count : ℕ) → result ≡ end.Ended (NoAnswer count)
+        → IsUnanswered session.new.sender }
     ensures used { (made : ℕ) → result ≡ end.TurnsUsed made
         → (made ≡ turns) × RoseBy turns (L.calls link.old) (L.calls link.new) }
 
     // Over a prompt link a print is done if it has 32 turns more than its plan has lines.
     ensures prompt { first_hot_of session.old.desk.limits job.commands ≡ None
-        → IsSmooth (L.kind link.old) (L.past link.old) port.now (L.faults link.old) (L.faults link.new)
+        → IsSmooth (L.kind link.old) (L.past link.old) port.now
+        (L.faults link.old) (L.faults link.new)
         (T.moment clock.new) session.old.sender.limit session.old.desk.poll_ms
         (length (plan session.old.desk.scripts (texts_of job)))
         → length (plan session.old.desk.scripts (texts_of job)) + 32 ≤ turns → result ≡ end.Done }
@@ -115,7 +120,8 @@ fn make_turns<L: Link, T: Clock>(
 ) -> PrintEnd
     requires as_up { L.up link.old ≡ session.old.up }
     requires begins { HasBegun (L.past link.old) session.old }
-    requires on_time { IsOnTime (T.moment clock.old) (T.moment clock.old) 0 session.old.sender.limit session.old.sender }
+    requires on_time { IsOnTime (T.moment clock.old) (T.moment clock.old) 0
+        session.old.sender.limit session.old.sender }
     ensures over { (p : PrintData)
         → IsDialling p (port_of session.old.desk) (L.past link.old) (L.past link.old) session.old
         → IsOver (L.kind link.old) (plan p.scripts (print_commands p)) result
@@ -127,8 +133,10 @@ fn make_turns<L: Link, T: Clock>(
     ensures counts { Counts (result ≡ end.LinkFailed) (L.faults link.old) (L.faults link.new) }
     ensures used { (made : ℕ) → result ≡ end.TurnsUsed made
         → (made ≡ turns) × RoseBy turns (L.calls link.old) (L.calls link.new) }
-    ensures waited { HasWaited result (T.moment clock.old) session.old.sender.limit (T.moment clock.new) }
-    ensures unanswered { (count : ℕ) → result ≡ end.Ended (NoAnswer count) → IsUnanswered session.new.sender }
+    ensures waited { HasWaited result (T.moment clock.old)
+        session.old.sender.limit (T.moment clock.new) }
+    ensures unanswered { (count : ℕ) → result ≡ end.Ended (NoAnswer count)
+        → IsUnanswered session.new.sender }
     ensures prompt { (p : PrintData)
         → IsDialling p (port_of session.old.desk) (L.past link.old) (L.past link.old) session.old
         → IsSmooth (L.kind link.old) (L.past link.old) (port_of session.old.desk)
@@ -172,7 +180,8 @@ fn make_turn<L: Link, T: Clock>(
     ensures unused { (made : ℕ) → result ≢ Some (end.TurnsUsed made) }
     ensures waits { (start limit : ℕ) → start ≤ moment → IsPatient start limit session.old.sender
         → IsPatient start limit session.new.sender }
-    ensures waited { (start limit count : ℕ) → start ≤ moment → IsPatient start limit session.old.sender
+    ensures waited { (start limit count : ℕ)
+        → start ≤ moment → IsPatient start limit session.old.sender
         → result ≡ Some (end.Ended (NoAnswer count))
         → (later start (5 * limit) ≤ moment) × IsUnanswered session.new.sender }
     ensures clock { NotBefore (T.moment clock.old) (T.moment clock.new) }
@@ -181,7 +190,8 @@ fn make_turn<L: Link, T: Clock>(
         → IsUnsaturated (Some moment) session.old.sender.limit poll_ms
         → T.moment clock.old ≡ Some moment → T.moment clock.new ≡ Some at
         → IsOnWay (L.kind link.old) p poll_ms moment left (L.past link.old) session.old
-        → LeavesOnWay result (L.kind link.old) p poll_ms at (left - 1) (L.past link.new) session.new }
+        → LeavesOnWay result (L.kind link.old) p poll_ms at (left - 1)
+        (L.past link.new) session.new }
     ensures passes { (line asked limit : ℕ) → result ≢ Some (end.TooHot line asked limit) }
 {
     let turned = turn_over_link(session, link, moment);

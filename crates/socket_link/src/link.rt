@@ -263,15 +263,23 @@ impl<R: Net + Clock + Drop> Link for SocketLink<R> {
 
     fn recv(&mut self, into: &mut ReplyLine) -> Result<Heard, LinkFault>
         requires { self.old.up ≡ true }
-        ensures at_once { list_any ends_line self.old.lines.waiting ≡ true → result ≡ Ok heard.Line }
-        ensures line { list_any ends_line self.old.lines.waiting ≡ true → into.new.items ≡ cut (self.old.lines.begun ++ before_first ends_line self.old.lines.waiting) }
-        ensures behind { list_any ends_line self.old.lines.waiting ≡ true → self.new.lines ≡ record { begun = []; waiting = after_first ends_line self.old.lines.waiting } }
+        ensures at_once { list_any ends_line self.old.lines.waiting ≡ true
+            → result ≡ Ok heard.Line }
+        ensures line { list_any ends_line self.old.lines.waiting ≡ true
+            → into.new.items ≡ cut (self.old.lines.begun
+            ++ before_first ends_line self.old.lines.waiting) }
+        ensures behind { list_any ends_line self.old.lines.waiting ≡ true
+            → self.new.lines ≡ record {
+              begun = [];
+              waiting = after_first ends_line self.old.lines.waiting;
+            } }
 
         // If no reply waited and the call didn't fail, what was unsent was written before more was read.
         ensures emptied { list_any ends_line self.old.lines.waiting ≡ false
             → OnOk result (self.new.unsent ≡ []) }
         ensures written { list_any ends_line self.old.lines.waiting ≡ false
-            → OnOk result (WroteFirst (of_stream R.Stream.contents) self.old.stream self.old.unsent) }
+            → OnOk result (WroteFirst (of_stream R.Stream.contents)
+            self.old.stream self.old.unsent) }
 
         ensures no_port { IsErrOf result fault.NoPort → ⊥ }
         ensures up { OnOk result (self.new.up ≡ true) }

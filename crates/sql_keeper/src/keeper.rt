@@ -87,8 +87,10 @@ impl<S: Alter + Drop> Keeper for SqlKeeper<S> {
     }
 
     fn commit(&mut self, alloc: Global, change: &Change) -> Result<(), KeeperFault>
-        ensures nothing { OnErr result (IsUndone (state S.Store self.old.connection) (state S.Store self.new.connection)) }
-        ensures atomic { IsAtomic (state S.Store self.old.connection) (state S.Store self.new.connection) }
+        ensures nothing { OnErr result
+            (IsUndone (state S.Store self.old.connection) (state S.Store self.new.connection)) }
+        ensures atomic { IsAtomic
+            (state S.Store self.old.connection) (state S.Store self.new.connection) }
 
         ensures counts { Counts (IsErrOf result fault.Failed) self.old.faults self.new.faults }
     {

@@ -46,7 +46,8 @@ impl House {
         // The state that it begins with.
         ensures made { IfOk result (λ house. IsMadeOf session policy ports material house) }
         ensures begins { IfOk result (λ house.
-            BeginsOn session policy ports material (K.tables keeper.old) (S.files shelf.old) house) }
+            BeginsOn session policy ports material
+            (K.tables keeper.old) (S.files shelf.old) house) }
 
         // Keeper and shelf hold what they held, and it is the host's.
         ensures tables { K.tables keeper.new ≡ K.tables keeper.old }

@@ -36,7 +36,8 @@ impl House {
     // One file.
     pub(super) fn file<S: Shelf>(&self, shelf: &mut S, name: &Name) -> Answer
         ensures done { AnswersOn (S.files shelf.old)
-            (λ files. get_file_verdict name.now files (known_of self.now)) result self.now self.now }
+            (λ files. get_file_verdict name.now files (known_of self.now))
+            result self.now self.now }
         ensures stays { S.files shelf.new ≡ S.files shelf.old }
         ensures shelf { Counts (is_shelfs result ≡ true) (S.faults shelf.old) (S.faults shelf.new) }
         ensures keeper { is_keepers result ≡ false }
@@ -58,7 +59,8 @@ impl House {
     // The bytes of a file.
     pub(super) fn download<S: Shelf>(&self, shelf: &mut S, name: &Name) -> Answer
         ensures done { AnswersOn (S.files shelf.old)
-            (λ files. download_verdict name.now files (known_of self.now)) result self.now self.now }
+            (λ files. download_verdict name.now files (known_of self.now))
+            result self.now self.now }
         ensures stays { S.files shelf.new ≡ S.files shelf.old }
         ensures shelf { Counts (is_shelfs result ≡ true) (S.faults shelf.old) (S.faults shelf.new) }
         ensures keeper { is_keepers result ≡ false }
@@ -88,7 +90,8 @@ impl House {
 
     // Deletes a file: the shelf first, and then what the host knows of it.
     pub(super) fn delete_file<S: Shelf>(&mut self, shelf: &mut S, name: &Name) -> Answer
-        ensures done { Answers (delete_verdict name.now (known_of self.old)) result self.old self.new }
+        ensures done { Answers
+            (delete_verdict name.now (known_of self.old)) result self.old self.new }
         ensures files { Shelves (S.files shelf.old) (S.files shelf.new)
             (λ _. delete_verdict name.now (known_of self.old)) result }
         ensures rows { AreRowsLeft self.old self.new }

@@ -49,9 +49,11 @@ impl House {
 
         // The session takes a turn of its own.
         ensures turn { IsTurn moment (L.kind link.old) (L.past link.old) (L.past link.new)
-            (L.calls link.old) (L.calls link.new) self.old.desk.session self.new.desk.session result }
+            (L.calls link.old) (L.calls link.new)
+            self.old.desk.session self.new.desk.session result }
         ensures finds { can_find (doing self.old.desk.session) (fact_of result.note) ≡ true }
-        ensures up { self.new.desk.session.up ≡ up_after (fact_of result.note) self.old.desk.session.up }
+        ensures up { self.new.desk.session.up
+            ≡ up_after (fact_of result.note) self.old.desk.session.up }
         ensures link { L.up link.new ≡ self.new.desk.session.up }
         ensures ready_is { self.new.desk.session.sender.ready
             ≡ ready_after (fact_of result.note) self.old.desk.session.sender.ready }
@@ -64,8 +66,10 @@ impl House {
             ↔ ((self.old.desk.session.sender.ready ≡ false)
             × (self.new.desk.session.sender.ready ≡ true)) }
         ensures silent { fact_of result.note ≡ fact.Ready → lines_of result.note ≡ [] }
-        ensures sent { fact_of result.note ≡ fact.Ready → next_of self.new.desk.session.sender ≡ None }
-        ensures greatest { self.new.desk.session.desk.greatest ≡ self.old.desk.session.desk.greatest }
+        ensures sent { fact_of result.note ≡ fact.Ready
+            → next_of self.new.desk.session.sender ≡ None }
+        ensures greatest { self.new.desk.session.desk.greatest
+            ≡ self.old.desk.session.desk.greatest }
         ensures ends { IfSome result.ending (λ ending. IsTurnEnding (fact_of result.note)
             self.old.desk.session.desk self.new.desk.session.desk ending) }
         ensures before { IsSession self.old.desk.session }
@@ -76,7 +80,8 @@ impl House {
         ensures within { self.new.desk.session.sender.acked ≤ self.old.desk.session.sender.issued }
         ensures none_acked { fact_of result.note ≡ fact.Opened
             → self.new.desk.session.sender.acked ≡ 0 }
-        ensures told { IfSome result.note (λ note. IsNoteOn moment self.new.desk.session.sender.acked
+        ensures told { IfSome result.note
+            (λ note. IsNoteOn moment self.new.desk.session.sender.acked
             self.old.desk.session.desk self.new.desk.session.desk result.ending note) }
 
         // What the host knows then, and what the keeper keeps.

@@ -175,7 +175,8 @@ impl House {
         requires start { IsStartable name.now commands (known_of self.old) }
         requires few { commands ≤ most_bytes }
         ensures done { Answers (begins (answer.Uploaded name.now true true)
-            (started user.now self.old.desk.session.desk.file (Start (next_number (known_of self.old)) ∷ [])
+            (started user.now self.old.desk.session.desk.file
+            (Start (next_number (known_of self.old)) ∷ [])
             (known_of self.old)) name.now) result self.old self.new }
         ensures kept { KeepsRows (K.tables keeper.old) (K.tables keeper.new)
             self.old.tables self.new.tables }
