@@ -89,7 +89,7 @@ impl<R: Net + Drop> TcpConn<R> {
     }
 
     fn fail(&mut self) -> Failed
-        ensures counts { self.new.faults ≡ one_more self.old.faults }
+        ensures faults { self.new.faults ≡ one_more self.old.faults }
         ensures quiets { self.new.quiets ≡ self.old.quiets }
         ensures counts { Counts ⊤ self.old.faults self.new.faults }
     {
