@@ -20,7 +20,7 @@ fn fate_of(draw: u32) -> Fate
     }
 }
 
-// The fate of a line by its draw, after so many in a row that are harmed.
+// The fate of a line by its draw, after this number in a row that are harmed.
 fn fate_after(harmed: u32, draw: u32) -> Fate
     ensures { result ≡ fate_after harmed draw }
 {
@@ -54,7 +54,7 @@ fn append_fate(fates: &mut FateList, numbers: &mut Draws, harmed: u32) -> Result
     Ok(harmed_after(harmed, fate))
 }
 
-// Adds a fate for each of so many draws.
+// Adds a fate for each draw, this number of them.
 fn append_fates(fates: &mut FateList, numbers: &mut Draws, count: u32) -> Result<(), AllocError>
     ensures { OnOk result (fates.new ≡ fates.old ++ fates_after 0 (draws numbers.old count)) }
 {
@@ -65,7 +65,7 @@ fn append_fates(fates: &mut FateList, numbers: &mut Draws, count: u32) -> Result
     Ok(())
 }
 
-// Passes over so many draws.
+// Passes over this number of draws.
 fn skip(numbers: &mut Draws, count: u32)
     ensures { numbers.new ≡ number_after numbers.old count }
 {

@@ -1,4 +1,4 @@
-//! The counter at which a print host takes asks and gives answers.
+//! The counter at which a print host takes asks and returns answers.
 use crate::{Answer, Ask, Entry};
 use desk_steps::Note;
 

@@ -23,7 +23,7 @@ use toml::{Table, Value};
 /// The most lines of a script.
 const MOST_LINES: usize = 64;
 
-/// The key of a script, with the name that OctoPrint gives it.
+/// The key of a script, with OctoPrint's name.
 pub fn script_key(point: Point) -> &'static str
     ensures key { result.now ≡ script_key point }
     ensures short { length result.now ≤ 100 }

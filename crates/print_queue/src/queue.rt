@@ -45,7 +45,7 @@ impl Queue {
         }
     }
 
-    /// The queue of exactly these entries, which keep their order if it is that of printing; takes no memory.
+    /// The queue of exactly these entries, which keep their order if it is the order of printing; takes no memory.
     pub fn from_entries(entries: EntryList) -> Self
         requires { IsSound entries }
         ensures same { IsPermutation entries result.rows }
