@@ -44,9 +44,11 @@ fn harmed_after(harmed: u32, fate: Fate) -> u32
 // Adds the next fate.
 fn append_fate(fates: &mut FateList, numbers: &mut Draws, harmed: u32) -> Result<u32, AllocError>
     requires { harmed ≤ 2 }
-    ensures fate { OnOk result (fates.new ≡ fates.old ++ fate_after harmed (drawn numbers.new) ∷ []) }
+    ensures fate { OnOk result
+        (fates.new ≡ fates.old ++ fate_after harmed (drawn numbers.new) ∷ []) }
     ensures number { numbers.new ≡ next_number numbers.old }
-    ensures harmed { IfOk result (λ now. now ≡ harmed_after harmed (fate_after harmed (drawn numbers.new))) }
+    ensures harmed { IfOk result
+        (λ now. now ≡ harmed_after harmed (fate_after harmed (drawn numbers.new))) }
     ensures few { IfOk result (λ now. now ≤ 2) }
 {
     let fate = fate_after(harmed, numbers.draw());

@@ -34,7 +34,12 @@ impl Model for MemoryCounter {
 
     ghost Value = { CounterData };
 
-    ghost view = { λ c. record { asks = map ask_of c.asks.items; given = c.given; past = if c.is_whole then Some c.entries.items else None; closed = c.closed } };
+    ghost view = { λ c. record {
+      asks = map ask_of c.asks.items;
+      given = c.given;
+      past = if c.is_whole then Some c.entries.items else None;
+      closed = c.closed;
+    } };
 }
 
 // The asks with their copies, in order.
@@ -123,7 +128,9 @@ impl Counter for MemoryCounter {
         requires open { self.old.closed ≡ false }
 
         ensures asks { self.new.asks ≡ self.old.asks }
-        ensures past { IfSome self.old.given (λ one. Adds self.old.past self.new.past (entry.Call worker one.ask moment answer ∷ [])) }
+        ensures past { IfSome self.old.given
+            (λ one. Adds self.old.past self.new.past
+            (entry.Call worker one.ask moment answer ∷ [])) }
         ensures given { self.new.given ≡ None }
         ensures open { self.new.closed ≡ false }
     {

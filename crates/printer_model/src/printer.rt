@@ -78,7 +78,12 @@ impl Model for Printer {
 
     ghost Value = { PrinterData };
 
-    ghost view = { λ p. record { last = p.last; places = p.places; advanced = p.advanced; queue = p.queue.items } };
+    ghost view = { λ p. record {
+      last = p.last;
+      places = p.places;
+      advanced = p.advanced;
+      queue = p.queue.items;
+    } };
 
     ghost invariant = { λ p. (p.places ≤ 16) × (length p.queue.items ≤ p.places) };
 }

@@ -77,7 +77,8 @@ pub fn reply_law()
         → kind_of (run_reply false lead text free) ≡ reply.Ok None None None None }
     ensures named { (lead : ℕ) (text : List ℕ) (free : ℕ) → bytes_eq text (codes "M105") ≡ false
         → lead < 2 ^ 32 → free < 2 ^ 32
-        → kind_of (run_reply true (Some lead) text free) ≡ reply.Ok (Some lead) (Some 15) (Some free) None }
+        → kind_of (run_reply true (Some lead) text free)
+        ≡ reply.Ok (Some lead) (Some 15) (Some free) None }
     ensures unnamed { (text : List ℕ) (free : ℕ) → bytes_eq text (codes "M105") ≡ false
         → free < 2 ^ 32
         → kind_of (run_reply true None text free) ≡ reply.Ok None (Some 15) (Some free) None }

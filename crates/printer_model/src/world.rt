@@ -31,7 +31,13 @@ impl Model for World {
 
     ghost Value = { WorldData };
 
-    ghost view = { λ w. record { linked = w.linked; printer = w.printer; log = w.log.items; up = w.up; down = w.down } };
+    ghost view = { λ w. record {
+      linked = w.linked;
+      printer = w.printer;
+      log = w.log.items;
+      up = w.up;
+      down = w.down;
+    } };
 }
 
 impl World {

@@ -127,7 +127,8 @@ impl HostTables {
           prints = with_due_end ended self.old.prints;
           unwritten = self.new.unwritten;
         } }
-        ensures due { (due_of self.new ≡ None) ⊎ (due_of self.new ≡ option_or ended (due_of self.old)) }
+        ensures due { (due_of self.new ≡ None)
+            ⊎ (due_of self.new ≡ option_or ended (due_of self.old)) }
         ensures kept { KeepsRows (K.tables keeper.old) (K.tables keeper.new) self.old self.new }
         ensures keeper { Counts (is_unwritten_by_fault self.new.unwritten)
             (K.faults keeper.old) (K.faults keeper.new) }

@@ -82,7 +82,8 @@ impl HostTables {
 
     /// Takes a user's entry of a name out of the queue.
     pub fn drop_entry<K: Keeper>(&mut self, keeper: &mut K, user: &Name, name: &Name) -> Answer
-        ensures done { (k : Known) → IsDone (drop_verdict user.now name.now (over k self.old)) result
+        ensures done { (k : Known)
+            → IsDone (drop_verdict user.now name.now (over k self.old)) result
             (over k self.old) (over k self.new) }
         ensures written { self.new.unwritten ≡ self.old.unwritten }
         ensures prints { self.new.prints ≡ self.old.prints }

@@ -43,7 +43,8 @@ impl HostTables {
     // Adds a user's row; if the keeper can't write it, it is taken back.
     fn put_user_row<K: Keeper>(&mut self, keeper: &mut K, policy: &Policy, row: &UserRow) -> Answer
         ensures done { (k : Known) → k.policy ≡ policy.now → IsDone
-            (put_user_verdict row.now (over k self.old)) result (over k self.old) (over k self.new) }
+            (put_user_verdict row.now (over k self.old)) result (over k self.old)
+            (over k self.new) }
         ensures written { self.new.unwritten ≡ self.old.unwritten }
         ensures prints { self.new.prints ≡ self.old.prints }
         ensures kept { KeepsRows (K.tables keeper.old) (K.tables keeper.new) self.old self.new }
