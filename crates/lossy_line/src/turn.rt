@@ -32,7 +32,7 @@ pub fn turn_over_link<L: Link>(session: &mut Session, link: &mut L, moment: u64)
         (issued_in (fact_of result.note) (texts_in (lines_of result.note)) issued) session.new }
 
     // Once a link is made, each session of the history is tied to its issued lines: the last one, and in a turn that
-    // makes a further link the one before it.
+    // makes a later link the one before it.
     ensures opened { (issued : List (List ℕ))
         → IsOpening (L.kind link.old) (L.past link.old) issued session.old (fact_of result.note)
         → OpenedAs (L.kind link.new) (L.past link.new)

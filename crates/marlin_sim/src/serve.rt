@@ -70,7 +70,7 @@ fn next_of(ran: bool) -> Next
     if ran { Next::On } else { Next::Over }
 }
 
-// Writes the replies of a step that ran a line or didn't, and prints the text where it is long.
+// Writes the replies of a step that ran a line or didn't, and prints the text if it is long.
 fn deliver<C: Conn, O: Sink>(conn: &mut C, out: &mut O, sim: &mut Sim, ran: bool) -> Next
     ensures told { (plan : SimPlan) (input : List ℕ) (first : Outside)
         → Serves plan input first

@@ -1,4 +1,4 @@
-//! A whole simulation, by a plan or by the words that give one.
+//! A whole simulation, by a plan or by the arguments that name one.
 ghost use Rattle.std.specs.Prelude.{◌≡◌, ◌≢◌, ◌⊎◌, ◌≤◌, ℕ, List, Option, None, Some, IfSome};
 ghost use Rattle.octo_outside.specs.Told.{Rose, Counts};
 ghost use Rattle.marlin_sim.specs.declared.end.SimEnd.TheVariants as end;
@@ -57,10 +57,10 @@ fn finish<O: Sink>(out: &mut O, sim: &mut Sim, ending: SimEnd) -> SimEnd
 
 /// Serves one connection with one printer by a plan, and prints what it executed.
 ///
-/// Where the connection tells its input: with `Done` the printer has taken the lines of the input that the plan lets
+/// If the connection records its input: with `Done` the printer has taken the lines of the input that the plan lets
 /// arrive, in order, and run them all; `start` and its replies were written, and what it ran was printed. With each other
-/// end but want of memory what it did is the beginning of such a run; what was written of it is cut where the connection
-/// failed, and what was printed where the sink failed.
+/// end but out of memory what it did is the beginning of such a run; what was written of it is cut where the connection
+/// failed, and what was printed if the sink failed.
 pub fn simulate<C: Conn, O: Sink>(
     alloc: Global,
     conn: &mut C,
@@ -86,7 +86,7 @@ pub fn simulate<C: Conn, O: Sink>(
     finish(out, &mut sim, ending)
 }
 
-/// Serves one connection by the plan that the words are: `ADDRESS LAST PLACES DROP GARBLE`.
+/// Serves one connection by the plan that the arguments are: `ADDRESS LAST PLACES DROP GARBLE`.
 pub fn sim<C: Conn, O: Sink>(alloc: Global, words: &WordList, conn: &mut C, out: &mut O) -> SimEnd
     ensures no_plan { plan_of words.now ≡ None → (result ≡ end.BadPlan) ⊎ (result ≡ end.NoMemory) }
     ensures bad_plan { result ≡ end.BadPlan → plan_of words.now ≡ None }

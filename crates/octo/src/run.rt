@@ -121,7 +121,7 @@ fn carry_out<F: Source, L: Link, T: Clock>(
     }
 }
 
-// Why the arguments give no command.
+// Why the arguments are no command.
 fn unread(fault: WordsFault) -> HostEnd
     ensures { result ≡ record { report = unread fault; history = None } }
 {

@@ -33,7 +33,7 @@ pub trait Door {
     /// Whether a call has failed.
     ghost has_failed: { Self → Bool };
 
-    /// Takes the next connection. `Ended` comes if no further one will come, and after a failed call.
+    /// Takes the next connection. `Ended` comes if no more will come, and after a failed call.
     fn accept(&mut self) -> Result<Knock<Self::Conn>, Failed>
         // The connection is the first of those to come, and nothing was read, written or counted on it yet.
         ensures ok { IfOk result (λ knock. IfSome (coming self.old) (λ inputs.

@@ -8,12 +8,12 @@ use std::marker::Model;
 /// Connections in memory.
 pub type ConnList = ItemList<MemoryConn>;
 
-/// A door that gives connections in memory and keeps those that are given back.
+/// A door that returns connections in memory and keeps those that are given back.
 #[derive(Drop)]
 pub struct MemoryDoor {
     coming: VecDeque<MemoryConn>,
     served: ConnList,
-    // Whether each connection that was given back is kept: none was lost for want of memory.
+    // Whether each connection that was given back is kept: none was lost because memory ran out.
     keeps_all: bool,
     calls: Calls,
     has_failed: bool,

@@ -20,9 +20,9 @@ pub struct Message {
     pub method: Method,
     /// The target up to `?`.
     pub path: Blob,
-    /// The caller's key: the first X-Api-Key, else that of an `Authorization: Bearer`.
+    /// The caller's key: the first X-Api-Key, else the key of an `Authorization: Bearer`.
     pub key: Option<Blob>,
-    /// The body's type, as Content-Type gives it.
+    /// The body's type, as Content-Type names it.
     pub kind: Option<Blob>,
     /// Whether a length or chunks were given.
     pub sized: bool,

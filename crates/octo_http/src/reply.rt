@@ -101,7 +101,7 @@ fn put_content(head: &mut ReplyHead, kind: ReplyKind, count: usize)
     append(head, type_line(kind));
 }
 
-// All that stands before the body.
+// All that is before the body.
 fn head_of(status: u16, kind: ReplyKind, count: usize) -> ReplyHead
     ensures { result.items ≡ head_bytes status kind count }
 {

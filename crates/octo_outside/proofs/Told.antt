@@ -1,8 +1,8 @@
--- How additions to what is told join, and how counts of faults do.
+-- How additions to what is recorded join, and how counts of faults do.
 use Rattle.std.proofs.Common.{◌≡◌, ℕ, ◌≤◌, ◌⊎◌, inl, inr, List, [], ◌++◌, Option, refl, sym, ap, ◌∙◌, append_assoc, append-nil, subst, arith}
 use Rattle.octo_outside.specs.Told.{Became, Adds, Rose, Counts, Steady}
 
--- two additions one behind the other
+-- two additions one after the other
 pub became_then : {A : Type 0} (old mid new : Option (List A)) (P Q R : List A → List A → Type 0) → Became old mid P → Became mid new Q → ((past added more : List A) → P past added → Q (past ++ added) more → R past (added ++ more)) → Became old new R
 became_then {A} old mid new P Q R first second joined now e =
     let later = second now e in
@@ -25,7 +25,7 @@ became_so old new P Q grew so now e =
     let w = grew now e in
     (w.0, w.1, w.2, w.3, so w.0 w.1 w.4)
 
--- two lists added one behind the other
+-- two lists added one after the other
 pub adds_then : {A : Type 0} (old mid new : Option (List A)) (xs ys : List A) → Adds old mid xs → Adds mid new ys → Adds old new (xs ++ ys)
 adds_then {A} old mid new xs ys first second =
     became_then old mid new (λ _ added. added ≡ xs) (λ _ added. added ≡ ys) (λ _ added. added ≡ xs ++ ys) first second

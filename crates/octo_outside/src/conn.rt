@@ -18,10 +18,10 @@ pub enum Got {
 
 /// A stream of bytes to and from a peer.
 pub trait Conn {
-    /// What is left to read, where told.
+    /// What is left to read, if recorded.
     ghost left: { Self → Option (List ℕ) };
 
-    /// What was written, where told.
+    /// What was written, if recorded.
     ghost written: { Self → Option (List ℕ) };
 
     /// How many calls failed.
@@ -30,7 +30,7 @@ pub trait Conn {
     /// How many reads found nothing yet, counted up to the last value of a u64.
     ghost quiets: { Self → ℕ };
 
-    /// Reads the next bytes. `Ended` comes where nothing is left and the peer has closed.
+    /// Reads the next bytes. `Ended` comes if nothing is left and the peer has closed.
     fn read(&mut self, into: &mut [u8]) -> Result<Got, Failed>
         requires { 0 < length into.old }
         ensures ok { IfOk result (λ got. IfSome (left self.old)

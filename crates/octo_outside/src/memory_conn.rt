@@ -3,7 +3,7 @@ use crate::{Blob, CallList, Calls, Conn, Failed, Got};
 use std::alloc::{AllocError, Global};
 use std::marker::Model;
 
-/// A connection that gives an input and keeps what was written. The peer has closed behind the input.
+/// A connection that returns an input and keeps what was written. The peer has closed after the input.
 #[derive(Drop)]
 pub struct MemoryConn {
     input: Blob,
@@ -31,7 +31,7 @@ impl MemoryConn {
     ghost use Rattle.octo_outside.specs.Memory.{ConnData, one_more, is_listed};
 
     /// A connection with this input. Of its calls, counted from 1, those of `fail_at` fail, and those of `quiet_at` find
-    /// nothing yet where something is left.
+    /// nothing yet if something is left.
     pub fn new(
         alloc: Global,
         input: &[u8],

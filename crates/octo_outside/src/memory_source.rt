@@ -18,7 +18,7 @@ pub struct MemoryFile {
 pub struct MemorySource {
     alloc: Global,
     files: Vec<MemoryFile>,
-    // The place of the chosen file, past the end where there is none, and how many of its bytes are left.
+    // The place of the chosen file, past the end if there is none, and how many of its bytes are left.
     chosen: usize,
     unread: usize,
     calls: Calls,

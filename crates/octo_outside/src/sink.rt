@@ -10,7 +10,7 @@ use std::marker::Model;
 
 /// A place for output.
 pub trait Sink {
-    /// What was written, where told.
+    /// What was written, if recorded.
     ghost written: { Self → Option (List ℕ) };
 
     /// How many calls failed.
@@ -103,7 +103,7 @@ impl Sink for MemorySink {
     }
 }
 
-/// The standard output. It does not tell what was written.
+/// The standard output. It does not record what was written.
 #[derive(Drop)]
 pub struct StdSink<R: Drop> {
     rt: R,

@@ -10,10 +10,10 @@ use std::marker::Model;
 
 /// Files by their names.
 pub trait Source {
-    /// What each name holds, where told.
+    /// What each name holds, if recorded.
     ghost files: { Self → Option Files };
 
-    /// What is left to read of the chosen name, where told.
+    /// What is left to read of the chosen name, if recorded.
     ghost left: { Self → Option (List ℕ) };
 
     /// How many calls failed.
@@ -27,7 +27,7 @@ pub trait Source {
         ensures files { files self.new ≡ files self.old }
         ensures counts { Counts (IsErr result) (faults self.old) (faults self.new) };
 
-    /// Reads the next bytes of the chosen name, and 0 where nothing is left. A failed read leaves what is left.
+    /// Reads the next bytes of the chosen name, and 0 if nothing is left. A failed read leaves what is left.
     fn read(&mut self, into: &mut [u8]) -> Result<usize, Failed>
         requires { 0 < length into.old }
         ensures ok { IfOk result

@@ -48,7 +48,7 @@ fn file_name() -> Name
     }
 }
 
-/// What an end of a print over this port is reported as, of a job of so many commands and skipped lines.
+/// How an end of a print over this port is reported, of a job with these numbers of commands and skipped lines.
 fn report_of(end: PrintEnd, port: &Name, commands: u32, skipped: u32) -> Report
     ensures { (job : JobData) → commands ≡ length job.commands → skipped ≡ job.skipped
         → result ≡ reported end port.now job }
@@ -103,8 +103,8 @@ fn print_job<L: Link, T: Clock>(
     }
 }
 
-/// Prints the file of that name over the port of that name, in at most so many turns, by the settings in the file named
-/// for them, or by the defaults. Settings and file are read before anything is sent.
+/// Prints the file of that name over the port of that name, in at most this number of turns, by the settings in the file
+/// named for them, or by the defaults. Settings and file are read before anything is sent.
 pub fn print_file<F: Source, L: Link, T: Clock>(
     alloc: Global,
     files: &mut F,

@@ -16,7 +16,7 @@ const REST: u64 = 1;
 /// How many bytes a connection takes.
 pub(crate) const MOST_WRITTEN: usize = 1024;
 
-/// A connection that gives an input and keeps up to 1,024 bytes of what is written. It records
+/// A connection that returns an input and keeps up to 1,024 bytes of what is written. It records
 /// neither for a contract.
 ///
 /// If it has a gate, a read rests for a millisecond and finds nothing yet until the gate is open.

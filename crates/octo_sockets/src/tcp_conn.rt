@@ -13,7 +13,7 @@ use std::os::unix::net::UnixListener;
 use std::rt::Files;
 use std::time::Clock;
 
-/// A connection over TCP, or over a Unix socket. It tells neither what is left nor what was written.
+/// A connection over TCP, or over a Unix socket. It records neither what is left nor what was written.
 #[derive(Drop)]
 pub struct TcpConn<R: Net + Drop> {
     rt: R,

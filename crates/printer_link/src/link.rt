@@ -29,14 +29,14 @@ pub enum LinkFault {
 
 /// A link to one printer over named ports.
 pub trait Link {
-    /// The events of its past, where told.
+    /// The events of its history, if recorded.
     ghost past: { Self → Option (List WorldEvent) };
 
     /// What no call changes: the printer's buffer slots, whether its acknowledgements are numbered, whether the link is
     /// prompt, and which names are listed.
     ghost kind: { Self → LinkKind };
 
-    /// How many calls of `dial`, `send` and `recv` were made, where told.
+    /// The number of calls of `dial`, `send` and `recv`, if recorded.
     ghost calls: { Self → Option ℕ };
 
     /// Whether a link is made.
@@ -65,7 +65,7 @@ pub trait Link {
         ensures calls { calls self.new ≡ counted_one (calls self.old) }
         ensures counts { Counts (IsErrOf result fault.Failed) (faults self.old) (faults self.new) };
 
-    /// Sends a line of at most 95 bytes; the link writes the line end behind it.
+    /// Sends a line of at most 95 bytes; the link writes the line end after it.
     fn send(&mut self, line: &Line) -> Result<(), LinkFault>
         requires open { up self.old ≡ true }
         requires short { length line.now.items ≤ 95 }
@@ -105,7 +105,7 @@ pub trait Link {
         ensures calls { calls self.new ≡ counted_one (calls self.old) }
         ensures counts { Counts (IsErr result) (faults self.old) (faults self.new) };
 
-    /// Closes the link where it is up.
+    /// Closes the link if it is up.
     fn hang_up(&mut self)
         ensures past { Grows (kind self.old) (past self.old) (past self.new)
             (IsHangUp (up self.old)) }

@@ -38,7 +38,7 @@ use temp_rules::first_hot;
 /// The number of the only print of a session.
 const PRINT: u32 = 1;
 
-/// Prints a job as the file of this name over the port of that name, in at most so many turns.
+/// Prints a job as the file of this name over the port of that name, in at most this number of turns.
 ///
 /// It refuses a command that is too hot. Else it connects, selects the file, starts the print at once when the printer is
 /// ready, and disconnects when the print has ended. It rests the clock after each turn that received nothing, and uses the

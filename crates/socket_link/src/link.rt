@@ -33,7 +33,7 @@ const CONNECT: u64 = 2000;
 
 const ADDRESSES: usize = 4;
 
-/// A link to the ports named `HOST:PORT`, over TCP, and `unix:PATH`, over a Unix socket. It does not tell its past.
+/// A link to the ports named `HOST:PORT`, over TCP, and `unix:PATH`, over a Unix socket. It does not record its history.
 ///
 /// A receiving waits for about a millisecond, and a reply that comes in ends the wait at once. Lines that are sent
 /// are written when a receiving finds no reply that has been read, so that those of one turn go out together; a
@@ -69,7 +69,7 @@ fn connect<R: Net>(rt: &R, name: &str) -> Option<SocketStream<R::Stream>> {
     Some(stream)
 }
 
-// Whether a read of the stream has something to give, now or within about a millisecond. A poll that fails tells
+// Whether a read of the stream has something to return, now or within about a millisecond. A poll that fails says
 // nothing, and the read then has a limit of its own.
 fn may_read<S: AsRawFd>(stream: &S) -> bool {
     let mut asked = [pollfd {
@@ -80,7 +80,7 @@ fn may_read<S: AsRawFd>(stream: &S) -> bool {
     poll(&mut asked, WAIT) != 0
 }
 
-// Whether a peer is open after a read: one that has closed gives no byte.
+// Whether a peer is open after a read: one that has closed sends no byte.
 fn is_open_after(read: &io::Result<usize>) -> bool
     ensures { MatchResult read.now
         (λ n. IsTrue result ↔ (0 < n))
@@ -130,7 +130,7 @@ impl<R: Net + Drop> SocketLink<R> {
         LinkFault::Failed
     }
 
-    // Writes what is unsent; `false` where that fails, and then there is no stream.
+    // Writes what is unsent; `false` if that fails, and then there is no stream.
     fn write_out(&mut self) -> bool
         ensures stream { result ≡ is_some self.new.stream }
         ensures emptied { self.new.unsent ≡ [] }
@@ -151,7 +151,7 @@ impl<R: Net + Drop> SocketLink<R> {
         written
     }
 
-    // Has a line written at the next writing; where there is no room, what is unsent is written first. `false` where
+    // Has a line written at the next writing; if there is no room, what is unsent is written first. `false` if
     // that fails.
     fn gather(&mut self, line: &Line) -> bool
         requires { length line.now.items ≤ 95 }
@@ -189,7 +189,7 @@ impl<R: Net + Drop> SocketLink<R> {
         is_open_after(&read)
     }
 
-    // Takes the next reply that was read; where there is none, writes what is unsent and waits for more. `None` where
+    // Takes the next reply that was read; if there is none, writes what is unsent and waits for more. `None` if
     // the link failed.
     #[tactic(auto, using(crate::proofs::Sent::wrote_first))]
     fn hear(&mut self, into: &mut ReplyLine) -> Option<Heard>
