@@ -106,7 +106,7 @@ rising_from true fault bytes = tt
 rising_from false (Some fault) bytes = tt
 rising_from false None bytes = rising_lines bytes
 
--- the commands of every file stand in the order of its lines
+-- the commands of every file are in the order of its lines
 pub rising_job : (bytes : List ℕ) → IfOk (job_of bytes) (λ job. IsStrictlyIncreasing (numbers_of job))
 unfolding job_of
 rising_job bytes = rising_from (nat_lt most_bytes (length bytes)) (first_fault (lines_of bytes)) bytes

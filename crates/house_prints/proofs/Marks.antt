@@ -102,7 +102,7 @@ pub record Marked (p : ℕ) (d : Data) (lines : List Line) : Type 0 where
   pub counted : d.issued ≡ length lines
   -- a print to come has none
   pub ahead : d.greatest < p → lines_of p lines ≡ []
-  -- the last print's stand at most at the number that the desk keeps
+  -- the last print's are at most the number that the desk keeps
   pub marked : d.greatest ≡ p → lines_of p (drop d.print_line lines) ≡ []
   -- while it is paused all are acknowledged, and none waits
   pub paused : d.state ≡ Paused → (d.waiting ≡ []) × (d.print_line ≤ d.acked)

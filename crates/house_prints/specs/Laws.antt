@@ -156,7 +156,7 @@ EveryEndIsTrue =
     → IsRun kind scripts front s history past → (first later : History) → history ≡ first ++ later
     → (end : SessionEnd) → last_end first ≡ Some end → IsTrueEnd kind past end
 
--- a history that was recorded of a host's run, with that of its link: it grew by what makes a run
+-- a history that was recorded of a host's run, with its link's history: it grew by what makes a run
 pub record IsRecordedRun (kind : LinkKind) (scripts : ScriptTexts) (before : Option History) (link : Option (List WorldEvent))
     (s : Standing) (now : History)
     (events : List WorldEvent) : Type 0 where

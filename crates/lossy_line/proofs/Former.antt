@@ -1,4 +1,4 @@
--- A further link leaves the session before it tied.
+-- A later link leaves the session before it tied.
 use Rattle.std.proofs.Common.{◌≡◌, ℕ, zero, suc, pred, ◌<◌, ◌≤◌, List, [], ◌∷◌, ◌++◌, length, take, drop, sym, ◌∙◌, ap, subst, arith}
 use Rattle.printer_model.specs.Printer.{Logged}
 use Rattle.printer_model.specs.World.{WorldData}
@@ -17,7 +17,7 @@ pred_below : (n : ℕ) → 1 ≤ n → pred n < n
 pred_below zero some = absurd (omega arith)
 pred_below (suc n) some = omega arith
 
--- what a further session leaves of the one before it
+-- what a later session leaves of the one before it
 pub former_tied : (kind : LinkKind) (issued : List (List ℕ)) (acked : ℕ) (past rest : List WorldEvent) (last : ℕ) → 1 ≤ opens past →
     IsTied kind issued acked past (opens past) → IsTied kind issued acked (past ++ Opened last ∷ rest) (opens past)
 former_tied kind issued acked past rest last some t =

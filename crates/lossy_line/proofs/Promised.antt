@@ -51,7 +51,7 @@ traced_free start made issued s rest events free t =
       starts = subst E (sym (world_from-append made rest events)) (led.starts rest t.starts);
     }
 
--- the session before a further link, with what ran in the dial
+-- the session before a later link, with what ran in the dial
 former_by : (kind : LinkKind) (issued : List (List ℕ)) (x : SessionData) (past added runs : List WorldEvent) (last : ℕ) →
     list_all is_free runs ≡ true → added ≡ runs ++ Opened last ∷ [] → IsOpened kind issued x past →
     IsTied kind issued x.sender.acked (past ++ added) (opens (past ++ added) - 1)

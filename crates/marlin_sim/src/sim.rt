@@ -38,7 +38,7 @@ fn put_line(text: &mut Blob, line: &[u8]) -> Result<(), AllocError>
     text.append(b"\n")
 }
 
-// Adds the number of a line, where it has one, as it is printed before the line.
+// Adds the number of a line, if it has one, as it is printed before the line.
 fn put_number(text: &mut Blob, number: Option<u32>) -> Result<(), AllocError>
     ensures { OnOk result (text.new ≡ text.old ++ number_text number) }
 {

@@ -8,12 +8,12 @@ use std::marker::Model;
 /// Connections in memory.
 pub type ConnList = ItemList<MemoryConn>;
 
-/// A door that gives connections in memory and keeps those that are given back.
+/// A door that returns connections in memory and keeps those that are given back.
 #[derive(Drop)]
 pub struct MemoryDoor {
     coming: VecDeque<MemoryConn>,
     served: ConnList,
-    // Whether each connection that was given back is kept: none was lost for want of memory.
+    // Whether each connection that was given back is kept: none was lost because memory ran out.
     keeps_all: bool,
     calls: Calls,
     has_failed: bool,
@@ -32,9 +32,9 @@ impl Model for MemoryDoor {
 }
 
 impl MemoryDoor {
-    ghost use Rattle.std.specs.Prelude.{◌≡◌, ◌≤◌, [], false, true, Some, All};
+    ghost use Rattle.std.specs.Prelude.{◌≡◌, [], false, true, Some, All, ⊤};
     ghost use Rattle.std.specs.Option.{option_copied};
-    ghost use Rattle.octo_outside.specs.Told.{Rose};
+    ghost use Rattle.octo_outside.specs.Told.{Counts};
     ghost use Rattle.octo_outside.specs.Memory.{is_listed, one_more};
     ghost use Rattle.octo_doors.specs.Memory.{DoorData, IsUntouched};
 
@@ -77,9 +77,12 @@ impl MemoryDoor {
 
     // A call fails: nothing comes any more.
     fn fail(&mut self) -> Failed
-        ensures after { self.new ≡ record self.old { coming = []; faults = one_more self.old.faults; has_failed = true } }
-        ensures counted { self.old.faults ≤ self.new.faults }
-        ensures rose { Rose self.old.faults self.new.faults }
+        ensures after { self.new ≡ record self.old {
+          coming = [];
+          faults = one_more self.old.faults;
+          has_failed = true;
+        } }
+        ensures counts { Counts ⊤ self.old.faults self.new.faults }
     {
         self.calls.fail();
         self.coming.clear();
@@ -89,8 +92,8 @@ impl MemoryDoor {
 }
 
 impl Door for MemoryDoor {
-    ghost use Rattle.std.specs.Prelude.{◌≡◌, ◌≤◌, ◌↔◌, ◌⊎◌, [], ◌∷◌, ◌++◌, true, ◌||◌, Some, None, map, option_map, is_err, IfOk, OnOk, OnErr, IsErr, IsOkAnd};
-    ghost use Rattle.octo_outside.specs.Told.{Adds, Rose};
+    ghost use Rattle.std.specs.Prelude.{◌≡◌, ◌↔◌, ◌⊎◌, [], ◌∷◌, ◌++◌, true, ◌||◌, Some, None, map, option_map, is_err, IfOk, OnOk, OnErr, IsErr, IsOkAnd};
+    ghost use Rattle.octo_outside.specs.Told.{Adds, Counts};
     ghost use Rattle.octo_outside.specs.Memory.{ConnData};
     ghost use Rattle.octo_doors.specs.Doors.{Comes, IsNew, IsEnded};
     ghost use Rattle.octo_doors.specs.Memory.{DoorData, conn_state, inputs_of, fails_next, after_failure, next_knock, after_knock};
@@ -113,14 +116,14 @@ impl Door for MemoryDoor {
 
         ensures ok { IfOk result (λ knock.
             Comes conn_state (inputs_of self.old.coming) knock (Some (inputs_of self.new.coming))) }
-        ensures fresh { IfOk result (λ knock. IsNew (λ (c : ConnData). c.faults) (λ (c : ConnData). c.quiets) knock) }
+        ensures fresh { IfOk result
+            (λ knock. IsNew (λ (c : ConnData). c.faults) (λ (c : ConnData). c.quiets) knock) }
         ensures err { OnErr result (self.new.coming ≡ []) }
         ensures has_failed { self.new.has_failed ≡ (self.old.has_failed || is_err result) }
         ensures after { self.old.has_failed ≡ true → IsOkAnd result IsEnded }
         ensures served { self.new.served ≡ self.old.served }
-        ensures counted { self.old.faults ≤ self.new.faults }
+        ensures counts { Counts (IsErr result) self.old.faults self.new.faults }
         ensures steady { OnOk result (self.new.faults ≡ self.old.faults) }
-        ensures failed { OnErr result (Rose self.old.faults self.new.faults) }
     {
         if self.calls.begin() && !self.has_failed {
             return Err(self.fail());

@@ -1,7 +1,7 @@
 //! Doors over TCP.
-ghost use Rattle.std.specs.Prelude.{◌≡◌, ◌≤◌, ◌↔◌, ◌⊎◌, Some, false, true, IsTrue, pos};
+ghost use Rattle.std.specs.Prelude.{◌≡◌, ◌↔◌, ◌⊎◌, Some, false, true, IsTrue, pos, ⊤};
 ghost use Rattle.std.specs.IoError.{error_kind, raw_os_error};
-ghost use Rattle.octo_outside.specs.Told.{Rose};
+ghost use Rattle.octo_outside.specs.Told.{Counts};
 
 use crate::{Door, Doors, Knock};
 use octo_outside::Failed;
@@ -105,8 +105,7 @@ impl<R: Net<Listener = TcpListener, Stream = TcpStream> + Copy> TcpDoor<R> {
     }
 
     fn fail(&mut self) -> Failed
-        ensures counted { self.old.faults ≤ self.new.faults }
-        ensures rose { Rose self.old.faults self.new.faults }
+        ensures counts { Counts ⊤ self.old.faults self.new.faults }
         ensures has_failed { self.new.has_failed ≡ true }
     {
         self.listener = None;

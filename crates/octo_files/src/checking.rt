@@ -1,6 +1,6 @@
 //! A check of a file.
 ghost use Rattle.std.specs.Prelude.{◌≡◌, ◌≢◌, ◌⊎◌, ◌↔◌, ◌≤◌, true, IsTrue};
-ghost use Rattle.octo_outside.specs.Told.{Rose};
+ghost use Rattle.octo_outside.specs.Told.{Counts};
 ghost use Rattle.octo_report.specs.declared.report.Report.TheVariants as report;
 ghost use Rattle.gcode_lines.specs.Job.{texts_of};
 ghost use Rattle.temp_rules.specs.Hot.{first_hot_of};
@@ -73,8 +73,8 @@ pub fn check_file<F: Source>(alloc: Global, files: &mut F, file: &str, limits: &
 
     // the source
     ensures files { F.files files.new ≡ F.files files.old }
-    ensures counted { F.faults files.old ≤ F.faults files.new }
-    ensures failed { result ≡ report.SourceFailed → Rose (F.faults files.old) (F.faults files.new) }
+    ensures counts { Counts (result ≡ report.SourceFailed)
+        (F.faults files.old) (F.faults files.new) }
 {
     match read_any_job(alloc, files, file) {
         Ok(job) => check_job(&job, limits),

@@ -31,7 +31,7 @@ fn length_of(text: &[u8]) -> Option<u64>
     }
 }
 
-// A body of the length that the fields give, if they agree on one.
+// A body of the length that the fields say, if they agree on one.
 fn by_length(fields: &FieldSpans, text: &[u8]) -> Option<Framing>
     ensures { result ≡ (if list_all (λ v. bytes_eq v text.now) (values (codes "Content-Length") fields.now)
         then option_map Framing.Length (whole_number text.now 18) else None) }

@@ -53,7 +53,7 @@ impl Intake {
     ghost use Rattle.octo_http.specs.declared.intake.Came.{Came};
     ghost use Rattle.octo_http.specs.declared.intake.Came.TheVariants as came;
 
-    /// Nothing was read yet, and so many reads may be quiet.
+    /// Nothing was read yet, and this number of reads may be quiet.
     pub fn new(alloc: Global, patience: u32) -> Self
         ensures { result ≡ record { bytes = []; patience = patience; allowed = patience } }
     {
@@ -113,7 +113,7 @@ impl Intake {
     /// Reads once. Without memory what came is lost.
     pub fn fetch<C: Conn>(&mut self, conn: &mut C) -> Result<Came, AllocError>
         requires { 0 < self.old.allowed }
-        // What came stands behind what was at hand.
+        // What came follows what was at hand.
         ensures took { OnOk result (Took self.old.bytes (C.left conn.old) self.new.bytes (C.left conn.new) []) }
         ensures brings { IfOk result (λ came. Brings came self.old self.new) }
         ensures knows { IfOk result (λ came. Knows came self.new [] self.old.bytes (C.left conn.old) (C.faults conn.old) (C.faults conn.new)) }

@@ -38,7 +38,7 @@ fn try_part(
     }
 }
 
-/// Reads a part and takes it; a chunk's line gives the chunk's size.
+/// Reads a part and takes it; a chunk's line has the chunk's size.
 pub fn read_part<C: Conn>(
     intake: &mut Intake,
     conn: &mut C,

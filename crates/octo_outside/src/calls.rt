@@ -19,8 +19,8 @@ impl Model for Calls {
 }
 
 impl Calls {
-    ghost use Rattle.std.specs.Prelude.{◌≡◌, ◌≤◌};
-    ghost use Rattle.octo_outside.specs.Told.{Rose};
+    ghost use Rattle.std.specs.Prelude.{◌≡◌, ⊤};
+    ghost use Rattle.octo_outside.specs.Told.{Counts};
     ghost use Rattle.octo_outside.specs.Memory.{CallsData, one_more, is_listed};
 
     /// No call yet; those with these numbers, counted from 1, are to fail. Takes no memory.
@@ -53,9 +53,8 @@ impl Calls {
 
     /// Counts a failed call.
     pub fn fail(&mut self)
-        ensures counts { self.new ≡ record self.old { faults = one_more self.old.faults } }
-        ensures counted { self.old.faults ≤ self.new.faults }
-        ensures rose { Rose self.old.faults self.new.faults }
+        ensures after { self.new ≡ record self.old { faults = one_more self.old.faults } }
+        ensures counts { Counts ⊤ self.old.faults self.new.faults }
     {
         self.faults = self.faults.saturating_add(1);
     }

@@ -18,7 +18,7 @@ pub struct MemoryFile {
 pub struct MemorySource {
     alloc: Global,
     files: Vec<MemoryFile>,
-    // The place of the chosen file, past the end where there is none, and how many of its bytes are left.
+    // The place of the chosen file, past the end if there is none, and how many of its bytes are left.
     chosen: usize,
     unread: usize,
     calls: Calls,
@@ -49,7 +49,6 @@ fn place_of(files: &[MemoryFile], name: &str) -> Option<usize>
 
 impl MemorySource {
     ghost use Rattle.std.specs.Prelude.{◌≡◌, ◌≤◌, [], ◌∷◌, OnOk, OnErr, drop, length};
-    ghost use Rattle.octo_outside.specs.Told.{Rose};
     ghost use Rattle.octo_outside.specs.Memory.{SourceData, one_more, is_listed, bytes_at};
 
     /// A source without files whose calls with these numbers, from 1, fail; takes no memory.
@@ -121,7 +120,7 @@ impl MemorySource {
 
 impl Source for MemorySource {
     ghost use Rattle.std.specs.Prelude.{◌≡◌, ◌<◌, ◌≤◌, ◌⊎◌, ◌↔◌, [], Some, None, true, length, min, IfOk, OnOk, OnErr, IsErr, unwrap_or};
-    ghost use Rattle.octo_outside.specs.Told.{Rose};
+    ghost use Rattle.octo_outside.specs.Told.{Counts};
     ghost use Rattle.octo_outside.specs.Traits.{Begins, Reads};
     ghost use Rattle.octo_outside.specs.Memory.{SourceData, held, one_more, is_listed};
 
@@ -132,14 +131,22 @@ impl Source for MemorySource {
     ghost faults = { λ s. s.faults };
 
     fn choose(&mut self, name: &str) -> Result<(), Failed>
-        ensures chosen { OnOk result (self.new ≡ record self.old { left = unwrap_or (held self.old.files name.now) []; calls = one_more self.old.calls }) }
-        ensures refused { OnErr result (self.new ≡ record self.old { left = []; calls = one_more self.old.calls; faults = one_more self.old.faults }) }
-        ensures fails { IsErr result ↔ ((is_listed self.old.fail_at (one_more self.old.calls) ≡ true) ⊎ (held self.old.files name.now ≡ None)) }
+        ensures chosen { OnOk result (self.new ≡ record self.old {
+          left = unwrap_or (held self.old.files name.now) [];
+          calls = one_more self.old.calls;
+        }) }
+        ensures refused { OnErr result (self.new ≡ record self.old {
+          left = [];
+          calls = one_more self.old.calls;
+          faults = one_more self.old.faults;
+        }) }
+        ensures fails { IsErr result
+            ↔ ((is_listed self.old.fail_at (one_more self.old.calls) ≡ true)
+            ⊎ (held self.old.files name.now ≡ None)) }
         ensures ok { OnOk result (Begins (held self.old.files) name.now (Some self.new.left)) }
         ensures err { OnErr result (self.new.left ≡ []) }
         ensures files { self.new.files ≡ self.old.files }
-        ensures counted { self.old.faults ≤ self.new.faults }
-        ensures failed { OnErr result (Rose self.old.faults self.new.faults) }
+        ensures counts { Counts (IsErr result) self.old.faults self.new.faults }
     {
         if !self.calls.begin()
             && let Some(place) = place_of(&self.files, name)
@@ -154,14 +161,14 @@ impl Source for MemorySource {
 
     fn read(&mut self, into: &mut [u8]) -> Result<usize, Failed>
         requires { 0 < length into.old }
-        ensures fails { IsErr result ↔ (is_listed self.old.fail_at (one_more self.old.calls) ≡ true) }
+        ensures fails { IsErr result
+            ↔ (is_listed self.old.fail_at (one_more self.old.calls) ≡ true) }
         ensures reads { IfOk result (λ n. n ≡ min (length into.old) (length self.old.left)) }
         ensures ok { IfOk result (λ n. Reads self.old.left n into.new (Some self.new.left)) }
         ensures bound { IfOk result (λ n. n ≤ length into.new) }
         ensures err { OnErr result (self.new.left ≡ self.old.left) }
         ensures files { self.new.files ≡ self.old.files }
-        ensures counted { self.old.faults ≤ self.new.faults }
-        ensures failed { OnErr result (Rose self.old.faults self.new.faults) }
+        ensures counts { Counts (IsErr result) self.old.faults self.new.faults }
     {
         if self.calls.begin() {
             self.calls.fail();
