@@ -15,4 +15,7 @@ pub mod Histories
 pub mod Jobs
 pub mod Executed
 pub mod Sent
+pub mod Files
+pub mod Filed
+pub mod Selected
 pub mod Recorded
