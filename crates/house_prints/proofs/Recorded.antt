@@ -12,6 +12,7 @@ use Rattle.house_prints.specs.Headline.{KeepsPrints}
 use Rattle.house_prints.specs.Laws.{IsBeginning, IsRun}
 use Rattle.house_prints.proofs.Executed.{in_order, done_whole, record_true}
 use Rattle.house_prints.proofs.Selected.{of_its_file}
+use Rattle.house_prints.proofs.Shown.{shown_true}
 use Rattle.house_prints.proofs.Sent.{sent_no_more, true_end}
 
 -- a run keeps its prints
@@ -22,6 +23,7 @@ run_keeps kind front s history past run = record {
   in_order = in_order kind front s history past run;
   done_whole = done_whole kind front s history past run;
   record_true = record_true kind front s history past run;
+  shown_true = shown_true kind front s history past run;
   sent_no_more = sent_no_more kind front s history past run;
   end_true = true_end kind front s history past run;
 }

@@ -4,7 +4,7 @@ use Rattle.printer_model.specs.declared.event.WorldEvent.{WorldEvent}
 use Rattle.printer_link.specs.Link.{LinkKind}
 use Rattle.octo_asks.specs.History.{History}
 use Rattle.house_history.specs.Legal.{Standing}
-use Rattle.house_prints.specs.Laws.{EachIsExecutedInOrder, EachDoneIsExecuted, EachDoneRecordIsTrue, EachEndedIsSentNoMore, EachEndIsTrue}
+use Rattle.house_prints.specs.Laws.{EachIsExecutedInOrder, EachDoneIsExecuted, EachDoneRecordIsTrue, EachDoneShownIsTrue, EachEndedIsSentNoMore, EachEndIsTrue}
 use Rattle.house_prints.specs.Selected.{EachIsOfItsFile}
 
 -- the prints of a host's history, which began at a standing, over its link's history since an earlier one
@@ -16,8 +16,9 @@ pub record KeepsPrints (kind : LinkKind) (front : List WorldEvent) (s : Standing
   pub in_order : EachIsExecutedInOrder kind front s history past
   -- a print is done only when all were executed and acknowledged
   pub done_whole : EachDoneIsExecuted kind front s history past
-  -- a record says Done only of such a print
+  -- a record says Done only of such a print, and so does each list that was answered
   pub record_true : EachDoneRecordIsTrue kind front s history past
+  pub shown_true : EachDoneShownIsTrue kind front s history past
   -- once a print has ended, no line of it is sent
   pub sent_no_more : EachEndedIsSentNoMore kind front s history past
   -- no session ends without its cause

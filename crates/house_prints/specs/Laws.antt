@@ -11,6 +11,11 @@ use Rattle.printer_model.specs.declared.event.WorldEvent.TheVariants.{Send}
 use Rattle.printer_link.specs.Link.{LinkKind}
 use Rattle.octo_keeper.specs.Tables.{AreNumbered}
 use Rattle.octo_asks.specs.History.{History}
+use Rattle.octo_asks.specs.declared.answer.Answer.TheVariants as answer
+use Rattle.octo_asks.specs.declared.entry.Entry.TheVariants as entry
+use Rattle.octo_asks.specs.declared.request.Ask.{Ask}
+use Rattle.octo_asks.specs.declared.request.Request.TheVariants.{ListPrints}
+use Rattle.octo_asks.specs.declared.shown.ShownPrint.{ShownPrint}
 use Rattle.print_records.specs.declared.ending.Outcome.TheVariants as outcome
 use Rattle.print_records.specs.declared.row.PrintRow.{PrintRow}
 use Rattle.house_verdicts.specs.Known.{Known}
@@ -102,6 +107,19 @@ abbrev pub EachDoneRecordIsTrue : LinkKind → (front : List WorldEvent) → Sta
 EachDoneRecordIsTrue kind front s history past =
     (first later : History) → history ≡ first ++ later
     → All (IsDoneRecordTrue kind front past s first) (after_all first s).known.prints
+
+-- and a list that shows it
+abbrev pub IsDoneShownTrue : LinkKind → (front past : List WorldEvent) → Standing → History → ShownPrint → Type 0
+IsDoneShownTrue kind front past s history shown =
+    length s.known.prints < shown.number → shown.outcome ≡ outcome.Done
+    → WasExecutedWhole kind s.known.desk.scripts front past shown.number (of_print shown.number (run_in history s).begun) history
+
+-- so does each list of prints that was answered
+abbrev pub EachDoneShownIsTrue : LinkKind → (front : List WorldEvent) → Standing → History → (past : List WorldEvent) → Type 0
+EachDoneShownIsTrue kind front s history past =
+    (first later : History) (worker : ℕ) (ask : Ask) (moment : ℕ) (shown : List ShownPrint) → ask.request ≡ ListPrints
+    → history ≡ first ++ entry.Call worker ask moment (answer.Prints shown) ∷ later
+    → All (IsDoneShownTrue kind front past s first) shown
 
 -- a line that was sent is a line of these that isn't the print's
 pub record IsLineOfOther (print : ℕ) (lines : List Line) (bytes : List ℕ) : Type 0 where
