@@ -48,7 +48,7 @@ other_past p zero (first ∷ lines) (suc i) line past found none = other_past p 
 other_past p (suc a) (first ∷ lines) zero line past found none = absurd (omega (arith, past))
 other_past p (suc a) (first ∷ lines) (suc i) line past found none = other_past p a lines i line (omega (arith, past)) found none
 
--- a text of lines is that of one of them
+-- a text of some lines is the text of one of them
 record IsTextAt (lines : List Line) (i : ℕ) (text : List ℕ) : Type 0 where
   line : Line
   its : slice_get lines i ≡ Some line
@@ -91,7 +91,7 @@ module _ (p a : ℕ) (lines : List Line) (none : lines_of p (drop a lines) ≡ [
   events_other [] are = tt
   events_other (event ∷ events) are = (event_other event are.0, events_other events are.1)
 
--- where nothing is sent
+-- if nothing is sent
 first_unsent : (a b : Bool) → (a || b) ≡ false → (a ≡ false) × (b ≡ false)
 first_unsent false b is = (refl, is)
 first_unsent true b is = absurd (cc is)
