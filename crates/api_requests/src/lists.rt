@@ -17,7 +17,8 @@ use std::alloc::Global;
 // The items of a list whose length is in this range.
 #[tactic(auto, using(crate::proofs::Items::item_counts))]
 fn items_in(found: &Value, least: usize, most: usize) -> Option<&[Value]>
-    ensures value { option_map (λ values. items_view values.now) result ≡ items_in least most (view found.now) }
+    ensures value { option_map (λ values. items_view values.now) result
+        ≡ items_in least most (view found.now) }
     ensures most { IfSome result (λ values. length values.now ≤ most) }
 {
     let values = found.as_array()?;

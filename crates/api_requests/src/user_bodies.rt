@@ -26,7 +26,9 @@ struct NewUser<'a> {
 
 // The fields of a new user.
 fn new_user(body: &Value) -> Option<NewUser<'_>>
-    ensures { option_map (λ user. Request.PutUser user.name user.key.now user.groups user.active) result ≡ user_asked (view body.now) }
+    ensures { option_map
+        (λ user. Request.PutUser user.name user.key.now user.groups user.active) result
+        ≡ user_asked (view body.now) }
 {
     Some(NewUser {
         name: name_at(body, "name")?,
@@ -109,7 +111,8 @@ struct UserChange<'a> {
 // The fields of a change.
 fn user_change(body: &Value) -> Option<UserChange<'_>>
     ensures { (name : List ℕ) → option_map (λ change.
-        Request.ChangeUser name (option_map (λ text. text.now) change.key) change.groups change.active) result
+        Request.ChangeUser name
+        (option_map (λ text. text.now) change.key) change.groups change.active) result
         ≡ change_asked name (view body.now) }
 {
     Some(UserChange {

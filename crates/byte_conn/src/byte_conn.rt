@@ -26,8 +26,8 @@ impl<C: Conn + Drop> ByteConn<C> {
 }
 
 impl<C: Conn + Drop> Conn for ByteConn<C> {
-    ghost use Rattle.std.specs.Prelude.{◌≡◌, ◌<◌, ◌≤◌, length, IfOk, OnErr, IfSome};
-    ghost use Rattle.octo_outside.specs.Told.{Rose};
+    ghost use Rattle.std.specs.Prelude.{◌≡◌, ◌<◌, ◌≤◌, length, IfOk, OnErr, IsErr, IfSome};
+    ghost use Rattle.octo_outside.specs.Told.{Counts};
     ghost use Rattle.octo_outside.specs.Traits.{Receives, IsWithin, quiets_after};
 
     ghost left = { λ c. C.left c.conn };
@@ -51,11 +51,11 @@ impl<C: Conn + Drop> Conn for ByteConn<C> {
         ensures written { C.written self.new.conn ≡ C.written self.old.conn }
 
         // Counts.
-        ensures quiet { IfOk result (λ got. C.quiets self.new.conn ≡ quiets_after (C.quiets self.old.conn) got) }
+        ensures quiet { IfOk result
+            (λ got. C.quiets self.new.conn ≡ quiets_after (C.quiets self.old.conn) got) }
         ensures quiet_err { OnErr result (C.quiets self.new.conn ≡ C.quiets self.old.conn) }
         ensures quiets_counted { C.quiets self.old.conn ≤ C.quiets self.new.conn }
-        ensures counted { C.faults self.old.conn ≤ C.faults self.new.conn }
-        ensures failed { OnErr result (Rose (C.faults self.old.conn) (C.faults self.new.conn)) }
+        ensures counts { Counts (IsErr result) (C.faults self.old.conn) (C.faults self.new.conn) }
     {
         self.conn.read(&mut into[..1])
     }

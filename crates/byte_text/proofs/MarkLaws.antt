@@ -1,4 +1,4 @@
--- Marks in joined bytes, and what stands around the last place of a byte.
+-- Marks in joined bytes, and what is around the last place of a byte.
 use Rattle.std.proofs.Common.{◌≡◌, ◌≢◌, ℕ, suc, ◌+◌, ◌-◌, ◌<◌, ◌≤◌, true, false, not, ◌||◌, ◌&&◌, ◌==◌, eqb, nat_eq, List, [], ◌∷◌, ◌++◌, length, get_or, take, drop, codes, sym, ap, ◌∙◌, refl, arith}
 use Rattle.std.specs.List.{list_any, starts_with, before_last, after_last, suffix_len}
 use Rattle.std.proofs.lemmas.Bool.{or_parts, or_from, and_left, ne_eqb, eq-eqb, eqb-false, false≢true}
@@ -12,7 +12,7 @@ pub has_byte-append : (byte : ℕ) (front back : List ℕ) → has_byte byte (fr
 unfolding has_byte
 has_byte-append byte front back = list_any-append (λ b. b == byte) front back
 
--- whether `M110` stands at the front doesn't change where a byte that isn't in it and more bytes follow
+-- whether `M110` is at the front doesn't change if a byte that isn't in it and more bytes follow
 m110_in_front : (byte : ℕ) (front back : List ℕ) → eqb 77 byte ≡ false → eqb 49 byte ≡ false → eqb 48 byte ≡ false → starts_with nat_eq (front ++ byte ∷ back) (codes "M110") ≡ starts_with nat_eq front (codes "M110")
 m110_in_front byte [] back m one zero = and_left _ _ m
 m110_in_front byte (a ∷ []) back m one zero = ap (λ t. eqb 77 a && t) (and_left _ _ one)
@@ -85,7 +85,7 @@ unfolding has_byte
 has_byte_nowhere byte bytes others =
     list_any_none (λ b. b == byte) bytes (λ k d within. ne_eqb (get_or bytes k d) byte (λ same. others k within (get_or_default bytes k 0 d within ∙ same)))
 
--- where a byte stands nowhere, it isn't what a place holds
+-- if a byte isn't in a list, it isn't what a place holds
 pub has_byte_none : (byte : ℕ) (bytes : List ℕ) → has_byte byte bytes ≡ false → (k : ℕ) → k < length bytes → get_or bytes k 0 ≢ byte
 has_byte_none byte bytes none k within = λ same. false≢true (sym none ∙ has_byte_at byte bytes k within same)
 
@@ -109,7 +109,7 @@ after_last-append byte front back none =
     ∙ ap (drop (length (front ++ byte ∷ []))) (sym (append_assoc front (byte ∷ []) back))
     ∙ drop_at (front ++ byte ∷ []) back (length (front ++ byte ∷ [])) refl
 
--- where a byte stands nowhere, nothing stands before its last place and all stands after it
+-- if a byte isn't in a list, nothing is before its last place and all is after it
 no_last_place : (byte : ℕ) (bytes : List ℕ) → has_byte byte bytes ≡ false → suffix_len (λ b. not (b == byte)) bytes ≡ length bytes
 no_last_place byte bytes none =
     suffix_len_is (λ b. not (b == byte)) bytes 0 0 (omega arith) (λ k low high. no_byte_suffix byte bytes k (has_byte_none byte bytes none k high)) (λ some. absurd (omega arith))

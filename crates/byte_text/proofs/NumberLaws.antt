@@ -14,7 +14,7 @@ use Rattle.byte_text.specs.Number.{leading_digits, decimal_value, number_of, beg
 abbrev pub next_value : ℕ → ℕ → ℕ
 next_value n digit = 10 * n + (digit - 48)
 
--- what a reader with a value in hand gives of what is left
+-- what a reader with a value in hand makes of what is left
 unfoldable pub number_after : ℕ → List ℕ → ℕ
 number_after n bytes = min (fold next_value n (leading_digits bytes)) 4294967295
 

@@ -7,7 +7,7 @@ use Rattle.std.proofs.lemmas.List.Sums.{fold-append}
 use Rattle.std.proofs.lemmas.List.Elements.{recursion_from_All}
 use Rattle.byte_text.specs.Xor.{xor_of}
 
--- a running sum is the sum so far and that of the rest
+-- a running sum is the sum so far and the rest's sum
 pub fold_xor : (sum : ℕ) (bytes : List ℕ) → fold bit_xor sum bytes ≡ bit_xor sum (fold bit_xor 0 bytes)
 fold_xor sum [] = sym (xor_zero_r sum)
 fold_xor sum (byte ∷ bytes) =

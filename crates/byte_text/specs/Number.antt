@@ -14,15 +14,15 @@ decimal_value digits = fold (λ n digit. 10 * n + (digit - 48)) 0 digits
 unfoldable pub number_of : List ℕ → ℕ
 number_of bytes = min (decimal_value (leading_digits bytes)) 4294967295
 
--- whether a digit stands at the front
+-- whether a digit is at the front
 unfoldable pub begins_with_digit : List ℕ → Bool
 begins_with_digit [] = false
 begins_with_digit (byte ∷ bytes) = is_ascii_digit byte
 
--- whether a text is 1 to so many digits
+-- whether a text is 1 to most digits
 abbrev pub is_whole_number : List ℕ → ℕ → Bool
 is_whole_number text most = list_all is_ascii_digit text && (nat_le 1 (length text) && nat_le (length text) most)
 
--- the number that a text of 1 to so many digits writes, and no other text
+-- the number that a text of 1 to most digits writes, and no other text
 abbrev pub whole_number : List ℕ → ℕ → Option ℕ
 whole_number text most = if is_whole_number text most then Some (decimal_value text) else None

@@ -3,7 +3,7 @@ ghost use Rattle.std.specs.Prelude.{◌≡◌, ◌==◌, true, false, MatchOptio
 ghost use Rattle.std.specs.List.{before_last, after_last};
 ghost use Rattle.byte_text.specs.Marks.{has_byte, has_m110};
 
-/// Whether the byte stands in the bytes.
+/// Whether the byte is in the bytes.
 #[tactic(auto, unfolding(crate::specs::Marks::has_byte))]
 pub fn has_byte(bytes: &[u8], byte: u8) -> bool
     ensures { result ≡ has_byte byte bytes.now }
@@ -24,7 +24,7 @@ pub fn has_m110(bytes: &[u8]) -> bool
     false
 }
 
-/// What stands before and after the last place of the byte, or `None` where it stands nowhere.
+/// What is before and after the last place of the byte, or `None` if it is nowhere.
 pub fn split_at_last(bytes: &[u8], byte: u8) -> Option<(&[u8], &[u8])>
     ensures none { MatchOption result
         (has_byte byte bytes.now ≡ false)

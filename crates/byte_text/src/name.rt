@@ -39,7 +39,8 @@ impl Name {
 
     /// The name of this text, or `None` if it has over 100 bytes.
     pub fn from_text(text: &str) -> Option<Name>
-        ensures { MatchOption result (100 < length text.now) (λ name. (name ≡ text.now) × (length text.now ≤ 100)) }
+        ensures { MatchOption result (100 < length text.now)
+            (λ name. (name ≡ text.now) × (length text.now ≤ 100)) }
     {
         match ArrayString::from(text) {
             Ok(text) => Some(Name { text }),

@@ -4,7 +4,7 @@ ghost use Rattle.std.specs.Char.{is_ascii_digit};
 ghost use Rattle.std.specs.List.{list_all, prefix_len};
 ghost use Rattle.byte_text.specs.Number.{leading_digits, number_of, whole_number};
 
-// How many digits stand at the front.
+// How many digits are at the front.
 fn digit_count(bytes: &[u8]) -> usize
     ensures { result ≡ prefix_len is_ascii_digit bytes.now }
 {
@@ -14,7 +14,7 @@ fn digit_count(bytes: &[u8]) -> usize
         .count()
 }
 
-/// The decimal digits at the front, none where the bytes begin with no digit.
+/// The decimal digits at the front, none if the bytes begin with no digit.
 #[tactic(auto, unfolding(crate::specs::Number::leading_digits))]
 pub fn leading_digits(bytes: &[u8]) -> &[u8]
     ensures { result.now ≡ leading_digits bytes.now }

@@ -119,7 +119,7 @@ draws_many : (number count : ℕ) → length (draws number count) ≡ count
 draws_many number zero = refl
 draws_many number (suc count) = ap suc (draws_many (next_number number) count)
 
--- the file of a demo gives a job
+-- the file of a demo has a job
 pub job_of_demo : (seed commands : ℕ) → commands ≤ 200000 → job_of (demo_file seed commands) ≡ Ok (job_in (demo_file seed commands) (file_lines (demo_file seed commands)))
 unfolding job_of file_lines
 job_of_demo seed commands most =
@@ -137,7 +137,7 @@ abbrev is_job : Result JobData FileFault → Bool
 is_job (Ok job) = true
 is_job (Err fault) = false
 
--- it is refused for want of memory alone
+-- it is refused only if memory runs out
 pub only_memory : (seed commands : ℕ) (file : List ℕ) (fault : FileFault) → commands ≤ 200000 → file ≡ demo_file seed commands
     → ◌≡◌ {A = Result JobData FileFault} (Err fault) (Err NoMemory) ⊎ ◌≡◌ {A = Result JobData FileFault} (Err fault) (job_of file) → fault ≡ NoMemory
 only_memory seed commands file fault most its (inl same) = ap (λ (r : Result JobData FileFault). fault_in r fault) same

@@ -19,7 +19,7 @@ harmed_after harmed Whole = 0
 harmed_after harmed Lost = harmed + 1
 harmed_after harmed Garbled = harmed + 1
 
--- the fates by their draws, after so many in a row that are harmed
+-- the fates by their draws, after this number in a row that are harmed
 abbrev pub fates_after : ℕ → List ℕ → List Fate
 fates_after harmed [] = []
 fates_after harmed (draw ∷ draws) =

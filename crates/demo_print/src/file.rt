@@ -30,7 +30,7 @@ fn append_line(file: &mut Blob, draw: u32) -> Result<(), AllocError>
     }
 }
 
-/// Adds a line for each of so many draws.
+/// Adds a line for each draw, this number of them.
 pub(crate) fn append_lines(
     file: &mut Blob,
     numbers: &mut Draws,

@@ -21,7 +21,7 @@ pub struct DemoCounts {
 /// A text of at most 256 bytes.
 pub type SummaryText = ArrayVec<u8, 256>;
 
-// Adds what stands before a number, and the number.
+// Adds what is before a number, and the number.
 fn append_count(text: &mut SummaryText, before: &[u8], number: u64)
     requires { array_vec_len text.old + length before.now + 20 ≤ 256 }
     ensures items { text.new.items ≡ text.old.items ++ before.now ++ decimal number }

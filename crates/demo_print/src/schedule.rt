@@ -20,7 +20,7 @@ fn fate_of(draw: u32) -> Fate
     }
 }
 
-// The fate of a line by its draw, after so many in a row that are harmed.
+// The fate of a line by its draw, after this number in a row that are harmed.
 fn fate_after(harmed: u32, draw: u32) -> Fate
     ensures { result ≡ fate_after harmed draw }
 {
@@ -44,9 +44,11 @@ fn harmed_after(harmed: u32, fate: Fate) -> u32
 // Adds the next fate.
 fn append_fate(fates: &mut FateList, numbers: &mut Draws, harmed: u32) -> Result<u32, AllocError>
     requires { harmed ≤ 2 }
-    ensures fate { OnOk result (fates.new ≡ fates.old ++ fate_after harmed (drawn numbers.new) ∷ []) }
+    ensures fate { OnOk result
+        (fates.new ≡ fates.old ++ fate_after harmed (drawn numbers.new) ∷ []) }
     ensures number { numbers.new ≡ next_number numbers.old }
-    ensures harmed { IfOk result (λ now. now ≡ harmed_after harmed (fate_after harmed (drawn numbers.new))) }
+    ensures harmed { IfOk result
+        (λ now. now ≡ harmed_after harmed (fate_after harmed (drawn numbers.new))) }
     ensures few { IfOk result (λ now. now ≤ 2) }
 {
     let fate = fate_after(harmed, numbers.draw());
@@ -54,7 +56,7 @@ fn append_fate(fates: &mut FateList, numbers: &mut Draws, harmed: u32) -> Result
     Ok(harmed_after(harmed, fate))
 }
 
-// Adds a fate for each of so many draws.
+// Adds a fate for each draw, this number of them.
 fn append_fates(fates: &mut FateList, numbers: &mut Draws, count: u32) -> Result<(), AllocError>
     ensures { OnOk result (fates.new ≡ fates.old ++ fates_after 0 (draws numbers.old count)) }
 {
@@ -65,7 +67,7 @@ fn append_fates(fates: &mut FateList, numbers: &mut Draws, count: u32) -> Result
     Ok(())
 }
 
-// Passes over so many draws.
+// Passes over this number of draws.
 fn skip(numbers: &mut Draws, count: u32)
     ensures { numbers.new ≡ number_after numbers.old count }
 {

@@ -29,7 +29,7 @@ fn is_letter(fate: Fate, letter: u8) -> bool {
     }
 }
 
-// The first fates have these letters, and there are so many in all.
+// The first fates have these letters, and this is the number of all.
 fn has_fates(rt: &impl Abort, schedule: &Schedule, letters: &[u8], count: usize) {
     let fates = schedule.fates.as_slice();
     assert_eq!(rt; fates.len(), count);
@@ -72,7 +72,7 @@ fn all_commands(rt: HostRuntime) -> Result<(), Fail> {
     Ok(())
 }
 
-// The demo of a seed executes, sends and loses so many lines, and is printed.
+// The demo of a seed executes, sends and loses these numbers of lines, and is printed.
 fn comes_to(
     rt: &impl Abort,
     alloc: Global,

@@ -1,4 +1,4 @@
--- A print that is going on: its lines so far, with those that wait, stand where its state says.
+-- A print that is going on: its lines so far, with those that wait, are as its state says.
 use Rattle.std.proofs.Common.{◌≡◌, ℕ, Bool, true, false, cond, nat_eq, ◌+◌, codes, List, [], ◌∷◌, ◌++◌, length, slice_get, Option, None, Some, refl, sym, ◌∙◌, ap, subst}
 use Rattle.std.proofs.lemmas.Bool.{false≢true}
 use Rattle.desk_steps.specs.Data.{ScriptTexts, Data, File, Line, script_lines, commands_of, with_script, moment_after}
@@ -213,7 +213,7 @@ module _ (p : ℕ) (commands : List (List ℕ)) where
   other_issue : (out : List Line) (line : Line) (d : Data) → own p line ≡ [] → CurrentTo p commands out d → CurrentDrawn out (issue line d)
   other_issue out line d e h = current-issue out line d (subst (λ o. CurrentTo p commands o d) (sym (append-nil out) ∙ ap (λ l. out ++ l) (sym e)) h)
 
-  -- a waiting line that was pulled stands among the lines as before
+  -- a waiting line that was pulled is among the lines as before
   stays : (scripts : ScriptTexts) (s : State) (cursor : ℕ) (line : Line) (rest lines : List Line) → At scripts s cursor (line ∷ rest) lines →
       At scripts s cursor rest lines
   stays scripts Printing cursor line rest lines b = b

@@ -136,7 +136,7 @@ module _ (scripts : ScriptTexts) where
   known_run p positive (call ∷ calls) run s m k =
       known_run p positive calls (after call run) (sound-after call run s) m.1 (known-after scripts p positive call run s.same m.0 k)
 
-  -- what is known tells the story
+  -- the story follows from what is known
   tells : (p : ℕ) (positive : nat_eq 0 p ≡ false) (run : Run) → Sound scripts run → KnownOf scripts p positive run →
       Story scripts p (of_print p run.begun) (pulled_of p run.pulled) (of_print p run.ends)
   tells p positive run s (inl k) =

@@ -20,8 +20,8 @@ pub struct FolderShelf<R: Files + AllocGlobal + Clone + Drop> {
 }
 
 impl<R: Files + AllocGlobal + Clone + Drop> FolderShelf<R> {
-    ghost use Rattle.std.specs.Prelude.{◌≡◌, ◌≤◌, IsErrOf};
-    ghost use Rattle.octo_outside.specs.Told.{Rose};
+    ghost use Rattle.std.specs.Prelude.{◌≡◌, IsErrOf};
+    ghost use Rattle.octo_outside.specs.Told.{Counts};
     ghost use Rattle.octo_keeper.specs.declared.shelf.ShelfFault.TheVariants as fault;
 
     /// The files of that folder, which has to be there; no call yet.
@@ -38,8 +38,7 @@ impl<R: Files + AllocGlobal + Clone + Drop> FolderShelf<R> {
     // Counts a fault, if the call was one; running out of memory isn't.
     fn count<T: Drop>(&mut self, done: Result<T, ShelfFault>) -> Result<T, ShelfFault>
         ensures same { result ≡ done }
-        ensures counted { self.old.faults ≤ self.new.faults }
-        ensures failed { IsErrOf result fault.Failed → Rose self.old.faults self.new.faults }
+        ensures counts { Counts (IsErrOf result fault.Failed) self.old.faults self.new.faults }
     {
         if matches!(done, Err(ShelfFault::Failed)) {
             self.faults = self.faults.saturating_add(1);

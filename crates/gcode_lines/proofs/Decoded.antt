@@ -1,4 +1,4 @@
--- A word gives back what it was made of.
+-- A word decodes to what it was made of.
 use Rattle.std.proofs.Common.{◌≡◌, ℕ, ◌+◌, ◌^◌, ◌<◌, ◌≤◌, List, length, take, drop, ap, ◌∙◌, arith}
 use Rattle.std.proofs.lemmas.List.{length-drop, length-take-le}
 use Rattle.gcode_lines.specs.Job.{Command, word_at, word_of, IsCutFrom}

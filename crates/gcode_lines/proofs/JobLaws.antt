@@ -13,11 +13,11 @@ use Rattle.gcode_lines.specs.Commands.{FileLine, file_line, numbered, pieces_of,
 use Rattle.gcode_lines.proofs.Sendable.{sendable_text, short_from_test}
 
 -- the tests of `fault_at` over plain variables
-abbrev fault_by : Bool → Bool → Bool → ℕ → Option FileFault
+abbrev pub fault_by : Bool → Bool → Bool → ℕ → Option FileFault
 fault_by passed long control number =
     cond passed None (cond long (Some (TooLong number)) (cond control (Some (ControlByte number)) None))
 
-sound_by : (long control : Bool) (number : ℕ) → fault_by false long control number ≡ None → (long ≡ false) × (control ≡ false)
+pub sound_by : (long control : Bool) (number : ℕ) → fault_by false long control number ≡ None → (long ≡ false) × (control ≡ false)
 sound_by false false number sound = (refl, refl)
 sound_by true control number sound = absurd cc
 sound_by false true number sound = absurd cc
@@ -106,7 +106,7 @@ rising_from true fault bytes = tt
 rising_from false (Some fault) bytes = tt
 rising_from false None bytes = rising_lines bytes
 
--- the commands of every file stand in the order of its lines
+-- the commands of every file are in the order of its lines
 pub rising_job : (bytes : List ℕ) → IfOk (job_of bytes) (λ job. IsStrictlyIncreasing (numbers_of job))
 unfolding job_of
 rising_job bytes = rising_from (nat_lt most_bytes (length bytes)) (first_fault (lines_of bytes)) bytes

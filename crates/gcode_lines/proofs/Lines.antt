@@ -28,7 +28,7 @@ front_of-other : (byte : ℕ) (bytes : List ℕ) → (byte == 10) ≡ false → 
 front_of-other byte bytes e =
     take_while-cons (λ b. not (b == 10)) byte bytes ∙ ap (λ t. cond (not t) (byte ∷ front_of bytes) []) e
 
--- what is left behind the first line
+-- what is left after the first line
 abbrev behind : List ℕ → List ℕ
 behind bytes = drop (length (front_of bytes) + 1) bytes
 
@@ -61,7 +61,7 @@ pieces_of-cons byte [] = pieces_of-by byte [] (byte == 10) refl refl
 pieces_of-cons byte (next ∷ bytes) =
     pieces_of-by byte (next ∷ bytes) (byte == 10) refl (ap (in_front byte) (pieces_of-cons next bytes))
 
--- the lines that are left at a place, before which so many lines stand
+-- the lines that are left at a place, after this number of lines
 abbrev pub lines_left : List ℕ → ℕ → ℕ → List FileLine
 lines_left bytes at number = numbered (number + 1) at (pieces_of (drop at bytes))
 
@@ -138,7 +138,7 @@ line_there bytes at number line starts within small e =
       small = small;
     }
 
--- a place after a line is that of a line feed's next
+-- a place after a line is the place after its line feed
 feed_before : (bytes : List ℕ) (at : ℕ) (line : List ℕ) → at < length bytes → line ≡ front_of (drop at bytes) → at + length line < length bytes → get_or bytes (at + length line) 0 ≡ 10
 feed_before bytes at line within e more =
     let rest = drop at bytes in
@@ -181,7 +181,7 @@ HasRead-more bytes at number places line read within small e sound =
       lines = omega arith;
     }
 
--- a file with no fault gives what was found in it all
+-- a file with no fault has a job of what was found in it all
 pub HasRead-end : (bytes : List ℕ) (at number : ℕ) (places : PlacesData) → HasRead bytes at number places → length bytes ≤ most_bytes → length bytes ≤ at → AreFound bytes places
 unfolding job_of
 HasRead-end bytes at number places read small past =

@@ -84,7 +84,7 @@ pub kept_from_parts : (text : List ℕ) → (length text == 0) ≡ false → has
 unfolding is_skipped
 kept_from_parts text some other = or_from (length text == 0) (has_m110 text) some other
 
--- what a line says may be sent where it is neither skipped nor refused
+-- what a line says may be sent if it is neither skipped nor refused
 pub sendable_text : (line : List ℕ) → is_skipped (text_of line) ≡ false → is_too_long (text_of line) ≡ false → has_control (text_of line) ≡ false → IsSendable (text_of line)
 sendable_text line kept short clean =
     record {
@@ -95,6 +95,6 @@ sendable_text line kept short clean =
       no_m110 = no_m110_from_kept _ kept;
     }
 
--- the same where both reasons to skip it were tested apart
+-- the same if both reasons to skip it were tested apart
 pub sendable_one : (line : List ℕ) → (length (text_of line) == 0) ≡ false → has_m110 (text_of line) ≡ false → is_too_long (text_of line) ≡ false → has_control (text_of line) ≡ false → IsSendable (text_of line)
 sendable_one line some other short clean = sendable_text line (kept_from_parts (text_of line) some other) short clean

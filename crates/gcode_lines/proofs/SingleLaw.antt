@@ -1,4 +1,4 @@
--- The command of one line is that of a file which is this line.
+-- The command of one line is the command of a file which is this line.
 use Rattle.std.proofs.Common.{◌≡◌, ℕ, ◌≤◌, Bool, true, false, cond, nat_lt, ◌==◌, List, [], ◌∷◌, length, Result, Ok, Err, refl, ap, zero-add, arith}
 use Rattle.std.specs.List.{list_any}
 use Rattle.std.proofs.lemmas.Bool.{or_parts}

@@ -20,7 +20,7 @@ abbrev pub in_front : ℕ → List (List ℕ) → List (List ℕ)
 in_front byte [] = (byte ∷ []) ∷ []
 in_front byte (piece ∷ pieces) = (byte ∷ piece) ∷ pieces
 
--- the bytes cut at line feeds; behind a last line feed stands no piece
+-- the bytes cut at line feeds; after a last line feed there is no piece
 abbrev pub pieces_of : List ℕ → List (List ℕ)
 pieces_of [] = []
 pieces_of (byte ∷ bytes) = if byte == 10 then [] ∷ pieces_of bytes else in_front byte (pieces_of bytes)
@@ -76,7 +76,7 @@ abbrev pub job_in : List ℕ → List FileLine → JobData
 job_in bytes lines =
     record { file = bytes; commands = commands_in lines; skipped = skipped_in lines; bytes = length bytes }
 
--- what a file gives: the job of its commands, or why it is refused
+-- what a file is read as: the job of its commands, or why it is refused
 unfoldable pub job_of : List ℕ → Result JobData FileFault
 job_of bytes =
     if nat_lt most_bytes (length bytes) then Err (TooLarge (length bytes)) else unless_fault (first_fault (lines_of bytes)) (job_in bytes (lines_of bytes))

@@ -3,7 +3,7 @@ use Rattle.gcode_lines.specs.declared.job.Job.TheInside.{Inside}
 use Rattle.gcode_lines.specs.Job.{JobData, IsJob}
 use Rattle.gcode_lines.specs.Packed.{job_at, EndsIn}
 
--- what a job's fields stand for
+-- what a job's fields mean
 abbrev pub data_of : Inside → JobData
 data_of job = job_at job.file job.places
 

@@ -5,14 +5,14 @@ use Rattle.byte_text.specs.Sendable.{IsSendable}
 abbrev pub most_bytes : ℕ
 most_bytes = 67108864
 
--- a command of a file: its text, its line counted from 1, the place of its line's first byte, and that of its text's
+-- a command of a file: its text, its line counted from 1, the place of its line's first byte, and the place of its text's
 pub record Command : Type 0 where
   pub text : List ℕ
   pub line : ℕ
   pub place : ℕ
   pub begin : ℕ
 
--- what a file gives: its bytes, its commands in order, how many lines were skipped, and how many bytes it has
+-- what a file is read as: its bytes, its commands in order, how many lines were skipped, and how many bytes it has
 pub record JobData : Type 0 where
   pub file : List ℕ
   pub commands : List Command

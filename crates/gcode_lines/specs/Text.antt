@@ -35,7 +35,7 @@ trimmed bytes = without_end is_blank (without_front is_blank bytes)
 unfoldable pub is_numbered : List ℕ → Bool
 is_numbered text = slice_index text 0 == 78 && is_ascii_digit (slice_index text 1)
 
--- a text without its line number and the spaces and tabs behind it
+-- a text without its line number and the spaces and tabs after it
 unfoldable pub without_number : List ℕ → List ℕ
 without_number text =
     if is_numbered text then without_front is_space (without_front is_ascii_digit (drop 1 text)) else text

@@ -1,7 +1,7 @@
 //! Why a file or a line is refused.
 use thiserror::Error;
 
-/// Why a file gives no job. The line is the first one that is refused, counted from 1.
+/// Why a file has no job. The line is the first one that is refused, counted from 1.
 #[derive(Clone, Copy, Debug, PartialEq, Eq, Error)]
 pub enum FileFault {
     /// A command of over 79 bytes.
@@ -18,7 +18,7 @@ pub enum FileFault {
     NoMemory,
 }
 
-/// Why a line by itself is not one command; the first of these that holds is told.
+/// Why a line by itself is not one command: the first of these that holds.
 #[derive(Clone, Copy, Debug, PartialEq, Eq, Error)]
 pub enum NotOne {
     /// It has a line feed.

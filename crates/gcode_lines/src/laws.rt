@@ -7,18 +7,22 @@ ghost use Rattle.gcode_lines.specs.Job.{most_bytes, texts_of, numbers_of, AllSen
 ghost use Rattle.gcode_lines.specs.Commands.{job_of};
 ghost use Rattle.gcode_lines.specs.Single.{single_of, single_job};
 
-/// What a line says may be sent where it is neither skipped nor refused.
+/// What a line says may be sent if it is neither skipped nor refused.
 pub fn line_law()
-    ensures { (line : List ℕ) → is_skipped (text_of line) ≡ false → is_too_long (text_of line) ≡ false → has_control (text_of line) ≡ false → IsSendable (text_of line) }
+    ensures { (line : List ℕ) → is_skipped (text_of line) ≡ false
+        → is_too_long (text_of line) ≡ false → has_control (text_of line) ≡ false
+        → IsSendable (text_of line) }
 {}
 
-/// The commands of a file may be sent, and each stands in a later line than the one before.
+/// The commands of a file may be sent, and each is in a later line than the one before.
 pub fn job_law()
     ensures sendable { (bytes : List ℕ) → IfOk (job_of bytes) (λ job. AllSendable (texts_of job)) }
-    ensures rising { (bytes : List ℕ) → IfOk (job_of bytes) (λ job. IsStrictlyIncreasing (numbers_of job)) }
+    ensures rising { (bytes : List ℕ)
+        → IfOk (job_of bytes) (λ job. IsStrictlyIncreasing (numbers_of job)) }
 {}
 
 /// The one command of a line is the one command of a file that is this line.
 pub fn single_law()
-    ensures { (line text : List ℕ) → length line ≤ most_bytes → single_of line ≡ Ok text → job_of line ≡ Ok (single_job line text) }
+    ensures { (line text : List ℕ) → length line ≤ most_bytes → single_of line ≡ Ok text
+        → job_of line ≡ Ok (single_job line text) }
 {}

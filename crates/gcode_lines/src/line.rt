@@ -28,7 +28,7 @@ fn said_len(bytes: &[u8]) -> usize
     bytes.iter().take_while(|byte| !ends_said(**byte)).count()
 }
 
-/// Where the first line feed stands, or the length.
+/// The place of the first line feed, or the length.
 fn line_len(bytes: &[u8]) -> usize
     ensures value { result ≡ position_or_len (λ byte. byte == 10) bytes.now }
     ensures fits { result ≤ length bytes.now }

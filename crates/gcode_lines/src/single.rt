@@ -10,7 +10,8 @@ use byte_text::{Text, has_byte, has_m110};
 /// The one command of a line, read as a line of a file is. It takes no memory.
 #[tactic(auto, unfolding(crate::specs::Single::single_of), using(crate::proofs::Sendable::sendable_text))]
 pub fn one_command(line: &[u8]) -> Result<Text, NotOne>
-    ensures exact { MatchResult result (λ text. single_of line.now ≡ Ok text.items) (λ fault. single_of line.now ≡ Err fault) }
+    ensures exact { MatchResult result (λ text. single_of line.now ≡ Ok text.items)
+        (λ fault. single_of line.now ≡ Err fault) }
     ensures sendable { IfOk result (λ text. IsSendable text.items) }
 {
     if has_byte(line, b'\n') {

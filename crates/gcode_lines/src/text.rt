@@ -1,4 +1,4 @@
-//! The text of one line: what stands before a `;` comment or a `*` checksum, without blanks at both ends and without
+//! The text of one line: what is before a `;` comment or a `*` checksum, without blanks at both ends and without
 //! the line number `N..` that hosts put in front, as in the G-code that Marlin reads. A text with `M110` is passed
 //! over, since Marlin would take a new line number from it.
 ghost use Rattle.std.specs.Prelude.{◌≡◌, ◌+◌, ◌≤◌, ◌||◌, false, fold, length};
@@ -48,7 +48,7 @@ fn mark_place(line: &[u8]) -> usize
     line.iter().take_while(|byte| !is_mark(**byte)).count()
 }
 
-/// How many blanks stand at the front.
+/// How many blanks are at the front.
 fn blanks_in_front(bytes: &[u8]) -> usize
     ensures value { result ≡ prefix_len is_blank bytes.now }
     ensures fits { result ≤ length bytes.now }
@@ -56,7 +56,7 @@ fn blanks_in_front(bytes: &[u8]) -> usize
     bytes.iter().take_while(|byte| is_blank(**byte)).count()
 }
 
-/// How many blanks stand at the end.
+/// How many blanks are at the end.
 fn blanks_at_end(bytes: &[u8]) -> usize
     ensures value { result ≡ suffix_len is_blank bytes.now }
     ensures fits { result ≤ length bytes.now }
@@ -68,7 +68,7 @@ fn blanks_at_end(bytes: &[u8]) -> usize
         .count()
 }
 
-/// How many digits stand at the front.
+/// How many digits are at the front.
 fn digits_in_front(bytes: &[u8]) -> usize
     ensures value { result ≡ prefix_len is_ascii_digit bytes.now }
     ensures fits { result ≤ length bytes.now }
@@ -79,7 +79,7 @@ fn digits_in_front(bytes: &[u8]) -> usize
         .count()
 }
 
-/// How many spaces and tabs stand at the front.
+/// How many spaces and tabs are at the front.
 fn spaces_in_front(bytes: &[u8]) -> usize
     ensures value { result ≡ prefix_len is_space bytes.now }
     ensures fits { result ≤ length bytes.now }
@@ -87,7 +87,7 @@ fn spaces_in_front(bytes: &[u8]) -> usize
     bytes.iter().take_while(|byte| is_space(**byte)).count()
 }
 
-/// What stands before a comment or a checksum.
+/// What is before a comment or a checksum.
 fn before_mark(line: &[u8]) -> &[u8]
     ensures { result.now ≡ before_first is_mark line.now }
 {
@@ -112,7 +112,7 @@ fn is_numbered(text: &[u8]) -> bool
     text.len() > 1 && text[0] == b'N' && text[1].is_ascii_digit()
 }
 
-/// A text without its line number, `N` and digits, and the spaces and tabs behind it.
+/// A text without its line number, `N` and digits, and the spaces and tabs after it.
 #[tactic(auto, unfolding(crate::specs::Text::without_number, crate::specs::Text::without_front))]
 fn without_number(text: &[u8]) -> &[u8]
     ensures value { result.now ≡ without_number text.now }

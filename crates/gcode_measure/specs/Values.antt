@@ -17,7 +17,7 @@ letter_of Y = 89
 letter_of Z = 90
 letter_of E = 69
 
--- the first number that arguments give a letter
+-- the first number of a letter among arguments
 abbrev pub first_number : ℕ → List CodeWord → Option ℤ
 first_number letter [] = None
 first_number letter (word ∷ words) =

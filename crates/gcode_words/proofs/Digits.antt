@@ -20,7 +20,7 @@ decimals-more decimals i h =
     decimal_value-more (decimals ++ replicate 6 48) i (omega arith)
     ∙ ap (λ d. 10 * decimal_value (take i (decimals ++ replicate 6 48)) + (d - 48)) (get_or-filled decimals 6 i h)
 
--- what so many decimals can say at most, as a byte counts at most 207
+-- the most that this number of decimals can say, as a byte counts at most 207
 abbrev most_decimals : List ℕ
 most_decimals = 0 ∷ 207 ∷ 2277 ∷ 22977 ∷ 229977 ∷ 2299977 ∷ 22999977 ∷ []
 

@@ -11,22 +11,22 @@ const GREATEST_WHOLE: u64 = 9_000_000_000_000;
 /// Millionths in one.
 const MILLION: u64 = 1_000_000;
 
-/// A number that was read at the front of a text, in millionths, and what stands behind it.
+/// A number that was read at the front of a text, in millionths, and what follows it.
 #[derive(Clone, Copy, Debug)]
 pub struct Number<'a> {
     pub micro: i64,
     pub rest: &'a [u8],
 }
 
-/// A number without its sign, in millionths, and what stands behind it.
+/// A number without its sign, in millionths, and what follows it.
 #[derive(Clone, Copy)]
 struct Magnitude<'a> {
     micro: u64,
     rest: &'a [u8],
 }
 
-/// Reads the number at the front: a sign or none, digits, and behind a point digits again, with one digit at least.
-/// Decimals behind the sixth are dropped. None where no number stands there.
+/// Reads the number at the front: a sign or none, digits, and after a point digits again, with one digit at least.
+/// Decimals after the sixth are dropped. None if no number is there.
 #[tactic(auto, unfolding(crate::specs::Value::number_at))]
 pub fn read_number(bytes: &[u8]) -> Option<Number<'_>>
     ensures { MatchOption result
@@ -43,7 +43,7 @@ pub fn read_number(bytes: &[u8]) -> Option<Number<'_>>
     Some(Number { micro, rest })
 }
 
-/// Whether `-` stands at the front, and what stands behind a sign.
+/// Whether `-` is at the front, and what follows a sign.
 fn split_sign(bytes: &[u8]) -> (bool, &[u8])
     ensures negative { result.0 ≡ is_negative bytes.now }
     ensures rest { result.1.now ≡ behind_sign bytes.now }
@@ -74,7 +74,7 @@ fn read_magnitude(bytes: &[u8]) -> Option<Magnitude<'_>>
     })
 }
 
-/// The digits at the front, and what stands behind them.
+/// The digits at the front, and what follows them.
 #[tactic(auto, using(crate::proofs::Digits::digits_fit), unfolding(crate::specs::Value::behind_digits))]
 fn split_digits(bytes: &[u8]) -> (&[u8], &[u8])
     ensures digits { result.0.now ≡ leading_digits bytes.now }
@@ -84,7 +84,7 @@ fn split_digits(bytes: &[u8]) -> (&[u8], &[u8])
     (digits, &bytes[digits.len()..])
 }
 
-/// The digits behind a point at the front, and what stands behind them.
+/// The digits after a point at the front, and what follows them.
 #[tactic(auto, unfolding(crate::specs::Value::decimals_at, crate::specs::Value::behind_decimals))]
 fn split_decimals(bytes: &[u8]) -> (&[u8], &[u8])
     ensures digits { result.0.now ≡ decimals_at bytes.now }
@@ -96,7 +96,7 @@ fn split_decimals(bytes: &[u8]) -> (&[u8], &[u8])
     }
 }
 
-/// The number in millionths that has these digits before and behind its point.
+/// The number in millionths that has these digits before and after its point.
 #[tactic(auto, unfolding(crate::specs::Value::micro_of))]
 fn micro(whole: &[u8], decimals: &[u8]) -> u64
     ensures value { result ≡ micro_of whole.now decimals.now }
@@ -109,7 +109,7 @@ fn micro(whole: &[u8], decimals: &[u8]) -> u64
     units * MILLION + first_decimals(decimals)
 }
 
-/// The number that digits write, and `most` where they write more.
+/// The number that digits write, and `most` if they write more.
 pub fn decimal_up_to(digits: &[u8], most: u64) -> u64
     requires { most < 2 ^ 60 }
     ensures { result ≡ min (decimal_value digits.now) most }

@@ -5,7 +5,7 @@ ghost use Rattle.gcode_words.specs.Words.{value_at, words_of};
 
 use super::read_number;
 
-/// A letter in upper case and the number that follows it at once, in millionths; None where no number follows.
+/// A letter in upper case and the number that follows it at once, in millionths; None if no number follows.
 #[derive(Clone, Copy, Debug, PartialEq, Eq)]
 pub struct CodeWord {
     pub letter: u8,

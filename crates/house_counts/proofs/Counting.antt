@@ -2,6 +2,7 @@
 use Rattle.std.proofs.Common.{◌≡◌, ◌⊎◌, inl, inr, ℕ, ◌+◌, ◌≤◌, Bool, true, false, List, [], ◌∷◌, ◌++◌, Option, None, Some, refl, sym, subst, arith}
 use Rattle.std.specs.Prelude.{cond, count_by}
 use Rattle.std.proofs.lemmas.List.Sums.{sum_by-append}
+use Rattle.octo_outside.specs.Told.{Counts}
 use Rattle.desk_steps.specs.declared.issued.Note.{Note}
 use Rattle.octo_asks.specs.History.{History}
 use Rattle.octo_asks.specs.declared.answer.Answer.{Answer}
@@ -10,7 +11,7 @@ use Rattle.octo_asks.specs.declared.entry.Entry.TheVariants as entry
 use Rattle.octo_asks.specs.declared.request.Ask.{Ask}
 use Rattle.octo_session.specs.Data.{SessionData}
 use Rattle.octo_session.specs.Turn.{fact_of}
-use Rattle.house_rows.specs.Counts.{Counts, is_keepers, is_shelfs}
+use Rattle.house_rows.specs.Counts.{is_keepers, is_shelfs}
 use Rattle.house_counts.specs.Faults.{HasRisen, AreCounted, is_failure, is_keepers_fault, is_shelfs_fault, is_links_fault}
 use Rattle.house_counts.specs.Rounds.{AsksAt, TurnsAt, noted}
 
@@ -34,7 +35,7 @@ risen_then n m before mid now first second = record {
 }
 
 -- a call that may have failed was counted
-pub risen_by : (failed : Bool) (before now : ℕ) → Counts failed before now → HasRisen (0 + cond failed 1 0) before now
+pub risen_by : (failed : Bool) (before now : ℕ) → Counts (failed ≡ true) before now → HasRisen (0 + cond failed 1 0) before now
 risen_by true before now c = record { later = c.later; rose = λ shown. omega (arith, c.rose refl (omega (arith, c.later, shown)), shown) }
 risen_by false before now c = not_fallen before now c.later
 
@@ -55,7 +56,7 @@ pub none_asks : (moment keeper shelf : ℕ) → AsksAt moment keeper keeper shel
 none_asks moment keeper shelf = record { asks = inl refl; keepers = not_risen keeper; shelfs = not_risen shelf }
 
 -- an answered ask
-pub call_asks : (moment keeper keeper' shelf shelf' : ℕ) (worker : ℕ) (ask : Ask) (x : Answer) → Counts (is_keepers x) keeper keeper' → Counts (is_shelfs x) shelf shelf'
+pub call_asks : (moment keeper keeper' shelf shelf' : ℕ) (worker : ℕ) (ask : Ask) (x : Answer) → Counts (is_keepers x ≡ true) keeper keeper' → Counts (is_shelfs x ≡ true) shelf shelf'
     → AsksAt moment keeper keeper' shelf shelf' (entry.Call worker ask moment x ∷ [])
 call_asks moment keeper keeper' shelf shelf' worker ask x keepers shelfs = record {
   asks = inr (worker, ask, x, refl);
@@ -74,7 +75,7 @@ asks_counted moment keeper keeper' shelf shelf' link h a = record { keepers = a.
     by (inl none) = subst (λ (es : History). HasRisen (count_by is_links_fault es) link link) (sym none) (not_risen link)
     by (inr one) = ask_links moment h link one.0 one.1 one.2 one.3
 
-note_counted : (keeper keeper' shelf link link' : ℕ) (note : Option Note) → keeper ≤ keeper' → Counts (is_failure (fact_of note)) link link'
+note_counted : (keeper keeper' shelf link link' : ℕ) (note : Option Note) → keeper ≤ keeper' → Counts (is_failure (fact_of note) ≡ true) link link'
     → AreCounted keeper keeper' shelf shelf link link' (noted note)
 note_counted keeper keeper' shelf link link' None later c = record {
   keepers = not_fallen keeper keeper' later;
@@ -90,7 +91,7 @@ note_counted keeper keeper' shelf link link' (Some note) later c = record {
 pub turns_counted : (moment : ℕ) (listed : List ℕ → Bool) (x : SessionData) (calls calls' : Option ℕ) (keeper keeper' shelf link link' : ℕ) (h : History) → keeper ≤ keeper'
     → TurnsAt moment listed x calls calls' link link' h → AreCounted keeper keeper' shelf shelf link link' h
 turns_counted moment listed x calls calls' keeper keeper' shelf link link' h later t =
-    subst (λ (es : History). AreCounted keeper keeper' shelf shelf link link' es) (sym t.1) (note_counted keeper keeper' shelf link link' t.0 later t.2.failed)
+    subst (λ (es : History). AreCounted keeper keeper' shelf shelf link link' es) (sym t.1) (note_counted keeper keeper' shelf link link' t.0 later t.2.counts)
 
 pub end_counted : (keeper shelf link link' : ℕ) → link' ≡ link → AreCounted keeper keeper shelf shelf link link' (entry.Close ∷ [])
 end_counted keeper shelf link link' same = record { keepers = not_risen keeper; shelfs = not_risen shelf; links = not_fallen link link' (omega (arith, same)) }

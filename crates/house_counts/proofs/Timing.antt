@@ -52,7 +52,7 @@ turns_between first moment listed x calls calls' link link' h below t = subst (A
     by None n = between_none first moment
     by (Some note) n = note_between first moment note n.its_moment below
 
--- what a clock that stands here has seen of a history that began at the first moment: this moment isn't before the last entry
+-- what a clock at this moment has seen of a history that began at the first moment: this moment isn't before the last entry
 abbrev pub Timed : (first at : Option ℕ) → ℕ → (past past' : Option History) → Type 0
 Timed first at moment past past' =
     (now : ℕ) → at ≡ Some now → (moment ≤ now)

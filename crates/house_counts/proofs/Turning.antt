@@ -1,7 +1,7 @@
 -- What a turn of a session says of its link.
 use Rattle.std.proofs.Common.{◌≡◌, ℕ, ◌-◌, ◌≤◌, Bool, true, false, not, ◌&&◌, if◌then◌else◌, List, Option, refl, sym, ap, subst, ◌∙◌, arith}
 use Rattle.std.specs.Prelude.{IfSome}
-use Rattle.octo_outside.specs.Told.{Rose}
+use Rattle.octo_outside.specs.Told.{Counts}
 use Rattle.desk_steps.specs.declared.issued.Note.{Note}
 use Rattle.desk_steps.specs.declared.link_fact.LinkFact.{LinkFact}
 use Rattle.desk_steps.specs.declared.link_fact.LinkFact.TheVariants as fact
@@ -14,7 +14,6 @@ use Rattle.octo_session.specs.declared.found.Doing.TheVariants.{Dialling, Hangin
 use Rattle.octo_session.specs.declared.found.Turned.{Turned}
 use Rattle.printer_link.specs.Link.{LinkKind, RoseBy}
 use Rattle.printer_model.specs.declared.event.WorldEvent.{WorldEvent}
-use Rattle.house_rows.specs.Counts.{Counts}
 use Rattle.house_counts.specs.Faults.{is_failure}
 use Rattle.house_counts.specs.LinkUse.{is_closing}
 use Rattle.house_counts.specs.Rounds.{NotesAt, one_if}
@@ -77,8 +76,7 @@ pub record HasCalled (kind : LinkKind) (x : SessionData) (calls calls' : Option 
   pub can : can_find (doing x) found ≡ true
   pub no_port : found ≡ fact.NoPort → kind.listed (port_of x.desk) ≡ false
   pub calling : is_calling (doing x) ≡ true → RoseBy 1 calls calls'
-  pub counted : link ≤ link'
-  pub failed : found ≡ fact.Failed → Rose link link'
+  pub counts : Counts (found ≡ fact.Failed) link link'
 
 -- a turn with this note, or a quiet one in its place
 pub turn_notes : (moment : ℕ) (kind : LinkKind) (past past' : Option (List WorldEvent)) (calls calls' : Option ℕ) (x y : SessionData) (turned : Turned)
@@ -89,7 +87,7 @@ turn_notes moment kind past past' calls calls' x y turned t link link' h note sa
     let found = fact_of turned.note in
     let Port : LinkFact → Type 0 = λ f. f ≡ fact.NoPort → kind.listed (port_of x.desk) ≡ false in
     let Calls : LinkFact → Type 0 = λ f. RoseBy (one_if x.up - one_if (is_closing f)) calls calls' in
-    let Fails : LinkFact → Type 0 = λ f. Counts (is_failure f) link link' in
+    let Fails : LinkFact → Type 0 = λ f. Counts (is_failure f ≡ true) link link' in
     record {
       its_moment = at;
       port = subst Port (sym same) h.no_port;
@@ -97,5 +95,5 @@ turn_notes moment kind past past' calls calls' x y turned t link link' h note sa
       calls_rose = subst Calls (sym same)
           (calls_rise (doing x) x.up found calls calls' h.can (λ is. rests_down x.up _ _ is) h.calling
           (λ idle. calls_same (doing x) x.up t.got t.found (texts_in t.lines) t.steps.count calls calls' idle t.steps.takes.calls));
-      failed = subst Fails (sym same) (record { later = h.counted; rose = λ is. h.failed (failing found is) });
+      counts = subst Fails (sym same) (record { later = h.counts.later; rose = λ is. h.counts.rose (failing found is) });
     }

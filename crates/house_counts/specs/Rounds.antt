@@ -9,8 +9,8 @@ use Rattle.octo_asks.specs.declared.request.Ask.{Ask}
 use Rattle.octo_session.specs.Data.{SessionData, doing, port_of}
 use Rattle.octo_session.specs.Turn.{fact_of}
 use Rattle.octo_session.specs.declared.found.Doing.TheVariants.{Dialling}
+use Rattle.octo_outside.specs.Told.{Counts}
 use Rattle.printer_link.specs.Link.{RoseBy}
-use Rattle.house_rows.specs.Counts.{Counts}
 use Rattle.house_counts.specs.LinkUse.{is_of_dial, is_closing}
 use Rattle.house_counts.specs.Faults.{HasRisen, is_failure, is_keepers_fault, is_shelfs_fault}
 
@@ -40,7 +40,7 @@ pub record NotesAt (moment : ℕ) (listed : List ℕ → Bool) (x : SessionData)
   pub dials : doing x ≡ Dialling → is_of_dial (fact_of note) ≡ true
   -- over an open link it makes a call, unless the link is closed
   pub calls_rose : RoseBy (one_if x.up - one_if (is_closing (fact_of note))) calls calls'
-  pub failed : Counts (is_failure (fact_of note)) link link'
+  pub counts : Counts (is_failure (fact_of note) ≡ true) link link'
 
 -- the same as a history
 abbrev pub TurnsAt : ℕ → (List ℕ → Bool) → SessionData → (calls calls' : Option ℕ) → (link link' : ℕ) → History → Type 0

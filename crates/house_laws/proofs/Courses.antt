@@ -1,4 +1,4 @@
--- The courses of prints, from what their stories tell.
+-- The courses of prints, from their stories.
 use Rattle.std.proofs.Common.{◌≡◌, ◌⊎◌, inl, inr, ℕ, ◌<◌, List, [], ◌∷◌, All, length, get_or, refl, sym, ◌∙◌, subst, arith}
 use Rattle.std.proofs.lemmas.List.{append-nil}
 use Rattle.desk_steps.specs.Course.{Course, End, started, still_open, Cancelled, Done, script}

@@ -95,7 +95,7 @@ module _ (limits : Limits) where
   cool_disconnect Fault d h = in_state Offline d h (λ has. absurd (cc has))
   cool_disconnect _ d h = cool_closing d h
 
-  -- a file is selected where there is no print
+  -- a file is selected if there is no print
   selected : (s : State) (file : Option File) (d : Data) → d.state ≡ s → has_print s ≡ false → Cool limits d → Cool limits (record d { file = file })
   selected s file d is none h = record {
     limits_are = h.limits_are;

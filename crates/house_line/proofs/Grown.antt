@@ -73,7 +73,7 @@ module _ (h : History) (e : Entry) where
   pub open-after : is_open (h ++ e ∷ []) ≡ open_at e (is_open h)
   open-after = open_after-append h (e ∷ []) false
 
--- where no session is open an entry that opens none leaves none open
+-- if no session is open an entry that opens none leaves none open
 shut_at : (e : Entry) → is_opened e ≡ false → open_at e false ≡ false
 shut_at (entry.Call worker ask moment answer) other = refl
 shut_at entry.Close other = refl
@@ -100,7 +100,7 @@ shut_after (e ∷ es) none = by (λ rest. shut_after es rest) (is_opened e) refl
         let same : sessions (e ∷ es) ≡ sessions es = rw is refl in
         ap (λ (b : Bool). open_after es b) (shut_at e is) ∙ rest (sym same ∙ none)
 
--- where the last entry of a history stands when it is taken in two
+-- the place of a history's last entry if the history is taken in two
 pub data Split (h : History) (e : Entry) (first later : History) : Type 0 where
   whole : first ≡ h ++ e ∷ [] → later ≡ [] → Split h e first later
   within : (rest : History) → h ≡ first ++ rest → later ≡ rest ++ e ∷ [] → Split h e first later

@@ -98,7 +98,7 @@ above_all issued acked (event ∷ events) replies w below fits = (
       (omega (arith, below, acked_more replies (map kind_of (received_by w event)))) fits.1,
 )
 
--- what is sent in a session once so many of its lines were acknowledged is above those
+-- what is sent in a session once this number of its lines was acknowledged is above those
 pub later_above : (kind : LinkKind) (front : List WorldEvent) (first later : History) (past : List WorldEvent) → 1 ≤ sessions first →
     Tied kind front (first ++ later) past → (w : WasTied kind front first past) →
     AreAbove (texts_of (sessions first) (first ++ later)) (acked_in (sessions first) first) (till 0 w.since)

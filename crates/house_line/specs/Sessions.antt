@@ -71,11 +71,11 @@ end_at (entry.Call worker ask moment answer) = None
 end_at (entry.Note note) = end_of note.fact
 end_at entry.Close = None
 
--- that of the last of some entries
+-- the same of the last of some entries
 abbrev pub end_after : History → Option SessionEnd → Option SessionEnd
 end_after [] was = was
 end_after (e ∷ es) was = end_after es (end_at e)
 
--- that of the last entry of a history
+-- the same of the last entry of a history
 abbrev pub last_end : History → Option SessionEnd
 last_end history = end_after history None

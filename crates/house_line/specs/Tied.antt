@@ -46,7 +46,7 @@ pub record AreTied (kind : LinkKind) (front : List WorldEvent) (history : Histor
   pub now : Tied kind front history past
   pub throughout : TiedThroughout kind front history past
 
--- a line that was sent when so many lines were acknowledged: the hello, an issued line above those, or one that failed
+-- a line that was sent when this number of lines was acknowledged: the hello, an issued line above those, or one that failed
 abbrev pub IsAbove : List (List ℕ) → ℕ → WorldEvent → Type 0
 IsAbove texts acked (Send line) = (line.items ≡ hello_frame) ⊎ (IsLineAbove texts acked line.items ⊎ (fails line.items ≡ true))
 IsAbove texts acked _ = Unit {0}

@@ -29,7 +29,7 @@ use Rattle.house_prints.proofs.Plain.{IsPlain, open_by, failed_shut}
 use Rattle.house_prints.proofs.Others.{Held, LeftSo, Status, left_on, acked_up, shut_call, none_pulled, ends_started, ends_pulled, ends_foreign}
 
 module _ (scripts : ScriptTexts) (p : ℕ) (positive : nat_eq 0 p ≡ false) where
-  -- a call where the print is foreign
+  -- a call while the print is foreign
   status_foreign : (call : DeskCall) (run : Run) (lines : List Line) (is_open : Bool) → IsPlain call run.desk → ForeignTo p run.desk →
       Status scripts p positive (of_print p run.ends) run.desk.acked lines is_open →
       Status scripts p positive (of_print p (after call run).ends) (after call run).desk.acked (lines ++ drawn_lines (line_pulled call run.desk))

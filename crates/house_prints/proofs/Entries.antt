@@ -99,7 +99,7 @@ module _ (p : ℕ) (h : History) (e : Entry) where
           ap (λ (x : List Line). lines_of p x)
           (issued-beyond k (h ++ e ∷ []) (omega (arith, above, sessions-other h e other)) ∙ sym (issued-beyond k h above))
 
-  -- the same where a session is opened
+  -- the same if a session is opened
   pub lives_opened : is_opened e ≡ true → (home : ℕ) → lines_of p (lines_at e) ≡ [] → LivesIn p h home → LivesIn p (h ++ e ∷ []) home
   lives_opened opens home none l = record {
     alone = λ k off. kept k (place k (sessions h)) ∙ l.alone k off;

@@ -15,7 +15,7 @@ second_none [] ys none = none
 second_none (x ∷ xs) ys none = absurd (cc none)
 
 module _ (p : ℕ) where
-  -- where a list has none of the print's lines its parts have none
+  -- if a list has none of the print's lines its parts have none
   pub none_before : (xs ys : List Line) → lines_of p (xs ++ ys) ≡ [] → lines_of p xs ≡ []
   none_before xs ys none = first_none (lines_of p xs) (lines_of p ys) (sym (lines_of-append p xs ys) ∙ none)
 
@@ -28,7 +28,7 @@ module _ (p : ℕ) where
   pub none_dropped : (n : ℕ) (xs : List Line) → lines_of p xs ≡ [] → lines_of p (drop n xs) ≡ []
   none_dropped n xs none = none_after (take n xs) (drop n xs) (ap (λ (l : List Line). lines_of p l) (take-append-drop n xs) ∙ none)
 
-  -- further lines that are none of the print's
+  -- more lines that are none of the print's
   pub none_more : (n : ℕ) (xs more : List Line) → lines_of p (drop n xs) ≡ [] → lines_of p more ≡ [] → lines_of p (drop n (xs ++ more)) ≡ []
   none_more zero xs more first second = none_both xs more first second
   none_more (suc n) [] more first second = none_dropped (suc n) more second
@@ -45,7 +45,7 @@ module _ (p : ℕ) where
   pub none_past : (n : ℕ) (xs : List Line) → length xs ≤ n → lines_of p (drop n xs) ≡ []
   none_past n xs past = ap (λ (l : List Line). lines_of p l) (drop_all n xs past)
 
-  -- all of the print's lines stand before a place
+  -- all of the print's lines are before a place
   pub all_before : (n : ℕ) (xs : List Line) → lines_of p (drop n xs) ≡ [] → lines_of p (take n xs) ≡ lines_of p xs
   all_before n xs none =
       sym (append-nil (lines_of p (take n xs))) ∙ ap (λ (l : List Line). lines_of p (take n xs) ++ l) (sym none)

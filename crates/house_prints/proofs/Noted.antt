@@ -17,7 +17,7 @@ use Rattle.house_prints.proofs.Marks.{Marked, marked_same}
 use Rattle.house_prints.proofs.Pulled.{same_settle}
 
 module _ (p : ℕ) (positive : nat_eq 0 p ≡ false) where
-  -- what a note makes of a desk that was told how many lines are acknowledged
+  -- what a note makes of a desk that heard how many lines are acknowledged
   record IsAfter (t e : Data) : Type 0 where
     issued : e.issued ≡ t.issued
     acked : e.acked ≡ t.acked

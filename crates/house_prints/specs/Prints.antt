@@ -10,7 +10,7 @@ pub record LivesIn (print : ℕ) (history : History) (home : ℕ) : Type 0 where
   pub alone : (session : ℕ) → (session ≡ home → ⊥) → lines_of print (issued_of session history) ≡ []
   pub all : trace print history ≡ lines_of print (issued_of home history)
 
--- all of them are acknowledged: none stands after the acknowledged lines of its session
+-- all of them are acknowledged: none is after the acknowledged lines of its session
 abbrev pub IsAcknowledged : ℕ → ℕ → History → Type 0
 IsAcknowledged print home history = lines_of print (drop (acked_in home history) (issued_of home history)) ≡ []
 

@@ -1,8 +1,7 @@
--- Answers that say of a fault of keeper or shelf, and the counts of their faults.
-use Rattle.std.specs.Prelude.{◌≡◌, ℕ, ◌≤◌, Bool, true, false, Result, Ok, Err}
+-- Answers that say that keeper or shelf failed.
+use Rattle.std.specs.Prelude.{◌≡◌, Bool, true, false, Result, Ok, Err}
 use Rattle.desk_steps.specs.declared.state.Refusal.{Refusal}
 use Rattle.house_verdicts.specs.Refusals.{refused}
-use Rattle.octo_outside.specs.Told.{Rose}
 use Rattle.octo_keeper.specs.declared.keeper.KeeperFault.{KeeperFault}
 use Rattle.octo_keeper.specs.declared.keeper.KeeperFault.TheVariants as keeper_fault
 use Rattle.octo_asks.specs.declared.answer.Answer.{Answer}
@@ -30,11 +29,6 @@ is_shelfs _ = false
 pub record IsPlain (x : Answer) : Type 0 where
   pub keeper : is_keepers x ≡ false
   pub shelf : is_shelfs x ≡ false
-
--- a count of faults that didn't fall, and rose if a call failed
-pub record Counts (failed : Bool) (old new : ℕ) : Type 0 where
-  pub later : old ≤ new
-  pub rose : failed ≡ true → Rose old new
 
 -- what the desk said as an answer
 abbrev pub answered : Result (Unit {0}) Refusal → Answer

@@ -1,7 +1,7 @@
 //! The bytes and the job of a file that a shelf holds.
-ghost use Rattle.std.specs.Prelude.{◌≡◌, false, List, Some};
+ghost use Rattle.std.specs.Prelude.{◌≡◌, true, false, List, Some};
 ghost use Rattle.octo_keeper.specs.declared.shelf.ShelfFile.{ShelfFile};
-ghost use Rattle.house_rows.specs.Counts.{Counts};
+ghost use Rattle.octo_outside.specs.Told.{Counts};
 ghost use Rattle.house_rows.specs.Reading.{IsReadAs, bytes_at, job_at, file_refused, is_keepers_fault, is_shelfs_fault};
 
 use crate::refusals::shelf_refused;
@@ -27,7 +27,8 @@ pub fn read_bytes<S: Shelf>(alloc: Global, shelf: &mut S, name: &Name) -> Result
     ensures read { (files : List ShelfFile) → S.files shelf.old ≡ Some files
         → IsReadAs (bytes_at name.now files) result }
     ensures stays { S.files shelf.new ≡ S.files shelf.old }
-    ensures shelf { Counts (is_shelfs_fault result) (S.faults shelf.old) (S.faults shelf.new) }
+    ensures shelf { Counts (is_shelfs_fault result ≡ true)
+        (S.faults shelf.old) (S.faults shelf.new) }
     ensures keeper { is_keepers_fault result ≡ false }
 {
     match shelf.get(alloc, name) {
@@ -42,7 +43,8 @@ pub fn read_job<S: Shelf>(alloc: Global, shelf: &mut S, name: &Name) -> Result<J
     ensures read { (files : List ShelfFile) → S.files shelf.old ≡ Some files
         → IsReadAs (job_at name.now files) result }
     ensures stays { S.files shelf.new ≡ S.files shelf.old }
-    ensures shelf { Counts (is_shelfs_fault result) (S.faults shelf.old) (S.faults shelf.new) }
+    ensures shelf { Counts (is_shelfs_fault result ≡ true)
+        (S.faults shelf.old) (S.faults shelf.new) }
     ensures keeper { is_keepers_fault result ≡ false }
 {
     let bytes = read_bytes(alloc, shelf, name)?;

@@ -70,7 +70,8 @@ pub fn drop_name(names: &mut Vec<Name>, name: &Name)
 // Adds a name in its place by its bytes; without memory the names stay.
 fn insert_name(names: &mut Vec<Name>, name: &Name) -> Result<(), AllocError>
     ensures ok { OnOk result (names.new.items
-        ≡ insert names.old.items (prefix_len (λ n. is_before n name.now) names.old.items) name.now) }
+        ≡ insert names.old.items
+        (prefix_len (λ n. is_before n name.now) names.old.items) name.now) }
     ensures room { vec_len names.old < vec_capacity names.old → IsOk result }
 {
     let place = place_for(names, name);

@@ -31,7 +31,7 @@ IsNextDelimiter body line from (Some delimiter) =
     NoneBefore (IsDelimiter body line) from (length body + 1) delimiter.at × OccursAt body line delimiter.at
     × (delimiter_of body line delimiter.at ≡ Some delimiter)
 
--- the delimiter that begins a body, where `--` and the boundary need no line end before them
+-- the delimiter that begins a body, if `--` and the boundary need no line end before them
 abbrev pub opening : List ℕ → List ℕ → Option Delimiter
 opening body dashes = if starts_with nat_eq body dashes then delimiter_at 0 (length dashes) (drop (length dashes) body) else None
 

@@ -77,7 +77,7 @@ pub record AddsField (body : List ℕ) (field : Field) (old new : Parts) : Type 
   pub select : new.select ≡ (if is_named body (codes "select") field then is_true body field else old.select)
   pub print : new.print ≡ (if is_named body (codes "print") field then is_true body field else old.print)
 
--- what a body of this boundary says. A missing end is told before a bad part, and of the bad parts the first
+-- what a body of this boundary says. A missing end is returned before a bad part, and of the bad parts the first
 pub data BodySays (body dashes : List ℕ) : Result Parts PartFault → Type 0 where
   unclosed : IsUnclosed body dashes → BodySays body dashes (Err fault.NoClose)
   bad : (spans : List Span) (part : Span) → Reaches body dashes spans None → find (is_bad body) spans ≡ Some part
@@ -103,6 +103,6 @@ pub record IsSeen (body : List ℕ) (spans : List Span) (seen : Seen) : Type 0 w
   pub bad : seen.bad ≡ option_map (λ (part : Span). part.from) (find (is_bad body) spans)
   pub form : IsForm body (filter_map (field_of body) spans) seen.parts
 
--- a bad part is told first
+-- a bad part is returned first
 abbrev pub SeenSays : Seen → Result Parts PartFault → Type 0
 SeenSays seen result = MatchOption seen.bad (result ≡ Ok seen.parts) (λ at. result ≡ Err (fault.BadPart at))

@@ -70,7 +70,7 @@ pub fn next_delimiter(finder: &Finder<'_>, body: &[u8], from: usize) -> Option<D
     None
 }
 
-// The delimiter at the body's start, where no line end comes before it.
+// The delimiter at the body's start, if no line end comes before it.
 fn opening(body: &[u8], dashes: &[u8]) -> Option<Delimiter>
     ensures value { result ≡ opening body.now dashes.now }
     ensures part { IfSome result (λ delimiter. IfSome delimiter.part (λ part.

@@ -173,7 +173,7 @@ fn read_body(body: &[u8], boundary: &[u8]) -> Result<Parts, PartFault>
 
 /// Reads the parts of a `multipart/form-data` body in one pass; takes no memory. The spans are places in the body.
 ///
-/// A missing boundary is told before a missing end, and that before the first bad part.
+/// A missing boundary is returned before a missing end, and a missing end before the first bad part.
 ///
 /// Source: RFC 7578, and RFC 2046, section 5.1.
 pub fn multipart(body: &[u8], kind: &[u8]) -> Result<Parts, PartFault>

@@ -1,7 +1,7 @@
 //! Adding print records.
 ghost use Rattle.std.specs.Prelude.{◌≡◌, ◌≢◌, ◌<◌, ◌≤◌, ◌+◌, ℕ, length, OnOk, OnErr, IsErrOf, MatchOption};
 ghost use Rattle.std.specs.Option.{option_map};
-ghost use Rattle.octo_outside.specs.Told.{Rose};
+ghost use Rattle.octo_outside.specs.Told.{Counts};
 ghost use Rattle.octo_keeper.specs.declared.keeper.KeeperFault.TheVariants as fault;
 ghost use Rattle.keeper_tool.specs.declared.end.ToolEnd.TheVariants as end;
 ghost use Rattle.keeper_tool.specs.Prints.{AddsFrom, AddsUpTo, finished, with_more, with_print, with_prints};
@@ -36,10 +36,11 @@ fn finished(number: u32) -> PrintRow
 }
 
 fn add_print<K: Keeper>(alloc: Global, keeper: &mut K, number: u32) -> Result<(), KeeperFault>
-    ensures ok { OnOk result (K.tables keeper.new ≡ option_map (with_print number) (K.tables keeper.old)) }
+    ensures ok { OnOk result
+        (K.tables keeper.new ≡ option_map (with_print number) (K.tables keeper.old)) }
     ensures err { OnErr result (K.tables keeper.new ≡ K.tables keeper.old) }
-    ensures counted { K.faults keeper.old ≤ K.faults keeper.new }
-    ensures failed { IsErrOf result fault.Failed → Rose (K.faults keeper.old) (K.faults keeper.new) }
+    ensures counts { Counts (IsErrOf result fault.Failed)
+        (K.faults keeper.old) (K.faults keeper.new) }
 {
     let change = Change::Begin {
         ended: None,
@@ -57,10 +58,11 @@ fn add_from<K: Keeper>(
     prints: u32,
 ) -> Result<(), KeeperFault>
     requires { first + prints ≤ 4294967295 }
-    ensures ok { OnOk result (K.tables keeper.new ≡ option_map (with_prints first prints) (K.tables keeper.old)) }
+    ensures ok { OnOk result
+        (K.tables keeper.new ≡ option_map (with_prints first prints) (K.tables keeper.old)) }
     ensures err { OnErr result (AddsFrom first prints (K.tables keeper.old) (K.tables keeper.new)) }
-    ensures counted { K.faults keeper.old ≤ K.faults keeper.new }
-    ensures failed { IsErrOf result fault.Failed → Rose (K.faults keeper.old) (K.faults keeper.new) }
+    ensures counts { Counts (IsErrOf result fault.Failed)
+        (K.faults keeper.old) (K.faults keeper.new) }
 {
     for place in 0..prints {
         add_print(alloc, keeper, first + place)?;
@@ -70,7 +72,8 @@ fn add_from<K: Keeper>(
 
 // The number of the first print to be added, if there are numbers for all of them.
 fn first_number(held: usize, prints: u32) -> Option<u32>
-    ensures { MatchOption result (4294967295 < held + 1 + prints) (λ first. (first ≡ held + 1) × (first + prints ≤ 4294967295)) }
+    ensures { MatchOption result (4294967295 < held + 1 + prints)
+        (λ first. (first ≡ held + 1) × (first + prints ≤ 4294967295)) }
 {
     let held = u32::try_from(held).ok()?;
     let first = held.checked_add(1)?;
@@ -80,12 +83,13 @@ fn first_number(held: usize, prints: u32) -> Option<u32>
 
 /// Adds records of finished prints, each by a change of its own, numbered after those that the tables hold.
 pub fn add_prints<K: Keeper>(alloc: Global, keeper: &mut K, prints: u32) -> ToolEnd
-    ensures all { result ≡ end.Added prints → K.tables keeper.new ≡ option_map (with_more prints) (K.tables keeper.old) }
+    ensures all { result ≡ end.Added prints
+        → K.tables keeper.new ≡ option_map (with_more prints) (K.tables keeper.old) }
     ensures some { AddsUpTo prints (K.tables keeper.old) (K.tables keeper.new) }
     ensures count { (n : ℕ) → result ≡ end.Added n → n ≡ prints }
     ensures only { result ≢ end.Shown }
-    ensures counted { K.faults keeper.old ≤ K.faults keeper.new }
-    ensures failed { result ≡ end.KeeperFailed → Rose (K.faults keeper.old) (K.faults keeper.new) }
+    ensures counts { Counts (result ≡ end.KeeperFailed)
+        (K.faults keeper.old) (K.faults keeper.new) }
 {
     let tables = match keeper.load(alloc) {
         Ok(tables) => tables,

@@ -1,7 +1,7 @@
 //! A command carried out on a keeper.
-ghost use Rattle.std.specs.Prelude.{◌≡◌, ◌≢◌, ◌≤◌, ℕ, IfSome};
+ghost use Rattle.std.specs.Prelude.{◌≡◌, ◌≢◌, ℕ, IfSome};
 ghost use Rattle.std.specs.Option.{option_map};
-ghost use Rattle.octo_outside.specs.Told.{Adds, Rose};
+ghost use Rattle.octo_outside.specs.Told.{Adds, Rose, Counts};
 ghost use Rattle.keeper_tool.specs.declared.end.ToolEnd.TheVariants as end;
 ghost use Rattle.keeper_tool.specs.declared.command.Work.TheVariants as todo;
 ghost use Rattle.keeper_tool.specs.Lines.{tables_text};
@@ -17,11 +17,12 @@ use std::alloc::Global;
 
 // Writes the tables out.
 fn show<K: Keeper, O: Sink>(alloc: Global, keeper: &mut K, out: &mut O) -> ToolEnd
-    ensures shown { result ≡ end.Shown → IfSome (K.tables keeper.old) (λ t. Adds (O.written out.old) (O.written out.new) (tables_text t)) }
+    ensures shown { result ≡ end.Shown → IfSome (K.tables keeper.old)
+        (λ t. Adds (O.written out.old) (O.written out.new) (tables_text t)) }
     ensures only { (n : ℕ) → result ≢ end.Added n }
     ensures stays { K.tables keeper.new ≡ K.tables keeper.old }
-    ensures counted { K.faults keeper.old ≤ K.faults keeper.new }
-    ensures failed { result ≡ end.KeeperFailed → Rose (K.faults keeper.old) (K.faults keeper.new) }
+    ensures counts { Counts (result ≡ end.KeeperFailed)
+        (K.faults keeper.old) (K.faults keeper.new) }
     ensures output { result ≡ end.OutputFailed → Rose (O.faults out.old) (O.faults out.new) }
 {
     let tables = match keeper.load(alloc) {
@@ -44,12 +45,15 @@ pub fn carry_out<K: Keeper, O: Sink>(
     work: Work,
     out: &mut O,
 ) -> ToolEnd
-    ensures shown { result ≡ end.Shown → IfSome (K.tables keeper.old) (λ t. Adds (O.written out.old) (O.written out.new) (tables_text t)) }
-    ensures added { (n : ℕ) → result ≡ end.Added n → (work ≡ todo.Add n) × (K.tables keeper.new ≡ option_map (with_more n) (K.tables keeper.old)) }
-    ensures some { (n : ℕ) → work ≡ todo.Add n → AddsUpTo n (K.tables keeper.old) (K.tables keeper.new) }
+    ensures shown { result ≡ end.Shown → IfSome (K.tables keeper.old)
+        (λ t. Adds (O.written out.old) (O.written out.new) (tables_text t)) }
+    ensures added { (n : ℕ) → result ≡ end.Added n → (work ≡ todo.Add n)
+        × (K.tables keeper.new ≡ option_map (with_more n) (K.tables keeper.old)) }
+    ensures some { (n : ℕ) → work ≡ todo.Add n
+        → AddsUpTo n (K.tables keeper.old) (K.tables keeper.new) }
     ensures stays { work ≡ todo.Show → K.tables keeper.new ≡ K.tables keeper.old }
-    ensures counted { K.faults keeper.old ≤ K.faults keeper.new }
-    ensures failed { result ≡ end.KeeperFailed → Rose (K.faults keeper.old) (K.faults keeper.new) }
+    ensures counts { Counts (result ≡ end.KeeperFailed)
+        (K.faults keeper.old) (K.faults keeper.new) }
 {
     match work {
         Work::Show => show(alloc, keeper, out),

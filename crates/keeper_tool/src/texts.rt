@@ -1,6 +1,6 @@
 //! The text of an end, and writing it.
-ghost use Rattle.std.specs.Prelude.{◌≡◌, ◌++◌, ◌≤◌, codes, decimal, OnOk, OnErr};
-ghost use Rattle.octo_outside.specs.Told.{Adds, AddsPrefix, Rose};
+ghost use Rattle.std.specs.Prelude.{◌≡◌, ◌++◌, codes, decimal, OnOk, OnErr, IsErr};
+ghost use Rattle.octo_outside.specs.Told.{Adds, AddsPrefix, Counts};
 ghost use Rattle.keeper_tool.specs.Ends.{text_of};
 
 use crate::end::ToolEnd;
@@ -37,8 +37,7 @@ fn text_of(end: ToolEnd) -> EndText
 pub fn write_end<O: Sink>(out: &mut O, end: ToolEnd) -> Result<(), Failed>
     ensures ok { OnOk result (Adds (O.written out.old) (O.written out.new) (text_of end)) }
     ensures err { OnErr result (AddsPrefix (O.written out.old) (O.written out.new) (text_of end)) }
-    ensures counted { O.faults out.old ≤ O.faults out.new }
-    ensures failed { OnErr result (Rose (O.faults out.old) (O.faults out.new)) }
+    ensures counts { Counts (IsErr result) (O.faults out.old) (O.faults out.new) }
 {
     let text = text_of(end);
     write_all(out, text.as_slice())

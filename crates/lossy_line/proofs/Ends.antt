@@ -163,7 +163,7 @@ speech_end moment false texts count s =
     ∙ given_end moment (after_steps moment (replicate count gives) (after_steps moment (issuing texts) s))
     ∙ gives_end moment count (after_steps moment (issuing texts) s) ∙ said_end moment texts s
 
--- the end after the clock's steps is that of the tick
+-- the end after the clock's steps is the tick's end
 pub clock_end : (moment : ℕ) (found : LinkFact) (texts : List (List ℕ)) (count : ℕ) (s : SenderData) → can_find Talking found ≡ true →
     (after_steps moment (clock_steps found texts count) s).ended ≡ (tick_step moment s).ended
 clock_end moment fact.Quiet texts count s can = speech_end moment true texts count (tick_step moment s)

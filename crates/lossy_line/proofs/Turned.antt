@@ -89,7 +89,7 @@ linked_as kind issued x past (opened o) = o.open_as
 pub world_then : (kind : LinkKind) (past added : List WorldEvent) → world_in kind (past ++ added) ≡ world_from (world_in kind past) added
 world_then kind past added = world_of-append kind.slots kind.numbered past added
 
--- the steps that are made in a turn that makes no link, where the session isn't up, leave the sender
+-- the steps that are made in a turn that makes no link, if the session isn't up, leave the sender
 pub idle_steps : (moment : ℕ) (d : Doing) (was_up : Bool) (got : Got) (found : LinkFact) (texts : List (List ℕ)) (count : ℕ) (s : SenderData) →
     (d ≡ Talking → ⊥) → (found ≡ fact.Opened → ⊥) → after_steps moment (turn_steps d was_up got found texts count) s ≡ s
 idle_steps moment Dialling was_up got fact.Quiet texts count s idle other = refl

@@ -24,7 +24,7 @@ use Rattle.lossy_line.specs.Linked.{IsOpened}
 use Rattle.lossy_line.specs.Tied.{logged_from, world_before, IsTied}
 use Rattle.lossy_line.proofs.Turned.{world_since}
 
--- a list from a place on begins with what stands there
+-- a list from a place on begins with what is there
 drop_at : (texts : List (List ℕ)) (place : ℕ) (text : List ℕ) → slice_get texts place ≡ Some text → drop place texts ≡ text ∷ drop (suc place) texts
 drop_at [] place text found = absurd (cc)
 drop_at (first ∷ texts) zero text found = let same : first ≡ text = cc in ap (λ (t : List ℕ). t ∷ texts) same

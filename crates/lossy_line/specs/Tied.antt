@@ -24,7 +24,7 @@ logged_from place (text ∷ texts) =
 abbrev pub world_before : LinkKind → List WorldEvent → ℕ → WorldData
 world_before kind past s = world_in kind (till (pred s) past)
 
--- session s of a history, counted from 1, in which these texts were issued and so many lines acknowledged
+-- session s of a history, counted from 1, in which these texts were issued and this number of lines acknowledged
 pub record IsTied (kind : LinkKind) (issued : List (List ℕ)) (acked : ℕ) (past : List WorldEvent) (s : ℕ) : Type 0 where
   -- what was executed are the first issued texts, in order and each once, with the numbers from 2 on
   pub executed_first :
@@ -47,7 +47,7 @@ pub record WasUnopened (kind : LinkKind) (recorded : Option (List WorldEvent)) (
   pub is : recorded ≡ Some past
   pub unopened : IsUnopened kind issued x past
 
--- after a further link was made: the session before it, if there was one, is tied, with what ran in the dial
+-- after a later link was made: the session before it, if there was one, is tied, with what ran in the dial
 abbrev pub FormerTiedAs : LinkKind → Option (List WorldEvent) → Option (List WorldEvent) → List (List ℕ) → SessionData → Type 0
 FormerTiedAs kind recorded later issued x =
     (past : List WorldEvent) → later ≡ Some past

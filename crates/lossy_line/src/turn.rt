@@ -1,6 +1,6 @@
 //! A turn of a session, with what holds of it whatever the line does.
 ghost use Rattle.std.specs.Prelude.{◌≡◌, ◌⊎◌, ◌↔◌, ◌≤◌, ℕ, List, [], true, false, None, IfSome};
-ghost use Rattle.octo_outside.specs.Told.{Rose};
+ghost use Rattle.octo_outside.specs.Told.{Counts};
 ghost use Rattle.desk_steps.specs.declared.link_fact.LinkFact.TheVariants as fact;
 ghost use Rattle.printer_link.specs.Link.{RoseBy};
 ghost use Rattle.send_window.specs.Sending.{next_of};
@@ -32,7 +32,7 @@ pub fn turn_over_link<L: Link>(session: &mut Session, link: &mut L, moment: u64)
         (issued_in (fact_of result.note) (texts_in (lines_of result.note)) issued) session.new }
 
     // Once a link is made, each session of the history is tied to its issued lines: the last one, and in a turn that
-    // makes a further link the one before it.
+    // makes a later link the one before it.
     ensures opened { (issued : List (List ℕ))
         → IsOpening (L.kind link.old) (L.past link.old) issued session.old (fact_of result.note)
         → OpenedAs (L.kind link.new) (L.past link.new)
@@ -67,11 +67,10 @@ pub fn turn_over_link<L: Link>(session: &mut Session, link: &mut L, moment: u64)
     ensures before { IsSession session.old }
     ensures joined { IsSession session.new }
     ensures kind { L.kind link.new ≡ L.kind link.old }
-    ensures counted { L.faults link.old ≤ L.faults link.new }
+    ensures counts { Counts (fact_of result.note ≡ fact.Failed)
+        (L.faults link.old) (L.faults link.new) }
     ensures calls { is_calling (doing session.old) ≡ true
         → RoseBy 1 (L.calls link.old) (L.calls link.new) }
-    ensures failed { fact_of result.note ≡ fact.Failed
-        → Rose (L.faults link.old) (L.faults link.new) }
     ensures ready_is { session.new.sender.ready
         ≡ ready_after (fact_of result.note) session.old.sender.ready }
     ensures not_fallen { (fact_of result.note ≡ fact.Opened)

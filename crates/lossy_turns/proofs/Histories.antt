@@ -17,7 +17,7 @@ drop_whole : {X : Type 0} (xs : List X) → drop (length xs) xs ≡ []
 drop_whole [] = refl
 drop_whole (x ∷ xs) = drop_whole xs
 
--- a history without a further session: nothing was executed in it
+-- a history without another session: nothing was executed in it
 pub none_printed : (kind : LinkKind) (past added : List WorldEvent) → opens added ≡ 0 → HasIssued kind [] 0 past added
 none_printed kind past added none =
     let all : List WorldEvent = past ++ added in

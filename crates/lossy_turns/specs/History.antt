@@ -7,7 +7,7 @@ use Rattle.octo_session.specs.Data.{SessionData}
 use Rattle.lossy_line.specs.Linked.{IsOpened}
 use Rattle.lossy_line.specs.Tied.{IsTied}
 
--- lines of these texts were issued, and so many of them acknowledged, in a history that grew by these events
+-- lines of these texts were issued, and this number of them acknowledged, in a history that grew by these events
 pub record HasIssued (kind : LinkKind) (issued : List (List ℕ)) (acked : ℕ) (past added : List WorldEvent) : Type 0 where
   -- at most one session was opened
   pub once : opens added ≤ 1

@@ -89,7 +89,7 @@ line_more : (issued more : List (List ℕ)) (place : ℕ) (piece : Piece) → Is
 line_more issued more place greeting is = absurd is
 line_more issued more place (command at text) is = (is.0, issued_more issued more at text is.1)
 
--- further texts are issued
+-- more texts are issued
 pub lines_more : (issued more : List (List ℕ)) (place : ℕ) (pieces : List Piece) → AreLinesFrom issued place pieces → AreLinesFrom (issued ++ more) place pieces
 lines_more issued more place [] lines = tt
 lines_more issued more place (piece ∷ pieces) lines = (line_more issued more place piece lines.0, lines_more issued more (suc place) pieces lines.1)

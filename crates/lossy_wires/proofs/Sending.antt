@@ -22,7 +22,7 @@ use Rattle.lossy_wires.specs.Wires.{Wires, Printed, before, after, lines_run, we
 use Rattle.lossy_wires.proofs.Lists.{each_push, each_so, sent_more, lines_more}
 use Rattle.lossy_wires.proofs.Ways.{answers_more}
 
--- two senders that the printer's replies can't tell apart
+-- two senders that a printer can't distinguish by its replies
 pub record SameFlags (s t : SenderData) : Type 0 where
   pub ready : t.ready ≡ s.ready
   pub acked : t.acked ≡ s.acked

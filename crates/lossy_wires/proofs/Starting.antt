@@ -21,7 +21,7 @@ use Rattle.lossy_wires.proofs.Lists.{each_push, each_so}
 use Rattle.lossy_wires.proofs.Reading.{heard_error, heard_resend, heard_ok, heard_chatter, run_heard, IsRunReply}
 use Rattle.lossy_wires.proofs.Free.{free_meets, front_small}
 
--- further events keep what is known
+-- more events keep what is known
 known_more : (events more : List WorldEvent) (line : List ℕ) → IsStartKnown events line → IsStartKnown (events ++ more) line
 known_more events more line known is = list_any-append is_restart events more ∙ or_left (list_any is_restart events) (list_any is_restart more) (known is)
 

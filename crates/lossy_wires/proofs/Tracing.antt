@@ -26,7 +26,7 @@ use Rattle.lossy_wires.proofs.Hearing.{hear_meets}
 use Rattle.lossy_wires.proofs.Counting.{hear_counted, tally_heard}
 use Rattle.lossy_wires.proofs.Starting.{starts_more, each_behind, free_starts}
 
--- further texts are issued
+-- more texts are issued
 pub record Extends (issued more : List (List ℕ)) : Type 0 where
   pub added : List (List ℕ)
   pub is : more ≡ issued ++ added

@@ -90,7 +90,7 @@ begun_push d d' (closing ∷ way) x so one b = begun_push d d' way x so one b
 begun_push d d' (chat ∷ way) x so one b = begun_push d d' way x so one b
 begun_push d d' (restart ∷ way) x so one b = begun_push d d' way x so one b
 
--- one more answer, by what it is at the end, where all lines that ran have theirs
+-- one more answer, by what it is at the end, if all lines that ran have theirs
 pub answers_push : (f d d' : Bool) (n a k k' : ℕ) (way : List Answer) (x : Answer) → k ≤ k' →
     ((g : Bool) (m : ℕ) → d ≡ false → m ≡ k → Answers g d' n m (x ∷ []) k') → Answers f d n a way k → Answers f d' n a (way ++ x ∷ []) k'
 answers_push f d d' n a k k' [] x le so h = so f a h.0 h.1
@@ -136,7 +136,7 @@ answers_le f d n a (restart ∷ way) k h = h
 asked_more : (n n' a number : ℕ) → n ≤ n' → IsAsked n a number → IsAsked n' a number
 asked_more n n' a number le is = record { place = is.place; is = is.is; above = is.above; within = omega (arith, is.within, le) }
 
--- further lines are issued
+-- more lines are issued
 pub answers_more : (f d : Bool) (n n' a : ℕ) (way : List Answer) (k : ℕ) → n ≤ n' → Answers f d n a way k → Answers f d n' a way k
 answers_more f d n n' a [] k le h = h
 answers_more f d n n' a (greeting_ok named ∷ way) k le h = absurd h
@@ -171,7 +171,7 @@ down_push down lines way x old new =
     ∙ ap (λ (l : List Heard). replies_on way ++ l) new
     ∙ sym (replies_push way x)
 
--- the first reply is that of the first answer
+-- the first reply is the first answer's
 pub record IsFirst (line : List ℕ) (down : List (List ℕ)) (way : List Answer) : Type 0 where
   pub answer : Answer
   pub rest : List Answer

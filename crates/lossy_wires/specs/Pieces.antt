@@ -137,7 +137,7 @@ abbrev pub IsGreeting : Piece → Type 0
 IsGreeting greeting = Unit {0}
 IsGreeting (command place text) = ⊥
 
--- the text stands at a place among the issued ones
+-- the text is at a place among the issued ones
 pub record IsIssued (issued : List (List ℕ)) (place : ℕ) (text : List ℕ) : Type 0 where
   pub counted : 1 ≤ place
   pub found : slice_get issued (place - 1) ≡ Some text

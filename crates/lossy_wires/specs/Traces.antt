@@ -21,7 +21,7 @@ use Rattle.lossy_wires.specs.Wires.{Meets}
 abbrev pub replies_from : WorldData → List WorldEvent → List Reply
 replies_from w events = map kind_of (received_from w events)
 
--- how many `ok`s a sender has counted: that of the hello and one for each acknowledged line
+-- how many `ok`s a sender has counted: the hello's and one for each acknowledged line
 abbrev pub oks_of : Bool → ℕ → ℕ
 oks_of false acked = 0
 oks_of true acked = acked + 1

@@ -28,7 +28,7 @@ pub record Shows (start : List Logged) (a : Wires) (w : WorldData) : Type 0 wher
   pub up : w.up ≡ map bytes_on a.up
   pub down : map heard_in w.down ≡ replies_on a.way
 
--- the printer's last number: that of the last line accepted, or 0 after a restart
+-- the printer's last number: the number of the last line accepted, or 0 after a restart
 abbrev pub last_at : Bool → ℕ → ℕ
 last_at false count = wire_number count
 last_at true count = 0

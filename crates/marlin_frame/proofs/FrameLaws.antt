@@ -1,4 +1,4 @@
--- A numbered line as its pieces, and what each reading gives of it.
+-- A numbered line as its pieces, and what each reading makes of it.
 use Rattle.std.proofs.Common.{◌≡◌, ℕ, ◌<◌, ◌≤◌, ◌^◌, true, false, not, ◌&&◌, ◌==◌, cond, List, [], ◌∷◌, ◌++◌, length, drop, decimal, sym, ap, subst, ◌∙◌, refl, arith}
 use Rattle.std.specs.List.{list_any, All, before_last, after_last, after_first}
 use Rattle.std.proofs.lemmas.Bool.{and_left, or_from, or_right, eq-eqb, true≢false}

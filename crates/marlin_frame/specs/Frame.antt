@@ -18,7 +18,7 @@ unfoldable pub begins_with_n : List ℕ → Bool
 begins_with_n [] = false
 begins_with_n (byte ∷ line) = byte == 78
 
--- what a checksum, where there is one, is taken of
+-- what a checksum, if there is one, is taken of
 unfoldable pub checked_part : List ℕ → List ℕ
 checked_part line = before_last (λ byte. byte == 42) line
 
@@ -26,7 +26,7 @@ checked_part line = before_last (λ byte. byte == 42) line
 unfoldable pub has_checksum : List ℕ → Bool
 has_checksum line = has_byte 42 line
 
--- whether the number behind the last `*` is the exclusive or of what stands before it
+-- whether the number after the last `*` is the exclusive or of what is before it
 unfoldable pub checksum_matches : List ℕ → Bool
 checksum_matches line = number_of (after_last (λ byte. byte == 42) line) == xor_of (checked_part line)
 
@@ -34,11 +34,11 @@ checksum_matches line = number_of (after_last (λ byte. byte == 42) line) == xor
 unfoldable pub fails : List ℕ → Bool
 fails line = begins_with_n line && not (has_checksum line && checksum_matches line)
 
--- the number behind the `N` that a numbered line begins with
+-- the number after the `N` that a numbered line begins with
 unfoldable pub lead_of : List ℕ → ℕ
 lead_of line = number_of (drop 1 line)
 
--- whether a line that sets the printer's number gives it behind a further `N`, at its fifth byte or later
+-- whether a line that sets the printer's number has it after a second `N`, at its fifth byte or later
 unfoldable pub has_second_n : List ℕ → Bool
 has_second_n line = has_m110 line && has_byte 78 (drop 4 line)
 
@@ -53,12 +53,12 @@ line_number_of line =
 unfoldable pub behind_digits : List ℕ → List ℕ
 behind_digits bytes = drop (length (leading_digits bytes)) bytes
 
--- without one space at the front, where there is one
+-- without one space at the front, if there is one
 unfoldable pub behind_space : List ℕ → List ℕ
 behind_space [] = []
 behind_space (byte ∷ bytes) = if byte == 32 then bytes else byte ∷ bytes
 
--- the command of a numbered line: behind the `N`, its digits and one space, up to the last `*`
+-- the command of a numbered line: after the `N`, its digits and one space, up to the last `*`
 unfoldable pub text_of : List ℕ → List ℕ
 text_of line = behind_space (behind_digits (drop 1 (checked_part line)))
 

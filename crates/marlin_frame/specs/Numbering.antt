@@ -1,8 +1,8 @@
--- How the lines of a session are numbered: the hello gives the printer a number, and the lines count on from it.
+-- How the lines of a session are numbered: the hello sets the printer's number, and the lines count on from it.
 use Rattle.std.specs.Prelude.{ℕ, ◌+◌, ◌-◌, List, codes}
 use Rattle.marlin_frame.specs.Frame.{frame_of}
 
--- the number that the hello gives the printer; no line carries it, so a printer that restarted takes no line
+-- the printer's number after the hello; no line carries it, so a printer that restarted takes no line
 abbrev pub hello_number : ℕ
 hello_number = 1
 

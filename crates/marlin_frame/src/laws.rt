@@ -9,17 +9,23 @@ ghost use Rattle.marlin_frame.specs.Frame.{frame_of, begins_with_n, fails, lead_
 ghost use Rattle.marlin_frame.specs.Numbering.{hello_number, hello_text, hello_frame};
 ghost use Rattle.marlin_frame.specs.Reading.{IsReading, IsNumbered};
 
-/// What stands on the line of a sendable command: the command under its number, and nothing else.
+/// What is on the line of a sendable command: the command under its number, and nothing else.
 pub fn frame_law()
-    ensures reads_back { (n : ℕ) (text : List ℕ) → n ≤ 2000000000 → IsSendable text → All (λ b. b < 2 ^ 8) text → IsNumberedLine n text (frame_of n text) }
-    ensures read_as { (n : ℕ) (text : List ℕ) (reading : Read) → n ≤ 2000000000 → IsSendable text → All (λ b. b < 2 ^ 8) text → IsReading reading (frame_of n text) → IsNumbered n text reading }
+    ensures reads_back { (n : ℕ) (text : List ℕ) → n ≤ 2000000000 → IsSendable text
+        → All (λ b. b < 2 ^ 8) text → IsNumberedLine n text (frame_of n text) }
+    ensures read_as { (n : ℕ) (text : List ℕ) (reading : Read) → n ≤ 2000000000 → IsSendable text
+        → All (λ b. b < 2 ^ 8) text → IsReading reading (frame_of n text)
+        → IsNumbered n text reading }
     ensures lead { (n : ℕ) (text : List ℕ) → n ≤ 2000000000 → lead_of (frame_of n text) ≡ n }
-    ensures no_m110 { (n : ℕ) (text : List ℕ) → n ≤ 2000000000 → IsSendable text → All (λ b. b < 2 ^ 8) text → has_m110 (frame_of n text) ≡ false }
-    ensures no_line_feed { (n : ℕ) (text : List ℕ) → n ≤ 2000000000 → IsSendable text → All (λ b. b < 2 ^ 8) text → has_byte 10 (frame_of n text) ≡ false }
-    ensures at_most_95 { (n : ℕ) (text : List ℕ) → n ≤ 2000000000 → IsSendable text → All (λ b. b < 2 ^ 8) text → length (frame_of n text) ≤ 95 }
+    ensures no_m110 { (n : ℕ) (text : List ℕ) → n ≤ 2000000000 → IsSendable text
+        → All (λ b. b < 2 ^ 8) text → has_m110 (frame_of n text) ≡ false }
+    ensures no_line_feed { (n : ℕ) (text : List ℕ) → n ≤ 2000000000 → IsSendable text
+        → All (λ b. b < 2 ^ 8) text → has_byte 10 (frame_of n text) ≡ false }
+    ensures at_most_95 { (n : ℕ) (text : List ℕ) → n ≤ 2000000000 → IsSendable text
+        → All (λ b. b < 2 ^ 8) text → length (frame_of n text) ≤ 95 }
 {}
 
-/// The hello, with which a session begins: a whole line with `M110`, which gives the printer the hello's number.
+/// The hello, with which a session begins: a whole line with `M110`, which sets the printer's number to the hello's.
 pub fn hello_law()
     ensures bytes { hello_frame ≡ codes "N0 M110 N1*124" }
     ensures reads_back { IsNumberedLine hello_number hello_text hello_frame }

@@ -1,7 +1,7 @@
 //! How the lines of a session are numbered.
 //!
 //! A printer that restarts expects number 1. If a line of the session carried that number, a restart could have it
-//! executed twice. So the hello gives the printer number 1, and the lines are numbered from 2.
+//! executed twice. So the hello sets the printer's number to 1, and the lines are numbered from 2.
 ghost use Rattle.std.specs.Prelude.{◌≡◌, ◌<◌, ◌≤◌, ◌+◌, ◌^◌, false, length};
 ghost use Rattle.byte_text.specs.Marks.{has_byte};
 ghost use Rattle.marlin_frame.specs.Numbering.{hello_number, wire_number, hello_frame};
@@ -9,7 +9,7 @@ ghost use Rattle.marlin_frame.specs.Numbering.{hello_number, wire_number, hello_
 use crate::written::frame;
 use byte_text::Line;
 
-/// The number that the hello gives the printer. No line of a session carries it.
+/// The number to which the hello sets the printer. No line of a session carries it.
 ///
 /// Source: `M110` in Marlin's G-code, and `gcode_LastN` of its queue.cpp, which is 0 after a restart.
 pub const HELLO_NUMBER: u32 = 1;

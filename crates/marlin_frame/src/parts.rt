@@ -1,5 +1,5 @@
-//! The parts of a numbered line. Each reading is total: on a line that isn't numbered it gives what its definition
-//! gives there, so callers ask `begins_with_n` first.
+//! The parts of a numbered line. Each reading is total: on a line that isn't numbered it returns what its definition
+//! says there, so callers ask `begins_with_n` first.
 ghost use Rattle.std.specs.Prelude.{◌≡◌, ◌≤◌, ◌==◌, length, drop};
 ghost use Rattle.std.specs.List.{position_or_len, after_first, before_last, after_last};
 ghost use Rattle.marlin_frame.specs.Frame.{begins_with_n, has_checksum, checksum_matches, fails, lead_of, has_second_n, line_number_of, behind_digits, behind_space, text_of};
@@ -21,7 +21,7 @@ pub fn has_checksum(line: &[u8]) -> bool
     has_byte(line, b'*')
 }
 
-// What stands before and behind the last `*`; where there is none, nothing before it and all behind it.
+// What is before and after the last `*`; if there is none, nothing before it and all after it.
 fn around_last_star(line: &[u8]) -> (&[u8], &[u8])
     ensures before { result.0.now ≡ before_last (λ byte. byte == 42) line.now }
     ensures behind { result.1.now ≡ after_last (λ byte. byte == 42) line.now }
@@ -32,7 +32,7 @@ fn around_last_star(line: &[u8]) -> (&[u8], &[u8])
     }
 }
 
-/// Whether the number behind the last `*` is the exclusive or of all bytes before it.
+/// Whether the number after the last `*` is the exclusive or of all bytes before it.
 #[tactic(auto, unfolding(crate::specs::Frame::checksum_matches, crate::specs::Frame::checked_part))]
 pub fn checksum_matches(line: &[u8]) -> bool
     ensures { result ≡ checksum_matches line.now }
@@ -49,7 +49,7 @@ pub fn fails(line: &[u8]) -> bool
     begins_with_n(line) && !(has_checksum(line) && checksum_matches(line))
 }
 
-// The bytes but for the first `count`, none where there are no more.
+// The bytes but for the first `count`, none if there are no more.
 fn behind(bytes: &[u8], count: usize) -> &[u8]
     ensures { result.now ≡ drop count bytes.now }
 {
@@ -60,21 +60,21 @@ fn behind(bytes: &[u8], count: usize) -> &[u8]
     }
 }
 
-// How many bytes stand before the first `N`, all where there is none.
+// How many bytes are before the first `N`, all if there is none.
 fn length_before_n(bytes: &[u8]) -> usize
     ensures { result ≡ position_or_len (λ byte. byte == 78) bytes.now }
 {
     bytes.iter().take_while(|byte| **byte != b'N').count()
 }
 
-// What stands behind the first `N`, nothing where there is none.
+// What follows the first `N`, nothing if there is none.
 fn behind_first_n(bytes: &[u8]) -> &[u8]
     ensures { result.now ≡ after_first (λ byte. byte == 78) bytes.now }
 {
     behind(behind(bytes, length_before_n(bytes)), 1)
 }
 
-/// The number behind the `N` that the line begins with: 0 for no digits, 4,294,967,295 for everything above it.
+/// The number after the `N` that the line begins with: 0 for no digits, 4,294,967,295 for everything above it.
 #[tactic(auto, unfolding(crate::specs::Frame::lead_of))]
 pub fn lead(line: &[u8]) -> u32
     ensures { result ≡ lead_of line.now }
@@ -82,7 +82,7 @@ pub fn lead(line: &[u8]) -> u32
     number(behind(line, 1))
 }
 
-/// Whether the line holds `M110` and an `N` at its fifth byte or later, which then gives its number.
+/// Whether the line holds `M110` and an `N` at its fifth byte or later, after which its number is.
 #[tactic(auto, unfolding(crate::specs::Frame::has_second_n))]
 pub fn has_second_n(line: &[u8]) -> bool
     ensures { result ≡ has_second_n line.now }
@@ -90,8 +90,8 @@ pub fn has_second_n(line: &[u8]) -> bool
     has_m110(line) && has_byte(behind(line, 4), b'N')
 }
 
-/// The number that the line counts by: its lead, or in a line with `M110` the number behind the first `N` at the
-/// fifth byte or later, where there is one.
+/// The number that the line counts by: its lead, or in a line with `M110` the number after the first `N` at the
+/// fifth byte or later, if there is one.
 #[tactic(auto, unfolding(crate::specs::Frame::line_number_of))]
 pub fn line_number(line: &[u8]) -> u32
     ensures { result ≡ line_number_of line.now }
@@ -111,7 +111,7 @@ fn behind_digits(bytes: &[u8]) -> &[u8]
     behind(bytes, leading_digits(bytes).len())
 }
 
-// The bytes without one space at the front, where there is one.
+// The bytes without one space at the front, if there is one.
 fn behind_space(bytes: &[u8]) -> &[u8]
     ensures { result.now ≡ behind_space bytes.now }
 {
@@ -122,7 +122,7 @@ fn behind_space(bytes: &[u8]) -> &[u8]
     }
 }
 
-/// The command of the line: behind the `N`, its digits and one space, up to the last `*`.
+/// The command of the line: after the `N`, its digits and one space, up to the last `*`.
 #[tactic(auto, unfolding(crate::specs::Frame::text_of, crate::specs::Frame::checked_part))]
 pub fn text(line: &[u8]) -> &[u8]
     ensures value { result.now ≡ text_of line.now }

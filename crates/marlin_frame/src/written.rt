@@ -21,7 +21,7 @@ fn write_head(n: u32, text: &[u8], into: &mut Line)
 /// Writes the command into the line under the number, with its checksum. Nothing of what the line held stays.
 ///
 /// The number is at most 2,000,000,000; the command has 1 to 79 bytes, no `*` and no line feed. The line then has
-/// at most 95 bytes, and is read back as this number and command where the command holds no `M110`.
+/// at most 95 bytes, and is read back as this number and command if the command holds no `M110`.
 pub fn frame(n: u32, text: &[u8], into: &mut Line)
     requires number { n ≤ 2000000000 }
     requires some { 1 ≤ length text.now }

@@ -79,7 +79,7 @@ front_piece-all (byte ∷ bytes) each =
     ∙ take-one-more byte (prefix_len (λ b. not (b == 32)) bytes) bytes
     ∙ ap (λ l. byte ∷ l) later
 
--- no piece begins behind a digit
+-- no piece begins after a digit
 starts_behind-digits : (digits rest : List ℕ) → list_all is_ascii_digit digits ≡ true → starts_behind (digits ++ rest) ≡ starts_behind rest
 starts_behind-digits [] rest each = refl
 starts_behind-digits (byte ∷ bytes) rest each =
@@ -148,7 +148,7 @@ number-places n rest small =
     let are = decimal-digits n small in
     ap whole_number (front_piece-digits (decimal n) rest are.each) ∙ whole_number-decimal n small
 
--- a heater's temperatures where the pieces are known
+-- a heater's temperatures if the pieces are known
 heat_of-starts : (mark text : List ℕ) (starts : List (List ℕ)) → piece_starts text ≡ starts → find (λ start. begins start mark) starts ≡ None → heat_of mark text ≡ None
 unfolding heat_of
 heat_of-starts mark text starts are none =

@@ -15,12 +15,12 @@ abbrev pub request_of : Option ℕ → Reply
 request_of None = reply.Other
 request_of (Some number) = reply.Resend number
 
--- behind `Resend:` one to ten digits up to 4,294,967,295, where no eleventh digit follows
+-- after `Resend:` one to ten digits up to 4,294,967,295, if no eleventh digit follows
 unfoldable pub resend_of : List ℕ → Reply
 resend_of digits =
     if nat_le 1 (length digits) && nat_le (length digits) 10 then request_of (small_number digits) else reply.Other
 
--- a report of temperatures, another line where no heater is whole
+-- a report of temperatures, another line if no heater is whole
 abbrev pub report_of : Option Temps → Reply
 report_of None = reply.Other
 report_of (Some temps) = reply.Temps temps

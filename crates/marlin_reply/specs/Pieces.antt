@@ -32,12 +32,12 @@ begins text mark = starts_with nat_eq text mark
 unfoldable pub behind_spaces : List ℕ → List ℕ
 behind_spaces bytes = drop (prefix_len (λ byte. byte == 32) bytes) bytes
 
--- what stands behind each space
+-- what follows each space
 abbrev pub starts_behind : List ℕ → List (List ℕ)
 starts_behind [] = []
 starts_behind (byte ∷ bytes) = if byte == 32 then bytes ∷ starts_behind bytes else starts_behind bytes
 
--- the text from each of its pieces on, where the pieces stand between spaces
+-- the text from each of its pieces on; a space is between two pieces
 abbrev pub piece_starts : List ℕ → List (List ℕ)
 piece_starts text = text ∷ starts_behind text
 
@@ -63,7 +63,7 @@ unfoldable pub field_at : ℕ → List ℕ → Option ℕ
 field_at letter [] = None
 field_at letter (byte ∷ bytes) = if byte == letter then whole_number (front_piece bytes) else None
 
--- the first that a test gives something at
+-- the first at which a test finds something
 abbrev pub first_some : (List ℕ → Option ℕ) → List (List ℕ) → Option ℕ
 first_some test [] = None
 first_some test (text ∷ texts) = option_or (test text) (first_some test texts)

@@ -6,7 +6,7 @@ use Rattle.marlin_reply.specs.Pieces.{begins, behind_spaces, piece_starts}
 use Rattle.marlin_reply.specs.declared.reply.Heat.{Heat}
 use Rattle.marlin_reply.specs.declared.reply.Temps.{Temps}
 
--- the target behind a slash at the front, with the temperature that was read before it
+-- the target after a slash at the front, with the temperature that was read before it
 unfoldable pub target_at : ℤ → List ℕ → Option Heat
 target_at actual [] = None
 target_at actual (byte ∷ bytes) =
@@ -18,11 +18,11 @@ target_at actual (byte ∷ bytes) =
 unfoldable pub heat_at : List ℕ → Option Heat
 heat_at text = option_and_then (λ actual. target_at actual.micro (behind_spaces actual.rest)) (number_at text)
 
--- the temperatures behind the first piece that begins with a heater's mark
+-- the temperatures after the first piece that begins with a heater's mark
 unfoldable pub heat_of : List ℕ → List ℕ → Option Heat
 heat_of mark text = option_and_then (λ start. heat_at (drop (length mark) start)) (find (λ start. begins start mark) (piece_starts text))
 
--- nothing where neither heater is reported whole
+-- nothing if neither heater is reported whole
 abbrev pub reported : Option Heat → Option Heat → Option Temps
 reported None None = None
 reported None (Some bed) = Some (record { tool = None; bed = Some bed })

@@ -14,7 +14,8 @@ pub fn ok_law()
     ensures places { (block : ℕ) → block < 2 ^ 32
         → kind_of (codes "ok P15 B" ++ decimal block) ≡ reply.Ok None (Some 15) (Some block) None }
     ensures number { (number block : ℕ) → number < 2 ^ 32 → block < 2 ^ 32
-        → kind_of (codes "ok N" ++ decimal number ++ codes " P15 B" ++ decimal block) ≡ reply.Ok (Some number) (Some 15) (Some block) None }
+        → kind_of (codes "ok N" ++ decimal number ++ codes " P15 B" ++ decimal block)
+        ≡ reply.Ok (Some number) (Some 15) (Some block) None }
 {}
 
 /// A request with a number of 32 bits is that request, and `Error:` and `start` are what they say.

@@ -1,4 +1,4 @@
-//! The pieces of a line, which stand between spaces, and the number fields among them.
+//! The pieces of a line, between its spaces, and the number fields among them.
 ghost use Rattle.std.specs.Prelude.{◌≡◌, ◌≤◌, ◌==◌, not, length};
 ghost use Rattle.std.specs.Option.{option_copied};
 ghost use Rattle.std.specs.Char.{is_ascii_digit};
@@ -164,7 +164,7 @@ impl<'a> Iterator for PieceStarts<'a> {
     }
 }
 
-/// What stands behind the first space.
+/// What follows the first space.
 fn behind_space(text: &[u8]) -> Option<&[u8]>
     ensures { starts_left (option_copied result) ≡ starts_behind text.now }
 {

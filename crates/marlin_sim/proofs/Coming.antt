@@ -13,7 +13,7 @@ use Rattle.marlin_sim.specs.declared.plan.SimPlan.{SimPlan}
 use Rattle.marlin_sim.specs.Plan.{is_place, IsPlan}
 use Rattle.marlin_sim.specs.Lines.{ends_line, but_last, whole_lines, cut, arriving, planned, behind, LinesData, to_come}
 
--- cutting gives at least one piece
+-- cutting makes at least one piece
 split_some : (bytes : List ℕ) → (first : List ℕ) × (pieces : List (List ℕ)) × (slice_split ends_line bytes ≡ first ∷ pieces)
 split_some [] = ([], [], refl)
 split_some (byte ∷ bytes) =

@@ -21,7 +21,7 @@ place_next front least n piece pieces is =
     ap (λ (place : Option ℕ). option_map (λ (more : List ℕ). front ++ more) (with_place place (λ m. places_above m pieces))) (sym is)
     ∙ joined front n (places_above n pieces)
 
--- none where a text is no place
+-- none if a text is no place
 pub no_place : (front : List ℕ) (least : ℕ) (piece : List ℕ) (pieces : List (List ℕ)) → None ≡ place_in least piece → option_map (λ more. front ++ more) (places_above least (piece ∷ pieces)) ≡ None
 no_place front least piece pieces is =
     ap (λ (place : Option ℕ). option_map (λ (more : List ℕ). front ++ more) (with_place place (λ m. places_above m pieces))) (sym is)
@@ -99,7 +99,7 @@ with_plan (Some last) (Some places) (Some dropped) None count first second = tt
 with_plan (Some last) (Some places) (Some dropped) (Some garbled) count first second =
     record { some = count.0; few = count.1; dropped = first; garbled = second; turns = lit≤ tt }
 
--- what words give is a plan
+-- what the arguments say is a plan
 pub plan_given : (words : List (List ℕ)) → IfSome (plan_of words) IsPlan
 plan_given [] = tt
 plan_given (a ∷ []) = tt

@@ -1,4 +1,4 @@
--- What is told of a run while it is written and printed.
+-- What is recorded of a run while it is written and printed.
 use Rattle.std.proofs.Common.{◌≡◌, ℕ, ◌+◌, ◌≤◌, Bool, true, false, List, [], ◌++◌, take, length, refl, sym, ◌∙◌, ap, subst, append-nil, arith}
 use Rattle.std.specs.Prelude.{Option, Some, None, if◌then◌else◌, IfSome, drop}
 use Rattle.std.proofs.Math.Seq.{take-append_seam, take-append-add}
@@ -32,7 +32,7 @@ prefix_of old new front behind all grew whole =
     became_so old new (λ _ added. added ≡ front) (λ _ added. (n : ℕ) × (added ≡ take n all)) grew
     (λ _ added is. (length front, is ∙ sym (take-append_seam front behind) ∙ ap (take (length front)) (sym whole)))
 
--- the world of what is told
+-- the world of what is recorded
 world_told : (plan : SimPlan) (input rest : List ℕ) (s : SimData) (wrote printed : List ℕ) → Tells plan input rest s wrote printed → WorldData
 world_told plan input rest s wrote printed t = world_at s.printer t.log (to_come plan s.lines rest) t.down
 
@@ -60,7 +60,7 @@ sent_going plan input first left wrote wrote' printed s v added =
       clean = refl;
     }
 
--- the run that is told
+-- the run that is recorded
 run_told : (plan : SimPlan) (input rest : List ℕ) (s : SimData) (wrote printed : List ℕ) (t : Tells plan input rest s wrote printed) → IsRunOf plan input (world_at s.printer t.log (to_come plan s.lines rest) t.down)
 run_told plan input rest s wrote printed t = record { events = t.events; steps = t.steps; is = t.is }
 
@@ -256,7 +256,7 @@ new_serves plan input left wrote printed told =
       };
     }
 
--- where something is told
+-- if something is recorded
 pub if_told : {A : Type 0} (told : Option A) (P : A → Type 0) → ((x : A) → told ≡ Some x → P x) → IfSome told P
 if_told None P all = tt
 if_told (Some x) P all = all x refl

@@ -121,11 +121,11 @@ arrived_work old new a =
     let waiting : length old.lines.waiting ≡ suc (length (drop 1 old.lines.waiting)) = ap length a.first in
     subst Less (sym a.is) (omega (arith, queue.0, waiting), queue.1)
 
--- what is told after several steps
+-- what is recorded after several steps
 pub keeps_then : (first mid last : SimData) → Keeps first mid → Keeps mid last → Keeps first last
 keeps_then first mid last one two plan input rest wrote printed t = two plan input rest wrote printed (one plan input rest wrote printed t)
 
--- what is told after an attempt to run a line
+-- what is recorded after an attempt to run a line
 pub run_keeps : {E : Type 0} (first old new : SimData) (result : Result Bool E) → Keeps first old → IfOk result (λ did. AfterRunning did old new) → OnOk result (Keeps first new)
 run_keeps first old new (Ok true) before r = keeps_then first old new before (λ plan input rest wrote printed t. ran_tells plan input rest wrote printed old new r t)
 run_keeps first old new (Ok false) before r = let Kept : SimData → Type 0 = λ s. Keeps first s in subst Kept (sym r.0) before

@@ -16,7 +16,7 @@ but_last [] = []
 but_last (line ∷ []) = []
 but_last (line ∷ next ∷ lines) = line ∷ but_last (next ∷ lines)
 
--- the whole lines of bytes; what stands behind the last line feed is none
+-- the whole lines of bytes; what follows the last line feed is none
 abbrev pub whole_lines : List ℕ → List (List ℕ)
 whole_lines bytes = but_last (slice_split ends_line bytes)
 
@@ -53,6 +53,6 @@ pub record LinesData : Type 0 where
   pub begun : List ℕ
   pub received : ℕ
 
--- all that is to arrive, where these bytes are still to be received
+-- all that is to arrive, if these bytes are still to be received
 abbrev pub to_come : SimPlan → LinesData → List ℕ → List (List ℕ)
 to_come plan l bytes = l.waiting ++ planned plan (suc l.received) (behind l.begun (whole_lines bytes))

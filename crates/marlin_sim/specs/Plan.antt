@@ -1,4 +1,4 @@
--- The words of the printer as a program, and the plan that they give.
+-- The arguments of the printer as a program, and the plan that they name.
 use Rattle.std.specs.Prelude.{◌≡◌, ℕ, ◌≤◌, Bool, true, ◌==◌, ◌&&◌, nat_le, nat_lt, if◌then◌else◌, List, [], ◌∷◌, length, codes, Option, Some, None, option_map}
 use Rattle.std.specs.Char.{is_ascii_digit}
 use Rattle.std.specs.List.{list_all, slice_split}
@@ -15,7 +15,7 @@ is_number word =
 abbrev pub number_in : List ℕ → Option ℕ
 number_in word = if is_number word then Some (decimal_value word) else None
 
--- the place that a text is, where it is above this one
+-- the place that a text is, if it is above this one
 abbrev pub place_in : ℕ → List ℕ → Option ℕ
 place_in least word = if is_number word && nat_lt least (decimal_value word) then Some (decimal_value word) else None
 
@@ -29,7 +29,7 @@ abbrev pub places_above : ℕ → List (List ℕ) → Option (List ℕ)
 places_above least [] = Some []
 places_above least (piece ∷ pieces) = with_place (place_in least piece) (λ n. places_above n pieces)
 
--- whether a byte stands between two places
+-- whether a byte is between two places
 abbrev pub is_comma : ℕ → Bool
 is_comma byte = byte == 44
 
@@ -37,7 +37,7 @@ is_comma byte = byte == 44
 abbrev pub places_in : List ℕ → Option (List ℕ)
 places_in word = if bytes_eq word (codes "-") then Some [] else places_above 0 (slice_split is_comma word)
 
--- whether a number may be that of the printer's places
+-- whether a number may be the number of the printer's places
 abbrev pub is_places : ℕ → Bool
 is_places n = nat_le 1 n && nat_le n 16
 
@@ -45,7 +45,7 @@ is_places n = nat_le 1 n && nat_le n 16
 abbrev pub count_in : List ℕ → Option ℕ
 count_in word = if is_number word && is_places (decimal_value word) then Some (decimal_value word) else None
 
--- a plan of these parts, where all are there; a connection is served for 4,000,000,000,000 turns
+-- a plan of these parts, if all are there; a connection is served for 4,000,000,000,000 turns
 abbrev pub plan_with : Option ℕ → Option ℕ → Option (List ℕ) → Option (List ℕ) → Option SimPlan
 plan_with (Some last) (Some places) (Some dropped) (Some garbled) =
     Some (record { last = last; places = places; drop = dropped; garble = garbled; turns = 4000000000000 })
@@ -55,17 +55,17 @@ plan_with _ _ _ _ = None
 abbrev pub is_address : List ℕ → Bool
 is_address word = nat_le 1 (length word) && nat_le (length word) 100
 
--- the plan that the words are: the address, the last number, the places, and the lines to drop and to garble
+-- the plan that the arguments are: the address, the last number, the places, and the lines to drop and to garble
 abbrev pub plan_of : List (List ℕ) → Option SimPlan
 plan_of (address ∷ last ∷ places ∷ dropped ∷ garbled ∷ []) =
     if is_address address then plan_with (number_in last) (count_in places) (places_in dropped) (places_in garbled) else None
 plan_of _ = None
 
--- whether a number may be that of a received line
+-- whether a number may be the number of a received line
 abbrev pub is_place : ℕ → Bool
 is_place n = nat_le n 4294967295
 
--- a plan as words can give it
+-- a plan as arguments can name it
 pub record IsPlan (plan : SimPlan) : Type 0 where
   pub some : 1 ≤ plan.places
   pub few : plan.places ≤ 16

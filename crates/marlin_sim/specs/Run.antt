@@ -14,7 +14,7 @@ is_step Arrive = true
 is_step Run = true
 is_step _ = false
 
--- a new printer, before which all lines of the input stand that are to arrive
+-- a new printer, with all lines of the input that are to arrive still before it
 abbrev pub first_world : SimPlan → List ℕ → WorldData
 first_world plan input =
     record {
@@ -44,7 +44,7 @@ pub record IsOver (w : WorldData) : Type 0 where
 abbrev pub ended : List ℕ → List ℕ
 ended line = line ++ 10 ∷ []
 
--- the number of an executed line as it is printed before it, where there is one
+-- the number of an executed line as it is printed before it, if there is one
 abbrev pub number_text : Option ℕ → List ℕ
 number_text None = []
 number_text (Some n) = codes "N" ++ decimal n ++ codes " "

@@ -1,4 +1,4 @@
--- What a connection and a sink tell of a simulation.
+-- What a connection and a sink record of a simulation.
 use Rattle.std.specs.Prelude.{◌≡◌, ℕ, ◌+◌, ◌<◌, ◌≤◌, List, [], ◌++◌, length, Option, Some}
 use Rattle.octo_outside.specs.Told.{Adds, AddsPrefix}
 use Rattle.printer_model.specs.World.{WorldData}
@@ -10,7 +10,7 @@ use Rattle.marlin_sim.specs.declared.serve.Next.TheVariants as next
 use Rattle.marlin_sim.specs.Run.{IsRunOf, IsOver, written_text, printed_text}
 use Rattle.marlin_sim.specs.Sim.{SimData, Tells, IsIdle}
 
--- what is left to read of a connection, what was written to it, and what was printed, where told
+-- what is left to read of a connection, what was written to it, and what was printed, if recorded
 pub record Outside : Type 0 where
   pub left : Option (List ℕ)
   pub wrote : Option (List ℕ)
@@ -49,7 +49,7 @@ pub record IsLost (plan : SimPlan) (input : List ℕ) (first now : Outside) : Ty
   pub wrote : AddsPrefix first.wrote now.wrote (written_text w)
   pub printed : AddsPrefix first.printed now.printed (printed_text w)
 
--- what an end says of the input that the connection told
+-- what an end says of the input that the connection recorded
 abbrev pub Outcome : SimEnd → SimPlan → List ℕ → Outside → Outside → Type 0
 Outcome end.Done plan input first now = IsDone plan input first now
 Outcome end.BadPlan plan input first now = now ≡ first
@@ -105,7 +105,7 @@ Ending end.SinkFailed plan input first now s = IsLost plan input first now
 Ending (end.TurnsUsed turns) plan input first now s = Going plan input first now s
 Ending end.NoMemory plan input first now s = Unit {0}
 
--- the bytes that were read and the reads that found nothing yet are together at least so many, unless the count of these stands at its last value
+-- the bytes that were read and the reads that found nothing yet are together at least this number, unless the count of these is at its last value
 pub record IsUsed (turns : ℕ) (before : List ℕ) (left : Option (List ℕ)) (quiets quiets' : ℕ) : Type 0 where
   pub after : List ℕ
   pub told : left ≡ Some after

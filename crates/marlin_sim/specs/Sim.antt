@@ -26,7 +26,7 @@ new_sim plan =
       text = [];
     }
 
--- the simulator stands in a run over an input whose rest is still to be received, with these texts written and printed
+-- the simulator is in a run over an input whose rest is still to be received, with these texts written and printed
 pub record Tells (plan : SimPlan) (input rest : List ℕ) (s : SimData) (wrote printed : List ℕ) : Type 0 where
   pub events : List WorldEvent
   pub steps : list_all is_step events ≡ true
@@ -36,7 +36,7 @@ pub record Tells (plan : SimPlan) (input rest : List ℕ) (s : SimData) (wrote p
   pub wrote_is : start_text ++ flat_map ended down ≡ wrote ++ s.replies
   pub printed_is : flat_map printed_line log ≡ printed ++ s.text
 
--- what a simulator tells of a run it tells after this
+-- what a simulator records of a run it records after this
 abbrev pub Keeps : SimData → SimData → Type 0
 Keeps old new = (plan : SimPlan) (input rest wrote printed : List ℕ) → Tells plan input rest old wrote printed → Tells plan input rest new wrote printed
 

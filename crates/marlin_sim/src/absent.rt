@@ -1,6 +1,6 @@
 //! A connection that isn't there: it fails at every call.
-ghost use Rattle.std.specs.Prelude.{◌≡◌, ◌≤◌, None};
-ghost use Rattle.octo_outside.specs.Told.{Rose};
+ghost use Rattle.std.specs.Prelude.{◌≡◌, None, ⊤};
+ghost use Rattle.octo_outside.specs.Told.{Counts};
 
 use octo_outside::{Conn, Failed, Got};
 
@@ -19,8 +19,7 @@ impl AbsentConn {
     }
 
     fn fail(&mut self) -> Failed
-        ensures counted { self.old.faults ≤ self.new.faults }
-        ensures rose { Rose self.old.faults self.new.faults }
+        ensures counts { Counts ⊤ self.old.faults self.new.faults }
     {
         self.faults = self.faults.saturating_add(1);
         Failed
@@ -28,8 +27,8 @@ impl AbsentConn {
 }
 
 impl Conn for AbsentConn {
-    ghost use Rattle.std.specs.Prelude.{◌≡◌, ◌<◌, ◌≤◌, [], None, length, take, IfOk, OnErr, IsErr};
-    ghost use Rattle.octo_outside.specs.Told.{Adds, Rose};
+    ghost use Rattle.std.specs.Prelude.{◌≡◌, ◌<◌, [], None, length, take, IfOk, IsErr};
+    ghost use Rattle.octo_outside.specs.Told.{Adds, Counts};
     ghost use Rattle.octo_outside.specs.Traits.{IsWithin};
 
     ghost left = { λ _. None };
@@ -44,8 +43,7 @@ impl Conn for AbsentConn {
         requires { 0 < length _into.old }
         ensures absent { IsErr result }
         ensures bound { IfOk result (λ got. IsWithin got (length _into.new)) }
-        ensures counted { self.old.faults ≤ self.new.faults }
-        ensures failed { OnErr result (Rose self.old.faults self.new.faults) }
+        ensures counts { Counts (IsErr result) self.old.faults self.new.faults }
     {
         Err(self.fail())
     }
@@ -53,8 +51,7 @@ impl Conn for AbsentConn {
     fn write(&mut self, _bytes: &[u8]) -> Result<usize, Failed>
         requires { 0 < length _bytes.now }
         ensures absent { IsErr result }
-        ensures counted { self.old.faults ≤ self.new.faults }
-        ensures failed { OnErr result (Rose self.old.faults self.new.faults) }
+        ensures counts { Counts (IsErr result) self.old.faults self.new.faults }
     {
         Err(self.fail())
     }

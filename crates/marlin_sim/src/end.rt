@@ -5,7 +5,7 @@
 pub enum SimEnd {
     /// The peer has closed, and all that it sent was taken and run.
     Done,
-    /// The words are no plan.
+    /// The arguments are no plan.
     BadPlan,
     /// The connection failed.
     ConnFailed,

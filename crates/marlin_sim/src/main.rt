@@ -20,7 +20,7 @@ use plan::read_plan;
 use simulate::sim;
 use std::process::ExitCode;
 
-// The first connection at the address of a plan, where the words are one and the address can be listened at.
+// The first connection at the address of a plan, if the arguments are one and the program can listen there.
 fn connection(rt: HostRuntime, words: &WordList) -> Option<TcpConn<HostRuntime>> {
     read_plan(rt.alloc(), words).ok()??;
     if words.count() == 0 {
@@ -29,7 +29,7 @@ fn connection(rt: HostRuntime, words: &WordList) -> Option<TcpConn<HostRuntime>>
     TcpConn::accept_one(rt, words.get(0)).ok()
 }
 
-// Serves the connection at the address that the words name, and gives it back.
+// Serves the connection at the address that the arguments name, and returns it.
 fn serve_words(rt: HostRuntime, words: &WordList) -> SimEnd {
     let mut out = StdSink::new(rt);
     match connection(rt, words) {

@@ -1,4 +1,4 @@
-//! The plan of a simulation, as the words give it.
+//! The plan of a simulation, as the arguments name it.
 ghost use Rattle.std.specs.Prelude.{◌≡◌, ◌≤◌, min, length, IfOk, IfSome, IsTrue};
 ghost use Rattle.std.specs.Char.{is_ascii_digit};
 ghost use Rattle.std.specs.List.{list_all, slice_split};
@@ -66,7 +66,7 @@ fn number_in(word: &[u8]) -> Option<u32>
     }
 }
 
-// The place that a text is, where it is above this one.
+// The place that a text is, if it is above this one.
 fn place_in(least: u32, word: &[u8]) -> Option<u32>
     ensures { result ≡ place_in least word.now }
 {
@@ -118,7 +118,7 @@ fn read_count(word: &[u8]) -> Option<u8>
     }
 }
 
-// The plan that the words are.
+// The plan that the arguments are.
 fn plan_in(alloc: Global, words: &WordList) -> Result<Option<SimPlan>, AllocError>
     ensures { IfOk result (λ plan. plan ≡ plan_of words.now) }
 {
@@ -153,7 +153,7 @@ fn is_address(word: &str) -> bool
     word.len() >= 1 && word.len() <= 100
 }
 
-/// The plan that the words are: `ADDRESS LAST PLACES DROP GARBLE`.
+/// The plan that the arguments are: `ADDRESS LAST PLACES DROP GARBLE`.
 pub fn read_plan(alloc: Global, words: &WordList) -> Result<Option<SimPlan>, AllocError>
     ensures value { IfOk result (λ plan. plan ≡ plan_of words.now) }
     ensures plan { IfOk result (λ plan. IfSome plan IsPlan) }

@@ -1,6 +1,6 @@
 //! Serves a connection: turns of reading, taking and running, and what they write and print.
-ghost use Rattle.std.specs.Prelude.{◌≡◌, ◌≢◌, ◌⊎◌, ◌<◌, ◌≤◌, ◌++◌, ℕ, List, [], Option, true, false, length, IfOk, OnOk, OnErr, IfSome, Some, if◌then◌else◌};
-ghost use Rattle.octo_outside.specs.Told.{Adds, AddsPrefix, Rose};
+ghost use Rattle.std.specs.Prelude.{◌≡◌, ◌≢◌, ◌⊎◌, ◌<◌, ◌≤◌, ◌++◌, ℕ, List, [], Option, true, false, length, IfOk, OnOk, OnErr, IsErr, IfSome, Some, if◌then◌else◌};
+ghost use Rattle.octo_outside.specs.Told.{Adds, AddsPrefix, Counts};
 ghost use Rattle.marlin_sim.specs.declared.end.SimEnd.TheVariants as end;
 ghost use Rattle.marlin_sim.specs.declared.plan.SimPlan.{SimPlan};
 ghost use Rattle.marlin_sim.specs.declared.serve.Next.TheVariants as next;
@@ -38,12 +38,12 @@ const TEXT: usize = 16384;
 pub fn send_replies<C: Conn>(conn: &mut C, sim: &mut Sim) -> Result<(), Failed>
     ensures ok { OnOk result (Adds (C.written conn.old) (C.written conn.new) sim.old.replies) }
     ensures after { OnOk result (sim.new ≡ record sim.old { replies = [] }) }
-    ensures err { OnErr result (AddsPrefix (C.written conn.old) (C.written conn.new) sim.old.replies) }
+    ensures err { OnErr result
+        (AddsPrefix (C.written conn.old) (C.written conn.new) sim.old.replies) }
     ensures same { OnErr result (sim.new ≡ sim.old) }
     ensures left { C.left conn.new ≡ C.left conn.old }
     ensures quiets { C.quiets conn.new ≡ C.quiets conn.old }
-    ensures counted { C.faults conn.old ≤ C.faults conn.new }
-    ensures failed { OnErr result (Rose (C.faults conn.old) (C.faults conn.new)) }
+    ensures counts { Counts (IsErr result) (C.faults conn.old) (C.faults conn.new) }
 {
     send_all(conn, sim.replies())?;
     sim.clear_replies();
@@ -56,8 +56,7 @@ pub fn print_text<O: Sink>(out: &mut O, sim: &mut Sim) -> Result<(), Failed>
     ensures after { OnOk result (sim.new ≡ record sim.old { text = [] }) }
     ensures err { OnErr result (AddsPrefix (O.written out.old) (O.written out.new) sim.old.text) }
     ensures same { OnErr result (sim.new ≡ sim.old) }
-    ensures counted { O.faults out.old ≤ O.faults out.new }
-    ensures failed { OnErr result (Rose (O.faults out.old) (O.faults out.new)) }
+    ensures counts { Counts (IsErr result) (O.faults out.old) (O.faults out.new) }
 {
     write_all(out, sim.text())?;
     sim.clear_text();
@@ -71,9 +70,13 @@ fn next_of(ran: bool) -> Next
     if ran { Next::On } else { Next::Over }
 }
 
-// Writes the replies of a step that ran a line or didn't, and prints the text where it is long.
+// Writes the replies of a step that ran a line or didn't, and prints the text if it is long.
 fn deliver<C: Conn, O: Sink>(conn: &mut C, out: &mut O, sim: &mut Sim, ran: bool) -> Next
-    ensures told { (plan : SimPlan) (input : List ℕ) (first : Outside) → Serves plan input first (outside (C.left conn.old) (C.written conn.old) (O.written out.old)) sim.old → After result plan input first (outside (C.left conn.new) (C.written conn.new) (O.written out.new)) sim.new }
+    ensures told { (plan : SimPlan) (input : List ℕ) (first : Outside)
+        → Serves plan input first
+        (outside (C.left conn.old) (C.written conn.old) (O.written out.old)) sim.old
+        → After result plan input first
+        (outside (C.left conn.new) (C.written conn.new) (O.written out.new)) sim.new }
     ensures on { result ≡ next.On → ran ≡ true }
     ensures over { result ≡ next.Over → ran ≡ false }
     ensures printer { sim.new.printer ≡ sim.old.printer }
@@ -81,10 +84,8 @@ fn deliver<C: Conn, O: Sink>(conn: &mut C, out: &mut O, sim: &mut Sim, ran: bool
     ensures written { (result ≡ next.On) ⊎ (result ≡ next.Over) → sim.new.replies ≡ [] }
     ensures left { C.left conn.new ≡ C.left conn.old }
     ensures quiets { C.quiets conn.new ≡ C.quiets conn.old }
-    ensures conn_counted { C.faults conn.old ≤ C.faults conn.new }
-    ensures sink_counted { O.faults out.old ≤ O.faults out.new }
-    ensures conn_failed { result ≡ next.ConnFailed → Rose (C.faults conn.old) (C.faults conn.new) }
-    ensures sink_failed { result ≡ next.SinkFailed → Rose (O.faults out.old) (O.faults out.new) }
+    ensures conn { Counts (result ≡ next.ConnFailed) (C.faults conn.old) (C.faults conn.new) }
+    ensures sink { Counts (result ≡ next.SinkFailed) (O.faults out.old) (O.faults out.new) }
 {
     let Ok(()) = send_replies(conn, sim) else {
         return Next::ConnFailed;
@@ -100,17 +101,20 @@ fn deliver<C: Conn, O: Sink>(conn: &mut C, out: &mut O, sim: &mut Sim, ran: bool
 
 // Takes lines while there is room, runs one, and writes the replies.
 fn act<C: Conn, O: Sink>(conn: &mut C, out: &mut O, sim: &mut Sim) -> Next
-    ensures told { (plan : SimPlan) (input : List ℕ) (first : Outside) → Serves plan input first (outside (C.left conn.old) (C.written conn.old) (O.written out.old)) sim.old → After result plan input first (outside (C.left conn.new) (C.written conn.new) (O.written out.new)) sim.new }
+    ensures told { (plan : SimPlan) (input : List ℕ) (first : Outside)
+        → Serves plan input first
+        (outside (C.left conn.old) (C.written conn.old) (O.written out.old)) sim.old
+        → After result plan input first
+        (outside (C.left conn.new) (C.written conn.new) (O.written out.new)) sim.new }
     ensures acts { (result ≡ next.On) ⊎ (result ≡ next.Over) → Acts sim.old sim.new }
     ensures idle { result ≡ next.Over → 1 ≤ sim.old.printer.places → IsIdle sim.new }
     ensures work { result ≡ next.On → work sim.new < work sim.old }
-    ensures places { (result ≡ next.On) ⊎ (result ≡ next.Over) → sim.new.printer.places ≡ sim.old.printer.places }
+    ensures places { (result ≡ next.On) ⊎ (result ≡ next.Over)
+        → sim.new.printer.places ≡ sim.old.printer.places }
     ensures left { C.left conn.new ≡ C.left conn.old }
     ensures quiets { C.quiets conn.new ≡ C.quiets conn.old }
-    ensures conn_counted { C.faults conn.old ≤ C.faults conn.new }
-    ensures sink_counted { O.faults out.old ≤ O.faults out.new }
-    ensures conn_failed { result ≡ next.ConnFailed → Rose (C.faults conn.old) (C.faults conn.new) }
-    ensures sink_failed { result ≡ next.SinkFailed → Rose (O.faults out.old) (O.faults out.new) }
+    ensures conn { Counts (result ≡ next.ConnFailed) (C.faults conn.old) (C.faults conn.new) }
+    ensures sink { Counts (result ≡ next.SinkFailed) (O.faults out.old) (O.faults out.new) }
 {
     match sim.step() {
         Ok(ran) => deliver(conn, out, sim, ran),
@@ -121,14 +125,17 @@ fn act<C: Conn, O: Sink>(conn: &mut C, out: &mut O, sim: &mut Sim) -> Next
 // Does what is left to do once the peer has closed.
 fn drain<C: Conn, O: Sink>(conn: &mut C, out: &mut O, sim: &mut Sim) -> SimEnd
     requires { 1 ≤ sim.old.printer.places }
-    ensures told { (plan : SimPlan) (input : List ℕ) (first : Outside) → Serves plan input first (outside (C.left conn.old) (C.written conn.old) (O.written out.old)) sim.old → C.left conn.old ≡ Some [] → Ending result plan input first (outside (C.left conn.new) (C.written conn.new) (O.written out.new)) sim.new }
+    ensures told { (plan : SimPlan) (input : List ℕ) (first : Outside)
+        → Serves plan input first
+        (outside (C.left conn.old) (C.written conn.old) (O.written out.old)) sim.old
+        → C.left conn.old ≡ Some []
+        → Ending result plan input first
+        (outside (C.left conn.new) (C.written conn.new) (O.written out.new)) sim.new }
     ensures plan { result ≢ end.BadPlan }
     ensures turns { (turns : ℕ) → result ≢ end.TurnsUsed turns }
     ensures quiets { C.quiets conn.new ≡ C.quiets conn.old }
-    ensures conn_counted { C.faults conn.old ≤ C.faults conn.new }
-    ensures sink_counted { O.faults out.old ≤ O.faults out.new }
-    ensures conn_failed { result ≡ end.ConnFailed → Rose (C.faults conn.old) (C.faults conn.new) }
-    ensures sink_failed { result ≡ end.SinkFailed → Rose (O.faults out.old) (O.faults out.new) }
+    ensures conn { Counts (result ≡ end.ConnFailed) (C.faults conn.old) (C.faults conn.new) }
+    ensures sink { Counts (result ≡ end.SinkFailed) (O.faults out.old) (O.faults out.new) }
 {
     loop {
         match act(conn, out, sim) {
@@ -143,16 +150,18 @@ fn drain<C: Conn, O: Sink>(conn: &mut C, out: &mut O, sim: &mut Sim) -> SimEnd
 
 // Goes on after a read that didn't find the end.
 fn go_on<C: Conn, O: Sink>(conn: &mut C, out: &mut O, sim: &mut Sim) -> Next
-    ensures told { (plan : SimPlan) (input : List ℕ) (first : Outside) → Serves plan input first (outside (C.left conn.old) (C.written conn.old) (O.written out.old)) sim.old → After result plan input first (outside (C.left conn.new) (C.written conn.new) (O.written out.new)) sim.new }
+    ensures told { (plan : SimPlan) (input : List ℕ) (first : Outside)
+        → Serves plan input first
+        (outside (C.left conn.old) (C.written conn.old) (O.written out.old)) sim.old
+        → After result plan input first
+        (outside (C.left conn.new) (C.written conn.new) (O.written out.new)) sim.new }
     ensures acts { result ≡ next.On → Acts sim.old sim.new }
     ensures open { result ≢ next.Over }
     ensures places { result ≡ next.On → sim.new.printer.places ≡ sim.old.printer.places }
     ensures left { C.left conn.new ≡ C.left conn.old }
     ensures quiets { C.quiets conn.new ≡ C.quiets conn.old }
-    ensures conn_counted { C.faults conn.old ≤ C.faults conn.new }
-    ensures sink_counted { O.faults out.old ≤ O.faults out.new }
-    ensures conn_failed { result ≡ next.ConnFailed → Rose (C.faults conn.old) (C.faults conn.new) }
-    ensures sink_failed { result ≡ next.SinkFailed → Rose (O.faults out.old) (O.faults out.new) }
+    ensures conn { Counts (result ≡ next.ConnFailed) (C.faults conn.old) (C.faults conn.new) }
+    ensures sink { Counts (result ≡ next.SinkFailed) (O.faults out.old) (O.faults out.new) }
 {
     match act(conn, out, sim) {
         Next::On => Next::On,
@@ -172,16 +181,20 @@ fn receive<C: Conn, O: Sink>(
     bytes: &[u8],
 ) -> Next
     requires { IsPlan plan.now }
-    ensures told { (input rest wrote printed : List ℕ) (first : Outside) → Adds first.wrote (C.written conn.old) wrote → Adds first.printed (O.written out.old) printed → C.left conn.old ≡ Some rest → Tells plan.now input (bytes.now ++ rest) sim.old wrote printed → After result plan.now input first (outside (C.left conn.new) (C.written conn.new) (O.written out.new)) sim.new }
+    ensures told { (input rest wrote printed : List ℕ) (first : Outside)
+        → Adds first.wrote (C.written conn.old) wrote
+        → Adds first.printed (O.written out.old) printed
+        → C.left conn.old ≡ Some rest
+        → Tells plan.now input (bytes.now ++ rest) sim.old wrote printed
+        → After result plan.now input first
+        (outside (C.left conn.new) (C.written conn.new) (O.written out.new)) sim.new }
     ensures acts { result ≡ next.On → ActsOn sim.old.printer sim.new }
     ensures open { result ≢ next.Over }
     ensures places { result ≡ next.On → sim.new.printer.places ≡ sim.old.printer.places }
     ensures left { C.left conn.new ≡ C.left conn.old }
     ensures quiets { C.quiets conn.new ≡ C.quiets conn.old }
-    ensures conn_counted { C.faults conn.old ≤ C.faults conn.new }
-    ensures sink_counted { O.faults out.old ≤ O.faults out.new }
-    ensures conn_failed { result ≡ next.ConnFailed → Rose (C.faults conn.old) (C.faults conn.new) }
-    ensures sink_failed { result ≡ next.SinkFailed → Rose (O.faults out.old) (O.faults out.new) }
+    ensures conn { Counts (result ≡ next.ConnFailed) (C.faults conn.old) (C.faults conn.new) }
+    ensures sink { Counts (result ≡ next.SinkFailed) (O.faults out.old) (O.faults out.new) }
 {
     match sim.receive(plan, bytes) {
         Ok(()) => go_on(conn, out, sim),
@@ -192,17 +205,23 @@ fn receive<C: Conn, O: Sink>(
 // Reads once, and does what can be done then.
 fn take_turn<C: Conn, O: Sink>(conn: &mut C, out: &mut O, sim: &mut Sim, plan: &SimPlan) -> Next
     requires { IsPlan plan.now }
-    ensures told { (input : List ℕ) (first : Outside) → Going plan.now input first (outside (C.left conn.old) (C.written conn.old) (O.written out.old)) sim.old → After result plan.now input first (outside (C.left conn.new) (C.written conn.new) (O.written out.new)) sim.new }
+    ensures told { (input : List ℕ) (first : Outside)
+        → Going plan.now input first
+        (outside (C.left conn.old) (C.written conn.old) (O.written out.old)) sim.old
+        → After result plan.now input first
+        (outside (C.left conn.new) (C.written conn.new) (O.written out.new)) sim.new }
     ensures acts { result ≡ next.On → ActsOn sim.old.printer sim.new }
-    ensures quiet { result ≡ next.On → C.quiets conn.new ≢ C.quiets conn.old → Acts sim.old sim.new }
-    ensures closed { result ≡ next.Over → IfSome (C.left conn.old) (λ _. C.left conn.new ≡ Some []) }
-    ensures used { result ≡ next.On → IfSome (C.left conn.old) (λ before. IsUsed 1 before (C.left conn.new) (C.quiets conn.old) (C.quiets conn.new)) }
-    ensures places { (result ≡ next.On) ⊎ (result ≡ next.Over) → sim.new.printer.places ≡ sim.old.printer.places }
+    ensures quiet { result ≡ next.On
+        → C.quiets conn.new ≢ C.quiets conn.old → Acts sim.old sim.new }
+    ensures closed { result ≡ next.Over
+        → IfSome (C.left conn.old) (λ _. C.left conn.new ≡ Some []) }
+    ensures used { result ≡ next.On → IfSome (C.left conn.old)
+        (λ before. IsUsed 1 before (C.left conn.new) (C.quiets conn.old) (C.quiets conn.new)) }
+    ensures places { (result ≡ next.On) ⊎ (result ≡ next.Over)
+        → sim.new.printer.places ≡ sim.old.printer.places }
     ensures quiets_counted { C.quiets conn.old ≤ C.quiets conn.new }
-    ensures conn_counted { C.faults conn.old ≤ C.faults conn.new }
-    ensures sink_counted { O.faults out.old ≤ O.faults out.new }
-    ensures conn_failed { result ≡ next.ConnFailed → Rose (C.faults conn.old) (C.faults conn.new) }
-    ensures sink_failed { result ≡ next.SinkFailed → Rose (O.faults out.old) (O.faults out.new) }
+    ensures conn { Counts (result ≡ next.ConnFailed) (C.faults conn.old) (C.faults conn.new) }
+    ensures sink { Counts (result ≡ next.SinkFailed) (O.faults out.old) (O.faults out.new) }
 {
     let mut chunk = [0; CHUNK];
     match conn.read(&mut chunk) {
@@ -222,14 +241,17 @@ pub fn take_turns<C: Conn, O: Sink>(
 ) -> SimEnd
     requires plan { IsPlan plan.now }
     requires places { sim.old.printer.places ≡ plan.now.places }
-    ensures told { (input : List ℕ) (first : Outside) → Going plan.now input first (outside (C.left conn.old) (C.written conn.old) (O.written out.old)) sim.old → Ending result plan.now input first (outside (C.left conn.new) (C.written conn.new) (O.written out.new)) sim.new }
+    ensures told { (input : List ℕ) (first : Outside)
+        → Going plan.now input first
+        (outside (C.left conn.old) (C.written conn.old) (O.written out.old)) sim.old
+        → Ending result plan.now input first
+        (outside (C.left conn.new) (C.written conn.new) (O.written out.new)) sim.new }
     ensures plan { result ≢ end.BadPlan }
     ensures turns { (turns : ℕ) → result ≡ end.TurnsUsed turns → turns ≡ plan.now.turns }
-    ensures used { (turns : ℕ) → result ≡ end.TurnsUsed turns → IfSome (C.left conn.old) (λ before. IsUsed turns before (C.left conn.new) (C.quiets conn.old) (C.quiets conn.new)) }
-    ensures conn_counted { C.faults conn.old ≤ C.faults conn.new }
-    ensures sink_counted { O.faults out.old ≤ O.faults out.new }
-    ensures conn_failed { result ≡ end.ConnFailed → Rose (C.faults conn.old) (C.faults conn.new) }
-    ensures sink_failed { result ≡ end.SinkFailed → Rose (O.faults out.old) (O.faults out.new) }
+    ensures used { (turns : ℕ) → result ≡ end.TurnsUsed turns → IfSome (C.left conn.old)
+        (λ before. IsUsed turns before (C.left conn.new) (C.quiets conn.old) (C.quiets conn.new)) }
+    ensures conn { Counts (result ≡ end.ConnFailed) (C.faults conn.old) (C.faults conn.new) }
+    ensures sink { Counts (result ≡ end.SinkFailed) (O.faults out.old) (O.faults out.new) }
 {
     for _ in 0..plan.turns {
         match take_turn(conn, out, sim, plan) {

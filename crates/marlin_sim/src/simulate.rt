@@ -1,6 +1,6 @@
-//! A whole simulation, by a plan or by the words that give one.
+//! A whole simulation, by a plan or by the arguments that name one.
 ghost use Rattle.std.specs.Prelude.{◌≡◌, ◌≢◌, ◌⊎◌, ◌≤◌, ℕ, List, Option, None, Some, IfSome};
-ghost use Rattle.octo_outside.specs.Told.{Rose};
+ghost use Rattle.octo_outside.specs.Told.{Rose, Counts};
 ghost use Rattle.marlin_sim.specs.declared.end.SimEnd.TheVariants as end;
 ghost use Rattle.marlin_sim.specs.declared.plan.SimPlan.{SimPlan};
 ghost use Rattle.marlin_sim.specs.Plan.{IsPlan, plan_of};
@@ -17,14 +17,17 @@ use std::alloc::Global;
 fn begin<C: Conn, O: Sink>(conn: &mut C, out: &mut O, sim: &mut Sim, plan: &SimPlan) -> SimEnd
     requires plan { IsPlan plan.now }
     requires places { sim.old.printer.places ≡ plan.now.places }
-    ensures told { (input : List ℕ) (first : Outside) → Serves plan.now input first (outside (C.left conn.old) (C.written conn.old) (O.written out.old)) sim.old → Ending result plan.now input first (outside (C.left conn.new) (C.written conn.new) (O.written out.new)) sim.new }
+    ensures told { (input : List ℕ) (first : Outside)
+        → Serves plan.now input first
+        (outside (C.left conn.old) (C.written conn.old) (O.written out.old)) sim.old
+        → Ending result plan.now input first
+        (outside (C.left conn.new) (C.written conn.new) (O.written out.new)) sim.new }
     ensures plan { result ≢ end.BadPlan }
     ensures turns { (turns : ℕ) → result ≡ end.TurnsUsed turns → turns ≡ plan.now.turns }
-    ensures used { (turns : ℕ) → result ≡ end.TurnsUsed turns → IfSome (C.left conn.old) (λ before. IsUsed turns before (C.left conn.new) (C.quiets conn.old) (C.quiets conn.new)) }
-    ensures conn_counted { C.faults conn.old ≤ C.faults conn.new }
-    ensures sink_counted { O.faults out.old ≤ O.faults out.new }
-    ensures conn_failed { result ≡ end.ConnFailed → Rose (C.faults conn.old) (C.faults conn.new) }
-    ensures sink_failed { result ≡ end.SinkFailed → Rose (O.faults out.old) (O.faults out.new) }
+    ensures used { (turns : ℕ) → result ≡ end.TurnsUsed turns → IfSome (C.left conn.old)
+        (λ before. IsUsed turns before (C.left conn.new) (C.quiets conn.old) (C.quiets conn.new)) }
+    ensures conn { Counts (result ≡ end.ConnFailed) (C.faults conn.old) (C.faults conn.new) }
+    ensures sink { Counts (result ≡ end.SinkFailed) (O.faults out.old) (O.faults out.new) }
 {
     match send_replies(conn, sim) {
         Ok(()) => take_turns(conn, out, sim, plan),
@@ -34,10 +37,14 @@ fn begin<C: Conn, O: Sink>(conn: &mut C, out: &mut O, sim: &mut Sim, plan: &SimP
 
 // Prints what is still to be printed at an end.
 fn finish<O: Sink>(out: &mut O, sim: &mut Sim, ending: SimEnd) -> SimEnd
-    ensures told { (plan : SimPlan) (input : List ℕ) (first : Outside) (left wrote : Option (List ℕ)) → Ending ending plan input first (outside left wrote (O.written out.old)) sim.old → Outcome result plan input first (outside left wrote (O.written out.new)) }
+    ensures told { (plan : SimPlan) (input : List ℕ) (first : Outside)
+        (left wrote : Option (List ℕ))
+        → Ending ending plan input first (outside left wrote (O.written out.old)) sim.old
+        → Outcome result plan input first (outside left wrote (O.written out.new)) }
     ensures same { (result ≡ ending) ⊎ (result ≡ end.SinkFailed) }
     ensures counted { O.faults out.old ≤ O.faults out.new }
-    ensures failed { result ≡ end.SinkFailed → (ending ≡ end.SinkFailed) ⊎ Rose (O.faults out.old) (O.faults out.new) }
+    ensures failed { result ≡ end.SinkFailed
+        → (ending ≡ end.SinkFailed) ⊎ Rose (O.faults out.old) (O.faults out.new) }
 {
     match ending {
         SimEnd::SinkFailed => SimEnd::SinkFailed,
@@ -54,10 +61,10 @@ fn finish<O: Sink>(out: &mut O, sim: &mut Sim, ending: SimEnd) -> SimEnd
 
 /// Serves one connection with one printer by a plan, and prints what it executed.
 ///
-/// Where the connection tells its input: with `Done` the printer has taken the lines of the input that the plan lets
+/// If the connection records its input: with `Done` the printer has taken the lines of the input that the plan lets
 /// arrive, in order, and run them all; `start` and its replies were written, and what it ran was printed. With each other
-/// end but want of memory what it did is the beginning of such a run; what was written of it is cut where the connection
-/// failed, and what was printed where the sink failed.
+/// end but out of memory what it did is the beginning of such a run; what was written of it is cut where the connection
+/// failed, and what was printed if the sink failed.
 pub fn simulate<C: Conn, O: Sink>(
     alloc: Global,
     conn: &mut C,
@@ -65,14 +72,15 @@ pub fn simulate<C: Conn, O: Sink>(
     plan: &SimPlan,
 ) -> SimEnd
     requires { IsPlan plan.now }
-    ensures served { IfSome (C.left conn.old) (λ input. Outcome result plan.now input (outside (C.left conn.old) (C.written conn.old) (O.written out.old)) (outside (C.left conn.new) (C.written conn.new) (O.written out.new))) }
+    ensures served { IfSome (C.left conn.old) (λ input. Outcome result plan.now input
+        (outside (C.left conn.old) (C.written conn.old) (O.written out.old))
+        (outside (C.left conn.new) (C.written conn.new) (O.written out.new))) }
     ensures plan { result ≢ end.BadPlan }
     ensures turns { (turns : ℕ) → result ≡ end.TurnsUsed turns → turns ≡ plan.now.turns }
-    ensures used { (turns : ℕ) → result ≡ end.TurnsUsed turns → IfSome (C.left conn.old) (λ before. IsUsed turns before (C.left conn.new) (C.quiets conn.old) (C.quiets conn.new)) }
-    ensures conn_counted { C.faults conn.old ≤ C.faults conn.new }
-    ensures sink_counted { O.faults out.old ≤ O.faults out.new }
-    ensures conn_failed { result ≡ end.ConnFailed → Rose (C.faults conn.old) (C.faults conn.new) }
-    ensures sink_failed { result ≡ end.SinkFailed → Rose (O.faults out.old) (O.faults out.new) }
+    ensures used { (turns : ℕ) → result ≡ end.TurnsUsed turns → IfSome (C.left conn.old)
+        (λ before. IsUsed turns before (C.left conn.new) (C.quiets conn.old) (C.quiets conn.new)) }
+    ensures conn { Counts (result ≡ end.ConnFailed) (C.faults conn.old) (C.faults conn.new) }
+    ensures sink { Counts (result ≡ end.SinkFailed) (O.faults out.old) (O.faults out.new) }
 {
     let mut sim = match Sim::new(alloc, plan) {
         Ok(sim) => sim,
@@ -82,18 +90,23 @@ pub fn simulate<C: Conn, O: Sink>(
     finish(out, &mut sim, ending)
 }
 
-/// Serves one connection by the plan that the words are: `ADDRESS LAST PLACES DROP GARBLE`.
+/// Serves one connection by the plan that the arguments are: `ADDRESS LAST PLACES DROP GARBLE`.
 pub fn sim<C: Conn, O: Sink>(alloc: Global, words: &WordList, conn: &mut C, out: &mut O) -> SimEnd
     ensures no_plan { plan_of words.now ≡ None → (result ≡ end.BadPlan) ⊎ (result ≡ end.NoMemory) }
     ensures bad_plan { result ≡ end.BadPlan → plan_of words.now ≡ None }
-    ensures unused { plan_of words.now ≡ None → outside (C.left conn.new) (C.written conn.new) (O.written out.new) ≡ outside (C.left conn.old) (C.written conn.old) (O.written out.old) }
-    ensures served { (plan : SimPlan) → plan_of words.now ≡ Some plan → IfSome (C.left conn.old) (λ input. Outcome result plan input (outside (C.left conn.old) (C.written conn.old) (O.written out.old)) (outside (C.left conn.new) (C.written conn.new) (O.written out.new))) }
-    ensures turns { (plan : SimPlan) (turns : ℕ) → plan_of words.now ≡ Some plan → result ≡ end.TurnsUsed turns → turns ≡ plan.turns }
-    ensures used { (turns : ℕ) → result ≡ end.TurnsUsed turns → IfSome (C.left conn.old) (λ before. IsUsed turns before (C.left conn.new) (C.quiets conn.old) (C.quiets conn.new)) }
-    ensures conn_counted { C.faults conn.old ≤ C.faults conn.new }
-    ensures sink_counted { O.faults out.old ≤ O.faults out.new }
-    ensures conn_failed { result ≡ end.ConnFailed → Rose (C.faults conn.old) (C.faults conn.new) }
-    ensures sink_failed { result ≡ end.SinkFailed → Rose (O.faults out.old) (O.faults out.new) }
+    ensures unused { plan_of words.now ≡ None
+        → outside (C.left conn.new) (C.written conn.new) (O.written out.new)
+        ≡ outside (C.left conn.old) (C.written conn.old) (O.written out.old) }
+    ensures served { (plan : SimPlan) → plan_of words.now ≡ Some plan
+        → IfSome (C.left conn.old) (λ input. Outcome result plan input
+        (outside (C.left conn.old) (C.written conn.old) (O.written out.old))
+        (outside (C.left conn.new) (C.written conn.new) (O.written out.new))) }
+    ensures turns { (plan : SimPlan) (turns : ℕ) → plan_of words.now ≡ Some plan
+        → result ≡ end.TurnsUsed turns → turns ≡ plan.turns }
+    ensures used { (turns : ℕ) → result ≡ end.TurnsUsed turns → IfSome (C.left conn.old)
+        (λ before. IsUsed turns before (C.left conn.new) (C.quiets conn.old) (C.quiets conn.new)) }
+    ensures conn { Counts (result ≡ end.ConnFailed) (C.faults conn.old) (C.faults conn.new) }
+    ensures sink { Counts (result ≡ end.SinkFailed) (O.faults out.old) (O.faults out.new) }
 {
     match read_plan(alloc, words) {
         Ok(Some(plan)) => simulate(alloc, conn, out, &plan),

@@ -17,7 +17,7 @@ struct Outcome {
     printed: Vec<u8>,
 }
 
-// A simulation by words, with the calls that are quiet or fail, and what it comes to.
+// A simulation by arguments, with the calls that are quiet or fail, and what it comes to.
 #[derive(Clone, Copy)]
 struct Row {
     words: &'static [&'static str],

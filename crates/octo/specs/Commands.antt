@@ -31,7 +31,7 @@ use Rattle.octo_words.specs.declared.command.WordsFault.TheVariants as words
 use Rattle.octo_outside.specs.declared.command_line.ArgumentsFault.{ArgumentsFault}
 use Rattle.octo_outside.specs.declared.command_line.ArgumentsFault.TheVariants as arguments
 
--- the bytes of a file give this, unless memory or the source fails
+-- the bytes of a file are read as this, unless memory or the source fails
 abbrev pub Given : Option Files → List ℕ → Report → (List ℕ → Type 0) → Type 0
 Given files file r Gives = IsTrouble r ⊎ FileGives files file Gives
 

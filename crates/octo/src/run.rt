@@ -1,7 +1,7 @@
 //! The commands of the print host.
 ghost use Rattle.std.specs.Prelude.{◌≡◌, ◌≢◌, ◌⊎◌, ◌≤◌, false, None};
 ghost use Rattle.std.specs.Option.{option_map};
-ghost use Rattle.octo_outside.specs.Told.{Rose, Steady};
+ghost use Rattle.octo_outside.specs.Told.{Counts, Steady};
 ghost use Rattle.octo_words.specs.Words.{IsInRange};
 ghost use Rattle.octo_report.specs.Status.{code_of};
 ghost use Rattle.octo_report.specs.declared.report.Report.TheVariants as report;
@@ -55,8 +55,8 @@ fn check<F: Source>(
     settings: &Option<FilePath>,
 ) -> Report
     ensures check { IsCheck (F.files files.old) settings.now file.now result }
-    ensures counted { F.faults files.old ≤ F.faults files.new }
-    ensures failed { result ≡ report.SourceFailed → Rose (F.faults files.old) (F.faults files.new) }
+    ensures counts { Counts (result ≡ report.SourceFailed)
+        (F.faults files.old) (F.faults files.new) }
 {
     match read_settings_of(alloc, files, named(settings)) {
         Ok(settings) => check_file(alloc, files, file.as_str(), &settings.limits),
@@ -121,7 +121,7 @@ fn carry_out<F: Source, L: Link, T: Clock>(
     }
 }
 
-// Why the arguments give no command.
+// Why the arguments are no command.
 fn unread(fault: WordsFault) -> HostEnd
     ensures { result ≡ record { report = unread fault; history = None } }
 {
@@ -224,7 +224,6 @@ pub fn octo<
         (at link.old clock.old keeper.old shelf.old doors.old)
         (at link.new clock.new keeper.new shelf.new doors.new) r
         × IsWritten r result.code (O.written out.old) (O.written out.new) }
-    ensures sink { result.code ≡ 8 → Rose (O.faults out.old) (O.faults out.new) }
 
     // Over a prompt link a print with 32 turns more than its plan has lines is done, or memory runs out.
     ensures prompt { HasEnough words.now (L.kind link.old) (F.files files.old)
@@ -237,7 +236,7 @@ pub fn octo<
     ensures kind { L.kind link.new ≡ L.kind link.old }
     ensures source_counted { F.faults files.old ≤ F.faults files.new }
     ensures link_counted { L.faults link.old ≤ L.faults link.new }
-    ensures sink_counted { O.faults out.old ≤ O.faults out.new }
+    ensures sink { Counts (result.code ≡ 8) (O.faults out.old) (O.faults out.new) }
 {
     let HostEnd { report, history } = run(
         rt, alloc, words, files, link, clock, keeper, shelf, doors,

@@ -6,7 +6,7 @@ use Rattle.std.specs.List.Sorted.{IsSortedBy}
 use Rattle.std.specs.Cmp.{IsStrictWeakOrder}
 
 module _ {X : Type 0} where
-  -- the place is behind a first element that comes before the new one, and else in front of it
+  -- the place is after a first element that comes before the new one, and else in front of it
   pub insert_past : (p : X → Bool) (row x : X) (xs : List X) → p x ≡ true → insert (x ∷ xs) (prefix_len p (x ∷ xs)) row ≡ x ∷ insert xs (prefix_len p xs) row
   insert_past p row x xs is = let e : 1 + prefix_len p xs ≡ suc (prefix_len p xs) = omega arith in rw (is, e) refl
 

@@ -29,11 +29,11 @@ held name rows = find (is_named name) rows
 abbrev pub with_row : UserRow → List UserRow → List UserRow
 with_row row rows = insert rows (prefix_len (λ r. is_before r.name row.name) rows) row
 
--- the rows but that of the name
+-- the rows but for the name's
 abbrev pub without : List ℕ → List UserRow → List UserRow
 without name rows = filter (λ row. not (is_named name row)) rows
 
--- a row in the place of that of its name
+-- a row in the place of its name's former one
 abbrev pub replaced : UserRow → List UserRow → List UserRow
 replaced row rows = slice_set rows (position_or_len (is_named row.name) rows) row
 

@@ -83,9 +83,10 @@ impl Users {
         }
     }
 
-    /// Refuses one more user where there are 1,000.
+    /// Refuses one more user if there are 1,000.
     fn check_room(&self) -> Result<(), UserRefusal>
-        ensures { MatchResult result (λ _. full self.now ≡ None) (λ refused. full self.now ≡ Some refused) }
+        ensures { MatchResult result (λ _. full self.now ≡ None)
+            (λ refused. full self.now ≡ Some refused) }
     {
         if self.rows().len() == MOST_USERS {
             return Err(UserRefusal::Full { count: 1_000 });

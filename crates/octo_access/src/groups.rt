@@ -106,7 +106,9 @@ impl Groups {
 
     /// Adds a group after the others. After a fault the groups are as before.
     pub fn add(&mut self, name: &Name, permissions: &[Permission]) -> Result<(), GroupFault>
-        ensures ok { OnOk result (self.new ≡ self.old ++ record { name = name.now; permissions = permissions.now } ∷ []) }
+        ensures ok { OnOk result
+            (self.new ≡ self.old
+            ++ record { name = name.now; permissions = permissions.now } ∷ []) }
         ensures err { OnErr result (self.new ≡ self.old) }
 
         ensures taken { (result ≡ Err GroupFault.Taken) ↔ (is_known self.old name.now ≡ true) }

@@ -8,7 +8,7 @@ use crate::row::UserRow;
 use byte_text::Name;
 use std::cmp::Ordering;
 
-/// The order of two users, that of the bytes of their names.
+/// The order of two users: the order of the bytes of their names.
 fn compared(row: &UserRow, other: &UserRow) -> Ordering
     ensures { result ≡ slice_cmp nat_cmp row.now.name other.now.name }
 {
@@ -22,7 +22,7 @@ pub(crate) fn is_before(row: &UserRow, name: &Name) -> bool
     row.name.as_bytes().cmp(name.as_bytes()) == Ordering::Less
 }
 
-/// Whether users stand in the order of their names.
+/// Whether users are in the order of their names.
 fn are_by_name(rows: &[UserRow]) -> bool
     ensures { MatchBool result (IsByName rows.now) (¬ (IsByName rows.now)) }
 {

@@ -143,7 +143,8 @@ impl Users {
     pub fn put(&mut self, row: &UserRow, policy: &Policy) -> Result<(), UserRefusal>
         ensures exact { MatchResult result
             (λ _. put_refusal policy.now row.now self.old ≡ None)
-            (λ refused. (refused ≡ refusal.NoMemory) ⊎ (put_refusal policy.now row.now self.old ≡ Some refused)) }
+            (λ refused. (refused ≡ refusal.NoMemory)
+            ⊎ (put_refusal policy.now row.now self.old ≡ Some refused)) }
         ensures rows { self.new ≡ (if is_ok result then with_row row.now self.old else self.old) }
     {
         self.check_new(row, policy)?;
@@ -158,7 +159,8 @@ impl Users {
     /// exist and that the former one was in. After a refusal the users are as before. Takes no memory.
     pub fn change(&mut self, row: &UserRow, policy: &Policy) -> Result<UserRow, UserRefusal>
         ensures exact { MatchResult result
-            (λ former. (change_refusal policy.now row.now self.old ≡ None) × (held row.now.name self.old ≡ Some former))
+            (λ former. (change_refusal policy.now row.now self.old ≡ None)
+            × (held row.now.name self.old ≡ Some former))
             (λ refused. change_refusal policy.now row.now self.old ≡ Some refused) }
         ensures rows { self.new ≡ (if is_ok result then replaced row.now self.old else self.old) }
     {
@@ -177,7 +179,8 @@ impl Users {
     /// Puts a row in the place of the one that has its name. Whoever has its key has that name.
     pub fn restore(&mut self, row: &UserRow)
         requires held { IsSome (held row.now.name self.old) }
-        requires key { IfSome (find (has_digest row.now.digest) self.old) (λ other. other.name ≡ row.now.name) }
+        requires key { IfSome (find (has_digest row.now.digest) self.old)
+            (λ other. other.name ≡ row.now.name) }
         ensures { self.new ≡ replaced row.now self.old }
     {
         let place = self.place_of(&row.name);

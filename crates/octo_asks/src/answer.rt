@@ -102,7 +102,7 @@ pub enum Answer {
     BadGroup {
         group: Name,
     },
-    /// The file gives no job; the fault is never want of memory.
+    /// The file has no job; the fault is never out of memory.
     BadFile {
         fault: FileFault,
     },

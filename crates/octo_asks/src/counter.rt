@@ -1,4 +1,4 @@
-//! The counter at which a print host takes asks and gives answers.
+//! The counter at which a print host takes asks and returns answers.
 use crate::{Answer, Ask, Entry};
 use desk_steps::Note;
 
@@ -54,7 +54,9 @@ pub trait Counter {
         requires given { IsGiven worker (given self.old) }
         requires open { closed self.old ≡ false }
 
-        ensures past { IfSome (given self.old) (λ one. Adds (past self.old) (past self.new) (entry.Call worker one.ask moment answer ∷ [])) }
+        ensures past { IfSome (given self.old)
+            (λ one. Adds (past self.old) (past self.new)
+            (entry.Call worker one.ask moment answer ∷ [])) }
         ensures given { given self.new ≡ None }
         ensures open { closed self.new ≡ false }
         ensures place { place self.new ≡ place self.old };

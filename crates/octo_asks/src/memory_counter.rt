@@ -16,13 +16,13 @@ use std::marker::Model;
 /// Workers with their asks, in a list.
 pub type AskList = ItemList<(u8, Ask)>;
 
-/// A counter that gives out a list of asks and keeps the history in memory.
+/// A counter that returns a list of asks and keeps the history in memory.
 #[derive(Drop)]
 pub struct MemoryCounter {
     asks: VecDeque<Asked>,
     given: Option<Given>,
     entries: Vec<Entry>,
-    // Whether no entry was lost for want of memory.
+    // Whether no entry was lost because memory ran out.
     is_whole: bool,
     closed: bool,
 }
@@ -34,7 +34,12 @@ impl Model for MemoryCounter {
 
     ghost Value = { CounterData };
 
-    ghost view = { λ c. record { asks = map ask_of c.asks.items; given = c.given; past = if c.is_whole then Some c.entries.items else None; closed = c.closed } };
+    ghost view = { λ c. record {
+      asks = map ask_of c.asks.items;
+      given = c.given;
+      past = if c.is_whole then Some c.entries.items else None;
+      closed = c.closed;
+    } };
 }
 
 // The asks with their copies, in order.
@@ -50,7 +55,7 @@ fn with_copies(alloc: Global, asks: AskList) -> Result<VecDeque<Asked>, AllocErr
 }
 
 impl MemoryCounter {
-    /// A counter that gives out these asks in order.
+    /// A counter that returns these asks in order.
     pub fn new(alloc: Global, asks: AskList) -> Result<MemoryCounter, AllocError>
         ensures { IfOk result (λ counter. counter ≡ new_counter asks) }
     {
@@ -63,7 +68,7 @@ impl MemoryCounter {
         })
     }
 
-    /// The history, `None` only after want of memory.
+    /// The history, `None` only after memory ran out.
     pub fn entries(&self) -> Option<&[Entry]>
         ensures { option_copied result ≡ self.now.past }
     {
@@ -123,7 +128,9 @@ impl Counter for MemoryCounter {
         requires open { self.old.closed ≡ false }
 
         ensures asks { self.new.asks ≡ self.old.asks }
-        ensures past { IfSome self.old.given (λ one. Adds self.old.past self.new.past (entry.Call worker one.ask moment answer ∷ [])) }
+        ensures past { IfSome self.old.given
+            (λ one. Adds self.old.past self.new.past
+            (entry.Call worker one.ask moment answer ∷ [])) }
         ensures given { self.new.given ≡ None }
         ensures open { self.new.closed ≡ false }
     {

@@ -1,4 +1,4 @@
--- What a door gives and takes back.
+-- What a door returns and takes back.
 use Rattle.std.specs.Prelude.{◌≡◌, ℕ, List, [], ◌∷◌, Option, Some}
 use Rattle.octo_doors.specs.declared.door.Knock.{Knock}
 use Rattle.octo_doors.specs.declared.door.Knock.TheVariants.{Conn, Quiet, Ended}

@@ -1,6 +1,6 @@
 //! A place at which connections come in.
-ghost use Rattle.std.specs.Prelude.{◌≡◌, ℕ, ◌≤◌, List, [], ◌∷◌, Bool, true, ◌||◌, Option, Some, is_err, IfOk, OnOk, OnErr, IfSome, IsOkAnd};
-ghost use Rattle.octo_outside.specs.Told.{Adds, Rose};
+ghost use Rattle.std.specs.Prelude.{◌≡◌, ℕ, List, [], ◌∷◌, Bool, true, ◌||◌, Option, Some, is_err, IfOk, OnOk, OnErr, IsErr, IfSome, IsOkAnd};
+ghost use Rattle.octo_outside.specs.Told.{Adds, Counts};
 ghost use Rattle.octo_doors.specs.Doors.{ConnState, Comes, IsNew, IsEnded, state_of};
 
 use octo_outside::{Conn, Failed};
@@ -33,7 +33,7 @@ pub trait Door {
     /// Whether a call has failed.
     ghost has_failed: { Self → Bool };
 
-    /// Takes the next connection. `Ended` comes if no further one will come, and after a failed call.
+    /// Takes the next connection. `Ended` comes if no more will come, and after a failed call.
     fn accept(&mut self) -> Result<Knock<Self::Conn>, Failed>
         // The connection is the first of those to come, and nothing was read, written or counted on it yet.
         ensures ok { IfOk result (λ knock. IfSome (coming self.old) (λ inputs.
@@ -47,14 +47,14 @@ pub trait Door {
         ensures after { has_failed self.old ≡ true → IsOkAnd result IsEnded }
 
         ensures served { served self.new ≡ served self.old }
-        ensures counted { faults self.old ≤ faults self.new }
-        ensures steady { OnOk result (faults self.new ≡ faults self.old) }
-        ensures failed { OnErr result (Rose (faults self.old) (faults self.new)) };
+        ensures counts { Counts (IsErr result) (faults self.old) (faults self.new) }
+        ensures steady { OnOk result (faults self.new ≡ faults self.old) };
 
     /// Takes a connection back.
     fn finish(&mut self, conn: Self::Conn)
         ensures served { Adds (served self.old) (served self.new)
-            (state_of Self.Conn.left Self.Conn.written Self.Conn.faults Self.Conn.quiets conn ∷ []) }
+            (state_of Self.Conn.left Self.Conn.written Self.Conn.faults Self.Conn.quiets conn
+            ∷ []) }
         ensures coming { coming self.new ≡ coming self.old }
         ensures has_failed { has_failed self.new ≡ has_failed self.old }
         ensures faults { faults self.new ≡ faults self.old };

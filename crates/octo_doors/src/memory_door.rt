@@ -8,12 +8,12 @@ use std::marker::Model;
 /// Connections in memory.
 pub type ConnList = ItemList<MemoryConn>;
 
-/// A door that gives connections in memory and keeps those that are given back.
+/// A door that returns connections in memory and keeps those that are given back.
 #[derive(Drop)]
 pub struct MemoryDoor {
     coming: VecDeque<MemoryConn>,
     served: ConnList,
-    // Whether each connection that was given back is kept: none was lost for want of memory.
+    // Whether each connection that was given back is kept: none was lost because memory ran out.
     keeps_all: bool,
     calls: Calls,
     has_failed: bool,
@@ -26,15 +26,24 @@ impl Model for MemoryDoor {
 
     ghost Value = { DoorData };
 
-    ghost view = { λ d. record { coming = d.coming.items; served = (if d.keeps_all then Some d.served else None); calls = d.calls.made; faults = d.calls.faults; has_failed = d.has_failed; quiet_at = d.quiet_at; fail_at = d.calls.fail_at } };
+    ghost view = { λ d. record {
+      coming = d.coming.items;
+      served = (if d.keeps_all then Some d.served else None);
+      calls = d.calls.made;
+      faults = d.calls.faults;
+      has_failed = d.has_failed;
+      quiet_at = d.quiet_at;
+      fail_at = d.calls.fail_at;
+    } };
 
-    ghost invariant = { λ d. All IsUntouched d.coming.items × (d.has_failed ≡ true → d.coming.items ≡ []) };
+    ghost invariant = { λ d. All IsUntouched d.coming.items
+        × (d.has_failed ≡ true → d.coming.items ≡ []) };
 }
 
 impl MemoryDoor {
-    ghost use Rattle.std.specs.Prelude.{◌≡◌, ◌≤◌, [], false, true, Some, All};
+    ghost use Rattle.std.specs.Prelude.{◌≡◌, [], false, true, Some, All, ⊤};
     ghost use Rattle.std.specs.Option.{option_copied};
-    ghost use Rattle.octo_outside.specs.Told.{Rose};
+    ghost use Rattle.octo_outside.specs.Told.{Counts};
     ghost use Rattle.octo_outside.specs.Memory.{is_listed, one_more};
     ghost use Rattle.octo_doors.specs.Memory.{DoorData, IsUntouched};
 
@@ -42,7 +51,16 @@ impl MemoryDoor {
     /// those of `quiet_at` find nothing yet if a connection is to come. Takes no memory.
     pub fn new(alloc: Global, conns: ConnList, quiet_at: CallList, fail_at: CallList) -> Self
         requires { All IsUntouched conns }
-        ensures { result ≡ record { coming = conns; served = Some []; calls = 0; faults = 0; has_failed = false; quiet_at = quiet_at; fail_at = fail_at } }
+        ensures { result
+            ≡ record {
+              coming = conns;
+              served = Some [];
+              calls = 0;
+              faults = 0;
+              has_failed = false;
+              quiet_at = quiet_at;
+              fail_at = fail_at;
+            } }
     {
         MemoryDoor {
             coming: VecDeque::from_vec(conns.into_items()),
@@ -68,18 +86,17 @@ impl MemoryDoor {
     fn is_quiet(&self) -> bool
         ensures { result ≡ is_listed self.now.quiet_at self.now.calls }
     {
-        let call = self.calls.made();
-        self.quiet_at
-            .as_slice()
-            .iter()
-            .any(|listed| *listed == call)
+        self.calls.is_latest_in(&self.quiet_at)
     }
 
     // A call fails: nothing comes any more.
     fn fail(&mut self) -> Failed
-        ensures after { self.new ≡ record self.old { coming = []; faults = one_more self.old.faults; has_failed = true } }
-        ensures counted { self.old.faults ≤ self.new.faults }
-        ensures rose { Rose self.old.faults self.new.faults }
+        ensures after { self.new ≡ record self.old {
+          coming = [];
+          faults = one_more self.old.faults;
+          has_failed = true;
+        } }
+        ensures counts { Counts ⊤ self.old.faults self.new.faults }
     {
         self.calls.fail();
         self.coming.clear();
@@ -89,8 +106,8 @@ impl MemoryDoor {
 }
 
 impl Door for MemoryDoor {
-    ghost use Rattle.std.specs.Prelude.{◌≡◌, ◌≤◌, ◌↔◌, ◌⊎◌, [], ◌∷◌, ◌++◌, true, ◌||◌, Some, None, map, option_map, is_err, IfOk, OnOk, OnErr, IsErr, IsOkAnd};
-    ghost use Rattle.octo_outside.specs.Told.{Adds, Rose};
+    ghost use Rattle.std.specs.Prelude.{◌≡◌, ◌↔◌, ◌⊎◌, [], ◌∷◌, ◌++◌, true, ◌||◌, Some, None, map, option_map, is_err, IfOk, OnOk, OnErr, IsErr, IsOkAnd};
+    ghost use Rattle.octo_outside.specs.Told.{Adds, Counts};
     ghost use Rattle.octo_outside.specs.Memory.{ConnData};
     ghost use Rattle.octo_doors.specs.Doors.{Comes, IsNew, IsEnded};
     ghost use Rattle.octo_doors.specs.Memory.{DoorData, conn_state, inputs_of, fails_next, after_failure, next_knock, after_knock};
@@ -113,14 +130,14 @@ impl Door for MemoryDoor {
 
         ensures ok { IfOk result (λ knock.
             Comes conn_state (inputs_of self.old.coming) knock (Some (inputs_of self.new.coming))) }
-        ensures fresh { IfOk result (λ knock. IsNew (λ (c : ConnData). c.faults) (λ (c : ConnData). c.quiets) knock) }
+        ensures fresh { IfOk result
+            (λ knock. IsNew (λ (c : ConnData). c.faults) (λ (c : ConnData). c.quiets) knock) }
         ensures err { OnErr result (self.new.coming ≡ []) }
         ensures has_failed { self.new.has_failed ≡ (self.old.has_failed || is_err result) }
         ensures after { self.old.has_failed ≡ true → IsOkAnd result IsEnded }
         ensures served { self.new.served ≡ self.old.served }
-        ensures counted { self.old.faults ≤ self.new.faults }
+        ensures counts { Counts (IsErr result) self.old.faults self.new.faults }
         ensures steady { OnOk result (self.new.faults ≡ self.old.faults) }
-        ensures failed { OnErr result (Rose self.old.faults self.new.faults) }
     {
         if self.calls.begin() && !self.has_failed {
             return Err(self.fail());
@@ -135,8 +152,12 @@ impl Door for MemoryDoor {
     }
 
     fn finish(&mut self, conn: MemoryConn)
-        ensures kept { (self.new ≡ record self.old { served = option_map (λ conns. conns ++ conn ∷ []) self.old.served }) ⊎ (self.new ≡ record self.old { served = None }) }
-        ensures served { Adds (option_map (map conn_state) self.old.served) (option_map (map conn_state) self.new.served) (conn_state conn ∷ []) }
+        ensures kept { (self.new ≡ record self.old {
+          served = option_map (λ conns. conns ++ conn ∷ []) self.old.served;
+        })
+            ⊎ (self.new ≡ record self.old { served = None }) }
+        ensures served { Adds (option_map (map conn_state) self.old.served)
+            (option_map (map conn_state) self.new.served) (conn_state conn ∷ []) }
         ensures coming { self.new.coming ≡ self.old.coming }
         ensures has_failed { self.new.has_failed ≡ self.old.has_failed }
         ensures faults { self.new.faults ≡ self.old.faults }

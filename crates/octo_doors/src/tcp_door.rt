@@ -1,7 +1,7 @@
 //! Doors over TCP.
-ghost use Rattle.std.specs.Prelude.{◌≡◌, ◌≤◌, ◌↔◌, ◌⊎◌, Some, false, true, IsTrue, pos};
+ghost use Rattle.std.specs.Prelude.{◌≡◌, ◌↔◌, ◌⊎◌, Some, false, true, IsTrue, pos, ⊤};
 ghost use Rattle.std.specs.IoError.{error_kind, raw_os_error};
-ghost use Rattle.octo_outside.specs.Told.{Rose};
+ghost use Rattle.octo_outside.specs.Told.{Counts};
 
 use crate::{Door, Doors, Knock};
 use octo_outside::Failed;
@@ -51,7 +51,10 @@ fn listen<R: Net<Listener = TcpListener, Stream = TcpStream>>(
 
 // Whether no connection came, and a later call may bring one: the peer gave up, or the system has no room now.
 fn may_pass(error: &io::Error) -> bool
-    ensures { IsTrue result ↔ (error_kind error.now ≡ ErrorKind.ConnectionAborted) ⊎ (error_kind error.now ≡ ErrorKind.OutOfMemory) ⊎ (raw_os_error error.now ≡ Some (pos 24)) ⊎ (raw_os_error error.now ≡ Some (pos 23)) ⊎ (raw_os_error error.now ≡ Some (pos 105)) }
+    ensures { IsTrue result
+        ↔ (error_kind error.now ≡ ErrorKind.ConnectionAborted)
+        ⊎ (error_kind error.now ≡ ErrorKind.OutOfMemory) ⊎ (raw_os_error error.now ≡ Some (pos 24))
+        ⊎ (raw_os_error error.now ≡ Some (pos 23)) ⊎ (raw_os_error error.now ≡ Some (pos 105)) }
 {
     matches!(
         error.kind(),
@@ -105,8 +108,7 @@ impl<R: Net<Listener = TcpListener, Stream = TcpStream> + Copy> TcpDoor<R> {
     }
 
     fn fail(&mut self) -> Failed
-        ensures counted { self.old.faults ≤ self.new.faults }
-        ensures rose { Rose self.old.faults self.new.faults }
+        ensures counts { Counts ⊤ self.old.faults self.new.faults }
         ensures has_failed { self.new.has_failed ≡ true }
     {
         self.listener = None;

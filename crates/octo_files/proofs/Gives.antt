@@ -1,4 +1,4 @@
--- What a file gives, by what was read of it.
+-- The job of a file, by what was read of it.
 use Rattle.std.proofs.Common.{◌≡◌, ◌<◌, ◌⊎◌, inl, inr, ℕ, ◌+◌, List, length, replicate, Option, Some, None, Result, Ok, Err, refl, sym, ap, ◌∙◌, arith, subst}
 use Rattle.std.specs.Prelude.{IfSome}
 use Rattle.std.proofs.lemmas.List.{length-replicate}
@@ -10,7 +10,7 @@ over_held : (all : Files) (file : List ℕ) (held : Option (List ℕ)) (most : �
 over_held all file None most Gives is over given = absurd over
 over_held all file (Some bytes) most Gives is over given = record { bytes = bytes; held = is; given = given bytes over }
 
--- a file over a size, all of which give the same
+-- a file over a size, all of which are read as the same
 pub over_gives : (files : Option Files) (file : List ℕ) (most : ℕ) (Gives : List ℕ → Type 0) → IfSome files (λ all. HoldsOver (all file) most) → ((bytes : List ℕ) → most < length bytes → Gives bytes) → FileGives files file Gives
 over_gives None file most Gives over given =
     let zero : ℕ = 0 in
@@ -19,13 +19,13 @@ over_gives None file most Gives over given =
     record { bytes = bytes; held = tt; given = given bytes (omega (arith, size)) }
 over_gives (Some all) file most Gives over given = over_held all file (all file) most Gives refl over given
 
--- what a file gives that a source records
+-- what a file that a source records is read as
 pub given_at : (all : Files) (file bytes : List ℕ) (Gives : List ℕ → Type 0) → FileGives (Some all) file Gives → all file ≡ Some bytes → Gives bytes
 given_at all file bytes Gives g held =
     let same : Some g.bytes ≡ Some bytes = sym g.held ∙ held in
     let is : g.bytes ≡ bytes = cc in
     subst Gives is g.given
 
--- a file that a recording source doesn't hold gives nothing
+-- a file that a recording source doesn't hold has no job
 pub absent_gives : (all : Files) (file : List ℕ) (Gives : List ℕ → Type 0) → FileGives (Some all) file Gives → all file ≡ None → ⊥
 absent_gives all file Gives g absent = absurd (cc)

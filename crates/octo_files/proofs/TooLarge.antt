@@ -1,4 +1,4 @@
--- What files over the greatest size give.
+-- What files over the greatest size are read as.
 use Rattle.std.proofs.Common.{◌≡◌, ◌<◌, ℕ, Bool, List, length, Option, None, Result, Err, refl, sym, ap}
 use Rattle.std.specs.Prelude.{if◌then◌else◌, nat_lt}
 use Rattle.std.proofs.lemmas.Bool.{lt-ltb, lt-leb}

@@ -8,7 +8,7 @@ use Rattle.octo_report.specs.declared.report.Report.TheVariants as report
 abbrev pub IsHeld : Option Files → List ℕ → List ℕ → Type 0
 IsHeld files file bytes = IfSome files (λ all. all file ≡ Some bytes)
 
--- the bytes of a file give this: a file that a recording source doesn't hold gives nothing
+-- the bytes of a file are read as this: a file that a recording source doesn't hold has no job
 pub record FileGives (files : Option Files) (file : List ℕ) (Gives : List ℕ → Type 0) : Type 0 where
   pub bytes : List ℕ
   pub held : IsHeld files file bytes

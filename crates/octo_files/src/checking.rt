@@ -1,6 +1,6 @@
 //! A check of a file.
 ghost use Rattle.std.specs.Prelude.{◌≡◌, ◌≢◌, ◌⊎◌, ◌↔◌, ◌≤◌, true, IsTrue};
-ghost use Rattle.octo_outside.specs.Told.{Rose};
+ghost use Rattle.octo_outside.specs.Told.{Counts};
 ghost use Rattle.octo_report.specs.declared.report.Report.TheVariants as report;
 ghost use Rattle.gcode_lines.specs.Job.{texts_of};
 ghost use Rattle.temp_rules.specs.Hot.{first_hot_of};
@@ -41,7 +41,8 @@ fn counts_of(job: &Job, targets: &Targets) -> Report
 
 /// Whether temperatures are within limits.
 fn are_within(targets: &Targets, limits: &Limits) -> bool
-    ensures { IsTrue result ↔ ((targets.now.tool ≤ limits.now.tool) × (targets.now.bed ≤ limits.now.bed)) }
+    ensures { IsTrue result
+        ↔ ((targets.now.tool ≤ limits.now.tool) × (targets.now.bed ≤ limits.now.bed)) }
 {
     targets.tool() <= u64::from(limits.tool) && targets.bed() <= u64::from(limits.bed)
 }
@@ -49,7 +50,8 @@ fn are_within(targets: &Targets, limits: &Limits) -> bool
 /// What a check finds of a job: its commands are read once, and a second time only to find the first that is too hot.
 #[tactic(auto, using(crate::proofs::Cool::cool_commands))]
 fn check_job(job: &Job, limits: &Limits) -> Report
-    ensures exact { result ≡ reported checked (unless_hot job.now (first_hot_of limits.now job.now.commands)) }
+    ensures exact { result
+        ≡ reported checked (unless_hot job.now (first_hot_of limits.now job.now.commands)) }
     ensures kind { is_check result ≡ true }
     ensures source { result ≢ report.SourceFailed }
 {
@@ -73,8 +75,8 @@ pub fn check_file<F: Source>(alloc: Global, files: &mut F, file: &str, limits: &
 
     // the source
     ensures files { F.files files.new ≡ F.files files.old }
-    ensures counted { F.faults files.old ≤ F.faults files.new }
-    ensures failed { result ≡ report.SourceFailed → Rose (F.faults files.old) (F.faults files.new) }
+    ensures counts { Counts (result ≡ report.SourceFailed)
+        (F.faults files.old) (F.faults files.new) }
 {
     match read_any_job(alloc, files, file) {
         Ok(job) => check_job(&job, limits),

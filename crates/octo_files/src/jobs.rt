@@ -1,6 +1,6 @@
 //! A file read into the job of its commands.
-ghost use Rattle.std.specs.Prelude.{◌≡◌, ◌≢◌, ◌⊎◌, ◌≤◌, Err, IfErr, IfOk, None, true};
-ghost use Rattle.octo_outside.specs.Told.{Rose};
+ghost use Rattle.std.specs.Prelude.{◌≡◌, ◌≢◌, ◌⊎◌, Err, IfErr, IfOk, None, true};
+ghost use Rattle.octo_outside.specs.Told.{Counts};
 ghost use Rattle.gcode_lines.specs.Commands.{job_of};
 ghost use Rattle.octo_report.specs.declared.report.Report.TheVariants as report;
 ghost use Rattle.temp_rules.specs.Hot.{first_hot_of};
@@ -45,8 +45,8 @@ pub(crate) fn read_any_job<F: Source>(
 
     // the source
     ensures files { F.files files.new ≡ F.files files.old }
-    ensures counted { F.faults files.old ≤ F.faults files.new }
-    ensures failed { result ≡ Err report.SourceFailed → Rose (F.faults files.old) (F.faults files.new) }
+    ensures counts { Counts (result ≡ Err report.SourceFailed)
+        (F.faults files.old) (F.faults files.new) }
 {
     match read_all(alloc, files, name, MOST_BYTES) {
         Ok(bytes) => take_job(alloc, bytes),
@@ -86,8 +86,8 @@ pub fn read_job<F: Source>(
 
     // the source
     ensures files { F.files files.new ≡ F.files files.old }
-    ensures counted { F.faults files.old ≤ F.faults files.new }
-    ensures failed { result ≡ Err report.SourceFailed → Rose (F.faults files.old) (F.faults files.new) }
+    ensures counts { Counts (result ≡ Err report.SourceFailed)
+        (F.faults files.old) (F.faults files.new) }
 {
     match read_any_job(alloc, files, name) {
         Ok(job) => within(limits, job),

@@ -1,6 +1,6 @@
 //! The measure of a file, and its rest.
-ghost use Rattle.std.specs.Prelude.{◌≡◌, ◌≢◌, ◌⊎◌, ◌≤◌, Ok, true};
-ghost use Rattle.octo_outside.specs.Told.{Rose};
+ghost use Rattle.std.specs.Prelude.{◌≡◌, ◌≢◌, ◌⊎◌, Ok, true};
+ghost use Rattle.octo_outside.specs.Told.{Counts};
 ghost use Rattle.gcode_lines.specs.Commands.{job_of};
 ghost use Rattle.octo_report.specs.declared.report.Report.TheVariants as report;
 ghost use Rattle.octo_files.specs.Measures.{measured, measure_report, is_measure, rested, is_rest, GoesOnFrom, IsRestReport};
@@ -36,8 +36,8 @@ pub fn measure_file<F: Source>(alloc: Global, files: &mut F, file: &str) -> Repo
 
     // the source
     ensures files { F.files files.new ≡ F.files files.old }
-    ensures counted { F.faults files.old ≤ F.faults files.new }
-    ensures failed { result ≡ report.SourceFailed → Rose (F.faults files.old) (F.faults files.new) }
+    ensures counts { Counts (result ≡ report.SourceFailed)
+        (F.faults files.old) (F.faults files.new) }
 {
     match read_any_job(alloc, files, file) {
         Ok(job) => measure_job(&job),
@@ -71,8 +71,8 @@ pub fn rest_of_file<F: Source>(alloc: Global, files: &mut F, file: &str, from: u
 
     // the source
     ensures files { F.files files.new ≡ F.files files.old }
-    ensures counted { F.faults files.old ≤ F.faults files.new }
-    ensures failed { result ≡ report.SourceFailed → Rose (F.faults files.old) (F.faults files.new) }
+    ensures counts { Counts (result ≡ report.SourceFailed)
+        (F.faults files.old) (F.faults files.new) }
 {
     match read_any_job(alloc, files, file) {
         Ok(job) => rest_of_job(alloc, &job, from),

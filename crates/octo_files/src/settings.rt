@@ -1,6 +1,6 @@
 //! The settings of a command.
-ghost use Rattle.std.specs.Prelude.{◌≡◌, ◌≢◌, ◌⊎◌, ◌≤◌, Err, IfErr, IfOk, Ok, true, IsUtf8};
-ghost use Rattle.octo_outside.specs.Told.{Rose};
+ghost use Rattle.std.specs.Prelude.{◌≡◌, ◌≢◌, ◌⊎◌, Err, IfErr, IfOk, Ok, true, IsUtf8};
+ghost use Rattle.octo_outside.specs.Told.{Counts};
 ghost use Rattle.octo_report.specs.declared.report.Report.TheVariants as report;
 ghost use Rattle.octo_settings.specs.Config.{plain_settings};
 ghost use Rattle.octo_settings.specs.Sound.{IsSettings};
@@ -44,8 +44,8 @@ fn read_settings_file<F: Source>(
 
     // the source
     ensures files { F.files files.new ≡ F.files files.old }
-    ensures counted { F.faults files.old ≤ F.faults files.new }
-    ensures failed { result ≡ Err report.SourceFailed → Rose (F.faults files.old) (F.faults files.new) }
+    ensures counts { Counts (result ≡ Err report.SourceFailed)
+        (F.faults files.old) (F.faults files.new) }
 {
     match read_all(alloc, files, name, MOST_BYTES) {
         Ok(bytes) => settings_of_bytes(alloc, bytes.as_slice()),
@@ -69,8 +69,8 @@ pub fn read_settings_of<F: Source>(
 
     // the source
     ensures files { F.files files.new ≡ F.files files.old }
-    ensures counted { F.faults files.old ≤ F.faults files.new }
-    ensures failed { result ≡ Err report.SourceFailed → Rose (F.faults files.old) (F.faults files.new) }
+    ensures counts { Counts (result ≡ Err report.SourceFailed)
+        (F.faults files.old) (F.faults files.new) }
 {
     match name {
         None => Ok(Settings::plain(alloc)),

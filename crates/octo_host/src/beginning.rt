@@ -4,7 +4,7 @@ ghost use Rattle.octo_access.specs.Rows.{IsUserTable};
 ghost use Rattle.octo_house.specs.Beginning.{IsMadeOf, BeginsOn};
 ghost use Rattle.octo_house.specs.State.{IsListed, session_of};
 ghost use Rattle.octo_keeper.specs.declared.tables.Tables.{Tables};
-ghost use Rattle.octo_outside.specs.Told.{Rose};
+ghost use Rattle.octo_outside.specs.Told.{Counts};
 ghost use Rattle.octo_settings.specs.Sound.{IsSettings};
 ghost use Rattle.print_queue.specs.Lawful.{IsLawful};
 ghost use Rattle.house_tables.specs.Kept.{IsKept};
@@ -76,12 +76,10 @@ pub(crate) fn begin_by<K: Keeper, S: Shelf>(
     ensures listed { IfOk result (λ house. IsListed (S.files shelf.new) house) }
 
     // Faults, by their counts.
-    ensures keeper_counted { K.faults keeper.old ≤ K.faults keeper.new }
-    ensures keeper_failed { IsErrOf result fault.KeeperFailed
-        → Rose (K.faults keeper.old) (K.faults keeper.new) }
-    ensures shelf_counted { S.faults shelf.old ≤ S.faults shelf.new }
-    ensures shelf_failed { IsErrOf result fault.ShelfFailed
-        → Rose (S.faults shelf.old) (S.faults shelf.new) }
+    ensures keeper { Counts (IsErrOf result fault.KeeperFailed)
+        (K.faults keeper.old) (K.faults keeper.new) }
+    ensures shelf { Counts (IsErrOf result fault.ShelfFailed)
+        (S.faults shelf.old) (S.faults shelf.new) }
 {
     let Settings {
         ports,

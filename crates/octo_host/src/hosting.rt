@@ -1,8 +1,8 @@
 //! The command `serve`: settings read, a host begun, and its doors served.
-ghost use Rattle.std.specs.Prelude.{◌≡◌, ◌≤◌, None, Some, false, true};
+ghost use Rattle.std.specs.Prelude.{◌≡◌, None, Some, false, true};
 ghost use Rattle.octo_files.specs.Settings.{HaveSettings, is_settings_refusal};
 ghost use Rattle.octo_house.specs.declared.faults.BeginFault.TheVariants as fault;
-ghost use Rattle.octo_outside.specs.Told.{Rose};
+ghost use Rattle.octo_outside.specs.Told.{Counts};
 ghost use Rattle.octo_report.specs.declared.report.Report.{Report};
 ghost use Rattle.octo_report.specs.declared.report.Report.TheVariants as report;
 ghost use Rattle.octo_serve.specs.Around.{link_state, keeper_state, shelf_state, door_state};
@@ -181,9 +181,8 @@ pub fn host<
 
     // The source, which is read before.
     ensures files { F.files files.new ≡ F.files files.old }
-    ensures source_counted { F.faults files.old ≤ F.faults files.new }
-    ensures source_failed { result.report ≡ host.Command report.SourceFailed
-        → Rose (F.faults files.old) (F.faults files.new) }
+    ensures source { Counts (result.report ≡ host.Command report.SourceFailed)
+        (F.faults files.old) (F.faults files.new) }
 {
     match read_settings_of(alloc, files, Some(settings)) {
         Ok(settings) => serve_by(rt, alloc, settings, link, clock, keeper, shelf, doors),

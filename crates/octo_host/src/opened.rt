@@ -1,6 +1,6 @@
 //! A keeper that was opened, or couldn't be.
-ghost use Rattle.std.specs.Prelude.{◌≡◌, ◌≤◌};
-ghost use Rattle.octo_outside.specs.Told.{Rose};
+ghost use Rattle.std.specs.Prelude.{◌≡◌};
+ghost use Rattle.octo_outside.specs.Told.{Counts};
 
 use octo_keeper::{Change, Keeper, KeeperFault, Tables};
 use std::alloc::Global;
@@ -32,8 +32,7 @@ impl<K: Keeper + Drop> Opened<K> {
     fn refuse(&mut self, fault: KeeperFault) -> KeeperFault
         ensures same { result ≡ fault }
         ensures keeper { self.new.keeper ≡ self.old.keeper }
-        ensures counted { self.old.faults ≤ self.new.faults }
-        ensures failed { fault ≡ KeeperFault.Failed → Rose self.old.faults self.new.faults }
+        ensures counts { Counts (fault ≡ KeeperFault.Failed) self.old.faults self.new.faults }
     {
         if fault == KeeperFault::Failed {
             self.faults = self.faults.saturating_add(1);

@@ -1,7 +1,7 @@
 //! How a command of the program ended, serving among them: its exit status and its text.
-ghost use Rattle.std.specs.Prelude.{◌≡◌, ◌≤◌, ◌++◌, [], codes, OnOk, OnErr};
+ghost use Rattle.std.specs.Prelude.{◌≡◌, ◌≤◌, ◌++◌, [], codes, OnOk, OnErr, IsErr};
 ghost use Rattle.arrayvec.specs.ArrayVec.{array_vec_len};
-ghost use Rattle.octo_outside.specs.Told.{Adds, AddsPrefix, Rose};
+ghost use Rattle.octo_outside.specs.Told.{Adds, AddsPrefix, Counts};
 ghost use Rattle.octo_host.specs.Reports.{host_code, host_text, calls_text};
 
 use arrayvec::ArrayVec;
@@ -70,8 +70,7 @@ pub fn write_host_report<O: Sink>(out: &mut O, report: &HostReport) -> Result<()
         (AddsPrefix (O.written out.old) (O.written out.new) (host_text report.now)) }
 
     // faults
-    ensures counted { O.faults out.old ≤ O.faults out.new }
-    ensures failed { OnErr result (Rose (O.faults out.old) (O.faults out.new)) }
+    ensures counts { Counts (IsErr result) (O.faults out.old) (O.faults out.new) }
 {
     match report {
         HostReport::Served { calls } => write_all(out, calls_text(*calls).as_slice()),

@@ -40,7 +40,7 @@ abbrev pub NotStored : Result (Unit {0}) Refusal → Bool → Known → Answer �
 NotStored allowed room k x = (refused_or allowed (full_unless room k) ≡ Some x)
     ⊎ ((x ≡ answer.NoMemory) ⊎ ((x ≡ answer.ShelfFault) × (refused_or allowed (full_unless room k) ≡ None)))
 
--- a file that was read is what its bytes give
+-- a file that was read is what its bytes are read as
 pub job-is : (held : Result JobData FileFault) (job : JobData) → (Ok job ≡ Err file_fault.NoMemory) ⊎ (Ok job ≡ held) → held ≡ Ok job
 job-is held job (inl is) = absurd (cc is)
 job-is held job (inr is) = sym is

@@ -38,7 +38,7 @@ pub unframed_at : (bytes : List ℕ) (spans : List HeaderSpan) (r : RequestSpans
 unframed_at bytes spans r within of short room none =
     (of.0, found_within bytes spans r of.0 within of.1 short room, sym (none ∙ ap framing_of of.1.fields))
 
--- the same of the first bytes, which are no more than so many
+-- the same of the first bytes, which are no more than this number
 never_more : (front rest : List ℕ) → NeverHasRequest front → NeverHasRequest (front ++ rest)
 never_more front rest never more =
     let Never : List ℕ → Type 0 = λ text. HasNoRequest text in

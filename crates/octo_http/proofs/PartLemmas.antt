@@ -67,7 +67,7 @@ ends_later bytes place short not_first none occurs =
       );
     }
 
--- bytes that can't become a part can't with more behind them
+-- bytes that can't become a part can't with more after them
 never_more : (part : Part) (front rest : List ℕ) → IsNoPart part front → IsNoPart part (front ++ rest)
 never_more Line front rest never = λ more.
     let No : List ℕ → Type 0 = λ text. HasNoChunkLine text in

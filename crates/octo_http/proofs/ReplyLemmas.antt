@@ -55,7 +55,7 @@ reason_short n =
     choose (n == 508) (codes "Loop Detected") _ (lit≤ tt) (choose (n == 510) (codes "Not Extended") _ (lit≤ tt) (
     choose (n == 511) (codes "Network Authentication Required") _ (lit≤ tt) (omega arith))))))))))))))))))))))))))))))))))))))))))))))))))))))))))))))
 
--- the phrase that a look-up gives
+-- the phrase that a look-up returns
 pub reason_found : (phrase : Option (List ℕ)) (n : ℕ) → phrase ≡ reason_phrase n → unwrap_or phrase [] ≡ reason_of n
 unfolding reason_of
 reason_found phrase n is = ap (λ o. unwrap_or o []) is

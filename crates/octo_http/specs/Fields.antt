@@ -36,7 +36,7 @@ abbrev pub or_else : Option (List ℕ) → Option (List ℕ) → Option (List �
 or_else None other = other
 or_else (Some value) other = Some value
 
--- the caller's key: the first X-Api-Key, else that of the first Authorization
+-- the caller's key: the first X-Api-Key, else the first Authorization's
 abbrev pub key_of : FieldList → Option (List ℕ)
 key_of fields =
     or_else (first_of (values (codes "X-Api-Key") fields)) (option_and_then bearer_of (first_of (values (codes "Authorization") fields)))

@@ -12,7 +12,7 @@ pub record IntakeData : Type 0 where
   pub patience : ℕ
   pub allowed : ℕ
 
--- the bytes at hand and then what the connection has left, where known, are this input
+-- the bytes at hand and then what the connection has left, if recorded, are this input
 pub record Holds (bytes : List ℕ) (left : Option (List ℕ)) (input : List ℕ) : Type 0 where
   pub rest : List ℕ
   pub known : left ≡ Some rest
@@ -30,7 +30,7 @@ Brings came.Quiet old new = (new.bytes ≡ old.bytes) × (new.allowed + 1 ≡ ol
 Brings came.Ended old new = new ≡ old
 Brings came.Failed old new = new ≡ old
 
--- what is known after a read that brought this: bytes come while there is patience, the end is that of the input, of which
+-- what is known after a read that brought this: bytes come while there is patience, the end is the input's end, of which
 -- these bytes were taken, and a failure was counted since the beginning
 abbrev pub Knows : Came → IntakeData → List ℕ → List ℕ → Option (List ℕ) → ℕ → ℕ → Type 0
 Knows came.Bytes i taken bytes left faults faults' = 0 < i.allowed
@@ -46,7 +46,7 @@ pub record Waits (old new : IntakeData) (faults faults' quiets quiets' : ℕ) : 
   pub counted : quiets' < 18446744073709551615 → quiets' + new.allowed ≡ quiets + old.allowed
   pub kept : faults ≤ faults'
 
--- why a reader reads no further after a read that brought this
+-- why a reader reads no more after a read that brought this
 abbrev pub IsPause : Came → IntakeData → MessageFault → Type 0
 IsPause c i Ended = c ≡ came.Ended
 IsPause c i ReadFault = c ≡ came.Failed

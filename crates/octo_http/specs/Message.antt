@@ -86,11 +86,11 @@ Answers input left (Err ReadFault) sent = IsUnfinished input left sent ⊎ IsLea
 Answers input left (Err NoMemory) sent = (n : ℕ) × (sent ≡ take n leave)
 Answers input left (Err (Slow n)) sent = IsUnfinished input left sent
 
--- something is written of which this holds, where known
+-- something is written of which this holds, if recorded
 abbrev pub Writes : Option (List ℕ) → Option (List ℕ) → (List ℕ → Type 0) → Type 0
 Writes old new Says = ((sent : List ℕ) × Says sent) × Became old new (λ _ added. Says added)
 
--- so many quiet reads, if their count shows it
+-- this number of quiet reads, if their count shows it
 abbrev pub IsSlow : ℕ → ℕ → ℕ → MessageFault → Type 0
 IsSlow patience quiets quiets' BadHead = Unit {0}
 IsSlow patience quiets quiets' HeadTooLarge = Unit {0}

@@ -18,7 +18,7 @@ crlf = 13 ∷ 10 ∷ []
 abbrev pub crlf_crlf : List ℕ
 crlf_crlf = 13 ∷ 10 ∷ 13 ∷ 10 ∷ []
 
--- the bytes are a chunk's line, which gives its size
+-- the bytes are a chunk's line, which has its size
 pub record IsChunkHead (line : List ℕ) (size : ℕ) : Type 0 where
   pub l : ChunkLine
   pub reads : ReadsChunkLine line l []
@@ -42,7 +42,7 @@ pub record HasNoEnd (input : List ℕ) : Type 0 where
   pub first : ¬ (OccursAt input crlf 0)
   pub later : Nowhere (OccursAt input crlf_crlf) 0 (length input + 1)
 
--- the bytes are this part; a line gives a size
+-- the bytes are this part; a line has a size
 abbrev pub IsPart : Part → List ℕ → ℕ → Type 0
 IsPart Line bytes size = IsChunkHead bytes size
 IsPart LineEnd bytes size = bytes ≡ crlf
@@ -72,7 +72,7 @@ pub data PartFault : Part → List ℕ → MessageFault → Type 0 where
   long_part : (part : Part) (input : List ℕ) → most_of part ≤ length input → IsPartial part (take (most_of part) input) → PartFault part input BadChunk
   cut_part : (part : Part) (input : List ℕ) → length input < most_of part → IsPartial part input → PartFault part input Ended
 
--- a look at the first bytes found the part, the number that it gives, and its length
+-- a look at the first bytes found the part, its number, and its length
 pub record IsFoundPart (part : Part) (bytes : List ℕ) (found : ℕ × ℕ) : Type 0 where
   pub within : found.1 ≤ length bytes
   pub is : IsPart part (take found.1 bytes) found.0

@@ -25,7 +25,7 @@ type_line Empty = []
 type_line Json = codes "Content-Type: application/json" ++ crlf
 type_line Bytes = codes "Content-Type: application/octet-stream" ++ crlf
 
--- all that stands before a body of n bytes; 204 has no length
+-- all that is before a body of n bytes; 204 has no length
 abbrev pub head_bytes : ℕ → ReplyKind → ℕ → List ℕ
 head_bytes status kind n =
     if status == 204 then first_lines status ++ crlf

@@ -27,7 +27,7 @@ IsFaultOf Says input left ReadFault = Unfinished Says input left
 IsFaultOf Says input left NoMemory = Unit {0}
 IsFaultOf Says input left (Slow n) = Unfinished Says input left
 
--- the fault is that of the input which was at hand and left, of which the last is left now
+-- the fault is the fault of the input which was at hand and left, of which the last is left now
 abbrev pub Stops : Grammar → List ℕ → Option (List ℕ) → Option (List ℕ) → MessageFault → Type 0
 Stops Says bytes left left' f = (input : List ℕ) → Holds bytes left input → IsFaultOf Says input left' f
 

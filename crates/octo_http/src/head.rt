@@ -66,7 +66,7 @@ fn key_of<'a>(fields: &FieldSpans<'a>) -> Option<&'a [u8]>
     }
 }
 
-// How many bytes of a target stand before its `?`.
+// How many bytes of a target are before its `?`.
 fn path_length(target: &[u8]) -> usize
     ensures { result ≡ prefix_len is_path_byte target.now }
 {

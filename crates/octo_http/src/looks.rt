@@ -28,7 +28,7 @@ impl Looks {
         memmem::find(&bytes[from..], mark).is_some()
     }
 
-    /// Whether to look at the bytes now, of which so many are looked at.
+    /// Whether to look at the bytes now, at most the first `most` of them.
     pub fn is_due(&mut self, bytes: &[u8], came: Came, mark: &[u8], most: usize) -> bool
         ensures limit { most ≤ length bytes.now → result ≡ true }
         ensures pause { came ≢ Came.Bytes → result ≡ true }
@@ -45,7 +45,7 @@ impl Looks {
     }
 }
 
-/// The first bytes, up to so many.
+/// The first `most` bytes, or all if there are fewer.
 pub fn front_of(bytes: &[u8], most: usize) -> &[u8]
     ensures { result.now ≡ take most bytes.now }
 {

@@ -1,6 +1,6 @@
 //! One message of a connection.
-ghost use Rattle.std.specs.Prelude.{◌≡◌, ◌<◌, ◌≤◌, ℕ, List, Some, Ok, Err, OnOk, OnErr, IfErr, IsErrOf};
-ghost use Rattle.octo_outside.specs.Told.{Adds, AddsPrefix, Rose};
+ghost use Rattle.std.specs.Prelude.{◌≡◌, ◌<◌, ℕ, List, Some, Ok, Err, OnOk, OnErr, IsErr, IfErr, IsErrOf};
+ghost use Rattle.octo_outside.specs.Told.{Adds, AddsPrefix, Counts};
 ghost use Rattle.octo_http.specs.Message.{has_body, leave, asked, message_of, Answers, Writes, IsPatient};
 
 use crate::MessageFault;
@@ -20,9 +20,9 @@ pub struct Message {
     pub method: Method,
     /// The target up to `?`.
     pub path: Blob,
-    /// The caller's key: the first X-Api-Key, else that of an `Authorization: Bearer`.
+    /// The caller's key: the first X-Api-Key, else the key of an `Authorization: Bearer`.
     pub key: Option<Blob>,
-    /// The body's type, as Content-Type gives it.
+    /// The body's type, as Content-Type names it.
     pub kind: Option<Blob>,
     /// Whether a length or chunks were given.
     pub sized: bool,
@@ -56,11 +56,11 @@ fn leave_for(head: &Head) -> &'static [u8]
 // Gives the client leave to send the body, if it waits for that.
 fn give_leave<C: Conn>(conn: &mut C, head: &Head) -> Result<(), Failed>
     ensures ok { OnOk result (Adds (C.written conn.old) (C.written conn.new) (asked head.now)) }
-    ensures err { OnErr result (AddsPrefix (C.written conn.old) (C.written conn.new) (asked head.now)) }
+    ensures err { OnErr result
+        (AddsPrefix (C.written conn.old) (C.written conn.new) (asked head.now)) }
     ensures left { C.left conn.new ≡ C.left conn.old }
     ensures quiets { C.quiets conn.new ≡ C.quiets conn.old }
-    ensures counted { C.faults conn.old ≤ C.faults conn.new }
-    ensures failed { OnErr result (Rose (C.faults conn.old) (C.faults conn.new)) }
+    ensures counts { Counts (IsErr result) (C.faults conn.old) (C.faults conn.new) }
 {
     send_all(conn, leave_for(head))?;
     Ok(())
@@ -98,13 +98,14 @@ pub fn read_message<C: Conn>(
 ) -> Result<Message, MessageFault>
     // What the input says is answered, and the leave to send a body is written before the body is read.
     ensures answer { (input : List ℕ) → C.left conn.old ≡ Some input
-        → Writes (C.written conn.old) (C.written conn.new) (Answers input (C.left conn.new) result) }
+        → Writes (C.written conn.old) (C.written conn.new)
+        (Answers input (C.left conn.new) result) }
     ensures bounded { AddsPrefix (C.written conn.old) (C.written conn.new) leave }
 
     // Counts.
     ensures patient { IsPatient patience (C.quiets conn.old) (C.quiets conn.new) result }
-    ensures counted { C.faults conn.old ≤ C.faults conn.new }
-    ensures failed { IsErrOf result MessageFault.ReadFault → Rose (C.faults conn.old) (C.faults conn.new) }
+    ensures counts { Counts (IsErrOf result MessageFault.ReadFault)
+        (C.faults conn.old) (C.faults conn.new) }
 {
     let mut intake = Intake::new(alloc, patience);
     let head = read_head(alloc, &mut intake, conn)?;

@@ -22,7 +22,7 @@ pub enum Part {
 #[derive(Clone, Copy, Debug, PartialEq, Eq)]
 pub enum Ending {
     Whole,
-    /// They are too few to tell.
+    /// They are too few for either.
     Cut,
     Other,
 }
@@ -92,7 +92,8 @@ fn look_line(bytes: &[u8]) -> Result<Option<(u64, usize)>, MessageFault>
 fn look_end(bytes: &[u8]) -> Result<Option<(u64, usize)>, MessageFault>
     ensures found { IfOk result (λ found. IfSome found (IsFoundPart Part.LineEnd bytes.now)) }
     ensures partial { IfOk result (λ found. IfNone found (IsPartial Part.LineEnd bytes.now)) }
-    ensures bad { IfErr result (λ f. (f ≡ MessageFault.BadChunk) × IsNoPart Part.LineEnd bytes.now) }
+    ensures bad { IfErr result
+        (λ f. (f ≡ MessageFault.BadChunk) × IsNoPart Part.LineEnd bytes.now) }
 {
     match ending_of(bytes) {
         Ending::Whole => Ok(Some((0, 2))),
@@ -123,7 +124,7 @@ fn look_trailers(bytes: &[u8]) -> Option<(u64, usize)>
     }
 }
 
-/// Looks for a part at the front of bytes: the number that it gives, and its length.
+/// Looks for a part at the front of bytes: its number, and its length.
 pub fn look_part(part: Part, bytes: &[u8]) -> Result<Option<(u64, usize)>, MessageFault>
     requires { length bytes.now ≤ most_of part }
     ensures found { IfOk result (λ found. IfSome found (IsFoundPart part bytes.now)) }

@@ -1,7 +1,7 @@
 //! The reply to a message.
-ghost use Rattle.std.specs.Prelude.{◌≡◌, ◌≤◌, ◌<◌, ◌+◌, ◌++◌, length, codes, decimal, OnOk, OnErr};
+ghost use Rattle.std.specs.Prelude.{◌≡◌, ◌≤◌, ◌<◌, ◌+◌, ◌++◌, length, codes, decimal, OnOk, OnErr, IsErr};
 ghost use Rattle.arrayvec.specs.ArrayVec.{array_vec_len};
-ghost use Rattle.octo_outside.specs.Told.{Adds, AddsPrefix, Rose};
+ghost use Rattle.octo_outside.specs.Told.{Adds, AddsPrefix, Counts};
 ghost use Rattle.octo_http.specs.Part.{crlf};
 ghost use Rattle.octo_http.specs.Reply.{reason_of, phrase_of, first_lines, type_line, head_bytes, sent_body, reply_bytes};
 
@@ -92,7 +92,8 @@ fn type_line(kind: ReplyKind) -> &'static [u8]
 // Adds the body's length and type.
 fn put_content(head: &mut ReplyHead, kind: ReplyKind, count: usize)
     requires { array_vec_len head.old ≤ 82 }
-    ensures items { head.new.items ≡ head.old.items ++ codes "Content-Length: " ++ decimal count ++ crlf ++ type_line kind }
+    ensures items { head.new.items
+        ≡ head.old.items ++ codes "Content-Length: " ++ decimal count ++ crlf ++ type_line kind }
     ensures few { array_vec_len head.new ≤ 160 }
 {
     append(head, b"Content-Length: ");
@@ -101,7 +102,7 @@ fn put_content(head: &mut ReplyHead, kind: ReplyKind, count: usize)
     append(head, type_line(kind));
 }
 
-// All that stands before the body.
+// All that is before the body.
 fn head_of(status: u16, kind: ReplyKind, count: usize) -> ReplyHead
     ensures { result.items ≡ head_bytes status kind count }
 {
@@ -127,12 +128,13 @@ fn sent_body(reply: &HttpReply) -> &[u8]
 
 /// Writes the bytes of a reply; after a failed call a prefix of them was written. Source: RFC 9112, section 4.
 pub fn write_reply<C: Conn>(conn: &mut C, reply: &HttpReply) -> Result<(), Failed>
-    ensures ok { OnOk result (Adds (C.written conn.old) (C.written conn.new) (reply_bytes reply.now)) }
-    ensures err { OnErr result (AddsPrefix (C.written conn.old) (C.written conn.new) (reply_bytes reply.now)) }
+    ensures ok { OnOk result
+        (Adds (C.written conn.old) (C.written conn.new) (reply_bytes reply.now)) }
+    ensures err { OnErr result
+        (AddsPrefix (C.written conn.old) (C.written conn.new) (reply_bytes reply.now)) }
     ensures left { C.left conn.new ≡ C.left conn.old }
     ensures quiets { C.quiets conn.new ≡ C.quiets conn.old }
-    ensures counted { C.faults conn.old ≤ C.faults conn.new }
-    ensures failed { OnErr result (Rose (C.faults conn.old) (C.faults conn.new)) }
+    ensures counts { Counts (IsErr result) (C.faults conn.old) (C.faults conn.new) }
 {
     let body = sent_body(reply);
     let head = head_of(reply.status, reply.kind, body.len());

@@ -10,7 +10,7 @@ Content-Type: multipart/form-data; boundary=XY\r\nContent-Length: 142\r\n\r\n\
 --XY\r\nContent-Disposition: form-data; name=\"file\"; filename=\"a.gcode\"\r\n\
 Content-Type: application/octet-stream\r\n\r\nG28 ; --XY\r\nG1 X10\n\r\n--XY--\r\n";
 
-// A connection that gives these bytes and never fails.
+// A connection that returns these bytes and never fails.
 fn conn_of(alloc: Global, input: &[u8]) -> Result<MemoryConn, AllocError> {
     MemoryConn::new(alloc, input, CallList::new(alloc), CallList::new(alloc))
 }

@@ -17,7 +17,7 @@ use Rattle.octo_keeper.specs.declared.tables.Tables.{Tables}
 use Rattle.octo_keeper.specs.Tables.{AreNumbered, AreSound}
 use Rattle.octo_keeper.specs.Sound.{is_apart, are_apart, is_whole, is_within, is_queue, is_alone, is_user_list, are_numbered_from, are_sound}
 
--- a test that all items pass gives what it tells of each
+-- a test that all items pass holds of each
 each_passes : {X : Type 0} (p : X → Bool) (P : X → Type 0) → ((x : X) → p x ≡ true → P x) → (xs : List X) → list_all p xs ≡ true → AllByRecursion P xs
 each_passes p P tells [] passes = tt
 each_passes p P tells (x ∷ xs) passes =

@@ -18,7 +18,7 @@ is_before name other = is_lt (slice_cmp nat_cmp name other)
 abbrev pub bytes_of : List ℕ → List ShelfFile → Option (List ℕ)
 bytes_of name files = option_map (λ (file : ShelfFile). file.bytes) (find (is_file name) files)
 
--- the files but that of a name
+-- the files but for a name's
 abbrev pub without_file : List ℕ → List ShelfFile → List ShelfFile
 without_file name files = filter (λ file. not (is_file name file)) files
 

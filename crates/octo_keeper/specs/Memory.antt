@@ -1,6 +1,6 @@
 -- The forms in memory.
-use Rattle.std.specs.Prelude.{ℕ, List}
-use Rattle.octo_outside.specs.Memory.{CallsData}
+use Rattle.std.specs.Prelude.{ℕ, Bool, List, if◌then◌else◌}
+use Rattle.octo_outside.specs.Memory.{CallsData, one_more, is_listed}
 use Rattle.octo_keeper.specs.declared.tables.Tables.{Tables}
 use Rattle.octo_keeper.specs.declared.shelf.ShelfFile.{ShelfFile}
 
@@ -13,3 +13,11 @@ pub record KeeperData : Type 0 where
 pub record ShelfData : Type 0 where
   pub files : List ShelfFile
   pub calls : CallsData
+
+-- whether the next call is to fail
+abbrev pub fails_next : CallsData → Bool
+fails_next calls = is_listed calls.fail_at (one_more calls.made)
+
+-- the calls after one more, which failed or didn't
+abbrev pub after_call : Bool → CallsData → CallsData
+after_call failed calls = record calls { made = one_more calls.made; faults = if failed then one_more calls.faults else calls.faults }

@@ -35,8 +35,8 @@ impl<T: Drop> From<AllocFailed<T>> for KeeperFault {
 
 /// What keeps the tables of a host.
 pub trait Keeper {
-    ghost use Rattle.std.specs.Prelude.{◌≡◌, ℕ, ◌≤◌, Option, option_map, IfOk, IfSome, OnOk, OnErr, IsErrOf};
-    ghost use Rattle.octo_outside.specs.Told.{Rose};
+    ghost use Rattle.std.specs.Prelude.{◌≡◌, ℕ, Option, option_map, IfOk, IfSome, OnOk, OnErr, IsErrOf};
+    ghost use Rattle.octo_outside.specs.Told.{Counts};
     ghost use Rattle.octo_keeper.specs.declared.tables.Tables.{Tables};
     ghost use Rattle.octo_keeper.specs.declared.keeper.KeeperFault.TheVariants as fault;
     ghost use Rattle.octo_keeper.specs.Tables.{changed, AreSound};
@@ -53,14 +53,13 @@ pub trait Keeper {
         ensures sound { IfOk result AreSound }
         ensures stays { tables self.new ≡ tables self.old }
 
-        ensures counted { faults self.old ≤ faults self.new }
-        ensures failed { IsErrOf result fault.Failed → Rose (faults self.old) (faults self.new) };
+        ensures counts { Counts (IsErrOf result fault.Failed) (faults self.old) (faults self.new) };
 
     /// Makes all of a change, or after a fault nothing of it. All rows that the change doesn't name stay.
     fn commit(&mut self, alloc: Global, change: &Change) -> Result<(), KeeperFault>
-        ensures ok { OnOk result (tables self.new ≡ option_map (changed change.now) (tables self.old)) }
+        ensures ok { OnOk result
+            (tables self.new ≡ option_map (changed change.now) (tables self.old)) }
         ensures err { OnErr result (tables self.new ≡ tables self.old) }
 
-        ensures counted { faults self.old ≤ faults self.new }
-        ensures failed { IsErrOf result fault.Failed → Rose (faults self.old) (faults self.new) };
+        ensures counts { Counts (IsErrOf result fault.Failed) (faults self.old) (faults self.new) };
 }

@@ -25,7 +25,11 @@ impl MemoryKeeper {
 
     /// A keeper of these tables whose calls with these numbers, from 1, fail; takes no memory.
     pub fn new(tables: Tables, fail_at: CallList) -> Self
-        ensures { result ≡ record { tables = tables; calls = record { made = 0; faults = 0; fail_at = fail_at } } }
+        ensures { result
+            ≡ record {
+              tables = tables;
+              calls = record { made = 0; faults = 0; fail_at = fail_at };
+            } }
     {
         MemoryKeeper {
             tables,
@@ -42,12 +46,12 @@ impl MemoryKeeper {
 }
 
 impl Keeper for MemoryKeeper {
-    ghost use Rattle.std.specs.Prelude.{◌≡◌, ◌≤◌, ◌↔◌, ◌⊎◌, true, false, Some, IfOk, OnOk, OnErr, IsErrOf};
-    ghost use Rattle.octo_outside.specs.Told.{Rose};
+    ghost use Rattle.std.specs.Prelude.{◌≡◌, ◌↔◌, ◌⊎◌, ◌||◌, true, false, not, Some, IfOk, OnOk, OnErr, IsErrOf};
+    ghost use Rattle.octo_outside.specs.Told.{Counts};
     ghost use Rattle.octo_outside.specs.Memory.{one_more, is_listed};
     ghost use Rattle.octo_keeper.specs.declared.keeper.KeeperFault.TheVariants as fault;
     ghost use Rattle.octo_keeper.specs.Tables.{changed, AreSound};
-    ghost use Rattle.octo_keeper.specs.Memory.{KeeperData};
+    ghost use Rattle.octo_keeper.specs.Memory.{KeeperData, fails_next, after_call};
     ghost use Rattle.octo_keeper.specs.Sound.{are_sound};
 
     ghost tables = { λ k. Some k.tables };
@@ -58,11 +62,14 @@ impl Keeper for MemoryKeeper {
         ensures ok { IfOk result (λ loaded. loaded ≡ self.old.tables) }
         ensures sound { IfOk result AreSound }
         ensures stays { self.new.tables ≡ self.old.tables }
+        ensures calls { self.new.calls ≡ after_call
+            (fails_next self.old.calls || not (are_sound self.old.tables)) self.old.calls }
 
         ensures fails { IsErrOf result fault.Failed
-            ↔ ((is_listed self.old.calls.fail_at (one_more self.old.calls.made) ≡ true) ⊎ (are_sound self.old.tables ≡ false)) }
-        ensures counted { self.old.calls.faults ≤ self.new.calls.faults }
-        ensures failed { IsErrOf result fault.Failed → Rose self.old.calls.faults self.new.calls.faults }
+            ↔ ((is_listed self.old.calls.fail_at (one_more self.old.calls.made) ≡ true)
+            ⊎ (are_sound self.old.tables ≡ false)) }
+        ensures counts { Counts (IsErrOf result fault.Failed)
+            self.old.calls.faults self.new.calls.faults }
     {
         if self.calls.begin() {
             self.calls.fail();
@@ -81,10 +88,12 @@ impl Keeper for MemoryKeeper {
     fn commit(&mut self, alloc: Global, change: &Change) -> Result<(), KeeperFault>
         ensures ok { OnOk result (self.new.tables ≡ changed change.now self.old.tables) }
         ensures err { OnErr result (self.new.tables ≡ self.old.tables) }
+        ensures calls { self.new.calls ≡ after_call (fails_next self.old.calls) self.old.calls }
 
-        ensures fails { IsErrOf result fault.Failed ↔ (is_listed self.old.calls.fail_at (one_more self.old.calls.made) ≡ true) }
-        ensures counted { self.old.calls.faults ≤ self.new.calls.faults }
-        ensures failed { IsErrOf result fault.Failed → Rose self.old.calls.faults self.new.calls.faults }
+        ensures fails { IsErrOf result fault.Failed
+            ↔ (is_listed self.old.calls.fail_at (one_more self.old.calls.made) ≡ true) }
+        ensures counts { Counts (IsErrOf result fault.Failed)
+            self.old.calls.faults self.new.calls.faults }
     {
         if self.calls.begin() {
             self.calls.fail();

@@ -26,7 +26,8 @@ impl MemoryShelf {
 
     /// An empty shelf whose calls with these numbers, from 1, fail; takes no memory.
     pub fn new(alloc: Global, fail_at: CallList) -> Self
-        ensures { result ≡ record { files = []; calls = record { made = 0; faults = 0; fail_at = fail_at } } }
+        ensures { result
+            ≡ record { files = []; calls = record { made = 0; faults = 0; fail_at = fail_at } } }
     {
         MemoryShelf {
             files: Vec::new(alloc),
@@ -36,12 +37,12 @@ impl MemoryShelf {
 }
 
 impl Shelf for MemoryShelf {
-    ghost use Rattle.std.specs.Prelude.{◌≡◌, ◌≤◌, ◌↔◌, true, Some, IfOk, OnOk, OnErr, IsErrOf};
-    ghost use Rattle.octo_outside.specs.Told.{Rose};
+    ghost use Rattle.std.specs.Prelude.{◌≡◌, ◌↔◌, true, Some, IfOk, OnOk, OnErr, IsErrOf};
+    ghost use Rattle.octo_outside.specs.Told.{Counts};
     ghost use Rattle.octo_outside.specs.Memory.{one_more, is_listed};
     ghost use Rattle.octo_keeper.specs.declared.shelf.ShelfFault.TheVariants as fault;
     ghost use Rattle.octo_keeper.specs.Files.{bytes_of, sizes_of, with_file, without_file};
-    ghost use Rattle.octo_keeper.specs.Memory.{ShelfData};
+    ghost use Rattle.octo_keeper.specs.Memory.{ShelfData, fails_next, after_call};
 
     ghost files = { λ s. Some s.files };
 
@@ -50,10 +51,12 @@ impl Shelf for MemoryShelf {
     fn list(&mut self, alloc: Global) -> Result<FileList, ShelfFault>
         ensures ok { IfOk result (λ list. list ≡ sizes_of self.old.files) }
         ensures stays { self.new.files ≡ self.old.files }
+        ensures calls { self.new.calls ≡ after_call (fails_next self.old.calls) self.old.calls }
 
-        ensures fails { IsErrOf result fault.Failed ↔ (is_listed self.old.calls.fail_at (one_more self.old.calls.made) ≡ true) }
-        ensures counted { self.old.calls.faults ≤ self.new.calls.faults }
-        ensures failed { IsErrOf result fault.Failed → Rose self.old.calls.faults self.new.calls.faults }
+        ensures fails { IsErrOf result fault.Failed
+            ↔ (is_listed self.old.calls.fail_at (one_more self.old.calls.made) ≡ true) }
+        ensures counts { Counts (IsErrOf result fault.Failed)
+            self.old.calls.faults self.new.calls.faults }
     {
         if self.calls.begin() {
             self.calls.fail();
@@ -68,10 +71,12 @@ impl Shelf for MemoryShelf {
     fn get(&mut self, alloc: Global, name: &Name) -> Result<Option<Blob>, ShelfFault>
         ensures ok { IfOk result (λ bytes. bytes ≡ bytes_of name.now self.old.files) }
         ensures stays { self.new.files ≡ self.old.files }
+        ensures calls { self.new.calls ≡ after_call (fails_next self.old.calls) self.old.calls }
 
-        ensures fails { IsErrOf result fault.Failed ↔ (is_listed self.old.calls.fail_at (one_more self.old.calls.made) ≡ true) }
-        ensures counted { self.old.calls.faults ≤ self.new.calls.faults }
-        ensures failed { IsErrOf result fault.Failed → Rose self.old.calls.faults self.new.calls.faults }
+        ensures fails { IsErrOf result fault.Failed
+            ↔ (is_listed self.old.calls.fail_at (one_more self.old.calls.made) ≡ true) }
+        ensures counts { Counts (IsErrOf result fault.Failed)
+            self.old.calls.faults self.new.calls.faults }
     {
         if self.calls.begin() {
             self.calls.fail();
@@ -86,10 +91,12 @@ impl Shelf for MemoryShelf {
     fn put(&mut self, alloc: Global, name: &Name, bytes: &[u8]) -> Result<(), ShelfFault>
         ensures ok { OnOk result (self.new.files ≡ with_file name.now bytes.now self.old.files) }
         ensures err { OnErr result (self.new.files ≡ self.old.files) }
+        ensures calls { self.new.calls ≡ after_call (fails_next self.old.calls) self.old.calls }
 
-        ensures fails { IsErrOf result fault.Failed ↔ (is_listed self.old.calls.fail_at (one_more self.old.calls.made) ≡ true) }
-        ensures counted { self.old.calls.faults ≤ self.new.calls.faults }
-        ensures failed { IsErrOf result fault.Failed → Rose self.old.calls.faults self.new.calls.faults }
+        ensures fails { IsErrOf result fault.Failed
+            ↔ (is_listed self.old.calls.fail_at (one_more self.old.calls.made) ≡ true) }
+        ensures counts { Counts (IsErrOf result fault.Failed)
+            self.old.calls.faults self.new.calls.faults }
     {
         if self.calls.begin() {
             self.calls.fail();
@@ -104,11 +111,13 @@ impl Shelf for MemoryShelf {
     fn remove(&mut self, _alloc: Global, name: &Name) -> Result<(), ShelfFault>
         ensures ok { OnOk result (self.new.files ≡ without_file name.now self.old.files) }
         ensures err { OnErr result (self.new.files ≡ self.old.files) }
+        ensures calls { self.new.calls ≡ after_call (fails_next self.old.calls) self.old.calls }
 
-        ensures fails { IsErrOf result fault.Failed ↔ (is_listed self.old.calls.fail_at (one_more self.old.calls.made) ≡ true) }
+        ensures fails { IsErrOf result fault.Failed
+            ↔ (is_listed self.old.calls.fail_at (one_more self.old.calls.made) ≡ true) }
         ensures memory { IsErrOf result fault.NoMemory → ⊥ }
-        ensures counted { self.old.calls.faults ≤ self.new.calls.faults }
-        ensures failed { IsErrOf result fault.Failed → Rose self.old.calls.faults self.new.calls.faults }
+        ensures counts { Counts (IsErrOf result fault.Failed)
+            self.old.calls.faults self.new.calls.faults }
     {
         if self.calls.begin() {
             self.calls.fail();

@@ -46,8 +46,8 @@ pub type FileList = ItemList<(Name, u64)>;
 
 /// What keeps the files of a host: a map from names to bytes.
 pub trait Shelf {
-    ghost use Rattle.std.specs.Prelude.{◌≡◌, ℕ, ◌≤◌, List, Option, option_map, IfOk, IfSome, OnOk, OnErr, IsErrOf};
-    ghost use Rattle.octo_outside.specs.Told.{Rose};
+    ghost use Rattle.std.specs.Prelude.{◌≡◌, ℕ, List, Option, option_map, IfOk, IfSome, OnOk, OnErr, IsErrOf};
+    ghost use Rattle.octo_outside.specs.Told.{Counts};
     ghost use Rattle.octo_keeper.specs.declared.shelf.ShelfFile.{ShelfFile};
     ghost use Rattle.octo_keeper.specs.declared.shelf.ShelfFault.TheVariants as fault;
     ghost use Rattle.octo_keeper.specs.Files.{bytes_of, sizes_of, with_file, without_file};
@@ -63,30 +63,29 @@ pub trait Shelf {
         ensures ok { IfOk result (λ list. IfSome (files self.old) (λ held. list ≡ sizes_of held)) }
         ensures stays { files self.new ≡ files self.old }
 
-        ensures counted { faults self.old ≤ faults self.new }
-        ensures failed { IsErrOf result fault.Failed → Rose (faults self.old) (faults self.new) };
+        ensures counts { Counts (IsErrOf result fault.Failed) (faults self.old) (faults self.new) };
 
     /// The bytes of a file, `None` if there is no file of that name.
     fn get(&mut self, alloc: Global, name: &Name) -> Result<Option<Blob>, ShelfFault>
-        ensures ok { IfOk result (λ bytes. IfSome (files self.old) (λ held. bytes ≡ bytes_of name.now held)) }
+        ensures ok { IfOk result
+            (λ bytes. IfSome (files self.old) (λ held. bytes ≡ bytes_of name.now held)) }
         ensures stays { files self.new ≡ files self.old }
 
-        ensures counted { faults self.old ≤ faults self.new }
-        ensures failed { IsErrOf result fault.Failed → Rose (faults self.old) (faults self.new) };
+        ensures counts { Counts (IsErrOf result fault.Failed) (faults self.old) (faults self.new) };
 
     /// Sets the bytes of that name alone.
     fn put(&mut self, alloc: Global, name: &Name, bytes: &[u8]) -> Result<(), ShelfFault>
-        ensures ok { OnOk result (files self.new ≡ option_map (with_file name.now bytes.now) (files self.old)) }
+        ensures ok { OnOk result
+            (files self.new ≡ option_map (with_file name.now bytes.now) (files self.old)) }
         ensures err { OnErr result (files self.new ≡ files self.old) }
 
-        ensures counted { faults self.old ≤ faults self.new }
-        ensures failed { IsErrOf result fault.Failed → Rose (faults self.old) (faults self.new) };
+        ensures counts { Counts (IsErrOf result fault.Failed) (faults self.old) (faults self.new) };
 
     /// Takes the file of that name alone out, if there is one.
     fn remove(&mut self, alloc: Global, name: &Name) -> Result<(), ShelfFault>
-        ensures ok { OnOk result (files self.new ≡ option_map (without_file name.now) (files self.old)) }
+        ensures ok { OnOk result
+            (files self.new ≡ option_map (without_file name.now) (files self.old)) }
         ensures err { OnErr result (files self.new ≡ files self.old) }
 
-        ensures counted { faults self.old ≤ faults self.new }
-        ensures failed { IsErrOf result fault.Failed → Rose (faults self.old) (faults self.new) };
+        ensures counts { Counts (IsErrOf result fault.Failed) (faults self.old) (faults self.new) };
 }

@@ -1,8 +1,8 @@
--- How additions to what is told join, and how counts of faults do.
-use Rattle.std.proofs.Common.{◌≡◌, ℕ, ◌≤◌, List, [], ◌++◌, Option, refl, sym, ap, ◌∙◌, append_assoc, append-nil, subst, arith}
-use Rattle.octo_outside.specs.Told.{Became, Adds, Rose, Steady}
+-- How additions to what is recorded join, and how counts of faults do.
+use Rattle.std.proofs.Common.{◌≡◌, ℕ, ◌≤◌, ◌⊎◌, inl, inr, List, [], ◌++◌, Option, refl, sym, ap, ◌∙◌, append_assoc, append-nil, subst, arith}
+use Rattle.octo_outside.specs.Told.{Became, Adds, Rose, Counts, Steady}
 
--- two additions one behind the other
+-- two additions one after the other
 pub became_then : {A : Type 0} (old mid new : Option (List A)) (P Q R : List A → List A → Type 0) → Became old mid P → Became mid new Q → ((past added more : List A) → P past added → Q (past ++ added) more → R past (added ++ more)) → Became old new R
 became_then {A} old mid new P Q R first second joined now e =
     let later = second now e in
@@ -25,7 +25,7 @@ became_so old new P Q grew so now e =
     let w = grew now e in
     (w.0, w.1, w.2, w.3, so w.0 w.1 w.4)
 
--- two lists added one behind the other
+-- two lists added one after the other
 pub adds_then : {A : Type 0} (old mid new : Option (List A)) (xs ys : List A) → Adds old mid xs → Adds mid new ys → Adds old new (xs ++ ys)
 adds_then {A} old mid new xs ys first second =
     became_then old mid new (λ _ added. added ≡ xs) (λ _ added. added ≡ ys) (λ _ added. added ≡ xs ++ ys) first second
@@ -42,6 +42,14 @@ rose_before before mid after rose later below = omega (arith, rose below)
 -- a count that doesn't fall and then rises has risen
 pub rose_after : (before mid after : ℕ) → before ≤ mid → mid ≤ after → Rose mid after → Rose before after
 rose_after before mid after first second rose below = grind (arith, rose)
+
+-- the count after two calls, one of which failed if both together did
+pub counts_then : (A B C : Type 0) (before mid after : ℕ) → Counts A before mid → Counts B mid after → (C → A ⊎ B) → Counts C before after
+counts_then A B C before mid after first second which = record { later = omega (arith, first.later, second.later); rose = λ failed. by (which failed) }
+  where
+    by : A ⊎ B → Rose before after
+    by (inl failed) = rose_before before mid after (first.rose failed) second.later
+    by (inr failed) = rose_after before mid after first.later second.later (second.rose failed)
 
 -- what didn't rise over all didn't rise in a part
 pub steady_before : (before mid after : ℕ) → Steady before after → before ≤ mid → mid ≤ after → Steady before mid

@@ -63,7 +63,7 @@ one_more count = min (count + 1) 18446744073709551615
 abbrev pub is_listed : List ℕ → ℕ → Bool
 is_listed calls call = list_any (λ c. c == call) calls
 
--- what the next read of a connection gets, unless it fails: nothing yet where that call is listed and something is left
+-- what the next read of a connection gets, unless it fails: nothing yet if that call is listed and something is left
 abbrev pub next_got : ConnData → ℕ → Got
 next_got c room =
     if is_none c.left then Ended else if is_listed c.quiet_at (one_more c.calls) then Quiet else Bytes (min room (length c.left))

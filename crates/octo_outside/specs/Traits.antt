@@ -1,4 +1,4 @@
--- What the calls of the outside give and take.
+-- What the calls of the outside return and take.
 use Rattle.std.specs.Prelude.{◌≡◌, ℕ, ◌<◌, ◌≤◌, List, [], ◌++◌, Option, Some, None, IsSome, length, take, drop}
 use Rattle.octo_outside.specs.Memory.{one_more}
 use Rattle.octo_outside.specs.declared.conn.Got.{Got}
@@ -19,7 +19,7 @@ pub record ReadsNext (before : List ℕ) (n : ℕ) (into : List ℕ) (after : Op
   pub next : take n into ≡ take n before
   pub rest : after ≡ Some (drop n before)
 
--- a read of a source: the next bytes, and none only where nothing was left
+-- a read of a source: the next bytes, and none only if nothing was left
 pub record Reads (before : List ℕ) (n : ℕ) (into : List ℕ) (after : Option (List ℕ)) : Type 0 where
   pub reads : ReadsNext before n into after
   pub ended : (n ≡ 0) → before ≡ []
@@ -42,7 +42,7 @@ quiets_after quiets (Bytes n) = quiets
 quiets_after quiets Quiet = one_more quiets
 quiets_after quiets Ended = quiets
 
--- a moment that isn't before another, where both are told
+-- a moment that isn't before another, if both are recorded
 abbrev pub NotBefore : Option ℕ → Option ℕ → Type 0
 NotBefore before None = Unit {0}
 NotBefore None (Some now) = ⊥

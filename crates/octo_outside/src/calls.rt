@@ -19,8 +19,8 @@ impl Model for Calls {
 }
 
 impl Calls {
-    ghost use Rattle.std.specs.Prelude.{◌≡◌, ◌≤◌};
-    ghost use Rattle.octo_outside.specs.Told.{Rose};
+    ghost use Rattle.std.specs.Prelude.{◌≡◌, ⊤};
+    ghost use Rattle.octo_outside.specs.Told.{Counts};
     ghost use Rattle.octo_outside.specs.Memory.{CallsData, one_more, is_listed};
 
     /// No call yet; those with these numbers, counted from 1, are to fail. Takes no memory.
@@ -41,21 +41,27 @@ impl Calls {
         self.made
     }
 
+    /// Whether the latest call is one of these.
+    pub fn is_latest_in(&self, list: &CallList) -> bool
+        ensures { result ≡ is_listed list.now self.now.made }
+    {
+        let call = self.made;
+        list.as_slice().iter().any(|listed| *listed == call)
+    }
+
     /// Counts a call, and says whether it is one of those that are to fail.
     pub fn begin(&mut self) -> bool
         ensures fails { result ≡ is_listed self.old.fail_at (one_more self.old.made) }
         ensures counts { self.new ≡ record self.old { made = one_more self.old.made } }
     {
         self.made = self.made.saturating_add(1);
-        let call = self.made;
-        self.fail_at.as_slice().iter().any(|listed| *listed == call)
+        self.is_latest_in(&self.fail_at)
     }
 
     /// Counts a failed call.
     pub fn fail(&mut self)
-        ensures counts { self.new ≡ record self.old { faults = one_more self.old.faults } }
-        ensures counted { self.old.faults ≤ self.new.faults }
-        ensures rose { Rose self.old.faults self.new.faults }
+        ensures after { self.new ≡ record self.old { faults = one_more self.old.faults } }
+        ensures counts { Counts ⊤ self.old.faults self.new.faults }
     {
         self.faults = self.faults.saturating_add(1);
     }

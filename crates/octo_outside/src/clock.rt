@@ -7,7 +7,7 @@ use std::marker::Model;
 
 /// A clock in milliseconds. It cannot fail.
 pub trait Clock {
-    /// The moment at which it stands, where told.
+    /// The moment that it shows, if recorded.
     ghost moment: { Self → Option ℕ };
 
     /// The moment; it stays.
@@ -34,7 +34,7 @@ impl Model for MemoryClock {
 }
 
 impl MemoryClock {
-    /// A clock that stands at this moment, and whose rests add this step, both in milliseconds.
+    /// A clock that shows this moment, and whose rests add this step, both in milliseconds.
     pub fn new(moment: u64, step: u64) -> Self
         ensures { result ≡ record { moment = moment; step = step } }
     {
@@ -53,7 +53,9 @@ impl Clock for MemoryClock {
     }
 
     fn rest(&mut self)
-        ensures stepped { self.new ≡ record self.old { moment = min (self.old.moment + self.old.step) 18446744073709551615 } }
+        ensures stepped { self.new ≡ record self.old {
+          moment = min (self.old.moment + self.old.step) 18446744073709551615;
+        } }
         ensures later { self.old.moment ≤ self.new.moment }
     {
         self.moment = self.moment.saturating_add(self.step);

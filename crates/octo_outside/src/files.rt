@@ -6,7 +6,7 @@ use std::fs;
 use std::io::Read;
 use std::rt::Files;
 
-/// Files by their paths. It does not tell what they hold.
+/// Files by their paths. It does not record what they hold.
 #[derive(Drop)]
 pub struct FileSource<R: Files + Drop>
 where

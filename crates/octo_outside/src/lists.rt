@@ -1,4 +1,4 @@
-//! Lists of names, of calls and of words.
+//! Lists of names, of calls and of arguments.
 ghost use Rattle.std.specs.Prelude.{◌≡◌, ℕ, ◌<◌, List, [], ◌∷◌, ◌++◌, length, slice_get, Some, OnOk, OnErr};
 
 use byte_text::Name;
@@ -64,7 +64,7 @@ impl<T: Drop> ItemList<T> {
     }
 }
 
-/// The words of a command line, without the program's name.
+/// The arguments of a command line, without the program's name.
 #[derive(Drop)]
 pub struct WordList {
     alloc: Global,
@@ -81,7 +81,7 @@ impl Model for WordList {
 }
 
 impl WordList {
-    /// No words; takes no memory.
+    /// No arguments; takes no memory.
     pub fn new(alloc: Global) -> Self
         ensures { result ≡ [] }
     {
@@ -101,7 +101,7 @@ impl WordList {
         Ok(())
     }
 
-    /// How many words there are.
+    /// How many arguments there are.
     pub fn count(&self) -> usize
         ensures { result ≡ length self.now }
     {

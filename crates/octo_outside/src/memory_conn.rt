@@ -3,7 +3,7 @@ use crate::{Blob, CallList, Calls, Conn, Failed, Got};
 use std::alloc::{AllocError, Global};
 use std::marker::Model;
 
-/// A connection that gives an input and keeps what was written. The peer has closed behind the input.
+/// A connection that returns an input and keeps what was written. The peer has closed after the input.
 #[derive(Drop)]
 pub struct MemoryConn {
     input: Blob,
@@ -21,25 +21,41 @@ impl Model for MemoryConn {
 
     ghost Value = { ConnData };
 
-    ghost view = { λ c. record { left = last_of c.unread c.input; written = c.written; calls = c.calls.made; faults = c.calls.faults; quiets = c.quiets; quiet_at = c.quiet_at; fail_at = c.calls.fail_at } };
+    ghost view = { λ c. record {
+      left = last_of c.unread c.input;
+      written = c.written;
+      calls = c.calls.made;
+      faults = c.calls.faults;
+      quiets = c.quiets;
+      quiet_at = c.quiet_at;
+      fail_at = c.calls.fail_at;
+    } };
 
     ghost invariant = { λ c. c.unread ≤ length c.input };
 }
 
 impl MemoryConn {
     ghost use Rattle.std.specs.Prelude.{◌≡◌, ◌<◌, ◌≤◌, [], ◌++◌, Some, IfOk, drop, length, min, take};
-    ghost use Rattle.octo_outside.specs.Told.{Rose};
     ghost use Rattle.octo_outside.specs.Memory.{ConnData, one_more, is_listed};
 
     /// A connection with this input. Of its calls, counted from 1, those of `fail_at` fail, and those of `quiet_at` find
-    /// nothing yet where something is left.
+    /// nothing yet if something is left.
     pub fn new(
         alloc: Global,
         input: &[u8],
         quiet_at: CallList,
         fail_at: CallList,
     ) -> Result<Self, AllocError>
-        ensures { IfOk result (λ c. c ≡ record { left = input.now; written = []; calls = 0; faults = 0; quiets = 0; quiet_at = quiet_at; fail_at = fail_at }) }
+        ensures { IfOk result
+            (λ c. c ≡ record {
+              left = input.now;
+              written = [];
+              calls = 0;
+              faults = 0;
+              quiets = 0;
+              quiet_at = quiet_at;
+              fail_at = fail_at;
+            }) }
     {
         let input = Blob::from_slice(alloc, input)?;
         let unread = input.len();
@@ -88,11 +104,7 @@ impl MemoryConn {
     fn is_quiet(&self) -> bool
         ensures { result ≡ is_listed self.now.quiet_at self.now.calls }
     {
-        let call = self.calls.made();
-        self.quiet_at
-            .as_slice()
-            .iter()
-            .any(|listed| *listed == call)
+        self.calls.is_latest_in(&self.quiet_at)
     }
 
     // Gives the next bytes, at least one.
@@ -113,7 +125,7 @@ impl MemoryConn {
 
 impl Conn for MemoryConn {
     ghost use Rattle.std.specs.Prelude.{◌≡◌, ◌<◌, ◌≤◌, ◌↔◌, ◌++◌, [], Some, true, false, length, min, take, IfOk, OnOk, OnErr, IsErr, IsTrue};
-    ghost use Rattle.octo_outside.specs.Told.{Adds, Rose};
+    ghost use Rattle.octo_outside.specs.Told.{Adds, Counts};
     ghost use Rattle.octo_outside.specs.Traits.{Receives, IsWithin, quiets_after};
     ghost use Rattle.octo_outside.specs.Memory.{ConnData, next_got, after_got, one_more, is_listed};
 
@@ -127,9 +139,13 @@ impl Conn for MemoryConn {
 
     fn read(&mut self, into: &mut [u8]) -> Result<Got, Failed>
         requires { 0 < length into.old }
-        ensures fails { IsErr result ↔ (is_listed self.old.fail_at (one_more self.old.calls) ≡ true) }
+        ensures fails { IsErr result
+            ↔ (is_listed self.old.fail_at (one_more self.old.calls) ≡ true) }
         ensures got { IfOk result (λ got. got ≡ next_got self.old (length into.old)) }
-        ensures refused { OnErr result (self.new ≡ record self.old { calls = one_more self.old.calls; faults = one_more self.old.faults }) }
+        ensures refused { OnErr result (self.new ≡ record self.old {
+          calls = one_more self.old.calls;
+          faults = one_more self.old.faults;
+        }) }
         ensures after { IfOk result (λ got. self.new ≡ after_got self.old got) }
         ensures ok { IfOk result (λ got. Receives self.old.left got into.new (Some self.new.left)) }
         ensures bound { IfOk result (λ got. IsWithin got (length into.new)) }
@@ -138,8 +154,7 @@ impl Conn for MemoryConn {
         ensures quiet { IfOk result (λ got. self.new.quiets ≡ quiets_after self.old.quiets got) }
         ensures quiet_err { OnErr result (self.new.quiets ≡ self.old.quiets) }
         ensures quiets_counted { self.old.quiets ≤ self.new.quiets }
-        ensures counted { self.old.faults ≤ self.new.faults }
-        ensures failed { OnErr result (Rose self.old.faults self.new.faults) }
+        ensures counts { Counts (IsErr result) self.old.faults self.new.faults }
     {
         if self.calls.begin() {
             self.calls.fail();
@@ -158,15 +173,22 @@ impl Conn for MemoryConn {
     fn write(&mut self, bytes: &[u8]) -> Result<usize, Failed>
         requires { 0 < length bytes.now }
         ensures all { IfOk result (λ n. n ≡ length bytes.now) }
-        ensures kept { OnOk result (self.new ≡ record self.old { written = self.old.written ++ bytes.now; calls = one_more self.old.calls }) }
-        ensures refused { OnErr result (self.new ≡ record self.old { calls = one_more self.old.calls; faults = one_more self.old.faults }) }
-        ensures fails { IsTrue (is_listed self.old.fail_at (one_more self.old.calls)) → IsErr result }
-        ensures ok { IfOk result (λ n. (0 < n) × (n ≤ length bytes.now) × Adds (Some self.old.written) (Some self.new.written) (take n bytes.now)) }
+        ensures kept { OnOk result (self.new ≡ record self.old {
+          written = self.old.written ++ bytes.now;
+          calls = one_more self.old.calls;
+        }) }
+        ensures refused { OnErr result (self.new ≡ record self.old {
+          calls = one_more self.old.calls;
+          faults = one_more self.old.faults;
+        }) }
+        ensures fails { IsTrue (is_listed self.old.fail_at (one_more self.old.calls))
+            → IsErr result }
+        ensures ok { IfOk result (λ n. (0 < n) × (n ≤ length bytes.now)
+            × Adds (Some self.old.written) (Some self.new.written) (take n bytes.now)) }
         ensures err { OnErr result (Adds (Some self.old.written) (Some self.new.written) []) }
         ensures left { self.new.left ≡ self.old.left }
         ensures quiets { self.new.quiets ≡ self.old.quiets }
-        ensures counted { self.old.faults ≤ self.new.faults }
-        ensures failed { OnErr result (Rose self.old.faults self.new.faults) }
+        ensures counts { Counts (IsErr result) self.old.faults self.new.faults }
     {
         if self.calls.begin() || self.written.append(bytes).is_err() {
             self.calls.fail();

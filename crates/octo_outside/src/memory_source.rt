@@ -18,7 +18,7 @@ pub struct MemoryFile {
 pub struct MemorySource {
     alloc: Global,
     files: Vec<MemoryFile>,
-    // The place of the chosen file, past the end where there is none, and how many of its bytes are left.
+    // The place of the chosen file, past the end if there is none, and how many of its bytes are left.
     chosen: usize,
     unread: usize,
     calls: Calls,
@@ -30,14 +30,21 @@ impl Model for MemorySource {
 
     ghost Value = { SourceData };
 
-    ghost view = { λ s. record { files = s.files.items; left = last_of s.unread (bytes_at s.files.items s.chosen); calls = s.calls.made; faults = s.calls.faults; fail_at = s.calls.fail_at } };
+    ghost view = { λ s. record {
+      files = s.files.items;
+      left = last_of s.unread (bytes_at s.files.items s.chosen);
+      calls = s.calls.made;
+      faults = s.calls.faults;
+      fail_at = s.calls.fail_at;
+    } };
 
     ghost invariant = { λ s. s.unread ≤ length (bytes_at s.files.items s.chosen) };
 }
 
 // The place of the first file of that name.
 fn place_of(files: &[MemoryFile], name: &str) -> Option<usize>
-    ensures { MatchOption result (held files.now name.now ≡ None) (λ place. held files.now name.now ≡ Some (bytes_at files.now place)) }
+    ensures { MatchOption result (held files.now name.now ≡ None)
+        (λ place. held files.now name.now ≡ Some (bytes_at files.now place)) }
 {
     for (place, file) in files.iter().enumerate() {
         if file.name.as_slice() == name.as_bytes() {
@@ -49,12 +56,12 @@ fn place_of(files: &[MemoryFile], name: &str) -> Option<usize>
 
 impl MemorySource {
     ghost use Rattle.std.specs.Prelude.{◌≡◌, ◌≤◌, [], ◌∷◌, OnOk, OnErr, drop, length};
-    ghost use Rattle.octo_outside.specs.Told.{Rose};
     ghost use Rattle.octo_outside.specs.Memory.{SourceData, one_more, is_listed, bytes_at};
 
     /// A source without files whose calls with these numbers, from 1, fail; takes no memory.
     pub fn new(alloc: Global, fail_at: CallList) -> Self
-        ensures { result ≡ record { files = []; left = []; calls = 0; faults = 0; fail_at = fail_at } }
+        ensures { result
+            ≡ record { files = []; left = []; calls = 0; faults = 0; fail_at = fail_at } }
     {
         MemorySource {
             alloc,
@@ -67,7 +74,11 @@ impl MemorySource {
 
     /// Sets what a name holds; nothing is left to read then. Without memory the source stays.
     pub fn put(&mut self, name: &str, bytes: &[u8]) -> Result<(), AllocError>
-        ensures ok { OnOk result (self.new ≡ record self.old { files = record { name = name.now; bytes = bytes.now } ∷ self.old.files; left = [] }) }
+        ensures ok { OnOk result
+            (self.new ≡ record self.old {
+              files = record { name = name.now; bytes = bytes.now } ∷ self.old.files;
+              left = [];
+            }) }
         ensures err { OnErr result (self.new ≡ self.old) }
     {
         let name = Blob::from_slice(self.alloc, name.as_bytes())?;
@@ -121,7 +132,7 @@ impl MemorySource {
 
 impl Source for MemorySource {
     ghost use Rattle.std.specs.Prelude.{◌≡◌, ◌<◌, ◌≤◌, ◌⊎◌, ◌↔◌, [], Some, None, true, length, min, IfOk, OnOk, OnErr, IsErr, unwrap_or};
-    ghost use Rattle.octo_outside.specs.Told.{Rose};
+    ghost use Rattle.octo_outside.specs.Told.{Counts};
     ghost use Rattle.octo_outside.specs.Traits.{Begins, Reads};
     ghost use Rattle.octo_outside.specs.Memory.{SourceData, held, one_more, is_listed};
 
@@ -132,14 +143,22 @@ impl Source for MemorySource {
     ghost faults = { λ s. s.faults };
 
     fn choose(&mut self, name: &str) -> Result<(), Failed>
-        ensures chosen { OnOk result (self.new ≡ record self.old { left = unwrap_or (held self.old.files name.now) []; calls = one_more self.old.calls }) }
-        ensures refused { OnErr result (self.new ≡ record self.old { left = []; calls = one_more self.old.calls; faults = one_more self.old.faults }) }
-        ensures fails { IsErr result ↔ ((is_listed self.old.fail_at (one_more self.old.calls) ≡ true) ⊎ (held self.old.files name.now ≡ None)) }
+        ensures chosen { OnOk result (self.new ≡ record self.old {
+          left = unwrap_or (held self.old.files name.now) [];
+          calls = one_more self.old.calls;
+        }) }
+        ensures refused { OnErr result (self.new ≡ record self.old {
+          left = [];
+          calls = one_more self.old.calls;
+          faults = one_more self.old.faults;
+        }) }
+        ensures fails { IsErr result
+            ↔ ((is_listed self.old.fail_at (one_more self.old.calls) ≡ true)
+            ⊎ (held self.old.files name.now ≡ None)) }
         ensures ok { OnOk result (Begins (held self.old.files) name.now (Some self.new.left)) }
         ensures err { OnErr result (self.new.left ≡ []) }
         ensures files { self.new.files ≡ self.old.files }
-        ensures counted { self.old.faults ≤ self.new.faults }
-        ensures failed { OnErr result (Rose self.old.faults self.new.faults) }
+        ensures counts { Counts (IsErr result) self.old.faults self.new.faults }
     {
         if !self.calls.begin()
             && let Some(place) = place_of(&self.files, name)
@@ -154,14 +173,14 @@ impl Source for MemorySource {
 
     fn read(&mut self, into: &mut [u8]) -> Result<usize, Failed>
         requires { 0 < length into.old }
-        ensures fails { IsErr result ↔ (is_listed self.old.fail_at (one_more self.old.calls) ≡ true) }
+        ensures fails { IsErr result
+            ↔ (is_listed self.old.fail_at (one_more self.old.calls) ≡ true) }
         ensures reads { IfOk result (λ n. n ≡ min (length into.old) (length self.old.left)) }
         ensures ok { IfOk result (λ n. Reads self.old.left n into.new (Some self.new.left)) }
         ensures bound { IfOk result (λ n. n ≤ length into.new) }
         ensures err { OnErr result (self.new.left ≡ self.old.left) }
         ensures files { self.new.files ≡ self.old.files }
-        ensures counted { self.old.faults ≤ self.new.faults }
-        ensures failed { OnErr result (Rose self.old.faults self.new.faults) }
+        ensures counts { Counts (IsErr result) self.old.faults self.new.faults }
     {
         if self.calls.begin() {
             self.calls.fail();

@@ -1,6 +1,6 @@
 //! Where bytes are written.
 ghost use Rattle.std.specs.Prelude.{◌≡◌, ℕ, ◌+◌, ◌<◌, ◌≤◌, List, [], ◌∷◌, ◌++◌, Option, Some, None, true, length, take, IfOk, OnOk, OnErr, IsErr, IsTrue, MatchResult, ◌↔◌};
-ghost use Rattle.octo_outside.specs.Told.{Became, Adds, AddsPrefix, Rose};
+ghost use Rattle.octo_outside.specs.Told.{Became, Adds, AddsPrefix, Counts};
 ghost use Rattle.octo_outside.specs.Memory.{SinkData, one_more, is_listed};
 
 use crate::{Blob, CallList, Calls, Failed};
@@ -10,7 +10,7 @@ use std::marker::Model;
 
 /// A place for output.
 pub trait Sink {
-    /// What was written, where told.
+    /// What was written, if recorded.
     ghost written: { Self → Option (List ℕ) };
 
     /// How many calls failed.
@@ -19,19 +19,18 @@ pub trait Sink {
     /// Takes 1 to all of the bytes, a prefix. After a failed call nothing was taken.
     fn write(&mut self, bytes: &[u8]) -> Result<usize, Failed>
         requires { 0 < length bytes.now }
-        ensures ok { IfOk result (λ n. Adds (written self.old) (written self.new) (take n bytes.now)) }
+        ensures ok { IfOk result
+            (λ n. Adds (written self.old) (written self.new) (take n bytes.now)) }
         ensures some { IfOk result (λ n. (0 < n) × (n ≤ length bytes.now)) }
         ensures err { OnErr result (Adds (written self.old) (written self.new) []) }
-        ensures counted { faults self.old ≤ faults self.new }
-        ensures failed { OnErr result (Rose (faults self.old) (faults self.new)) };
+        ensures counts { Counts (IsErr result) (faults self.old) (faults self.new) };
 }
 
 /// Writes all the bytes; after a failed call a prefix of them was written.
 pub fn write_all<S: Sink>(sink: &mut S, bytes: &[u8]) -> Result<(), Failed>
     ensures ok { OnOk result (Adds (S.written sink.old) (S.written sink.new) bytes.now) }
     ensures err { OnErr result (AddsPrefix (S.written sink.old) (S.written sink.new) bytes.now) }
-    ensures counted { S.faults sink.old ≤ S.faults sink.new }
-    ensures failed { OnErr result (Rose (S.faults sink.old) (S.faults sink.new)) }
+    ensures counts { Counts (IsErr result) (S.faults sink.old) (S.faults sink.new) }
 {
     let mut done = 0;
     while done < bytes.len() {
@@ -50,7 +49,12 @@ pub struct MemorySink {
 impl Model for MemorySink {
     ghost Value = { SinkData };
 
-    ghost view = { λ s. record { written = s.written; calls = s.calls.made; faults = s.calls.faults; fail_at = s.calls.fail_at } };
+    ghost view = { λ s. record {
+      written = s.written;
+      calls = s.calls.made;
+      faults = s.calls.faults;
+      fail_at = s.calls.fail_at;
+    } };
 }
 
 impl MemorySink {
@@ -80,14 +84,21 @@ impl Sink for MemorySink {
     fn write(&mut self, bytes: &[u8]) -> Result<usize, Failed>
         requires { 0 < length bytes.now }
         ensures all { IfOk result (λ n. n ≡ length bytes.now) }
-        ensures kept { OnOk result (self.new ≡ record self.old { written = self.old.written ++ bytes.now; calls = one_more self.old.calls }) }
-        ensures refused { OnErr result (self.new ≡ record self.old { calls = one_more self.old.calls; faults = one_more self.old.faults }) }
-        ensures fails { IsTrue (is_listed self.old.fail_at (one_more self.old.calls)) → IsErr result }
-        ensures ok { IfOk result (λ n. Adds (Some self.old.written) (Some self.new.written) (take n bytes.now)) }
+        ensures kept { OnOk result (self.new ≡ record self.old {
+          written = self.old.written ++ bytes.now;
+          calls = one_more self.old.calls;
+        }) }
+        ensures refused { OnErr result (self.new ≡ record self.old {
+          calls = one_more self.old.calls;
+          faults = one_more self.old.faults;
+        }) }
+        ensures fails { IsTrue (is_listed self.old.fail_at (one_more self.old.calls))
+            → IsErr result }
+        ensures ok { IfOk result
+            (λ n. Adds (Some self.old.written) (Some self.new.written) (take n bytes.now)) }
         ensures some { IfOk result (λ n. (0 < n) × (n ≤ length bytes.now)) }
         ensures err { OnErr result (Adds (Some self.old.written) (Some self.new.written) []) }
-        ensures counted { self.old.faults ≤ self.new.faults }
-        ensures failed { OnErr result (Rose self.old.faults self.new.faults) }
+        ensures counts { Counts (IsErr result) self.old.faults self.new.faults }
     {
         if self.calls.begin() || self.written.append(bytes).is_err() {
             self.calls.fail();
@@ -97,7 +108,7 @@ impl Sink for MemorySink {
     }
 }
 
-/// The standard output. It does not tell what was written.
+/// The standard output. It does not record what was written.
 #[derive(Drop)]
 pub struct StdSink<R: Drop> {
     rt: R,

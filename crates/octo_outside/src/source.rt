@@ -1,6 +1,6 @@
 //! Where files are read from.
-ghost use Rattle.std.specs.Prelude.{◌≡◌, ℕ, ◌+◌, ◌<◌, ◌≤◌, ◌↔◌, ◌⊎◌, List, [], ◌∷◌, ◌++◌, Option, Some, None, true, length, take, drop, IfOk, OnOk, OnErr, IfSome, IsOk, IsErr, IsErrOf, IsTrue};
-ghost use Rattle.octo_outside.specs.Told.{Rose};
+ghost use Rattle.std.specs.Prelude.{◌≡◌, ℕ, ◌+◌, ◌<◌, ◌≤◌, ◌↔◌, List, [], ◌∷◌, ◌++◌, Option, Some, None, true, length, take, drop, IfOk, OnOk, OnErr, IfSome, IsOk, IsErr, IsErrOf, IsTrue};
+ghost use Rattle.octo_outside.specs.Told.{Counts};
 ghost use Rattle.octo_outside.specs.Traits.{Files, Begins, Reads, HoldsOver};
 ghost use Rattle.octo_outside.specs.declared.source.ReadAll.TheVariants as fault;
 
@@ -10,10 +10,10 @@ use std::marker::Model;
 
 /// Files by their names.
 pub trait Source {
-    /// What each name holds, where told.
+    /// What each name holds, if recorded.
     ghost files: { Self → Option Files };
 
-    /// What is left to read of the chosen name, where told.
+    /// What is left to read of the chosen name, if recorded.
     ghost left: { Self → Option (List ℕ) };
 
     /// How many calls failed.
@@ -21,21 +21,21 @@ pub trait Source {
 
     /// Begins at the start of that name. A name that isn't there is a fault; then nothing is left.
     fn choose(&mut self, name: &str) -> Result<(), Failed>
-        ensures ok { OnOk result (IfSome (files self.old) (λ all. Begins all name.now (left self.new))) }
+        ensures ok { OnOk result
+            (IfSome (files self.old) (λ all. Begins all name.now (left self.new))) }
         ensures err { OnErr result (IfSome (left self.new) (λ rest. rest ≡ [])) }
         ensures files { files self.new ≡ files self.old }
-        ensures counted { faults self.old ≤ faults self.new }
-        ensures failed { OnErr result (Rose (faults self.old) (faults self.new)) };
+        ensures counts { Counts (IsErr result) (faults self.old) (faults self.new) };
 
-    /// Reads the next bytes of the chosen name, and 0 where nothing is left. A failed read leaves what is left.
+    /// Reads the next bytes of the chosen name, and 0 if nothing is left. A failed read leaves what is left.
     fn read(&mut self, into: &mut [u8]) -> Result<usize, Failed>
         requires { 0 < length into.old }
-        ensures ok { IfOk result (λ n. IfSome (left self.old) (λ before. Reads before n into.new (left self.new))) }
+        ensures ok { IfOk result
+            (λ n. IfSome (left self.old) (λ before. Reads before n into.new (left self.new))) }
         ensures bound { IfOk result (λ n. n ≤ length into.new) }
         ensures err { OnErr result (left self.new ≡ left self.old) }
         ensures files { files self.new ≡ files self.old }
-        ensures counted { faults self.old ≤ faults self.new }
-        ensures failed { OnErr result (Rose (faults self.old) (faults self.new)) };
+        ensures counts { Counts (IsErr result) (faults self.old) (faults self.new) };
 }
 
 /// Why a file could not be read whole.
@@ -75,13 +75,16 @@ pub fn read_all<F: Source>(
     name: &str,
     most: usize,
 ) -> Result<Blob, ReadAll>
-    ensures ok { IfOk result (λ blob. IfSome (F.files files.old) (λ all. all name.now ≡ Some blob)) }
+    ensures ok { IfOk result
+        (λ blob. IfSome (F.files files.old) (λ all. all name.now ≡ Some blob)) }
     ensures fits { IfOk result (λ blob. length blob ≤ most) }
-    ensures too_long { IsErrOf result fault.TooLong → IfSome (F.files files.old) (λ all. HoldsOver (all name.now) most) }
-    ensures absent { IfSome (F.files files.old) (λ all. all name.now ≡ None → IsErrOf result fault.Failed) }
+    ensures too_long { IsErrOf result fault.TooLong
+        → IfSome (F.files files.old) (λ all. HoldsOver (all name.now) most) }
+    ensures absent { IfSome (F.files files.old)
+        (λ all. all name.now ≡ None → IsErrOf result fault.Failed) }
     ensures files { F.files files.new ≡ F.files files.old }
-    ensures counted { F.faults files.old ≤ F.faults files.new }
-    ensures failed { IsErrOf result fault.Failed → Rose (F.faults files.old) (F.faults files.new) }
+    ensures counts { Counts (IsErrOf result fault.Failed)
+        (F.faults files.old) (F.faults files.new) }
 {
     files.choose(name)?;
     let mut blob = Blob::new(alloc);

@@ -8,7 +8,7 @@ use std::{thread, time};
 // How long one rest lasts, in milliseconds.
 const REST: u64 = 1;
 
-/// The system's clock, in milliseconds since a moment of the system's own. It does not tell where it stands.
+/// The system's clock, in milliseconds since a moment of the system's own. It does not record what it shows.
 #[derive(Drop)]
 pub struct SystemClock<R: Drop> {
     rt: R,
@@ -27,7 +27,7 @@ impl<R: Drop> SystemClock<R> {
 impl<R: time::Clock + Drop> Clock for SystemClock<R> {
     ghost moment = { λ _. None };
 
-    /// The moment, never before one that was given; the last one where the system's clock fails.
+    /// The moment, never before one that was given; the last one if the system's clock fails.
     fn now(&mut self) -> u64
         ensures kept { self.new.last ≡ result }
         ensures forward { self.old.last ≤ result }

@@ -1,7 +1,7 @@
 //! A file read, and printed over a link.
-ghost use Rattle.std.specs.Prelude.{◌≡◌, ◌≢◌, ◌↔◌, ◌⊎◌, ◌≤◌, ℕ, List, length, codes, false, None, Ok, Err, IfOk, IfErr};
+ghost use Rattle.std.specs.Prelude.{◌≡◌, ◌≢◌, ◌↔◌, ◌⊎◌, ℕ, List, length, codes, false, None, Ok, Err, IfOk, IfErr};
 ghost use Rattle.std.specs.Option.{option_map};
-ghost use Rattle.octo_outside.specs.Told.{Rose};
+ghost use Rattle.octo_outside.specs.Told.{Counts};
 ghost use Rattle.gcode_lines.specs.Job.{JobData};
 ghost use Rattle.temp_rules.specs.Hot.{first_hot_of};
 ghost use Rattle.desk_steps.specs.Data.{new_desk};
@@ -30,7 +30,8 @@ use temp_rules::HotLine;
 pub fn session_of(alloc: Global, settings: Settings) -> Result<Session, AllocError>
     requires { IsSettings settings }
     ensures new { IfOk result IsNew }
-    ensures desk { IfOk result (λ s. s.desk ≡ new_desk settings.scripts settings.limits settings.poll_ms) }
+    ensures desk { IfOk result
+        (λ s. s.desk ≡ new_desk settings.scripts settings.limits settings.poll_ms) }
     ensures sender { IfOk result (λ s. s.sender ≡ new_sender settings.window settings.limit_ms) }
 {
     let desk = Desk::new(alloc, settings.scripts, settings.limits, settings.poll_ms)?;
@@ -48,7 +49,7 @@ fn file_name() -> Name
     }
 }
 
-/// What an end of a print over this port is reported as, of a job of so many commands and skipped lines.
+/// How an end of a print over this port is reported, of a job with these numbers of commands and skipped lines.
 fn report_of(end: PrintEnd, port: &Name, commands: u32, skipped: u32) -> Report
     ensures { (job : JobData) → commands ≡ length job.commands → skipped ≡ job.skipped
         → result ≡ reported end port.now job }
@@ -87,8 +88,7 @@ fn print_job<L: Link, T: Clock>(
     // the link
     ensures down { L.up link.new ≡ false }
     ensures kind { L.kind link.new ≡ L.kind link.old }
-    ensures counted { L.faults link.old ≤ L.faults link.new }
-    ensures failed { result ≡ report.LinkFailed → Rose (L.faults link.old) (L.faults link.new) }
+    ensures counts { Counts (result ≡ report.LinkFailed) (L.faults link.old) (L.faults link.new) }
     ensures used { (made : ℕ) → result ≡ report.TurnsUsed made
         → RoseBy turns (L.calls link.old) (L.calls link.new) }
     ensures source { result ≢ report.SourceFailed }
@@ -104,8 +104,8 @@ fn print_job<L: Link, T: Clock>(
     }
 }
 
-/// Prints the file of that name over the port of that name, in at most so many turns, by the settings in the file named
-/// for them, or by the defaults. Settings and file are read before anything is sent.
+/// Prints the file of that name over the port of that name, in at most this number of turns, by the settings in the file
+/// named for them, or by the defaults. Settings and file are read before anything is sent.
 pub fn print_file<F: Source, L: Link, T: Clock>(
     alloc: Global,
     files: &mut F,
@@ -126,14 +126,13 @@ pub fn print_file<F: Source, L: Link, T: Clock>(
 
     // the source
     ensures files { F.files files.new ≡ F.files files.old }
-    ensures source_counted { F.faults files.old ≤ F.faults files.new }
-    ensures source_failed { result ≡ report.SourceFailed → Rose (F.faults files.old) (F.faults files.new) }
+    ensures source { Counts (result ≡ report.SourceFailed)
+        (F.faults files.old) (F.faults files.new) }
 
     // the link
     ensures down { L.up link.new ≡ false }
     ensures kind { L.kind link.new ≡ L.kind link.old }
-    ensures counted { L.faults link.old ≤ L.faults link.new }
-    ensures failed { result ≡ report.LinkFailed → Rose (L.faults link.old) (L.faults link.new) }
+    ensures link { Counts (result ≡ report.LinkFailed) (L.faults link.old) (L.faults link.new) }
     ensures used { (made : ℕ) → result ≡ report.TurnsUsed made
         → RoseBy turns (L.calls link.old) (L.calls link.new) }
 {

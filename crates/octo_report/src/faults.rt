@@ -116,7 +116,7 @@ pub(crate) fn put_measure_fault(page: &mut Page, fault: MeasureFault)
     }
 }
 
-/// Puts how a session ended, which two numbers tell.
+/// Puts how a session ended, by two numbers.
 fn put_numbers(
     page: &mut Page,
     before: &[u8],

@@ -1,6 +1,6 @@
 //! Writing a report.
-ghost use Rattle.std.specs.Prelude.{◌≡◌, ◌≤◌, [], false, OnOk, OnErr};
-ghost use Rattle.octo_outside.specs.Told.{Adds, AddsPrefix, Rose};
+ghost use Rattle.std.specs.Prelude.{◌≡◌, [], false, OnOk, OnErr, IsErr};
+ghost use Rattle.octo_outside.specs.Told.{Adds, AddsPrefix, Counts};
 ghost use Rattle.octo_report.specs.Texts.{is_rest, text_of};
 
 use crate::page::Page;
@@ -18,8 +18,7 @@ fn write_page<O: Sink>(out: &mut O, report: &Report) -> Result<(), Failed>
         (AddsPrefix (O.written out.old) (O.written out.new) (text_of report.now)) }
 
     // faults
-    ensures counted { O.faults out.old ≤ O.faults out.new }
-    ensures failed { OnErr result (Rose (O.faults out.old) (O.faults out.new)) }
+    ensures counts { Counts (IsErr result) (O.faults out.old) (O.faults out.new) }
 {
     let mut page = Page::new();
     put_report(&mut page, report);
@@ -34,8 +33,7 @@ pub fn write_report<O: Sink>(out: &mut O, report: &Report) -> Result<(), Failed>
         (AddsPrefix (O.written out.old) (O.written out.new) (text_of report.now)) }
 
     // faults
-    ensures counted { O.faults out.old ≤ O.faults out.new }
-    ensures failed { OnErr result (Rose (O.faults out.old) (O.faults out.new)) }
+    ensures counts { Counts (IsErr result) (O.faults out.old) (O.faults out.new) }
 {
     match report {
         Report::Rest(text) => write_all(out, text.as_slice()),

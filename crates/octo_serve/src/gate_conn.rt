@@ -1,7 +1,7 @@
 //! A connection in memory whose input comes only once a gate is open.
-ghost use Rattle.std.specs.Prelude.{◌≡◌, ◌≤◌, None};
+ghost use Rattle.std.specs.Prelude.{◌≡◌, ◌≤◌, None, ⊤};
 ghost use Rattle.octo_outside.specs.Memory.{one_more};
-ghost use Rattle.octo_outside.specs.Told.{Rose};
+ghost use Rattle.octo_outside.specs.Told.{Counts};
 
 use arrayvec::ArrayVec;
 use octo_outside::{Conn, Failed, Got, MemoryConn};
@@ -16,7 +16,7 @@ const REST: u64 = 1;
 /// How many bytes a connection takes.
 pub(crate) const MOST_WRITTEN: usize = 1024;
 
-/// A connection that gives an input and keeps up to 1,024 bytes of what is written. It records
+/// A connection that returns an input and keeps up to 1,024 bytes of what is written. It records
 /// neither for a contract.
 ///
 /// If it has a gate, a read rests for a millisecond and finds nothing yet until the gate is open.
@@ -41,8 +41,7 @@ impl<R: Drop> GateConn<R> {
 
     fn fail(&mut self) -> Failed
         ensures quiets { self.new.quiets ≡ self.old.quiets }
-        ensures counted { self.old.faults ≤ self.new.faults }
-        ensures rose { Rose self.old.faults self.new.faults }
+        ensures counts { Counts ⊤ self.old.faults self.new.faults }
     {
         self.faults = self.faults.saturating_add(1);
         Failed

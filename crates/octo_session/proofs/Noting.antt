@@ -170,7 +170,7 @@ rests_quiet fact.NoPort can = absurd (false≢true can)
 rests_quiet fact.Failed can = absurd (false≢true can)
 rests_quiet (fact.Ended end) can = absurd (false≢true can)
 
--- a turn that does something gives the desk a note
+-- a turn that does something makes a note for the desk
 desk_noted : (doing_now : Doing) (moment acked : ℕ) (found : LinkFact) (lines : List Line) (old : Data) (ending : Option Ending) (new : Data) →
     (doing_now ≡ Resting → ⊥) → IsDeskTurn doing_now moment acked found lines old ending new → IsNoted moment acked found lines old ending new
 desk_noted Dialling moment acked found lines old ending new active desk = desk

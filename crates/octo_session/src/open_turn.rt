@@ -1,6 +1,6 @@
 //! A turn over an open link, part by part: each part is a call on the sender, on the link, or both.
 ghost use Rattle.std.specs.Prelude.{◌≡◌, ◌≢◌, ◌↔◌, ◌⊎◌, ◌<◌, ◌≤◌, ◌+◌, ◌++◌, [], map, length, true, false, None, is_some};
-ghost use Rattle.octo_outside.specs.Told.{Rose};
+ghost use Rattle.octo_outside.specs.Told.{Counts};
 ghost use Rattle.desk_steps.specs.Pull.{pull_step, settled};
 ghost use Rattle.desk_steps.specs.Issued.{line_of};
 ghost use Rattle.desk_steps.specs.declared.link_fact.LinkFact.TheVariants as fact;
@@ -60,9 +60,8 @@ fn receive<L: Link>(
     ensures temps { temps_kept result ≡ temps_in (got_of result line.new.items) }
     ensures up { L.up link.new ≡ is_got (got_of result line.new.items) }
     ensures kind { L.kind link.new ≡ L.kind link.old }
-    ensures counted { L.faults link.old ≤ L.faults link.new }
-    ensures failed { is_got (got_of result line.new.items) ≡ false
-        → Rose (L.faults link.old) (L.faults link.new) }
+    ensures counts { Counts (is_got (got_of result line.new.items) ≡ false)
+        (L.faults link.old) (L.faults link.new) }
 {
     match link.recv(line) {
         Ok(Heard::Line) => {
@@ -140,8 +139,7 @@ fn send_one<L: Link>(sender: &mut Sender, link: &mut L, moment: u64) -> Gave
     ensures nothing { (result ≡ gave.Nothing) ↔ (next_of sender.old ≡ None) }
     ensures up { L.up link.new ≡ is_up_by result }
     ensures kind { L.kind link.new ≡ L.kind link.old }
-    ensures counted { L.faults link.old ≤ L.faults link.new }
-    ensures failed { is_up_by result ≡ false → Rose (L.faults link.old) (L.faults link.new) }
+    ensures counts { Counts (is_up_by result ≡ false) (L.faults link.old) (L.faults link.new) }
 {
     let mut line = Line::new();
     match sender.next_frame(moment, &mut line) {
@@ -161,8 +159,7 @@ fn send_all<L: Link>(sender: &mut Sender, link: &mut L, moment: u64) -> bool
     ensures sent { result ≡ true → next_of sender.new ≡ None }
     ensures up { L.up link.new ≡ result }
     ensures kind { L.kind link.new ≡ L.kind link.old }
-    ensures counted { L.faults link.old ≤ L.faults link.new }
-    ensures failed { result ≡ false → Rose (L.faults link.old) (L.faults link.new) }
+    ensures counts { Counts (result ≡ false) (L.faults link.old) (L.faults link.new) }
 {
     loop {
         match send_one(sender, link, moment) {
@@ -211,8 +208,7 @@ fn issue_and_send<L: Link>(
         sender.new }
     ensures up { L.up link.new ≡ up_after result.fact true }
     ensures kind { L.kind link.new ≡ L.kind link.old }
-    ensures counted { L.faults link.old ≤ L.faults link.new }
-    ensures failed { result.fact ≡ fact.Failed → Rose (L.faults link.old) (L.faults link.new) }
+    ensures counts { Counts (result.fact ≡ fact.Failed) (L.faults link.old) (L.faults link.new) }
 {
     let acked = sender.acked();
     let first = desk.note(acked, &LinkFact::Quiet, moment);
@@ -268,8 +264,7 @@ fn after_receiving<L: Link>(
         sender.new }
     ensures up { L.up link.new ≡ up_after result.fact true }
     ensures kind { L.kind link.new ≡ L.kind link.old }
-    ensures counted { L.faults link.old ≤ L.faults link.new }
-    ensures failed { result.fact ≡ fact.Failed → Rose (L.faults link.old) (L.faults link.new) }
+    ensures counts { Counts (result.fact ≡ fact.Failed) (L.faults link.old) (L.faults link.new) }
 {
     if let Err(end) = sender.tick(moment) {
         link.hang_up();
@@ -317,8 +312,7 @@ pub fn receive_then_send<L: Link>(
         (texts_in (map line_of result.issued.items))) sender.old sender.new }
     ensures up { L.up link.new ≡ up_after result.fact true }
     ensures kind { L.kind link.new ≡ L.kind link.old }
-    ensures counted { L.faults link.old ≤ L.faults link.new }
-    ensures failed { result.fact ≡ fact.Failed → Rose (L.faults link.old) (L.faults link.new) }
+    ensures counts { Counts (result.fact ≡ fact.Failed) (L.faults link.old) (L.faults link.new) }
 {
     let was_ready = sender.ready();
     match receive(sender, link, moment, line) {

@@ -1,6 +1,6 @@
 //! The session: a desk and a sender, and the turns that join them with a link.
 ghost use Rattle.std.specs.Prelude.{◌≡◌, ◌↔◌, ◌⊎◌, ◌≤◌, [], true, false, IfSome, None};
-ghost use Rattle.octo_outside.specs.Told.{Rose};
+ghost use Rattle.octo_outside.specs.Told.{Counts};
 ghost use Rattle.desk_steps.specs.Data.{new_desk};
 ghost use Rattle.desk_steps.specs.Endings.{IsActive};
 ghost use Rattle.desk_steps.specs.declared.link_fact.LinkFact.TheVariants as fact;
@@ -137,11 +137,10 @@ impl Session {
         ensures kind { L.kind link.new ≡ L.kind link.old }
 
         // Counts: of the link's faults and calls.
-        ensures counted { L.faults link.old ≤ L.faults link.new }
+        ensures counts { Counts (fact_of result.note ≡ fact.Failed)
+            (L.faults link.old) (L.faults link.new) }
         ensures calls { is_calling (doing self.old) ≡ true
             → RoseBy 1 (L.calls link.old) (L.calls link.new) }
-        ensures failed { fact_of result.note ≡ fact.Failed
-            → Rose (L.faults link.old) (L.faults link.new) }
 
         // The hello and the acknowledged lines, by the note: their count falls only if a link is made, to 0.
         ensures ready_is { self.new.sender.ready

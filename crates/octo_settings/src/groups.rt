@@ -79,7 +79,8 @@ fn read_permissions(
 }
 
 fn new_name(groups: &Groups, name: &str) -> Result<Name, SettingsFault>
-    ensures { result ≡ (if is_new_name groups.now name.now then Ok name.now else Err (OutOfRange (codes "groups"))) }
+    ensures { result ≡ (if is_new_name groups.now name.now then Ok name.now
+        else Err (OutOfRange (codes "groups"))) }
 {
     match read_name(name) {
         Some(name) if !groups.is_known(&name) => Ok(name),
@@ -96,7 +97,8 @@ fn read_group(
     requires { length groups.old < most_groups }
     ensures { MatchResult result
         (λ _. with_group name.now (view value.now) groups.old ≡ Ok groups.new)
-        (λ fault. (fault ≡ NoMemory) ⊎ (with_group name.now (view value.now) groups.old ≡ Err fault)) }
+        (λ fault. (fault ≡ NoMemory)
+        ⊎ (with_group name.now (view value.now) groups.old ≡ Err fault)) }
 {
     let name = new_name(groups, name)?;
     let key = group_key(&name);

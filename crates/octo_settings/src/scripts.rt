@@ -23,7 +23,7 @@ use toml::{Table, Value};
 /// The most lines of a script.
 const MOST_LINES: usize = 64;
 
-/// The key of a script, with the name that OctoPrint gives it.
+/// The key of a script, with OctoPrint's name.
 pub fn script_key(point: Point) -> &'static str
     ensures key { result.now ≡ script_key point }
     ensures short { length result.now ≤ 100 }
@@ -125,7 +125,8 @@ fn add_lines(
     requires { length (texts_at point scripts.old) + length lines.now ≤ most_lines }
     ensures { MatchResult result
         (λ _. with_lines limits.now point 1 lines.now scripts.old ≡ Ok scripts.new)
-        (λ fault. (fault ≡ NoMemory) ⊎ (with_lines limits.now point 1 lines.now scripts.old ≡ Err fault)) }
+        (λ fault. (fault ≡ NoMemory)
+        ⊎ (with_lines limits.now point 1 lines.now scripts.old ≡ Err fault)) }
 {
     for i in 0..lines.count() {
         let text = read_command(limits, point, i as u32 + 1, lines.get(i))?;
@@ -144,7 +145,8 @@ fn add_texts(
 ) -> Result<(), SettingsFault>
     ensures { MatchResult result
         (λ _. with_texts limits.now point lines.now scripts.old ≡ Ok scripts.new)
-        (λ fault. (fault ≡ NoMemory) ⊎ (with_texts limits.now point lines.now scripts.old ≡ Err fault)) }
+        (λ fault. (fault ≡ NoMemory)
+        ⊎ (with_texts limits.now point lines.now scripts.old ≡ Err fault)) }
 {
     if scripts.count(point).saturating_add(lines.count()) > MOST_LINES {
         return Err(out_of_range(script_key(point)));

@@ -1,4 +1,4 @@
--- What a writer holds, call by call, where it is known.
+-- What a writer holds, call by call, if it is known.
 use Rattle.std.proofs.Common.{ℕ, ◌+◌, List, [], ◌++◌, Option, Some, None, take, drop, ap, sym, refl, ◌∙◌}
 use Rattle.std.specs.Io.KnownBytes.{Appends, Keeps}
 use Rattle.std.proofs.Math.Seq.{take-add}

@@ -33,7 +33,10 @@ pub fn prepare<S: OpenStream>(stream: &S) -> io::Result<()> {
 /// Whether the call of a stream may be made again: it would have waited for longer than is allowed, or a signal
 /// ended it.
 pub fn may_come_later(error: &io::Error) -> bool
-    ensures { IsTrue result ↔ (error_kind error.now ≡ ErrorKind.WouldBlock) ⊎ (error_kind error.now ≡ ErrorKind.TimedOut) ⊎ (error_kind error.now ≡ ErrorKind.Interrupted) }
+    ensures { IsTrue result
+        ↔ (error_kind error.now ≡ ErrorKind.WouldBlock)
+        ⊎ (error_kind error.now ≡ ErrorKind.TimedOut)
+        ⊎ (error_kind error.now ≡ ErrorKind.Interrupted) }
 {
     matches!(
         error.kind(),
@@ -41,14 +44,17 @@ pub fn may_come_later(error: &io::Error) -> bool
     )
 }
 
-/// Writes 1 to all of the bytes, a prefix. A write that would block is tried 1,000 times; nothing then, and where the
+/// Writes 1 to all of the bytes, a prefix. A write that would block is tried 1,000 times; nothing then, and if the
 /// stream failed.
 #[tactic(auto, using(crate::proofs::Written::keeps_self, crate::proofs::Written::keeps_then, crate::proofs::Written::keeps_appends, crate::proofs::Written::appends_none))]
 pub fn write_some<S: Write>(stream: &mut S, bytes: &[u8]) -> Option<usize>
     ensures some { IfSome result (λ n. 0 < n) }
     ensures bound { IfSome result (λ n. n ≤ length bytes.now) }
-    ensures written { IfSome result (λ n. Appends (S.Write.contents stream.old) (S.Write.contents stream.new) (take n bytes.now)) }
-    ensures none { IsNone result → Keeps (S.Write.contents stream.old) (S.Write.contents stream.new) }
+    ensures written { IfSome result
+        (λ n. Appends (S.Write.contents stream.old) (S.Write.contents stream.new)
+        (take n bytes.now)) }
+    ensures none { IsNone result
+        → Keeps (S.Write.contents stream.old) (S.Write.contents stream.new) }
 {
     for _ in 0..TRIES {
         match stream.write(bytes) {
@@ -63,7 +69,7 @@ pub fn write_some<S: Write>(stream: &mut S, bytes: &[u8]) -> Option<usize>
     None
 }
 
-// Drops what the next read gives, and says whether more may come.
+// Drops what the next read returns, and says whether more may come.
 fn drop_some<S: Read>(stream: &mut S) -> bool {
     let mut chunk = [0; CHUNK];
     match stream.read(&mut chunk) {
@@ -75,7 +81,7 @@ fn drop_some<S: Read>(stream: &mut S) -> bool {
 /// Gives back a stream that was readied: shuts its writing side, and drops input until the peer closes,
 /// for about 50 milliseconds at most.
 ///
-/// The system answers input behind a close by a reset, and a peer that is reset may lose what it hasn't read yet.
+/// The system answers input after a close by a reset, and a peer that is reset may lose what it hasn't read yet.
 pub fn linger<R: Clock, S: Read + OpenStream>(rt: &R, stream: &mut S) {
     let _ = stream.shutdown(Shutdown::Write);
     let Ok(start) = Instant::now(rt) else {

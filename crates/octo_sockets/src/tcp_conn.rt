@@ -1,7 +1,7 @@
 //! Connections over TCP, and over a Unix socket.
-ghost use Rattle.std.specs.Prelude.{◌≡◌, ◌≤◌, None, IfOk};
+ghost use Rattle.std.specs.Prelude.{◌≡◌, ◌≤◌, None, IfOk, ⊤};
 ghost use Rattle.octo_outside.specs.Memory.{one_more};
-ghost use Rattle.octo_outside.specs.Told.{Rose};
+ghost use Rattle.octo_outside.specs.Told.{Counts};
 
 use crate::socket_stream::{SocketStream, unix_path};
 use crate::streams::{linger, may_come_later, prepare, write_some};
@@ -13,7 +13,7 @@ use std::os::unix::net::UnixListener;
 use std::rt::Files;
 use std::time::Clock;
 
-/// A connection over TCP, or over a Unix socket. It tells neither what is left nor what was written.
+/// A connection over TCP, or over a Unix socket. It records neither what is left nor what was written.
 #[derive(Drop)]
 pub struct TcpConn<R: Net + Drop> {
     rt: R,
@@ -89,10 +89,9 @@ impl<R: Net + Drop> TcpConn<R> {
     }
 
     fn fail(&mut self) -> Failed
-        ensures counts { self.new.faults ≡ one_more self.old.faults }
+        ensures faults { self.new.faults ≡ one_more self.old.faults }
         ensures quiets { self.new.quiets ≡ self.old.quiets }
-        ensures counted { self.old.faults ≤ self.new.faults }
-        ensures rose { Rose self.old.faults self.new.faults }
+        ensures counts { Counts ⊤ self.old.faults self.new.faults }
     {
         self.faults = self.faults.saturating_add(1);
         Failed

@@ -6,7 +6,7 @@ use std::net::{Shutdown, TcpListener, TcpStream};
 use std::test::Fail;
 use std::time::Duration;
 
-// The first answer that isn't Quiet, where one comes soon.
+// The first answer that isn't Quiet, if one comes soon.
 fn next(conn: &mut TcpConn<HostRuntime>, into: &mut [u8; 8]) -> Result<Got, Failed> {
     for _ in 0..100 {
         match conn.read(into) {

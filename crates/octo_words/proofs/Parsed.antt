@@ -26,7 +26,7 @@ no_rows [] rows kind other (inl memory) = absurd (other memory)
 no_rows [] rows kind other (inr among) = absurd among
 no_rows (first ∷ kinds) rows kind other found = refl
 
--- a fault other than want of memory leaves no rows
+-- a fault other than out of memory leaves no rows
 pub rows_with_fault : (words : List Text) (kind : ErrorKind) → (kind ≡ OutOfMemory → ⊥) → (kind ≡ OutOfMemory) ⊎ IsAmong kind (fault_of octo_app words) → rows_named words ≡ None
 unfolding rows_named
 rows_with_fault words kind other found = no_rows (fault_of octo_app words) (subcommand_of octo_app words) kind other found

@@ -55,7 +55,7 @@ bare_app = record (new_app (codes "octo")) {
   };
 }
 
--- a program with further commands
+-- a program with more commands
 abbrev pub with_commands : App → List App → App
 with_commands app commands = fold (λ all command. with_subcommand all command.top) app commands
 

@@ -78,7 +78,7 @@ pub enum Command {
     },
 }
 
-/// Why the arguments give no command.
+/// Why the arguments are no command.
 #[derive(Clone, Copy, Debug, PartialEq, Eq, Error)]
 pub enum WordsFault {
     /// They are no command.

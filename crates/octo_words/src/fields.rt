@@ -62,7 +62,8 @@ fn name_of(text: &str) -> Option<Name>
 
 /// A name that must be given.
 pub(crate) fn name_in(found: &ArgMatches<'_>, id: &str) -> Result<Name, WordsFault>
-    ensures { Reads (option_and_then name_of (first_of id.now (rows_of (found_of found.now)))) result }
+    ensures { Reads
+        (option_and_then name_of (first_of id.now (rows_of (found_of found.now)))) result }
 {
     match text_in(found, id) {
         Some(text) => name_of(text).ok_or(WordsFault::BadWords),
@@ -97,7 +98,9 @@ pub(crate) fn number_in(
     least: u64,
     most: u64,
 ) -> Result<u64, WordsFault>
-    ensures value { Reads (option_and_then (number_of least most) (first_of id.now (rows_of (found_of found.now)))) result }
+    ensures value { Reads
+        (option_and_then (number_of least most)
+        (first_of id.now (rows_of (found_of found.now)))) result }
     ensures within { IfOk result (λ number. number ≤ most) }
 {
     match text_in(found, id) {

@@ -116,7 +116,7 @@ fn read_texts<'a>(alloc: Global, texts: &'a [&'a str]) -> Result<Command, WordsF
 
 /// The command that the arguments are, without the program's name: one of those of `Command`.
 ///
-/// Options stand anywhere after the command's name, also as `--x=v`, each at most once; `--` ends them. A value that
+/// Options may come anywhere after the command's name, also as `--x=v`, each at most once; `--` ends them. A value that
 /// begins with `-`, other than `-` alone, follows `--` or `=`. A number has 1 to 13 digits.
 ///
 /// # Errors

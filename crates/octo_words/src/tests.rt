@@ -1,4 +1,4 @@
-//! Command lines, each a text whose words are parted at its spaces.
+//! Command lines, each a text whose arguments are separated by spaces.
 use crate::{Command, WordsFault, read_words};
 use octo_outside::WordList;
 use std::alloc::Global;
@@ -56,7 +56,7 @@ fn shown(alloc: Global, command: &Command) -> Result<String, Fail> {
     })
 }
 
-// Each line gives the command on its right.
+// Each line is read as the command on its right.
 fn reads(rt: &impl Abort, alloc: Global, rows: &[(&str, &str)]) -> Result<(), Fail> {
     for (line, wanted) in rows {
         match read(alloc, line)? {

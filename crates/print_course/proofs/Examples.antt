@@ -20,7 +20,7 @@ bare_plan = refl
 fans_plan : plan fans [] ≡ codes "M107" ∷ codes "M84" ∷ []
 fans_plan = refl
 
--- polls stand at any places
+-- polls are at any places
 with_polls : Weave (codes "G28" ∷ poll ∷ poll ∷ codes "G1 X10" ∷ poll ∷ []) (plan bare (codes "G28" ∷ codes "G1 X10" ∷ []))
 with_polls =
     let last : Weave (poll ∷ []) [] = polled [] [] empty in

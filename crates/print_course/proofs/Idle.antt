@@ -1,4 +1,4 @@
--- When a desk gives no line, and what then ends.
+-- When a desk returns no line, and what then ends.
 use Rattle.std.proofs.Common.{◌≡◌, ℕ, zero, suc, ◌≤◌, ◌<◌, Bool, true, false, cond, nat_le, ◌&&◌, ◌||◌, not, ◌==◌, codes, List, [], ◌∷◌, length, slice_get, Option, None, Some, refl, sym, ◌∙◌, ap, arith}
 use Rattle.std.proofs.lemmas.Bool.{false≢true}
 use Rattle.std.proofs.lemmas.Bool.Decides.{nat_tests}
@@ -56,7 +56,7 @@ module _ (p : PrintData) where
   is_all d none last =
       ap (λ (w : List Line). (length w == 0) && (d.cursor == length (commands_of d.file))) none ∙ equal_test d.cursor (length (commands_of d.file)) last
 
-  -- a settled desk that prints gives a line
+  -- a settled desk that prints returns a line
   prints_on : (moment : ℕ) (d : Data) (issued : List (List ℕ)) → settled d ≡ d → d.state ≡ Printing → (draw_at Printing moment d).0 ≡ None
       → IsUnderway p d issued → ⊥
   prints_on moment d issued quiet at e h =
@@ -85,7 +85,7 @@ module _ (p : PrintData) where
   idle_in Cancelling moment d issued at gives quiet e h = absurd (false≢true gives)
   idle_in Fault moment d issued at gives quiet e h = absurd (false≢true gives)
 
-  -- a settled desk of a ready connection that gives no line has none waiting, and no command is left
+  -- a settled desk of a ready connection that returns no line has none waiting, and no command is left
   pub idle-remaining : (moment : ℕ) (d : Data) (issued : List (List ℕ)) → is_giving d.state ≡ true → settled d ≡ d → (pull_step moment d).0 ≡ None
       → IsUnderway p d issued → (d.waiting ≡ []) × (d.state ≡ Printing → ⊥)
   idle-remaining moment d issued gives quiet e h = idle_in d.state moment d issued refl gives quiet e h

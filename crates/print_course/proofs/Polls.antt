@@ -124,7 +124,7 @@ module _ (p : PrintData) (moment : ℕ) where
   draw_paced Cancelling d issued h = talk_paced d issued (nothing d) h (none_paced d)
   draw_paced Finishing d issued h = talk_paced d issued (nothing d) h (none_paced d)
 
-  -- a pull gives a line of the plan, or a poll whose moment has come, and the next poll's is later then
+  -- a pull returns a line of the plan, or a poll whose moment has come, and the next poll's is later then
   pub pull-paced : (d : Data) (issued : List (List ℕ)) → IsUnderway p d issued → IsPaced moment d (pull_step moment d)
   pull-paced d issued h got is =
       let drawn : Drawn = draw_at d.state moment d in
@@ -136,7 +136,7 @@ module _ (p : PrintData) (moment : ℕ) where
         by_tag = elim so.by_tag [ inl planned ↦ inl (planned.0, at ∙ planned.1) | inr poll ↦ inr (poll.0, poll.1, at ∙ poll.2) ];
       }
 
-  -- successive pulls at one moment give at most one poll
+  -- successive pulls at one moment return at most one poll
   pub pulls-paced : (lines : List Line) (old new : Data) (issued : List (List ℕ)) → moment < moment_after moment old.poll_ms
       → Pulls moment lines old new → IsUnderway p old issued → ArePaced moment lines old new
   pulls-paced [] old new issued later pulls h = inl (refl, ap (λ (d : Data). d.poll_at) pulls)

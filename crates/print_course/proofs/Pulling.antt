@@ -137,7 +137,7 @@ module _ (p : PrintData) where
   abbrev pub Kept : List (List ℕ) → Drawn → Type 0
   Kept issued drawn = IsUnderway p drawn.1 (after_pull drawn.0 issued)
 
-  -- a line is issued at a desk that stands so, and the sent lines are then these
+  -- a line is issued at such a desk, and the sent lines are then these
   issues : (line : Line) (d : Data) (issued : List (List ℕ)) (sent lines : List Line) → d.scripts ≡ p.scripts → d.limits ≡ p.limits
       → d.file ≡ Some p.file → d.manual ≡ [] → Phase p (standing d) lines → sent ++ d.waiting ≡ lines
       → Weave (issued ++ line.text ∷ []) (line_texts sent) → (d.issued < 18446744073709551615 → IsCounted d issued) → (d.state ≡ Offline → ⊥)

@@ -13,7 +13,7 @@ use Rattle.print_course.proofs.Pulling.{issue_state}
 
 -- What pulls leave as it is.
 
--- a desk that gives no line stays
+-- a desk that returns no line stays
 pub stays_silent : (s : State) (moment : ℕ) (lines : List Line) (old new : Data) → ((d : Data) → draw_at s moment d ≡ nothing d) → old.state ≡ s
     → Pulls moment lines old new → new ≡ old
 stays_silent s moment [] old new none at pulls = pulls

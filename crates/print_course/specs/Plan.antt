@@ -58,7 +58,7 @@ connected_lines p = script_lines p.scripts point.Connected 0
 abbrev pub started_lines : PrintData → List Line
 started_lines p = connected_lines p ++ script_lines p.scripts point.Started 1
 
--- up to so many file commands
+-- the first file commands, up to this number
 abbrev pub printed_lines : PrintData → ℕ → List Line
 printed_lines p count = started_lines p ++ take count (numbered 1 0 (print_commands p))
 

@@ -37,7 +37,7 @@ abbrev pub planned_in : Option Line → ℕ
 planned_in None = 0
 planned_in (Some line) = planned_tag line.tag
 
--- whether a desk in this state gives its waiting lines
+-- whether a desk in this state returns its waiting lines
 abbrev pub is_giving : State → Bool
 is_giving Operational = true
 is_giving Printing = true

@@ -9,7 +9,7 @@ use Rattle.lossy_line.specs.Issuing.{issued_in}
 use Rattle.print_course.specs.Plan.{PrintData, line_texts}
 use Rattle.print_course.specs.Underway.{IsUnderway, EndsAs}
 
--- a turn found this, issued these lines behind these texts, and ended the print so, if it did
+-- a turn found this, issued these lines after these texts, and ended the print so, if it did
 pub record IsTurnOf (p : PrintData) (found : LinkFact) (lines : List Line) (issued : List (List ℕ))
     (old : Data) (ending : Option Ending) (new : Data) : Type 0 where
   pub underway : IsUnderway p new (issued_in found (line_texts lines) issued)

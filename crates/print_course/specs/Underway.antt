@@ -39,7 +39,7 @@ pub record IsOpen (state : State) (s : Standing) : Type 0 where
   pub its_state : s.state ≡ state
   pub ready_is : s.ready ≡ true
 
--- no print goes on, and so many were started
+-- no print goes on, and this number of them was started
 pub record IsFree (started : ℕ) (s : Standing) : Type 0 where
   pub print_is : s.print ≡ started
   pub active_is : s.active ≡ false
@@ -94,7 +94,7 @@ pub record IsWhole (p : PrintData) (d : Data) (issued : List (List ℕ)) : Type 
   pub acknowledged : d.issued ≤ d.acked
   pub all : d.issued < 18446744073709551615 → d.issued ≡ length issued
 
--- a fact that the link may give to such a desk
+-- a fact that the link may report to such a desk
 abbrev pub Suits : LinkFact → ℕ → Data → Type 0
 Suits fact.Quiet acked d = d.acked ≤ acked
 Suits fact.Opened acked d = d.state ≡ Connecting

@@ -8,7 +8,7 @@ use Rattle.print_queue.specs.Lawful.{IsApart}
 use Rattle.print_queue.proofs.Pairs.{Pairs, each_so, each_both}
 use Rattle.print_queue.proofs.Comparisons.{before_turned, before_one_way, before_chain, key_other, apart_turned}
 
--- an entry that stands in front of another
+-- an entry that comes before another
 abbrev pub Above : QueueEntry → QueueEntry → Type 0
 Above a b = (is_before a b ≡ true) × IsApart a b
 

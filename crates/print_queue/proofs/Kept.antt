@@ -14,7 +14,7 @@ use Rattle.print_queue.specs.Lawful.{IsApart, IsWhole, IsLawful, HasPlace}
 use Rattle.print_queue.proofs.Pairs.{Pairs, pairs_from, pairs_to}
 use Rattle.print_queue.proofs.Edits.{Above, with_left, each_insert, pairs_insert}
 
--- each lawful row stands in front of the later ones
+-- each lawful row comes before the later ones
 pub above_from : (rows : List QueueEntry) → IsLawful rows → Pairs Above rows
 above_from rows lawful = pairs_from Above rows (λ i j d below within. (lawful.ordered i j d below within, lawful.sound.apart i j d below within))
 

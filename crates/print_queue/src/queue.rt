@@ -23,7 +23,10 @@ impl Model for Queue {
 
     ghost Value = { QueueData };
 
-    ghost view = { λ q. record { rows = q.entries.items; spare = vec_capacity q.entries - vec_len q.entries } };
+    ghost view = { λ q. record {
+      rows = q.entries.items;
+      spare = vec_capacity q.entries - vec_len q.entries;
+    } };
 
     ghost invariant = { λ q. IsLawful q.entries.items };
 }
@@ -45,7 +48,7 @@ impl Queue {
         }
     }
 
-    /// The queue of exactly these entries, which keep their order if it is that of printing; takes no memory.
+    /// The queue of exactly these entries, which keep their order if it is the order of printing; takes no memory.
     pub fn from_entries(entries: EntryList) -> Self
         requires { IsSound entries }
         ensures same { IsPermutation entries result.rows }
@@ -82,7 +85,8 @@ impl Queue {
         requires most { copies ≤ 100 }
 
         ensures answer { result ≢ Err refusal.NoMemory
-            → result ≡ put_answer self.old.rows (wanted user.now name.now file.now priority copies material.now) }
+            → result ≡ put_answer self.old.rows
+            (wanted user.now name.now file.now priority copies material.now) }
         ensures rows { self.new.rows ≡ rows_after_put self.old.rows result }
     {
         let asked = QueueEntry::wanted(user, name, file, priority, copies, material);
@@ -152,7 +156,8 @@ impl Queue {
     pub fn take(&mut self, user: &Name, name: &Name) -> Result<QueueEntry, QueueRefusal>
         ensures answer { result ≡ ok_or (held user.now name.now self.old.rows) refusal.NoEntry }
         ensures rows { OnOk result (self.new.rows ≡ without_copy user.now name.now self.old.rows) }
-        ensures spare { IfOk result (λ entry. self.new.spare ≡ self.old.spare + (if nat_le entry.left 1 then 1 else 0)) }
+        ensures spare { IfOk result
+            (λ entry. self.new.spare ≡ self.old.spare + (if nat_le entry.left 1 then 1 else 0)) }
         ensures err { OnErr result (self.new ≡ self.old) }
 
         ensures can_restore { IfOk result (λ entry. CanRestore entry self.new) }
@@ -200,7 +205,8 @@ impl Queue {
 
     /// The entries of a user, or of all users, in their order.
     pub fn own(&self, user: Option<&Name>) -> Result<EntryList, AllocError>
-        ensures rows { IfOk result (λ list. list ≡ filter (is_of (option_map (λ u. u.now) user.entry)) self.now.rows) }
+        ensures rows { IfOk result
+            (λ list. list ≡ filter (is_of (option_map (λ u. u.now) user.entry)) self.now.rows) }
         ensures ordered { IfOk result IsOrdered }
     {
         let mut list = EntryList::new(*self.entries.allocator());

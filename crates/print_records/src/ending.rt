@@ -1,6 +1,6 @@
-//! How a print stands or ended.
+//! How a print goes or ended.
 
-/// How a print stands.
+/// How a print goes.
 #[derive(Clone, Copy, Debug, PartialEq, Eq)]
 pub enum Outcome {
     /// It is still going on.

@@ -1,4 +1,4 @@
-//! Records of prints: how each print of a host stands or ended.
+//! Records of prints: how each print of a host goes or ended.
 #![tactic(auto)]
 
 mod ending;

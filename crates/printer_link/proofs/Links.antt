@@ -25,7 +25,7 @@ grows_by l added now Kind is kind = record {
   grew = λ list e. (let same : list ≡ now = cc in (l.story.past, added, refl, same ∙ is, kind));
 }
 
--- the world behind further events of a link
+-- the world after more events of a link
 pub grown_world : (l : MemoryLinkData) (added : List WorldEvent) → link_world (grown l added) ≡ world_from (link_world l) added
 grown_world l added = world_of-append l.story.places l.story.advanced l.story.past added
 
@@ -203,7 +203,7 @@ quiet_past l first mid new restarts due into Line first_is mid_is received nothi
 quiet_past l first mid new restarts due into Nothing first_is mid_is received nothing =
     quiet_grows l new restarts due (from_asked l mid new restarts due into Nothing (asked_is l first mid first_is mid_is) received)
 
--- the link is up behind a receiving
+-- the link is up after a receiving
 pub received_up : (l first mid new : MemoryLinkData) (restarts due : Bool) (into : List ℕ) (got : Heard) → first ≡ called l → mid ≡ heard first → LinkReceived restarts due into got mid new → (link_world l).linked ≡ true → (link_world new).linked ≡ true
 received_up l first mid new restarts due into Line first_is mid_is received open_now =
     let was : LinkHeard restarts due into (asked l) new = from_asked l mid new restarts due into Line (asked_is l first mid first_is mid_is) received in

@@ -36,12 +36,12 @@ pub free_replicate : (n : ℕ) → list_all is_free (replicate n Arrive) ≡ tru
 free_replicate zero = refl
 free_replicate (suc n) = free_replicate n
 
--- an arrival can happen where a line is on its way and the printer has a place
+-- an arrival can happen if a line is on its way and the printer has a place
 pub arrive_can : (w : WorldData) (line : List ℕ) (behind : List (List ℕ)) → w.up ≡ line ∷ behind → is_full w.printer ≡ false → can_happen w Arrive ≡ true
 arrive_can w line behind same room =
     ap (λ (up : List (List ℕ)). not (is_empty up) && not (is_full w.printer)) same ∙ ap not room
 
--- the wire behind an arrival
+-- the wire after an arrival
 arrived_up : (w : WorldData) (line : List ℕ) (behind : List (List ℕ)) → w.up ≡ line ∷ behind → is_full w.printer ≡ false → (apply w Arrive).up ≡ behind
 arrived_up w line behind same room =
     ap (λ (v : WorldData). v.up) (happens w Arrive (arrive_can w line behind same room))

@@ -30,7 +30,7 @@ pub record Recorded (old new : Option (List WorldEvent)) (Addition : List WorldE
   pub stays : is_some new ≡ is_some old
   pub grew : Became old new Addition
 
--- the same for an addition that is told by the world before it
+-- the same for an addition that the world before it determines
 abbrev pub Grows : LinkKind → Option (List WorldEvent) → Option (List WorldEvent) → (WorldData → List WorldEvent → Type 0) → Type 0
 Grows kind old new Addition = Recorded old new (λ past added. Addition (world_in kind past) added)
 
@@ -118,7 +118,7 @@ pub record IsSendLoss (w : WorldData) (added : List WorldEvent) : Type 0 where
   pub free_behind : list_all is_free behind ≡ true
   pub linked : (world_from w (before ++ failing ++ behind)).linked ≡ true
 
--- the link is closed where it was up, and nothing else
+-- the link is closed if it was up, and nothing else
 abbrev pub IsHangUp : Bool → WorldData → List WorldEvent → Type 0
 IsHangUp true w added = (added ≡ Closed ∷ []) × (w.linked ≡ true)
 IsHangUp false w added = added ≡ []
@@ -128,7 +128,7 @@ abbrev pub counted_one : Option ℕ → Option ℕ
 counted_one None = None
 counted_one (Some calls) = Some (min (calls + 1) 18446744073709551615)
 
--- the count of calls, where told, rose by at least so many, unless it stands at its type's last value
+-- the count of calls, if recorded, rose by at least this number, unless it is at its type's last value
 abbrev pub RoseBy : ℕ → Option ℕ → Option ℕ → Type 0
 RoseBy n None None = Unit {0}
 RoseBy n (Some before) (Some now) = now < 18446744073709551615 → before + n ≤ now
@@ -143,18 +143,18 @@ abbrev pub arrivals : WorldData → List (List ℕ) → List WorldEvent
 arrivals w [] = []
 arrivals w (line ∷ behind) = if is_full w.printer then [] else Arrive ∷ arrivals (happen w Arrive) behind
 
--- one run, where it is due and something waits
+-- one run, if it is due and something waits
 abbrev pub due_run : Bool → WorldData → List WorldEvent
 due_run due w = if due then (if is_empty w.printer.queue then [] else Run ∷ []) else []
 
--- the front of the wire from the printer is received, where there is one
+-- the front of the wire from the printer is received, if there is one
 abbrev pub due_recv : WorldData → List WorldEvent
 due_recv w = if is_empty w.down then [] else Recv ∷ []
 
--- what arrives, and then a run where it is due
+-- what arrives, and then a run if it is due
 abbrev pub printer_events : Bool → WorldData → List WorldEvent
 printer_events due w = arrivals w w.up ++ due_run due (world_from w (arrivals w w.up))
 
--- a receiving: what arrives, a run where it is due, and the front of the wire from the printer
+-- a receiving: what arrives, a run if it is due, and the front of the wire from the printer
 abbrev pub recv_events : Bool → WorldData → List WorldEvent
 recv_events due w = printer_events due w ++ due_recv (world_from w (printer_events due w))

@@ -39,7 +39,7 @@ pub record MemoryLinkData : Type 0 where
 abbrev pub story_world : StoryData → WorldData
 story_world s = world_of s.places s.advanced s.past
 
--- a past with further events
+-- a past with more events
 abbrev pub with_events : StoryData → List WorldEvent → StoryData
 with_events s events = record s { past = s.past ++ events }
 
@@ -47,7 +47,7 @@ with_events s events = record s { past = s.past ++ events }
 abbrev pub sends : List WorldEvent → ℕ
 sends past = count_by is_send past
 
--- the fate of the next line, by its number; behind the last fate all are whole
+-- the fate of the next line, by its number; after the last fate all are whole
 abbrev pub next_fate : StoryData → Fate
 next_fate s = slice_index_or s.fates (sends s.past) Whole
 
@@ -73,7 +73,7 @@ before_reply restarts due w = restart_events restarts ++ printer_events due (wor
 abbrev pub queue_runs : WorldData → List WorldEvent
 queue_runs w = replicate (length w.printer.queue) Run
 
--- the number that the printer has where a link is made: the given one at the first, then its own
+-- the number that the printer has when a link is made: the given one at the first, then its own
 abbrev pub opening_last : StoryData → ℕ → ℕ
 opening_last s first =
     if list_any is_opened s.past then (world_from (story_world s) (queue_runs (story_world s))).printer.last else first
@@ -168,12 +168,12 @@ pub record LinkMoved (old new : MemoryLinkData) : Type 0 where
   pub is : new ≡ grown old added
   pub free : list_all is_free added ≡ true
 
--- a line was received behind what the printer did
+-- a line was received after what the printer did
 pub record LinkHeard (restarts due : Bool) (into : List ℕ) (old new : MemoryLinkData) : Type 0 where
   pub is : new ≡ grown old (before_reply restarts due (link_world old) ++ Recv ∷ [])
   pub front : IsFrontReply into (world_from (link_world old) (before_reply restarts due (link_world old))).down
 
--- nothing came behind what the printer did
+-- nothing came after what the printer did
 pub record LinkQuiet (restarts due : Bool) (old new : MemoryLinkData) : Type 0 where
   pub is : new ≡ grown old (before_reply restarts due (link_world old))
   pub empty : (world_from (link_world old) (before_reply restarts due (link_world old))).down ≡ []

@@ -1,4 +1,4 @@
-//! Links from a host to a printer, which tell what happened between both, and a link in memory.
+//! Links from a host to a printer, which record what happened between both, and a link in memory.
 #![tactic(auto)]
 
 mod link;

@@ -1,6 +1,6 @@
 //! A link to a printer: lines go out, reply lines come in, and what happened between is its past.
-ghost use Rattle.std.specs.Prelude.{◌≡◌, ◌≤◌, ◌↔◌, ℕ, Bool, true, false, List, [], ◌∷◌, Option, Some, None, length, is_some, IfOk, OnOk, OnErr, IsErrOf};
-ghost use Rattle.octo_outside.specs.Told.{Rose};
+ghost use Rattle.std.specs.Prelude.{◌≡◌, ◌≤◌, ◌↔◌, ℕ, Bool, true, false, List, [], ◌∷◌, Option, Some, None, length, is_some, IfOk, OnOk, OnErr, IsErr, IsErrOf};
+ghost use Rattle.octo_outside.specs.Told.{Counts};
 ghost use Rattle.printer_link.specs.Link.{LinkKind, HasSlots, Grows, IsOpenAs, IsNothing, IsRuns, IsDial, IsSend, IsSendLoss, IsHeard, IsSilence, IsLoss, IsHangUp, IsSendOf, counted_one, dial_events, recv_events};
 ghost use Rattle.printer_model.specs.declared.event.WorldEvent.{WorldEvent};
 ghost use Rattle.printer_model.specs.declared.event.WorldEvent.TheVariants as event;
@@ -29,14 +29,14 @@ pub enum LinkFault {
 
 /// A link to one printer over named ports.
 pub trait Link {
-    /// The events of its past, where told.
+    /// The events of its history, if recorded.
     ghost past: { Self → Option (List WorldEvent) };
 
     /// What no call changes: the printer's buffer slots, whether its acknowledgements are numbered, whether the link is
     /// prompt, and which names are listed.
     ghost kind: { Self → LinkKind };
 
-    /// How many calls of `dial`, `send` and `recv` were made, where told.
+    /// The number of calls of `dial`, `send` and `recv`, if recorded.
     ghost calls: { Self → Option ℕ };
 
     /// Whether a link is made.
@@ -63,10 +63,9 @@ pub trait Link {
         ensures slots { HasSlots (kind self.new) }
         ensures kind { kind self.new ≡ kind self.old }
         ensures calls { calls self.new ≡ counted_one (calls self.old) }
-        ensures counted { faults self.old ≤ faults self.new }
-        ensures failed { IsErrOf result fault.Failed → Rose (faults self.old) (faults self.new) };
+        ensures counts { Counts (IsErrOf result fault.Failed) (faults self.old) (faults self.new) };
 
-    /// Sends a line of at most 95 bytes; the link writes the line end behind it.
+    /// Sends a line of at most 95 bytes; the link writes the line end after it.
     fn send(&mut self, line: &Line) -> Result<(), LinkFault>
         requires open { up self.old ≡ true }
         requires short { length line.now.items ≤ 95 }
@@ -83,8 +82,7 @@ pub trait Link {
         ensures open { IsOpenAs (kind self.new) (past self.new) (up self.new) }
         ensures kind { kind self.new ≡ kind self.old }
         ensures calls { calls self.new ≡ counted_one (calls self.old) }
-        ensures counted { faults self.old ≤ faults self.new }
-        ensures failed { OnErr result (Rose (faults self.old) (faults self.new)) };
+        ensures counts { Counts (IsErr result) (faults self.old) (faults self.new) };
 
     /// Receives a reply line without its line end, cut to 256 bytes, or finds that nothing has come.
     fn recv(&mut self, into: &mut ReplyLine) -> Result<Heard, LinkFault>
@@ -105,10 +103,9 @@ pub trait Link {
         ensures open { IsOpenAs (kind self.new) (past self.new) (up self.new) }
         ensures kind { kind self.new ≡ kind self.old }
         ensures calls { calls self.new ≡ counted_one (calls self.old) }
-        ensures counted { faults self.old ≤ faults self.new }
-        ensures failed { OnErr result (Rose (faults self.old) (faults self.new)) };
+        ensures counts { Counts (IsErr result) (faults self.old) (faults self.new) };
 
-    /// Closes the link where it is up.
+    /// Closes the link if it is up.
     fn hang_up(&mut self)
         ensures past { Grows (kind self.old) (past self.old) (past self.new)
             (IsHangUp (up self.old)) }

@@ -1,7 +1,7 @@
 //! A link to the printer in memory, which loses, garbles and fails by a schedule.
-ghost use Rattle.std.specs.Prelude.{◌≡◌, ◌≤◌, ◌∷◌, [], true, false, IfOk, OnOk, OnErr, ◌↔◌, ℕ, IsErrOf, Err, Some, length, count_by};
+ghost use Rattle.std.specs.Prelude.{◌≡◌, ◌≤◌, ◌∷◌, [], true, false, IfOk, OnOk, OnErr, IsErr, ◌↔◌, ℕ, IsErrOf, Err, Some, length, count_by};
 ghost use Rattle.octo_outside.specs.Memory.{one_more, is_listed};
-ghost use Rattle.octo_outside.specs.Told.{Rose};
+ghost use Rattle.octo_outside.specs.Told.{Counts};
 ghost use Rattle.printer_model.specs.Executed.{executed, is_loss};
 ghost use Rattle.printer_link.specs.Memory.{called, closing_events, failed, grown, heard, is_due, is_prompt, link_kind, lists_name, link_world, new_link, next_fate, opening_last, send_events, sends, LinkReceived};
 ghost use Rattle.printer_link.specs.Link.{HasSlots, Grows, IsDial, IsHangUp, IsHeard, IsLoss, IsNothing, IsOpenAs, IsRuns, IsSend, IsSendLoss, IsSendOf, IsSilence, counted_one, dial_events, recv_events};
@@ -42,7 +42,17 @@ impl Model for MemoryLink {
 
     ghost Value = { MemoryLinkData };
 
-    ghost view = { λ l. record { story = l.story; names = l.names; last = l.last; slow = l.slow; fail_at = l.fail_at; restart_at = l.restart_at; calls = l.calls; recvs = l.recvs; faults = l.faults } };
+    ghost view = { λ l. record {
+      story = l.story;
+      names = l.names;
+      last = l.last;
+      slow = l.slow;
+      fail_at = l.fail_at;
+      restart_at = l.restart_at;
+      calls = l.calls;
+      recvs = l.recvs;
+      faults = l.faults;
+    } };
 
     ghost invariant = { λ l. (1 ≤ l.story.places) × (l.story.places ≤ 16) };
 }
@@ -162,8 +172,7 @@ impl Link for MemoryLink {
         ensures slots { HasSlots (link_kind self.new) }
         ensures kind { link_kind self.new ≡ link_kind self.old }
         ensures calls { Some self.new.calls ≡ counted_one (Some self.old.calls) }
-        ensures counted { self.old.faults ≤ self.new.faults }
-        ensures failed { IsErrOf result fault.Failed → Rose self.old.faults self.new.faults }
+        ensures counts { Counts (IsErrOf result fault.Failed) self.old.faults self.new.faults }
     {
         let fails = self.begin();
         if !self.lists(name) {
@@ -200,8 +209,7 @@ impl Link for MemoryLink {
             (link_world self.new).linked }
         ensures kind { link_kind self.new ≡ link_kind self.old }
         ensures calls { Some self.new.calls ≡ counted_one (Some self.old.calls) }
-        ensures counted { self.old.faults ≤ self.new.faults }
-        ensures failed { OnErr result (Rose self.old.faults self.new.faults) }
+        ensures counts { Counts (IsErr result) self.old.faults self.new.faults }
     {
         let fails = self.begin();
         match self.transmit(fails, line) {
@@ -238,8 +246,7 @@ impl Link for MemoryLink {
             (link_world self.new).linked }
         ensures kind { link_kind self.new ≡ link_kind self.old }
         ensures calls { Some self.new.calls ≡ counted_one (Some self.old.calls) }
-        ensures counted { self.old.faults ≤ self.new.faults }
-        ensures failed { OnErr result (Rose self.old.faults self.new.faults) }
+        ensures counts { Counts (IsErr result) self.old.faults self.new.faults }
     {
         let fails = self.begin();
         let due = self.begin_recv();

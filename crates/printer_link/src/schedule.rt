@@ -8,7 +8,7 @@ pub enum Fate {
     Whole,
     /// It is lost.
     Lost,
-    /// Its last byte, a digit, becomes the next digit, with 0 behind 9.
+    /// Its last byte, a digit, becomes the next digit, with 0 after 9.
     Garbled,
 }
 
@@ -20,13 +20,13 @@ pub type FateList = ItemList<Fate>;
 pub struct Schedule {
     /// The ports that are listed.
     pub names: NameList,
-    /// The printer's last line number where the first link is made.
+    /// The printer's last line number when the first link is made.
     pub last: u32,
     /// How many lines the printer keeps waiting, 1 to 16.
     pub places: u8,
     /// Whether the printer's replies name the line.
     pub advanced: bool,
-    /// The fate of each line that is sent; further ones arrive whole.
+    /// The fate of each line that is sent; later ones arrive whole.
     pub fates: FateList,
     /// The printer runs a line at every receiving whose number is a multiple of this one and 1.
     pub slow: u32,

@@ -34,9 +34,15 @@ impl Model for Story {
 
     ghost Value = { StoryData };
 
-    ghost view = { λ s. record { places = s.places; advanced = s.advanced; fates = s.fates; past = s.past.items } };
+    ghost view = { λ s. record {
+      places = s.places;
+      advanced = s.advanced;
+      fates = s.fates;
+      past = s.past.items;
+    } };
 
-    ghost invariant = { λ s. IsKept s.places s.advanced s.fates s.past.items s.world s.next × (s.world.linked ≡ true → vec_len s.past < vec_capacity s.past) };
+    ghost invariant = { λ s. IsKept s.places s.advanced s.fates s.past.items s.world s.next
+        × (s.world.linked ≡ true → vec_len s.past < vec_capacity s.past) };
 }
 
 impl Story {
@@ -103,7 +109,7 @@ impl Story {
         Ok(())
     }
 
-    /// Closes the link where one is made; takes no memory.
+    /// Closes the link if one is made; takes no memory.
     pub(crate) fn close(&mut self)
         ensures { self.new ≡ with_events self.old (closing_events (story_world self.old)) }
     {
@@ -161,7 +167,7 @@ impl Story {
         Ok(())
     }
 
-    /// The printer runs a line where that is due and one waits.
+    /// The printer runs a line if that is due and one waits.
     fn run_due(&mut self, due: bool) -> Result<(), AllocError>
         ensures ok { OnOk result (self.new
             ≡ with_events self.old (due_run due (story_world self.old))) }
@@ -204,7 +210,7 @@ impl Story {
         self.run_due(due)
     }
 
-    /// Takes the front of the wire from the printer, where there is one.
+    /// Takes the front of the wire from the printer, if there is one.
     pub(crate) fn receive(&mut self, into: &mut ReplyLine) -> Result<Heard, AllocError>
         ensures line { IfOk result (λ got. got ≡ heard.Line
             → (self.new ≡ with_events self.old (event.Recv ∷ []))
@@ -251,14 +257,14 @@ fn has_opened(past: &[WorldEvent]) -> bool
     past.iter().any(|event| event.is_opened())
 }
 
-/// The number of a later link, or that of the first.
+/// The number of a later link, or of the first.
 fn later_or_first(opened: bool, later: u32, first: u32) -> u32
     ensures { result ≡ (if opened then later else first) }
 {
     if opened { later } else { first }
 }
 
-/// The fate at a place, whole behind the last.
+/// The fate at a place, whole after the last.
 fn fate_at(fates: &[Fate], place: usize) -> Fate
     ensures { result ≡ slice_index_or fates.now place Whole }
 {
@@ -275,7 +281,7 @@ fn copy_of(line: &Line) -> Line
     bounded_text(line.as_slice())
 }
 
-/// Adds what becomes of the line at a place, which takes no memory where there is room for an event.
+/// Adds what becomes of the line at a place, which takes no memory if there is room for an event.
 fn harm(world: &mut World, past: &mut Vec<WorldEvent>, fate: Fate, at: u32, line: &Line)
     requires { vec_len past.old < vec_capacity past.old }
     ensures world { world.new ≡ world_from world.old (harm_events fate at line.now) }
@@ -296,7 +302,7 @@ fn harm(world: &mut World, past: &mut Vec<WorldEvent>, fate: Fate, at: u32, line
     }
 }
 
-/// Adds an event that takes no memory where there is room for it.
+/// Adds an event that takes no memory if there is room for it.
 fn note(world: &mut World, past: &mut Vec<WorldEvent>, event: WorldEvent)
     requires room { vec_len past.old < vec_capacity past.old }
     requires small { takes_memory event ≡ false }

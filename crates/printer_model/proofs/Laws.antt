@@ -35,7 +35,7 @@ happens w event can = ap (λ (b : Bool). cond b (happen w event) w) can
 pub stays : (w : WorldData) (event : WorldEvent) → can_happen w event ≡ false → apply w event ≡ w
 stays w event cannot = ap (λ (b : Bool). cond b (happen w event) w) cannot
 
--- what holds before an event, and after it where it happens, holds after it
+-- what holds before an event, and after it if it happens, holds after it
 pub after_event : (P : WorldData → Type 0) (w : WorldData) (event : WorldEvent) → P w → (can_happen w event ≡ true → P (happen w event)) → P (apply w event)
 after_event P w event before after = cond_both (can_happen w event) (happen w event) w P after (λ _. before)
 
@@ -194,7 +194,7 @@ run_out w [] same = same
 run_out w (entry ∷ behind) same =
     run_out (apply w Run) behind (ap (λ (v : WorldData). v.printer.queue) (run_queue_of w entry behind same))
 
--- a link can be made where none is and nothing waits
+-- a link can be made if none is and nothing waits
 pub can_open : (w : WorldData) (last : ℕ) → w.linked ≡ false → w.printer.queue ≡ [] → can_happen w (Opened last) ≡ true
 can_open w last closed idle = ap (λ (b : Bool). not b && is_empty w.printer.queue) closed ∙ ap is_empty idle
 
@@ -305,7 +305,7 @@ happen-tidy w (Chatter reply) can tidy = open_only w (happen w (Chatter reply)) 
 happen-tidy w Recv can tidy = open_only w (happen w Recv) (not (is_empty w.down)) can refl
 happen-tidy w Closed can tidy = λ shut. record { up = refl; down = refl }
 
--- without a link nothing stands on the wires, after each event too
+-- without a link nothing is on the wires, after each event too
 pub apply-tidy : (w : WorldData) (event : WorldEvent) → IsTidy w → IsTidy (apply w event)
 apply-tidy w event tidy = after_event IsTidy w event tidy (λ can. happen-tidy w event can tidy)
 

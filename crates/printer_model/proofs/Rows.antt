@@ -43,7 +43,7 @@ plain : (take_line (at 4) (codes "M105")) ≡ (Accepted, record { last = 4; plac
 unfolding judged begins_with_n
 plain = refl
 
--- a second N gives the number, the first one the lead
+-- a second N has the number, the first one the lead
 second : (take_line (at 4) (codes "N7 M110 N9*115")).1.queue ≡ record { number = Some 9; lead = Some 7; text = codes "M110 N9" } ∷ []
 unfolding judged is_out_of_turn begins_with_n checked_part has_checksum checksum_matches fails line_number_of lead_of has_second_n has_m110 has_byte number_of leading_digits decimal_value xor_of text_of behind_digits behind_space
 second = refl

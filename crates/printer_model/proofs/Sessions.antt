@@ -1,4 +1,4 @@
--- A past by its sessions: what further events leave of what was executed.
+-- A past by its sessions: what more events leave of what was executed.
 use Rattle.std.proofs.Common.{◌≡◌, ℕ, zero, suc, pred, ◌+◌, ◌-◌, ◌<◌, ◌≤◌, Bool, List, [], ◌∷◌, ◌++◌, length, drop, refl, sym, append-nil, length-append, ◌∙◌, ap, arith}
 use Rattle.std.specs.Prelude.{Some, None, filter, Result, Ok, Err, IfOk}
 use Rattle.std.proofs.lemmas.List.{drop-append-le}
@@ -15,7 +15,7 @@ abbrev lines_between : ℕ → Bool → List WorldEvent → List WorldEvent → 
 lines_between places advanced short long =
     filter is_counted (drop (length (world_of places advanced short).log) (world_of places advanced long).log)
 
--- once the Opened behind session s stands, what comes later isn't before it
+-- once the Opened after session s is there, what comes later isn't before it
 pub till-append : (s : ℕ) (past added : List WorldEvent) → s < opens past → till s (past ++ added) ≡ till s past
 till-append s [] added later = absurd (omega arith)
 till-append zero (Opened last ∷ past) added later = refl
@@ -102,7 +102,7 @@ front-Grew places advanced front whole part =
     let grew : Grew (world_of places advanced front).log (world_from (world_of places advanced front) part.behind).log = world_from-Grew (world_of places advanced front) part.behind in
     record { added = grew.added; is = ap (λ (w : WorldData). w.log) same ∙ grew.is }
 
--- what a log that grew has behind its old length
+-- what a log that grew has after its old length
 drop_grown : (start : ℕ) (log lines grown : List Logged) → start ≤ length log → grown ≡ log ++ lines → filter is_counted (drop start grown) ≡ filter is_counted (drop start log) ++ filter is_counted lines
 drop_grown start log lines grown within is =
     ap (λ (l : List Logged). filter is_counted (drop start l)) is
@@ -116,7 +116,7 @@ pred_less : (s n : ℕ) → 0 < s → n ≡ s → pred s < n
 pred_less zero n above same = absurd (omega arith)
 pred_less (suc s) n above same = omega arith
 
--- what further events without an Opened add to the last session: the lines that they add to the log
+-- what more events without an Opened add to the last session: the lines that they add to the log
 pub executed-more : (places : ℕ) (advanced : Bool) (past added : List WorldEvent) (s : ℕ) (lines : List Logged) → 0 < s → opens past ≡ s → opens added ≡ 0 → (world_of places advanced (past ++ added)).log ≡ (world_of places advanced past).log ++ lines → executed places advanced (past ++ added) s ≡ executed places advanced past s ++ filter is_counted lines
 executed-more places advanced past added s lines counted last same_session grown =
     let before : till (pred s) (past ++ added) ≡ till (pred s) past = till-append (pred s) past added (pred_less s (opens past) counted last) in
@@ -128,7 +128,7 @@ executed-more places advanced past added s lines counted last same_session grown
     ∙ drop_grown (length (world_of places advanced (till (pred s) past)).log) (world_of places advanced past).log lines (world_of places advanced (past ++ added)).log (grown_length old) grown
     ∙ ap (λ (es : List WorldEvent). lines_between places advanced (till (pred s) past) es ++ filter is_counted lines) (sym here)
 
--- further events that neither open a session nor run a line leave the last session
+-- more events that neither open a session nor run a line leave the last session
 pub executed-same : (places : ℕ) (advanced : Bool) (past added : List WorldEvent) (s : ℕ) → 0 < s → opens past ≡ s → opens added ≡ 0 → (world_of places advanced (past ++ added)).log ≡ (world_of places advanced past).log → executed places advanced (past ++ added) s ≡ executed places advanced past s
 executed-same places advanced past added s counted last same_session same =
     executed-more places advanced past added s [] counted last same_session (same ∙ sym (append-nil (world_of places advanced past).log))
@@ -148,7 +148,7 @@ till-over s (Chatter reply) past over = absurd (cc)
 till-over s Recv past over = absurd (cc)
 till-over s Closed past over = absurd (cc)
 
--- and otherwise goes on behind the event
+-- and otherwise goes on after the event
 pub till-on : (s : ℕ) (event : WorldEvent) (past : List WorldEvent) (n : ℕ) → left_behind s (is_opened event) ≡ Some n → till s (event ∷ past) ≡ event ∷ till n past
 till-on zero (Opened last) past n on = absurd (cc)
 till-on (suc s) (Opened last) past n on = let same : s ≡ n = cc in ap (λ (k : ℕ). Opened last ∷ till k past) same

@@ -69,7 +69,7 @@ till-stop (Chatter reply ∷ past) rest last = ap (λ (es : List WorldEvent). Ch
 till-stop (Recv ∷ past) rest last = ap (λ (es : List WorldEvent). Recv ∷ es) (till-stop past rest last)
 till-stop (Closed ∷ past) rest last = ap (λ (es : List WorldEvent). Closed ∷ es) (till-stop past rest last)
 
--- a history whose last Opened stands here
+-- a history whose last Opened is here
 record IsLast (front rest : List WorldEvent) (last : ℕ) : Type 0 where
   here : till (suc (opens front)) (front ++ Opened last ∷ rest) ≡ front ++ Opened last ∷ rest
   before : till (opens front) (front ++ Opened last ∷ rest) ≡ front
@@ -122,7 +122,7 @@ pred_within : (s n : ℕ) → s ≤ n → pred s ≤ n
 pred_within zero n within = within
 pred_within (suc s) n within = omega arith
 
--- a further session leaves what was executed in those before it
+-- another session leaves what was executed in those before it
 pub executed-before : (places : ℕ) (advanced : Bool) (past rest : List WorldEvent) (last s : ℕ) → s ≤ opens past →
     executed places advanced (past ++ Opened last ∷ rest) s ≡ executed places advanced past s
 executed-before places advanced past rest last s within =

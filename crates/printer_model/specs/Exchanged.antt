@@ -30,7 +30,7 @@ sent_by count (Send line) = count + 1
 sent_by count Recv = 0
 sent_by count _ = count
 
--- how many lines were sent since a reply was received, after further events
+-- how many lines were sent since a reply was received, after more events
 abbrev pub sends_since : ℕ → List WorldEvent → ℕ
 sends_since count [] = count
 sends_since count (event ∷ events) = sends_since (sent_by count event) events

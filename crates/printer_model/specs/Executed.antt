@@ -27,13 +27,13 @@ abbrev pub opens : List WorldEvent → ℕ
 opens [] = 0
 opens (event ∷ past) = if is_opened event then suc (opens past) else opens past
 
--- how many sessions are still to come behind an event, none where it opens one too many
+-- how many sessions are still to come after an event, none if it opens one too many
 abbrev pub left_behind : ℕ → Bool → Option ℕ
 left_behind s false = Some s
 left_behind zero true = None
 left_behind (suc s) true = Some s
 
--- the events from an Opened on, where sessions are still to come
+-- the events from an Opened on, if sessions are still to come
 abbrev pub open_on : ℕ → List WorldEvent → List WorldEvent
 open_on zero events = []
 open_on (suc s) events = events

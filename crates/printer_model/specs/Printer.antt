@@ -57,7 +57,7 @@ judged last line =
     else if fails line then Err Mismatch
     else Ok (numbered_entry line)
 
--- the last number behind an entry
+-- the last number after an entry
 abbrev pub last_behind : ℕ → Option ℕ → ℕ
 last_behind last None = last
 last_behind last (Some number) = number
@@ -76,7 +76,7 @@ take_line p line = if is_full p then (Full, p) else take_judged p (judged p.last
 unfoldable pub last_after : ℕ → Entry → ℕ
 last_after last entry = if has_m110 entry.text then last_behind last entry.number else last
 
--- what running an entry tells; the places are counted while it still waits
+-- what running an entry says; the places are counted while it still waits
 abbrev pub ran_line : PrinterData → Entry → RanLine
 ran_line p entry =
     record {

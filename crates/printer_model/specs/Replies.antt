@@ -23,7 +23,7 @@ error_line reason last = codes "Error:" ++ reason_text reason ++ codes ", Last L
 unfoldable pub resend_line : ℕ → List ℕ
 resend_line last = codes "Resend: " ++ decimal (asked_after last)
 
--- the third, and the reply to a run line where replies aren't numbered
+-- the third, and the reply to a run line if replies aren't numbered
 unfoldable pub ok_line : List ℕ
 ok_line = codes "ok"
 

@@ -32,7 +32,7 @@ abbrev pub is_empty : {X : Type 0} → List X → Bool
 is_empty [] = true
 is_empty (x ∷ xs) = false
 
--- whether a line may stand on the wire to the printer
+-- whether a line may be on the wire to the printer
 abbrev pub fits_wire : List ℕ → Bool
 fits_wire line = nat_le (length line) 95
 
@@ -96,7 +96,7 @@ abbrev pub arrive_front : WorldData → List (List ℕ) → WorldData
 arrive_front w [] = w
 arrive_front w (line ∷ behind) = arrived w behind (take_line w.printer line)
 
--- a reply line on the wire from the printer, where a link is made
+-- a reply line on the wire from the printer, if a link is made
 abbrev pub replied : WorldData → List ℕ → List (List ℕ)
 replied w reply = if w.linked then w.down ++ reply ∷ [] else w.down
 
@@ -114,7 +114,7 @@ pub record IsFrontReply (reply : List ℕ) (down : List (List ℕ)) : Type 0 whe
   pub behind : List (List ℕ)
   pub is : down ≡ reply ∷ behind
 
--- what an event does where it can happen
+-- what an event does if it can happen
 abbrev pub happen : WorldData → WorldEvent → WorldData
 happen w (Opened last) = record w { linked = true; printer = record w.printer { last = last }; up = []; down = [] }
 happen w (Send line) = record w { up = w.up ++ line.items ∷ [] }
@@ -153,12 +153,12 @@ world_from w events = fold apply w events
 abbrev pub world_of : ℕ → Bool → List WorldEvent → WorldData
 world_of places advanced past = world_from (new_world places advanced) past
 
--- without a link nothing stands on the wires
+-- without a link nothing is on the wires
 pub record IsShut (w : WorldData) : Type 0 where
   pub up : w.up ≡ []
   pub down : w.down ≡ []
 
--- a link is made, or nothing stands on the wires
+-- a link is made, or nothing is on the wires
 abbrev pub IsTidy : WorldData → Type 0
 IsTidy w = w.linked ≡ false → IsShut w
 
@@ -166,7 +166,7 @@ IsTidy w = w.linked ≡ false → IsShut w
 abbrev pub accepted_lines : WorldData → List Logged
 accepted_lines w = w.log ++ map waiting_as w.printer.queue
 
--- new is old with further lines
+-- new is old with more lines
 pub record Grew (old new : List Logged) : Type 0 where
   pub added : List Logged
   pub is : new ≡ old ++ added

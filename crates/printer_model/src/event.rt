@@ -26,7 +26,7 @@ pub enum WorldEvent {
     Chatter(ReplyLine),
     /// The host takes the front of the wire from the printer, over an open link.
     Recv,
-    /// The open link is closed: what stands on both wires is gone, and what waits in the printer stays.
+    /// The open link is closed: what is on both wires is gone, and what waits in the printer stays.
     Closed,
 }
 

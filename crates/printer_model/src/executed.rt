@@ -10,7 +10,7 @@ use marlin_frame::HELLO_NUMBER;
 use std::alloc::{AllocError, Global};
 use std::marker::Model;
 
-/// A line that the printer ran, with its number where it had one.
+/// A line that the printer ran, with its number if it had one.
 #[derive(Drop)]
 pub struct ExecutedLine {
     pub number: Option<u32>,
@@ -66,7 +66,7 @@ impl Executed {
     }
 }
 
-/// What follows so many lines.
+/// What follows this number of lines.
 fn behind(lines: &[ExecutedLine], count: usize) -> &[ExecutedLine]
     ensures { result.now ≡ drop count lines.now }
 {
@@ -77,7 +77,7 @@ fn behind(lines: &[ExecutedLine], count: usize) -> &[ExecutedLine]
     }
 }
 
-/// How many sessions are still to come behind an event, none where it opens one too many.
+/// How many sessions are still to come after an event, none if it opens one too many.
 fn left_behind(left: u32, event: &WorldEvent) -> Option<u32>
     ensures { result ≡ left_behind left (is_opened event.now) }
 {

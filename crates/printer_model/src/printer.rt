@@ -16,7 +16,7 @@ pub enum Reason {
     WrongNumber,
     /// The line has no `*`.
     NoChecksum,
-    /// The checksum isn't that of the line.
+    /// The checksum isn't the line's.
     Mismatch,
 }
 
@@ -31,7 +31,7 @@ pub enum Taken {
     Refused { reason: Reason, last: u32 },
 }
 
-/// A line that the printer ran, with its number where it had one, and the reply to it.
+/// A line that the printer ran, with its number if it had one, and the reply to it.
 #[derive(Drop)]
 pub struct Ran {
     pub number: Option<u32>,
@@ -47,7 +47,7 @@ impl Model for Ran {
     ghost view = { λ r. record { number = r.number; text = r.text.items; reply = r.reply.items } };
 }
 
-/// A line that waits to be run. The lead is the number at its front; where a second `N` follows, that one gives the number.
+/// A line that waits to be run. The lead is the number at its front; if a second `N` follows, the number is after that one.
 #[derive(Default, Drop)]
 struct Waiting {
     number: Option<u32>,
@@ -78,13 +78,18 @@ impl Model for Printer {
 
     ghost Value = { PrinterData };
 
-    ghost view = { λ p. record { last = p.last; places = p.places; advanced = p.advanced; queue = p.queue.items } };
+    ghost view = { λ p. record {
+      last = p.last;
+      places = p.places;
+      advanced = p.advanced;
+      queue = p.queue.items;
+    } };
 
     ghost invariant = { λ p. (p.places ≤ 16) × (length p.queue.items ≤ p.places) };
 }
 
 impl Printer {
-    /// A printer with this last line number, 1 to 16 places, and replies that name their line where `advanced` is set. Nothing waits.
+    /// A printer with this last line number, 1 to 16 places, and replies that name their line if `advanced` is set. Nothing waits.
     pub fn new(last: u32, places: u8, advanced: bool) -> Self
         requires some { 1 ≤ places }
         requires few { places ≤ 16 }
@@ -103,7 +108,7 @@ impl Printer {
         }
     }
 
-    /// Takes a line of at most 95 bytes into the queue, refuses it, or leaves it unread where the queue is full.
+    /// Takes a line of at most 95 bytes into the queue, refuses it, or leaves it unread if the queue is full.
     pub fn arrive(&mut self, line: &[u8]) -> Taken
         requires { length line.now ≤ 95 }
         ensures taken { result ≡ (take_line self.old line.now).0 }
@@ -136,7 +141,7 @@ impl Printer {
         }
     }
 
-    /// Runs the front of the queue; None where nothing waits.
+    /// Runs the front of the queue; None if nothing waits.
     pub fn run_one(&mut self) -> Option<Ran>
         ensures ran { result ≡ (run_front self.old).0 }
         ensures after { self.new ≡ (run_front self.old).1 }
@@ -146,7 +151,7 @@ impl Printer {
         ran
     }
 
-    /// What running the front of the queue would tell.
+    /// What running the front of the queue would say.
     pub(crate) fn next_run(&self) -> Option<Ran>
         ensures { result ≡ (run_front self.now).0 }
     {
@@ -201,7 +206,7 @@ impl Printer {
         self.last
     }
 
-    /// Sets the last line number, as a printer has it where a link is made.
+    /// Sets the last line number, as a printer has it when a link is made.
     pub(crate) fn set_last(&mut self, last: u32)
         ensures { self.new ≡ record self.old { last = last } }
     {
@@ -209,7 +214,7 @@ impl Printer {
     }
 }
 
-/// What running an entry tells, with this many free places.
+/// What running an entry says, with this many free places.
 fn ran_line(advanced: bool, free: u8, entry: &Waiting) -> Ran
     ensures { result ≡ record {
       number = entry.now.number;
@@ -276,7 +281,7 @@ fn judge(last: u32, line: &[u8]) -> Result<Waiting, Reason>
     }
 }
 
-/// The last number after an entry was run: a text with `M110` sets it again to the entry's number, where it has one.
+/// The last number after an entry was run: a text with `M110` sets it again to the entry's number, if it has one.
 #[tactic(auto, unfolding(crate::specs::Printer::last_after))]
 fn next_last(last: u32, entry: &Waiting) -> u32
     ensures { result ≡ last_after last entry.now }

@@ -31,7 +31,7 @@ pub fn error_line(reason: Reason, last: u32) -> ReplyLine
     line
 }
 
-/// The second line of a refusal: `Resend:` and the number after the last, or the greatest number behind which there is none.
+/// The second line of a refusal: `Resend:` and the number after the last, or the greatest number after which there is none.
 #[tactic(auto, unfolding(crate::specs::Replies::resend_line, crate::specs::Replies::asked_after))]
 pub fn resend_line(last: u32) -> ReplyLine
     ensures { result.items ≡ resend_line last }
@@ -72,7 +72,7 @@ fn temperatures_line() -> ReplyLine
     line
 }
 
-/// Adds ` N<lead>` where there is a lead.
+/// Adds ` N<lead>` if there is a lead.
 fn append_lead(line: &mut ReplyLine, lead: Option<u32>)
     requires { array_vec_len line.old + 12 ≤ 256 }
     ensures items { line.new.items ≡ line.old.items ++ lead_text lead }
@@ -97,7 +97,7 @@ fn numbered_ok(lead: Option<u32>, free: u8) -> ReplyLine
     line
 }
 
-/// The reply to a line that was run, numbered where the printer answers so.
+/// The reply to a line that was run, numbered if the printer answers so.
 #[tactic(auto, unfolding(crate::specs::Replies::run_reply))]
 pub(crate) fn run_reply(advanced: bool, lead: Option<u32>, text: &[u8], free: u8) -> ReplyLine
     ensures { result.items ≡ run_reply advanced lead text.now free }

@@ -77,13 +77,14 @@ pub fn reply_law()
         → kind_of (run_reply false lead text free) ≡ reply.Ok None None None None }
     ensures named { (lead : ℕ) (text : List ℕ) (free : ℕ) → bytes_eq text (codes "M105") ≡ false
         → lead < 2 ^ 32 → free < 2 ^ 32
-        → kind_of (run_reply true (Some lead) text free) ≡ reply.Ok (Some lead) (Some 15) (Some free) None }
+        → kind_of (run_reply true (Some lead) text free)
+        ≡ reply.Ok (Some lead) (Some 15) (Some free) None }
     ensures unnamed { (text : List ℕ) (free : ℕ) → bytes_eq text (codes "M105") ≡ false
         → free < 2 ^ 32
         → kind_of (run_reply true None text free) ≡ reply.Ok None (Some 15) (Some free) None }
 {}
 
-/// What further events leave of what a session executed and add to it, and the last session by itself.
+/// What more events leave of what a session executed and add to it, and the last session by itself.
 pub fn session_law()
     ensures over { (places : ℕ) (advanced : Bool) (past added : List WorldEvent) (s : ℕ)
         → s < opens past
@@ -95,7 +96,7 @@ pub fn session_law()
         → executed places advanced (past ++ added) s
         ≡ executed places advanced past s ++ filter is_counted lines }
 
-    // A further session leaves those before it. What it executes is what the log gains from its Opened on.
+    // Another session leaves those before it. What it executes is what the log gains from its Opened on.
     ensures before { (places : ℕ) (advanced : Bool) (past rest : List WorldEvent) (last s : ℕ)
         → s ≤ opens past
         → executed places advanced (past ++ event.Opened last ∷ rest) s

@@ -72,7 +72,7 @@ impl<const N: usize> Wire<N> {
         Ok(())
     }
 
-    /// Takes the line at the front, where there is one.
+    /// Takes the line at the front, if there is one.
     pub(crate) fn pop(&mut self) -> Option<ArrayVec<u8, N>>
         ensures some { IsSome result ↔ (0 < length self.old) }
         ensures line { IfSome result (λ l. l.items ≡ slice_index_or self.old 0 l.items) }

@@ -31,7 +31,13 @@ impl Model for World {
 
     ghost Value = { WorldData };
 
-    ghost view = { λ w. record { linked = w.linked; printer = w.printer; log = w.log.items; up = w.up; down = w.down } };
+    ghost view = { λ w. record {
+      linked = w.linked;
+      printer = w.printer;
+      log = w.log.items;
+      up = w.up;
+      down = w.down;
+    } };
 }
 
 impl World {
@@ -103,7 +109,7 @@ impl World {
         self.log.as_slice()
     }
 
-    /// Lets an event happen; true where it could. One that can't changes nothing, nor does want of memory.
+    /// Lets an event happen; true if it could. One that can't changes nothing, nor does a call that runs out of memory.
     pub fn apply(&mut self, event: &WorldEvent) -> Result<bool, AllocError>
         ensures step { IsStep self.old event.now self.new result }
         ensures no_memory { OnErr result (takes_memory event.now ≡ true) }
@@ -257,7 +263,7 @@ impl World {
     }
 }
 
-/// Puts a reply on the wire from the printer where a link is made.
+/// Puts a reply on the wire from the printer if a link is made.
 fn answer(down: &mut Wire<256>, linked: bool, reply: ReplyLine) -> Result<(), AllocError>
     ensures ok { OnOk result (down.new
         ≡ (if linked then down.old ++ reply.items ∷ [] else down.old)) }

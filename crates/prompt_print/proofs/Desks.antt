@@ -242,7 +242,7 @@ module _ (p : PrintData) (moment : ℕ) where
   repace lines old first pulled new same is (inr a) =
       inr (a.0, omega (arith, a.1, same.at), ap (λ (d : Data). d.poll_at) is ∙ a.2 ∙ ap (λ (k : ℕ). moment_after moment k) same.ms)
 
-  -- a quiet turn gives at most one poll, which was due
+  -- a quiet turn issues at most one poll, which was due
   pub quiet_paced : (acked : ℕ) (lines : List Line) (old : Data) (ending : Option Ending) (new : Data) (issued : List (List ℕ)) →
       moment < moment_after moment old.poll_ms → old.acked ≤ acked → IsNoted moment acked fact.Quiet lines old ending new → IsUnderway p old issued →
       ArePaced moment lines old new × (new.poll_ms ≡ old.poll_ms)

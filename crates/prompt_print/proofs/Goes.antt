@@ -159,7 +159,7 @@ module _ (moment at poll_ms : ℕ) (kind : LinkKind) (old_past new_past : Option
               idle-remaining p moment mid.desk now gives
               (quiet_settles moment mid.sender.acked h.turn.lines old.desk turned.ending mid.desk noted) none course
 
-      -- the print with this desk, and so many turns to come that hear nothing
+      -- the print with this desk, and this number of turns to come that hear nothing
       going_with : (e : Data) → HasCourse p poll_ms e → e.poll_at ≡ mid.desk.poll_at → remaining p (standing e) ≡ remaining p (standing mid.desk) →
           (n : ℕ) → Silences e mid.sender n → n ≤ g.silences → (old.sender.acked ≡ old.sender.issued → n + 1 ≤ g.silences) →
           IsGoing kind p poll_ms at (left - 1) new_past (record mid { desk = e })

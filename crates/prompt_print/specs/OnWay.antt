@@ -91,7 +91,7 @@ pub data IsOnWay (kind : LinkKind) (p : PrintData) (poll_ms at left : ℕ) (past
   waits : IsToGreet kind p poll_ms left 10 (hello_frame ∷ []) false past x → IsOnWay kind p poll_ms at left past x
   goes : IsGoing kind p poll_ms at left past x → IsOnWay kind p poll_ms at left past x
 
--- a turn that found this leads the print on, once the desk was told to start or to disconnect, or it's done
+-- a turn that found this leads the print on, once the desk was asked to start or to disconnect, or it's done
 abbrev pub LeadsOn : LinkFact → Option Ending → LinkKind → PrintData → ℕ → ℕ → ℕ → Option (List WorldEvent) → SessionData → Type 0
 LeadsOn fact.Opened ending kind p poll_ms at left past x = IsOnWay kind p poll_ms at left past x
 LeadsOn fact.Quiet None kind p poll_ms at left past x = IsOnWay kind p poll_ms at left past x

@@ -1,4 +1,4 @@
--- Each end of a session comes exactly where its rule says.
+-- Each end of a session comes exactly if its rule says.
 use Rattle.std.proofs.Common.{◌≡◌, ◌↔◌, ℕ, arith, sym, ap, subst}
 use Rattle.std.specs.Prelude.{Option, None, Some}
 use Rattle.std.proofs.lemmas.Grind.{common_steps}

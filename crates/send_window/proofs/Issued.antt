@@ -48,7 +48,7 @@ texts_first (ticks moment) steps = refl
 texts_first (issues text) steps = refl
 texts_first (gives moment) steps = refl
 
--- further steps add what they issue
+-- more steps add what they issue
 pub steps_hold : (steps : List Step) (s : SenderData) (texts : List (List ℕ)) → HoldsIssued texts s → HoldsIssued (texts ++ texts_of steps) (after_steps steps s)
 steps_hold [] s texts holds = none_added s texts holds
 steps_hold (step ∷ steps) s texts holds =

@@ -69,7 +69,7 @@ step_owes (ticks moment) traffic s sound in_turn owes =
 step_owes (issues text) traffic s sound in_turn owes = rw append-nil (owes_issued text _ s owes)
 step_owes (gives moment) traffic s sound in_turn owes = owes_none moment traffic s (next_of s) refl sound owes
 
--- what is owed after these steps, behind the traffic before them
+-- what is owed after these steps, after the traffic before them
 record Owed (traffic : List Traffic) (s : SenderData) : Type 0 where
   sound : IsSound s
   owes : OwesLine (sent_since traffic) s

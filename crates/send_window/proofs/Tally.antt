@@ -81,7 +81,7 @@ step_adds (ticks moment) s former swallows = tick_adds moment s former swallows
 step_adds (issues text) s former swallows = issue_adds text s former swallows
 step_adds (gives moment) s former swallows = give_adds moment s former swallows
 
--- the tally of a list is that of its first step and that of the others
+-- the tally of a list is the tally of its first step and of the others
 first_counts : (step : Step) (steps : List Step) (former : Reply) →
     own_oks former (replies_of (step ∷ steps)) ≡ own_of former step + own_oks (former_after former step) (replies_of steps)
 first_counts (hears heard_line moment) steps former = own_oks-cons former heard_line (replies_of steps)
@@ -89,7 +89,7 @@ first_counts (ticks moment) steps former = omega arith
 first_counts (issues text) steps former = omega arith
 first_counts (gives moment) steps former = omega arith
 
--- the last answer of a list is that of the others, behind that of its first step
+-- the last answer of a list is the last one of the others, after the first step's
 first_former : (step : Step) (steps : List Step) (former : Reply) →
     last_of former (answers_of (replies_of (step ∷ steps))) ≡ last_of (former_after former step) (answers_of (replies_of steps))
 first_former (hears heard_line moment) steps former = last_of-cons former heard_line (replies_of steps)

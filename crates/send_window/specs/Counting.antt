@@ -31,15 +31,15 @@ is_resend reply.Other = false
 abbrev pub answers_of : List Reply → List Reply
 answers_of replies = filter (λ heard_line. is_ok heard_line || is_resend heard_line) replies
 
--- each reply with the one before it, given what stands before the first
+-- each reply with the one before it, given what is before the first
 abbrev pub with_former : Reply → List Reply → List (Reply × Reply)
 with_former first replies = zip (first ∷ replies) replies
 
--- an `ok` that doesn't stand behind a Resend
+-- an `ok` that doesn't follow a Resend
 abbrev pub is_own_ok : Reply × Reply → Bool
 is_own_ok p = is_ok p.1 && not (is_resend p.0)
 
--- how many `ok`s there are, without the first one behind a Resend
+-- how many `ok`s there are, without the first one after a Resend
 abbrev pub own_oks : Reply → List Reply → ℕ
 own_oks first replies = count_by is_own_ok (with_former first (answers_of replies))
 
@@ -47,7 +47,7 @@ own_oks first replies = count_by is_own_ok (with_former first (answers_of replie
 abbrev pub acked_of : List Reply → ℕ
 acked_of replies = own_oks reply.Start replies - 1
 
--- the last of a list of replies, given what stands before the first
+-- the last of a list of replies, given what is before the first
 abbrev pub last_of : Reply → List Reply → Reply
 last_of first [] = first
 last_of first (heard_line ∷ replies) = last_of heard_line replies
@@ -72,7 +72,7 @@ abbrev pub is_sent : Traffic → Bool
 is_sent sent = true
 is_sent (received heard_line) = false
 
--- how many lines were sent behind the last reply
+-- how many lines were sent after the last reply
 abbrev pub sent_since : List Traffic → ℕ
 sent_since traffic = prefix_len is_sent (reverse traffic)
 
@@ -92,7 +92,7 @@ abbrev pub traffic_of : List Step → SenderData → List Traffic
 traffic_of [] s = []
 traffic_of (step ∷ steps) s = traffic_at step s ++ traffic_of steps (after_step step s)
 
--- a tick comes where nothing is unsent, unless something was heard since the last limit passed
+-- a tick comes if nothing is unsent, unless something was heard since the last limit passed
 abbrev pub IsInTurn : Step → SenderData → Type 0
 IsInTurn (hears heard_line moment) s = Unit {0}
 IsInTurn (ticks moment) s = (next_of s ≡ None) ⊎ ((s.heard ≡ true) ⊎ (s.silent ≡ 0))

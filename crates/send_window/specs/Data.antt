@@ -81,13 +81,13 @@ pub record IsSound (s : SenderData) : Type 0 where
   -- a line is sent only once it was issued, and no more Resends are ignored than lines were sent
   pub sent_issued : s.sent ≤ s.issued
   pub left_sent : s.left ≤ s.sent
-  -- lines are issued only behind the hello's `ok`, and the hello isn't sent behind it
+  -- lines are issued only after the hello's `ok`, and the hello isn't sent after it
   pub hello_first : s.ready ≡ false → s.issued ≡ 0
   pub hello_before : s.ready ≡ true → s.hello_due ≡ false
-  -- no answer is waited for where all lines are acknowledged, or where the hello is still to be sent
+  -- no answer is waited for if all lines are acknowledged, or if the hello is still to be sent
   pub none_awaited : s.ready ≡ true → s.acked ≡ s.issued → s.deadline ≡ None
   pub hello_unsent : s.hello_due ≡ true → s.deadline ≡ None
-  -- four silent limits are borne, and none is counted where no answer is waited for
+  -- four silent limits are borne, and none is counted if no answer is waited for
   pub silent_most : s.silent ≤ 5
   pub silent_few : s.ended ≡ None → s.silent ≤ 4
   pub silent_none : s.deadline ≡ None → s.silent ≡ 0

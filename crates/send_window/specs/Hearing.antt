@@ -7,11 +7,11 @@ use Rattle.send_window.specs.declared.session_end.SessionEnd.TheVariants.{NoAnsw
 use Rattle.marlin_frame.specs.Numbering.{wire_number, place_of}
 use Rattle.send_window.specs.Data.{SenderData, most_lines}
 
--- a moment so many milliseconds later, at most the greatest one
+-- a moment this number of milliseconds later, at most the greatest one
 unfoldable pub later : ℕ → ℕ → ℕ
 later moment span = min (moment + span) 18446744073709551615
 
--- the deadline at a moment: none where every issued line is acknowledged
+-- the deadline at a moment: none if every issued line is acknowledged
 abbrev pub deadline_at : ℕ → ℕ → ℕ → ℕ → Option ℕ
 deadline_at moment span acknowledged all = if acknowledged == all then None else Some (later moment span)
 
@@ -27,7 +27,7 @@ marked s = record s { heard = true }
 abbrev pub ended_by : SessionEnd → SenderData → SenderData
 ended_by why s = record s { ended = Some why }
 
--- the `ok` behind a Resend counts for nothing
+-- the `ok` after a Resend counts for nothing
 abbrev pub swallowed : SenderData → SenderData
 swallowed s = record s { swallow = false; heard = true }
 
@@ -47,7 +47,7 @@ acknowledged moment s = record s {
   ended = end_of_numbers (s.acked + 1) s.issued;
 }
 
--- an `ok` of a ready session: of a line where one is unacknowledged, else it counts for nothing
+-- an `ok` of a ready session: of a line if one is unacknowledged, else it counts for nothing
 abbrev pub line_ok : ℕ → SenderData → SenderData
 line_ok moment s = if nat_lt s.acked s.issued then acknowledged moment s else marked s
 
@@ -74,7 +74,7 @@ hello_asked moment s = record s {
   heard = false;
 }
 
--- a Resend is one of those to ignore: each line that was sent behind a lost one brings the same again
+-- a Resend is one of those to ignore: each line that was sent after a lost one brings the same again
 abbrev pub is_repeated : ℕ → SenderData → Bool
 is_repeated place s = place == s.asked && nat_lt 0 s.left
 
@@ -128,12 +128,12 @@ unless_ended (Some _) after s = s
 abbrev pub hear_step : Reply → ℕ → SenderData → SenderData
 hear_step heard_line moment s = unless_ended s.ended (heard_reply heard_line moment s) s
 
--- whether a deadline stands and the moment has come
+-- whether there is a deadline and the moment has come
 abbrev pub is_past : Option ℕ → ℕ → Bool
 is_past None moment = false
 is_past (Some wanted) moment = nat_le wanted moment
 
--- the count of silent limits where one more has passed
+-- the count of silent limits if one more has passed
 abbrev pub silent_limits : SenderData → ℕ
 silent_limits s = if s.heard then 0 else s.silent + 1
 
@@ -158,7 +158,7 @@ ticked moment s = if is_past s.deadline moment then limit_passed moment s else s
 abbrev pub tick_step : ℕ → SenderData → SenderData
 tick_step moment s = unless_ended s.ended (ticked moment s) s
 
--- what hearing and ticking answer: the end, where the session has ended
+-- what hearing and ticking answer: the end, if the session has ended
 abbrev pub answer_of : Option SessionEnd → Result (Unit {0}) SessionEnd
 answer_of None = Ok tt
 answer_of (Some why) = Err why

@@ -40,7 +40,7 @@ GivesHeldLines =
     (next_of s ≡ Some hello → s.ready ≡ false)
     × ((place : ℕ) (text : List ℕ) → next_of s ≡ Some (line place text) → IsUnacknowledged texts s place text)
 
--- nothing goes out exactly where the session has ended, or no hello is due and the cursor is past the last line
+-- nothing goes out exactly if the session has ended, or no hello is due and the cursor is past the last line
 abbrev pub GivesNothing : Type 0
 GivesNothing =
     (s : SenderData) →
@@ -61,7 +61,7 @@ AckedRises =
     × ((after_step step s).acked ≤ s.acked + 1)
     × (is_counted step s ≡ false → (after_step step s).acked ≡ s.acked)
 
--- a Resend acknowledges nothing, nor does the `ok` behind it
+-- a Resend acknowledges nothing, nor does the `ok` after it
 abbrev pub ResendKeepsAcked : Type 0
 ResendKeepsAcked =
     (number moment : ℕ) (s : SenderData) →
@@ -76,7 +76,7 @@ EndStays =
     (next_of s ≡ None) × (room_of s ≡ 0)
     × ((step : Step) → ((after_step step s).ended ≡ Some why) × ((after_step step s).acked ≡ s.acked))
 
--- the number that an `ok` names, where it is one
+-- the number that an `ok` names, if it is one
 abbrev pub ok_number : Reply → Option (Option ℕ)
 ok_number (reply.Ok number _ _ _) = Some number
 ok_number (reply.Resend _) = None
@@ -119,14 +119,14 @@ IsEndedAt (Counts _ _) moment s = ⊥
 IsEndedAt Restarted moment s = ⊥
 IsEndedAt (NumbersUsed _) moment s = ⊥
 
--- each end comes exactly where its rule says
+-- each end comes exactly if its rule says
 abbrev pub EndsByRule : Type 0
 EndsByRule =
     (why : SessionEnd) (s : SenderData) (moment : ℕ) → s.ended ≡ None →
     ((heard_line : Reply) → ((hear_step heard_line moment s).ended ≡ Some why) ↔ IsEndedBy why heard_line s)
     × (((tick_step moment s).ended ≡ Some why) ↔ IsEndedAt why moment s)
 
--- after any steps of a session acked is at most what the replies alone say, and just that where the session hasn't
+-- after any steps of a session acked is at most what the replies alone say, and just that if the session hasn't
 -- ended and each `ok` that counts for a line came while one was unacknowledged
 abbrev pub AckedIsCounted : Type 0
 AckedIsCounted =
@@ -135,7 +135,7 @@ AckedIsCounted =
     × ((after_steps steps (begun s)).ended ≡ None → AreAwaited steps (begun s) →
     (after_steps steps (begun s)).acked ≡ acked_of (replies_of steps))
 
--- one more reply counts where it is an `ok` and no Resend is pending; a Resend is pending from then on to the next `ok`
+-- one more reply counts if it is an `ok` and no Resend is pending; a Resend is pending from then on to the next `ok`
 abbrev pub CountsNext : Type 0
 CountsNext =
     (replies : List Reply) (next : Reply) →
@@ -143,7 +143,7 @@ CountsNext =
     ≡ own_oks reply.Start replies + (if is_ok next && not (is_pending replies) then 1 else 0))
     × (is_pending (replies ++ next ∷ []) ≡ (is_resend next || (not (is_ok next) && is_pending replies)))
 
--- the swallow flag stands exactly where a Resend is pending, and the session is ready from the first `ok` that counts
+-- the swallow flag is set exactly if a Resend is pending, and the session is ready from the first `ok` that counts
 abbrev pub FlagsAreCounted : Type 0
 FlagsAreCounted =
     (steps : List Step) (s : SenderData) → (after_steps steps (begun s)).ended ≡ None →
@@ -160,7 +160,7 @@ SendsInSilence =
     IsQuiet (since + 1) (frame_step moment s))
     × ((since : ℕ) (s : SenderData) → IsSound s → OwesLine since s → next_of s ≡ None → IsQuiet since s)
 
--- a session ends with no answer only where the printer is silent by the replies and lines alone, if at each tick
+-- a session ends with no answer only if the printer is silent by the replies and lines alone, if at each tick
 -- nothing was unsent
 abbrev pub EndsInSilence : Type 0
 EndsInSilence =
@@ -171,7 +171,7 @@ EndsInSilence =
     (tick_step moment before).ended ≡ Some (NoAnswer count) →
     IsSilent (traffic_of steps (begun s))
 
--- no session ends with no answer sooner than five limits after it began or a line was acknowledged, nor where the
+-- no session ends with no answer sooner than five limits after it began or a line was acknowledged, nor if the
 -- hello and all issued lines are acknowledged
 abbrev pub WaitsFiveLimits : Type 0
 WaitsFiveLimits =

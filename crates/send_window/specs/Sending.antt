@@ -43,7 +43,7 @@ room_of s = room_at s.ended s.ready s
 abbrev pub push_step : List ℕ → SenderData → SenderData
 push_step text s = record s { issued = s.issued + 1; held = s.held ++ text ∷ [] }
 
--- the line at the cursor, where it was issued
+-- the line at the cursor, if it was issued
 abbrev pub next_line : SenderData → Option Outgoing
 next_line s =
     if nat_le s.cursor s.issued
@@ -60,7 +60,7 @@ next_at None false s = next_line s
 abbrev pub next_of : SenderData → Option Outgoing
 next_of s = next_at s.ended s.hello_due s
 
--- something was given out: where no deadline stands, one is set
+-- something was given out: if there is no deadline, one is set
 abbrev pub timed : ℕ → SenderData → SenderData
 timed moment s = record s {
   deadline = Some (unwrap_or s.deadline (later moment s.limit));

@@ -24,14 +24,14 @@ abbrev pub after_steps : List Step → SenderData → SenderData
 after_steps [] s = s
 after_steps (step ∷ steps) s = after_steps steps (after_step step s)
 
--- a line is issued only where there is room
+-- a line is issued only if there is room
 abbrev pub IsAllowed : Step → SenderData → Type 0
 IsAllowed (hears heard_line moment) s = Unit {0}
 IsAllowed (ticks moment) s = Unit {0}
 IsAllowed (issues text) s = 0 < room_of s
 IsAllowed (gives moment) s = Unit {0}
 
--- each line is issued only where there is room
+-- each line is issued only if there is room
 abbrev pub AreAllowed : List Step → SenderData → Type 0
 AreAllowed [] s = Unit {0}
 AreAllowed (step ∷ steps) s = IsAllowed step s × AreAllowed steps (after_step step s)

@@ -23,7 +23,7 @@ closed_off moment acked lines d ending e none n =
     let same : n.pulled ≡ (note_step acked fact.Closed moment d).1 = subst L none n.pulls in
     ap (λ (q : Noted). q.1.state) n.is ∙ ap (λ (x : Data). x.state) same
 
--- the start of the print, where its desk lets it
+-- the start of the print, if its desk lets it
 pub start_course : (p : PrintData) (d : Data) (issued : List (List ℕ)) → first_hot_of p.limits p.file.job.commands ≡ None → d.greatest ≡ 0 →
     IsUnderway p d issued → IsUnderway p (start_at d.state 1 d).1 issued
 start_course p d issued cool new h = by_state d.state refl

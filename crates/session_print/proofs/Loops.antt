@@ -18,7 +18,7 @@ use Rattle.lossy_turns.proofs.Histories.{none_printed}
 use Rattle.session_print.proofs.Printing.{printed_of, part_none}
 use Rattle.lossy_turns.proofs.Turns.{hung_printed}
 
--- a print after so many turns: only the first one dials
+-- a print after this number of turns: only the first one dials
 abbrev pub IsAfter : ℕ → LinkKind → PrintData → List ℕ → Option (List WorldEvent) → Option (List WorldEvent) → SessionData → Type 0
 IsAfter count kind p port first now x = ((count ≡ 0) × IsDialling p port first now x) ⊎ IsTalking kind p port first now x
 

@@ -1,6 +1,6 @@
 //! The turns of a print, from the dial to the hang-up.
 ghost use Rattle.std.specs.Prelude.{◌≡◌, ◌≢◌, ◌↔◌, ◌≤◌, ◌+◌, ◌-◌, ◌*◌, ℕ, List, length, true, false, Option, Some, None, is_some};
-ghost use Rattle.octo_outside.specs.Told.{Rose, Steady};
+ghost use Rattle.octo_outside.specs.Told.{Counts, Steady};
 ghost use Rattle.octo_outside.specs.Traits.{NotBefore};
 ghost use Rattle.desk_steps.specs.Table.{connect_at, select_at, disconnect_at, start_at};
 ghost use Rattle.gcode_lines.specs.Job.{texts_of};
@@ -38,7 +38,7 @@ use temp_rules::first_hot;
 /// The number of the only print of a session.
 const PRINT: u32 = 1;
 
-/// Prints a job as the file of this name over the port of that name, in at most so many turns.
+/// Prints a job as the file of this name over the port of that name, in at most this number of turns.
 ///
 /// It refuses a command that is too hot. Else it connects, selects the file, starts the print at once when the printer is
 /// ready, and disconnects when the print has ended. It rests the clock after each turn that received nothing, and uses the
@@ -57,23 +57,27 @@ pub fn run_print<L: Link, T: Clock>(
 
     // The first lines of the plan were printed, in one session at most; all of it if the print is done.
     ensures printed { Recorded (L.past link.old) (L.past link.new)
-        (HasPrinted (L.kind link.old) (plan session.old.desk.scripts (texts_of job)) result session.new.sender.acked) }
+        (HasPrinted (L.kind link.old) (plan session.old.desk.scripts (texts_of job))
+        result session.new.sender.acked) }
 
     // Each end by its cause.
     ensures too_hot { IsTooHot (first_hot_of session.old.desk.limits job.commands) result }
-    ensures no_port { (result ≡ end.NoPort) ↔ IsUnlisted (first_hot_of session.old.desk.limits job.commands)
+    ensures no_port { (result ≡ end.NoPort)
+        ↔ IsUnlisted (first_hot_of session.old.desk.limits job.commands)
         turns ((L.kind link.old).listed port.now) }
-    ensures failed { result ≡ end.LinkFailed → Rose (L.faults link.old) (L.faults link.new) }
     ensures ended { (why : SessionEnd) → result ≡ end.Ended why
         → HasEnded (L.kind link.old) (L.past link.new) session.new.sender why }
-    ensures waited { HasWaited result (T.moment clock.old) session.old.sender.limit (T.moment clock.new) }
-    ensures unanswered { (count : ℕ) → result ≡ end.Ended (NoAnswer count) → IsUnanswered session.new.sender }
+    ensures waited { HasWaited result (T.moment clock.old)
+        session.old.sender.limit (T.moment clock.new) }
+    ensures unanswered { (count : ℕ) → result ≡ end.Ended (NoAnswer count)
+        → IsUnanswered session.new.sender }
     ensures used { (made : ℕ) → result ≡ end.TurnsUsed made
         → (made ≡ turns) × RoseBy turns (L.calls link.old) (L.calls link.new) }
 
     // Over a prompt link a print is done if it has 32 turns more than its plan has lines.
     ensures prompt { first_hot_of session.old.desk.limits job.commands ≡ None
-        → IsSmooth (L.kind link.old) (L.past link.old) port.now (L.faults link.old) (L.faults link.new)
+        → IsSmooth (L.kind link.old) (L.past link.old) port.now
+        (L.faults link.old) (L.faults link.new)
         (T.moment clock.new) session.old.sender.limit session.old.desk.poll_ms
         (length (plan session.old.desk.scripts (texts_of job)))
         → length (plan session.old.desk.scripts (texts_of job)) + 32 ≤ turns → result ≡ end.Done }
@@ -81,7 +85,7 @@ pub fn run_print<L: Link, T: Clock>(
     // The link afterwards, and what a print leaves that sent nothing.
     ensures down { L.up link.new ≡ false }
     ensures kind { L.kind link.new ≡ L.kind link.old }
-    ensures counted { L.faults link.old ≤ L.faults link.new }
+    ensures counts { Counts (result ≡ end.LinkFailed) (L.faults link.old) (L.faults link.new) }
     ensures unsent { IsUnsent result → L.past link.new ≡ L.past link.old }
     ensures refused { is_too_hot result ≡ true → session.new ≡ session.old }
 {
@@ -116,7 +120,8 @@ fn make_turns<L: Link, T: Clock>(
 ) -> PrintEnd
     requires as_up { L.up link.old ≡ session.old.up }
     requires begins { HasBegun (L.past link.old) session.old }
-    requires on_time { IsOnTime (T.moment clock.old) (T.moment clock.old) 0 session.old.sender.limit session.old.sender }
+    requires on_time { IsOnTime (T.moment clock.old) (T.moment clock.old) 0
+        session.old.sender.limit session.old.sender }
     ensures over { (p : PrintData)
         → IsDialling p (port_of session.old.desk) (L.past link.old) (L.past link.old) session.old
         → IsOver (L.kind link.old) (plan p.scripts (print_commands p)) result
@@ -125,12 +130,13 @@ fn make_turns<L: Link, T: Clock>(
         ↔ ((1 ≤ turns) × ((L.kind link.old).listed (port_of session.old.desk) ≡ false)) }
     ensures down { L.up link.new ≡ false }
     ensures kind { L.kind link.new ≡ L.kind link.old }
-    ensures counted { L.faults link.old ≤ L.faults link.new }
-    ensures failed { result ≡ end.LinkFailed → Rose (L.faults link.old) (L.faults link.new) }
+    ensures counts { Counts (result ≡ end.LinkFailed) (L.faults link.old) (L.faults link.new) }
     ensures used { (made : ℕ) → result ≡ end.TurnsUsed made
         → (made ≡ turns) × RoseBy turns (L.calls link.old) (L.calls link.new) }
-    ensures waited { HasWaited result (T.moment clock.old) session.old.sender.limit (T.moment clock.new) }
-    ensures unanswered { (count : ℕ) → result ≡ end.Ended (NoAnswer count) → IsUnanswered session.new.sender }
+    ensures waited { HasWaited result (T.moment clock.old)
+        session.old.sender.limit (T.moment clock.new) }
+    ensures unanswered { (count : ℕ) → result ≡ end.Ended (NoAnswer count)
+        → IsUnanswered session.new.sender }
     ensures prompt { (p : PrintData)
         → IsDialling p (port_of session.old.desk) (L.past link.old) (L.past link.old) session.old
         → IsSmooth (L.kind link.old) (L.past link.old) (port_of session.old.desk)
@@ -168,14 +174,14 @@ fn make_turn<L: Link, T: Clock>(
     ensures up { result ≡ None → L.up link.new ≡ session.new.up }
     ensures down { is_some result ≡ true → L.up link.new ≡ false }
     ensures kind { L.kind link.new ≡ L.kind link.old }
-    ensures counted { L.faults link.old ≤ L.faults link.new }
-    ensures failed { result ≡ Some end.LinkFailed → Rose (L.faults link.old) (L.faults link.new) }
+    ensures counts { Counts (result ≡ Some end.LinkFailed) (L.faults link.old) (L.faults link.new) }
     ensures calls { (session.old.up ≡ false → doing session.old ≡ now_doing.Dialling)
         → result ≡ None → RoseBy 1 (L.calls link.old) (L.calls link.new) }
     ensures unused { (made : ℕ) → result ≢ Some (end.TurnsUsed made) }
     ensures waits { (start limit : ℕ) → start ≤ moment → IsPatient start limit session.old.sender
         → IsPatient start limit session.new.sender }
-    ensures waited { (start limit count : ℕ) → start ≤ moment → IsPatient start limit session.old.sender
+    ensures waited { (start limit count : ℕ)
+        → start ≤ moment → IsPatient start limit session.old.sender
         → result ≡ Some (end.Ended (NoAnswer count))
         → (later start (5 * limit) ≤ moment) × IsUnanswered session.new.sender }
     ensures clock { NotBefore (T.moment clock.old) (T.moment clock.new) }
@@ -184,7 +190,8 @@ fn make_turn<L: Link, T: Clock>(
         → IsUnsaturated (Some moment) session.old.sender.limit poll_ms
         → T.moment clock.old ≡ Some moment → T.moment clock.new ≡ Some at
         → IsOnWay (L.kind link.old) p poll_ms moment left (L.past link.old) session.old
-        → LeavesOnWay result (L.kind link.old) p poll_ms at (left - 1) (L.past link.new) session.new }
+        → LeavesOnWay result (L.kind link.old) p poll_ms at (left - 1)
+        (L.past link.new) session.new }
     ensures passes { (line asked limit : ℕ) → result ≢ Some (end.TooHot line asked limit) }
 {
     let turned = turn_over_link(session, link, moment);
@@ -216,7 +223,8 @@ fn fact_of_turn(turned: &Turned) -> LinkFact
 fn go_on(session: &mut Session, found: LinkFact, ending: Option<Ending>) -> Option<PrintEnd>
     requires { found ≡ fact.Ready → session.old.desk.greatest ≡ 0 }
     ensures end { result ≡ end_of found }
-    ensures after { session.new ≡ record session.old { desk = desk_after found ending session.old.desk } }
+    ensures after { session.new
+        ≡ record session.old { desk = desk_after found ending session.old.desk } }
 {
     match found {
         LinkFact::Opened => None,

@@ -83,7 +83,7 @@ fn new_session(alloc: Global, scripts: Scripts) -> Result<Session, AllocError>
     Ok(Session::new(desk, sender))
 }
 
-/// Prints a file over port p; each rest of the clock adds so many milliseconds.
+/// Prints a file over port p; each rest of the clock adds this number of milliseconds.
 fn print(
     rt: &impl Abort,
     alloc: Global,
@@ -226,7 +226,7 @@ fn numbered(rt: HostRuntime) -> Result<(), Fail> {
     Ok(())
 }
 
-/// The sixth call of the link fails, which is that of the first line.
+/// The sixth call of the link fails: the one for the first line.
 #[test]
 fn failing(rt: HostRuntime) -> Result<(), Fail> {
     let schedule = Schedule {
@@ -238,7 +238,7 @@ fn failing(rt: HostRuntime) -> Result<(), Fail> {
     Ok(())
 }
 
-/// The printer restarts behind its first line.
+/// The printer restarts after its first line.
 #[test]
 fn restarted(rt: HostRuntime) -> Result<(), Fail> {
     let schedule = Schedule {

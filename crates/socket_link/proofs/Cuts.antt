@@ -9,7 +9,7 @@ use Rattle.octo_sockets.proofs.Written.{appends_more}
 use Rattle.std.specs.List.{list_any, position_or_len}
 use Rattle.socket_link.specs.Lines.{cut}
 
--- what holds where a call is well holds where it was well
+-- what holds if a call is well holds if it was well
 pub of_ok : {T E P : Type 0} (r : Result T E) → IsOk r → OnOk r P → P
 of_ok (Ok x) ok p = p
 of_ok (Err e) ok p = absurd (false≢true ok)
@@ -48,7 +48,7 @@ any_nowhere p (x ∷ xs) high =
       | false ↦ (λ more. any_nowhere p xs (omega arith))
     ] high
 
--- what is left of a window behind its first elements
+-- what is left of a window after its first elements
 pub window_behind : (xs : List ℕ) (start end n : ℕ) → start ≤ end → n ≤ length (take (end - start) (drop start xs)) → take (end - (start + n)) (drop (start + n) xs) ≡ drop n (take (end - start) (drop start xs))
 window_behind xs start end n ordered short =
     let taken : length (take (end - start) (drop start xs)) ≡ min (end - start) (length (drop start xs)) = length-take (end - start) (drop start xs) in

@@ -1,7 +1,7 @@
 -- What of a stream of reply lines was read and not given yet.
 use Rattle.std.specs.Prelude.{ℕ, Bool, ◌==◌, List, take}
 
--- the beginning of the next line, cut, and the bytes behind it
+-- the beginning of the next line, cut, and the bytes after it
 pub record LinesData : Type 0 where
   pub begun : List ℕ
   pub waiting : List ℕ

@@ -11,7 +11,7 @@ fn is_port(bytes: &[u8]) -> bool
     are_digits(bytes) && 1 <= bytes.len() && bytes.len() <= 5 && number(bytes) <= 65_535
 }
 
-/// Whether a name is `HOST:PORT`: a host, which isn't empty, and behind the last colon a port in one to five digits,
+/// Whether a name is `HOST:PORT`: a host, which isn't empty, and after the last colon a port in one to five digits,
 /// at most 65,535. A name that begins with `unix:` isn't one.
 pub fn names_address(name: &str) -> bool
     ensures { result ≡ names_address name.now }
@@ -31,7 +31,7 @@ fn names_path(name: &str) -> bool
     name.starts_with(b"unix:") && 6 <= name.len()
 }
 
-/// Whether a name is that of a port: `HOST:PORT`, or `unix:PATH`.
+/// Whether a name is a port's: `HOST:PORT`, or `unix:PATH`.
 pub fn names_port(name: &str) -> bool
     ensures { result ≡ names_port name.now }
 {

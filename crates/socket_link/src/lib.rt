@@ -1,4 +1,4 @@
-//! A link to a printer over TCP or a Unix socket, which does not tell what happened.
+//! A link to a printer over TCP or a Unix socket, which does not record what happened.
 #![tactic(auto)]
 
 mod address;

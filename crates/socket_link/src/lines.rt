@@ -23,12 +23,15 @@ pub struct Lines {
 impl Model for Lines {
     ghost Value = { LinesData };
 
-    ghost view = { λ l. record { begun = l.begun.items; waiting = take (l.end - l.start) (drop l.start l.bytes) } };
+    ghost view = { λ l. record {
+      begun = l.begun.items;
+      waiting = take (l.end - l.start) (drop l.start l.bytes);
+    } };
 
     ghost invariant = { λ l. (l.start ≤ l.end) × (l.end ≤ 4096) };
 }
 
-// How many bytes stand before the first line feed, all where there is none.
+// How many bytes are before the first line feed, all if there is none.
 fn length_before_end(bytes: &[u8]) -> usize
     ensures { result ≡ position_or_len ends_line bytes.now }
 {
@@ -56,7 +59,7 @@ impl Lines {
         }
     }
 
-    // The bytes behind the line that has begun.
+    // The bytes after the line that has begun.
     fn waiting(&self) -> &[u8]
         ensures { result.now ≡ self.now.waiting }
     {
@@ -80,7 +83,7 @@ impl Lines {
         mem::replace(&mut self.begun, ReplyLine::new())
     }
 
-    // Such a line has begun, and nothing waits behind it.
+    // Such a line has begun, and nothing waits after it.
     fn keep_begun(&mut self, line: ReplyLine)
         ensures { self.new ≡ record { begun = line.items; waiting = [] } }
     {
@@ -89,13 +92,16 @@ impl Lines {
         self.end = 0;
     }
 
-    /// Takes the next line without its line feed, cut to 256 bytes; `false` where no line has ended yet.
+    /// Takes the next line without its line feed, cut to 256 bytes; `false` if no line has ended yet.
     #[tactic(auto, using(crate::proofs::Cuts::any_at, crate::proofs::Cuts::any_nowhere))]
     pub fn take(&mut self, into: &mut ReplyLine) -> bool
         ensures found { result ≡ list_any ends_line self.old.waiting }
-        ensures line { result ≡ true → into.new.items ≡ cut (self.old.begun ++ before_first ends_line self.old.waiting) }
-        ensures behind { result ≡ true → self.new ≡ record { begun = []; waiting = after_first ends_line self.old.waiting } }
-        ensures none { result ≡ false → self.new ≡ record { begun = cut (self.old.begun ++ self.old.waiting); waiting = [] } }
+        ensures line { result ≡ true
+            → into.new.items ≡ cut (self.old.begun ++ before_first ends_line self.old.waiting) }
+        ensures behind { result ≡ true
+            → self.new ≡ record { begun = []; waiting = after_first ends_line self.old.waiting } }
+        ensures none { result ≡ false
+            → self.new ≡ record { begun = cut (self.old.begun ++ self.old.waiting); waiting = [] } }
     {
         let mut line = self.take_begun();
         let waiting = self.waiting();
@@ -111,7 +117,7 @@ impl Lines {
         false
     }
 
-    /// Reads more, where nothing waits, and says how many bytes came.
+    /// Reads more, if nothing waits, and says how many bytes came.
     pub fn fill<S: Read>(&mut self, stream: &mut S) -> io::Result<usize>
         requires { self.old.waiting ≡ [] }
         ensures begun { self.new.begun ≡ self.old.begun }

@@ -1,8 +1,8 @@
 //! A link to a printer over TCP or a Unix socket.
-ghost use Rattle.std.specs.Prelude.{◌≡◌, ◌+◌, ◌<◌, ◌≤◌, ◌⊎◌, ◌↔◌, ◌++◌, ◌∷◌, [], length, true, false, is_some, Some, None, Ok, OnOk, OnErr, IsOk, IsErrOf, IsTrue, MatchResult};
+ghost use Rattle.std.specs.Prelude.{◌≡◌, ◌+◌, ◌<◌, ◌≤◌, ◌⊎◌, ◌↔◌, ◌++◌, ◌∷◌, [], length, true, false, is_some, Some, None, Ok, OnOk, OnErr, IsErr, IsOk, IsErrOf, IsTrue, MatchResult, ⊤};
 ghost use Rattle.std.specs.IoError.{error_kind};
 ghost use Rattle.std.specs.List.{list_any, before_first, after_first};
-ghost use Rattle.octo_outside.specs.Told.{Rose};
+ghost use Rattle.octo_outside.specs.Told.{Counts};
 ghost use Rattle.socket_link.specs.Address.{names_port};
 ghost use Rattle.octo_sockets.specs.Streams.{of_stream};
 ghost use Rattle.socket_link.specs.Lines.{cut, ends_line};
@@ -33,7 +33,7 @@ const CONNECT: u64 = 2000;
 
 const ADDRESSES: usize = 4;
 
-/// A link to the ports named `HOST:PORT`, over TCP, and `unix:PATH`, over a Unix socket. It does not tell its past.
+/// A link to the ports named `HOST:PORT`, over TCP, and `unix:PATH`, over a Unix socket. It does not record its history.
 ///
 /// A receiving waits for about a millisecond, and a reply that comes in ends the wait at once. Lines that are sent
 /// are written when a receiving finds no reply that has been read, so that those of one turn go out together; a
@@ -69,7 +69,7 @@ fn connect<R: Net>(rt: &R, name: &str) -> Option<SocketStream<R::Stream>> {
     Some(stream)
 }
 
-// Whether a read of the stream has something to give, now or within about a millisecond. A poll that fails tells
+// Whether a read of the stream has something to return, now or within about a millisecond. A poll that fails says
 // nothing, and the read then has a limit of its own.
 fn may_read<S: AsRawFd>(stream: &S) -> bool {
     let mut asked = [pollfd {
@@ -80,7 +80,7 @@ fn may_read<S: AsRawFd>(stream: &S) -> bool {
     poll(&mut asked, WAIT) != 0
 }
 
-// Whether a peer is open after a read: one that has closed gives no byte.
+// Whether a peer is open after a read: one that has closed sends no byte.
 fn is_open_after(read: &io::Result<usize>) -> bool
     ensures { MatchResult read.now
         (λ n. IsTrue result ↔ (0 < n))
@@ -122,8 +122,7 @@ impl<R: Net + Drop> SocketLink<R> {
     fn fail(&mut self) -> LinkFault
         ensures fault { result ≡ fault.Failed }
         ensures down { self.new.up ≡ false }
-        ensures counted { self.old.faults ≤ self.new.faults }
-        ensures rose { Rose self.old.faults self.new.faults }
+        ensures counts { Counts ⊤ self.old.faults self.new.faults }
     {
         self.stream = None;
         self.up = false;
@@ -131,7 +130,7 @@ impl<R: Net + Drop> SocketLink<R> {
         LinkFault::Failed
     }
 
-    // Writes what is unsent; `false` where that fails, and then there is no stream.
+    // Writes what is unsent; `false` if that fails, and then there is no stream.
     fn write_out(&mut self) -> bool
         ensures stream { result ≡ is_some self.new.stream }
         ensures emptied { self.new.unsent ≡ [] }
@@ -152,7 +151,7 @@ impl<R: Net + Drop> SocketLink<R> {
         written
     }
 
-    // Has a line written at the next writing; where there is no room, what is unsent is written first. `false` where
+    // Has a line written at the next writing; if there is no room, what is unsent is written first. `false` if
     // that fails.
     fn gather(&mut self, line: &Line) -> bool
         requires { length line.now.items ≤ 95 }
@@ -190,13 +189,18 @@ impl<R: Net + Drop> SocketLink<R> {
         is_open_after(&read)
     }
 
-    // Takes the next reply that was read; where there is none, writes what is unsent and waits for more. `None` where
+    // Takes the next reply that was read; if there is none, writes what is unsent and waits for more. `None` if
     // the link failed.
     #[tactic(auto, using(crate::proofs::Sent::wrote_first))]
     fn hear(&mut self, into: &mut ReplyLine) -> Option<Heard>
-        ensures at_once { list_any ends_line self.old.lines.waiting ≡ true → result ≡ Some heard.Line }
-        ensures line { list_any ends_line self.old.lines.waiting ≡ true → into.new.items ≡ cut (self.old.lines.begun ++ before_first ends_line self.old.lines.waiting) }
-        ensures behind { list_any ends_line self.old.lines.waiting ≡ true → self.new.lines ≡ record { begun = []; waiting = after_first ends_line self.old.lines.waiting } }
+        ensures at_once { list_any ends_line self.old.lines.waiting ≡ true
+            → result ≡ Some heard.Line }
+        ensures line { list_any ends_line self.old.lines.waiting ≡ true
+            → into.new.items
+            ≡ cut (self.old.lines.begun ++ before_first ends_line self.old.lines.waiting) }
+        ensures behind { list_any ends_line self.old.lines.waiting ≡ true
+            → self.new.lines
+            ≡ record { begun = []; waiting = after_first ends_line self.old.lines.waiting } }
 
         // If no reply waited, what is unsent was written before more was read.
         ensures emptied { list_any ends_line self.old.lines.waiting ≡ false → is_some result ≡ true
@@ -222,7 +226,12 @@ impl<R: Net + Drop> SocketLink<R> {
 impl<R: Net + Clock + Drop> Link for SocketLink<R> {
     ghost past = { λ _. None };
 
-    ghost kind = { λ _. record { slots = 4; numbered = false; prompt = false; listed = names_port } };
+    ghost kind = { λ _. record {
+      slots = 4;
+      numbered = false;
+      prompt = false;
+      listed = names_port;
+    } };
 
     ghost calls = { λ _. None };
 
@@ -253,9 +262,8 @@ impl<R: Net + Clock + Drop> Link for SocketLink<R> {
         ensures no_port { IsErrOf result fault.NoPort → ⊥ }
         ensures up { OnOk result (self.new.up ≡ true) }
         ensures down { OnErr result (self.new.up ≡ false) }
-        ensures counted { self.old.faults ≤ self.new.faults }
+        ensures counts { Counts (IsErr result) self.old.faults self.new.faults }
         ensures steady { OnOk result (self.new.faults ≡ self.old.faults) }
-        ensures failed { OnErr result (Rose self.old.faults self.new.faults) }
     {
         if self.gather(line) {
             return Ok(());
@@ -265,22 +273,29 @@ impl<R: Net + Clock + Drop> Link for SocketLink<R> {
 
     fn recv(&mut self, into: &mut ReplyLine) -> Result<Heard, LinkFault>
         requires { self.old.up ≡ true }
-        ensures at_once { list_any ends_line self.old.lines.waiting ≡ true → result ≡ Ok heard.Line }
-        ensures line { list_any ends_line self.old.lines.waiting ≡ true → into.new.items ≡ cut (self.old.lines.begun ++ before_first ends_line self.old.lines.waiting) }
-        ensures behind { list_any ends_line self.old.lines.waiting ≡ true → self.new.lines ≡ record { begun = []; waiting = after_first ends_line self.old.lines.waiting } }
+        ensures at_once { list_any ends_line self.old.lines.waiting ≡ true
+            → result ≡ Ok heard.Line }
+        ensures line { list_any ends_line self.old.lines.waiting ≡ true
+            → into.new.items ≡ cut (self.old.lines.begun
+            ++ before_first ends_line self.old.lines.waiting) }
+        ensures behind { list_any ends_line self.old.lines.waiting ≡ true
+            → self.new.lines ≡ record {
+              begun = [];
+              waiting = after_first ends_line self.old.lines.waiting;
+            } }
 
         // If no reply waited and the call didn't fail, what was unsent was written before more was read.
         ensures emptied { list_any ends_line self.old.lines.waiting ≡ false
             → OnOk result (self.new.unsent ≡ []) }
         ensures written { list_any ends_line self.old.lines.waiting ≡ false
-            → OnOk result (WroteFirst (of_stream R.Stream.contents) self.old.stream self.old.unsent) }
+            → OnOk result (WroteFirst (of_stream R.Stream.contents)
+            self.old.stream self.old.unsent) }
 
         ensures no_port { IsErrOf result fault.NoPort → ⊥ }
         ensures up { OnOk result (self.new.up ≡ true) }
         ensures down { OnErr result (self.new.up ≡ false) }
-        ensures counted { self.old.faults ≤ self.new.faults }
+        ensures counts { Counts (IsErr result) self.old.faults self.new.faults }
         ensures steady { OnOk result (self.new.faults ≡ self.old.faults) }
-        ensures failed { OnErr result (Rose self.old.faults self.new.faults) }
     {
         match self.hear(into) {
             Some(got) => Ok(got),

@@ -53,7 +53,7 @@ fn names(rt: HostRuntime) {
 // What the peer or the link does, and what is to come of it.
 #[derive(Clone, Copy)]
 enum Step {
-    // The peer writes this; so many bytes without a line end; closes its writing side.
+    // The peer writes this; this number of bytes without a line end; closes its writing side.
     Says(&'static str),
     SaysMany(usize),
     Closes,
@@ -149,7 +149,7 @@ const STEPS: [Step; 17] = [
     Step::Quiet,
     Step::Says("t\n"),
     Step::Hear("start"),
-    // A line that is cut, and the line behind it.
+    // A line that is cut, and the line after it.
     Step::SaysMany(5000),
     Step::Says("\nok\n"),
     Step::HearCut,
@@ -195,7 +195,7 @@ fn socket_link_ends(rt: HostRuntime) -> Result<(), Fail> {
     Ok(())
 }
 
-// A Unix socket: lines go both ways, and where nobody listens any more a dial fails.
+// A Unix socket: lines go both ways, and if nobody listens any more a dial fails.
 #[test]
 fn unix_socket(rt: HostRuntime) -> Result<(), Fail> {
     let path = format!(in rt.alloc(); "/tmp/socket_link_{}", process::id(rt.process()))?;

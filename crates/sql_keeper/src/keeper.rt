@@ -23,18 +23,20 @@ pub struct NotAdopted<S: Alter + Drop> {
 }
 
 impl<S: Alter + Drop> SqlKeeper<S> {
-    ghost use Rattle.std.specs.Prelude.{◌≡◌, ◌≤◌, IfOk, IfErr, IsErrOf};
+    ghost use Rattle.std.specs.Prelude.{◌≡◌, IfOk, IfErr, IsErrOf};
     ghost use Rattle.sqlite.specs.Held.{state};
     ghost use Rattle.sql_keeper.specs.Kept.{IsAtomic};
-    ghost use Rattle.octo_outside.specs.Told.{Rose};
+    ghost use Rattle.octo_outside.specs.Told.{Counts};
     ghost use Rattle.octo_keeper.specs.declared.keeper.KeeperFault.TheVariants as fault;
 
     /// Takes a database over. An empty one gets its tables, one of the schema before is upgraded, each in one transaction; one of
     /// another schema, and one whose transaction is open, is a fault.
     pub fn adopt(alloc: Global, connection: Connection<S>) -> Result<SqlKeeper<S>, NotAdopted<S>>
         ensures fresh { IfOk result (λ keeper. keeper.faults ≡ 0) }
-        ensures adopted { IfOk result (λ keeper. IsAtomic (state S.Store connection) (state S.Store keeper.connection)) }
-        ensures refused { IfErr result (λ refused. IsAtomic (state S.Store connection) (state S.Store refused.connection)) }
+        ensures adopted { IfOk result
+            (λ keeper. IsAtomic (state S.Store connection) (state S.Store keeper.connection)) }
+        ensures refused { IfErr result
+            (λ refused. IsAtomic (state S.Store connection) (state S.Store refused.connection)) }
     {
         let mut connection = connection;
         match settle_schema(alloc, &mut connection) {
@@ -61,8 +63,7 @@ impl<S: Alter + Drop> SqlKeeper<S> {
     fn count<T: Drop>(&mut self, done: Result<T, KeeperFault>) -> Result<T, KeeperFault>
         ensures same { result ≡ done }
         ensures stays { self.new.connection ≡ self.old.connection }
-        ensures counted { self.old.faults ≤ self.new.faults }
-        ensures failed { IsErrOf result fault.Failed → Rose self.old.faults self.new.faults }
+        ensures counts { Counts (IsErrOf result fault.Failed) self.old.faults self.new.faults }
     {
         if matches!(done, Err(KeeperFault::Failed)) {
             self.faults = self.faults.saturating_add(1);
@@ -72,9 +73,9 @@ impl<S: Alter + Drop> SqlKeeper<S> {
 }
 
 impl<S: Alter + Drop> Keeper for SqlKeeper<S> {
-    ghost use Rattle.std.specs.Prelude.{◌≡◌, ◌≤◌, None, OnErr, IsErrOf};
+    ghost use Rattle.std.specs.Prelude.{◌≡◌, None, OnErr, IsErrOf};
     ghost use Rattle.sqlite.specs.Held.{state};
-    ghost use Rattle.octo_outside.specs.Told.{Rose};
+    ghost use Rattle.octo_outside.specs.Told.{Counts};
     ghost use Rattle.octo_keeper.specs.declared.keeper.KeeperFault.TheVariants as fault;
     ghost use Rattle.sql_keeper.specs.Kept.{IsAtomic, IsUndone};
 
@@ -88,11 +89,12 @@ impl<S: Alter + Drop> Keeper for SqlKeeper<S> {
     }
 
     fn commit(&mut self, alloc: Global, change: &Change) -> Result<(), KeeperFault>
-        ensures nothing { OnErr result (IsUndone (state S.Store self.old.connection) (state S.Store self.new.connection)) }
-        ensures atomic { IsAtomic (state S.Store self.old.connection) (state S.Store self.new.connection) }
+        ensures nothing { OnErr result
+            (IsUndone (state S.Store self.old.connection) (state S.Store self.new.connection)) }
+        ensures atomic { IsAtomic
+            (state S.Store self.old.connection) (state S.Store self.new.connection) }
 
-        ensures counted { self.old.faults ≤ self.new.faults }
-        ensures failed { IsErrOf result fault.Failed → Rose self.old.faults self.new.faults }
+        ensures counts { Counts (IsErrOf result fault.Failed) self.old.faults self.new.faults }
     {
         let done = commit_change(alloc, &mut self.connection, change);
         self.count(done)

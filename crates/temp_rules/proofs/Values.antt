@@ -42,7 +42,7 @@ names-above : (limit : ℕ) (values : List ℤ) (hot : TooHot) → too_hot limit
 names-above limit [] hot h = absurd (cc)
 names-above limit (micro ∷ values) hot h = above-more limit micro values hot (is_above limit micro) refl h (names-above limit values hot)
 
--- a choice of two has none where neither has, and what it has one of them has
+-- a choice of two has none if neither has, and what it has one of them has
 first-none : (first second : Option TooHot) → option_or first second ≡ None → first ≡ None
 first-none None second h = refl
 first-none (Some hot) second h = absurd (cc)

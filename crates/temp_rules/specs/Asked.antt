@@ -34,7 +34,7 @@ asking_code heater None = None
 asking_code heater (Some code) =
     if code == set_code heater then Some Set else (if code == wait_code heater then Some Wait else None)
 
--- whether the words of a letter ask: `S`, and `R` too where the code waits
+-- whether the words of a letter ask: `S`, and `R` too if the code waits
 abbrev pub asks : Asking → ℕ → Bool
 asks Set letter = letter == 83
 asks Wait letter = letter == 83 || letter == 82

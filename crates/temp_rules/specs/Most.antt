@@ -3,7 +3,7 @@ use Rattle.temp_rules.specs.Asked.{asked_of, degrees_up}
 use Rattle.temp_rules.specs.declared.heater.Heater.{Heater}
 use Rattle.temp_rules.specs.declared.heater.Heater.TheVariants.{Tool, Bed}
 
--- the greatest values asked so far, in whole degrees, rounded up, 0 where none is above 0
+-- the greatest values asked so far, in whole degrees, rounded up, 0 if none is above 0
 pub record TargetsData : Type 0 where
   pub tool : ℕ
   pub bed : ℕ

@@ -23,7 +23,7 @@ pub(crate) fn may_ask(text: &[u8]) -> bool
     }
 }
 
-/// How a command asks a heater, None where it does not.
+/// How a command asks a heater, None if it does not.
 #[tactic(auto, unfolding(crate::specs::Asked::asking_of))]
 pub(crate) fn read_asking(text: &[u8], heater: Heater) -> Option<Asking>
     ensures { result ≡ asking_of heater text.now }

@@ -13,7 +13,7 @@ pub struct HotLine {
     pub limit: u16,
 }
 
-/// The first command of a job that asks for more than its heater's limit; None where there is none.
+/// The first command of a job that asks for more than its heater's limit; None if there is none.
 pub fn first_hot(job: &Job, limits: &Limits) -> Option<HotLine>
     ensures { result ≡ first_hot_of limits.now job.now.commands }
 {

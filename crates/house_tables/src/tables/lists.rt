@@ -29,7 +29,8 @@ impl HostTables {
     /// The prints of a user, or of all users, newest first, at most 100.
     pub fn shown_prints(&self, user: &Option<Name>) -> Result<ShownPrintList, AllocError>
         ensures { IfOk result (λ list. list
-            ≡ map shown_print (take 100 (reverse (filter (is_print_of user.now) self.now.prints)))) }
+            ≡ map shown_print
+            (take 100 (reverse (filter (is_print_of user.now) self.now.prints)))) }
     {
         shown_prints(self.alloc, &self.prints, user)
     }

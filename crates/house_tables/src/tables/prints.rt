@@ -5,7 +5,8 @@ ghost use Rattle.octo_keeper.specs.Tables.{with_due_end, with_taken};
 ghost use Rattle.octo_keeper.specs.declared.tables.Tables.{Tables};
 ghost use Rattle.gcode_lines.specs.Job.{most_bytes};
 ghost use Rattle.print_records.specs.declared.ending.Outcome.TheVariants as outcome;
-ghost use Rattle.house_rows.specs.Counts.{Counts, is_failed};
+ghost use Rattle.octo_outside.specs.Told.{Counts};
+ghost use Rattle.house_rows.specs.Counts.{is_failed};
 ghost use Rattle.house_tables.specs.Data.{due_of, has_room_for, is_unwritten_by_fault, with_begun, with_ended};
 ghost use Rattle.house_tables.specs.Kept.{KeepsRows};
 
@@ -75,7 +76,8 @@ impl HostTables {
         ensures ok { OnOk result (self.new ≡ with_begun ended row taken self.old) }
         ensures err { OnErr result (self.new ≡ self.old) }
         ensures kept { KeepsRows (K.tables keeper.old) (K.tables keeper.new) self.old self.new }
-        ensures keeper { Counts (is_failed result) (K.faults keeper.old) (K.faults keeper.new) }
+        ensures keeper { Counts (is_failed result ≡ true)
+            (K.faults keeper.old) (K.faults keeper.new) }
     {
         let Ok(()) = reserve_print(&mut self.prints) else {
             return Err(KeeperFault::NoMemory);
@@ -127,9 +129,10 @@ impl HostTables {
           prints = with_due_end ended self.old.prints;
           unwritten = self.new.unwritten;
         } }
-        ensures due { (due_of self.new ≡ None) ⊎ (due_of self.new ≡ option_or ended (due_of self.old)) }
+        ensures due { (due_of self.new ≡ None)
+            ⊎ (due_of self.new ≡ option_or ended (due_of self.old)) }
         ensures kept { KeepsRows (K.tables keeper.old) (K.tables keeper.new) self.old self.new }
-        ensures keeper { Counts (is_unwritten_by_fault self.new.unwritten)
+        ensures keeper { Counts (is_unwritten_by_fault self.new.unwritten ≡ true)
             (K.faults keeper.old) (K.faults keeper.new) }
     {
         let Some(ending) = ended else {
@@ -145,7 +148,7 @@ impl HostTables {
         ensures rest { self.new ≡ record self.old { unwritten = self.new.unwritten } }
         ensures due { (due_of self.new ≡ None) ⊎ (due_of self.new ≡ due_of self.old) }
         ensures kept { KeepsRows (K.tables keeper.old) (K.tables keeper.new) self.old self.new }
-        ensures keeper { Counts (is_unwritten_by_fault self.new.unwritten)
+        ensures keeper { Counts (is_unwritten_by_fault self.new.unwritten ≡ true)
             (K.faults keeper.old) (K.faults keeper.new) }
     {
         let Some(ending) = self.due() else {

@@ -11,7 +11,8 @@ ghost use Rattle.house_verdicts.specs.Known.{Known};
 ghost use Rattle.house_verdicts.specs.Rows.{put_by, drop_verdict};
 ghost use Rattle.print_queue.specs.Calls.{put_answer};
 ghost use Rattle.house_verdicts.specs.Verdict.{IsDone, is_fault};
-ghost use Rattle.house_rows.specs.Counts.{Counts, is_keepers, is_shelfs};
+ghost use Rattle.octo_outside.specs.Told.{Counts};
+ghost use Rattle.house_rows.specs.Counts.{is_keepers, is_shelfs};
 ghost use Rattle.house_tables.specs.Data.{over};
 ghost use Rattle.house_tables.specs.Kept.{KeepsRows};
 
@@ -34,7 +35,8 @@ impl HostTables {
         ensures written { self.new.unwritten ≡ self.old.unwritten }
         ensures prints { self.new.prints ≡ self.old.prints }
         ensures kept { KeepsRows (K.tables keeper.old) (K.tables keeper.new) self.old self.new }
-        ensures keeper { Counts (is_keepers result) (K.faults keeper.old) (K.faults keeper.new) }
+        ensures keeper { Counts (is_keepers result ≡ true)
+            (K.faults keeper.old) (K.faults keeper.new) }
         ensures shelf { is_shelfs result ≡ false }
     {
         let put = match self.queue.put(
@@ -66,7 +68,8 @@ impl HostTables {
             × (self.new ≡ record self.old {
               queue = without entry.user entry.name self.old.queue;
             }) }
-        ensures keeper { Counts (is_keepers result) (K.faults keeper.old) (K.faults keeper.new) }
+        ensures keeper { Counts (is_keepers result ≡ true)
+            (K.faults keeper.old) (K.faults keeper.new) }
         ensures shelf { is_shelfs result ≡ false }
     {
         match keeper.commit(self.alloc, &Change::PutEntry(entry.copy())) {
@@ -82,12 +85,14 @@ impl HostTables {
 
     /// Takes a user's entry of a name out of the queue.
     pub fn drop_entry<K: Keeper>(&mut self, keeper: &mut K, user: &Name, name: &Name) -> Answer
-        ensures done { (k : Known) → IsDone (drop_verdict user.now name.now (over k self.old)) result
+        ensures done { (k : Known)
+            → IsDone (drop_verdict user.now name.now (over k self.old)) result
             (over k self.old) (over k self.new) }
         ensures written { self.new.unwritten ≡ self.old.unwritten }
         ensures prints { self.new.prints ≡ self.old.prints }
         ensures kept { KeepsRows (K.tables keeper.old) (K.tables keeper.new) self.old self.new }
-        ensures keeper { Counts (is_keepers result) (K.faults keeper.old) (K.faults keeper.new) }
+        ensures keeper { Counts (is_keepers result ≡ true)
+            (K.faults keeper.old) (K.faults keeper.new) }
         ensures shelf { is_shelfs result ≡ false }
     {
         if !has_entry(self.queue.entries(), user, name) {

@@ -1,10 +1,11 @@
 //! Users are added and changed.
-ghost use Rattle.std.specs.Prelude.{◌≡◌, false};
+ghost use Rattle.std.specs.Prelude.{◌≡◌, true, false};
 ghost use Rattle.octo_access.specs.Rows.{IsUserTable};
 ghost use Rattle.house_verdicts.specs.Known.{Known};
 ghost use Rattle.house_verdicts.specs.Rows.{put_user_verdict, change_user_verdict, replace_verdict, new_user};
 ghost use Rattle.house_verdicts.specs.Verdict.{IsDone};
-ghost use Rattle.house_rows.specs.Counts.{Counts, is_keepers, is_shelfs};
+ghost use Rattle.octo_outside.specs.Told.{Counts};
+ghost use Rattle.house_rows.specs.Counts.{is_keepers, is_shelfs};
 ghost use Rattle.house_tables.specs.Data.{over};
 ghost use Rattle.house_tables.specs.Kept.{KeepsRows};
 
@@ -34,7 +35,8 @@ impl HostTables {
         ensures written { self.new.unwritten ≡ self.old.unwritten }
         ensures prints { self.new.prints ≡ self.old.prints }
         ensures kept { KeepsRows (K.tables keeper.old) (K.tables keeper.new) self.old self.new }
-        ensures keeper { Counts (is_keepers result) (K.faults keeper.old) (K.faults keeper.new) }
+        ensures keeper { Counts (is_keepers result ≡ true)
+            (K.faults keeper.old) (K.faults keeper.new) }
         ensures shelf { is_shelfs result ≡ false }
     {
         self.put_user_row(keeper, policy, &new_user(name, key, groups, active))
@@ -43,11 +45,13 @@ impl HostTables {
     // Adds a user's row; if the keeper can't write it, it is taken back.
     fn put_user_row<K: Keeper>(&mut self, keeper: &mut K, policy: &Policy, row: &UserRow) -> Answer
         ensures done { (k : Known) → k.policy ≡ policy.now → IsDone
-            (put_user_verdict row.now (over k self.old)) result (over k self.old) (over k self.new) }
+            (put_user_verdict row.now (over k self.old)) result
+            (over k self.old) (over k self.new) }
         ensures written { self.new.unwritten ≡ self.old.unwritten }
         ensures prints { self.new.prints ≡ self.old.prints }
         ensures kept { KeepsRows (K.tables keeper.old) (K.tables keeper.new) self.old self.new }
-        ensures keeper { Counts (is_keepers result) (K.faults keeper.old) (K.faults keeper.new) }
+        ensures keeper { Counts (is_keepers result ≡ true)
+            (K.faults keeper.old) (K.faults keeper.new) }
         ensures shelf { is_shelfs result ≡ false }
     {
         if let Err(refusal) = self.users.put(row, policy) {
@@ -80,7 +84,8 @@ impl HostTables {
         ensures written { self.new.unwritten ≡ self.old.unwritten }
         ensures prints { self.new.prints ≡ self.old.prints }
         ensures kept { KeepsRows (K.tables keeper.old) (K.tables keeper.new) self.old self.new }
-        ensures keeper { Counts (is_keepers result) (K.faults keeper.old) (K.faults keeper.new) }
+        ensures keeper { Counts (is_keepers result ≡ true)
+            (K.faults keeper.old) (K.faults keeper.new) }
         ensures shelf { is_shelfs result ≡ false }
     {
         let Some(former) = user_named(self.users.rows(), name) else {
@@ -98,7 +103,8 @@ impl HostTables {
         ensures written { self.new.unwritten ≡ self.old.unwritten }
         ensures prints { self.new.prints ≡ self.old.prints }
         ensures kept { KeepsRows (K.tables keeper.old) (K.tables keeper.new) self.old self.new }
-        ensures keeper { Counts (is_keepers result) (K.faults keeper.old) (K.faults keeper.new) }
+        ensures keeper { Counts (is_keepers result ≡ true)
+            (K.faults keeper.old) (K.faults keeper.new) }
         ensures shelf { is_shelfs result ≡ false }
     {
         let former = match self.users.change(row, policy) {

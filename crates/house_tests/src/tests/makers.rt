@@ -94,7 +94,8 @@ fn sender(rt: &impl Abort, alloc: Global) -> Sender
 }
 
 fn session(rt: &impl Abort, alloc: Global) -> Session
-    ensures desk { result.desk ≡ new_desk result.desk.scripts result.desk.limits result.desk.poll_ms }
+    ensures desk { result.desk
+        ≡ new_desk result.desk.scripts result.desk.limits result.desk.poll_ms }
     ensures sender { result.sender ≡ new_sender result.sender.window result.sender.limit }
     ensures down { result.up ≡ false }
 {

@@ -7,7 +7,8 @@ ghost use Rattle.house_verdicts.specs.Answers.{verdict, request_verdict, lacking
 ghost use Rattle.house_verdicts.specs.Rows.{put_entry_verdict};
 ghost use Rattle.house_tables.specs.Kept.{KeepsRows};
 ghost use Rattle.octo_house.specs.Answered.{Answers, AnswersOn, Shelves};
-ghost use Rattle.house_rows.specs.Counts.{Counts, is_keepers, is_shelfs};
+ghost use Rattle.octo_outside.specs.Told.{Counts};
+ghost use Rattle.house_rows.specs.Counts.{is_keepers, is_shelfs};
 ghost use Rattle.octo_house.specs.Groups.{is_edit, is_row};
 ghost use Rattle.octo_house.specs.State.{IsApartFrom, IsListed, known_of};
 
@@ -40,8 +41,9 @@ impl House {
         ensures apart { IsApartFrom self.old self.new }
 
         // Faults, by their counts.
-        ensures keeper { Counts (is_keepers result) (K.faults keeper.old) (K.faults keeper.new) }
-        ensures shelf { Counts (is_shelfs result) (S.faults shelf.old) (S.faults shelf.new) }
+        ensures keeper { Counts (is_keepers result ≡ true)
+            (K.faults keeper.old) (K.faults keeper.new) }
+        ensures shelf { Counts (is_shelfs result ≡ true) (S.faults shelf.old) (S.faults shelf.new) }
     {
         let permissions = needed(&ask.request);
         if permissions.as_slice().is_empty() {
@@ -88,8 +90,9 @@ impl House {
         ensures listed { IsListed (S.files shelf.old) self.old
             → IsListed (S.files shelf.new) self.new }
         ensures apart { IsApartFrom self.old self.new }
-        ensures keeper { Counts (is_keepers result) (K.faults keeper.old) (K.faults keeper.new) }
-        ensures shelf { Counts (is_shelfs result) (S.faults shelf.old) (S.faults shelf.new) }
+        ensures keeper { Counts (is_keepers result ≡ true)
+            (K.faults keeper.old) (K.faults keeper.new) }
+        ensures shelf { Counts (is_shelfs result ≡ true) (S.faults shelf.old) (S.faults shelf.new) }
     {
         match request {
             Request::Version => Answer::Version,
@@ -138,8 +141,9 @@ impl House {
         ensures listed { IsListed (S.files shelf.old) self.old
             → IsListed (S.files shelf.new) self.new }
         ensures apart { IsApartFrom self.old self.new }
-        ensures keeper { Counts (is_keepers result) (K.faults keeper.old) (K.faults keeper.new) }
-        ensures shelf { Counts (is_shelfs result) (S.faults shelf.old) (S.faults shelf.new) }
+        ensures keeper { Counts (is_keepers result ≡ true)
+            (K.faults keeper.old) (K.faults keeper.new) }
+        ensures shelf { Counts (is_shelfs result ≡ true) (S.faults shelf.old) (S.faults shelf.new) }
     {
         match request {
             Request::PutFile {
@@ -170,7 +174,8 @@ impl House {
             self.old.tables self.new.tables }
         ensures names { self.new.names.items ≡ self.old.names.items }
         ensures apart { IsApartFrom self.old self.new }
-        ensures keeper { Counts (is_keepers result) (K.faults keeper.old) (K.faults keeper.new) }
+        ensures keeper { Counts (is_keepers result ≡ true)
+            (K.faults keeper.old) (K.faults keeper.new) }
         ensures shelf { is_shelfs result ≡ false }
     {
         match request {
@@ -216,7 +221,8 @@ impl House {
             self.old.tables self.new.tables }
         ensures names { self.new.names.items ≡ self.old.names.items }
         ensures apart { IsApartFrom self.old self.new }
-        ensures keeper { Counts (is_keepers result) (K.faults keeper.old) (K.faults keeper.new) }
+        ensures keeper { Counts (is_keepers result ≡ true)
+            (K.faults keeper.old) (K.faults keeper.new) }
         ensures shelf { is_shelfs result ≡ false }
     {
         if !self.holds(&asked.file) {

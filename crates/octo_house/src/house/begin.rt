@@ -1,6 +1,6 @@
 //! A host begins.
-ghost use Rattle.std.specs.Prelude.{◌≡◌, ◌≤◌, ℕ, false, length, Some, IfOk, IsErrOf};
-ghost use Rattle.octo_outside.specs.Told.{Rose};
+ghost use Rattle.std.specs.Prelude.{◌≡◌, ℕ, false, length, Some, IfOk, IsErrOf};
+ghost use Rattle.octo_outside.specs.Told.{Counts};
 ghost use Rattle.desk_steps.specs.Data.{new_desk};
 ghost use Rattle.octo_keeper.specs.declared.tables.Tables.{Tables};
 ghost use Rattle.send_window.specs.Data.{new_sender};
@@ -46,7 +46,8 @@ impl House {
         // The state that it begins with.
         ensures made { IfOk result (λ house. IsMadeOf session policy ports material house) }
         ensures begins { IfOk result (λ house.
-            BeginsOn session policy ports material (K.tables keeper.old) (S.files shelf.old) house) }
+            BeginsOn session policy ports material
+            (K.tables keeper.old) (S.files shelf.old) house) }
 
         // Keeper and shelf hold what they held, and it is the host's.
         ensures tables { K.tables keeper.new ≡ K.tables keeper.old }
@@ -57,12 +58,10 @@ impl House {
         ensures listed { IfOk result (λ house. IsListed (S.files shelf.new) house) }
 
         // Faults, by their counts.
-        ensures keeper_counted { K.faults keeper.old ≤ K.faults keeper.new }
-        ensures keeper_failed { IsErrOf result fault.KeeperFailed
-            → Rose (K.faults keeper.old) (K.faults keeper.new) }
-        ensures shelf_counted { S.faults shelf.old ≤ S.faults shelf.new }
-        ensures shelf_failed { IsErrOf result fault.ShelfFailed
-            → Rose (S.faults shelf.old) (S.faults shelf.new) }
+        ensures keeper { Counts (IsErrOf result fault.KeeperFailed)
+            (K.faults keeper.old) (K.faults keeper.new) }
+        ensures shelf { Counts (IsErrOf result fault.ShelfFailed)
+            (S.faults shelf.old) (S.faults shelf.new) }
     {
         let tables = match keeper.load(alloc) {
             Ok(tables) => tables,

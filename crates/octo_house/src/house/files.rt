@@ -1,10 +1,11 @@
 //! The requests that list, show and delete files.
-ghost use Rattle.std.specs.Prelude.{◌≡◌, false};
+ghost use Rattle.std.specs.Prelude.{◌≡◌, true, false};
 ghost use Rattle.desk_steps.specs.Table.{drop_file_step};
 ghost use Rattle.house_verdicts.specs.Reads.{list_files_verdict, get_file_verdict, download_verdict};
 ghost use Rattle.house_verdicts.specs.Uploads.{delete_verdict};
 ghost use Rattle.octo_house.specs.Answered.{Answers, AnswersOn, Shelves};
-ghost use Rattle.house_rows.specs.Counts.{Counts, is_keepers, is_shelfs};
+ghost use Rattle.octo_outside.specs.Told.{Counts};
+ghost use Rattle.house_rows.specs.Counts.{is_keepers, is_shelfs};
 ghost use Rattle.octo_house.specs.State.{AreRowsLeft, IsListed, known_of};
 
 use super::House;
@@ -19,7 +20,7 @@ impl House {
     pub(super) fn list_files<S: Shelf>(&self, shelf: &mut S) -> Answer
         ensures done { AnswersOn (S.files shelf.old) list_files_verdict result self.now self.now }
         ensures stays { S.files shelf.new ≡ S.files shelf.old }
-        ensures shelf { Counts (is_shelfs result) (S.faults shelf.old) (S.faults shelf.new) }
+        ensures shelf { Counts (is_shelfs result ≡ true) (S.faults shelf.old) (S.faults shelf.new) }
         ensures keeper { is_keepers result ≡ false }
     {
         let files = match shelf.list(self.desk.alloc) {
@@ -35,9 +36,10 @@ impl House {
     // One file.
     pub(super) fn file<S: Shelf>(&self, shelf: &mut S, name: &Name) -> Answer
         ensures done { AnswersOn (S.files shelf.old)
-            (λ files. get_file_verdict name.now files (known_of self.now)) result self.now self.now }
+            (λ files. get_file_verdict name.now files (known_of self.now))
+            result self.now self.now }
         ensures stays { S.files shelf.new ≡ S.files shelf.old }
-        ensures shelf { Counts (is_shelfs result) (S.faults shelf.old) (S.faults shelf.new) }
+        ensures shelf { Counts (is_shelfs result ≡ true) (S.faults shelf.old) (S.faults shelf.new) }
         ensures keeper { is_keepers result ≡ false }
     {
         if !self.holds(name) {
@@ -57,9 +59,10 @@ impl House {
     // The bytes of a file.
     pub(super) fn download<S: Shelf>(&self, shelf: &mut S, name: &Name) -> Answer
         ensures done { AnswersOn (S.files shelf.old)
-            (λ files. download_verdict name.now files (known_of self.now)) result self.now self.now }
+            (λ files. download_verdict name.now files (known_of self.now))
+            result self.now self.now }
         ensures stays { S.files shelf.new ≡ S.files shelf.old }
-        ensures shelf { Counts (is_shelfs result) (S.faults shelf.old) (S.faults shelf.new) }
+        ensures shelf { Counts (is_shelfs result ≡ true) (S.faults shelf.old) (S.faults shelf.new) }
         ensures keeper { is_keepers result ≡ false }
     {
         if !self.holds(name) {
@@ -87,13 +90,14 @@ impl House {
 
     // Deletes a file: the shelf first, and then what the host knows of it.
     pub(super) fn delete_file<S: Shelf>(&mut self, shelf: &mut S, name: &Name) -> Answer
-        ensures done { Answers (delete_verdict name.now (known_of self.old)) result self.old self.new }
+        ensures done { Answers
+            (delete_verdict name.now (known_of self.old)) result self.old self.new }
         ensures files { Shelves (S.files shelf.old) (S.files shelf.new)
             (λ _. delete_verdict name.now (known_of self.old)) result }
         ensures rows { AreRowsLeft self.old self.new }
         ensures listed { IsListed (S.files shelf.old) self.old
             → IsListed (S.files shelf.new) self.new }
-        ensures shelf { Counts (is_shelfs result) (S.faults shelf.old) (S.faults shelf.new) }
+        ensures shelf { Counts (is_shelfs result ≡ true) (S.faults shelf.old) (S.faults shelf.new) }
         ensures keeper { is_keepers result ≡ false }
     {
         if !self.holds(name) {

@@ -3,7 +3,8 @@ ghost use Rattle.std.specs.Prelude.{◌≡◌, ℕ, true, false, OnOk};
 ghost use Rattle.desk_steps.specs.Table.{restart_at, start_at};
 ghost use Rattle.house_verdicts.specs.Known.{next_number};
 ghost use Rattle.house_verdicts.specs.Prints.{has_room, new_row, start_verdict, restart_verdict};
-ghost use Rattle.house_rows.specs.Counts.{Counts, is_keepers, is_shelfs};
+ghost use Rattle.octo_outside.specs.Told.{Counts};
+ghost use Rattle.house_rows.specs.Counts.{is_keepers, is_shelfs};
 ghost use Rattle.house_tables.specs.Kept.{KeepsRows};
 ghost use Rattle.octo_house.specs.Answered.{Answers};
 ghost use Rattle.octo_house.specs.State.{IsApartFrom, known_of};
@@ -54,7 +55,8 @@ impl House {
             self.old.tables self.new.tables }
         ensures names { self.new.names.items ≡ self.old.names.items }
         ensures apart { IsApartFrom self.old self.new }
-        ensures keeper { Counts (is_keepers result) (K.faults keeper.old) (K.faults keeper.new) }
+        ensures keeper { Counts (is_keepers result ≡ true)
+            (K.faults keeper.old) (K.faults keeper.new) }
         ensures shelf { is_shelfs result ≡ false }
     {
         if let Err(refusal) = self.may_start() {
@@ -93,7 +95,8 @@ impl House {
             self.old.tables self.new.tables }
         ensures names { self.new.names.items ≡ self.old.names.items }
         ensures apart { IsApartFrom self.old self.new }
-        ensures keeper { Counts (is_keepers result) (K.faults keeper.old) (K.faults keeper.new) }
+        ensures keeper { Counts (is_keepers result ≡ true)
+            (K.faults keeper.old) (K.faults keeper.new) }
         ensures shelf { is_shelfs result ≡ false }
     {
         let print = match self.may_restart() {

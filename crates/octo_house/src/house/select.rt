@@ -5,7 +5,8 @@ ghost use Rattle.octo_keeper.specs.Tables.{with_taken};
 ghost use Rattle.house_verdicts.specs.Uploads.{select_verdict, next_verdict, take_verdict, print_verdict, named_file};
 ghost use Rattle.house_tables.specs.Kept.{KeepsRows};
 ghost use Rattle.octo_house.specs.Answered.{Answers, AnswersOn};
-ghost use Rattle.house_rows.specs.Counts.{Counts, is_keepers, is_shelfs};
+ghost use Rattle.octo_outside.specs.Told.{Counts};
+ghost use Rattle.house_rows.specs.Counts.{is_keepers, is_shelfs};
 ghost use Rattle.octo_house.specs.State.{IsApartFrom, IsDeskAlone, known_of};
 ghost use Rattle.octo_house.specs.Taken.{taken_answer};
 
@@ -26,7 +27,7 @@ impl House {
             self.old self.new }
         ensures alone { IsDeskAlone self.old self.new }
         ensures stays { S.files shelf.new ≡ S.files shelf.old }
-        ensures shelf { Counts (is_shelfs result) (S.faults shelf.old) (S.faults shelf.new) }
+        ensures shelf { Counts (is_shelfs result ≡ true) (S.faults shelf.old) (S.faults shelf.new) }
         ensures keeper { is_keepers result ≡ false }
     {
         if !self.holds(name) {
@@ -61,8 +62,9 @@ impl House {
         ensures names { self.new.names.items ≡ self.old.names.items }
         ensures stays { S.files shelf.new ≡ S.files shelf.old }
         ensures apart { IsApartFrom self.old self.new }
-        ensures keeper { Counts (is_keepers result) (K.faults keeper.old) (K.faults keeper.new) }
-        ensures shelf { Counts (is_shelfs result) (S.faults shelf.old) (S.faults shelf.new) }
+        ensures keeper { Counts (is_keepers result ≡ true)
+            (K.faults keeper.old) (K.faults keeper.new) }
+        ensures shelf { Counts (is_shelfs result ≡ true) (S.faults shelf.old) (S.faults shelf.new) }
     {
         if !self.holds(name) {
             return Answer::NoFile;
@@ -94,7 +96,8 @@ impl House {
             self.old.tables self.new.tables }
         ensures names { self.new.names.items ≡ self.old.names.items }
         ensures apart { IsApartFrom self.old self.new }
-        ensures keeper { Counts (is_keepers result) (K.faults keeper.old) (K.faults keeper.new) }
+        ensures keeper { Counts (is_keepers result ≡ true)
+            (K.faults keeper.old) (K.faults keeper.new) }
         ensures shelf { is_shelfs result ≡ false }
     {
         if let Err(refusal) = check_job(&job, self.desk.session.desk().limits()) {
@@ -127,8 +130,9 @@ impl House {
         ensures names { self.new.names.items ≡ self.old.names.items }
         ensures stays { S.files shelf.new ≡ S.files shelf.old }
         ensures apart { IsApartFrom self.old self.new }
-        ensures keeper { Counts (is_keepers result) (K.faults keeper.old) (K.faults keeper.new) }
-        ensures shelf { Counts (is_shelfs result) (S.faults shelf.old) (S.faults shelf.new) }
+        ensures keeper { Counts (is_keepers result ≡ true)
+            (K.faults keeper.old) (K.faults keeper.new) }
+        ensures shelf { Counts (is_shelfs result ≡ true) (S.faults shelf.old) (S.faults shelf.new) }
     {
         let state = self.desk.session.desk().state();
         if state != State::Operational {
@@ -155,8 +159,9 @@ impl House {
         ensures names { self.new.names.items ≡ self.old.names.items }
         ensures stays { S.files shelf.new ≡ S.files shelf.old }
         ensures apart { IsApartFrom self.old self.new }
-        ensures keeper { Counts (is_keepers result) (K.faults keeper.old) (K.faults keeper.new) }
-        ensures shelf { Counts (is_shelfs result) (S.faults shelf.old) (S.faults shelf.new) }
+        ensures keeper { Counts (is_keepers result ≡ true)
+            (K.faults keeper.old) (K.faults keeper.new) }
+        ensures shelf { Counts (is_shelfs result ≡ true) (S.faults shelf.old) (S.faults shelf.new) }
     {
         if !self.holds(&entry.file) {
             return Answer::NoFile;

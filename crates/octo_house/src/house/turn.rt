@@ -1,6 +1,5 @@
 //! Turns of the link, and the ends of prints that they bring.
 ghost use Rattle.std.specs.Prelude.{◌≡◌, ◌↔◌, ◌≤◌, ◌⊎◌, [], true, false, None, IfSome};
-ghost use Rattle.octo_outside.specs.Told.{Rose};
 ghost use Rattle.desk_steps.specs.Endings.{IsActive};
 ghost use Rattle.desk_steps.specs.declared.link_fact.LinkFact.TheVariants as fact;
 ghost use Rattle.printer_link.specs.Link.{RoseBy};
@@ -11,7 +10,7 @@ ghost use Rattle.octo_session.specs.declared.found.Doing.TheVariants as now_doin
 ghost use Rattle.octo_session.specs.Found.{up_after, ready_after, can_find};
 ghost use Rattle.octo_session.specs.Turn.{fact_of, lines_of, IsNoteOn, IsSpent, IsTurn};
 ghost use Rattle.house_tables.specs.Kept.{KeepsRows};
-ghost use Rattle.house_rows.specs.Counts.{Counts};
+ghost use Rattle.octo_outside.specs.Told.{Counts};
 ghost use Rattle.house_tables.specs.Data.{is_unwritten_by_fault};
 ghost use Rattle.octo_house.specs.Turned.{Turns, temps_told};
 
@@ -50,9 +49,11 @@ impl House {
 
         // The session takes a turn of its own.
         ensures turn { IsTurn moment (L.kind link.old) (L.past link.old) (L.past link.new)
-            (L.calls link.old) (L.calls link.new) self.old.desk.session self.new.desk.session result }
+            (L.calls link.old) (L.calls link.new)
+            self.old.desk.session self.new.desk.session result }
         ensures finds { can_find (doing self.old.desk.session) (fact_of result.note) ≡ true }
-        ensures up { self.new.desk.session.up ≡ up_after (fact_of result.note) self.old.desk.session.up }
+        ensures up { self.new.desk.session.up
+            ≡ up_after (fact_of result.note) self.old.desk.session.up }
         ensures link { L.up link.new ≡ self.new.desk.session.up }
         ensures ready_is { self.new.desk.session.sender.ready
             ≡ ready_after (fact_of result.note) self.old.desk.session.sender.ready }
@@ -65,8 +66,10 @@ impl House {
             ↔ ((self.old.desk.session.sender.ready ≡ false)
             × (self.new.desk.session.sender.ready ≡ true)) }
         ensures silent { fact_of result.note ≡ fact.Ready → lines_of result.note ≡ [] }
-        ensures sent { fact_of result.note ≡ fact.Ready → next_of self.new.desk.session.sender ≡ None }
-        ensures greatest { self.new.desk.session.desk.greatest ≡ self.old.desk.session.desk.greatest }
+        ensures sent { fact_of result.note ≡ fact.Ready
+            → next_of self.new.desk.session.sender ≡ None }
+        ensures greatest { self.new.desk.session.desk.greatest
+            ≡ self.old.desk.session.desk.greatest }
         ensures ends { IfSome result.ending (λ ending. IsTurnEnding (fact_of result.note)
             self.old.desk.session.desk self.new.desk.session.desk ending) }
         ensures before { IsSession self.old.desk.session }
@@ -77,7 +80,8 @@ impl House {
         ensures within { self.new.desk.session.sender.acked ≤ self.old.desk.session.sender.issued }
         ensures none_acked { fact_of result.note ≡ fact.Opened
             → self.new.desk.session.sender.acked ≡ 0 }
-        ensures told { IfSome result.note (λ note. IsNoteOn moment self.new.desk.session.sender.acked
+        ensures told { IfSome result.note
+            (λ note. IsNoteOn moment self.new.desk.session.sender.acked
             self.old.desk.session.desk self.new.desk.session.desk result.ending note) }
 
         // What the host knows then, and what the keeper keeps.
@@ -89,10 +93,9 @@ impl House {
         // Counts: of the link's calls and faults, and of the keeper's faults if an end isn't written.
         ensures calls { is_calling (doing self.old.desk.session) ≡ true
             → RoseBy 1 (L.calls link.old) (L.calls link.new) }
-        ensures counted { L.faults link.old ≤ L.faults link.new }
-        ensures failed { fact_of result.note ≡ fact.Failed
-            → Rose (L.faults link.old) (L.faults link.new) }
-        ensures unwritten { Counts (is_unwritten_by_fault self.new.tables.unwritten)
+        ensures counts { Counts (fact_of result.note ≡ fact.Failed)
+            (L.faults link.old) (L.faults link.new) }
+        ensures unwritten { Counts (is_unwritten_by_fault self.new.tables.unwritten ≡ true)
             (K.faults keeper.old) (K.faults keeper.new) }
     {
         is_active(self.desk.session.desk());

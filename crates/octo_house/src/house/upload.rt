@@ -11,7 +11,8 @@ ghost use Rattle.house_verdicts.specs.Uploads.{put_file_verdict, named_file, has
 ghost use Rattle.house_verdicts.specs.Verdict.{begins, is_fault};
 ghost use Rattle.house_tables.specs.Kept.{KeepsRows};
 ghost use Rattle.octo_house.specs.Answered.{Answers, Shelves};
-ghost use Rattle.house_rows.specs.Counts.{Counts, is_keepers, is_shelfs};
+ghost use Rattle.octo_outside.specs.Told.{Counts};
+ghost use Rattle.house_rows.specs.Counts.{is_keepers, is_shelfs};
 ghost use Rattle.house_rows.specs.Reading.{is_keepers_fault, is_shelfs_fault};
 ghost use Rattle.octo_house.specs.State.{AreRowsLeft, IsApartFrom, IsListed, known_of};
 ghost use Rattle.octo_house.specs.Storing.{IsStored, IsNotStored, IsStartable, cause_of};
@@ -58,8 +59,9 @@ impl House {
         ensures listed { IsListed (S.files shelf.old) self.old
             → IsListed (S.files shelf.new) self.new }
         ensures apart { IsApartFrom self.old self.new }
-        ensures keeper { Counts (is_keepers result) (K.faults keeper.old) (K.faults keeper.new) }
-        ensures shelf { Counts (is_shelfs result) (S.faults shelf.old) (S.faults shelf.new) }
+        ensures keeper { Counts (is_keepers result ≡ true)
+            (K.faults keeper.old) (K.faults keeper.new) }
+        ensures shelf { Counts (is_shelfs result ≡ true) (S.faults shelf.old) (S.faults shelf.new) }
     {
         let job = match read_commands(self.desk.alloc, bytes) {
             Ok(job) => job,
@@ -99,7 +101,8 @@ impl House {
         ensures rows { AreRowsLeft self.old self.new }
         ensures listed { IsListed (S.files shelf.old) self.old
             → IsListed (S.files shelf.new) self.new }
-        ensures shelf { Counts (is_shelfs_fault result) (S.faults shelf.old) (S.faults shelf.new) }
+        ensures shelf { Counts (is_shelfs_fault result ≡ true)
+            (S.faults shelf.old) (S.faults shelf.new) }
         ensures keeper { is_keepers_fault result ≡ false }
     {
         if let Err(refusal) = self.may_drop(name) {
@@ -172,14 +175,16 @@ impl House {
         requires start { IsStartable name.now commands (known_of self.old) }
         requires few { commands ≤ most_bytes }
         ensures done { Answers (begins (answer.Uploaded name.now true true)
-            (started user.now self.old.desk.session.desk.file (Start (next_number (known_of self.old)) ∷ [])
+            (started user.now self.old.desk.session.desk.file
+            (Start (next_number (known_of self.old)) ∷ [])
             (known_of self.old)) name.now) result self.old self.new }
         ensures kept { KeepsRows (K.tables keeper.old) (K.tables keeper.new)
             self.old.tables self.new.tables }
         ensures plain { is_fault result ≡ false }
         ensures names { self.new.names.items ≡ self.old.names.items }
         ensures apart { IsApartFrom self.old self.new }
-        ensures keeper { Counts (is_keepers result) (K.faults keeper.old) (K.faults keeper.new) }
+        ensures keeper { Counts (is_keepers result ≡ true)
+            (K.faults keeper.old) (K.faults keeper.new) }
         ensures shelf { is_shelfs result ≡ false }
     {
         let row = self.tables.next_row(user, name, commands);

@@ -1,6 +1,6 @@
 //! The kinds of turn: it dials, hangs up, or receives and then sends.
 ghost use Rattle.std.specs.Prelude.{◌≡◌, ◌≢◌, ◌↔◌, ◌≤◌, ℕ, [], ◌∷◌, map, true, false, None, OnOk, OnErr, IsErrOf};
-ghost use Rattle.octo_outside.specs.Told.{Rose};
+ghost use Rattle.octo_outside.specs.Told.{Counts};
 ghost use Rattle.desk_steps.specs.Issued.{line_of};
 ghost use Rattle.desk_steps.specs.declared.link_fact.LinkFact.TheVariants as fact;
 ghost use Rattle.send_window.specs.declared.session_end.SessionEnd.{SessionEnd};
@@ -42,8 +42,7 @@ fn dial_port<L: Link>(desk: &Desk, link: &mut L) -> Result<(), LinkFault>
     ensures down { OnErr result (L.up link.new ≡ false) }
     ensures slots { HasSlots (L.kind link.old) }
     ensures kind { L.kind link.new ≡ L.kind link.old }
-    ensures counted { L.faults link.old ≤ L.faults link.new }
-    ensures failed { IsErrOf result fault.Failed → Rose (L.faults link.old) (L.faults link.new) }
+    ensures counts { Counts (IsErrOf result fault.Failed) (L.faults link.old) (L.faults link.new) }
 {
     match desk.port() {
         Some(port) => link.dial(port.as_str()),
@@ -108,8 +107,8 @@ impl Session {
             (L.calls link.old) (L.calls link.new) (dial_steps result.fact) self.old.sender
             self.new.sender }
         ensures kind { L.kind link.new ≡ L.kind link.old }
-        ensures counted { L.faults link.old ≤ L.faults link.new }
-        ensures failed { result.fact ≡ fact.Failed → Rose (L.faults link.old) (L.faults link.new) }
+        ensures counts { Counts (result.fact ≡ fact.Failed)
+            (L.faults link.old) (L.faults link.new) }
     {
         match dial_port(&self.desk, link) {
             Ok(()) => self.open(moment),
@@ -181,8 +180,8 @@ impl Session {
             (talk_steps (got_of result.received line.new.items) result.fact
             (texts_in (map line_of result.issued.items))) self.old.sender self.new.sender }
         ensures kind { L.kind link.new ≡ L.kind link.old }
-        ensures counted { L.faults link.old ≤ L.faults link.new }
-        ensures failed { result.fact ≡ fact.Failed → Rose (L.faults link.old) (L.faults link.new) }
+        ensures counts { Counts (result.fact ≡ fact.Failed)
+            (L.faults link.old) (L.faults link.new) }
     {
         let found = receive_then_send(&mut self.desk, &mut self.sender, link, moment, line);
         self.up = match found.fact {
@@ -232,10 +231,10 @@ impl Session {
             result.fact (texts_in (map line_of result.issued.items))) self.old.sender
             self.new.sender }
         ensures kind { L.kind link.new ≡ L.kind link.old }
-        ensures counted { L.faults link.old ≤ L.faults link.new }
+        ensures counts { Counts (result.fact ≡ fact.Failed)
+            (L.faults link.old) (L.faults link.new) }
         ensures calls { is_calling (doing self.old) ≡ true
             → RoseBy 1 (L.calls link.old) (L.calls link.new) }
-        ensures failed { result.fact ≡ fact.Failed → Rose (L.faults link.old) (L.faults link.new) }
     {
         match self.doing() {
             Doing::Dialling => self.dial(link, moment),

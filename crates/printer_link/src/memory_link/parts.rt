@@ -1,7 +1,7 @@
 //! What the calls of the link in memory do, part by part.
-ghost use Rattle.std.specs.Prelude.{◌≡◌, ◌≤◌, ◌∷◌, [], true, IfOk, OnOk, OnErr, IsErr, Err};
+ghost use Rattle.std.specs.Prelude.{◌≡◌, ◌≤◌, ◌∷◌, [], true, IfOk, OnOk, OnErr, IsErr, Err, ⊤};
 ghost use Rattle.octo_outside.specs.Memory.{one_more, is_listed};
-ghost use Rattle.octo_outside.specs.Told.{Rose};
+ghost use Rattle.octo_outside.specs.Told.{Counts};
 ghost use Rattle.printer_model.specs.World.{IsFrontReply};
 ghost use Rattle.printer_link.specs.Memory.{before_reply, called, failed, grown, heard, is_due, lists_name, link_world, next_fate, opening_last, send_events, LinkMoved, LinkRan, LinkReceived};
 ghost use Rattle.printer_link.specs.Link.{dial_events};
@@ -49,8 +49,7 @@ impl MemoryLink {
     pub(super) fn fail(&mut self) -> LinkFault
         ensures fault { result ≡ fault.Failed }
         ensures after { self.new ≡ failed self.old }
-        ensures counted { self.old.faults ≤ self.new.faults }
-        ensures rose { Rose self.old.faults self.new.faults }
+        ensures counts { Counts ⊤ self.old.faults self.new.faults }
     {
         self.story.close();
         self.faults = self.faults.saturating_add(1);

@@ -114,7 +114,7 @@ fn play(rt: &impl Abort, sender: &mut Sender, steps: &[Step]) {
     }
 }
 
-// A line is sent again after a limit in silence, though the printer has it: it asks for the one behind it.
+// A line is sent again after a limit in silence, though the printer has it: it asks for the one after it.
 #[test]
 fn late_resend(rt: HostRuntime) -> Result<(), Fail> {
     let mut sender = Sender::new(rt.alloc(), 4, LIMIT)?;
@@ -326,7 +326,7 @@ fn ample(rt: HostRuntime) -> Result<(), Fail> {
     Ok(())
 }
 
-// What replies alone acknowledge, the first `ok` being the hello's: a line garbled once, a line lost with two behind
+// What replies alone acknowledge, the first `ok` being the hello's: a line garbled once, a line lost with two after
 // it, and a garbled hello.
 fn counted_replies()
     ensures garbled_line { acked_of

@@ -33,6 +33,6 @@ returns-in-Err-clause-served g c input new =
           (state_of g.C.Conn.left g.C.Conn.written g.C.Conn.faults g.C.Conn.quiets c.refuse.new.conn)
           (subst At (ap (λ (s : ConnState). s.written) new) (λ before e. c.in-Err.ensures.answer before (ap (λ (s : ConnState). s.left) new ∙ e)))
           (subst Patient (ap (λ (s : ConnState). s.quiets) new) c.in-Err.ensures.patient)
-          (λ is. subst Rises (ap (λ (s : ConnState). s.faults) new) (c.in-Err.ensures.failed (ap Err is)))
+          (λ is. subst Rises (ap (λ (s : ConnState). s.faults) new) (c.in-Err.ensures.counts.rose (ap Err is)))
           c.refuse.ensures.written c.refuse.ensures.left c.refuse.ensures.quiets c.refuse.ensures.counted,
     )

@@ -8,7 +8,7 @@ use Rattle.std.proofs.lemmas.Str.Parse.{IsNumeralModel, IsDigitsTest, numerals_b
 use Rattle.byte_text.specs.Number.{decimal_value}
 use Rattle.byte_text.proofs.numbers.whole_number.Goals as goal
 
--- what digits write, behind a number
+-- what digits write, after a number
 abbrev read_on : ℕ → List ℕ → ℕ
 read_on n digits = fold (λ m digit. 10 * m + (digit - 48)) n digits
 

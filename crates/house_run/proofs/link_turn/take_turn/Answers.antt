@@ -49,7 +49,7 @@ returns-clause-turns g c =
     turn_adds c.args.moment (session_of c.turn-turned.new.self).sender.acked _ _ (g.L.Link.kind c.args.link.now) (g.L.Link.past c.args.link.now)
     (g.L.Link.past c.turn-turned.new.link) (g.L.Link.calls c.args.link.now) (g.L.Link.calls c.turn-turned.new.link) (session_of c.args.house.now)
     (session_of c.turn-turned.new.self) c.turn-turned.result t.turn (g.L.Link.faults c.args.link.now) (g.L.Link.faults c.turn-turned.new.link)
-    (record { can = t.finds; no_port = λ is. (t.no_port.0 is).1; calling = t.calls; counted = t.counted; failed = t.failed }) _ _ c.note_turn.ensures.notes
+    (record { can = t.finds; no_port = λ is. (t.no_port.0 is).1; calling = t.calls; counts = t.counts }) _ _ c.note_turn.ensures.notes
 
 pub returns-clause-temps : goal.returns-clause-temps
 returns-clause-temps g c =

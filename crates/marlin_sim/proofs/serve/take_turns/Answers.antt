@@ -11,6 +11,6 @@ loop-preserved g c =
       used = used_more c.loop.counter _ _ _ _ _ _ e.quiets_counted i.used (c.in-On.ensures.used refl);
       places = c.in-On.ensures.places (inl refl) ∙ i.places;
       quiets_counted = omega (arith, i.quiets_counted, e.quiets_counted);
-      conn_counted = omega (arith, i.conn_counted, e.conn_counted);
-      sink_counted = omega (arith, i.sink_counted, e.sink_counted);
+      conn_counted = omega (arith, i.conn_counted, e.conn.later);
+      sink_counted = omega (arith, i.sink_counted, e.sink.later);
     }

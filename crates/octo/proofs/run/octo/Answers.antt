@@ -30,4 +30,4 @@ returns-in-Ok-clause-prompt g c e steady written =
     by (plain, is, inr none) = inr (c.code.ensures ∙ ap host_code is ∙ ap code_of none)
 
 pub returns-clause-prompt : goal.returns-clause-prompt
-returns-clause-prompt g c e steady written = absurd (steady_not_rose _ _ written (c.in-Err.ensures.failed))
+returns-clause-prompt g c e steady written = absurd (steady_not_rose _ _ written (c.in-Err.ensures.counts.rose refl))

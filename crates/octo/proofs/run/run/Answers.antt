@@ -11,7 +11,7 @@ returns-in-Some-clause-comes g c =
 
 pub returns-in-Some-clause-causes : goal.returns-in-Some-clause-causes
 returns-in-Some-clause-causes g c = record {
-  source_failed = c.host.ensures.source_failed;
+  source_failed = c.host.ensures.source.rose;
   link_failed = λ is. let no : false ≡ true = c.host.ensures.refusal report.LinkFailed is in absurd (cc);
   turns_used = λ turns is. let no : false ≡ true = c.host.ensures.refusal (report.TurnsUsed turns) is in absurd (cc);
   hosting = c.host.ensures.causes;

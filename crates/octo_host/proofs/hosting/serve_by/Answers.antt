@@ -15,7 +15,7 @@ returns-in-Err-clause-serves g c =
       tables = e.tables;
       files = e.files;
       doors = refl;
-      later = record { link = omega arith; keeper = e.keeper_counted; shelf = e.shelf_counted };
+      later = record { link = omega arith; keeper = e.keeper.later; shelf = e.shelf.later };
     })
 
 pub returns-in-Ok-serve-clause-serves : goal.returns-in-Ok-serve-clause-serves
@@ -36,7 +36,7 @@ returns-in-Ok-serve-clause-serves g c =
           tables = e.tables;
           files = e.files;
           doors = refl;
-          later = record { link = omega arith; keeper = e.keeper_counted; shelf = e.shelf_counted };
+          later = record { link = omega arith; keeper = e.keeper.later; shelf = e.shelf.later };
         };
         made = e.made;
         begins = e.begins;
@@ -67,7 +67,7 @@ returns-in-Ok-serve-clause-causes g c =
           tables = e.tables;
           files = e.files;
           doors = refl;
-          later = record { link = omega arith; keeper = e.keeper_counted; shelf = e.shelf_counted };
+          later = record { link = omega arith; keeper = e.keeper.later; shelf = e.shelf.later };
         };
         made = e.made;
         begins = e.begins;
@@ -96,5 +96,5 @@ returns-clause-serves g c =
       tables = ap g.K.Keeper.tables s.keeper ∙ e.tables;
       files = ap g.S.Shelf.files s.shelf ∙ e.files;
       doors = ap (door_states doors_at) s.doors;
-      later = record { link = omega (arith, link_faults); keeper = omega (arith, keeper_faults, e.keeper_counted); shelf = omega (arith, shelf_faults, e.shelf_counted) };
+      later = record { link = omega (arith, link_faults); keeper = omega (arith, keeper_faults, e.keeper.later); shelf = omega (arith, shelf_faults, e.shelf.later) };
     })

@@ -1,4 +1,4 @@
-use Rattle.std.proofs.Common.{arith, rules}
+use Rattle.std.proofs.Common.{refl, arith, rules}
 use Rattle.octo_outside.proofs.Told.{rose_after}
 use Rattle.octo_http.proofs.Reading.{caused_since}
 use Rattle.octo_http.proofs.MessageLemmas.{head_fault, bounded_same, patient_at, failed_with, leave_fault, bounded_cut, patient_leave, body_fault, bounded_all, asked_only, waits_both, message_read, patient_read}
@@ -15,8 +15,11 @@ pub returns-in_err-head-clause-patient : goal.returns-in_err-head-clause-patient
 returns-in_err-head-clause-patient g c =
     patient_at c.args.patience c.new-intake.result _ _ _ _ _ _ _ c.in_err-head.field-0.0 c.new-intake.ensures c.in_err-head.ensures.waits c.in_err-head.ensures.caused c.from_residual.ensures.1
 
-pub returns-in_err-head-clause-failed : goal.returns-in_err-head-clause-failed
-returns-in_err-head-clause-failed g c = failed_with c.read_head.new.intake _ _ _ c.in_err-head.field-0.0 c.in_err-head.ensures.caused c.from_residual.ensures.1
+pub returns-in_err-head-clause-counts : goal.returns-in_err-head-clause-counts
+returns-in_err-head-clause-counts g c = record {
+  later = c.in_err-head.ensures.waits.kept;
+  rose = failed_with c.read_head.new.intake _ _ _ c.in_err-head.field-0.0 c.in_err-head.ensures.caused c.from_residual.ensures.1;
+}
 
 pub returns-in-Err-clause-answer : goal.returns-in-Err-clause-answer
 returns-in-Err-clause-answer g c =
@@ -29,8 +32,11 @@ pub returns-in-Err-clause-patient : goal.returns-in-Err-clause-patient
 returns-in-Err-clause-patient g c =
     patient_leave c.args.patience c.new-intake.result _ _ _ _ _ _ c.new-intake.ensures c.in_ok-head.ensures.waits c.in-Err.ensures.quiets
 
-pub returns-in-Err-clause-failed : goal.returns-in-Err-clause-failed
-returns-in-Err-clause-failed g c is = rose_after _ _ _ c.in_ok-head.ensures.waits.kept c.in-Err.ensures.counted c.in-Err.ensures.failed
+pub returns-in-Err-clause-counts : goal.returns-in-Err-clause-counts
+returns-in-Err-clause-counts g c = record {
+  later = omega (arith, c.in_ok-head.ensures.waits.kept, c.in-Err.ensures.counts.later);
+  rose = λ is. rose_after _ _ _ c.in_ok-head.ensures.waits.kept c.in-Err.ensures.counts.later (c.in-Err.ensures.counts.rose refl);
+}
 
 pub returns-in_err-body-clause-answer : goal.returns-in_err-body-clause-answer
 returns-in_err-body-clause-answer g c =
@@ -44,14 +50,19 @@ returns-in_err-body-clause-bounded g c =
 pub returns-in_err-body-clause-patient : goal.returns-in_err-body-clause-patient
 returns-in_err-body-clause-patient g c =
     patient_at c.args.patience c.new-intake.result _ _ _ _ _ _ _ c.in_err-body.field-0.0 c.new-intake.ensures
-    (waits_both _ _ _ _ _ _ _ _ _ _ _ c.in_ok-head.ensures.waits c.in-Ok.ensures.quiets c.in-Ok.ensures.counted c.in_err-body.ensures.waits)
+    (waits_both _ _ _ _ _ _ _ _ _ _ _ c.in_ok-head.ensures.waits c.in-Ok.ensures.quiets c.in-Ok.ensures.counts.later c.in_err-body.ensures.waits)
     c.in_err-body.ensures.caused c.from_residual-in_err-body.ensures.1
 
-pub returns-in_err-body-clause-failed : goal.returns-in_err-body-clause-failed
-returns-in_err-body-clause-failed g c =
-    failed_with c.read_body.new.intake _ _ _ c.in_err-body.field-0.0
-    (caused_since c.read_body.new.intake _ _ _ c.in_err-body.field-0.0 (omega (arith, c.in_ok-head.ensures.waits.kept, c.in-Ok.ensures.counted)) c.in_err-body.ensures.waits.kept c.in_err-body.ensures.caused)
-    c.from_residual-in_err-body.ensures.1
+pub returns-in_err-body-clause-counts : goal.returns-in_err-body-clause-counts
+returns-in_err-body-clause-counts g c =
+    let kept = c.in_err-body.ensures.waits.kept in
+    record {
+      later = omega (arith, c.in_ok-head.ensures.waits.kept, c.in-Ok.ensures.counts.later, kept);
+      rose = failed_with c.read_body.new.intake _ _ _ c.in_err-body.field-0.0
+          (caused_since c.read_body.new.intake _ _ _ c.in_err-body.field-0.0 (omega (arith, c.in_ok-head.ensures.waits.kept, c.in-Ok.ensures.counts.later)) kept
+          c.in_err-body.ensures.caused)
+          c.from_residual-in_err-body.ensures.1;
+    }
 
 pub returns-clause-answer : goal.returns-clause-answer
 returns-clause-answer g c =
@@ -65,4 +76,4 @@ returns-clause-bounded g c =
 pub returns-clause-patient : goal.returns-clause-patient
 returns-clause-patient g c =
     patient_read c.args.patience c.new-intake.result _ _ _ _ _ _ c.new-intake.ensures
-    (waits_both _ _ _ _ _ _ _ _ _ _ _ c.in_ok-head.ensures.waits c.in-Ok.ensures.quiets c.in-Ok.ensures.counted c.in_ok-body.ensures.waits)
+    (waits_both _ _ _ _ _ _ _ _ _ _ _ c.in_ok-head.ensures.waits c.in-Ok.ensures.quiets c.in-Ok.ensures.counts.later c.in_ok-body.ensures.waits)

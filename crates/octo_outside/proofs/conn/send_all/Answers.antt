@@ -18,6 +18,6 @@ loop-done-preserved g c =
       within = omega (arith, c.in_ok-done.ensures.ok.1, ap length rest, length-drop done bytes);
       left = c.write.ensures.left ∙ c.loop-done.invariant.left;
       quiets = c.write.ensures.quiets ∙ c.loop-done.invariant.quiets;
-      counted = omega (arith, c.loop-done.invariant.counted, c.in_ok-done.ensures.counted);
+      counted = omega (arith, c.loop-done.invariant.counted, c.in_ok-done.ensures.counts.later);
       written = subst Written (sym front) (adds_then _ _ _ _ _ c.loop-done.invariant.written c.in_ok-done.ensures.ok.2);
     }

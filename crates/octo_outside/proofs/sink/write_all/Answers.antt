@@ -16,6 +16,6 @@ loop-done-preserved g c =
     let Written : List ℕ → Type 0 = λ xs. Adds (g.S.Sink.written c.args.sink.now) (g.S.Sink.written c.write.new.self) xs in
     record {
       within = omega (arith, c.in_ok-done.ensures.some.1, ap length rest, length-drop done bytes);
-      counted = omega (arith, c.loop-done.invariant.counted, c.in_ok-done.ensures.counted);
+      counted = omega (arith, c.loop-done.invariant.counted, c.in_ok-done.ensures.counts.later);
       written = subst Written (sym front) (adds_then _ _ _ _ _ c.loop-done.invariant.written c.in_ok-done.ensures.ok);
     }

@@ -1,5 +1,5 @@
-use Rattle.std.proofs.Common.{◌≡◌, true, map, sym, ap, subst, ◌∙◌, arith}
-use Rattle.octo_outside.proofs.Told.{rose_after}
+use Rattle.std.proofs.Common.{◌≡◌, inr, true, map, sym, ap, subst, ◌∙◌}
+use Rattle.octo_outside.proofs.Told.{counts_then}
 use Rattle.desk_steps.specs.Issued.{line_of}
 use Rattle.octo_session.specs.Found.{Got, got_of, temps_in, temps_kept, is_got, end_by}
 use Rattle.octo_session.specs.Steps.{TakesSome, talk_steps}
@@ -43,6 +43,5 @@ returns-in_default g c =
           e.steps);
       up = e.up;
       kind = e.kind ∙ r.kind;
-      counted = omega (arith, r.counted, e.counted);
-      failed = λ is_failed. rose_after _ _ _ r.counted e.counted (e.failed is_failed);
+      counts = counts_then _ _ _ _ _ _ r.counts e.counts (λ is_failed. inr is_failed);
     }

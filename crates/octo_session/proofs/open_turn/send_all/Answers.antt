@@ -10,7 +10,7 @@ loop-preserved g c =
       steps = takes_more _ _ _ _ _ _ _ _ _ _ _ i.steps (takes_at _ _ _ _ _ _ _ _ _ _ i.kind e.steps);
       up = e.up;
       kind = e.kind ∙ i.kind;
-      counted = omega (arith, i.counted, e.counted);
+      counted = omega (arith, i.counted, e.counts.later);
     }
 
 pub returns-in-Failed-clause-steps : goal.returns-in-Failed-clause-steps

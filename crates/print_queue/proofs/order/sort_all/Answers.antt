@@ -1,4 +1,4 @@
--- The comparison is that of the order.
+-- The comparison is the order's.
 use Rattle.std.proofs.Common.{◌≡◌, ap, ◌∙◌, rules}
 use Rattle.std.specs.Ordering.{is_lt}
 use Rattle.std.proofs.lemmas.Fn.{always_returns_same}

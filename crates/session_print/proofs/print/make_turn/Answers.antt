@@ -99,7 +99,7 @@ returns-clause-prompt g c p poll_ms at left prompt steady range before after way
       readies = λ is. (e.ready.0 is).0;
       not_fallen = e.not_fallen;
       no_port = e.no_port;
-      unbroken = λ is. steady_not_rose _ _ steady (e.failed is);
+      unbroken = λ is. steady_not_rose _ _ steady (e.counts.rose is);
       prompt = prompt;
       small = omega (arith, moment, range.answers);
       poll_later = poll_later c.args.moment poll_ms (omega (arith, moment, range.polls)) range.some_poll;

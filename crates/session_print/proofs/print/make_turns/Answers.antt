@@ -50,12 +50,12 @@ loop-preserved g c =
           (λ start since p. c.make_turn.ensures.waits start c.args.session.now.sender.limit since p);
       prompt = λ p dialling smooth at shown. (let so = shown_before _ _ _ _ _ _ _ c.now.ensures.now c.now.ensures.stays c.make_turn.ensures.clock c.max-moment.ensures i.on_time.shown shown in
           let last = last_is _ at _ _ shown smooth.unsaturated in
-          let was = smooth_before _ _ port _ (g.L.Link.faults c.loop.link) _ (g.T.Clock.moment c.loop.clock) _ _ _ _ _ i.counted c.make_turn.ensures.counted so.before_is smooth (omega (arith, so.within, last)) in
+          let was = smooth_before _ _ port _ (g.L.Link.faults c.loop.link) _ (g.T.Clock.moment c.loop.clock) _ _ _ _ _ i.counted c.make_turn.ensures.counts.later so.before_is smooth (omega (arith, so.within, last)) in
           let left : ℕ = plan_length p + 12 - c.loop.counter in
           let ms = c.args.session.now.desk.poll_ms in
           let on : IsOnWay kind p ms at (left - 1) (g.L.Link.past c.make_turn.new.link) c.make_turn.new.session =
           c.in-None.ensures.prompt p ms at left (ap (λ (k : LinkKind). k.prompt) i.kind ∙ smooth.prompt)
-          (steady_after _ (g.L.Link.faults c.loop.link) _ smooth.steady i.counted c.make_turn.ensures.counted)
+          (steady_after _ (g.L.Link.faults c.loop.link) _ smooth.steady i.counted c.make_turn.ensures.counts.later)
           (range_now _ _ c.loop.session.sender.limit _ _ i.on_time.patient.its_limit smooth.unsaturated (omega (arith, so.within, last)))
           so.between_is shown (i.prompt p dialling was _ so.before_is)
           in
@@ -63,7 +63,7 @@ loop-preserved g c =
           let N : ℕ → Type 0 = λ n. IsOnWay (g.L.Link.kind c.make_turn.new.link) p ms at n (g.L.Link.past c.make_turn.new.link) c.make_turn.new.session in
           let less : left - 1 ≡ plan_length p + 12 - (c.loop.counter + 1) = omega arith in
           subst N less (subst K (sym c.make_turn.ensures.kind) on));
-      counted = omega (arith, i.counted, c.make_turn.ensures.counted);
+      counted = omega (arith, i.counted, c.make_turn.ensures.counts.later);
     }
 
 pub returns-in-Some-clause-over : goal.returns-in-Some-clause-over
@@ -91,10 +91,14 @@ returns-in-Some-clause-no_port g c =
           same_Some _ _ (c.in-Some.ensures.no_port.1 (dials.1, dials.2))),
     )
 
-pub returns-in-Some-clause-failed : goal.returns-in-Some-clause-failed
-returns-in-Some-clause-failed g c is =
+pub returns-in-Some-clause-counts : goal.returns-in-Some-clause-counts
+returns-in-Some-clause-counts g c =
     let i = c.loop.invariant in
-    rose_after _ (g.L.Link.faults c.loop.link) _ i.counted c.make_turn.ensures.counted (c.in-Some.ensures.failed (ap Some is))
+    let made = c.in-Some.ensures.counts in
+    record {
+      later = omega (arith, i.counted, made.later);
+      rose = λ is. rose_after _ (g.L.Link.faults c.loop.link) _ i.counted made.later (made.rose (ap Some is));
+    }
 
 pub returns-in-Some-clause-used : goal.returns-in-Some-clause-used
 returns-in-Some-clause-used g c made is = absurd (c.in-Some.ensures.unused made (ap Some is))
@@ -149,9 +153,9 @@ returns-in-Some-clause-prompt g c p dialling smooth enough =
     let i = c.loop.invariant in
     let at = smooth.unsaturated.last in
     let so = shown_before _ _ _ _ _ _ _ c.now.ensures.now c.now.ensures.stays c.make_turn.ensures.clock c.max-moment.ensures i.on_time.shown smooth.unsaturated.shown in
-    let was = smooth_before _ _ (port_of c.args.session.now.desk) _ (g.L.Link.faults c.loop.link) _ (g.T.Clock.moment c.loop.clock) _ _ _ _ _ i.counted c.make_turn.ensures.counted so.before_is smooth so.within in
+    let was = smooth_before _ _ (port_of c.args.session.now.desk) _ (g.L.Link.faults c.loop.link) _ (g.T.Clock.moment c.loop.clock) _ _ _ _ _ i.counted c.make_turn.ensures.counts.later so.before_is smooth so.within in
     c.in-Some.ensures.prompt p c.args.session.now.desk.poll_ms at (plan_length p + 12 - c.loop.counter) (ap (λ (k : LinkKind). k.prompt) i.kind ∙ smooth.prompt)
-    (steady_after _ (g.L.Link.faults c.loop.link) _ smooth.steady i.counted c.make_turn.ensures.counted)
+    (steady_after _ (g.L.Link.faults c.loop.link) _ smooth.steady i.counted c.make_turn.ensures.counts.later)
     (range_now _ _ c.loop.session.sender.limit _ _ i.on_time.patient.its_limit smooth.unsaturated so.within)
     so.between_is smooth.unsaturated.shown (i.prompt p dialling was _ so.before_is)
 

@@ -1,4 +1,4 @@
--- The inserted row stands in its place in the order.
+-- The inserted row is in its place in the order.
 use Rattle.std.proofs.Common.{◌≡◌, ℕ, ap, sym, ◌∙◌, subst}
 use Rattle.std.specs.List.{prefix_len, insert}
 use Rattle.print_queue.specs.declared.entry.QueueEntry.{QueueEntry}
