@@ -62,11 +62,12 @@ joins point print d e a = record {
 and_then : (d e f : Data) → Steady d e → Steady e f → Steady d f
 and_then d e f a b = record { scripts = b.scripts ∙ a.scripts; greatest = b.greatest ∙ a.greatest; waiting = λ h. b.waiting (a.waiting h) }
 
-either : (P : Data → Type 0) (b : Bool) (x y : Data) → P x → P y → P (cond b x y)
+-- what holds of both cases holds of a choice
+pub either : (P : Data → Type 0) (b : Bool) (x y : Data) → P x → P y → P (cond b x y)
 either P true x y hx hy = hx
 either P false x y hx hy = hy
 
-choose_pair : {X : Type 0} (P : Data → Type 0) (b : Bool) (x y : X × Data) → P x.1 → P y.1 → P (cond b x y).1
+pub choose_pair : {X : Type 0} (P : Data → Type 0) (b : Bool) (x y : X × Data) → P x.1 → P y.1 → P (cond b x y).1
 choose_pair P true x y hx hy = hx
 choose_pair P false x y hx hy = hy
 

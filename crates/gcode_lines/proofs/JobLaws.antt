@@ -13,11 +13,11 @@ use Rattle.gcode_lines.specs.Commands.{FileLine, file_line, numbered, pieces_of,
 use Rattle.gcode_lines.proofs.Sendable.{sendable_text, short_from_test}
 
 -- the tests of `fault_at` over plain variables
-abbrev fault_by : Bool → Bool → Bool → ℕ → Option FileFault
+abbrev pub fault_by : Bool → Bool → Bool → ℕ → Option FileFault
 fault_by passed long control number =
     cond passed None (cond long (Some (TooLong number)) (cond control (Some (ControlByte number)) None))
 
-sound_by : (long control : Bool) (number : ℕ) → fault_by false long control number ≡ None → (long ≡ false) × (control ≡ false)
+pub sound_by : (long control : Bool) (number : ℕ) → fault_by false long control number ≡ None → (long ≡ false) × (control ≡ false)
 sound_by false false number sound = (refl, refl)
 sound_by true control number sound = absurd cc
 sound_by false true number sound = absurd cc

@@ -7,12 +7,13 @@ use Rattle.std.proofs.lemmas.Bool.Decides.{nat_tests}
 use Rattle.std.proofs.lemmas.List.{append_assoc}
 use Rattle.byte_text.specs.Marks.{has_m110}
 use Rattle.gcode_lines.specs.declared.fault.FileFault.{FileFault}
-use Rattle.gcode_lines.specs.declared.fault.FileFault.TheVariants.{TooLong, ControlByte, TooLarge}
+use Rattle.gcode_lines.specs.declared.fault.FileFault.TheVariants.{TooLarge}
 use Rattle.gcode_lines.specs.Job.{JobData, most_bytes, texts_of}
 use Rattle.gcode_lines.specs.Commands.{FileLine, file_line, in_front, pieces_of, numbered, lines_of, is_skipped_line, fault_at, first_fault, commands_in, unless_fault, job_in as lines_job, job_of}
 use Rattle.gcode_lines.specs.Text.{text_of, is_skipped, is_too_long, is_control, has_control, is_numbered}
 use Rattle.gcode_measure.specs.Rest.{line_of, text_of_lines}
 use Rattle.gcode_measure.proofs.PlainLaws.{IsPlain, plain-text_of, text_of-plain, without_number-bare, text_of-behind, list_any-stronger}
+use Rattle.gcode_lines.proofs.JobLaws.{fault_by, sound_by}
 
 -- a fact of each text of a list
 abbrev pub Each : (List ℕ → Type 0) → List (List ℕ) → Type 0
@@ -29,16 +30,6 @@ pub record IsCommand (text : List ℕ) : Type 0 where
 -- the texts of the commands among lines
 abbrev pub texts_in : List FileLine → List (List ℕ)
 texts_in lines = map (λ c. c.text) (commands_in lines)
-
--- the tests of `fault_at` over plain variables
-abbrev fault_by : Bool → Bool → Bool → ℕ → Option FileFault
-fault_by passed long control number =
-    cond passed None (cond long (Some (TooLong number)) (cond control (Some (ControlByte number)) None))
-
-sound_by : (long control : Bool) (number : ℕ) → fault_by false long control number ≡ None → (long ≡ false) × (control ≡ false)
-sound_by false false number sound = (refl, refl)
-sound_by true control number sound = absurd cc
-sound_by false true number sound = absurd cc
 
 command-of_line : (line : FileLine) → is_skipped_line line ≡ false → fault_at line ≡ None → IsCommand (text_of line.bytes)
 command-of_line line kept sound =

@@ -2,6 +2,7 @@ pub mod Lists
 pub mod Looking
 pub mod Frames
 pub mod Working
+pub mod Awaiting
 pub mod Housing
 pub mod Seating
 pub mod Sitting

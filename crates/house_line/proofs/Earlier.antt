@@ -1,20 +1,17 @@
 -- What more events leave of the sessions before.
-use Rattle.std.proofs.Common.{◌≡◌, ℕ, zero, suc, pred, ◌<◌, ◌≤◌, Bool, true, false, List, [], ◌∷◌, ◌++◌, length, take, drop, refl, sym, ◌∙◌, ap, subst, arith}
+use Rattle.std.proofs.Common.{◌≡◌, ℕ, zero, suc, pred, ◌<◌, Bool, true, false, List, [], ◌∷◌, ◌++◌, refl, sym, ◌∙◌, ap, arith}
 use Rattle.std.specs.Prelude.{◌||◌}
 use Rattle.std.specs.List.{list_all, list_any}
 use Rattle.std.proofs.lemmas.List.Folds.{list_any-append}
-use Rattle.printer_model.specs.Printer.{Logged}
-use Rattle.printer_model.specs.World.{WorldData, is_free}
-use Rattle.printer_model.specs.Executed.{is_send, opens, till, executed}
-use Rattle.printer_model.specs.Exchanged.{session_of}
+use Rattle.printer_model.specs.World.{is_free}
+use Rattle.printer_model.specs.Executed.{is_send, opens, till}
 use Rattle.printer_model.specs.declared.event.WorldEvent.{WorldEvent}
 use Rattle.printer_model.specs.declared.event.WorldEvent.TheVariants.{Opened, Send, Arrive, Lose, Garble, Run, Restart, Chatter, Recv, Closed}
 use Rattle.printer_model.proofs.Laws.{both_left, both_right}
 use Rattle.printer_model.proofs.Sessions.{executed-append, till-append, till-all}
-use Rattle.printer_link.specs.Link.{LinkKind, world_in}
-use Rattle.send_window.specs.Counting.{acked_of}
-use Rattle.lossy_wires.specs.Traces.{replies_from, AreSendsFit}
-use Rattle.lossy_line.specs.Tied.{logged_from, world_before, IsTied}
+use Rattle.printer_link.specs.Link.{LinkKind}
+use Rattle.lossy_line.specs.Tied.{IsTied}
+use Rattle.lossy_line.proofs.Former.{tied_as}
 
 pred_below : (s n : ℕ) → s < n → pred s < n
 pred_below zero n below = below
@@ -24,26 +21,8 @@ pred_below (suc s) n below = omega arith
 pub tied_before : (kind : LinkKind) (issued : List (List ℕ)) (acked : ℕ) (past added : List WorldEvent) (s : ℕ) → s < opens past →
     IsTied kind issued acked past s → IsTied kind issued acked (past ++ added) s
 tied_before kind issued acked past added s over t =
-    let all : List WorldEvent = past ++ added in
-    let ran : executed kind.slots kind.numbered all s ≡ executed kind.slots kind.numbered past s = executed-append kind.slots kind.numbered past added s over in
-    let here : till s all ≡ till s past = till-append s past added over in
-    let before : till (pred s) all ≡ till (pred s) past = till-append (pred s) past added (pred_below s (opens past) over) in
-    let world : world_before kind all s ≡ world_before kind past s = ap (world_in kind) before in
-    let events : session_of s all ≡ session_of s past =
-    ap (λ (es : List WorldEvent). drop (length es) (till s all)) before ∙ ap (drop (length (till (pred s) past))) here
-    in
-    let E : List Logged → Type 0 = λ l. l ≡ logged_from 1 (take (length l) issued) in
-    let A : List Logged → Type 0 = λ l. acked ≤ length l in
-    let S : WorldData → Type 0 = λ w. AreSendsFit issued [] w (session_of s all) in
-    let V : List WorldEvent → Type 0 = λ es. AreSendsFit issued [] (world_before kind past s) es in
-    record {
-      executed_first = subst E (sym ran) t.executed_first;
-      acked_is = t.acked_is
-          ∙ ap (λ (es : List WorldEvent). acked_of (replies_from (world_before kind past s) es)) (sym events)
-          ∙ ap (λ (w : WorldData). acked_of (replies_from w (session_of s all))) (sym world);
-      acked_run = subst A (sym ran) t.acked_run;
-      sends = subst S (sym world) (subst V (sym events) t.sends);
-    }
+    tied_as kind issued acked s past (past ++ added) (executed-append kind.slots kind.numbered past added s over)
+    (till-append s past added over) (till-append (pred s) past added (pred_below s (opens past) over)) t
 
 -- events that open no session, and then others
 pub till-none : (first more : List WorldEvent) → opens first ≡ 0 → till 0 (first ++ more) ≡ first ++ till 0 more

@@ -1,14 +1,10 @@
 -- A host in step with its histories is tied; entries that issue and acknowledge nothing.
 use Rattle.std.proofs.Common.{Some, None, length, ◌≡◌, ◌⊎◌, inl, inr, ℕ, zero, suc, ◌+◌, ◌<◌, ◌≤◌, Bool, false, List, [], ◌∷◌, ◌++◌, refl, sym, ◌∙◌, ap, subst, append_assoc, append-nil, arith}
 use Rattle.std.specs.List.{list_any}
-use Rattle.printer_model.specs.World.{apply}
 use Rattle.printer_model.specs.Executed.{is_send, opens, till}
-use Rattle.printer_model.specs.Exchanged.{sends_since}
 use Rattle.printer_model.specs.declared.event.WorldEvent.{WorldEvent}
-use Rattle.printer_model.specs.declared.event.WorldEvent.TheVariants.{Opened}
 use Rattle.printer_model.proofs.Sessions.{opens-append}
-use Rattle.printer_link.specs.Link.{LinkKind, world_in}
-use Rattle.send_window.specs.Counting.{IsQuiet}
+use Rattle.printer_link.specs.Link.{LinkKind}
 use Rattle.send_window.specs.Data.{SenderData, IsSound}
 use Rattle.send_window.specs.declared.session_end.SessionEnd.{SessionEnd}
 use Rattle.octo_session.specs.Data.{SessionData}
@@ -16,8 +12,6 @@ use Rattle.octo_session.specs.Turn.{texts_in}
 use Rattle.octo_asks.specs.History.{History}
 use Rattle.octo_asks.specs.declared.entry.Entry.{Entry}
 use Rattle.house_history.specs.Issued.{is_opened, lines_at}
-use Rattle.lossy_wires.specs.Traces.{IsTraced}
-use Rattle.lossy_line.specs.Linked.{IsCaused, IsOpened}
 use Rattle.lossy_line.specs.Tied.{IsTied, IsEndCaused}
 use Rattle.lossy_line.proofs.Tying.{opened_tied}
 use Rattle.house_line.specs.Sessions.{sessions, texts_of, most_in, acked_at, acked_in, open_at, open_after, is_open, end_at}
@@ -27,6 +21,7 @@ use Rattle.house_line.proofs.Entries.{sessions-append, open_after-append, end_af
 use Rattle.house_line.proofs.Earlier.{unsent_more}
 use Rattle.house_line.proofs.Grown.{below_or, few_other, texts-before, acked-before, sessions-other, texts-last, acked-last, open-after, shut_after, Split, whole, within, split}
 use Rattle.house_line.proofs.Turns.{Leaves}
+use Rattle.lossy_line.proofs.Promised.{same_opened}
 
 -- the sessions of a history and its link, as they are in step
 pub leaves_of : (kind : LinkKind) (front : List WorldEvent) (h : History) (past : List WorldEvent) (x : SessionData) → AreInStep kind front h past x →
@@ -104,23 +99,7 @@ pub same_current : (kind : LinkKind) (n : ℕ) (texts : List (List ℕ)) (acked 
 same_current kind zero texts acked past x y sender up u =
     record { down = up ∙ u.down; sound = subst (λ (s : SenderData). IsSound s) (sym sender) u.sound }
 same_current kind (suc n) texts acked past x y sender up c =
-    let o : IsOpened kind texts x past = c.0 in
-    let T : SenderData → Type 0 = λ s. IsTraced (world_in kind o.front).log (apply (world_in kind o.front) (Opened o.last)) texts s o.rest in
-    let Q : SenderData → Type 0 = λ s. IsQuiet (sends_since 0 o.rest) s in
-    let C : SenderData → Type 0 = λ s. IsCaused s.ended (apply (world_in kind o.front) (Opened o.last)) o.rest in (
-      record {
-        front = o.front;
-        last = o.last;
-        rest = o.rest;
-        is = o.is;
-        can = o.can;
-        traced = subst T (sym sender) o.traced;
-        open_as = o.open_as ∙ sym up;
-        quiet = λ is_up. subst Q (sym sender) (o.quiet (sym up ∙ is_up));
-        caused = subst C (sym sender) o.caused;
-      },
-      ap (λ (s : SenderData). s.acked) sender ∙ c.1,
-    )
+    (same_opened kind texts x y past sender up c.0, ap (λ (s : SenderData). s.acked) sender ∙ c.1)
 
 -- the current session with other words for what it issued and has acknowledged
 pub current_as : (kind : LinkKind) (n m : ℕ) (texts other : List (List ℕ)) (acked other_acked : ℕ) (past : List WorldEvent) (x : SessionData) →

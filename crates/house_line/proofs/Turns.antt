@@ -20,7 +20,7 @@ use Rattle.lossy_line.specs.Issuing.{issued_in}
 use Rattle.lossy_line.specs.Linked.{IsOpened}
 use Rattle.lossy_line.specs.Tied.{IsTied}
 use Rattle.lossy_line.proofs.Turned.{IsTurned, talks_up, opens_dialling, idle_steps, down_after}
-use Rattle.lossy_line.proofs.Turning.{going_on}
+use Rattle.lossy_line.proofs.Turning.{going_on, is_opened_fact}
 use Rattle.lossy_turns.proofs.Turns.{none_opened, made_now}
 use Rattle.lossy_turns.specs.History.{IsMade}
 use Rattle.house_line.specs.Sessions.{most_in}
@@ -79,15 +79,6 @@ issued_other (fact.Ended end) texts issued other = refl
 -- the session is up only if it talks, or hangs up
 not_talking : (x : SessionData) → x.up ≡ false → doing x ≡ Talking → ⊥
 not_talking x down talks = (let up : x.up ≡ true = talks_up x talks in absurd (cc))
-
-is_opened_fact : (f : LinkFact) → (f ≡ fact.Opened) ⊎ (f ≡ fact.Opened → ⊥)
-is_opened_fact fact.Quiet = inr (λ (e : fact.Quiet ≡ fact.Opened). absurd (cc))
-is_opened_fact fact.Opened = inl refl
-is_opened_fact fact.Ready = inr (λ (e : fact.Ready ≡ fact.Opened). absurd (cc))
-is_opened_fact fact.Closed = inr (λ (e : fact.Closed ≡ fact.Opened). absurd (cc))
-is_opened_fact fact.NoPort = inr (λ (e : fact.NoPort ≡ fact.Opened). absurd (cc))
-is_opened_fact fact.Failed = inr (λ (e : fact.Failed ≡ fact.Opened). absurd (cc))
-is_opened_fact (fact.Ended end) = inr (λ (e : fact.Ended end ≡ fact.Opened). absurd (cc))
 
 -- what a turn leaves of n sessions, of which these texts were issued and this number of lines acknowledged
 pub record Leaves (kind : LinkKind) (front : List WorldEvent) (n : ℕ) (texts : ℕ → List (List ℕ)) (acked : ℕ → ℕ) (last : List (List ℕ)) (last_acked : ℕ)

@@ -1,18 +1,19 @@
 -- What the printer executed of a print.
-use Rattle.std.proofs.Common.{◌≡◌, inl, inr, ℕ, zero, suc, ◌+◌, ◌<◌, ◌≤◌, List, [], ◌∷◌, ◌++◌, length, take, drop, refl, sym, ◌∙◌, ap, subst, append_assoc, arith}
+use Rattle.std.proofs.Common.{◌≡◌, inl, inr, ℕ, zero, suc, ◌+◌, ◌<◌, ◌≤◌, List, [], ◌∷◌, ◌++◌, length, get_or, take, drop, All, refl, sym, ◌∙◌, ap, subst, append_assoc, arith}
 use Rattle.std.proofs.lemmas.List.{length-map, take-append-drop}
-use Rattle.std.proofs.lemmas.List.Elements.{All-weaker}
+use Rattle.std.proofs.lemmas.List.Elements.{All-nil, All-cons, All-weaker}
 use Rattle.desk_steps.specs.Data.{ScriptTexts, Line}
 use Rattle.desk_steps.specs.Run.{Fate, Finished, lines_of, of_print}
 use Rattle.desk_steps.specs.Story.{Story, never, going, finished, stopped, left, unplugged, broken}
 use Rattle.printer_model.specs.Executed.{opens}
 use Rattle.printer_model.specs.declared.event.WorldEvent.{WorldEvent}
 use Rattle.printer_link.specs.Link.{LinkKind}
+use Rattle.octo_keeper.specs.Tables.{AreNumbered}
 use Rattle.octo_asks.specs.History.{History}
 use Rattle.print_records.specs.declared.ending.Outcome.TheVariants as outcome
 use Rattle.print_records.specs.declared.row.PrintRow.{PrintRow}
 use Rattle.house_history.specs.Issued.{issued_of, job_part, trace}
-use Rattle.house_history.specs.Legal.{Legal, after_all}
+use Rattle.house_history.specs.Legal.{Standing, Legal, after_all}
 use Rattle.house_history.specs.Outcomes.{outcome_by, HasOutcome}
 use Rattle.house_history.specs.Scripts.{run_in}
 use Rattle.house_history.proofs.Histories.{keeps_scripts, keeps_outcomes}
@@ -20,7 +21,7 @@ use Rattle.lossy_line.specs.Tied.{IsTied}
 use Rattle.house_line.specs.Sessions.{sessions, texts_of, acked_in, most_in}
 use Rattle.house_line.specs.Tied.{Tied, WasTied, TiedThroughout}
 use Rattle.house_prints.specs.Jobs.{executed_in, lines_executed}
-use Rattle.house_prints.specs.Laws.{EveryPrintIsExecutedInOrder, EveryDonePrintIsExecuted, IsDoneRecordTrue, EveryDoneRecordIsTrue}
+use Rattle.house_prints.specs.Laws.{IsRun, EachIsExecutedInOrder, EachDoneIsExecuted, IsDoneRecordTrue, EachDoneRecordIsTrue}
 use Rattle.house_prints.specs.Prints.{LivesIn, Lives, LeavesSo}
 use Rattle.house_prints.proofs.Histories.{IsShort, legal_first, lives_in}
 use Rattle.house_prints.proofs.Jobs.{jobs_own, AreFirst, first_part, story_jobs, IsWhole, story_done}
@@ -50,11 +51,13 @@ home_of : (p : ℕ) (h : History) (fates : List Fate) → Lives p h fates → (h
 home_of p h fates (inl u) = (sessions h, u.lives)
 home_of p h fates (inr o) = (o.home, o.lives)
 
-pub in_order : EveryPrintIsExecutedInOrder
-in_order kind scripts front s h past run p some commands began =
+pub in_order : (kind : LinkKind) (front : List WorldEvent) (s : Standing) (h : History) (past : List WorldEvent) → IsRun kind front s h past →
+    EachIsExecutedInOrder kind front s h past
+in_order kind front s h past run p some commands began =
+    let scripts : ScriptTexts = s.known.desk.scripts in
     let short : IsShort h = short_of kind front h past run.tied.throughout in
-    let at = home_of p h (of_print p (run_in h s).ends) (lives_in scripts run.limits run.poll_ms p some s run.new h run.legal short) in
-    let story = (keeps_scripts scripts run.limits run.poll_ms h s run.new run.legal).stories p some in
+    let at = home_of p h (of_print p (run_in h s).ends) (lives_in scripts s.known.desk.limits s.known.desk.poll_ms p some s run.begins.new h run.legal short) in
+    let story = (keeps_scripts scripts s.known.desk.limits s.known.desk.poll_ms h s run.begins.new run.legal).stories p some in
     let count : ℕ = executed_in kind front past at.0 in
     let whole : List Line = issued_of at.0 h in
     let first : AreFirst p scripts commands (trace p h) = story_jobs p scripts commands _ _ _ story began in
@@ -84,14 +87,16 @@ executed_all kind front p (suc home) h past t within none =
     let tied : IsTied kind (texts_of (suc home) h) (acked_in (suc home) h) past (opens front + suc home) = t.each (suc home) (omega arith) within in
     none_later p (acked_in (suc home) h) (executed_in kind front past (suc home)) (issued_of (suc home) h) tied.acked_run none
 
-pub done_whole : EveryDonePrintIsExecuted
-done_whole kind scripts front s h past run first later split p some ends =
+pub done_whole : (kind : LinkKind) (front : List WorldEvent) (s : Standing) (h : History) (past : List WorldEvent) → IsRun kind front s h past →
+    EachDoneIsExecuted kind front s h past
+done_whole kind front s h past run first later split p some ends =
+    let scripts : ScriptTexts = s.known.desk.scripts in
     let w : WasTied kind front first past = run.tied.throughout first later split in
     let legal : Legal first s = (legal_first first later s (subst (λ (x : History). Legal x s) split run.legal)).0 in
     let short : IsShort first = short_first first later (subst (λ (x : History). IsShort x) split (short_of kind front h past run.tied.throughout)) in
-    let at = done_ended p first (of_print p (run_in first s).ends) ends (lives_in scripts run.limits run.poll_ms p some s run.new first legal short) in
+    let at = done_ended p first (of_print p (run_in first s).ends) ends (lives_in scripts s.known.desk.limits s.known.desk.poll_ms p some s run.begins.new first legal short) in
     let home : ℕ = at.0 in
-    let story = (keeps_scripts scripts run.limits run.poll_ms first s run.new legal).stories p some in
+    let story = (keeps_scripts scripts s.known.desk.limits s.known.desk.poll_ms first s run.begins.new legal).stories p some in
     let whole : IsWhole p scripts (of_print p (run_in first s).begun) (trace p first) = story_done p scripts _ _ _ story ends in
     let executed : lines_of p (lines_executed kind front w.so_far home first) ≡ trace p first =
     all_before p (executed_in kind front w.so_far home) (issued_of home first) (executed_all kind front p home first w.so_far w.tied at.1 at.3) ∙ sym at.2.all
@@ -99,7 +104,7 @@ done_whole kind scripts front s h past run first later split p some ends =
     record {
       so_far = w.so_far;
       since = w.since;
-      is = w.is;
+      at = record { is = w.is; tied = w.tied };
       whole = record {
         commands = whole.commands;
         began = whole.began;
@@ -123,15 +128,31 @@ done_fates p scripts _ _ _ (left c lines b) is = absurd (cc is)
 done_fates p scripts _ _ _ (unplugged c lines b) is = absurd (cc is)
 done_fates p scripts _ _ _ (broken c lines b) is = absurd (cc is)
 
-pub record_true : EveryDoneRecordIsTrue
-record_true kind scripts front s h past run numbered first later split =
+-- records that are numbered from 1 without a gap have no number above their count
+numbered_from : (from : ℕ) (rows : List PrintRow) → ((k : ℕ) (d : PrintRow) → k < length rows → (get_or rows k d).number ≡ from + k + 1) →
+    (most : ℕ) → from + length rows ≤ most → All (λ (row : PrintRow). row.number ≤ most) rows
+numbered_from from [] numbered most few = All-nil (λ (row : PrintRow). row.number ≤ most)
+numbered_from from (row ∷ rows) numbered most few =
+    let first : row.number ≡ from + 0 + 1 = numbered 0 row (omega arith) in
+    All-cons (λ (r : PrintRow). r.number ≤ most) row rows (omega arith)
+    (numbered_from (from + 1) rows
+    (λ k d below. let later : (get_or rows k d).number ≡ from + suc k + 1 = numbered (suc k) d (omega arith) in omega arith) most (omega arith))
+
+within_count : (rows : List PrintRow) → AreNumbered rows → All (λ (row : PrintRow). row.number ≤ length rows) rows
+within_count rows numbered =
+    numbered_from 0 rows (λ k d below. let at : (get_or rows k d).number ≡ k + 1 = numbered k d below in omega arith) (length rows) (omega arith)
+
+pub record_true : (kind : LinkKind) (front : List WorldEvent) (s : Standing) (h : History) (past : List WorldEvent) → IsRun kind front s h past →
+    EachDoneRecordIsTrue kind front s h past
+record_true kind front s h past run first later split =
     let legal : Legal first s = (legal_first first later s (subst (λ (x : History). Legal x s) split run.legal)).0 in
-    All-weaker (HasOutcome (length s.known.prints) (run_in first s).ends) (IsDoneRecordTrue kind scripts front past s first)
+    All-weaker (HasOutcome (length s.known.prints) (run_in first s).ends) (IsDoneRecordTrue kind front past s first)
     (λ row has. by legal row has) (after_all first s).known.prints
-    (keeps_outcomes scripts run.limits run.poll_ms first s run.new numbered legal)
+    (keeps_outcomes s.known.desk.scripts s.known.desk.limits s.known.desk.poll_ms first s run.begins.new (within_count s.known.prints run.begins.numbered) legal)
   where
-    by : Legal first s → (row : PrintRow) → HasOutcome (length s.known.prints) (run_in first s).ends row → IsDoneRecordTrue kind scripts front past s first row
+    by : Legal first s → (row : PrintRow) → HasOutcome (length s.known.prints) (run_in first s).ends row → IsDoneRecordTrue kind front past s first row
     by legal row has above done =
         let some : 0 < row.number = omega (arith, above) in
-        let story = (keeps_scripts scripts run.limits run.poll_ms first s run.new legal).stories row.number some in
-        done_whole kind scripts front s h past run first later split row.number some (done_fates row.number scripts _ _ _ story (sym (has above) ∙ done))
+        let story = (keeps_scripts s.known.desk.scripts s.known.desk.limits s.known.desk.poll_ms first s run.begins.new legal).stories row.number some in
+        done_whole kind front s h past run first later split row.number some
+        (done_fates row.number s.known.desk.scripts _ _ _ story (sym (has above) ∙ done))

@@ -52,7 +52,7 @@ answered false v k x e n l = rw e (record { desk = l.desk; silent = l.silent; ma
 abbrev pub IsShort : History → Type 0
 IsShort h = (first later : History) → h ≡ first ++ later → length (issued_of (sessions first) first) ≤ 18446744073709551615
 
-run_append : (calls more : List DeskCall) (run : Run) → run_of (calls ++ more) run ≡ run_of more (run_of calls run)
+pub run_append : (calls more : List DeskCall) (run : Run) → run_of (calls ++ more) run ≡ run_of more (run_of calls run)
 run_append [] more run = refl
 run_append (call ∷ calls) more run = run_append calls more (after call run)
 

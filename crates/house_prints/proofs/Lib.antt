@@ -15,4 +15,8 @@ pub mod Histories
 pub mod Jobs
 pub mod Executed
 pub mod Sent
+pub mod Shown
+pub mod Files
+pub mod Filed
+pub mod Selected
 pub mod Recorded

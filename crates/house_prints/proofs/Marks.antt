@@ -1,5 +1,5 @@
 -- The numbers that a desk keeps of the session's lines, over requests.
-use Rattle.std.proofs.Common.{◌≡◌, ℕ, ◌<◌, ◌≤◌, Bool, true, false, cond, List, [], ◌++◌, length, drop, Option, None, Some, refl, sym, ◌∙◌, ap, subst, arith}
+use Rattle.std.proofs.Common.{◌≡◌, ℕ, ◌<◌, ◌≤◌, List, [], ◌++◌, length, drop, Option, None, Some, refl, sym, ◌∙◌, ap, subst, arith}
 use Rattle.temp_rules.specs.declared.job.HotLine.{HotLine}
 use Rattle.temp_rules.specs.Hot.{first_hot_of}
 use Rattle.desk_steps.specs.Data.{Data, File, Line}
@@ -8,6 +8,7 @@ use Rattle.desk_steps.specs.Run.{lines_of, DeskCall, Connect, Disconnect, Select
 use Rattle.desk_steps.specs.declared.state.State.{State}
 use Rattle.desk_steps.specs.declared.state.State.TheVariants.{Offline, Connecting, Operational, Printing, Pausing, Paused, Cancelling, Finishing, Closing, Fault}
 use Rattle.house_verdicts.specs.Desk.{desk_after}
+use Rattle.desk_steps.proofs.Steady.{choose_pair}
 
 -- a desk whose numbers, print and paused state are as they were
 pub record IsSame (d e : Data) : Type 0 where
@@ -20,14 +21,6 @@ pub record IsSame (d e : Data) : Type 0 where
 
 pub same : (d : Data) → IsSame d d
 same d = record { issued = refl; acked = refl; line = refl; greatest = refl; active = refl; paused = λ is. (is, refl) }
-
-pub either : (P : Data → Type 0) (b : Bool) (x y : Data) → P x → P y → P (cond b x y)
-either P true x y hx hy = hx
-either P false x y hx hy = hy
-
-choose_pair : {X : Type 0} (P : Data → Type 0) (b : Bool) (x y : X × Data) → P x.1 → P y.1 → P (cond b x y).1
-choose_pair P true x y hx hy = hx
-choose_pair P false x y hx hy = hy
 
 -- another state, in which no print is paused
 pub moved : (d e : Data) → e.issued ≡ d.issued → e.acked ≡ d.acked → e.print_line ≡ d.print_line → e.greatest ≡ d.greatest → e.active ≡ d.active

@@ -14,7 +14,8 @@ use Rattle.desk_steps.specs.declared.state.Tag.{Tag}
 use Rattle.desk_steps.specs.declared.state.Tag.TheVariants.{Script, Job, Manual, Poll}
 use Rattle.desk_steps.proofs.Foreign.{IsNotOf}
 use Rattle.house_prints.proofs.Lists.{none_more, none_past, none_both, own_none}
-use Rattle.house_prints.proofs.Marks.{IsSame, same, either, moved, Marked, marked_same}
+use Rattle.house_prints.proofs.Marks.{IsSame, same, moved, Marked, marked_same}
+use Rattle.desk_steps.proofs.Steady.{either}
 
 -- what a drawn line makes of the numbers: a line of the print counts as its last one
 abbrev pub counted_by : Option Line → ℕ → ℕ

@@ -1,17 +1,43 @@
--- What a host's run says of its history makes a run.
-use Rattle.std.proofs.Common.{◌≡◌, ◌++◌, Some, refl, sym, ◌∙◌, ap, subst}
+-- What a host's run says of its recorded histories.
+use Rattle.std.proofs.Common.{◌≡◌, List, ◌++◌, Option, Some, sym, ◌∙◌, ap, subst}
 use Rattle.std.proofs.lemmas.List.{append_cancel_left}
+use Rattle.octo_keeper.specs.declared.shelf.ShelfFile.{ShelfFile}
+use Rattle.printer_model.specs.declared.event.WorldEvent.{WorldEvent}
+use Rattle.printer_link.specs.Link.{LinkKind}
 use Rattle.octo_asks.specs.History.{History}
-use Rattle.house_history.specs.Legal.{Standing, Legal, beginning}
-use Rattle.house_prints.specs.Laws.{LegalAndTiedIsRun}
+use Rattle.house_history.specs.Legal.{Standing, Legal}
+use Rattle.house_walks.specs.Walks.{Walks}
+use Rattle.house_line.specs.InStep.{WhileRecorded, TiesLines}
+use Rattle.house_prints.specs.Headline.{KeepsPrints}
+use Rattle.house_prints.specs.Laws.{IsBeginning, IsRun}
+use Rattle.house_prints.proofs.Executed.{in_order, done_whole, record_true}
+use Rattle.house_prints.proofs.Selected.{of_its_file}
+use Rattle.house_prints.proofs.Shown.{shown_true}
+use Rattle.house_prints.proofs.Sent.{sent_no_more, true_end}
+
+-- a run keeps its prints
+pub run_keeps : (kind : LinkKind) (front : List WorldEvent) (s : Standing) (history : History) (past : List WorldEvent)
+    → IsRun kind front s history past → KeepsPrints kind front s history past
+run_keeps kind front s history past run = record {
+  from_file = of_its_file s history run.begins.new;
+  in_order = in_order kind front s history past run;
+  done_whole = done_whole kind front s history past run;
+  record_true = record_true kind front s history past run;
+  shown_true = shown_true kind front s history past run;
+  sent_no_more = sent_no_more kind front s history past run;
+  end_true = true_end kind front s history past run;
+}
 
 same_some : {A : Type 0} (a b : A) → Some a ≡ Some b → a ≡ b
 same_some a b e = cc
 
-pub is_run : LegalAndTiedIsRun
-is_run kind scripts limits poll_ms window limit known known' session before after files files' link link' walks ties new was held now recorded events there =
-    let s : Standing = beginning window limit known was in
-    let walked = (walks was held).2 now recorded in
+-- the history of a host that began so is legal and tied to its link's, so it keeps its prints
+pub recorded_keeps : (kind : LinkKind) (before after : Option History) (files files' : Option (List ShelfFile)) (link link' : Option (List WorldEvent))
+    (Before After : List ShelfFile → Standing → Type 0) → Walks before after files files' Before After → TiesLines kind before after link link' →
+    (held : List ShelfFile) → files ≡ Some held → (s : Standing) → Before held s → IsBeginning s.known →
+    WhileRecorded before after link link' (λ front added events. KeepsPrints kind front s added events)
+recorded_keeps kind before after files files' link link' Before After walks ties held was s starts begins now recorded events there =
+    let walked = (walks held was).2 now recorded in
     let grown = ties now recorded events there in
     let old : walked.old ≡ grown.old = same_some walked.old grown.old (sym walked.past_is ∙ grown.was) in
     let added : walked.added ≡ grown.added =
@@ -23,13 +49,11 @@ is_run kind scripts limits poll_ms window limit known known' session before afte
       added = grown.added;
       was = grown.was;
       grew = grown.grew;
-      front = grown.old_events;
+      old_events = grown.old_events;
       was_link = grown.was_link;
-      run = record {
-        limits = limits;
-        poll_ms = poll_ms;
-        new = new;
-        legal = subst (λ (h : History). Legal h s) added (walked.legal s refl);
+      so = run_keeps kind grown.old_events s grown.added events (record {
+        begins = begins;
+        legal = subst (λ (h : History). Legal h s) added (walked.legal s starts);
         tied = grown.so;
-      };
+      });
     }

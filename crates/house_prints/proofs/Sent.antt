@@ -4,22 +4,23 @@ use Rattle.std.specs.Prelude.{◌||◌}
 use Rattle.std.specs.List.{list_any}
 use Rattle.marlin_frame.specs.Frame.{frame_of}
 use Rattle.marlin_frame.specs.Numbering.{wire_number}
-use Rattle.desk_steps.specs.Data.{Line}
+use Rattle.desk_steps.specs.Data.{ScriptTexts, Line}
 use Rattle.desk_steps.specs.Run.{Fate, Finished, Stopped, Left, Unplugged, Broken, is_of, lines_of, of_print}
 use Rattle.octo_session.specs.Turn.{texts_in}
 use Rattle.printer_model.specs.Executed.{is_send, till}
 use Rattle.printer_model.specs.declared.event.WorldEvent.{WorldEvent}
 use Rattle.printer_model.specs.declared.event.WorldEvent.TheVariants.{Opened, Send, Arrive, Lose, Garble, Run, Restart, Chatter, Recv, Closed}
+use Rattle.printer_link.specs.Link.{LinkKind}
 use Rattle.octo_asks.specs.History.{History}
 use Rattle.house_history.specs.Issued.{issued_of}
-use Rattle.house_history.specs.Legal.{Legal}
+use Rattle.house_history.specs.Legal.{Standing, Legal}
 use Rattle.house_history.specs.Scripts.{run_in}
 use Rattle.lossy_wires.specs.Traces.{IsLineAbove}
 use Rattle.house_line.specs.Sessions.{sessions, texts_of, acked_in, is_open}
 use Rattle.house_line.specs.Tied.{Tied, WasTied, IsAbove, AreAbove}
 use Rattle.house_line.proofs.Grown.{shut_after}
 use Rattle.house_line.proofs.Later.{later_above}
-use Rattle.house_prints.specs.Laws.{IsLineOfOther, IsSentOther, AreSentOther, EveryEndedPrintIsSentNoMore, EveryEndIsTrue}
+use Rattle.house_prints.specs.Laws.{IsLineOfOther, IsSentOther, AreSentOther, IsRun, EachEndedIsSentNoMore, EachEndIsTrue}
 use Rattle.house_prints.specs.Prints.{LivesIn, IsEnded, Lives, LeavesSo}
 use Rattle.house_prints.proofs.Entries.{Place, earlier, here, later, place}
 use Rattle.house_prints.proofs.Executed.{short_of, short_first}
@@ -132,22 +133,24 @@ ended_of : (p : ℕ) (h : History) (fates : List Fate) (f : Fate) → fates ≡ 
 ended_of p h fates f is (inl u) = absurd (let no : f ∷ [] ≡ [] = sym is ∙ u.no_fate in cc no)
 ended_of p h fates f is (inr o) = o
 
-pub sent_no_more : EveryEndedPrintIsSentNoMore
-sent_no_more kind scripts front s h past run first more split p some fate ends =
+pub sent_no_more : (kind : LinkKind) (front : List WorldEvent) (s : Standing) (h : History) (past : List WorldEvent) → IsRun kind front s h past →
+    EachEndedIsSentNoMore kind front s h past
+sent_no_more kind front s h past run first more split p some fate ends =
+    let scripts : ScriptTexts = s.known.desk.scripts in
     let w : WasTied kind front first past = run.tied.throughout first more split in
     let whole : Legal (first ++ more) s = subst (λ (x : History). Legal x s) split run.legal in
     let short : IsShort (first ++ more) = subst (λ (x : History). IsShort x) split (short_of kind front h past run.tied.throughout) in
     let o : IsEnded p first (of_print p (run_in first s).ends) =
     ended_of p first _ fate ends
-    (lives_in scripts run.limits run.poll_ms p some s run.new first (legal_first first more s whole).0 (short_first first more short))
+    (lives_in scripts s.known.desk.limits s.known.desk.poll_ms p some s run.begins.new first (legal_first first more s whole).0 (short_first first more short))
     in
     let so : IsPast p first o.home = past_of p first o.fate o.home o.leaves in
-    let stays = stays_in scripts run.limits run.poll_ms p some s run.new first more whole short o.fate o.home so.reach o.within o.is o.lives so.none in
+    let stays = stays_in scripts s.known.desk.limits s.known.desk.poll_ms p some s run.begins.new first more whole short o.fate o.home so.reach o.within o.is o.lives so.none in
     let tied : Tied kind front (first ++ more) past = subst (λ (x : History). Tied kind front x past) split run.tied.now in
     record {
       so_far = w.so_far;
       since = w.since;
-      is = w.is;
+      at = record { is = w.is; tied = w.tied };
       home = o.home;
       lives = subst (λ (x : History). LivesIn p x o.home) (sym split) stays.0;
       none = subst (λ (x : History). (o.home < sessions first) ⊎ AreSentOther p (issued_of o.home x) (till 0 w.since)) (sym split)
@@ -185,7 +188,8 @@ sent_no_more kind scripts front s h past run first more split p some fate ends =
         how (inr (inl below)) = absurd (omega (arith, below, same))
         how (inr (inr closed)) = shut w home closed
 
-pub true_end : EveryEndIsTrue
-true_end kind scripts front s h past run first more split end ends =
+pub true_end : (kind : LinkKind) (front : List WorldEvent) (s : Standing) (h : History) (past : List WorldEvent) → IsRun kind front s h past →
+    EachEndIsTrue kind front h past
+true_end kind front s h past run first more split end ends =
     let w : WasTied kind front first past = run.tied.throughout first more split in
-    record { so_far = w.so_far; since = w.since; is = w.is; caused = w.caused end ends }
+    record { so_far = w.so_far; since = w.since; at = record { is = w.is; tied = w.tied }; caused = w.caused end ends }

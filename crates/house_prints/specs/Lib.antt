@@ -2,3 +2,5 @@
 pub mod Prints
 pub mod Jobs
 pub mod Laws
+pub mod Selected
+pub mod Headline

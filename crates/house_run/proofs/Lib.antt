@@ -1,5 +1,6 @@
 pub mod Asking
 pub mod Noting
+pub mod Printing
 pub mod Rounds
 pub mod Running
 pub mod Tallying

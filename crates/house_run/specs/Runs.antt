@@ -3,6 +3,8 @@ use Rattle.std.specs.Prelude.{◌≡◌, ◌⊎◌, ℕ, ◌≤◌, Bool, true, 
 use Rattle.octo_outside.specs.Told.{Became}
 use Rattle.octo_keeper.specs.declared.shelf.ShelfFile.{ShelfFile}
 use Rattle.octo_asks.specs.History.{History}
+use Rattle.printer_model.specs.declared.event.WorldEvent.{WorldEvent}
+use Rattle.printer_link.specs.Link.{LinkKind}
 use Rattle.send_window.specs.Data.{IsSound}
 use Rattle.octo_session.specs.Data.{SessionData}
 use Rattle.house_history.specs.Legal.{Standing, beginning}
@@ -12,6 +14,9 @@ use Rattle.house_walks.specs.Counted.{calls_made, leaves_made, is_shut}
 use Rattle.octo_house.specs.declared.house.House.{House}
 use Rattle.octo_house.specs.State.{known_of, session_of}
 use Rattle.house_counts.specs.Moments.{AreBetween}
+use Rattle.house_line.specs.InStep.{WhileRecorded}
+use Rattle.house_prints.specs.Headline.{KeepsPrints}
+use Rattle.house_prints.specs.Laws.{IsBeginning}
 use Rattle.house_run.specs.Tallies.{counted}
 
 -- a history and these files have led to this host
@@ -49,3 +54,10 @@ pub record IsOver (calls : ℕ) (active : Bool) (added : History) : Type 0 where
 abbrev pub ArePassed : (first last : Option ℕ) → (past past' : Option History) → Type 0
 ArePassed first last past past' =
     (before : ℕ) → first ≡ Some before → (now : ℕ) → last ≡ Some now → Became past past' (λ _ added. AreBetween before now added)
+
+-- what became of the prints of a host that began with a new desk, if its history, its files and the link's history are recorded
+abbrev pub HasPrinted : LinkKind → (past past' : Option History) → Option (List ShelfFile) → (link link' : Option (List WorldEvent))
+    → House → Type 0
+HasPrinted kind past past' files link link' house =
+    IsBeginning (known_of house) → (held : List ShelfFile) → files ≡ Some held → (s : Standing) → begins house held s
+    → WhileRecorded past past' link link' (λ front added events. KeepsPrints kind front s added events)

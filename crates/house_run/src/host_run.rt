@@ -9,7 +9,7 @@ ghost use Rattle.house_counts.specs.Temps.{NotesTemps};
 ghost use Rattle.house_line.specs.InStep.{TiesLines};
 ghost use Rattle.house_tables.specs.Kept.{KeepsRows};
 ghost use Rattle.octo_house.specs.State.{IsListed, session_of, tables_of};
-ghost use Rattle.house_run.specs.Runs.{HasRun, IsFresh, IsOver, ArePassed, begins};
+ghost use Rattle.house_run.specs.Runs.{HasRun, HasPrinted, IsFresh, IsOver, ArePassed, begins};
 ghost use Rattle.house_run.specs.Tallies.{is_over};
 
 use crate::answering::answer_next;
@@ -63,6 +63,10 @@ pub fn run<R: Wait, C: Counter, L: Link, T: Clock, K: Keeper, S: Shelf>(
     // What was issued in each session is tied to what the printer executed in it, after every entry.
     ensures tied { TiesLines (L.kind link.old) (C.past counter.old) (C.past counter.new)
         (L.past link.old) (L.past link.new) }
+
+    // What the printer made of each print, and what is said and sent of it.
+    ensures prints { HasPrinted (L.kind link.old) (C.past counter.old) (C.past counter.new)
+        (S.files shelf.old) (L.past link.old) (L.past link.new) house.old }
 
     // How it came to its end.
     ensures over { Became (C.past counter.old) (C.past counter.new)

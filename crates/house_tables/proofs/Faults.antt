@@ -1,6 +1,5 @@
 -- A change of users that the keeper couldn't write is undone.
-use Rattle.std.proofs.Common.{◌≡◌, Bool, true, false, cond, ◌||◌, is_some, inl, inr, List, [], Option, None, Some, refl, sym, ap, ◌∙◌, subst}
-use Rattle.std.specs.Option.{option_or}
+use Rattle.std.proofs.Common.{◌≡◌, is_some, inl, inr, List, [], None, refl, sym, ap, ◌∙◌, subst}
 use Rattle.octo_access.specs.Changes.{bad_group, name_taken, put_refusal, change_refusal}
 use Rattle.octo_access.specs.Rows.{held, with_row, replaced}
 use Rattle.octo_access.specs.declared.policy.Policy.{Policy}
@@ -16,23 +15,7 @@ use Rattle.house_verdicts.specs.Rows.{put_user_verdict, replace_verdict, with_us
 use Rattle.house_verdicts.specs.Verdict.{Deed, IsDone, writes}
 use Rattle.house_rows.specs.Faults.{keeper_refused}
 use Rattle.house_tables.specs.Data.{TablesData, over}
-
-first-none : {X : Type 0} (first second : Option X) → option_or first second ≡ None → first ≡ None
-first-none None second h = refl
-first-none (Some x) second h = absurd (cc)
-
-second-none : {X : Type 0} (first second : Option X) → option_or first second ≡ None → second ≡ None
-second-none None second h = h
-second-none (Some x) second h = absurd (cc)
-
-second-false : {X : Type 0} (x : X) (a b : Bool) → cond (a || b) (Some x) None ≡ None → b ≡ false
-second-false x true b h = absurd (cc)
-second-false x false true h = absurd (cc)
-second-false x false false h = refl
-
-none-if-false : {X : Type 0} (o : Option X) → is_some o ≡ false → o ≡ None
-none-if-false None h = refl
-none-if-false (Some x) h = absurd (cc)
+use Rattle.octo_access.proofs.Refused.{first-none, second-none, second-false, none-if-false}
 
 -- the name of a user who is added is free
 pub put-new-name : (policy : Policy) (row : UserRow) (rows : List UserRow) → put_refusal policy row rows ≡ None → held row.name rows ≡ None

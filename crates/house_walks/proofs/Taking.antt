@@ -33,6 +33,7 @@ use Rattle.lossy_line.proofs.Turned.{talks_up}
 use Rattle.house_walks.proofs.Quiet.{TookQuiet}
 use Rattle.house_walks.proofs.Rising.{Risen, risen_steps}
 use Rattle.house_walks.proofs.Turned.{TookTurn}
+use Rattle.octo_session.proofs.Keeping.{issued_heard}
 
 -- what no step changes
 record Lasts (s t : SenderData) : Type 0 where
@@ -87,15 +88,6 @@ ends_talking Talking end can = refl
 ends_talking Resting end can = cc
 
 -- a turn that ends its session issues nothing
-issued_heard : (line : Reply) (moment : ℕ) (s : SenderData) → (hear_step line moment s).issued ≡ s.issued
-issued_heard (reply.Ok number _ _ _) moment s = grind (arith, common_steps)
-issued_heard (reply.Resend number) moment s = grind (arith, common_steps)
-issued_heard reply.Start moment s = grind (arith, common_steps)
-issued_heard reply.Busy moment s = grind (arith, common_steps)
-issued_heard (reply.Temps _) moment s = grind (arith, common_steps)
-issued_heard reply.Error moment s = grind (arith, common_steps)
-issued_heard reply.Other moment s = grind (arith, common_steps)
-
 issued_ticked : (moment : ℕ) (s : SenderData) → (tick_step moment s).issued ≡ s.issued
 issued_ticked moment s = grind (arith, common_steps)
 

@@ -72,7 +72,8 @@ fn add_from<K: Keeper>(
 
 // The number of the first print to be added, if there are numbers for all of them.
 fn first_number(held: usize, prints: u32) -> Option<u32>
-    ensures { MatchOption result (4294967295 < held + 1 + prints) (λ first. (first ≡ held + 1) × (first + prints ≤ 4294967295)) }
+    ensures { MatchOption result (4294967295 < held + 1 + prints)
+        (λ first. (first ≡ held + 1) × (first + prints ≤ 4294967295)) }
 {
     let held = u32::try_from(held).ok()?;
     let first = held.checked_add(1)?;

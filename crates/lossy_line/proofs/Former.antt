@@ -17,15 +17,11 @@ pred_below : (n : ℕ) → 1 ≤ n → pred n < n
 pred_below zero some = absurd (omega arith)
 pred_below (suc n) some = omega arith
 
--- what a later session leaves of the one before it
-pub former_tied : (kind : LinkKind) (issued : List (List ℕ)) (acked : ℕ) (past rest : List WorldEvent) (last : ℕ) → 1 ≤ opens past →
-    IsTied kind issued acked past (opens past) → IsTied kind issued acked (past ++ Opened last ∷ rest) (opens past)
-former_tied kind issued acked past rest last some t =
-    let s : ℕ = opens past in
-    let all : List WorldEvent = past ++ Opened last ∷ rest in
-    let ran : executed kind.slots kind.numbered all s ≡ executed kind.slots kind.numbered past s = executed-before kind.slots kind.numbered past rest last s (omega arith) in
-    let here : till s all ≡ till s past = till-stop past rest last ∙ sym (till-all s past (omega arith)) in
-    let before : till (pred s) all ≡ till (pred s) past = till-append (pred s) past (Opened last ∷ rest) (pred_below s some) in
+-- a session stays tied as a history becomes another one that ran it as before and has the same events up to it
+pub tied_as : (kind : LinkKind) (issued : List (List ℕ)) (acked s : ℕ) (past all : List WorldEvent)
+    → executed kind.slots kind.numbered all s ≡ executed kind.slots kind.numbered past s
+    → till s all ≡ till s past → till (pred s) all ≡ till (pred s) past → IsTied kind issued acked past s → IsTied kind issued acked all s
+tied_as kind issued acked s past all ran here before t =
     let world : world_before kind all s ≡ world_before kind past s = ap (world_in kind) before in
     let events : session_of s all ≡ session_of s past =
     ap (λ (es : List WorldEvent). drop (length es) (till s all)) before ∙ ap (drop (length (till (pred s) past))) here
@@ -42,3 +38,13 @@ former_tied kind issued acked past rest last some t =
       acked_run = subst A (sym ran) t.acked_run;
       sends = subst S (sym world) (subst V (sym events) t.sends);
     }
+
+-- what a later session leaves of the one before it
+pub former_tied : (kind : LinkKind) (issued : List (List ℕ)) (acked : ℕ) (past rest : List WorldEvent) (last : ℕ) → 1 ≤ opens past →
+    IsTied kind issued acked past (opens past) → IsTied kind issued acked (past ++ Opened last ∷ rest) (opens past)
+former_tied kind issued acked past rest last some t =
+    let s : ℕ = opens past in
+    tied_as kind issued acked s past (past ++ Opened last ∷ rest)
+    (executed-before kind.slots kind.numbered past rest last s (omega arith))
+    (till-stop past rest last ∙ sym (till-all s past (omega arith)))
+    (till-append (pred s) past (Opened last ∷ rest) (pred_below s some)) t

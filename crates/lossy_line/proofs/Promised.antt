@@ -139,16 +139,14 @@ new_linked kind recorded x down sound closed past is =
     let O : Option (List WorldEvent) → Type 0 = λ r. IsOpenAs kind r false in
     unopened (record { none_issued = refl; down = down; closed = subst O is closed; sound = sound })
 
-same_linked : (kind : LinkKind) (issued : List (List ℕ)) (x y : SessionData) (past : List WorldEvent) → y.sender ≡ x.sender → y.up ≡ x.up →
-    IsLinked kind issued x past → IsLinked kind issued y past
-same_linked kind issued x y past sender up (unopened u) =
-    let S : SenderData → Type 0 = λ s. IsSound s in
-    unopened (record { none_issued = u.none_issued; down = up ∙ u.down; closed = u.closed; sound = subst S (sym sender) u.sound })
-same_linked kind issued x y past sender up (opened o) =
+-- another desk leaves the session's link as it is
+pub same_opened : (kind : LinkKind) (issued : List (List ℕ)) (x y : SessionData) (past : List WorldEvent) → y.sender ≡ x.sender → y.up ≡ x.up →
+    IsOpened kind issued x past → IsOpened kind issued y past
+same_opened kind issued x y past sender up o =
     let T : SenderData → Type 0 = λ s. IsTraced (world_in kind o.front).log (apply (world_in kind o.front) (Opened o.last)) issued s o.rest in
     let Q : SenderData → Type 0 = λ s. IsQuiet (sends_since 0 o.rest) s in
     let C : SenderData → Type 0 = λ s. IsCaused s.ended (apply (world_in kind o.front) (Opened o.last)) o.rest in
-    opened (record {
+    record {
       front = o.front;
       last = o.last;
       rest = o.rest;
@@ -158,7 +156,14 @@ same_linked kind issued x y past sender up (opened o) =
       open_as = o.open_as ∙ sym up;
       quiet = λ is_up. subst Q (sym sender) (o.quiet (sym up ∙ is_up));
       caused = subst C (sym sender) o.caused;
-    })
+    }
+
+same_linked : (kind : LinkKind) (issued : List (List ℕ)) (x y : SessionData) (past : List WorldEvent) → y.sender ≡ x.sender → y.up ≡ x.up →
+    IsLinked kind issued x past → IsLinked kind issued y past
+same_linked kind issued x y past sender up (unopened u) =
+    let S : SenderData → Type 0 = λ s. IsSound s in
+    unopened (record { none_issued = u.none_issued; down = up ∙ u.down; closed = u.closed; sound = subst S (sym sender) u.sound })
+same_linked kind issued x y past sender up (opened o) = opened (same_opened kind issued x y past sender up o)
 
 -- a call of the desk leaves a session linked
 pub desk_linked : (kind : LinkKind) (recorded : Option (List WorldEvent)) (issued : List (List ℕ)) (x y : SessionData) →

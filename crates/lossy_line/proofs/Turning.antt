@@ -68,7 +68,7 @@ opened_by kind old new past added runs last sound few is can sender open_as =
     }
 
 -- whether a turn makes a link
-is_opened_fact : (f : LinkFact) → (f ≡ fact.Opened) ⊎ (f ≡ fact.Opened → ⊥)
+pub is_opened_fact : (f : LinkFact) → (f ≡ fact.Opened) ⊎ (f ≡ fact.Opened → ⊥)
 is_opened_fact fact.Quiet = inr (λ (e : fact.Quiet ≡ fact.Opened). absurd (cc))
 is_opened_fact fact.Opened = inl refl
 is_opened_fact fact.Ready = inr (λ (e : fact.Ready ≡ fact.Opened). absurd (cc))

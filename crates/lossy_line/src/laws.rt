@@ -10,7 +10,8 @@ ghost use Rattle.lossy_line.specs.Linked.{LinkedAs};
 /// A new session is linked over a closed link, and a call of the desk alone leaves it linked.
 pub fn linked_law()
     ensures begins { (kind : LinkKind) (recorded : Option (List WorldEvent)) (x : SessionData)
-        → x.up ≡ false → IsSound x.sender → IsOpenAs kind recorded false → LinkedAs kind recorded [] x }
+        → x.up ≡ false → IsSound x.sender → IsOpenAs kind recorded false
+        → LinkedAs kind recorded [] x }
     ensures desk { (kind : LinkKind) (recorded : Option (List WorldEvent)) (issued : List (List ℕ))
         (x y : SessionData)
         → y.sender ≡ x.sender → y.up ≡ x.up

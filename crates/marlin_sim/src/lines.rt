@@ -57,7 +57,8 @@ fn garbled_line(line: &CutLine) -> CutLine
 // What arrives of the received line of that number, if it does.
 #[tactic(auto, unfolding(crate::specs::Lines::arriving))]
 fn arriving(plan: &SimPlan, number: u64, line: CutLine) -> Option<CutLine>
-    ensures { MatchOption result (arriving plan.now number line.items ≡ []) (λ l. arriving plan.now number line.items ≡ l.items ∷ []) }
+    ensures { MatchOption result (arriving plan.now number line.items ≡ [])
+        (λ l. arriving plan.now number line.items ≡ l.items ∷ []) }
 {
     if is_listed(&plan.drop, number) {
         return None;
@@ -85,7 +86,11 @@ impl Model for Lines {
 
     ghost Value = { LinesData };
 
-    ghost view = { λ l. record { waiting = map (λ w. w.items) l.waiting.items; begun = l.begun.items; received = l.received } };
+    ghost view = { λ l. record {
+      waiting = map (λ w. w.items) l.waiting.items;
+      begun = l.begun.items;
+      received = l.received;
+    } };
 }
 
 impl Lines {
@@ -107,7 +112,9 @@ impl Lines {
 
     /// The next line to arrive, if one waits.
     pub fn next(&self) -> Option<&[u8]>
-        ensures { MatchOption result (self.now.waiting ≡ []) (λ line. (self.now.waiting ≡ line.now ∷ drop 1 self.now.waiting) × (length line.now ≤ 95)) }
+        ensures { MatchOption result (self.now.waiting ≡ [])
+            (λ line. (self.now.waiting ≡ line.now ∷ drop 1 self.now.waiting)
+            × (length line.now ≤ 95)) }
     {
         match self.waiting.front() {
             Some(line) => Some(line.as_slice()),
@@ -132,14 +139,16 @@ impl Lines {
     // The line that was begun is whole.
     fn finish(&mut self) -> CutLine
         ensures line { result.items ≡ self.old.begun }
-        ensures after { self.new ≡ record self.old { begun = []; received = one_more self.old.received } }
+        ensures after { self.new
+            ≡ record self.old { begun = []; received = one_more self.old.received } }
     {
         self.received = self.received.saturating_add(1);
         self.begun.take()
     }
 
     fn push(&mut self, line: CutLine) -> Result<(), AllocError>
-        ensures { OnOk result (self.new ≡ record self.old { waiting = self.old.waiting ++ line.items ∷ [] }) }
+        ensures { OnOk result
+            (self.new ≡ record self.old { waiting = self.old.waiting ++ line.items ∷ [] }) }
     {
         self.waiting.push_back(line)?;
         Ok(())
@@ -147,7 +156,14 @@ impl Lines {
 
     // Receives the end of a line; what is to arrive of it waits.
     fn end_line(&mut self, plan: &SimPlan, bytes: &[u8]) -> Result<(), AllocError>
-        ensures { OnOk result (self.new ≡ record { waiting = self.old.waiting ++ arriving plan.now (one_more self.old.received) (cut (self.old.begun ++ bytes.now)); begun = []; received = one_more self.old.received }) }
+        ensures { OnOk result
+            (self.new ≡ record {
+              waiting = self.old.waiting
+                  ++ arriving plan.now (one_more self.old.received)
+                  (cut (self.old.begun ++ bytes.now));
+              begun = [];
+              received = one_more self.old.received;
+            }) }
     {
         self.begin(bytes);
         let line = self.finish();
@@ -160,7 +176,9 @@ impl Lines {
     /// Receives bytes.
     pub fn receive(&mut self, plan: &SimPlan, bytes: &[u8]) -> Result<(), AllocError>
         requires { IsPlan plan.now }
-        ensures { OnOk result ((more : List ℕ) → to_come plan.now self.new more ≡ to_come plan.now self.old (bytes.now ++ more)) }
+        ensures { OnOk result
+            ((more : List ℕ)
+            → to_come plan.now self.new more ≡ to_come plan.now self.old (bytes.now ++ more)) }
     {
         let mut rest = bytes;
         while let Some((piece, behind)) = split_at_first(rest, b'\n') {

@@ -27,7 +27,12 @@ impl Model for Sim {
 
     ghost Value = { SimData };
 
-    ghost view = { λ s. record { printer = s.printer; lines = s.lines; replies = s.replies; text = s.text } };
+    ghost view = { λ s. record {
+      printer = s.printer;
+      lines = s.lines;
+      replies = s.replies;
+      text = s.text;
+    } };
 }
 
 // Adds a line with its line feed.
@@ -124,7 +129,10 @@ impl Sim {
     /// Receives bytes.
     pub fn receive(&mut self, plan: &SimPlan, bytes: &[u8]) -> Result<(), AllocError>
         requires { IsPlan plan.now }
-        ensures told { OnOk result ((input rest wrote printed : List ℕ) → Tells plan.now input (bytes.now ++ rest) self.old wrote printed → Tells plan.now input rest self.new wrote printed) }
+        ensures told { OnOk result
+            ((input rest wrote printed : List ℕ)
+            → Tells plan.now input (bytes.now ++ rest) self.old wrote printed
+            → Tells plan.now input rest self.new wrote printed) }
         ensures printer { self.new.printer ≡ self.old.printer }
     {
         self.lines.receive(plan, bytes)
@@ -178,7 +186,8 @@ impl Sim {
     pub fn step(&mut self) -> Result<bool, AllocError>
         ensures steps { IfOk result (λ ran. Steps ran self.old self.new) }
         ensures kept { OnOk result (Keeps self.old self.new) }
-        ensures idle { IfOk result (λ ran. ran ≡ false → 1 ≤ self.old.printer.places → IsIdle self.new) }
+        ensures idle { IfOk result
+            (λ ran. ran ≡ false → 1 ≤ self.old.printer.places → IsIdle self.new) }
         ensures work { IfOk result (λ ran. ran ≡ true → work self.new < work self.old) }
         ensures places { OnOk result (self.new.printer.places ≡ self.old.printer.places) }
     {

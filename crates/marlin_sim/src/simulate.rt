@@ -37,10 +37,14 @@ fn begin<C: Conn, O: Sink>(conn: &mut C, out: &mut O, sim: &mut Sim, plan: &SimP
 
 // Prints what is still to be printed at an end.
 fn finish<O: Sink>(out: &mut O, sim: &mut Sim, ending: SimEnd) -> SimEnd
-    ensures told { (plan : SimPlan) (input : List ℕ) (first : Outside) (left wrote : Option (List ℕ)) → Ending ending plan input first (outside left wrote (O.written out.old)) sim.old → Outcome result plan input first (outside left wrote (O.written out.new)) }
+    ensures told { (plan : SimPlan) (input : List ℕ) (first : Outside)
+        (left wrote : Option (List ℕ))
+        → Ending ending plan input first (outside left wrote (O.written out.old)) sim.old
+        → Outcome result plan input first (outside left wrote (O.written out.new)) }
     ensures same { (result ≡ ending) ⊎ (result ≡ end.SinkFailed) }
     ensures counted { O.faults out.old ≤ O.faults out.new }
-    ensures failed { result ≡ end.SinkFailed → (ending ≡ end.SinkFailed) ⊎ Rose (O.faults out.old) (O.faults out.new) }
+    ensures failed { result ≡ end.SinkFailed
+        → (ending ≡ end.SinkFailed) ⊎ Rose (O.faults out.old) (O.faults out.new) }
 {
     match ending {
         SimEnd::SinkFailed => SimEnd::SinkFailed,

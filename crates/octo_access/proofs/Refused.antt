@@ -13,11 +13,11 @@ use Rattle.octo_access.specs.declared.row.UserRow.{UserRow}
 use Rattle.octo_access.proofs.Inserted.{count-none}
 use Rattle.octo_access.proofs.Tables.{table-with_row}
 
-first-none : {X : Type 0} (first second : Option X) → option_or first second ≡ None → first ≡ None
+pub first-none : {X : Type 0} (first second : Option X) → option_or first second ≡ None → first ≡ None
 first-none None second h = refl
 first-none (Some x) second h = absurd (cc)
 
-second-none : {X : Type 0} (first second : Option X) → option_or first second ≡ None → second ≡ None
+pub second-none : {X : Type 0} (first second : Option X) → option_or first second ≡ None → second ≡ None
 second-none None second h = h
 second-none (Some x) second h = absurd (cc)
 
@@ -25,12 +25,12 @@ map-none : {X Y : Type 0} (f : X → Y) (o : Option X) → option_map f o ≡ No
 map-none f None h = refl
 map-none f (Some x) h = absurd (cc)
 
-second-false : {X : Type 0} (x : X) (a b : Bool) → cond (a || b) (Some x) None ≡ None → b ≡ false
+pub second-false : {X : Type 0} (x : X) (a b : Bool) → cond (a || b) (Some x) None ≡ None → b ≡ false
 second-false x true b h = absurd (cc)
 second-false x false true h = absurd (cc)
 second-false x false false h = refl
 
-none-if-false : {X : Type 0} (o : Option X) → is_some o ≡ false → o ≡ None
+pub none-if-false : {X : Type 0} (o : Option X) → is_some o ≡ false → o ≡ None
 none-if-false None h = refl
 none-if-false (Some x) h = absurd (cc)
 

@@ -53,7 +53,8 @@ pub trait Door {
     /// Takes a connection back.
     fn finish(&mut self, conn: Self::Conn)
         ensures served { Adds (served self.old) (served self.new)
-            (state_of Self.Conn.left Self.Conn.written Self.Conn.faults Self.Conn.quiets conn ∷ []) }
+            (state_of Self.Conn.left Self.Conn.written Self.Conn.faults Self.Conn.quiets conn
+            ∷ []) }
         ensures coming { coming self.new ≡ coming self.old }
         ensures has_failed { has_failed self.new ≡ has_failed self.old }
         ensures faults { faults self.new ≡ faults self.old };

@@ -26,9 +26,18 @@ impl Model for MemoryDoor {
 
     ghost Value = { DoorData };
 
-    ghost view = { λ d. record { coming = d.coming.items; served = (if d.keeps_all then Some d.served else None); calls = d.calls.made; faults = d.calls.faults; has_failed = d.has_failed; quiet_at = d.quiet_at; fail_at = d.calls.fail_at } };
+    ghost view = { λ d. record {
+      coming = d.coming.items;
+      served = (if d.keeps_all then Some d.served else None);
+      calls = d.calls.made;
+      faults = d.calls.faults;
+      has_failed = d.has_failed;
+      quiet_at = d.quiet_at;
+      fail_at = d.calls.fail_at;
+    } };
 
-    ghost invariant = { λ d. All IsUntouched d.coming.items × (d.has_failed ≡ true → d.coming.items ≡ []) };
+    ghost invariant = { λ d. All IsUntouched d.coming.items
+        × (d.has_failed ≡ true → d.coming.items ≡ []) };
 }
 
 impl MemoryDoor {
@@ -42,7 +51,16 @@ impl MemoryDoor {
     /// those of `quiet_at` find nothing yet if a connection is to come. Takes no memory.
     pub fn new(alloc: Global, conns: ConnList, quiet_at: CallList, fail_at: CallList) -> Self
         requires { All IsUntouched conns }
-        ensures { result ≡ record { coming = conns; served = Some []; calls = 0; faults = 0; has_failed = false; quiet_at = quiet_at; fail_at = fail_at } }
+        ensures { result
+            ≡ record {
+              coming = conns;
+              served = Some [];
+              calls = 0;
+              faults = 0;
+              has_failed = false;
+              quiet_at = quiet_at;
+              fail_at = fail_at;
+            } }
     {
         MemoryDoor {
             coming: VecDeque::from_vec(conns.into_items()),
@@ -68,11 +86,7 @@ impl MemoryDoor {
     fn is_quiet(&self) -> bool
         ensures { result ≡ is_listed self.now.quiet_at self.now.calls }
     {
-        let call = self.calls.made();
-        self.quiet_at
-            .as_slice()
-            .iter()
-            .any(|listed| *listed == call)
+        self.calls.is_latest_in(&self.quiet_at)
     }
 
     // A call fails: nothing comes any more.
@@ -138,8 +152,12 @@ impl Door for MemoryDoor {
     }
 
     fn finish(&mut self, conn: MemoryConn)
-        ensures kept { (self.new ≡ record self.old { served = option_map (λ conns. conns ++ conn ∷ []) self.old.served }) ⊎ (self.new ≡ record self.old { served = None }) }
-        ensures served { Adds (option_map (map conn_state) self.old.served) (option_map (map conn_state) self.new.served) (conn_state conn ∷ []) }
+        ensures kept { (self.new ≡ record self.old {
+          served = option_map (λ conns. conns ++ conn ∷ []) self.old.served;
+        })
+            ⊎ (self.new ≡ record self.old { served = None }) }
+        ensures served { Adds (option_map (map conn_state) self.old.served)
+            (option_map (map conn_state) self.new.served) (conn_state conn ∷ []) }
         ensures coming { self.new.coming ≡ self.old.coming }
         ensures has_failed { self.new.has_failed ≡ self.old.has_failed }
         ensures faults { self.new.faults ≡ self.old.faults }

@@ -51,7 +51,10 @@ fn listen<R: Net<Listener = TcpListener, Stream = TcpStream>>(
 
 // Whether no connection came, and a later call may bring one: the peer gave up, or the system has no room now.
 fn may_pass(error: &io::Error) -> bool
-    ensures { IsTrue result ↔ (error_kind error.now ≡ ErrorKind.ConnectionAborted) ⊎ (error_kind error.now ≡ ErrorKind.OutOfMemory) ⊎ (raw_os_error error.now ≡ Some (pos 24)) ⊎ (raw_os_error error.now ≡ Some (pos 23)) ⊎ (raw_os_error error.now ≡ Some (pos 105)) }
+    ensures { IsTrue result
+        ↔ (error_kind error.now ≡ ErrorKind.ConnectionAborted)
+        ⊎ (error_kind error.now ≡ ErrorKind.OutOfMemory) ⊎ (raw_os_error error.now ≡ Some (pos 24))
+        ⊎ (raw_os_error error.now ≡ Some (pos 23)) ⊎ (raw_os_error error.now ≡ Some (pos 105)) }
 {
     matches!(
         error.kind(),

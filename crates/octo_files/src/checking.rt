@@ -41,7 +41,8 @@ fn counts_of(job: &Job, targets: &Targets) -> Report
 
 /// Whether temperatures are within limits.
 fn are_within(targets: &Targets, limits: &Limits) -> bool
-    ensures { IsTrue result ↔ ((targets.now.tool ≤ limits.now.tool) × (targets.now.bed ≤ limits.now.bed)) }
+    ensures { IsTrue result
+        ↔ ((targets.now.tool ≤ limits.now.tool) × (targets.now.bed ≤ limits.now.bed)) }
 {
     targets.tool() <= u64::from(limits.tool) && targets.bed() <= u64::from(limits.bed)
 }
@@ -49,7 +50,8 @@ fn are_within(targets: &Targets, limits: &Limits) -> bool
 /// What a check finds of a job: its commands are read once, and a second time only to find the first that is too hot.
 #[tactic(auto, using(crate::proofs::Cool::cool_commands))]
 fn check_job(job: &Job, limits: &Limits) -> Report
-    ensures exact { result ≡ reported checked (unless_hot job.now (first_hot_of limits.now job.now.commands)) }
+    ensures exact { result
+        ≡ reported checked (unless_hot job.now (first_hot_of limits.now job.now.commands)) }
     ensures kind { is_check result ≡ true }
     ensures source { result ≢ report.SourceFailed }
 {

@@ -1,13 +1,15 @@
 -- What a host begins with.
-use Rattle.std.proofs.Common.{◌≡◌, ℕ, List, length, map, Option, None, Some, option_map, IfSome, sym, ap, ◌∙◌, subst}
+use Rattle.std.proofs.Common.{◌≡◌, ℕ, zero, suc, ◌<◌, List, [], ◌∷◌, length, get_or, map, Option, None, Some, option_map, IfSome, refl, sym, ap, ◌∙◌, subst, arith}
+use Rattle.std.proofs.lemmas.List.{length-map}
 use Rattle.octo_access.specs.Rows.{IsUserTable}
 use Rattle.octo_keeper.specs.Files.{sizes_of}
-use Rattle.octo_keeper.specs.Tables.{AreSound, with_due_end}
+use Rattle.octo_keeper.specs.Tables.{AreNumbered, AreSound, with_due_end}
 use Rattle.octo_keeper.specs.declared.shelf.ShelfFile.{ShelfFile}
 use Rattle.octo_keeper.specs.declared.tables.Tables.{Tables}
 use Rattle.print_queue.specs.Lawful.{IsLawful}
 use Rattle.print_records.specs.declared.row.PrintRow.{PrintRow}
 use Rattle.house_verdicts.specs.Known.{names_of}
+use Rattle.house_history.specs.Begins.{row_read}
 use Rattle.house_tables.specs.Data.{TablesData, IsReadFrom}
 use Rattle.house_tables.specs.Kept.{AreRows, Kept}
 use Rattle.house_tables.specs.declared.tables.Unwritten.{Unwritten}
@@ -41,3 +43,17 @@ kept-begun loaded tables host same sound read users queue =
 pub names-begun : (listed : List (List ℕ × ℕ)) (names : List (List ℕ)) (files : List ShelfFile) → listed ≡ sizes_of files
     → names ≡ map (λ (one : List ℕ × ℕ). one.0) listed → names ≡ names_of files
 names-begun listed names files listed-is names-are = names-are ∙ ap (map (λ (one : List ℕ × ℕ). one.0)) listed-is ∙ names-sized files
+
+-- its records keep their numbers
+number-read : (k : ℕ) (d : PrintRow) (rows : List PrintRow) → k < length rows → (get_or (map row_read rows) k d).number ≡ (get_or rows k d).number
+number-read k d [] below = absurd (omega (arith, below))
+number-read zero d (row ∷ rows) below = refl
+number-read (suc k) d (row ∷ rows) below = number-read k d rows (omega (arith, below))
+
+numbered-rows : (rows : List PrintRow) → AreNumbered rows → AreNumbered (map row_read rows)
+numbered-rows rows numbered k d below =
+    let within : k < length rows = omega (arith, below, length-map rows row_read) in
+    number-read k d rows within ∙ numbered k d within
+
+pub numbered-read : (loaded : Tables) (host : TablesData) → AreSound loaded → IsReadFrom loaded host → AreNumbered host.prints
+numbered-read loaded host sound read = subst (λ (rows : List PrintRow). AreNumbered rows) (sym read.prints) (numbered-rows loaded.prints sound.numbered)

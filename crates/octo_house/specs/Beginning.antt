@@ -1,6 +1,7 @@
 -- What a host begins with.
 use Rattle.std.specs.Prelude.{◌≡◌, ℕ, List, Option, None, Some}
 use Rattle.octo_access.specs.declared.policy.Policy.{Policy}
+use Rattle.octo_keeper.specs.Tables.{AreNumbered}
 use Rattle.octo_keeper.specs.declared.shelf.ShelfFile.{ShelfFile}
 use Rattle.octo_keeper.specs.declared.tables.Tables.{Tables}
 use Rattle.octo_session.specs.Data.{SessionData}
@@ -9,7 +10,7 @@ use Rattle.house_history.specs.Noted.{no_temps}
 use Rattle.octo_house.specs.declared.house.House.{House}
 use Rattle.octo_house.specs.State.{known_of}
 
--- what it was given, a new desk and no temperatures; nothing is unwritten
+-- what it was given, a new desk and no temperatures; nothing is unwritten, and its prints are numbered from 1 without a gap
 pub record IsMadeOf (session : SessionData) (policy : Policy) (ports : List (List ℕ)) (material : List ℕ) (house : House) : Type 0 where
   pub session_is : house.desk.session ≡ session
   pub policy_is : house.policy ≡ policy
@@ -17,6 +18,7 @@ pub record IsMadeOf (session : SessionData) (policy : Policy) (ports : List (Lis
   pub material_is : house.material ≡ material
   pub temps : house.desk.temps ≡ no_temps
   pub written : house.tables.unwritten ≡ None
+  pub numbered : AreNumbered house.tables.prints
 
 -- it knows the kept rows and the names of the files, if keeper and shelf record them
 abbrev pub BeginsOn : SessionData → Policy → List (List ℕ) → List ℕ → Option Tables → Option (List ShelfFile) → House → Type 0

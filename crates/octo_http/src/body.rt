@@ -19,13 +19,18 @@ fn read_length<C: Conn>(
     conn: &mut C,
     length: u64,
 ) -> Result<Blob, MessageFault>
-    ensures body { IfOk result (λ body. (taken : List ℕ) × ((more : List ℕ) → BodySays (Framing.Length length) (taken ++ more) (Ok body))
+    ensures body { IfOk result
+        (λ body. (taken : List ℕ)
+        × ((more : List ℕ) → BodySays (Framing.Length length) (taken ++ more) (Ok body))
         × Took intake.old.bytes (C.left conn.old) intake.new.bytes (C.left conn.new) taken) }
-    ensures stops { IfErr result (Stops (IsBodyFault (Framing.Length length)) intake.old.bytes (C.left conn.old) (C.left conn.new)) }
+    ensures stops { IfErr result
+        (Stops (IsBodyFault (Framing.Length length)) intake.old.bytes (C.left conn.old)
+        (C.left conn.new)) }
 
     // Counts, and what stays.
     ensures caused { IfErr result (HasCause intake.new (C.faults conn.old) (C.faults conn.new)) }
-    ensures waits { Waits intake.old intake.new (C.faults conn.old) (C.faults conn.new) (C.quiets conn.old) (C.quiets conn.new) }
+    ensures waits { Waits intake.old intake.new (C.faults conn.old) (C.faults conn.new)
+        (C.quiets conn.old) (C.quiets conn.new) }
     ensures written { C.written conn.new ≡ C.written conn.old }
 {
     if length > MOST_BODY {
@@ -43,13 +48,16 @@ pub fn read_body<C: Conn>(
     conn: &mut C,
     framing: Framing,
 ) -> Result<Blob, MessageFault>
-    ensures body { IfOk result (λ body. (taken : List ℕ) × ((more : List ℕ) → BodySays framing (taken ++ more) (Ok body))
+    ensures body { IfOk result
+        (λ body. (taken : List ℕ) × ((more : List ℕ) → BodySays framing (taken ++ more) (Ok body))
         × Took intake.old.bytes (C.left conn.old) intake.new.bytes (C.left conn.new) taken) }
-    ensures stops { IfErr result (Stops (IsBodyFault framing) intake.old.bytes (C.left conn.old) (C.left conn.new)) }
+    ensures stops { IfErr result
+        (Stops (IsBodyFault framing) intake.old.bytes (C.left conn.old) (C.left conn.new)) }
 
     // Counts, and what stays.
     ensures caused { IfErr result (HasCause intake.new (C.faults conn.old) (C.faults conn.new)) }
-    ensures waits { Waits intake.old intake.new (C.faults conn.old) (C.faults conn.new) (C.quiets conn.old) (C.quiets conn.new) }
+    ensures waits { Waits intake.old intake.new (C.faults conn.old) (C.faults conn.new)
+        (C.quiets conn.old) (C.quiets conn.new) }
     ensures written { C.written conn.new ≡ C.written conn.old }
 {
     match framing {

@@ -32,11 +32,13 @@ fn read_chunk<C: Conn>(
     requires { length body.old ≤ 68157440 }
     ensures chunk { IfOk result (λ added. (taken : List ℕ) × AddsChunk body.old body.new added taken
         × Took intake.old.bytes (C.left conn.old) intake.new.bytes (C.left conn.new) taken) }
-    ensures stops { IfErr result (Stops (IsChunkFault body.old) intake.old.bytes (C.left conn.old) (C.left conn.new)) }
+    ensures stops { IfErr result
+        (Stops (IsChunkFault body.old) intake.old.bytes (C.left conn.old) (C.left conn.new)) }
 
     // Counts, and what stays.
     ensures caused { IfErr result (HasCause intake.new (C.faults conn.old) (C.faults conn.new)) }
-    ensures waits { Waits intake.old intake.new (C.faults conn.old) (C.faults conn.new) (C.quiets conn.old) (C.quiets conn.new) }
+    ensures waits { Waits intake.old intake.new (C.faults conn.old) (C.faults conn.new)
+        (C.quiets conn.old) (C.quiets conn.new) }
     ensures written { C.written conn.new ≡ C.written conn.old }
 {
     let size = read_part(intake, conn, Part::Line)?;
@@ -58,13 +60,16 @@ pub fn read_chunks<C: Conn>(
     intake: &mut Intake,
     conn: &mut C,
 ) -> Result<Blob, MessageFault>
-    ensures body { IfOk result (λ body. (taken : List ℕ) × ((more : List ℕ) → Chunked [] (taken ++ more) (Ok body))
+    ensures body { IfOk result
+        (λ body. (taken : List ℕ) × ((more : List ℕ) → Chunked [] (taken ++ more) (Ok body))
         × Took intake.old.bytes (C.left conn.old) intake.new.bytes (C.left conn.new) taken) }
-    ensures stops { IfErr result (Stops (IsChunkFault []) intake.old.bytes (C.left conn.old) (C.left conn.new)) }
+    ensures stops { IfErr result
+        (Stops (IsChunkFault []) intake.old.bytes (C.left conn.old) (C.left conn.new)) }
 
     // Counts, and what stays.
     ensures caused { IfErr result (HasCause intake.new (C.faults conn.old) (C.faults conn.new)) }
-    ensures waits { Waits intake.old intake.new (C.faults conn.old) (C.faults conn.new) (C.quiets conn.old) (C.quiets conn.new) }
+    ensures waits { Waits intake.old intake.new (C.faults conn.old) (C.faults conn.new)
+        (C.quiets conn.old) (C.quiets conn.new) }
     ensures written { C.written conn.new ≡ C.written conn.old }
 {
     let mut body = Blob::new(alloc);

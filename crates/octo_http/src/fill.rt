@@ -12,7 +12,8 @@ use std::alloc::AllocError;
 fn move_bytes(intake: &mut Intake, body: &mut Blob, most: usize) -> Result<usize, AllocError>
     ensures count { IfOk result (λ n. n ≡ min most (length intake.old.bytes)) }
     ensures body { IfOk result (λ n. body.new ≡ body.old ++ take n intake.old.bytes) }
-    ensures taken { IfOk result (λ n. intake.new ≡ record intake.old { bytes = drop n intake.old.bytes }) }
+    ensures taken { IfOk result
+        (λ n. intake.new ≡ record intake.old { bytes = drop n intake.old.bytes }) }
     ensures err { OnErr result (intake.new ≡ intake.old) }
 {
     let bytes = intake.bytes();
@@ -29,13 +30,16 @@ pub fn fill<C: Conn>(
     body: &mut Blob,
     count: usize,
 ) -> Result<(), MessageFault>
-    ensures ok { OnOk result ((taken : List ℕ) × (length taken ≡ count) × (body.new ≡ body.old ++ taken)
+    ensures ok { OnOk result
+        ((taken : List ℕ) × (length taken ≡ count) × (body.new ≡ body.old ++ taken)
         × Took intake.old.bytes (C.left conn.old) intake.new.bytes (C.left conn.new) taken) }
-    ensures stops { IfErr result (Stops (IsShort count) intake.old.bytes (C.left conn.old) (C.left conn.new)) }
+    ensures stops { IfErr result
+        (Stops (IsShort count) intake.old.bytes (C.left conn.old) (C.left conn.new)) }
 
     // Counts, and what stays.
     ensures caused { IfErr result (HasCause intake.new (C.faults conn.old) (C.faults conn.new)) }
-    ensures waits { Waits intake.old intake.new (C.faults conn.old) (C.faults conn.new) (C.quiets conn.old) (C.quiets conn.new) }
+    ensures waits { Waits intake.old intake.new (C.faults conn.old) (C.faults conn.new)
+        (C.quiets conn.old) (C.quiets conn.new) }
     ensures written { C.written conn.new ≡ C.written conn.old }
 {
     let mut due = count;

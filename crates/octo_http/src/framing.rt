@@ -33,7 +33,8 @@ fn length_of(text: &[u8]) -> Option<u64>
 
 // A body of the length that the fields say, if they agree on one.
 fn by_length(fields: &FieldSpans, text: &[u8]) -> Option<Framing>
-    ensures { result ≡ (if list_all (λ v. bytes_eq v text.now) (values (codes "Content-Length") fields.now)
+    ensures { result
+        ≡ (if list_all (λ v. bytes_eq v text.now) (values (codes "Content-Length") fields.now)
         then option_map Framing.Length (whole_number text.now 18) else None) }
 {
     if !fields.all_are(b"Content-Length", text) {
@@ -47,7 +48,9 @@ fn by_length(fields: &FieldSpans, text: &[u8]) -> Option<Framing>
 
 // A body in chunks, if that is its one coding.
 fn by_coding(fields: &FieldSpans, coding: &[u8]) -> Option<Framing>
-    ensures { result ≡ (if length (values (codes "Transfer-Encoding") fields.now) == 1 && str_eq_ignore_ascii_case coding.now (codes "chunked")
+    ensures { result
+        ≡ (if length (values (codes "Transfer-Encoding") fields.now) == 1
+        && str_eq_ignore_ascii_case coding.now (codes "chunked")
         then Some Framing.Chunked else None) }
 {
     if fields.count(b"Transfer-Encoding") == 1 && same_text(coding, b"chunked") {

@@ -41,7 +41,11 @@ impl Model for Intake {
 
     ghost Value = { IntakeData };
 
-    ghost view = { λ i. record { bytes = drop i.taken i.bytes.items; patience = i.patience; allowed = i.allowed } };
+    ghost view = { λ i. record {
+      bytes = drop i.taken i.bytes.items;
+      patience = i.patience;
+      allowed = i.allowed;
+    } };
 
     ghost invariant = { λ i. i.taken ≤ vec_len i.bytes };
 }
@@ -95,7 +99,8 @@ impl Intake {
 
     // Adds bytes that came; without memory nothing is added.
     fn push(&mut self, bytes: &[u8]) -> Result<(), AllocError>
-        ensures ok { OnOk result (self.new ≡ record self.old { bytes = self.old.bytes ++ bytes.now }) }
+        ensures ok { OnOk result
+            (self.new ≡ record self.old { bytes = self.old.bytes ++ bytes.now }) }
         ensures err { OnErr result (self.new ≡ self.old) }
     {
         self.compact()?;
@@ -114,12 +119,16 @@ impl Intake {
     pub fn fetch<C: Conn>(&mut self, conn: &mut C) -> Result<Came, AllocError>
         requires { 0 < self.old.allowed }
         // What came follows what was at hand.
-        ensures took { OnOk result (Took self.old.bytes (C.left conn.old) self.new.bytes (C.left conn.new) []) }
+        ensures took { OnOk result
+            (Took self.old.bytes (C.left conn.old) self.new.bytes (C.left conn.new) []) }
         ensures brings { IfOk result (λ came. Brings came self.old self.new) }
-        ensures knows { IfOk result (λ came. Knows came self.new [] self.old.bytes (C.left conn.old) (C.faults conn.old) (C.faults conn.new)) }
+        ensures knows { IfOk result
+            (λ came. Knows came self.new [] self.old.bytes (C.left conn.old) (C.faults conn.old)
+            (C.faults conn.new)) }
 
         // Counts, and what stays.
-        ensures waits { Waits self.old self.new (C.faults conn.old) (C.faults conn.new) (C.quiets conn.old) (C.quiets conn.new) }
+        ensures waits { Waits self.old self.new (C.faults conn.old) (C.faults conn.new)
+            (C.quiets conn.old) (C.quiets conn.new) }
         ensures written { C.written conn.new ≡ C.written conn.old }
     {
         let mut buffer = [0; READ];

@@ -92,7 +92,8 @@ fn look_line(bytes: &[u8]) -> Result<Option<(u64, usize)>, MessageFault>
 fn look_end(bytes: &[u8]) -> Result<Option<(u64, usize)>, MessageFault>
     ensures found { IfOk result (λ found. IfSome found (IsFoundPart Part.LineEnd bytes.now)) }
     ensures partial { IfOk result (λ found. IfNone found (IsPartial Part.LineEnd bytes.now)) }
-    ensures bad { IfErr result (λ f. (f ≡ MessageFault.BadChunk) × IsNoPart Part.LineEnd bytes.now) }
+    ensures bad { IfErr result
+        (λ f. (f ≡ MessageFault.BadChunk) × IsNoPart Part.LineEnd bytes.now) }
 {
     match ending_of(bytes) {
         Ending::Whole => Ok(Some((0, 2))),

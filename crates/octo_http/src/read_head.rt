@@ -22,7 +22,8 @@ fn try_head(
     came: Came,
 ) -> Result<Option<Head>, MessageFault>
     ensures head { IfOk result (λ found. IfSome found (TakesHead intake.old intake.new)) }
-    ensures none { IfOk result (λ found. IfNone found (Lacks HeadFault 16384 intake.new.bytes came)) }
+    ensures none { IfOk result
+        (λ found. IfNone found (Lacks HeadFault 16384 intake.new.bytes came)) }
     ensures same { IfOk result (λ found. IfNone found (intake.new ≡ intake.old)) }
     ensures refused { IfErr result (Refuses HeadFault intake.old.bytes) }
     ensures err { OnErr result (intake.new ≡ intake.old) }
@@ -49,11 +50,13 @@ pub fn read_head<C: Conn>(
 ) -> Result<Head, MessageFault>
     ensures head { IfOk result (λ head. (taken : List ℕ) × IsHead taken head
         × Took intake.old.bytes (C.left conn.old) intake.new.bytes (C.left conn.new) taken) }
-    ensures stops { IfErr result (Stops HeadFault intake.old.bytes (C.left conn.old) (C.left conn.new)) }
+    ensures stops { IfErr result
+        (Stops HeadFault intake.old.bytes (C.left conn.old) (C.left conn.new)) }
 
     // Counts, and what stays.
     ensures caused { IfErr result (HasCause intake.new (C.faults conn.old) (C.faults conn.new)) }
-    ensures waits { Waits intake.old intake.new (C.faults conn.old) (C.faults conn.new) (C.quiets conn.old) (C.quiets conn.new) }
+    ensures waits { Waits intake.old intake.new (C.faults conn.old) (C.faults conn.new)
+        (C.quiets conn.old) (C.quiets conn.new) }
     ensures written { C.written conn.new ≡ C.written conn.old }
 {
     let mut looks = Looks::new();

@@ -18,7 +18,8 @@ fn try_part(
     part: Part,
 ) -> Result<Option<u64>, MessageFault>
     ensures found { IfOk result (λ found. IfSome found (TakesPart part intake.old intake.new)) }
-    ensures none { IfOk result (λ found. IfNone found (Lacks (PartFault part) (most_of part) intake.new.bytes came)) }
+    ensures none { IfOk result
+        (λ found. IfNone found (Lacks (PartFault part) (most_of part) intake.new.bytes came)) }
     ensures same { IfOk result (λ found. IfNone found (intake.new ≡ intake.old)) }
     ensures refused { IfErr result (Refuses (PartFault part) intake.old.bytes) }
     ensures err { OnErr result (intake.new ≡ intake.old) }
@@ -46,11 +47,13 @@ pub fn read_part<C: Conn>(
 ) -> Result<u64, MessageFault>
     ensures part { IfOk result (λ n. (taken : List ℕ) × IsPart part taken n
         × Took intake.old.bytes (C.left conn.old) intake.new.bytes (C.left conn.new) taken) }
-    ensures stops { IfErr result (Stops (PartFault part) intake.old.bytes (C.left conn.old) (C.left conn.new)) }
+    ensures stops { IfErr result
+        (Stops (PartFault part) intake.old.bytes (C.left conn.old) (C.left conn.new)) }
 
     // Counts, and what stays.
     ensures caused { IfErr result (HasCause intake.new (C.faults conn.old) (C.faults conn.new)) }
-    ensures waits { Waits intake.old intake.new (C.faults conn.old) (C.faults conn.new) (C.quiets conn.old) (C.quiets conn.new) }
+    ensures waits { Waits intake.old intake.new (C.faults conn.old) (C.faults conn.new)
+        (C.quiets conn.old) (C.quiets conn.new) }
     ensures written { C.written conn.new ≡ C.written conn.old }
 {
     let mut looks = Looks::new();

@@ -92,7 +92,8 @@ fn type_line(kind: ReplyKind) -> &'static [u8]
 // Adds the body's length and type.
 fn put_content(head: &mut ReplyHead, kind: ReplyKind, count: usize)
     requires { array_vec_len head.old ≤ 82 }
-    ensures items { head.new.items ≡ head.old.items ++ codes "Content-Length: " ++ decimal count ++ crlf ++ type_line kind }
+    ensures items { head.new.items
+        ≡ head.old.items ++ codes "Content-Length: " ++ decimal count ++ crlf ++ type_line kind }
     ensures few { array_vec_len head.new ≤ 160 }
 {
     append(head, b"Content-Length: ");

@@ -6,6 +6,7 @@ use print_queue::{EntryList, QueueEntry};
 use print_records::{PrintList, PrintRow};
 use std::alloc::{AllocError, Global};
 
+/// A copy of users.
 pub fn copy_users(alloc: Global, rows: &[UserRow]) -> Result<UserList, AllocError>
     ensures { IfOk result (λ list. list ≡ rows.now) }
 {
@@ -16,6 +17,7 @@ pub fn copy_users(alloc: Global, rows: &[UserRow]) -> Result<UserList, AllocErro
     Ok(list)
 }
 
+/// A copy of entries.
 pub fn copy_entries(alloc: Global, rows: &[QueueEntry]) -> Result<EntryList, AllocError>
     ensures { IfOk result (λ list. list ≡ rows.now) }
 {
@@ -26,6 +28,7 @@ pub fn copy_entries(alloc: Global, rows: &[QueueEntry]) -> Result<EntryList, All
     Ok(list)
 }
 
+/// A copy of records of prints.
 pub fn copy_prints(alloc: Global, rows: &[PrintRow]) -> Result<PrintList, AllocError>
     ensures { IfOk result (λ list. list ≡ rows.now) }
 {

@@ -30,7 +30,7 @@ fn place_of_name(rows: &[UserRow], name: &Name) -> usize
         .count()
 }
 
-// Adds a user in the place of its name.
+/// Adds a user in the place of its name.
 pub fn put_user(rows: &mut Vec<UserRow>, row: &UserRow) -> Result<(), AllocError>
     ensures ok { OnOk result (rows.new.items ≡ with_row row.now rows.old.items) }
     ensures err { OnErr result (rows.new.items ≡ rows.old.items) }
@@ -49,7 +49,7 @@ fn set_user(held: &mut UserRow, row: &UserRow)
     }
 }
 
-// Sets each user of a name.
+/// Sets each user of a name.
 pub fn set_users(rows: &mut [UserRow], row: &UserRow)
     ensures { rows.new ≡ with_user row.now rows.old }
 {
@@ -66,7 +66,7 @@ fn place_of_entry(rows: &[QueueEntry], entry: &QueueEntry) -> usize
     rows.iter().take_while(|row| row.is_before(entry)).count()
 }
 
-// Adds an entry in its place in the order.
+/// Adds an entry in its place in the order.
 pub fn put_entry(rows: &mut Vec<QueueEntry>, entry: &QueueEntry) -> Result<(), AllocError>
     ensures ok { OnOk result (rows.new.items ≡ insert_row entry.now rows.old.items) }
     ensures err { OnErr result (rows.new.items ≡ rows.old.items) }
@@ -76,7 +76,7 @@ pub fn put_entry(rows: &mut Vec<QueueEntry>, entry: &QueueEntry) -> Result<(), A
     Ok(())
 }
 
-// Takes a user's entry of a name out.
+/// Takes a user's entry of a name out.
 pub fn drop_entry(rows: &mut Vec<QueueEntry>, user: &Name, name: &Name)
     ensures { rows.new.items ≡ without user.now name.now rows.old.items }
 {
@@ -100,7 +100,7 @@ fn lower_rows(rows: &mut [QueueEntry], user: &Name, name: &Name)
     }
 }
 
-// Starts one copy of a user's entry of a name; after its last copy the entry is gone.
+/// Starts one copy of a user's entry of a name; after its last copy the entry is gone.
 pub fn take_entry(rows: &mut Vec<QueueEntry>, user: &Name, name: &Name)
     ensures { rows.new.items ≡ without_copy user.now name.now rows.old.items }
 {
@@ -126,13 +126,14 @@ pub fn end_print(rows: &mut [PrintRow], ending: Ending)
     }
 }
 
-// Adds a print after the end of another one, if that is due.
+/// Adds a print after the end of another one, if that is due.
 pub fn begin_print(
     rows: &mut Vec<PrintRow>,
     ended: Option<Ending>,
     print: &PrintRow,
 ) -> Result<(), AllocError>
-    ensures ok { OnOk result (rows.new.items ≡ with_due_end ended rows.old.items ++ print.now ∷ []) }
+    ensures ok { OnOk result
+        (rows.new.items ≡ with_due_end ended rows.old.items ++ print.now ∷ []) }
     ensures err { OnErr result (rows.new.items ≡ rows.old.items) }
 {
     rows.reserve(1)?;

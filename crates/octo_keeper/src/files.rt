@@ -39,7 +39,7 @@ fn place_after(files: &[ShelfFile], name: &Name) -> usize
         .count()
 }
 
-// The names of the files with their sizes.
+/// The names of the files with their sizes.
 pub fn copy_sizes(alloc: Global, files: &[ShelfFile]) -> Result<FileList, AllocError>
     ensures { IfOk result (λ list. list ≡ sizes_of files.now) }
 {
@@ -50,7 +50,7 @@ pub fn copy_sizes(alloc: Global, files: &[ShelfFile]) -> Result<FileList, AllocE
     Ok(list)
 }
 
-// The bytes of a file, if there is one of that name.
+/// The bytes of a file, if there is one of that name.
 #[tactic(auto, using(std::proofs::lemmas::List::Folds::find_at, std::proofs::lemmas::Option::slice_get_past, std::proofs::lemmas::Option::slice_get_read))]
 pub fn bytes_at(alloc: Global, files: &[ShelfFile], name: &Name) -> Result<Option<Blob>, AllocError>
     ensures { IfOk result (λ bytes. bytes ≡ bytes_of name.now files.now) }
@@ -63,10 +63,11 @@ pub fn bytes_at(alloc: Global, files: &[ShelfFile], name: &Name) -> Result<Optio
     Ok(Some(bytes))
 }
 
-// Takes the file of that name out.
+/// Takes the file of that name out.
 pub fn drop_file(files: &mut Vec<ShelfFile>, name: &Name)
     ensures items { files.new.items ≡ without_file name.now files.old.items }
-    ensures room { vec_len files.old < vec_capacity files.old → vec_len files.new < vec_capacity files.new }
+    ensures room { vec_len files.old < vec_capacity files.old
+        → vec_len files.new < vec_capacity files.new }
 {
     files.retain(|file| file.name.as_bytes() != name.as_bytes());
 }
@@ -82,7 +83,7 @@ fn add_file(files: &mut Vec<ShelfFile>, file: ShelfFile) -> Result<(), AllocErro
     Ok(())
 }
 
-// Sets the bytes of a name; without memory the files stay.
+/// Sets the bytes of a name; without memory the files stay.
 pub fn put_file(
     alloc: Global,
     files: &mut Vec<ShelfFile>,

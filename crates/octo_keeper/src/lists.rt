@@ -22,7 +22,7 @@ fn take_rows<T: Drop>(alloc: Global, list: &mut ItemList<T>) -> Vec<T>
     mem::replace(list, ItemList::new(alloc)).into_items()
 }
 
-// Adds a user in the place of its name.
+/// Adds a user in the place of its name.
 pub fn add_user(alloc: Global, list: &mut UserList, row: &UserRow) -> Result<(), AllocError>
     ensures ok { OnOk result (list.new ≡ with_row row.now list.old) }
     ensures err { OnErr result (list.new ≡ list.old) }
@@ -33,7 +33,7 @@ pub fn add_user(alloc: Global, list: &mut UserList, row: &UserRow) -> Result<(),
     done
 }
 
-// Sets each user of a name.
+/// Sets each user of a name.
 pub fn set_user(alloc: Global, list: &mut UserList, row: &UserRow)
     ensures { list.new ≡ with_user row.now list.old }
 {
@@ -42,7 +42,7 @@ pub fn set_user(alloc: Global, list: &mut UserList, row: &UserRow)
     *list = UserList::from_items(rows);
 }
 
-// Adds an entry in its place in the order.
+/// Adds an entry in its place in the order.
 pub fn add_entry(alloc: Global, list: &mut EntryList, entry: &QueueEntry) -> Result<(), AllocError>
     ensures ok { OnOk result (list.new ≡ insert_row entry.now list.old) }
     ensures err { OnErr result (list.new ≡ list.old) }
@@ -53,7 +53,7 @@ pub fn add_entry(alloc: Global, list: &mut EntryList, entry: &QueueEntry) -> Res
     done
 }
 
-// Takes a user's entry of a name out.
+/// Takes a user's entry of a name out.
 pub fn remove_entry(alloc: Global, list: &mut EntryList, user: &Name, name: &Name)
     ensures { list.new ≡ without user.now name.now list.old }
 {
@@ -62,7 +62,7 @@ pub fn remove_entry(alloc: Global, list: &mut EntryList, user: &Name, name: &Nam
     *list = EntryList::from_items(rows);
 }
 
-// Starts one copy of an entry, if one was taken.
+/// Starts one copy of an entry, if one was taken.
 pub fn start_copy(alloc: Global, list: &mut EntryList, taken: &Option<QueueEntry>)
     ensures { list.new ≡ with_taken taken.now list.old }
 {
@@ -74,7 +74,7 @@ pub fn start_copy(alloc: Global, list: &mut EntryList, taken: &Option<QueueEntry
     *list = EntryList::from_items(rows);
 }
 
-// Adds a print after the end of another one, if that is due.
+/// Adds a print after the end of another one, if that is due.
 pub fn add_print(
     alloc: Global,
     list: &mut PrintList,
@@ -90,7 +90,7 @@ pub fn add_print(
     done
 }
 
-// Ends the print of a number.
+/// Ends the print of a number.
 pub fn set_end(alloc: Global, list: &mut PrintList, ending: Ending)
     ensures { list.new ≡ with_end ending list.old }
 {

@@ -25,7 +25,11 @@ impl MemoryKeeper {
 
     /// A keeper of these tables whose calls with these numbers, from 1, fail; takes no memory.
     pub fn new(tables: Tables, fail_at: CallList) -> Self
-        ensures { result ≡ record { tables = tables; calls = record { made = 0; faults = 0; fail_at = fail_at } } }
+        ensures { result
+            ≡ record {
+              tables = tables;
+              calls = record { made = 0; faults = 0; fail_at = fail_at };
+            } }
     {
         MemoryKeeper {
             tables,

@@ -26,7 +26,8 @@ impl MemoryShelf {
 
     /// An empty shelf whose calls with these numbers, from 1, fail; takes no memory.
     pub fn new(alloc: Global, fail_at: CallList) -> Self
-        ensures { result ≡ record { files = []; calls = record { made = 0; faults = 0; fail_at = fail_at } } }
+        ensures { result
+            ≡ record { files = []; calls = record { made = 0; faults = 0; fail_at = fail_at } } }
     {
         MemoryShelf {
             files: Vec::new(alloc),

@@ -41,14 +41,21 @@ impl Calls {
         self.made
     }
 
+    /// Whether the latest call is one of these.
+    pub fn is_latest_in(&self, list: &CallList) -> bool
+        ensures { result ≡ is_listed list.now self.now.made }
+    {
+        let call = self.made;
+        list.as_slice().iter().any(|listed| *listed == call)
+    }
+
     /// Counts a call, and says whether it is one of those that are to fail.
     pub fn begin(&mut self) -> bool
         ensures fails { result ≡ is_listed self.old.fail_at (one_more self.old.made) }
         ensures counts { self.new ≡ record self.old { made = one_more self.old.made } }
     {
         self.made = self.made.saturating_add(1);
-        let call = self.made;
-        self.fail_at.as_slice().iter().any(|listed| *listed == call)
+        self.is_latest_in(&self.fail_at)
     }
 
     /// Counts a failed call.

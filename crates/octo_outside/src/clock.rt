@@ -53,7 +53,9 @@ impl Clock for MemoryClock {
     }
 
     fn rest(&mut self)
-        ensures stepped { self.new ≡ record self.old { moment = min (self.old.moment + self.old.step) 18446744073709551615 } }
+        ensures stepped { self.new ≡ record self.old {
+          moment = min (self.old.moment + self.old.step) 18446744073709551615;
+        } }
         ensures later { self.old.moment ≤ self.new.moment }
     {
         self.moment = self.moment.saturating_add(self.step);

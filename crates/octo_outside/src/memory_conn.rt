@@ -21,7 +21,15 @@ impl Model for MemoryConn {
 
     ghost Value = { ConnData };
 
-    ghost view = { λ c. record { left = last_of c.unread c.input; written = c.written; calls = c.calls.made; faults = c.calls.faults; quiets = c.quiets; quiet_at = c.quiet_at; fail_at = c.calls.fail_at } };
+    ghost view = { λ c. record {
+      left = last_of c.unread c.input;
+      written = c.written;
+      calls = c.calls.made;
+      faults = c.calls.faults;
+      quiets = c.quiets;
+      quiet_at = c.quiet_at;
+      fail_at = c.calls.fail_at;
+    } };
 
     ghost invariant = { λ c. c.unread ≤ length c.input };
 }
@@ -38,7 +46,16 @@ impl MemoryConn {
         quiet_at: CallList,
         fail_at: CallList,
     ) -> Result<Self, AllocError>
-        ensures { IfOk result (λ c. c ≡ record { left = input.now; written = []; calls = 0; faults = 0; quiets = 0; quiet_at = quiet_at; fail_at = fail_at }) }
+        ensures { IfOk result
+            (λ c. c ≡ record {
+              left = input.now;
+              written = [];
+              calls = 0;
+              faults = 0;
+              quiets = 0;
+              quiet_at = quiet_at;
+              fail_at = fail_at;
+            }) }
     {
         let input = Blob::from_slice(alloc, input)?;
         let unread = input.len();
@@ -87,11 +104,7 @@ impl MemoryConn {
     fn is_quiet(&self) -> bool
         ensures { result ≡ is_listed self.now.quiet_at self.now.calls }
     {
-        let call = self.calls.made();
-        self.quiet_at
-            .as_slice()
-            .iter()
-            .any(|listed| *listed == call)
+        self.calls.is_latest_in(&self.quiet_at)
     }
 
     // Gives the next bytes, at least one.

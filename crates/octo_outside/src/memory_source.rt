@@ -30,14 +30,21 @@ impl Model for MemorySource {
 
     ghost Value = { SourceData };
 
-    ghost view = { λ s. record { files = s.files.items; left = last_of s.unread (bytes_at s.files.items s.chosen); calls = s.calls.made; faults = s.calls.faults; fail_at = s.calls.fail_at } };
+    ghost view = { λ s. record {
+      files = s.files.items;
+      left = last_of s.unread (bytes_at s.files.items s.chosen);
+      calls = s.calls.made;
+      faults = s.calls.faults;
+      fail_at = s.calls.fail_at;
+    } };
 
     ghost invariant = { λ s. s.unread ≤ length (bytes_at s.files.items s.chosen) };
 }
 
 // The place of the first file of that name.
 fn place_of(files: &[MemoryFile], name: &str) -> Option<usize>
-    ensures { MatchOption result (held files.now name.now ≡ None) (λ place. held files.now name.now ≡ Some (bytes_at files.now place)) }
+    ensures { MatchOption result (held files.now name.now ≡ None)
+        (λ place. held files.now name.now ≡ Some (bytes_at files.now place)) }
 {
     for (place, file) in files.iter().enumerate() {
         if file.name.as_slice() == name.as_bytes() {
@@ -53,7 +60,8 @@ impl MemorySource {
 
     /// A source without files whose calls with these numbers, from 1, fail; takes no memory.
     pub fn new(alloc: Global, fail_at: CallList) -> Self
-        ensures { result ≡ record { files = []; left = []; calls = 0; faults = 0; fail_at = fail_at } }
+        ensures { result
+            ≡ record { files = []; left = []; calls = 0; faults = 0; fail_at = fail_at } }
     {
         MemorySource {
             alloc,
@@ -66,7 +74,11 @@ impl MemorySource {
 
     /// Sets what a name holds; nothing is left to read then. Without memory the source stays.
     pub fn put(&mut self, name: &str, bytes: &[u8]) -> Result<(), AllocError>
-        ensures ok { OnOk result (self.new ≡ record self.old { files = record { name = name.now; bytes = bytes.now } ∷ self.old.files; left = [] }) }
+        ensures ok { OnOk result
+            (self.new ≡ record self.old {
+              files = record { name = name.now; bytes = bytes.now } ∷ self.old.files;
+              left = [];
+            }) }
         ensures err { OnErr result (self.new ≡ self.old) }
     {
         let name = Blob::from_slice(self.alloc, name.as_bytes())?;

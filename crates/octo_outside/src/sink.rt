@@ -49,7 +49,12 @@ pub struct MemorySink {
 impl Model for MemorySink {
     ghost Value = { SinkData };
 
-    ghost view = { λ s. record { written = s.written; calls = s.calls.made; faults = s.calls.faults; fail_at = s.calls.fail_at } };
+    ghost view = { λ s. record {
+      written = s.written;
+      calls = s.calls.made;
+      faults = s.calls.faults;
+      fail_at = s.calls.fail_at;
+    } };
 }
 
 impl MemorySink {

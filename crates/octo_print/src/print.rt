@@ -30,7 +30,8 @@ use temp_rules::HotLine;
 pub fn session_of(alloc: Global, settings: Settings) -> Result<Session, AllocError>
     requires { IsSettings settings }
     ensures new { IfOk result IsNew }
-    ensures desk { IfOk result (λ s. s.desk ≡ new_desk settings.scripts settings.limits settings.poll_ms) }
+    ensures desk { IfOk result
+        (λ s. s.desk ≡ new_desk settings.scripts settings.limits settings.poll_ms) }
     ensures sender { IfOk result (λ s. s.sender ≡ new_sender settings.window settings.limit_ms) }
 {
     let desk = Desk::new(alloc, settings.scripts, settings.limits, settings.poll_ms)?;

@@ -16,6 +16,7 @@ use Rattle.desk_steps.specs.declared.link_fact.LinkFact.{LinkFact}
 use Rattle.desk_steps.specs.declared.link_fact.LinkFact.TheVariants as fact
 use Rattle.temp_rules.specs.declared.job.HotLine.{HotLine}
 use Rattle.temp_rules.specs.Hot.{first_hot_of}
+use Rattle.desk_steps.proofs.Steady.{either, choose_pair}
 
 -- both counts are the same
 pub record Counts (d e : Data) : Type 0 where
@@ -27,14 +28,6 @@ same d = record { issued = refl; acked = refl }
 
 pub and_then : (d e f : Data) → Counts d e → Counts e f → Counts d f
 and_then d e f a b = record { issued = b.issued ∙ a.issued; acked = b.acked ∙ a.acked }
-
-either : (P : Data → Type 0) (b : Bool) (x y : Data) → P x → P y → P (cond b x y)
-either P true x y hx hy = hx
-either P false x y hx hy = hy
-
-choose_pair : {X : Type 0} (P : Data → Type 0) (b : Bool) (x y : X × Data) → P x.1 → P y.1 → P (cond b x y).1
-choose_pair P true x y hx hy = hx
-choose_pair P false x y hx hy = hy
 
 pub counts_connect : (s : State) (port : List ℕ) (d : Data) → Counts d (connect_at s port d).1
 counts_connect Offline port d = record { issued = refl; acked = refl }

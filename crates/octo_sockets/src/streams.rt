@@ -33,7 +33,10 @@ pub fn prepare<S: OpenStream>(stream: &S) -> io::Result<()> {
 /// Whether the call of a stream may be made again: it would have waited for longer than is allowed, or a signal
 /// ended it.
 pub fn may_come_later(error: &io::Error) -> bool
-    ensures { IsTrue result ↔ (error_kind error.now ≡ ErrorKind.WouldBlock) ⊎ (error_kind error.now ≡ ErrorKind.TimedOut) ⊎ (error_kind error.now ≡ ErrorKind.Interrupted) }
+    ensures { IsTrue result
+        ↔ (error_kind error.now ≡ ErrorKind.WouldBlock)
+        ⊎ (error_kind error.now ≡ ErrorKind.TimedOut)
+        ⊎ (error_kind error.now ≡ ErrorKind.Interrupted) }
 {
     matches!(
         error.kind(),
@@ -47,8 +50,11 @@ pub fn may_come_later(error: &io::Error) -> bool
 pub fn write_some<S: Write>(stream: &mut S, bytes: &[u8]) -> Option<usize>
     ensures some { IfSome result (λ n. 0 < n) }
     ensures bound { IfSome result (λ n. n ≤ length bytes.now) }
-    ensures written { IfSome result (λ n. Appends (S.Write.contents stream.old) (S.Write.contents stream.new) (take n bytes.now)) }
-    ensures none { IsNone result → Keeps (S.Write.contents stream.old) (S.Write.contents stream.new) }
+    ensures written { IfSome result
+        (λ n. Appends (S.Write.contents stream.old) (S.Write.contents stream.new)
+        (take n bytes.now)) }
+    ensures none { IsNone result
+        → Keeps (S.Write.contents stream.old) (S.Write.contents stream.new) }
 {
     for _ in 0..TRIES {
         match stream.write(bytes) {

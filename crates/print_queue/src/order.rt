@@ -39,7 +39,7 @@ fn sort_all(entries: &mut [QueueEntry])
     entries.sort_unstable_by(compared);
 }
 
-// Puts entries into the order of printing; takes no memory.
+/// Puts entries into the order of printing; takes no memory.
 pub fn sort(entries: &mut [QueueEntry])
     requires { IsSound entries.old }
     ensures same { IsPermutation entries.old entries.new }

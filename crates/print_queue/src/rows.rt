@@ -6,7 +6,7 @@ ghost use Rattle.print_queue.specs.Rows.{is_before, is_key, is_of, fits, last_ar
 use crate::QueueEntry;
 use byte_text::Name;
 
-// The place of this user's entry of this name, the number of rows if there is none.
+/// The place of this user's entry of this name, the number of rows if there is none.
 pub fn place_of(rows: &[QueueEntry], user: &Name, name: &Name) -> usize
     ensures place { result ≡ position_or_len (is_key user.now name.now) rows.now }
     ensures within { result ≤ length rows.now }
@@ -16,7 +16,7 @@ pub fn place_of(rows: &[QueueEntry], user: &Name, name: &Name) -> usize
         .count()
 }
 
-// The place of the first entry that fits, the number of rows if none does.
+/// The place of the first entry that fits, the number of rows if none does.
 pub fn place_for(rows: &[QueueEntry], material: &Name) -> usize
     ensures place { result ≡ position_or_len (fits material.now) rows.now }
     ensures within { result ≤ length rows.now }
@@ -24,7 +24,7 @@ pub fn place_for(rows: &[QueueEntry], material: &Name) -> usize
     rows.iter().take_while(|row| !row.fits(material)).count()
 }
 
-// How many rows are printed before an entry.
+/// How many rows are printed before an entry.
 pub fn place_after(rows: &[QueueEntry], entry: &QueueEntry) -> usize
     ensures place { result ≡ prefix_len (λ row. is_before row entry.now) rows.now }
     ensures within { result ≤ length rows.now }
@@ -32,14 +32,14 @@ pub fn place_after(rows: &[QueueEntry], entry: &QueueEntry) -> usize
     rows.iter().take_while(|row| row.is_before(entry)).count()
 }
 
-// How many entries a user has.
+/// How many entries a user has.
 pub fn count_of(rows: &[QueueEntry], user: &Name) -> usize
     ensures { result ≡ count_by (is_of (Some user.now)) rows.now }
 {
     rows.iter().filter(|row| row.is_of(user)).count()
 }
 
-// The greatest arrival, 0 of no rows.
+/// The greatest arrival, 0 of no rows.
 pub fn last_arrival(rows: &[QueueEntry]) -> u32
     ensures { result ≡ last_arrival rows.now }
 {

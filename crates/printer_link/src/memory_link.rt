@@ -42,7 +42,17 @@ impl Model for MemoryLink {
 
     ghost Value = { MemoryLinkData };
 
-    ghost view = { λ l. record { story = l.story; names = l.names; last = l.last; slow = l.slow; fail_at = l.fail_at; restart_at = l.restart_at; calls = l.calls; recvs = l.recvs; faults = l.faults } };
+    ghost view = { λ l. record {
+      story = l.story;
+      names = l.names;
+      last = l.last;
+      slow = l.slow;
+      fail_at = l.fail_at;
+      restart_at = l.restart_at;
+      calls = l.calls;
+      recvs = l.recvs;
+      faults = l.faults;
+    } };
 
     ghost invariant = { λ l. (1 ≤ l.story.places) × (l.story.places ≤ 16) };
 }

@@ -34,9 +34,15 @@ impl Model for Story {
 
     ghost Value = { StoryData };
 
-    ghost view = { λ s. record { places = s.places; advanced = s.advanced; fates = s.fates; past = s.past.items } };
+    ghost view = { λ s. record {
+      places = s.places;
+      advanced = s.advanced;
+      fates = s.fates;
+      past = s.past.items;
+    } };
 
-    ghost invariant = { λ s. IsKept s.places s.advanced s.fates s.past.items s.world s.next × (s.world.linked ≡ true → vec_len s.past < vec_capacity s.past) };
+    ghost invariant = { λ s. IsKept s.places s.advanced s.fates s.past.items s.world s.next
+        × (s.world.linked ≡ true → vec_len s.past < vec_capacity s.past) };
 }
 
 impl Story {

@@ -23,7 +23,8 @@ use Rattle.lossy_wires.specs.Pieces.{greeting, text_in, bytes_in, entry_in, ok_h
 use Rattle.lossy_wires.proofs.Hearing.{hear_as, ok_by}
 use Rattle.lossy_wires.proofs.Reading.{greeting_accepted, last_after-greeting, IsRunReply, run_heard}
 use Rattle.prompt_turns.specs.Prompt.{IsInStep, IsSaying, IsGreeting}
-use Rattle.prompt_turns.proofs.Saying.{take_all, HasSent, sent_promptly, split_free, head_of}
+use Rattle.prompt_turns.proofs.Alone.{HasSent, sent_promptly, split_free, head_of}
+use Rattle.prompt_turns.proofs.Saying.{take_all}
 
 -- before the hello is sent a receiving finds nothing
 pub none_yet : (due : Bool) (s : SenderData) (w : WorldData) → IsGreeting [] due s w → recv_events true w ≡ []

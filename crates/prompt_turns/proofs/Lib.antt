@@ -1,4 +1,5 @@
 pub mod Prompt
+pub mod Alone
 pub mod Saying
 pub mod Prompted
 pub mod Greeting

@@ -1,17 +1,16 @@
 -- How a ready session goes on over a prompt link, step by step.
 use Rattle.std.proofs.Common.{◌≡◌, ℕ, zero, suc, ◌+◌, ◌-◌, ◌<◌, ◌≤◌, Bool, true, false, List, [], ◌∷◌, ◌++◌, length, map, take, drop, replicate, refl, sym, ◌∙◌, ap, subst, append_assoc, arith}
 use Rattle.std.specs.Prelude.{Option, None, Some, max, nat_le, ◌==◌, if◌then◌else◌, slice_index_or, is_some}
-use Rattle.std.specs.List.{list_all}
 use Rattle.std.proofs.lemmas.List.{map-append}
 use Rattle.std.proofs.lemmas.Grind.{common_steps}
 use Rattle.std.proofs.lemmas.Bool.Decides.{nat_tests}
 use Rattle.marlin_frame.specs.Numbering.{wire_number}
 use Rattle.marlin_reply.specs.Kind.{kind_of}
-use Rattle.printer_model.specs.World.{WorldData, is_empty, is_free, can_happen, apply, world_from}
+use Rattle.printer_model.specs.World.{WorldData, is_empty, world_from}
 use Rattle.printer_model.specs.declared.event.WorldEvent.{WorldEvent}
-use Rattle.printer_model.specs.declared.event.WorldEvent.TheVariants.{Opened, Send, Arrive, Lose, Garble, Run, Restart, Chatter, Recv, Closed}
-use Rattle.printer_model.proofs.Laws.{happens, world_from-append}
-use Rattle.printer_link.specs.Link.{IsHeard, IsSend, IsSendOf, arrivals, due_run, due_recv, printer_events, recv_events}
+use Rattle.printer_model.specs.declared.event.WorldEvent.TheVariants.{Run, Recv}
+use Rattle.printer_model.proofs.Laws.{world_from-append}
+use Rattle.printer_link.specs.Link.{IsHeard, IsSend, arrivals, due_run, due_recv, printer_events, recv_events}
 use Rattle.send_window.specs.Data.{SenderData, IsSound, most_lines}
 use Rattle.send_window.specs.Hearing.{later, acknowledged, hear_step, tick_step, deadline_at, end_of_numbers, is_past}
 use Rattle.send_window.specs.Sending.{Outgoing, line, next_at, next_of, given as given_out, timed, frame_step, push_step, room_of}
@@ -24,32 +23,7 @@ use Rattle.lossy_wires.proofs.Reading.{IsRunReply}
 use Rattle.lossy_wires.proofs.Hearing.{hear_as, ok_by, named_right}
 use Rattle.prompt_turns.specs.Prompt.{pieces_from, IsInStep, IsSaying}
 use Rattle.prompt_turns.proofs.Prompt.{pieces_append, append_length, prompt_heard}
-
--- a receiving splits a history in one way
-pub split_free : (xs ys before behind : List WorldEvent) → list_all is_free xs ≡ true → list_all is_free before ≡ true →
-    xs ++ Recv ∷ ys ≡ before ++ Recv ∷ behind → xs ≡ before
-split_free [] ys [] behind free free' is = refl
-split_free [] ys (b ∷ before) behind free free' is =
-    let same : Recv ≡ b = ap (λ (l : List WorldEvent). slice_index_or l 0 Closed) is in
-    let no : true ≡ false = sym (first_free b before free') ∙ ap is_free (sym same) in
-    absurd (cc)
-  where
-    first_free : (e : WorldEvent) (es : List WorldEvent) → list_all is_free (e ∷ es) ≡ true → is_free e ≡ true
-    first_free e es all = grind (arith, common_steps)
-split_free (x ∷ xs) ys [] behind free free' is =
-    let same : x ≡ Recv = ap (λ (l : List WorldEvent). slice_index_or l 0 Closed) is in
-    let no : true ≡ false = sym (first_free x xs free) ∙ ap is_free same in
-    absurd (cc)
-  where
-    first_free : (e : WorldEvent) (es : List WorldEvent) → list_all is_free (e ∷ es) ≡ true → is_free e ≡ true
-    first_free e es all = grind (arith, common_steps)
-split_free (x ∷ xs) ys (b ∷ before) behind free free' is =
-    let same : x ≡ b = ap (λ (l : List WorldEvent). slice_index_or l 0 Closed) is in
-    let rest : xs ≡ before = split_free xs ys before behind (rest_free x xs free) (rest_free b before free') (ap (drop 1) is) in
-    ap (λ (e : WorldEvent). e ∷ xs) same ∙ ap (λ (l : List WorldEvent). b ∷ l) rest
-  where
-    rest_free : (e : WorldEvent) (es : List WorldEvent) → list_all is_free (e ∷ es) ≡ true → list_all is_free es ≡ true
-    rest_free e es all = grind (arith, common_steps)
+use Rattle.prompt_turns.proofs.Alone.{split_free, head_of, HasSent, sent_promptly}
 
 pub take_all : {X : Type 0} (n : ℕ) (xs : List X) → n ≡ length xs → take n xs ≡ xs
 take_all zero [] is = refl
@@ -86,9 +60,6 @@ ok_heard_so moment bytes s running awaiting ready some r =
 pub record HasAnswered (moment : ℕ) (bytes : List ℕ) (s : SenderData) (v : WorldData) : Type 0 where
   pub is : hear_step (kind_of bytes) moment s ≡ acknowledged moment s
   pub saying : IsSaying (acknowledged moment s) v
-
-pub head_of : (x y : List ℕ) (xs ys : List (List ℕ)) → x ∷ xs ≡ y ∷ ys → x ≡ y
-head_of x y xs ys is = ap (λ (l : List (List ℕ)). slice_index_or l 0 x) is
 
 unended : (acked issued : ℕ) → suc acked ≤ issued → issued < most_lines → end_of_numbers (acked + 1) issued ≡ None
 unended acked issued some few = grind (arith, nat_tests)
@@ -169,53 +140,6 @@ issue_saying text s w room fit i = record {
   all = i.all ∙ sym (take_push (s.cursor - suc s.acked) s.held text (omega (arith, i.sound.counted, i.sound.not_past)));
   step = i.step;
 }
-
--- nothing else happens round a line that is sent alone
-alone : (e : WorldEvent) (before : List WorldEvent) (f : WorldEvent) (behind : List WorldEvent) → e ∷ [] ≡ before ++ f ∷ behind → before ≡ []
-alone e [] f behind is = refl
-alone e (b ∷ before) f behind is = absurd (longer before (ap (drop 1) is))
-  where
-    longer : (xs : List WorldEvent) → [] ≡ xs ++ f ∷ behind → ⊥
-    longer [] same = absurd (cc)
-    longer (x ∷ xs) same = absurd (cc)
-
--- what a line that is sent makes of the wire
-pub record HasSent (bytes : List ℕ) (w v : WorldData) : Type 0 where
-  pub linked : v.linked ≡ w.linked
-  pub printer : v.printer ≡ w.printer
-  pub up : v.up ≡ w.up ++ bytes ∷ []
-  pub down : v.down ≡ w.down
-
-sent_alone : (bytes : List ℕ) (w : WorldData) (sent : WorldEvent) → IsSendOf bytes sent → can_happen w sent ≡ true → HasSent bytes w (apply w sent)
-sent_alone bytes w (Send frame) of can =
-    let is : apply w (Send frame) ≡ record w { up = w.up ++ frame.items ∷ [] } = happens w (Send frame) can in
-    record {
-      linked = ap (λ (v : WorldData). v.linked) is;
-      printer = ap (λ (v : WorldData). v.printer) is;
-      up = ap (λ (v : WorldData). v.up) is ∙ ap (λ (b : List ℕ). w.up ++ b ∷ []) of;
-      down = ap (λ (v : WorldData). v.down) is;
-    }
-sent_alone bytes w (Opened last) of can = absurd of
-sent_alone bytes w Arrive of can = absurd of
-sent_alone bytes w (Lose at) of can = absurd of
-sent_alone bytes w (Garble at frame) of can = absurd of
-sent_alone bytes w Run of can = absurd of
-sent_alone bytes w Restart of can = absurd of
-sent_alone bytes w (Chatter reply) of can = absurd of
-sent_alone bytes w Recv of can = absurd of
-sent_alone bytes w Closed of can = absurd of
-
-pub sent_promptly : (bytes : List ℕ) (w : WorldData) (added : List WorldEvent) → IsSend bytes w added →
-    (sent : WorldEvent) → added ≡ sent ∷ [] → IsSendOf bytes sent → HasSent bytes w (world_from w added)
-sent_promptly bytes w added is sent only of =
-    let none : is.before ≡ [] = alone sent is.before is.sent is.behind (sym only ∙ is.is) in
-    let same : sent ≡ is.sent =
-    ap (λ (l : List WorldEvent). slice_index_or l 0 Closed) (sym only ∙ is.is ∙ ap (λ (l : List WorldEvent). l ++ is.sent ∷ is.behind) none)
-    in
-    let C : WorldEvent → Type 0 = λ e. can_happen w e ≡ true in
-    let can : can_happen w sent ≡ true = subst C (sym same) (ap (λ (l : List WorldEvent). can_happen (world_from w l) is.sent) (sym none) ∙ is.sends) in
-    let H : List WorldEvent → Type 0 = λ es. HasSent bytes w (world_from w es) in
-    subst H (sym only) (sent_alone bytes w sent of can)
 
 -- what is to be sent next in a ready session
 next_is : (s : SenderData) → s.ended ≡ None → s.hello_due ≡ false → is_some (next_of s) ≡ true →

@@ -223,7 +223,8 @@ fn fact_of_turn(turned: &Turned) -> LinkFact
 fn go_on(session: &mut Session, found: LinkFact, ending: Option<Ending>) -> Option<PrintEnd>
     requires { found ≡ fact.Ready → session.old.desk.greatest ≡ 0 }
     ensures end { result ≡ end_of found }
-    ensures after { session.new ≡ record session.old { desk = desk_after found ending session.old.desk } }
+    ensures after { session.new
+        ≡ record session.old { desk = desk_after found ending session.old.desk } }
 {
     match found {
         LinkFact::Opened => None,

@@ -23,7 +23,10 @@ pub struct Lines {
 impl Model for Lines {
     ghost Value = { LinesData };
 
-    ghost view = { λ l. record { begun = l.begun.items; waiting = take (l.end - l.start) (drop l.start l.bytes) } };
+    ghost view = { λ l. record {
+      begun = l.begun.items;
+      waiting = take (l.end - l.start) (drop l.start l.bytes);
+    } };
 
     ghost invariant = { λ l. (l.start ≤ l.end) × (l.end ≤ 4096) };
 }
@@ -93,9 +96,12 @@ impl Lines {
     #[tactic(auto, using(crate::proofs::Cuts::any_at, crate::proofs::Cuts::any_nowhere))]
     pub fn take(&mut self, into: &mut ReplyLine) -> bool
         ensures found { result ≡ list_any ends_line self.old.waiting }
-        ensures line { result ≡ true → into.new.items ≡ cut (self.old.begun ++ before_first ends_line self.old.waiting) }
-        ensures behind { result ≡ true → self.new ≡ record { begun = []; waiting = after_first ends_line self.old.waiting } }
-        ensures none { result ≡ false → self.new ≡ record { begun = cut (self.old.begun ++ self.old.waiting); waiting = [] } }
+        ensures line { result ≡ true
+            → into.new.items ≡ cut (self.old.begun ++ before_first ends_line self.old.waiting) }
+        ensures behind { result ≡ true
+            → self.new ≡ record { begun = []; waiting = after_first ends_line self.old.waiting } }
+        ensures none { result ≡ false
+            → self.new ≡ record { begun = cut (self.old.begun ++ self.old.waiting); waiting = [] } }
     {
         let mut line = self.take_begun();
         let waiting = self.waiting();

@@ -193,9 +193,14 @@ impl<R: Net + Drop> SocketLink<R> {
     // the link failed.
     #[tactic(auto, using(crate::proofs::Sent::wrote_first))]
     fn hear(&mut self, into: &mut ReplyLine) -> Option<Heard>
-        ensures at_once { list_any ends_line self.old.lines.waiting ≡ true → result ≡ Some heard.Line }
-        ensures line { list_any ends_line self.old.lines.waiting ≡ true → into.new.items ≡ cut (self.old.lines.begun ++ before_first ends_line self.old.lines.waiting) }
-        ensures behind { list_any ends_line self.old.lines.waiting ≡ true → self.new.lines ≡ record { begun = []; waiting = after_first ends_line self.old.lines.waiting } }
+        ensures at_once { list_any ends_line self.old.lines.waiting ≡ true
+            → result ≡ Some heard.Line }
+        ensures line { list_any ends_line self.old.lines.waiting ≡ true
+            → into.new.items
+            ≡ cut (self.old.lines.begun ++ before_first ends_line self.old.lines.waiting) }
+        ensures behind { list_any ends_line self.old.lines.waiting ≡ true
+            → self.new.lines
+            ≡ record { begun = []; waiting = after_first ends_line self.old.lines.waiting } }
 
         // If no reply waited, what is unsent was written before more was read.
         ensures emptied { list_any ends_line self.old.lines.waiting ≡ false → is_some result ≡ true
@@ -221,7 +226,12 @@ impl<R: Net + Drop> SocketLink<R> {
 impl<R: Net + Clock + Drop> Link for SocketLink<R> {
     ghost past = { λ _. None };
 
-    ghost kind = { λ _. record { slots = 4; numbered = false; prompt = false; listed = names_port } };
+    ghost kind = { λ _. record {
+      slots = 4;
+      numbered = false;
+      prompt = false;
+      listed = names_port;
+    } };
 
     ghost calls = { λ _. None };
 

@@ -26,7 +26,8 @@ impl Model for Unsent {
 // Writes all the bytes; `false` if the stream failed or blocked for too long.
 #[tactic(auto, using(crate::proofs::Cuts::appends_start))]
 fn write_whole<S: Write>(stream: &mut S, bytes: &[u8]) -> bool
-    ensures { result ≡ true → Appends (S.Write.contents stream.old) (S.Write.contents stream.new) bytes.now }
+    ensures { result ≡ true
+        → Appends (S.Write.contents stream.old) (S.Write.contents stream.new) bytes.now }
 {
     let mut done = 0;
     while done < bytes.len() {
@@ -66,7 +67,8 @@ impl Unsent {
 
     /// Writes what there is, and forgets it; `false` if the stream failed or blocked for too long.
     pub fn write<S: Write>(&mut self, stream: &mut S) -> bool
-        ensures written { result ≡ true → Appends (S.Write.contents stream.old) (S.Write.contents stream.new) self.old }
+        ensures written { result ≡ true
+            → Appends (S.Write.contents stream.old) (S.Write.contents stream.new) self.old }
         ensures forgotten { self.new ≡ [] }
     {
         let written = write_whole(stream, self.bytes.as_slice());

@@ -11,6 +11,7 @@ use std::test::Fail;
 pub const LONG: &str =
     "a-name-of-100-bytes-0123456789-0123456789-0123456789-0123456789-0123456789-0123456789-0123456789-012";
 
+/// A text of at most 100 bytes, as a name.
 pub fn name(text: &str) -> Result<Name, Fail> {
     Ok(Name::from_text(text).ok_or("a long name")?)
 }
@@ -49,6 +50,7 @@ pub fn entry(
     })
 }
 
+/// An active print of this number and user.
 pub fn print(number: u32, user: &str) -> Result<PrintRow, Fail> {
     Ok(PrintRow {
         number,
@@ -76,10 +78,12 @@ pub fn begin(
     })
 }
 
+/// The end of a print.
 pub fn end(print: u32, outcome: Outcome) -> Change {
     Change::End(Ending { print, outcome })
 }
 
+/// A user's entry of a name is taken out.
 pub fn drop_entry(user: &str, text: &str) -> Result<Change, Fail> {
     Ok(Change::DropEntry {
         user: name(user)?,

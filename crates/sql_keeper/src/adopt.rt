@@ -17,7 +17,8 @@ use std::alloc::Global;
 // Runs a statement without parameters.
 fn run<S: Alter>(transaction: &mut Transaction<'_, S>, sql: &str) -> Result<(), KeeperFault>
     ensures same_reference { transaction.new.conn.ghost_name ≡ transaction.old.conn.ghost_name }
-    ensures stores { StoresNothing (state S.Store transaction.old.conn.now) (state S.Store transaction.new.conn.now) }
+    ensures stores { StoresNothing (state S.Store transaction.old.conn.now)
+        (state S.Store transaction.new.conn.now) }
 {
     match statement::run(transaction, sql, &[]) {
         Ok(()) => Ok(()),
@@ -31,7 +32,8 @@ fn rows_of<S: Alter>(
     sql: &str,
 ) -> Result<Vec<Row>, KeeperFault>
     ensures same_reference { transaction.new.conn.ghost_name ≡ transaction.old.conn.ghost_name }
-    ensures stores { StoresNothing (state S.Store transaction.old.conn.now) (state S.Store transaction.new.conn.now) }
+    ensures stores { StoresNothing (state S.Store transaction.old.conn.now)
+        (state S.Store transaction.new.conn.now) }
 {
     match transaction.query_all(sql, &[]) {
         Ok(rows) => Ok(rows),
@@ -42,7 +44,8 @@ fn rows_of<S: Alter>(
 // The number of the schema, 0 if the database has none yet.
 fn schema_of<S: Alter>(transaction: &mut Transaction<'_, S>) -> Result<i64, KeeperFault>
     ensures same_reference { transaction.new.conn.ghost_name ≡ transaction.old.conn.ghost_name }
-    ensures stores { StoresNothing (state S.Store transaction.old.conn.now) (state S.Store transaction.new.conn.now) }
+    ensures stores { StoresNothing (state S.Store transaction.old.conn.now)
+        (state S.Store transaction.new.conn.now) }
 {
     let rows = rows_of(transaction, "SELECT schema FROM meta")?;
     match rows.as_slice() {
@@ -56,7 +59,8 @@ fn schema_of<S: Alter>(transaction: &mut Transaction<'_, S>) -> Result<i64, Keep
 #[tactic(auto, using(crate::proofs::Kept::nothing_then, crate::proofs::Kept::nothing_same))]
 fn make_tables<S: Alter>(transaction: &mut Transaction<'_, S>) -> Result<(), KeeperFault>
     ensures same_reference { transaction.new.conn.ghost_name ≡ transaction.old.conn.ghost_name }
-    ensures stores { StoresNothing (state S.Store transaction.old.conn.now) (state S.Store transaction.new.conn.now) }
+    ensures stores { StoresNothing (state S.Store transaction.old.conn.now)
+        (state S.Store transaction.new.conn.now) }
 {
     run(transaction, USERS)?;
     run(transaction, ENTRIES)?;
@@ -102,7 +106,8 @@ fn put_entries<S: Alter>(
     entries: &[QueueEntry],
 ) -> Result<(), KeeperFault>
     ensures same_reference { transaction.new.conn.ghost_name ≡ transaction.old.conn.ghost_name }
-    ensures stores { StoresNothing (state S.Store transaction.old.conn.now) (state S.Store transaction.new.conn.now) }
+    ensures stores { StoresNothing (state S.Store transaction.old.conn.now)
+        (state S.Store transaction.new.conn.now) }
 {
     for entry in entries {
         if let Err(error) = put_entry(transaction, entry) {
@@ -119,7 +124,8 @@ fn upgrade_tables<S: Alter>(
     transaction: &mut Transaction<'_, S>,
 ) -> Result<(), KeeperFault>
     ensures same_reference { transaction.new.conn.ghost_name ≡ transaction.old.conn.ghost_name }
-    ensures stores { StoresNothing (state S.Store transaction.old.conn.now) (state S.Store transaction.new.conn.now) }
+    ensures stores { StoresNothing (state S.Store transaction.old.conn.now)
+        (state S.Store transaction.new.conn.now) }
 {
     let rows = rows_of(
         transaction,
@@ -137,7 +143,8 @@ fn upgrade_tables<S: Alter>(
 #[tactic(auto, using(crate::proofs::Kept::nothing_then, crate::proofs::Kept::nothing_same))]
 fn settle<S: Alter>(alloc: Global, transaction: &mut Transaction<'_, S>) -> Result<(), KeeperFault>
     ensures same_reference { transaction.new.conn.ghost_name ≡ transaction.old.conn.ghost_name }
-    ensures stores { StoresNothing (state S.Store transaction.old.conn.now) (state S.Store transaction.new.conn.now) }
+    ensures stores { StoresNothing (state S.Store transaction.old.conn.now)
+        (state S.Store transaction.new.conn.now) }
 {
     run(transaction, META)?;
     match schema_of(transaction)? {

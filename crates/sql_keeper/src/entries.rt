@@ -84,7 +84,8 @@ pub fn put_entry<S: Alter>(
     entry: &QueueEntry,
 ) -> Result<(), Error>
     ensures same_reference { transaction.new.conn.ghost_name ≡ transaction.old.conn.ghost_name }
-    ensures kept { KeepsLast (state S.Store transaction.old.conn.now) (state S.Store transaction.new.conn.now) }
+    ensures kept { KeepsLast (state S.Store transaction.old.conn.now)
+        (state S.Store transaction.new.conn.now) }
 {
     run(
         transaction,
@@ -100,7 +101,8 @@ pub fn drop_entry<S: Alter>(
     name: &Name,
 ) -> Result<(), Error>
     ensures same_reference { transaction.new.conn.ghost_name ≡ transaction.old.conn.ghost_name }
-    ensures kept { KeepsLast (state S.Store transaction.old.conn.now) (state S.Store transaction.new.conn.now) }
+    ensures kept { KeepsLast (state S.Store transaction.old.conn.now)
+        (state S.Store transaction.new.conn.now) }
 {
     run(
         transaction,
@@ -117,7 +119,8 @@ pub fn take_entry<S: Alter>(
     name: &Name,
 ) -> Result<(), Error>
     ensures same_reference { transaction.new.conn.ghost_name ≡ transaction.old.conn.ghost_name }
-    ensures kept { KeepsLast (state S.Store transaction.old.conn.now) (state S.Store transaction.new.conn.now) }
+    ensures kept { KeepsLast (state S.Store transaction.old.conn.now)
+        (state S.Store transaction.new.conn.now) }
 {
     run(
         transaction,

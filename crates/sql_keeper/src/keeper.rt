@@ -33,8 +33,10 @@ impl<S: Alter + Drop> SqlKeeper<S> {
     /// another schema, and one whose transaction is open, is a fault.
     pub fn adopt(alloc: Global, connection: Connection<S>) -> Result<SqlKeeper<S>, NotAdopted<S>>
         ensures fresh { IfOk result (λ keeper. keeper.faults ≡ 0) }
-        ensures adopted { IfOk result (λ keeper. IsAtomic (state S.Store connection) (state S.Store keeper.connection)) }
-        ensures refused { IfErr result (λ refused. IsAtomic (state S.Store connection) (state S.Store refused.connection)) }
+        ensures adopted { IfOk result
+            (λ keeper. IsAtomic (state S.Store connection) (state S.Store keeper.connection)) }
+        ensures refused { IfErr result
+            (λ refused. IsAtomic (state S.Store connection) (state S.Store refused.connection)) }
     {
         let mut connection = connection;
         match settle_schema(alloc, &mut connection) {

@@ -102,7 +102,8 @@ pub fn put_print<S: Alter>(
     print: &PrintRow,
 ) -> Result<(), Error>
     ensures same_reference { transaction.new.conn.ghost_name ≡ transaction.old.conn.ghost_name }
-    ensures kept { KeepsLast (state S.Store transaction.old.conn.now) (state S.Store transaction.new.conn.now) }
+    ensures kept { KeepsLast (state S.Store transaction.old.conn.now)
+        (state S.Store transaction.new.conn.now) }
 {
     run(
         transaction,
@@ -117,7 +118,8 @@ pub fn end_print<S: Alter>(
     ending: Ending,
 ) -> Result<(), Error>
     ensures same_reference { transaction.new.conn.ghost_name ≡ transaction.old.conn.ghost_name }
-    ensures kept { KeepsLast (state S.Store transaction.old.conn.now) (state S.Store transaction.new.conn.now) }
+    ensures kept { KeepsLast (state S.Store transaction.old.conn.now)
+        (state S.Store transaction.new.conn.now) }
 {
     run(
         transaction,

@@ -13,7 +13,8 @@ pub fn run<S: Alter>(
     values: &[ValueRef<'_>],
 ) -> Result<(), Error>
     ensures same_reference { transaction.new.conn.ghost_name ≡ transaction.old.conn.ghost_name }
-    ensures kept { KeepsLast (state S.Store transaction.old.conn.now) (state S.Store transaction.new.conn.now) }
+    ensures kept { KeepsLast (state S.Store transaction.old.conn.now)
+        (state S.Store transaction.new.conn.now) }
 {
     transaction.execute(sql, values)?;
     Ok(())

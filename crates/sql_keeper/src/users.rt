@@ -111,7 +111,8 @@ pub fn put_user<S: Alter>(
     user: &UserRow,
 ) -> Result<(), Error>
     ensures same_reference { transaction.new.conn.ghost_name ≡ transaction.old.conn.ghost_name }
-    ensures kept { KeepsLast (state S.Store transaction.old.conn.now) (state S.Store transaction.new.conn.now) }
+    ensures kept { KeepsLast (state S.Store transaction.old.conn.now)
+        (state S.Store transaction.new.conn.now) }
 {
     let groups = text_of_groups(alloc, user.groups.as_slice())?;
     run(
@@ -129,7 +130,8 @@ pub fn set_user<S: Alter>(
     user: &UserRow,
 ) -> Result<(), Error>
     ensures same_reference { transaction.new.conn.ghost_name ≡ transaction.old.conn.ghost_name }
-    ensures kept { KeepsLast (state S.Store transaction.old.conn.now) (state S.Store transaction.new.conn.now) }
+    ensures kept { KeepsLast (state S.Store transaction.old.conn.now)
+        (state S.Store transaction.new.conn.now) }
 {
     let groups = text_of_groups(alloc, user.groups.as_slice())?;
     run(

@@ -22,7 +22,8 @@ fn begin_print<S: Alter>(
     taken: &Option<QueueEntry>,
 ) -> Result<(), Error>
     ensures same_reference { transaction.new.conn.ghost_name ≡ transaction.old.conn.ghost_name }
-    ensures kept { KeepsLast (state S.Store transaction.old.conn.now) (state S.Store transaction.new.conn.now) }
+    ensures kept { KeepsLast (state S.Store transaction.old.conn.now)
+        (state S.Store transaction.new.conn.now) }
 {
     if let Some(ending) = ended {
         end_print(transaction, ending)?;
@@ -41,7 +42,8 @@ fn write_change<S: Alter>(
     change: &Change,
 ) -> Result<(), Error>
     ensures same_reference { transaction.new.conn.ghost_name ≡ transaction.old.conn.ghost_name }
-    ensures kept { KeepsLast (state S.Store transaction.old.conn.now) (state S.Store transaction.new.conn.now) }
+    ensures kept { KeepsLast (state S.Store transaction.old.conn.now)
+        (state S.Store transaction.new.conn.now) }
 {
     match change {
         Change::PutUser(user) => put_user(alloc, transaction, user),
@@ -63,7 +65,8 @@ pub fn commit_change<S: Alter>(
     connection: &mut Connection<S>,
     change: &Change,
 ) -> Result<(), KeeperFault>
-    ensures nothing { OnErr result (IsUndone (state S.Store connection.old) (state S.Store connection.new)) }
+    ensures nothing { OnErr result
+        (IsUndone (state S.Store connection.old) (state S.Store connection.new)) }
     ensures atomic { IsAtomic (state S.Store connection.old) (state S.Store connection.new) }
 {
     if !connection.is_autocommit() {

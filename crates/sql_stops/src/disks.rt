@@ -6,8 +6,10 @@ use sqlite_disk::{Crash, Disk, Fuse, Memory};
 use std::alloc::Global;
 use std::test::Fail;
 
+/// A disk in memory that stops after its last call.
 pub type Stopping = Fuse<Memory>;
 
+/// A database on such disks.
 pub type Database = Connection<FileStore<Stopping>>;
 
 /// More calls than a test makes.

@@ -35,7 +35,8 @@ impl House {
 
     // The entries of the queue that the user is shown.
     pub(super) fn list_queue(&self, user: &UserRow) -> Answer
-        ensures done { Answers (list_queue_verdict user.now (known_of self.now)) result self.now self.now }
+        ensures done { Answers
+            (list_queue_verdict user.now (known_of self.now)) result self.now self.now }
         ensures plain { IsPlain result }
     {
         match self.tables.shown_entries(&self.whose(user)) {
@@ -46,7 +47,8 @@ impl House {
 
     // The prints that the user is shown.
     pub(super) fn list_prints(&self, user: &UserRow) -> Answer
-        ensures done { Answers (list_prints_verdict user.now (known_of self.now)) result self.now self.now }
+        ensures done { Answers
+            (list_prints_verdict user.now (known_of self.now)) result self.now self.now }
         ensures plain { IsPlain result }
     {
         match self.tables.shown_prints(&self.whose(user)) {

@@ -19,6 +19,7 @@ use Rattle.printer_link.specs.Link.{LinkKind}
 use Rattle.house_run.proofs.Running.{begin_walks, end_walks, tally_then, no_entry, over_by}
 use Rattle.house_run.proofs.Rounds.{counted_round, counted_end, uses_round, uses_end, temps_round, temps_end_of}
 use Rattle.house_line.proofs.Recorded.{begin_in_step}
+use Rattle.house_run.proofs.Printing.{run_prints}
 use Rattle.house_run.proofs.Tying.{round_ties, hung_ties}
 use Rattle.house_run.proofs.host_run.run.Goals as goal
 
@@ -223,3 +224,9 @@ returns-then-is_over-clause-tied g c =
     (round_ties kind (g.L.Link.kind c.loop.link) i.kind first (g.C.Counter.past c.loop.counter) (g.C.Counter.past c.answer_next-asked.new.counter) after front
     (g.L.Link.past c.loop.link) link (session_of c.loop.house) (session_of c.answer_next-asked.new.house) x c.max-moment.result _ _ _ _ i.steps a.asks a.apart.sender a.apart.up
     t.tied)
+
+pub returns-then-is_over-clause-prints : goal.returns-then-is_over-clause-prints
+returns-then-is_over-clause-prints g c =
+    run_prints (g.L.Link.kind c.args.link.now) (g.C.Counter.past c.args.counter.now) (g.C.Counter.past c.close.new.self)
+    (g.S.Shelf.files c.args.shelf.now) (g.S.Shelf.files c.answer_next-asked.new.shelf) (g.L.Link.past c.args.link.now) (g.L.Link.past c.hang_up.new.self)
+    c.args.house.now c.take_turn-heard.new.house (returns-then-is_over-clause-history g c) (returns-then-is_over-clause-tied g c)

@@ -2,8 +2,19 @@ use Rattle.std.proofs.Common.{◌≡◌, ℕ, List, map, sym, ap, ◌∙◌, ref
 use Rattle.octo_keeper.specs.Files.{sizes_of}
 use Rattle.octo_keeper.specs.declared.shelf.ShelfFile.{ShelfFile}
 use Rattle.octo_keeper.specs.declared.tables.Tables.{Tables}
-use Rattle.octo_house.proofs.Begun.{read-is, read-from, kept-begun, names-begun}
+use Rattle.octo_house.proofs.Begun.{read-is, read-from, kept-begun, names-begun, numbered-read}
 use Rattle.octo_house.proofs.house.House.begin.Goals as goal
+
+pub returns-clause-made : goal.returns-clause-made
+returns-clause-made g c = record {
+  session_is = refl;
+  policy_is = refl;
+  ports_are = refl;
+  material_is = refl;
+  temps = refl;
+  written = c.new.ensures.written;
+  numbered = numbered-read c.in-Ok.tables c.new.result c.in-Ok.ensures.sound c.new.ensures;
+}
 
 pub returns-clause-begins : goal.returns-clause-begins
 returns-clause-begins g c = λ tables held files listed.

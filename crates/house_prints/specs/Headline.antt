@@ -1,0 +1,25 @@
+-- What became of the prints of a host.
+use Rattle.std.specs.Prelude.{List}
+use Rattle.printer_model.specs.declared.event.WorldEvent.{WorldEvent}
+use Rattle.printer_link.specs.Link.{LinkKind}
+use Rattle.octo_asks.specs.History.{History}
+use Rattle.house_history.specs.Legal.{Standing}
+use Rattle.house_prints.specs.Laws.{EachIsExecutedInOrder, EachDoneIsExecuted, EachDoneRecordIsTrue, EachDoneShownIsTrue, EachEndedIsSentNoMore, EachEndIsTrue}
+use Rattle.house_prints.specs.Selected.{EachIsOfItsFile}
+
+-- the prints of a host's history, which began at a standing, over its link's history since an earlier one
+pub record KeepsPrints (kind : LinkKind) (front : List WorldEvent) (s : Standing) (history : History) (past : List WorldEvent)
+    : Type 0 where
+  -- a print's commands are those of the file that the shelf held when it was selected
+  pub from_file : EachIsOfItsFile s history
+  -- the printer executed the first of them, in order and each once
+  pub in_order : EachIsExecutedInOrder kind front s history past
+  -- a print is done only when all were executed and acknowledged
+  pub done_whole : EachDoneIsExecuted kind front s history past
+  -- a record says Done only of such a print, and so does each list that was answered
+  pub record_true : EachDoneRecordIsTrue kind front s history past
+  pub shown_true : EachDoneShownIsTrue kind front s history past
+  -- once a print has ended, no line of it is sent
+  pub sent_no_more : EachEndedIsSentNoMore kind front s history past
+  -- no session ends without its cause
+  pub end_true : EachEndIsTrue kind front history past
