@@ -47,7 +47,9 @@ lines_is false both texts (Some one) = λ e. cc
 lines_is false both texts None = tt
 
 pause_is : (action pauses resumes toggles : Bool)
-    → IfSome (if action then if pauses then Some request.Pause else if resumes then Some request.Resume else if toggles then Some request.Toggle else None else Some request.Toggle) IsCallers
+    → IfSome (if action
+    then if pauses then Some request.Pause else if resumes then Some request.Resume else if toggles then Some request.Toggle else None
+    else Some request.Toggle) IsCallers
 pause_is true true resumes toggles = λ e. cc
 pause_is true false true toggles = λ e. cc
 pause_is true false false true = λ e. cc
@@ -55,7 +57,8 @@ pause_is true false false false = tt
 pause_is false pauses resumes toggles = λ e. cc
 
 job_is : (starts cancels restarts pauses : Bool) (pause : Option Request) → IfSome pause IsCallers
-    → IfSome (if starts then Some request.Start else if cancels then Some request.Cancel else if restarts then Some request.Restart else if pauses then pause else None) IsCallers
+    → IfSome (if starts then Some request.Start else if cancels then Some request.Cancel
+    else if restarts then Some request.Restart else if pauses then pause else None) IsCallers
 job_is true cancels restarts pauses pause is = λ e. cc
 job_is false true restarts pauses pause is = λ e. cc
 job_is false false true pauses pause is = λ e. cc
@@ -84,7 +87,8 @@ change_is name (Some k) None active = tt
 change_is name None groups active = tt
 
 entry_is : (name file : Option (List ℕ)) (priority copies : Option ℕ) (material : Option (List ℕ))
-    → IfSome (option_and_then (λ n. option_and_then (λ f. option_and_then (λ p. option_and_then (λ c. option_map (request.PutEntry n f p c) material) copies) priority) file) name) IsCallers
+    → IfSome (option_and_then (λ n. option_and_then (λ f. option_and_then (λ p. option_and_then (λ c.
+    option_map (request.PutEntry n f p c) material) copies) priority) file) name) IsCallers
 entry_is (Some n) (Some f) (Some p) (Some c) (Some m) = λ e. cc
 entry_is (Some n) (Some f) (Some p) (Some c) None = tt
 entry_is (Some n) (Some f) (Some p) None material = tt

@@ -43,13 +43,13 @@ asks_leave_none (entry.Close ∷ es) all = absurd (All-head IsAsk entry.Close es
 conn_leaves_none : (patience : ℕ) (input : List ℕ) (conn : ConnState) (is_open : Bool) (calls : History) → IsServed patience input conn is_open calls
     → leaves_made calls ≡ 0
 conn_leaves_none patience input conn is_open calls (no_message fault sent answers cause wrote) = refl
-conn_leaves_none patience input conn is_open calls (message m sent reply open made says replied wrote) =
-    asks_leave_none made (leads_asks made (leads_to m reply open made replied))
+conn_leaves_none patience input conn is_open calls (message m sent reply is made says replied wrote) =
+    asks_leave_none made (leads_asks made (leads_to m reply is made replied))
 
 walk_leaves_none : (patience : ℕ) (inputs : List (List ℕ)) (conns : List ConnState) (is_open : Bool) (calls : History)
     → Served patience inputs conns is_open calls → leaves_made calls ≡ 0
 walk_leaves_none patience inputs conns is_open calls none_served = refl
-walk_leaves_none patience inputs conns is_open calls (one_more before others made input conn open more walk served) =
+walk_leaves_none patience inputs conns is_open calls (one_more before others made input conn is more walk served) =
     leaves_append made more ∙ (λ i. walk_leaves_none patience before others true made walk i + conn_leaves_none patience input conn is_open more served i)
 
 leaves_once : (last : History) → Leaves last → leaves_made last ≤ 1
@@ -70,7 +70,7 @@ work_is_done : (patience : ℕ) (inputs : List (List ℕ)) (coming : Option (Lis
     (held : Bool) → HasWorked patience inputs coming served served' (Some []) (Some calls) true held → 1 ≤ leaves_made calls → coming ≡ Some []
 work_is_done patience inputs coming served served' calls false w once = w.left
 work_is_done patience inputs coming served served' calls true w once = elim (w.over refl) [
-  inl seen ↦ absurd (let none : leaves_made w.last ≡ 0 = ap leaves_made seen.1 in omega (arith, once, count, asked, none))
+  | inl seen ↦ absurd (let none : leaves_made w.last ≡ 0 = ap leaves_made seen.1 in omega (arith, once, count, asked, none))
   | inr ended ↦ w.left ∙ ap Some ended.1
 ]
   where
@@ -149,7 +149,7 @@ ends_by patience old new history held calls active by four over =
     let got = over history refl in
     let same : got.1 ≡ history = sym (got.3 ∙ ap (λ (p : History). p ++ got.1) (sym (some_is [] got.0 got.2))) in
     elim got.4.why [
-      inl shut ↦ inl (subst (λ (h : History). is_shut h ≡ true) same shut)
+      | inl shut ↦ inl (subst (λ (h : History). is_shut h ≡ true) same shut)
       | inr left ↦ inr (all_are_done patience old new history held by four (subst (λ (h : History). 4 ≤ leaves_made h) same left.0))
     ]
 
