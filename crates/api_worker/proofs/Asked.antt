@@ -3,6 +3,7 @@ use Rattle.std.proofs.Common.{◌≡◌, Bool, true, List, [], ◌∷◌, ◌++�
 use Rattle.std.specs.Prelude.{All}
 use Rattle.std.proofs.lemmas.List.Elements.{All-nil, All-cons, All-append}
 use Rattle.octo_outside.proofs.Told.{became_then, became_same, became_so}
+use Rattle.octo_asks.specs.declared.entry.Entry.TheVariants as entry
 use Rattle.octo_asks.specs.History.{History}
 use Rattle.octo_http.specs.declared.message.Message.{Message}
 use Rattle.octo_http.specs.declared.reply.HttpReply.{HttpReply}
@@ -26,7 +27,7 @@ once_after mine made mine' same once = subst (λ (was : Option History). AsksOnc
 
 pub leads_asks : (calls : History) → LeadsTo calls → All IsAsk calls
 leads_asks calls no_call = All-nil IsAsk
-leads_asks calls (one_call worker moment ask a callers) = All-cons IsAsk _ [] callers (All-nil IsAsk)
+leads_asks calls (one_call worker moment ask a callers) = All-cons IsAsk (entry.Call worker ask moment a) [] callers (All-nil IsAsk)
 
 pub asks_none : (mine : Option History) → AddsAsks mine mine
 asks_none mine = became_same mine (λ _ added. All IsAsk added) (λ past. All-nil IsAsk)
