@@ -1,21 +1,25 @@
 -- What a print of a job by settings comes to, by what `run_print` promises.
-use Rattle.std.proofs.Common.{◌≡◌, ◌↔◌, ◌≤◌, ◌+◌, ℕ, length, Option, None, ◌∙◌, ap, subst}
+use Rattle.std.proofs.Common.{◌≡◌, ◌↔◌, ◌≤◌, ◌+◌, ℕ, List, length, Option, None, ◌∙◌, ap, subst}
 use Rattle.gcode_lines.specs.Job.{JobData, texts_of}
 use Rattle.temp_rules.specs.Hot.{first_hot_of}
 use Rattle.temp_rules.specs.declared.job.HotLine.{HotLine}
 use Rattle.desk_steps.specs.Data.{Data, new_desk}
 use Rattle.send_window.specs.Data.{SenderData, new_sender}
 use Rattle.send_window.specs.declared.session_end.SessionEnd.{SessionEnd}
+use Rattle.send_window.specs.declared.session_end.SessionEnd.TheVariants.{NoAnswer}
 use Rattle.printer_link.specs.Link.{LinkKind, Recorded}
 use Rattle.octo_session.specs.Data.{SessionData}
 use Rattle.print_course.specs.Plan.{plan}
 use Rattle.session_print.specs.Ends.{IsTooHot, IsUnlisted, IsUnsent}
 use Rattle.session_print.specs.Printed.{HasPrinted, HasEnded}
+use Rattle.session_print.specs.Waiting.{HasWaited}
 use Rattle.prompt_print.specs.Smooth.{IsSmooth}
 use Rattle.session_print.specs.declared.end.PrintEnd.{PrintEnd}
 use Rattle.session_print.specs.declared.end.PrintEnd.TheVariants as end
 use Rattle.octo_settings.specs.declared.settings.Settings.{Settings}
-use Rattle.octo_print.specs.Printing.{Asked, Seen, HasRun, lines_planned}
+use Rattle.octo_report.specs.declared.report.Report.{Report}
+use Rattle.octo_report.specs.declared.report.Report.TheVariants as report
+use Rattle.octo_print.specs.Printing.{Asked, Seen, HasRun, lines_planned, reported}
 
 pub ran : (kind : LinkKind) (s : Settings) (job : JobData) (asked : Asked) (h : Seen) (x y : SessionData) (how : PrintEnd) →
     x.desk ≡ new_desk s.scripts s.limits s.poll_ms → x.sender ≡ new_sender s.window s.limit_ms → first_hot_of s.limits job.commands ≡ None →
@@ -47,3 +51,17 @@ ran kind s job asked h x y how desk sender cool printed too_hot no_port ended us
       unsent = unsent;
       prompt = subst S sender (subst D desk (prompt none));
     }
+
+-- a print that is reported with no answer waited by the limit of its settings
+pub waited : (s : Settings) (job : JobData) (port : List ℕ) (x : SessionData) (how : PrintEnd) (began now : Option ℕ) (count : ℕ) (r : Report) →
+    x.sender ≡ new_sender s.window s.limit_ms → r ≡ reported how port job → HasWaited how began x.sender.limit now →
+    r ≡ report.Ended (NoAnswer count) → HasWaited (end.Ended (NoAnswer count)) began s.limit_ms now
+waited s job port x end.Done began now count r sender is long ended = absurd (cc)
+waited s job port x (end.TooHot line asked limit) began now count r sender is long ended = absurd (cc)
+waited s job port x end.NoPort began now count r sender is long ended = absurd (cc)
+waited s job port x end.LinkFailed began now count r sender is long ended = absurd (cc)
+waited s job port x (end.TurnsUsed turns) began now count r sender is long ended = absurd (cc)
+waited s job port x (end.Ended why) began now count r sender is long ended =
+    let same : why ≡ NoAnswer count = cc in
+    subst (λ (t : SenderData). HasWaited (end.Ended (NoAnswer count)) began t.limit now) sender
+    (subst (λ w. HasWaited (end.Ended w) began x.sender.limit now) same long)

@@ -6,11 +6,13 @@ use Rattle.temp_rules.specs.declared.limits.Limits.{Limits}
 use Rattle.printer_model.specs.declared.event.WorldEvent.{WorldEvent}
 use Rattle.printer_link.specs.Link.{LinkKind, Recorded}
 use Rattle.send_window.specs.declared.session_end.SessionEnd.{SessionEnd}
+use Rattle.send_window.specs.declared.session_end.SessionEnd.TheVariants.{NoAnswer}
 use Rattle.lossy_line.specs.Tied.{EndCausedAs}
 use Rattle.print_course.specs.Plan.{plan}
 use Rattle.session_print.specs.Ends.{IsUnsent}
 use Rattle.prompt_print.specs.Smooth.{IsSmooth}
 use Rattle.session_print.specs.Printed.{HasPrinted}
+use Rattle.session_print.specs.Waiting.{HasWaited}
 use Rattle.session_print.specs.declared.end.PrintEnd.{PrintEnd}
 use Rattle.session_print.specs.declared.end.PrintEnd.TheVariants as end
 use Rattle.octo_settings.specs.declared.settings.Settings.{Settings}
@@ -101,3 +103,9 @@ pub record IsFilePrint (kind : LinkKind) (files : Option Files) (settings : Opti
   pub found : Result (Settings × JobData) Report
   pub reads : Reads files settings file found
   pub follows : Follows kind asked h r found
+
+-- a print by settings that ended with no answer waited five of their limits, by a clock that showed this moment first
+pub record WaitedBySettings (files : Option Files) (settings : Option (List ℕ)) (count : ℕ) (began now : Option ℕ) : Type 0 where
+  pub read : Settings
+  pub have : HaveSettings files settings (Ok read)
+  pub waited : HasWaited (end.Ended (NoAnswer count)) began read.limit_ms now

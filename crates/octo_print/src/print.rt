@@ -6,11 +6,14 @@ ghost use Rattle.gcode_lines.specs.Job.{JobData};
 ghost use Rattle.temp_rules.specs.Hot.{first_hot_of};
 ghost use Rattle.desk_steps.specs.Data.{new_desk};
 ghost use Rattle.send_window.specs.Data.{new_sender};
+ghost use Rattle.send_window.specs.declared.session_end.SessionEnd.TheVariants.{NoAnswer};
 ghost use Rattle.printer_link.specs.Link.{RoseBy};
 ghost use Rattle.session_print.specs.Ends.{IsNew};
+ghost use Rattle.session_print.specs.Waiting.{HasWaited};
+ghost use Rattle.session_print.specs.declared.end.PrintEnd.TheVariants as end;
 ghost use Rattle.octo_settings.specs.Sound.{IsSettings};
 ghost use Rattle.octo_report.specs.declared.report.Report.TheVariants as report;
-ghost use Rattle.octo_print.specs.Printing.{IsFilePrint, IsRefused, IsRun, seen_of, over_port, reported};
+ghost use Rattle.octo_print.specs.Printing.{IsFilePrint, IsRefused, IsRun, WaitedBySettings, seen_of, over_port, reported};
 
 use byte_text::Name;
 use gcode_lines::Job;
@@ -92,6 +95,11 @@ fn print_job<L: Link, T: Clock>(
     ensures used { (made : ℕ) → result ≡ report.TurnsUsed made
         → RoseBy turns (L.calls link.old) (L.calls link.new) }
     ensures source { result ≢ report.SourceFailed }
+
+    // the clock
+    ensures waited { (count : ℕ) → result ≡ report.Ended (NoAnswer count)
+        → HasWaited (end.Ended (NoAnswer count)) (T.moment clock.old) settings.limit_ms
+        (T.moment clock.new) }
 {
     let commands = job.count() as u32;
     let skipped = job.skipped();
@@ -135,6 +143,11 @@ pub fn print_file<F: Source, L: Link, T: Clock>(
     ensures link { Counts (result ≡ report.LinkFailed) (L.faults link.old) (L.faults link.new) }
     ensures used { (made : ℕ) → result ≡ report.TurnsUsed made
         → RoseBy turns (L.calls link.old) (L.calls link.new) }
+
+    // the clock
+    ensures waited { (count : ℕ) → result ≡ report.Ended (NoAnswer count)
+        → WaitedBySettings (F.files files.old) (option_map (λ s. s.now) settings.entry) count
+        (T.moment clock.old) (T.moment clock.new) }
 {
     let settings = match read_settings_of(alloc, files, settings) {
         Ok(settings) => settings,

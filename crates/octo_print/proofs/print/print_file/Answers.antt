@@ -28,3 +28,7 @@ returns-in-Err-read_job-clause-print g c =
           no_job s r c.in-Ok.ensures.exact (subst (λ files. HaveJob files c.args.file.now s.limits (Err r)) c.in-Ok.ensures.files c.in-Err-read_job.ensures.exact);
       follows = record { is = refl; unused = refl };
     }
+
+pub returns-in-Ok-read_job-clause-waited : goal.returns-in-Ok-read_job-clause-waited
+returns-in-Ok-read_job-clause-waited g c count is =
+    record { read = c.in-Ok.settings; have = c.in-Ok.ensures.exact; waited = c.print_job.ensures.waited count is }

@@ -1,6 +1,6 @@
 use Rattle.std.proofs.Common.{inr, arith}
 use Rattle.octo_print.specs.Printing.{over_port, seen_of}
-use Rattle.octo_print.proofs.Runs.{ran}
+use Rattle.octo_print.proofs.Runs.{ran, waited}
 use Rattle.octo_print.proofs.print.print_job.Goals as goal
 
 pub returns-in-Ok-clause-run : goal.returns-in-Ok-clause-run
@@ -14,3 +14,9 @@ returns-in-Ok-clause-run g c =
           c.in-Ok.ensures.desk c.in-Ok.ensures.sender c.requires.cool
           e.printed e.too_hot e.no_port e.ended (λ made is. (e.used made is).0) e.unsent e.prompt;
     })
+
+pub returns-in-Ok-clause-waited : goal.returns-in-Ok-clause-waited
+returns-in-Ok-clause-waited g c count is =
+    waited c.args.settings c.args.job c.args.port.now c.in-Ok.session c.run_print-end.result (g.T.Clock.moment c.args.clock.now) (g.T.Clock.moment c.run_print-end.new.clock) count c.report_of.result
+    c.in-Ok.ensures.sender (c.report_of.ensures c.args.job (omega (arith, c.count-commands.ensures.value, c.count-commands.ensures.few)) c.skipped-skipped.ensures.value)
+    c.run_print-end.ensures.waited is
