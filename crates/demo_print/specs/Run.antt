@@ -9,8 +9,11 @@ use Rattle.printer_link.specs.Memory.{MemoryLinkData, link_kind, link_world, new
 use Rattle.printer_model.specs.Executed.{executed, is_loss}
 use Rattle.print_course.specs.Plan.{plan}
 use Rattle.send_window.specs.declared.session_end.SessionEnd.{SessionEnd}
+use Rattle.session_print.specs.Ends.{IsTooHot}
 use Rattle.session_print.specs.Printed.{HasPrinted}
 use Rattle.session_print.specs.declared.end.PrintEnd.TheVariants as end
+use Rattle.temp_rules.specs.Hot.{first_hot_of}
+use Rattle.temp_rules.specs.declared.limits.Limits.{Limits}
 use Rattle.demo_print.specs.Fates.{demo_schedule}
 use Rattle.demo_print.specs.File.{demo_file}
 use Rattle.demo_print.specs.declared.report.DemoCounts.{DemoCounts}
@@ -28,6 +31,10 @@ pub record IsPrint (kind : LinkKind) (job : JobData) (demo : Demo) : Type 0 wher
   pub same_kind : link_kind demo.link ≡ kind
   pub down : (link_world demo.link).linked ≡ false
 
+-- the greatest temperatures of a demo, in degrees Celsius
+abbrev pub demo_limits : Limits
+demo_limits = record { tool = 300; bed = 120 }
+
 -- a demo that was run: its file was printed over its link, whose port is listed and which didn't fail
 pub record IsDemo (seed commands : ℕ) (demo : Demo) : Type 0 where
   pub job : JobData
@@ -35,6 +42,8 @@ pub record IsDemo (seed commands : ℕ) (demo : Demo) : Type 0 where
   pub print : IsPrint (demo_kind seed commands) job demo
   pub listed : demo.end ≢ end.NoPort
   pub sound : demo.end ≢ end.LinkFailed
+  pub cool : IsTooHot (first_hot_of demo_limits job.commands) demo.end
+  pub used : (turns : ℕ) → demo.end ≡ end.TurnsUsed turns → turns ≡ 1000000000
 
 -- what happened on a link
 abbrev pub counts_of : MemoryLinkData → DemoCounts

@@ -4,7 +4,7 @@ ghost use Rattle.desk_steps.specs.Data.{new_desk};
 ghost use Rattle.send_window.specs.Data.{new_sender, IsSound};
 ghost use Rattle.session_print.specs.Ends.{IsNew};
 ghost use Rattle.job_desk.specs.Scripts.{no_scripts};
-ghost use Rattle.demo_print.specs.Run.{IsDemo, counts_of};
+ghost use Rattle.demo_print.specs.Run.{IsDemo, counts_of, demo_limits};
 
 use crate::job::demo_job;
 use crate::report::DemoCounts;
@@ -54,7 +54,8 @@ fn name(text: &str) -> Name
 // A session without scripts.
 fn plain_session(alloc: Global) -> Result<Session, AllocError>
     ensures new { IfOk result IsNew }
-    ensures plain { IfOk result (λ session. session.desk.scripts ≡ no_scripts) }
+    ensures desk { IfOk result (λ session. session.desk ≡ new_desk no_scripts demo_limits 5000) }
+    ensures sender { IfOk result (λ session. session.sender ≡ new_sender 4 30000) }
 {
     let limits = Limits {
         tool: 300,
