@@ -1,5 +1,6 @@
 //! Reply lines out of a stream's bytes.
-ghost use Rattle.std.specs.Prelude.{◌≡◌, ◌++◌, ◌-◌, ◌≤◌, ℕ, List, [], true, false, length, take, drop, IfOk, OnErr};
+ghost use Rattle.std.specs.Prelude.{◌≡◌, ◌++◌, ◌-◌, ◌≤◌, ℕ, List, [], true, false, length, take, drop, IfOk, OnOk, OnErr};
+ghost use Rattle.std.specs.Io.KnownBytes.{Consumes};
 ghost use Rattle.std.specs.List.{list_any, position_or_len, before_first, after_first};
 ghost use Rattle.socket_link.specs.Lines.{LinesData, cut, ends_line};
 
@@ -122,6 +123,8 @@ impl Lines {
         requires { self.old.waiting ≡ [] }
         ensures begun { self.new.begun ≡ self.old.begun }
         ensures ok { IfOk result (λ n. length self.new.waiting ≡ n) }
+        ensures came { OnOk result (Consumes (S.Read.remaining stream.old)
+            (S.Read.remaining stream.new) self.new.waiting) }
         ensures err { OnErr result (self.new.waiting ≡ []) }
     {
         self.start = 0;
