@@ -1,9 +1,14 @@
 -- The exit status and the text of each end.
-use Rattle.std.specs.Prelude.{ℕ, List, [], ◌++◌, codes, decimal}
+use Rattle.std.specs.Prelude.{◌≡◌, ℕ, Bool, true, false, List, [], ◌++◌, Option, codes, decimal, IfSome}
+use Rattle.octo_outside.specs.Told.{Adds, AddsPrefix}
 use Rattle.octo_keeper.specs.declared.keeper.KeeperFault.{KeeperFault}
 use Rattle.octo_keeper.specs.declared.keeper.KeeperFault.TheVariants as fault
+use Rattle.octo_keeper.specs.declared.tables.Tables.{Tables}
+use Rattle.keeper_tool.specs.declared.command.Work.{Work}
+use Rattle.keeper_tool.specs.declared.command.Work.TheVariants.{Show, Add}
 use Rattle.keeper_tool.specs.declared.end.ToolEnd.{ToolEnd}
 use Rattle.keeper_tool.specs.declared.end.ToolEnd.TheVariants.{Shown, Added, BadWords, NumbersUsed, KeeperFailed, OutputFailed, NotOpened, NoMemory}
+use Rattle.keeper_tool.specs.Lines.{tables_text}
 
 abbrev pub code_of : ToolEnd → ℕ
 code_of Shown = 0
@@ -30,3 +35,30 @@ text_of NoMemory = codes "no memory\n"
 abbrev pub end_of : KeeperFault → ToolEnd
 end_of fault.Failed = KeeperFailed
 end_of fault.NoMemory = NoMemory
+
+-- an end of showing the tables
+abbrev pub is_showing : ToolEnd → Bool
+is_showing Shown = true
+is_showing KeeperFailed = true
+is_showing OutputFailed = true
+is_showing NoMemory = true
+is_showing _ = false
+
+-- an end of adding records
+abbrev pub is_adding : ToolEnd → Bool
+is_adding (Added prints) = true
+is_adding NumbersUsed = true
+is_adding KeeperFailed = true
+is_adding NoMemory = true
+is_adding _ = false
+
+-- an end of a work
+abbrev pub may_end : Work → ToolEnd → Bool
+may_end Show end = is_showing end
+may_end (Add prints) end = is_adding end
+
+-- what is written before a work has ended so: the tables' text if they were shown, the beginning of it if the output failed
+abbrev pub Wrote : Option Tables → ToolEnd → Option (List ℕ) → Option (List ℕ) → Type 0
+Wrote tables Shown old new = IfSome tables (λ t. Adds old new (tables_text t))
+Wrote tables OutputFailed old new = IfSome tables (λ t. AddsPrefix old new (tables_text t))
+Wrote tables end old new = new ≡ old

@@ -1,9 +1,10 @@
 //! Adding print records.
-ghost use Rattle.std.specs.Prelude.{◌≡◌, ◌≢◌, ◌<◌, ◌≤◌, ◌+◌, ℕ, length, OnOk, OnErr, IsErrOf, MatchOption};
+ghost use Rattle.std.specs.Prelude.{◌≡◌, ◌≢◌, ◌<◌, ◌≤◌, ◌+◌, ℕ, true, length, IfSome, OnOk, OnErr, IsErrOf, MatchOption};
 ghost use Rattle.std.specs.Option.{option_map};
 ghost use Rattle.octo_outside.specs.Told.{Counts};
 ghost use Rattle.octo_keeper.specs.declared.keeper.KeeperFault.TheVariants as fault;
 ghost use Rattle.keeper_tool.specs.declared.end.ToolEnd.TheVariants as end;
+ghost use Rattle.keeper_tool.specs.Ends.{is_adding};
 ghost use Rattle.keeper_tool.specs.Prints.{AddsFrom, AddsUpTo, finished, with_more, with_print, with_prints};
 
 use crate::end::{ToolEnd, end_of};
@@ -88,6 +89,9 @@ pub fn add_prints<K: Keeper>(alloc: Global, keeper: &mut K, prints: u32) -> Tool
     ensures some { AddsUpTo prints (K.tables keeper.old) (K.tables keeper.new) }
     ensures count { (n : ℕ) → result ≡ end.Added n → n ≡ prints }
     ensures only { result ≢ end.Shown }
+    ensures kind { is_adding result ≡ true }
+    ensures numbers { result ≡ end.NumbersUsed
+        → IfSome (K.tables keeper.old) (λ t. 4294967295 < length t.prints + 1 + prints) }
     ensures counts { Counts (result ≡ end.KeeperFailed)
         (K.faults keeper.old) (K.faults keeper.new) }
 {

@@ -1,9 +1,10 @@
 //! A command carried out on a keeper.
-ghost use Rattle.std.specs.Prelude.{◌≡◌, ◌≢◌, ℕ, IfSome};
+ghost use Rattle.std.specs.Prelude.{◌≡◌, ◌≢◌, ◌<◌, ◌+◌, ℕ, true, length, IfSome};
 ghost use Rattle.std.specs.Option.{option_map};
-ghost use Rattle.octo_outside.specs.Told.{Adds, Rose, Counts};
+ghost use Rattle.octo_outside.specs.Told.{Adds, Counts};
 ghost use Rattle.keeper_tool.specs.declared.end.ToolEnd.TheVariants as end;
 ghost use Rattle.keeper_tool.specs.declared.command.Work.TheVariants as todo;
+ghost use Rattle.keeper_tool.specs.Ends.{Wrote, is_showing, may_end};
 ghost use Rattle.keeper_tool.specs.Lines.{tables_text};
 ghost use Rattle.keeper_tool.specs.Prints.{AddsUpTo, with_more};
 
@@ -20,10 +21,12 @@ fn show<K: Keeper, O: Sink>(alloc: Global, keeper: &mut K, out: &mut O) -> ToolE
     ensures shown { result ≡ end.Shown → IfSome (K.tables keeper.old)
         (λ t. Adds (O.written out.old) (O.written out.new) (tables_text t)) }
     ensures only { (n : ℕ) → result ≢ end.Added n }
+    ensures kind { is_showing result ≡ true }
+    ensures wrote { Wrote (K.tables keeper.old) result (O.written out.old) (O.written out.new) }
     ensures stays { K.tables keeper.new ≡ K.tables keeper.old }
     ensures counts { Counts (result ≡ end.KeeperFailed)
         (K.faults keeper.old) (K.faults keeper.new) }
-    ensures output { result ≡ end.OutputFailed → Rose (O.faults out.old) (O.faults out.new) }
+    ensures output { Counts (result ≡ end.OutputFailed) (O.faults out.old) (O.faults out.new) }
 {
     let tables = match keeper.load(alloc) {
         Ok(tables) => tables,
@@ -52,8 +55,17 @@ pub fn carry_out<K: Keeper, O: Sink>(
     ensures some { (n : ℕ) → work ≡ todo.Add n
         → AddsUpTo n (K.tables keeper.old) (K.tables keeper.new) }
     ensures stays { work ≡ todo.Show → K.tables keeper.new ≡ K.tables keeper.old }
+
+    // It ends as such a work does, and nothing else is written.
+    ensures kind { may_end work result ≡ true }
+    ensures numbers { (n : ℕ) → work ≡ todo.Add n → result ≡ end.NumbersUsed
+        → IfSome (K.tables keeper.old) (λ t. 4294967295 < length t.prints + 1 + n) }
+    ensures wrote { Wrote (K.tables keeper.old) result (O.written out.old) (O.written out.new) }
+
+    // Faults, by their counts.
     ensures counts { Counts (result ≡ end.KeeperFailed)
         (K.faults keeper.old) (K.faults keeper.new) }
+    ensures output { Counts (result ≡ end.OutputFailed) (O.faults out.old) (O.faults out.new) }
 {
     match work {
         Work::Show => show(alloc, keeper, out),
