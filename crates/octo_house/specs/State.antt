@@ -1,5 +1,5 @@
 -- A host's fields as plain data.
-use Rattle.std.specs.Prelude.{◌≡◌, List, Option, Some}
+use Rattle.std.specs.Prelude.{◌≡◌, ◌⊎◌, List, Option, None, Some}
 use Rattle.octo_keeper.specs.declared.shelf.ShelfFile.{ShelfFile}
 use Rattle.octo_session.specs.Data.{SessionData}
 use Rattle.house_tables.specs.Data.{TablesData}
@@ -28,10 +28,11 @@ session_of house = house.desk.session
 abbrev pub tables_of : House → TablesData
 tables_of house = house.tables
 
--- what requests leave: the sender, and whether the link is up
+-- what requests leave: the sender, whether the link is up, and the end that isn't written, unless a start writes it
 pub record IsApartFrom (old new : House) : Type 0 where
   pub sender : new.desk.session.sender ≡ old.desk.session.sender
   pub up : new.desk.session.up ≡ old.desk.session.up
+  pub unwritten : (new.tables.unwritten ≡ None) ⊎ (new.tables.unwritten ≡ old.tables.unwritten)
 
 -- the names are those of the files, if the shelf records them
 abbrev pub IsListed : Option (List ShelfFile) → House → Type 0

@@ -11,7 +11,8 @@ ghost use Rattle.octo_session.specs.Found.{up_after, ready_after, can_find};
 ghost use Rattle.octo_session.specs.Turn.{fact_of, lines_of, IsNoteOn, IsSpent, IsTurn};
 ghost use Rattle.house_tables.specs.Kept.{KeepsRows};
 ghost use Rattle.octo_outside.specs.Told.{Counts};
-ghost use Rattle.house_tables.specs.Data.{is_unwritten_by_fault};
+ghost use Rattle.std.specs.Option.{option_or};
+ghost use Rattle.house_tables.specs.Data.{due_of, is_unwritten_by_fault};
 ghost use Rattle.octo_house.specs.Turned.{Turns, temps_told};
 
 use super::House;
@@ -89,6 +90,8 @@ impl House {
         ensures kept { KeepsRows (K.tables keeper.old) (K.tables keeper.new)
             self.old.tables self.new.tables }
         ensures names { self.new.names.items ≡ self.old.names.items }
+        ensures due { (due_of self.new.tables ≡ None)
+            ⊎ (due_of self.new.tables ≡ option_or result.ending (due_of self.old.tables)) }
 
         // Counts: of the link's calls and faults, and of the keeper's faults if an end isn't written.
         ensures calls { is_calling (doing self.old.desk.session) ≡ true
