@@ -58,7 +58,7 @@ def slicer_upload(folder):
 def silent_peers(folder):
     """Connections that send nothing keep a worker each until its patience ends: with three of them others are answered at once, with
     four after that."""
-    host = Host(folder, 9, "[serve]\npatience = 300\n").start()
+    host = Host(folder, 9, "[serve]\npatience = 1000\n").start()
     silent = []
     try:
         for count in (3, 4):
@@ -68,7 +68,8 @@ def silent_peers(folder):
             began = time.monotonic()
             status = host.ask("GET", "/api/version").status
             taken = time.monotonic() - began
-            check("a request beside %d silent connections" % count, (status, taken < (1 if count == 3 else 10)), (200, True))
+            # A worker waits for about 10 seconds. What comes at once comes well within that, on a busy machine too.
+            check("a request beside %d silent connections" % count, (status, taken < 5), (200, count == 3))
         replies = []
         for conn in silent:
             conn.settimeout(LIMIT)

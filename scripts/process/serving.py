@@ -143,10 +143,17 @@ class Host:
         self.port = free_port()
         words = [self.program, "serve", "127.0.0.1:%d" % self.port, self.files, self.database, "--settings", self.settings]
         self.process = subprocess.Popen(words, stdout=open(self.output, "wb"))
-        until("the host listens", lambda: listens(self.port) or self.process.poll() is not None)
+        until("the host answers", lambda: self.answers() or self.process.poll() is not None)
         if self.process.poll() is not None:
             raise SystemExit("the host ended: status %d, %r" % (self.process.returncode, open(self.output, "rb").read()))
         return self
+
+    def answers(self):
+        """Whether it has begun: its address is bound before the database is opened. A path that isn't there is no call of the house."""
+        try:
+            return listens(self.port) and self.ask("GET", "/api/nothing").status == 404
+        except OSError:
+            return False
 
     def ask(self, method, path, body=None, kind=None, fields=(), seconds=LIMIT):
         return exchange(self.port, message(method, path, self.key, body, kind, fields), seconds)

@@ -1,10 +1,10 @@
 -- The selected file over calls: only a request selects another.
-use Rattle.std.proofs.Common.{suc, zero, ◌≡◌, ◌⊎◌, inl, inr, ℕ, ◌+◌, ◌<◌, Bool, true, false, cond, nat_eq, codes, List, [], ◌∷◌, ◌++◌, length, get_or, Contains, Option, None, Some, refl, sym, ◌∙◌, ap, subst, arith}
+use Rattle.std.proofs.Common.{suc, ◌≡◌, ◌⊎◌, inl, inr, ℕ, ◌+◌, Bool, true, false, cond, nat_eq, codes, List, [], ◌∷◌, Contains, Option, None, Some, refl, sym, ◌∙◌, ap, subst, arith}
 use Rattle.temp_rules.specs.Hot.{first_hot_of}
 use Rattle.temp_rules.specs.declared.job.HotLine.{HotLine}
-use Rattle.desk_steps.specs.Data.{Data, File, Line, commands_of, with_script, moment_after}
-use Rattle.desk_steps.specs.Note.{Noted, ended, is_over, end_at, finish, leave, fail, ready_at, opened, note_fact, note_step}
-use Rattle.desk_steps.specs.Pull.{Drawn, talk, nothing, next_number, keep_number, issue, from_scripts, from_manual, from_poll, poll_is_due, from_file, draw_at, is_issued, settle_at, settled, pull_step}
+use Rattle.desk_steps.specs.Data.{Data, File, Line, with_script, moment_after}
+use Rattle.desk_steps.specs.Note.{Noted, ended, is_over, end_at, finish, fail, ready_at, opened, note_fact, note_step}
+use Rattle.desk_steps.specs.Pull.{Drawn, talk, nothing, next_number, keep_number, issue, from_scripts, from_manual, from_poll, poll_is_due, from_file, draw_at, is_issued, settle_at, pull_step}
 use Rattle.desk_steps.specs.Course.{job_line}
 use Rattle.desk_steps.specs.Run.{DeskCall, Connect, Disconnect, Select, DropFile, Start, Restart, Pause, Resume, Toggle, Cancel, Manually, Pull, Note}
 use Rattle.desk_steps.specs.Table.{connect_at, disconnect_at, select_at, is_named, drop_file_step, start_checked, start_file, start_at, restart_at, pause_at, resume_at, toggle_at, cancel_at, add_manual, manual_at}

@@ -1,5 +1,5 @@
 -- What a host's run says of its recorded histories.
-use Rattle.std.proofs.Common.{◌≡◌, List, ◌++◌, Option, Some, refl, sym, ◌∙◌, ap, subst}
+use Rattle.std.proofs.Common.{◌≡◌, List, ◌++◌, Option, Some, sym, ◌∙◌, ap, subst}
 use Rattle.std.proofs.lemmas.List.{append_cancel_left}
 use Rattle.octo_keeper.specs.declared.shelf.ShelfFile.{ShelfFile}
 use Rattle.printer_model.specs.declared.event.WorldEvent.{WorldEvent}

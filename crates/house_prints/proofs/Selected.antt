@@ -4,7 +4,7 @@ use Rattle.gcode_lines.specs.Job.{texts_of}
 use Rattle.temp_rules.specs.Hot.{first_hot_of}
 use Rattle.temp_rules.specs.declared.job.HotLine.{HotLine}
 use Rattle.desk_steps.specs.Data.{Data, File, Line, commands_of}
-use Rattle.desk_steps.specs.Note.{note_step, first_fact}
+use Rattle.desk_steps.specs.Note.{note_step}
 use Rattle.desk_steps.specs.Pull.{pull_step}
 use Rattle.desk_steps.specs.Run.{DeskCall, Connect, Disconnect, Select, DropFile, Start, Restart, Pause, Resume, Toggle, Cancel, Manually, Pull, Note, Run, after, after_start, after_restart, after_pull, after_note, run_of, new_run, of_print}
 use Rattle.desk_steps.specs.Table.{start_checked, start_file, start_at, restart_at}

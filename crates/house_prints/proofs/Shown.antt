@@ -1,5 +1,5 @@
 -- The prints that are shown.
-use Rattle.std.proofs.Common.{◌≡◌, ◌⊎◌, inl, inr, ℕ, List, ◌∷◌, ◌++◌, map, take, reverse, filter, All, Option, None, Some, sym, subst}
+use Rattle.std.proofs.Common.{◌≡◌, ◌⊎◌, inl, inr, List, ◌∷◌, map, take, reverse, filter, All, Option, None, Some, sym, subst}
 use Rattle.std.proofs.lemmas.List.Elements.{All-map, All-take, All-filter}
 use Rattle.std.proofs.lemmas.List.Sorted.{All-permutation, IsPermutation-reverse}
 use Rattle.octo_access.specs.Rights.{caller}
@@ -13,7 +13,6 @@ use Rattle.octo_asks.specs.Shown.{shown_print}
 use Rattle.octo_asks.specs.declared.answer.Answer.TheVariants as answer
 use Rattle.octo_asks.specs.declared.entry.Entry.TheVariants as entry
 use Rattle.octo_asks.specs.declared.request.Request.{Request}
-use Rattle.octo_asks.specs.declared.request.Request.TheVariants.{ListPrints}
 use Rattle.octo_asks.specs.declared.shown.ShownPrint.{ShownPrint}
 use Rattle.print_records.specs.declared.row.PrintRow.{PrintRow}
 use Rattle.house_verdicts.specs.Answers.{allowed, lacking, permitted, verdict_by}

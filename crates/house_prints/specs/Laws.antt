@@ -1,5 +1,5 @@
 -- What holds of the prints of a host over a lossy line.
-use Rattle.std.specs.Prelude.{◌≡◌, ◌⊎◌, ℕ, ◌+◌, ◌<◌, ◌≤◌, true, false, List, [], ◌∷◌, ◌++◌, length, take, slice_get, Some, All}
+use Rattle.std.specs.Prelude.{◌≡◌, ◌⊎◌, ℕ, ◌+◌, ◌<◌, true, false, List, [], ◌∷◌, ◌++◌, length, take, slice_get, Some, All}
 use Rattle.desk_steps.specs.Course.{Done, Course}
 use Rattle.desk_steps.specs.Data.{ScriptTexts, Data, Line, new_desk}
 use Rattle.desk_steps.specs.Run.{Fate, Finished, is_of, lines_of, of_print}

@@ -9,7 +9,7 @@ use Rattle.house_line.specs.InStep.{TiesLines}
 use Rattle.house_prints.specs.Laws.{IsBeginning}
 use Rattle.house_prints.proofs.Recorded.{recorded_keeps}
 use Rattle.octo_house.specs.declared.house.House.{House}
-use Rattle.house_run.specs.Runs.{begins, HasRun, HasPrinted}
+use Rattle.house_run.specs.Runs.{HasRun, HasPrinted}
 
 -- a whole run that is tied to its link's history
 pub run_prints : (kind : LinkKind) (past past' : Option History) (files files' : Option (List ShelfFile)) (link link' : Option (List WorldEvent))

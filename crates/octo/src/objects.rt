@@ -47,19 +47,25 @@ fn absent_objects(rt: &HostRuntime) -> Objects {
     }
 }
 
+// Those of this command.
+fn objects_by(rt: &HostRuntime, command: &Command) -> Result<Objects, AllocError> {
+    match command {
+        Command::Serve {
+            address,
+            folder,
+            database,
+            ..
+        } => host_objects(rt, address, folder, database),
+        _ => Ok(absent_objects(rt)),
+    }
+}
+
 /// The objects that the arguments name. A database that can't be opened, a folder that isn't there and an address that can't be
 /// bound fail at each call.
 pub(crate) fn objects_of(rt: &HostRuntime, words: &WordList) -> Result<Objects, AllocError> {
     match read_words(rt.alloc(), words) {
-        Ok(
-            Command::Serve {
-                address,
-                folder,
-                database,
-                settings: _,
-            },
-        ) => host_objects(rt, &address, &folder, &database),
-        _ => Ok(absent_objects(rt)),
+        Ok(command) => objects_by(rt, &command),
+        Err(_) => Ok(absent_objects(rt)),
     }
 }
 

@@ -5,11 +5,16 @@ use Rattle.octo_outside.specs.Traits.{Files}
 use Rattle.octo_doors.specs.declared.door.Doors.{Doors}
 use Rattle.hand_over.specs.Ends.{HistoryData}
 use Rattle.octo_access.specs.Rows.{IsUserTable}
+use Rattle.octo_asks.specs.History.{History}
+use Rattle.octo_keeper.specs.declared.shelf.ShelfFile.{ShelfFile}
 use Rattle.octo_keeper.specs.declared.tables.Tables.{Tables}
 use Rattle.print_queue.specs.Lawful.{IsLawful}
+use Rattle.printer_model.specs.declared.event.WorldEvent.{WorldEvent}
+use Rattle.house_history.specs.Legal.{beginning}
+use Rattle.house_prints.specs.Headline.{KeepsPrints}
 use Rattle.house_tables.specs.Kept.{IsKept}
 use Rattle.octo_house.specs.Beginning.{IsMadeOf, BeginsOn}
-use Rattle.octo_house.specs.State.{IsListed}
+use Rattle.octo_house.specs.State.{IsListed, known_of}
 use Rattle.octo_house.specs.declared.faults.BeginFault.{BeginFault}
 use Rattle.octo_house.specs.declared.house.House.{House}
 use Rattle.octo_serve.specs.Around.{LinkState, KeeperState, ShelfState, DoorState, door_states}
@@ -69,6 +74,13 @@ pub record HasBegun (s : Settings) (old new : Around) (house : House) : Type 0 w
       → IsKept (length tables.prints) new.keeper.tables house.tables
   pub listed : IsListed new.shelf.files house
 
+-- what became of the prints of a host that began as this one, if the shelf's files and the link's history are recorded
+abbrev pub HasPrints : Settings → Around → Around → House → History → Type 0
+HasPrints s old new first history =
+    (files : List ShelfFile) → old.shelf.files ≡ Some files → (events : List WorldEvent) → new.link.past ≡ Some events
+    → (front : List WorldEvent) × (old.link.past ≡ Some front)
+    × KeepsPrints old.link.kind front (beginning s.window s.limit_ms (known_of first) files) history events
+
 -- it began, and served its doors until it ended; this is known of what was asked, answered and noted
 pub record HasServed (s : Settings) (old new : Around) (r : HostReport) (known : HistoryData) : Type 0 where
   pub first : House
@@ -79,6 +91,8 @@ pub record HasServed (s : Settings) (old new : Around) (r : HostReport) (known :
   pub calls : ℕ
   pub held : Bool
   pub hosted : HasHosted s.patience (host_in between first) (host_in new last) between.doors new.doors calls held known
+  -- what became of the prints
+  pub prints : HasPrints s between new first known.history
   pub is : r ≡ reported calls held
 
 -- what serving by these settings comes to: the host doesn't begin, or there is no memory for its workers; or it serves

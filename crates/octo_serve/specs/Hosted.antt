@@ -13,7 +13,7 @@ use Rattle.house_line.specs.InStep.{TiesLines}
 use Rattle.house_tables.specs.Kept.{KeepsRows}
 use Rattle.octo_house.specs.declared.house.House.{House}
 use Rattle.octo_house.specs.State.{IsListed, session_of, tables_of}
-use Rattle.house_run.specs.Runs.{HasRun, IsOver, ArePassed, begins}
+use Rattle.house_run.specs.Runs.{HasRun, HasPrinted, IsOver, ArePassed, begins}
 use Rattle.octo_serve.specs.Around.{LinkState, KeeperState, ShelfState, DoorState}
 use Rattle.octo_serve.specs.Doors.{AreServed}
 
@@ -42,6 +42,8 @@ pub record Ran (old new : Setting) (past past' : Option History) (calls : ℕ) :
   pub link_use : Shows past past' old.shelf.files (begins old.house) (UsesLink old.link.kind.listed old.link.calls new.link.calls)
   pub temps : Became past past' (λ _ added. NotesTemps old.link.kind old.link.past new.link.past added)
   pub tied : TiesLines old.link.kind past past' old.link.past new.link.past
+  -- what became of the prints
+  pub prints : HasPrinted old.link.kind past past' old.shelf.files old.link.past new.link.past old.house
   -- the link is down, and of the same kind
   pub down : new.link.up ≡ false
   pub kind : new.link.kind ≡ old.link.kind

@@ -3,6 +3,7 @@ use Rattle.octo_serve.specs.Around.{link_state, keeper_state, shelf_state, door_
 use Rattle.octo_host.specs.Hosting.{around}
 use Rattle.octo_host.specs.declared.hosting.HostEnd.{HostEnd}
 use Rattle.octo_house.specs.declared.faults.BeginFault.TheVariants as fault
+use Rattle.octo_host.proofs.Printing.{host_prints}
 use Rattle.octo_host.proofs.Serving.{has_served, not_served, served_causes}
 use Rattle.octo_host.proofs.hosting.serve_by.Goals as goal
 
@@ -46,6 +47,8 @@ returns-in-Ok-serve-clause-serves g c =
       calls = ran.calls;
       held = ran.doors_held;
       hosted = c.in-Ok-serve.ensures.ok;
+      prints = host_prints c.args.settings (at c.args.link.now c.args.clock.now c.begin_by.new.keeper c.begin_by.new.shelf c.args.doors.now) _ c.in-Ok.house
+          c.serve.new.house ran.calls ran.doors_held _ e.made c.in-Ok-serve.ensures.ok;
       is = c.has_served.ensures.report;
     })
 
@@ -77,6 +80,8 @@ returns-in-Ok-serve-clause-causes g c =
       calls = ran.calls;
       held = ran.doors_held;
       hosted = c.in-Ok-serve.ensures.ok;
+      prints = host_prints c.args.settings (at c.args.link.now c.args.clock.now c.begin_by.new.keeper c.begin_by.new.shelf c.args.doors.now) _ c.in-Ok.house
+          c.serve.new.house ran.calls ran.doors_held _ e.made c.in-Ok-serve.ensures.ok;
       is = c.has_served.ensures.report;
     })
 

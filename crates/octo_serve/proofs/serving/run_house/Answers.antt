@@ -10,6 +10,7 @@ returns-clause-ran g c = record {
   link_use = c.run.ensures.link_use;
   temps = c.run.ensures.temps;
   tied = c.run.ensures.tied;
+  prints = c.run.ensures.prints;
   down = c.run.ensures.down;
   kind = c.run.ensures.kind;
   faults = c.run.ensures.faults;
