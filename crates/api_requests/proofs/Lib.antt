@@ -1,3 +1,4 @@
 pub mod Cleaned
 pub mod Items
 pub mod Asked
+pub mod Others

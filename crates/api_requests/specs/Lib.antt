@@ -2,3 +2,4 @@ pub mod Fields
 pub mod Bodies
 pub mod Uploads
 pub mod Requests
+pub mod Callers

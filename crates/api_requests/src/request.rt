@@ -4,6 +4,7 @@ ghost use Rattle.serde_json.specs.Data.{Data};
 ghost use Rattle.serde_json.specs.View.{view};
 ghost use Rattle.api_routes.specs.Places.{target_of};
 ghost use Rattle.api_requests.specs.Requests.{takes_json, key_of, type_of, asked_body, wanted_for, request_in, request_at, IsJson, Asks, Says};
+ghost use Rattle.api_requests.specs.Callers.{IsCallers, WantsCallers};
 ghost use Rattle.api_routes.specs.declared.wanted.Wanted.TheVariants as wanted;
 
 use crate::Direct;
@@ -48,8 +49,9 @@ fn json_of(alloc: Global, body: &[u8]) -> Result<Option<Value>, Direct>
 
 // What a body of JSON asks.
 fn asked_body(alloc: Global, form: &Form, body: &[u8]) -> Result<Request, Direct>
-    ensures { (result ≡ Err Direct.NoMemory) ⊎ ((value : Option Data)
+    ensures asks { (result ≡ Err Direct.NoMemory) ⊎ ((value : Option Data)
         → IsJson body.now value → result ≡ asked_body form.now body.now value) }
+    ensures callers { IfOk result IsCallers }
 {
     if body.len() > MOST_JSON {
         return Err(Direct::BadBody);
@@ -62,7 +64,8 @@ fn asked_body(alloc: Global, form: &Form, body: &[u8]) -> Result<Request, Direct
 
 // What a message asks whose body isn't looked at.
 fn plain_request(message: &Message, request: Request) -> Result<Request, Direct>
-    ensures { Asks message.now (request_in (wanted.Nothing request) message.now) result }
+    ensures asks { Asks message.now (request_in (wanted.Nothing request) message.now) result }
+    ensures same { IfOk result (λ asked. asked ≡ request) }
 {
     if message.encoded {
         return Err(Direct::BadMedia);
@@ -72,7 +75,8 @@ fn plain_request(message: &Message, request: Request) -> Result<Request, Direct>
 
 // What a message with JSON asks.
 fn json_request(alloc: Global, message: &Message, form: Form) -> Result<Request, Direct>
-    ensures { Asks message.now (request_in (wanted.Json form) message.now) result }
+    ensures asks { Asks message.now (request_in (wanted.Json form) message.now) result }
+    ensures callers { IfOk result IsCallers }
 {
     if !message.sized {
         return Err(Direct::NoLength);
@@ -95,7 +99,8 @@ fn type_of(message: &Message) -> &[u8]
 
 // What a message with an upload asks.
 fn upload_request(alloc: Global, message: &Message) -> Result<Request, Direct>
-    ensures { Asks message.now (request_in wanted.Upload message.now) result }
+    ensures asks { Asks message.now (request_in wanted.Upload message.now) result }
+    ensures callers { IfOk result IsCallers }
 {
     if !message.sized {
         return Err(Direct::NoLength);
@@ -108,7 +113,8 @@ fn upload_request(alloc: Global, message: &Message) -> Result<Request, Direct>
 
 // What a message asks whose path and method want this.
 fn request_in(alloc: Global, message: &Message, wanted: Wanted) -> Result<Request, Direct>
-    ensures { Asks message.now (request_in wanted message.now) result }
+    ensures asks { Asks message.now (request_in wanted message.now) result }
+    ensures callers { WantsCallers wanted → IfOk result IsCallers }
 {
     match wanted {
         Wanted::Nothing { request } => plain_request(message, request),
@@ -119,8 +125,9 @@ fn request_in(alloc: Global, message: &Message, wanted: Wanted) -> Result<Reques
 
 // What a method wants of a path.
 fn wanted_for(alloc: Global, method: &str, path: &[u8]) -> Result<Wanted, Direct>
-    ensures { (result ≡ Err Direct.NoMemory)
+    ensures wanted { (result ≡ Err Direct.NoMemory)
         ⊎ (result ≡ wanted_for method.now (target_of path.now)) }
+    ensures callers { IfOk result WantsCallers }
 {
     let Some(target) = target_of(alloc, path)? else {
         return Err(Direct::NoRoute);
@@ -130,7 +137,8 @@ fn wanted_for(alloc: Global, method: &str, path: &[u8]) -> Result<Wanted, Direct
 
 // What a message asks, without the caller's key.
 fn request_of(alloc: Global, message: &Message) -> Result<Request, Direct>
-    ensures { Asks message.now (request_at message.now) result }
+    ensures asks { Asks message.now (request_at message.now) result }
+    ensures callers { IfOk result IsCallers }
 {
     let wanted = wanted_for(alloc, message.method.as_str(), message.path.as_slice())?;
     request_in(alloc, message, wanted)
@@ -150,7 +158,8 @@ fn key_of(alloc: Global, message: Message) -> Blob
 /// What a message asks. Of several faults the path's is returned first, then the method's, a missing length, the type and the
 /// body. Source: OctoPrint's REST API; RFC 9110, section 15.5.
 pub fn to_request(alloc: Global, message: Message) -> Result<Ask, Direct>
-    ensures { Says message result }
+    ensures says { Says message result }
+    ensures callers { IfOk result (λ ask. IsCallers ask.request) }
 {
     let request = request_of(alloc, &message)?;
     let key = key_of(alloc, message);

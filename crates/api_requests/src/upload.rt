@@ -1,9 +1,10 @@
 //! What uploads ask.
-ghost use Rattle.std.specs.Prelude.{◌≡◌, ◌⊎◌, Err, Result};
+ghost use Rattle.std.specs.Prelude.{◌≡◌, ◌⊎◌, Err, Result, IfOk};
 ghost use Rattle.http_parts.specs.Parts.{ArePartsIn, FormSays};
 ghost use Rattle.http_parts.specs.declared.types.Parts.{Parts};
 ghost use Rattle.http_parts.specs.declared.types.PartFault.{PartFault};
 ghost use Rattle.api_requests.specs.Uploads.{file_asked, refused_by, form_asked};
+ghost use Rattle.api_requests.specs.Callers.{IsCallers};
 
 use crate::Direct;
 use crate::stored::stored_name;
@@ -15,8 +16,9 @@ use std::alloc::Global;
 // What the parts of a form ask; without a file they ask nothing.
 fn file_of(alloc: Global, body: &[u8], parts: Parts) -> Result<Request, Direct>
     requires { ArePartsIn parts body.now }
-    ensures { (result ≡ Err Direct.NoMemory)
+    ensures asks { (result ≡ Err Direct.NoMemory)
         ⊎ (result ≡ file_asked body.now parts parts.name parts.file) }
+    ensures callers { IfOk result IsCallers }
 {
     let (Some(name), Some(file)) = (parts.name, parts.file) else {
         return Err(Direct::BadBody);
@@ -43,9 +45,10 @@ fn refused_by(fault: PartFault) -> Direct
 
 /// What an upload asks. Source: OctoPrint's REST API, file operations; RFC 7578.
 pub(crate) fn upload_of(alloc: Global, body: &[u8], kind: &[u8]) -> Result<Request, Direct>
-    ensures { (result ≡ Err Direct.NoMemory)
+    ensures asks { (result ≡ Err Direct.NoMemory)
         ⊎ ((parts : Result Parts PartFault) → FormSays body.now kind.now parts
         → result ≡ form_asked body.now parts) }
+    ensures callers { IfOk result IsCallers }
 {
     match multipart(body, kind) {
         Ok(parts) => file_of(alloc, body, parts),

@@ -1,5 +1,5 @@
 -- The calls that a worker's asks add, and the replies that follow.
-use Rattle.std.proofs.Common.{◌≡◌, ℕ, List, [], ◌∷◌, ◌++◌, Option, Some, None, refl, sym, ap, subst, ◌∙◌}
+use Rattle.std.proofs.Common.{◌≡◌, ℕ, Bool, true, List, [], ◌∷◌, ◌++◌, Option, Some, None, refl, sym, ap, subst, ◌∙◌}
 use Rattle.std.specs.Prelude.{option_map, Result, Ok, Err, IfOk, OnErr}
 use Rattle.std.specs.Option.{option_map_or}
 use Rattle.octo_outside.specs.Told.{Adds}
@@ -12,7 +12,7 @@ use Rattle.octo_asks.specs.History.{History, Finishes}
 use Rattle.octo_http.specs.declared.reply.HttpReply.{HttpReply}
 use Rattle.octo_http.specs.Reply.{reply_bytes}
 use Rattle.api_replies.specs.Replies.{empty_reply}
-use Rattle.api_worker.specs.Worked.{Leaves, no_leave, one_leave, leave_ask}
+use Rattle.api_worker.specs.Worked.{no_leave, one_leave, leave_ask, HasLeft}
 
 none_some : {A : Type 0} (x : A) → None ≡ Some x → ⊥
 none_some x e = cc
@@ -41,10 +41,17 @@ fault_reply None reply e = absurd cc
 fault_reply (Some status) reply e = ap reply_bytes (some_is reply (empty_reply status) e)
 
 -- what a worker's last ask adds: a call, or nothing if the host has ended
-pub left_by : (result : Result Answer Closed) (mine mine' : Option History)
-    → IfOk result (λ answer. Finishes leave_ask answer mine mine') → OnErr result (mine' ≡ mine)
-    → (calls : History) × Leaves calls × Adds mine mine' calls
-left_by (Ok answer) mine mine' finishes same =
+left_by : (result : Result Answer Closed) (mine mine' : Option History) (saw_close : Bool)
+    → IfOk result (λ answer. Finishes leave_ask answer mine mine') → OnErr result (mine' ≡ mine) → OnErr result (saw_close ≡ true)
+    → HasLeft mine mine' saw_close
+left_by (Ok answer) mine mine' saw_close finishes same closed =
     let call = call_of leave_ask answer mine mine' finishes in
-    (entry.Call call.0 leave_ask call.1 answer ∷ [], one_leave call.0 call.1 answer, call.2)
-left_by (Err end) mine mine' finishes same = ([], no_leave, added_none mine mine' same)
+    (entry.Call call.0 leave_ask call.1 answer ∷ [], one_leave call.0 call.1 answer, call.2, λ none. absurd cc)
+left_by (Err end) mine mine' saw_close finishes same closed = ([], no_leave, added_none mine mine' same, λ _. closed)
+
+-- the same of an ask that is that one
+pub left_by_ask : (ask : Ask) (result : Result Answer Closed) (mine mine' : Option History) (saw_close : Bool)
+    → IfOk result (λ answer. Finishes ask answer mine mine') → ask ≡ leave_ask → OnErr result (mine' ≡ mine) → OnErr result (saw_close ≡ true)
+    → HasLeft mine mine' saw_close
+left_by_ask ask result mine mine' saw_close finishes is same closed =
+    left_by result mine mine' saw_close (subst (λ (a : Ask). IfOk result (λ answer. Finishes a answer mine mine')) is finishes) same closed

@@ -1,3 +1,4 @@
 pub mod Calls
+pub mod Asked
 pub mod Walking
 pub mod Writing

@@ -9,7 +9,7 @@ use Rattle.api_worker.specs.declared.at_door.Visit.{Visit}
 use Rattle.api_worker.specs.declared.at_door.Visit.TheVariants as visit
 use Rattle.api_worker.specs.Served.{IsServed}
 use Rattle.api_worker.proofs.Calls.{added_none}
-use Rattle.api_worker.specs.Worked.{Served, none_served, one_more, is_open, Leaves, no_leave, IsVisit, one_served, last_served, none_came, host_ended, door_ended, door_failed, HasVisited, IsWorking, HasWorked}
+use Rattle.api_worker.specs.Worked.{Served, none_served, one_more, is_open, Leaves, no_leave, IsVisit, one_served, last_served, none_came, host_ended, door_ended, door_failed, HasVisited, HasLeft, IsWorking, HasWorked}
 
 -- a connection came and was served
 pub visit_served : {C : Type 0} (state : C → ConnState) (patience : ℕ) (conn : C) (inputs : List (List ℕ)) (coming coming' : Option (List (List ℕ)))
@@ -152,6 +152,7 @@ stop patience inputs coming kept mid kept' mine made mine' saw_close taken rest 
   made = adds_end mine mine' (calls ++ more) (adds_then mine made mine' calls more m m');
   left = refl;
   unheard = λ _. saw;
+  parted = λ _. saw;
   over = λ _. inl (saw, refl);
   failed = λ no. cc;
 }
@@ -169,6 +170,7 @@ stop patience inputs coming kept mid kept' mine made mine' saw_close taken rest 
   made = adds_end mine mine' calls (adds_same mine made mine' calls m m');
   left = refl;
   unheard = λ no. cc;
+  parted = λ _. saw;
   over = λ _. inl (saw, refl);
   failed = λ no. cc;
 }
@@ -179,8 +181,8 @@ last_ended : (patience : ℕ) (inputs : List (List ℕ)) (coming : Option (List 
     (taken rest : List (List ℕ)) (conns conns' : List ConnState) (calls calls' : History)
     → inputs ≡ taken ++ rest → Served patience taken conns true calls → Adds kept mid conns → Adds mine made calls
     → IsVisit patience rest coming conns' calls' visit.Ended → Adds mid kept' conns' → Adds made told calls'
-    → Leaves last → Adds told mine' last → HasWorked patience inputs coming kept kept' mine mine' saw_close true
-last_ended patience inputs coming kept mid kept' mine made told mine' saw_close last taken rest conns conns' calls calls' split walk k m door_ended k' m' leaves l = record {
+    → Leaves last → Adds told mine' last → (last ≡ [] → saw_close ≡ true) → HasWorked patience inputs coming kept kept' mine mine' saw_close true
+last_ended patience inputs coming kept mid kept' mine made told mine' saw_close last taken rest conns conns' calls calls' split walk k m door_ended k' m' leaves l parted = record {
   taken = taken;
   rest = [];
   conns = conns;
@@ -194,6 +196,7 @@ last_ended patience inputs coming kept mid kept' mine made told mine' saw_close 
   made = adds_then mine told mine' calls last (adds_same mine made told calls m m') l;
   left = refl;
   unheard = λ no. cc;
+  parted = parted;
   over = λ _. inr (refl, refl);
   failed = λ no. cc;
 }
@@ -204,8 +207,8 @@ last_failed : (patience : ℕ) (inputs : List (List ℕ)) (coming : Option (List
     (taken rest : List (List ℕ)) (conns conns' : List ConnState) (calls calls' : History)
     → inputs ≡ taken ++ rest → Served patience taken conns true calls → Adds kept mid conns → Adds mine made calls
     → IsVisit patience rest coming conns' calls' visit.Failed → Adds mid kept' conns' → Adds made told calls'
-    → Leaves last → Adds told mine' last → HasWorked patience inputs coming kept kept' mine mine' saw_close false
-last_failed patience inputs coming kept mid kept' mine made told mine' saw_close last taken rest conns conns' calls calls' split walk k m (door_failed left) k' m' leaves l = record {
+    → Leaves last → Adds told mine' last → (last ≡ [] → saw_close ≡ true) → HasWorked patience inputs coming kept kept' mine mine' saw_close false
+last_failed patience inputs coming kept mid kept' mine made told mine' saw_close last taken rest conns conns' calls calls' split walk k m (door_failed left) k' m' leaves l parted = record {
   taken = taken;
   rest = left;
   conns = conns;
@@ -219,6 +222,7 @@ last_failed patience inputs coming kept mid kept' mine made told mine' saw_close
   made = adds_then mine told mine' calls last (adds_same mine made told calls m m') l;
   left = refl;
   unheard = λ no. cc;
+  parted = parted;
   over = λ no. cc;
   failed = λ _. refl;
 }
@@ -248,22 +252,22 @@ pub works_to_the_end : (patience : ℕ) (inputs : List (List ℕ)) (coming comin
     (kept mid kept' : Option (List ConnState)) (mine made told mine' : Option History) (saw_close : Bool)
     → IsWorking patience inputs coming kept mid mine made
     → ((left : List (List ℕ)) → coming ≡ Some left → HasVisited patience left coming' mid kept' made told visit.Ended)
-    → (calls : History) × Leaves calls × Adds told mine' calls
+    → HasLeft told mine' saw_close
     → HasWorked patience inputs coming' kept kept' mine mine' saw_close true
 works_to_the_end patience inputs coming coming' kept mid kept' mine made told mine' saw_close w visits leave =
     let v = visits w.rest w.left in
-    last_ended patience inputs coming' kept mid kept' mine made told mine' saw_close leave.0 w.taken w.rest w.conns v.0 w.calls v.1 w.split w.walk w.kept w.made v.2 v.3 v.4 leave.1 leave.2
+    last_ended patience inputs coming' kept mid kept' mine made told mine' saw_close leave.0 w.taken w.rest w.conns v.0 w.calls v.1 w.split w.walk w.kept w.made v.2 v.3 v.4 leave.1 leave.2 leave.3
 
 -- a worker whose door failed
 pub works_till_failure : (patience : ℕ) (inputs : List (List ℕ)) (coming coming' : Option (List (List ℕ)))
     (kept mid kept' : Option (List ConnState)) (mine made told mine' : Option History) (saw_close : Bool)
     → IsWorking patience inputs coming kept mid mine made
     → ((left : List (List ℕ)) → coming ≡ Some left → HasVisited patience left coming' mid kept' made told visit.Failed)
-    → (calls : History) × Leaves calls × Adds told mine' calls
+    → HasLeft told mine' saw_close
     → HasWorked patience inputs coming' kept kept' mine mine' saw_close false
 works_till_failure patience inputs coming coming' kept mid kept' mine made told mine' saw_close w visits leave =
     let v = visits w.rest w.left in
-    last_failed patience inputs coming' kept mid kept' mine made told mine' saw_close leave.0 w.taken w.rest w.conns v.0 w.calls v.1 w.split w.walk w.kept w.made v.2 v.3 v.4 leave.1 leave.2
+    last_failed patience inputs coming' kept mid kept' mine made told mine' saw_close leave.0 w.taken w.rest w.conns v.0 w.calls v.1 w.split w.walk w.kept w.made v.2 v.3 v.4 leave.1 leave.2 leave.3
 
 -- a look that served a connection
 pub opens_or_closes : (v : Visit) (Saw : Type 0) → (v ≡ visit.Open) ⊎ ((v ≡ visit.Closed) × Saw) → (v ≡ visit.Open) ⊎ (v ≡ visit.Closed)

@@ -17,6 +17,7 @@ use Rattle.octo_asks.specs.History.{History}
 use Rattle.api_direct.specs.declared.direct.Direct.{Direct}
 use Rattle.api_replies.specs.Replies.{empty_reply, reply_of, direct_status, fault_status}
 use Rattle.api_requests.specs.Requests.{Says}
+use Rattle.api_requests.specs.Callers.{IsCallers}
 
 -- a call wrote these bytes; if it failed, which was counted, perhaps only the first of them
 abbrev pub Sends : (written written' : Option (List ℕ)) → (faults faults' : ℕ) → List ℕ → Type 0
@@ -43,7 +44,7 @@ IsReply answer reply = (reply ≡ reply_of answer) ⊎ (reply ≡ empty_reply 50
 pub data IsReplied (message : Message) : HttpReply → Bool → History → Type 0 where
   refused : (direct : Direct) → Says message (Err direct) → IsReplied message (empty_reply (direct_status direct)) true []
   ended : (ask : Ask) (reply : HttpReply) → Says message (Ok ask) → IsReply answer.Closed reply → IsReplied message reply false []
-  answered : (ask : Ask) (worker moment : ℕ) (a : Answer) (reply : HttpReply) → Says message (Ok ask) → IsReply a reply
+  answered : (ask : Ask) (worker moment : ℕ) (a : Answer) (reply : HttpReply) → Says message (Ok ask) → IsCallers ask.request → IsReply a reply
       → IsReplied message reply true (entry.Call worker ask moment a ∷ [])
 
 -- a connection with this input was served: it holds no message, or a message that is replied to
@@ -52,6 +53,15 @@ pub data IsServed (patience : ℕ) (input : List ℕ) (conn : ConnState) : Bool 
       → Wrote conn (sent ++ fault_bytes fault) → IsServed patience input conn true []
   message : (m : Message) (sent : List ℕ) (reply : HttpReply) (is_open : Bool) (calls : History) → MessageSays input (Ok m) sent
       → IsReplied m reply is_open calls → Wrote conn (sent ++ reply_bytes reply) → IsServed patience input conn is_open calls
+
+-- the calls that a connection led to: none, or one with a caller's request
+pub data LeadsTo : History → Type 0 where
+  no_call : LeadsTo []
+  one_call : (worker moment : ℕ) (ask : Ask) (a : Answer) → IsCallers ask.request → LeadsTo (entry.Call worker ask moment a ∷ [])
+
+-- a connection was served, whatever it records, and led to at most one call
+abbrev pub AsksOnce : Option History → Option History → Type 0
+AsksOnce mine mine' = (calls : History) × LeadsTo calls × Adds mine mine' calls
 
 -- an untouched connection was served, and the asker's calls grew by those that it led to
 abbrev pub HasServed : ℕ → (old new : ConnState) → (mine mine' : Option History) → Bool → Type 0

@@ -1,12 +1,14 @@
 -- What a worker did at its door: the connections that it served, in order, and its calls.
-use Rattle.std.specs.Prelude.{◌≡◌, ◌⊎◌, ℕ, Bool, true, false, List, [], ◌∷◌, ◌++◌, Option, Some}
-use Rattle.octo_outside.specs.Told.{Adds}
+use Rattle.std.specs.Prelude.{◌≡◌, ◌⊎◌, ℕ, Bool, true, false, List, [], ◌∷◌, ◌++◌, All, Option, Some}
+use Rattle.octo_outside.specs.Told.{Became, Adds}
 use Rattle.octo_doors.specs.Doors.{ConnState}
 use Rattle.octo_asks.specs.declared.answer.Answer.{Answer}
 use Rattle.octo_asks.specs.declared.request.Ask.{Ask}
 use Rattle.octo_asks.specs.declared.request.Request.TheVariants.{Leave}
+use Rattle.octo_asks.specs.declared.entry.Entry.{Entry}
 use Rattle.octo_asks.specs.declared.entry.Entry.TheVariants as entry
 use Rattle.octo_asks.specs.History.{History}
+use Rattle.api_requests.specs.Callers.{IsCallers}
 use Rattle.api_worker.specs.Served.{IsServed}
 use Rattle.api_worker.specs.declared.at_door.Visit.{Visit}
 use Rattle.api_worker.specs.declared.at_door.Visit.TheVariants as visit
@@ -53,6 +55,33 @@ HasVisited patience inputs coming served served' mine mine' v =
     (conns : List ConnState) × (calls : History)
     × IsVisit patience inputs coming conns calls v × Adds served served' conns × Adds mine mine' calls
 
+-- a call that a connection led to: it has a caller's request
+abbrev pub IsAsk : Entry → Type 0
+IsAsk (entry.Call worker ask moment answer) = IsCallers ask.request
+IsAsk (entry.Note note) = ⊥
+IsAsk entry.Close = ⊥
+
+-- connections led to the calls that were added
+abbrev pub AddsAsks : Option History → Option History → Type 0
+AddsAsks mine mine' = Became mine mine' (λ _ added. All IsAsk added)
+
+-- a worker has left by a call of its own, or has seen that the host has ended
+abbrev pub HasLeft : (mine mine' : Option History) (saw_close : Bool) → Type 0
+HasLeft mine mine' saw_close = (last : History) × Leaves last × Adds mine mine' last × (last ≡ [] → saw_close ≡ true)
+
+-- the calls of a worker that has returned: connections led to them, but for the last one, with which it may leave; if it hasn't left,
+-- it has seen that the host has ended
+pub record AreOfReturned (saw_close : Bool) (added : History) : Type 0 where
+  pub calls : History
+  pub last : History
+  pub split : added ≡ calls ++ last
+  pub asks : All IsAsk calls
+  pub leave : Leaves last
+  pub parted : last ≡ [] → saw_close ≡ true
+
+abbrev pub HasReturned : (mine mine' : Option History) (saw_close : Bool) → Type 0
+HasReturned mine mine' saw_close = Became mine mine' (λ _ added. AreOfReturned saw_close added)
+
 -- the inputs that are still to come: none after the door has failed
 abbrev pub still_coming : (held : Bool) → List (List ℕ) → List (List ℕ)
 still_coming true rest = rest
@@ -72,7 +101,7 @@ pub record IsWorking (patience : ℕ) (inputs : List (List ℕ)) (coming : Optio
   pub left : coming ≡ Some rest
 
 -- what a worker did: the first of the inputs to come were served, all of them unless the host has ended or the door failed; its last
--- call may be that with which it leaves, and only if the door has ended or failed
+-- call may be that with which it leaves, and only if the door has ended or failed; if it hasn't left, it has seen that the host has ended
 pub record HasWorked (patience : ℕ) (inputs : List (List ℕ)) (coming : Option (List (List ℕ))) (served served' : Option (List ConnState))
     (mine mine' : Option History) (saw_close held : Bool) : Type 0 where
   pub taken : List (List ℕ)
@@ -88,5 +117,6 @@ pub record HasWorked (patience : ℕ) (inputs : List (List ℕ)) (coming : Optio
   pub made : Adds mine mine' (calls ++ last)
   pub left : coming ≡ Some (still_coming held rest)
   pub unheard : is_open ≡ false → saw_close ≡ true
+  pub parted : last ≡ [] → saw_close ≡ true
   pub over : held ≡ true → ((saw_close ≡ true) × (last ≡ [])) ⊎ ((is_open ≡ true) × (rest ≡ []))
   pub failed : held ≡ false → is_open ≡ true

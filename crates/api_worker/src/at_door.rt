@@ -4,8 +4,8 @@ ghost use Rattle.octo_outside.specs.Told.{Adds, Rose};
 ghost use Rattle.octo_asks.specs.History.{History};
 ghost use Rattle.octo_doors.specs.Doors.{ConnState, state_of, untouched};
 ghost use Rattle.api_worker.specs.declared.at_door.Visit.TheVariants as visit;
-ghost use Rattle.api_worker.specs.Served.{IsServed};
-ghost use Rattle.api_worker.specs.Worked.{Leaves, HasVisited, HasWorked, is_open};
+ghost use Rattle.api_worker.specs.Served.{IsServed, AsksOnce};
+ghost use Rattle.api_worker.specs.Worked.{leave_ask, HasVisited, HasLeft, HasReturned, HasWorked, is_open};
 
 use crate::serve::serve_conn;
 use octo_asks::{Ask, Asker, Request};
@@ -37,6 +37,7 @@ fn look_at_door<D: Door, A: Asker>(
     ensures visited { (inputs : List (List ℕ)) → D.coming door.old ≡ Some inputs
         → HasVisited patience inputs (D.coming door.new) (D.served door.old) (D.served door.new)
         (A.mine asker.old) (A.mine asker.new) result }
+    ensures once { AsksOnce (A.mine asker.old) (A.mine asker.new) }
     ensures closed { result ≡ visit.Closed → A.saw_close asker.new ≡ true }
     ensures place { A.place asker.new ≡ A.place asker.old }
     ensures held { result ≢ visit.Failed → D.faults door.new ≡ D.faults door.old }
@@ -67,6 +68,7 @@ fn serve_and_finish<D: Door, A: Asker>(
         × IsServed patience input after (is_open result) calls
         × Adds (D.served door.old) (D.served door.new) (after ∷ [])
         × Adds (A.mine asker.old) (A.mine asker.new) calls }
+    ensures once { AsksOnce (A.mine asker.old) (A.mine asker.new) }
     ensures either { (result ≡ visit.Open)
         ⊎ ((result ≡ visit.Closed) × (A.saw_close asker.new ≡ true)) }
     ensures place { A.place asker.new ≡ A.place asker.old }
@@ -79,18 +81,23 @@ fn serve_and_finish<D: Door, A: Asker>(
     if is_open { Visit::Open } else { Visit::Closed }
 }
 
-// Says that this worker leaves. The answer doesn't matter.
+// The ask with which a worker leaves.
+fn leave_ask(alloc: Global) -> Ask
+    ensures { result ≡ leave_ask }
+{
+    Ask {
+        key: Blob::new(alloc),
+        request: Request::Leave,
+    }
+}
+
+// Says that this worker leaves. The answer doesn't matter; without one the host has ended.
 fn leave<A: Asker>(alloc: Global, asker: &mut A)
-    ensures left { (calls : History) × Leaves calls
-        × Adds (A.mine asker.old) (A.mine asker.new) calls }
+    ensures left { HasLeft (A.mine asker.old) (A.mine asker.new) (A.saw_close asker.new) }
     ensures seen { A.saw_close asker.old ≡ true → A.saw_close asker.new ≡ true }
     ensures place { A.place asker.new ≡ A.place asker.old }
 {
-    let ask = Ask {
-        key: Blob::new(alloc),
-        request: Request::Leave,
-    };
-    let _ = asker.ask(ask);
+    let _ = asker.ask(leave_ask(alloc));
 }
 
 /// Serves the connections of a door until no more come, the door fails or the host has ended. Returns whether the door held.
@@ -108,6 +115,10 @@ pub fn worker<R: Wait, D: Door, A: Asker>(
         → HasWorked patience inputs (D.coming door.new) (D.served door.old) (D.served door.new)
         (A.mine asker.old) (A.mine asker.new) (A.saw_close asker.new) result }
     ensures place { A.place asker.new ≡ A.place asker.old }
+
+    // Whatever its door records, it has left or has seen that the host has ended.
+    ensures returned { HasReturned (A.mine asker.old) (A.mine asker.new)
+        (A.saw_close asker.new) }
 
     // It returns false exactly if a call of the door failed.
     ensures held { result ≡ true → D.faults door.new ≡ D.faults door.old }

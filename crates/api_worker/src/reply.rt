@@ -3,6 +3,7 @@ ghost use Rattle.std.specs.Prelude.{◌≡◌, Ok, true, false};
 ghost use Rattle.octo_outside.specs.Told.{Adds};
 ghost use Rattle.octo_http.specs.declared.message.Message.{Message};
 ghost use Rattle.api_requests.specs.Requests.{Says};
+ghost use Rattle.api_requests.specs.Callers.{IsCallers};
 ghost use Rattle.octo_asks.specs.History.{History};
 ghost use Rattle.api_worker.specs.Served.{IsReply, IsReplied};
 
@@ -33,7 +34,7 @@ fn reply_to(alloc: Global, answer: Answer) -> HttpReply
 
 // Asks, and returns the reply to the answer.
 fn reply_to_ask<A: Asker>(alloc: Global, asker: &mut A, ask: Ask) -> Replied
-    ensures replied { (message : Message) → Says message (Ok ask)
+    ensures replied { (message : Message) → Says message (Ok ask) → IsCallers ask.request
         → (calls : History) × Adds (A.mine asker.old) (A.mine asker.new) calls
         × IsReplied message result.reply result.is_open calls }
     ensures closed { result.is_open ≡ false → A.saw_close asker.new ≡ true }

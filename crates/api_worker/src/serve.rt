@@ -2,7 +2,7 @@
 ghost use Rattle.std.specs.Prelude.{◌≡◌, ◌≤◌, true, false};
 ghost use Rattle.octo_doors.specs.Doors.{state_of};
 ghost use Rattle.octo_http.specs.Reply.{reply_bytes};
-ghost use Rattle.api_worker.specs.Served.{Sends, HasServed, fault_bytes};
+ghost use Rattle.api_worker.specs.Served.{Sends, HasServed, AsksOnce, fault_bytes};
 
 use crate::reply::reply_to_message;
 use api_replies::fault_bytes;
@@ -50,6 +50,9 @@ pub fn serve_conn<C: Conn, A: Asker>(
     ensures served { HasServed patience (state_of C.left C.written C.faults C.quiets conn.old)
         (state_of C.left C.written C.faults C.quiets conn.new)
         (A.mine asker.old) (A.mine asker.new) result }
+
+    // Whatever the connection records, it leads to at most one call, of a caller's request.
+    ensures once { AsksOnce (A.mine asker.old) (A.mine asker.new) }
 
     // Only a host that has ended is seen to have, and what was seen stays.
     ensures closed { result ≡ false → A.saw_close asker.new ≡ true }

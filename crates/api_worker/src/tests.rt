@@ -3,7 +3,7 @@ ghost use Rattle.std.specs.Prelude.{None, All, IfOk};
 ghost use Rattle.octo_asks.specs.Place.{no_place};
 ghost use Rattle.octo_doors.specs.Memory.{IsUntouched};
 
-use crate::worker;
+use crate::{serve_conn, worker};
 use octo_asks::{Answer, Ask, Asker, Closed, Request};
 use octo_doors::{ConnList, MemoryDoor};
 use octo_outside::{CallList, MemoryConn};
@@ -156,5 +156,22 @@ fn a_slow_peer(rt: HostRuntime) -> Result<(), Fail> {
     assert!(rt; worker(alloc, &rt, &mut door, &mut host, 3));
     assert_eq!(rt; statuses(alloc, &door)?.as_slice(), b"408 ".as_slice());
     assert_eq!(rt; (host.answered, host.left), (1, 1));
+    Ok(())
+}
+
+// The calls that take memory, each once: one connection, and then one at a door.
+#[test]
+fn ample(rt: HostRuntime) -> Result<(), Fail> {
+    let alloc = rt.alloc();
+    let mut host = Host::open_for(3);
+    let mut conn = MemoryConn::new(alloc, VERSION, CallList::new(alloc), CallList::new(alloc))?;
+    assert!(rt; serve_conn(alloc, &mut conn, &mut host, 3));
+    let written = conn.written().unwrap_or(b"");
+    assert_eq!(rt; written.get(9..12).unwrap_or(b"-"), b"200".as_slice());
+    let conns = with_conn(alloc, ConnList::new(alloc), VERSION)?;
+    let mut door = MemoryDoor::new(alloc, conns, CallList::new(alloc), CallList::new(alloc));
+    assert!(rt; worker(alloc, &rt, &mut door, &mut host, 3));
+    assert_eq!(rt; statuses(alloc, &door)?.as_slice(), b"200 ".as_slice());
+    assert_eq!(rt; (host.answered, host.left), (3, 1));
     Ok(())
 }

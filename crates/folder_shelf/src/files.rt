@@ -1,4 +1,9 @@
 //! Single files of a folder.
+ghost use Rattle.std.specs.Prelude.{◌≡◌, ◌↔◌, false, None, Ok, Err, IsOk};
+ghost use Rattle.std.specs.IoError.{error_kind};
+ghost use Rattle.file_names.specs.Names.{is_file_name};
+ghost use Rattle.octo_keeper.specs.declared.shelf.ShelfFault.TheVariants as fault;
+
 use crate::paths::{PART, path_in};
 use byte_text::Name;
 use file_names::is_file_name;
@@ -13,8 +18,10 @@ use std::{fs, io};
 /// The most bytes of a file that is read.
 const MOST_BYTES: usize = 67_108_864;
 
-/// The fault of a failed call of the system.
-pub fn fault_of(error: &io::Error) -> ShelfFault {
+/// The fault of a failed call of the system: out of memory only if the system says so.
+pub fn fault_of(error: &io::Error) -> ShelfFault
+    ensures { (result ≡ fault.NoMemory) ↔ (error_kind error.now ≡ ErrorKind.OutOfMemory) }
+{
     match error.kind() {
         ErrorKind::OutOfMemory => ShelfFault::NoMemory,
         _ => ShelfFault::Failed,
@@ -54,7 +61,9 @@ pub fn read_file<R: Files + AllocGlobal + Clone + Drop>(
     rt: &R,
     folder: &Name,
     name: &Name,
-) -> Result<Option<Blob>, ShelfFault> {
+) -> Result<Option<Blob>, ShelfFault>
+    ensures other { is_file_name name.now ≡ false → result ≡ Ok None }
+{
     if !is_file_name(name.as_str()) {
         return Ok(None);
     }
@@ -92,7 +101,9 @@ pub fn write_file<R: Files>(
     folder: &Name,
     name: &Name,
     bytes: &[u8],
-) -> Result<(), ShelfFault> {
+) -> Result<(), ShelfFault>
+    ensures other { is_file_name name.now ≡ false → result ≡ Err fault.Failed }
+{
     if !is_file_name(name.as_str()) {
         return Err(ShelfFault::Failed);
     }
@@ -110,7 +121,9 @@ pub fn write_file<R: Files>(
 }
 
 /// Takes the file of that name out, if the folder has it.
-pub fn remove_file<R: Files>(rt: &R, folder: &Name, name: &Name) -> Result<(), ShelfFault> {
+pub fn remove_file<R: Files>(rt: &R, folder: &Name, name: &Name) -> Result<(), ShelfFault>
+    ensures other { is_file_name name.now ≡ false → IsOk result }
+{
     if !is_file_name(name.as_str()) {
         return Ok(());
     }

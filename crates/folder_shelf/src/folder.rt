@@ -1,5 +1,9 @@
 //! The files of a folder by their names.
-ghost use Rattle.std.specs.Prelude.{◌≤◌, length};
+ghost use Rattle.std.specs.Prelude.{◌≡◌, ◌≤◌, true, length, IfOk, IfSome, OnOk, OnErr};
+ghost use Rattle.std.specs.List.{prefix_len};
+ghost use Rattle.file_names.specs.Names.{is_file_name};
+ghost use Rattle.octo_keeper.specs.Files.{is_before};
+ghost use Rattle.folder_shelf.specs.Listed.{IsListing, with_listed};
 
 use crate::files::fault_of;
 use byte_text::Name;
@@ -12,7 +16,9 @@ use std::fs::DirEntry;
 use std::rt::Files;
 
 // The name and the size of an entry that is a regular file with the name of a file on a shelf.
-fn file_of<R: Files>(entry: &DirEntry<R>) -> Result<Option<(Name, u64)>, ShelfFault> {
+fn file_of<R: Files>(entry: &DirEntry<R>) -> Result<Option<(Name, u64)>, ShelfFault>
+    ensures { IfOk result (λ found. IfSome found (λ file. is_file_name file.0 ≡ true)) }
+{
     if !is_file_name(entry.file_name()) {
         return Ok(None);
     }
@@ -28,7 +34,8 @@ fn file_of<R: Files>(entry: &DirEntry<R>) -> Result<Option<(Name, u64)>, ShelfFa
 
 // How many files come before a name.
 fn place_of(files: &[(Name, u64)], name: &Name) -> usize
-    ensures { result ≤ length files.now }
+    ensures place { result ≡ prefix_len (λ file. is_before file.0 name.now) files.now }
+    ensures within { result ≤ length files.now }
 {
     files
         .iter()
@@ -37,7 +44,9 @@ fn place_of(files: &[(Name, u64)], name: &Name) -> usize
 }
 
 // Adds a file in its place by name.
-fn add(files: &mut Vec<(Name, u64)>, file: (Name, u64)) -> Result<(), AllocError> {
+fn add(files: &mut Vec<(Name, u64)>, file: (Name, u64)) -> Result<(), AllocError>
+    ensures { OnOk result (files.new.items ≡ with_listed file files.old.items) }
+{
     let place = place_of(files, &file.0);
     files.insert(place, file)?;
     Ok(())
@@ -45,10 +54,13 @@ fn add(files: &mut Vec<(Name, u64)>, file: (Name, u64)) -> Result<(), AllocError
 
 /// The files of a folder with their sizes, by name. Passed over is all that isn't a regular file with the name of a file on a
 /// shelf; a name that isn't UTF-8 is a fault.
+#[tactic(auto, using(crate::proofs::Listed::none_listed))]
 pub fn list_files<R: Files + AllocGlobal + Clone + Drop>(
     rt: &R,
     folder: &Name,
-) -> Result<FileList, ShelfFault> {
+) -> Result<FileList, ShelfFault>
+    ensures { IfOk result IsListing }
+{
     let entries = match fs::read_dir(rt, folder.as_str()) {
         Ok(entries) => entries,
         Err(error) => return Err(fault_of(&error)),

@@ -6,6 +6,7 @@ use Rattle.atomic_table.specs.Seated.{TableId}
 use Rattle.octo_outside.specs.Told.{Adds}
 use Rattle.octo_asks.specs.declared.request.Ask.{Ask}
 use Rattle.octo_asks.specs.declared.answer.Answer.{Answer}
+use Rattle.octo_asks.specs.declared.entry.Entry.{Entry}
 use Rattle.octo_asks.specs.declared.entry.Entry.TheVariants as entry
 use Rattle.octo_asks.specs.declared.counter.Given.{Given}
 use Rattle.octo_asks.specs.History.{History, IsGiven}
@@ -13,9 +14,10 @@ use Rattle.hand_over.specs.declared.board.Letter.{Letter}
 use Rattle.hand_over.specs.declared.board.Letter.TheVariants.{Asked, Answered}
 use Rattle.hand_over.specs.declared.board.HouseView.{HouseView}
 use Rattle.hand_over.specs.declared.board.View.TheVariants.{House}
-use Rattle.hand_over.specs.Views.{house_of}
+use Rattle.hand_over.specs.Views.{house_of, is_of_four, all_of_four}
 use Rattle.hand_over.specs.Steps.{Sitter, Taken, letter_in, ask_in, with_look, given, call_with}
 use Rattle.hand_over.specs.Ends.{IsHouse, IsSized, AfterHouseLook, slots_for}
+use Rattle.hand_over.proofs.Lists.{four_more, near_four}
 use Rattle.hand_over.proofs.Sitting.{is_house, house_at}
 
 -- the house as its seat has it, while no worker is joined
@@ -44,6 +46,10 @@ sized_at a b e sized = subst IsSized (sym e) sized
 -- while the host runs, nothing is said of its end
 pub still_running : (closed : Bool) (taken : Option Given) → closed ≡ false → closed ≡ true → taken ≡ None
 still_running closed taken running ended = absurd (true≢false (sym ended ∙ running))
+
+-- a history that stays has the same callers
+pub same_four : (old new : History) → new ≡ old → all_of_four old ≡ true → all_of_four new ≡ true
+same_four old new e all = ap all_of_four e ∙ all
 
 -- the slot in hand, with the ask
 pub in_slot : (me : Sitter) (w : ℕ) (ask : Ask) → me.1 ≡ (w, Some (Asked ask)) ∷ [] → me.1 ≡ (w, Some (Asked ask)) ∷ rest me.1
@@ -145,6 +151,10 @@ module _ (old : Sitter) (w : ℕ) (is : IsHouse old) (asked : IsGiven w (house_o
       pub answered_near : IsNear (house_of new.0).taken
       answered_near = near_at None (house_of new.0).taken (ap (λ (m : Sitter). (house_of m.0).taken) answered_at) tt
 
+      pub answered_four : w < 4 → all_of_four (house_of old.0).history ≡ true → all_of_four (house_of new.0).history ≡ true
+      answered_four near all = same_four _ _ (ap (λ (m : Sitter). (house_of m.0).history) answered_at)
+          (four_more (house_of old.0).history (entry.Call w asked.0.ask moment answer) (near_four w near) all)
+
       pub answered_past : IfSome (house_of old.0).taken (λ one. Adds (Some (house_of old.0).history) (Some (house_of new.0).history)
           (entry.Call w one.ask moment answer ∷ []))
       answered_past = subst (λ (t : Option Given). IfSome t (λ one. Adds (Some (house_of old.0).history) (Some (house_of new.0).history)
@@ -172,6 +182,11 @@ module _ (old new : Sitter) (closed : Bool) (list : History) (is : IsHouse old)
 
   pub grown_near : IsNear (house_of old.0).taken → IsNear (house_of new.0).taken
   grown_near near = near_at (house_of old.0).taken (house_of new.0).taken grown_taken near
+
+  pub grown_four : (more : Entry) → list ≡ more ∷ [] → is_of_four more ≡ true → all_of_four (house_of old.0).history ≡ true
+      → all_of_four (house_of new.0).history ≡ true
+  grown_four more is_one one all = same_four _ _ (ap (λ (m : Sitter). (house_of m.0).history) told ∙ ap (λ (l : History). (house_of old.0).history ++ l) is_one)
+      (four_more (house_of old.0).history more one all)
 
   pub grown_past : Adds (Some (house_of old.0).history) (Some (house_of new.0).history) list
   grown_past = adds_to (house_of old.0).history (house_of new.0).history list (ap (λ (m : Sitter). (house_of m.0).history) told)

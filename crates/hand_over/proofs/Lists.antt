@@ -1,17 +1,19 @@
 -- Lists read by `get_elem?`, and what an entry adds to the calls of a worker.
-use Rattle.std.proofs.Common.{◌≡◌, ◌≢◌, ℕ, zero, suc, ◌+◌, ◌<◌, ◌==◌, Bool, true, false, ◌||◌, eqb, List, [], ◌∷◌, ◌++◌, length, filter, sym, refl, ap, ◌∙◌, arith, Option, Some, None, ne_eqb, eq-eqb}
+use Rattle.std.proofs.Common.{◌≡◌, ◌≢◌, ℕ, zero, suc, ◌+◌, ◌<◌, ◌==◌, Bool, true, false, ◌||◌, ◌&&◌, nat_lt, eqb, List, [], ◌∷◌, ◌++◌, length, filter, sym, refl, ap, ◌∙◌, arith, Option, Some, None, ne_eqb, eq-eqb}
 use Rattle.std.proofs.lemmas.List.{append-nil}
 use Rattle.std.proofs.lemmas.List.Elements.{filter-append}
-use Rattle.std.proofs.lemmas.List.Folds.{list_any-append}
+use Rattle.std.proofs.lemmas.Bool.Decides.{nat_tests}
+use Rattle.std.proofs.lemmas.List.Folds.{list_any-append, list_all-append}
 use Rattle.std.proofs.Math.Bool.{or-false}
 use mathlib.Core.Option.{some, none, some-ne-none}
 use lib.ListN.{get_elem?}
 use Rattle.octo_asks.specs.declared.request.Ask.{Ask}
 use Rattle.octo_asks.specs.declared.answer.Answer.{Answer}
 use Rattle.desk_steps.specs.declared.issued.Note.{Note}
+use Rattle.octo_asks.specs.declared.entry.Entry.{Entry}
 use Rattle.octo_asks.specs.declared.entry.Entry.TheVariants as entry
 use Rattle.octo_asks.specs.History.{History, calls_of, is_call_of}
-use Rattle.hand_over.specs.Views.{has_close, is_close, taken_of, ask_for}
+use Rattle.hand_over.specs.Views.{has_close, is_close, is_of_four, all_of_four, taken_of, ask_for}
 
 module _ {A : Type 0} where
   pub within : (l : List A) (i : ℕ) (a : A) → get_elem? l i ≡ some a → i < length l
@@ -67,3 +69,10 @@ taken_own worker ask = ap (λ (b : Bool). ask_for b ask) (eq-eqb worker worker r
 
 pub taken_other : (worker other : ℕ) (ask : Ask) → worker ≢ other → taken_of other (Some (record { worker = worker; ask = ask })) ≡ None
 taken_other worker other ask apart = ap (λ (b : Bool). ask_for b ask) (ne_eqb worker other apart)
+
+-- one entry more: a call of one of the four workers, or none
+pub four_more : (history : History) (more : Entry) → is_of_four more ≡ true → all_of_four history ≡ true → all_of_four (history ++ more ∷ []) ≡ true
+four_more history more one all = list_all-append is_of_four history (more ∷ []) ∙ (λ i. all i && (one i && true))
+
+pub near_four : (worker : ℕ) → worker < 4 → nat_lt worker 4 ≡ true
+near_four worker near = grind (arith, nat_tests)

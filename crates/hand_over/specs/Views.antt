@@ -1,6 +1,6 @@
 -- What the house and a worker know.
-use Rattle.std.specs.Prelude.{◌≡◌, ℕ, ◌+◌, ◌==◌, Bool, true, false, List, [], ◌∷◌, Option, Some, None}
-use Rattle.std.specs.List.{list_any}
+use Rattle.std.specs.Prelude.{◌≡◌, ℕ, ◌+◌, ◌==◌, Bool, true, false, nat_lt, List, [], ◌∷◌, Option, Some, None}
+use Rattle.std.specs.List.{list_any, list_all}
 use Rattle.octo_asks.specs.declared.request.Ask.{Ask}
 use Rattle.octo_asks.specs.declared.entry.Entry.{Entry}
 use Rattle.octo_asks.specs.declared.entry.Entry.TheVariants as entry
@@ -57,6 +57,15 @@ pub record Known : Type 0 where
 
 abbrev pub known_of : HouseView → ℕ → Known
 known_of house worker = record { calls = calls_of worker house.history; taken = taken_of worker house.taken; closed = house.closed }
+
+-- an entry, of one of the four workers if it is a call
+abbrev pub is_of_four : Entry → Bool
+is_of_four (entry.Call worker ask moment answer) = nat_lt worker 4
+is_of_four _ = true
+
+-- each call of the history is of one of the four workers
+abbrev pub all_of_four : History → Bool
+all_of_four history = list_all is_of_four history
 
 -- each list is the calls of one worker in the history, from this worker on
 abbrev pub AreCalls : History → ℕ → List History → Type 0

@@ -23,7 +23,7 @@ pub struct HouseEnd {
 impl Model for HouseEnd {
     ghost use Rattle.std.specs.Prelude.{◌≡◌, ◌<◌, true, None, IfSome};
     ghost use Rattle.std.specs.Arc.{arc_value};
-    ghost use Rattle.hand_over.specs.Views.{house_of};
+    ghost use Rattle.hand_over.specs.Views.{house_of, all_of_four};
     ghost use Rattle.hand_over.specs.Ends.{HouseData, IsSized, IsHouse};
 
     ghost Value = { HouseData };
@@ -34,7 +34,8 @@ impl Model for HouseEnd {
     ghost invariant = { λ e. (e.seat.table_id ≡ (arc_value e.table).shared.table_id)
         × IsSized e.seat.table_id × (e.first < 4) × IsHouse e.seat.me
         × IfSome (house_of e.seat.me.0).taken (λ given. given.worker < 4)
-        × ((house_of e.seat.me.0).closed ≡ true → (house_of e.seat.me.0).taken ≡ None) };
+        × ((house_of e.seat.me.0).closed ≡ true → (house_of e.seat.me.0).taken ≡ None)
+        × (all_of_four (house_of e.seat.me.0).history ≡ true) };
 }
 
 // The ask in a letter that is one.

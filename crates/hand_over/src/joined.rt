@@ -2,7 +2,7 @@
 ghost use Rattle.std.specs.Prelude.{◌≡◌, ◌<◌, ◌++◌, true, [], ◌∷◌, length};
 ghost use Rattle.std.specs.Arc.{arc_value};
 ghost use Rattle.hand_over.specs.declared.board.View.TheVariants.{House};
-ghost use Rattle.hand_over.specs.Views.{house_of, has_close, AreCalls};
+ghost use Rattle.hand_over.specs.Views.{house_of, has_close, all_of_four, AreCalls};
 ghost use Rattle.hand_over.specs.Ends.{IsSized, seat_at, worker_place};
 
 use crate::board::{Board, Place, Words};
@@ -71,6 +71,7 @@ impl HouseEnd {
         ensures mines { result.mines ≡ workers.a.view.mine ∷ workers.b.view.mine
             ∷ workers.c.view.mine ∷ workers.d.view.mine ∷ [] }
         ensures calls { AreCalls result.history 0 result.mines }
+        ensures workers { all_of_four result.history ≡ true }
         ensures ended { has_close result.history ≡ true }
     {
         let HouseEnd {

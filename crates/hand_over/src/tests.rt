@@ -111,8 +111,9 @@ fn answers_of_both<R: Threads + Wait + Send + Sync>(
     answers
 }
 
+// The only call that takes memory: four ends and the house's, at which nothing has happened.
 #[test]
-fn nothing_at_first(rt: HostRuntime) -> Result<(), Fail> {
+fn ample(rt: HostRuntime) -> Result<(), Fail> {
     let (mut house, mut workers) = ends(rt.alloc(), &rt)?;
     assert!(&rt; matches!(house.next(), Next::Nothing));
     assert!(&rt; !workers.a.closed());

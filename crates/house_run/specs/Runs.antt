@@ -56,8 +56,8 @@ ArePassed first last past past' =
     (before : ℕ) → first ≡ Some before → (now : ℕ) → last ≡ Some now → Became past past' (λ _ added. AreBetween before now added)
 
 -- what became of the prints of a host that began with a new desk, if its history, its files and the link's history are recorded
-abbrev pub HasPrinted : LinkKind → (past past' : Option History) → Option (List ShelfFile) → (link link' : Option (List WorldEvent))
+abbrev pub RunKeepsPrints : LinkKind → (past past' : Option History) → Option (List ShelfFile) → (link link' : Option (List WorldEvent))
     → House → Type 0
-HasPrinted kind past past' files link link' house =
+RunKeepsPrints kind past past' files link link' house =
     IsBeginning (known_of house) → (held : List ShelfFile) → files ≡ Some held → (s : Standing) → begins house held s
     → WhileRecorded past past' link link' (λ front added events. KeepsPrints kind front s added events)

@@ -9,7 +9,7 @@ ghost use Rattle.house_counts.specs.Temps.{NotesTemps};
 ghost use Rattle.house_line.specs.InStep.{TiesLines};
 ghost use Rattle.house_tables.specs.Kept.{KeepsRows};
 ghost use Rattle.octo_house.specs.State.{IsListed, session_of, tables_of};
-ghost use Rattle.house_run.specs.Runs.{HasRun, HasPrinted, IsFresh, IsOver, ArePassed, begins};
+ghost use Rattle.house_run.specs.Runs.{HasRun, RunKeepsPrints, IsFresh, IsOver, ArePassed, begins};
 ghost use Rattle.house_run.specs.Tallies.{is_over};
 
 use crate::answering::answer_next;
@@ -67,7 +67,7 @@ pub fn run<R: Wait, C: Counter, L: Link, T: Clock, K: Keeper, S: Shelf>(
         (L.past link.old) (L.past link.new) }
 
     // What the printer made of each print, and what is said and sent of it.
-    ensures prints { HasPrinted (L.kind link.old) (C.past counter.old) (C.past counter.new)
+    ensures prints { RunKeepsPrints (L.kind link.old) (C.past counter.old) (C.past counter.new)
         (S.files shelf.old) (L.past link.old) (L.past link.new) house.old }
 
     // How it came to its end.

@@ -3,7 +3,8 @@ use Rattle.std.proofs.Common.{◌≡◌, ℕ, Bool, true, List, [], ◌∷◌, O
 use Rattle.octo_doors.specs.Doors.{ConnState}
 use Rattle.octo_doors.specs.declared.door.Doors.{Doors}
 use Rattle.octo_asks.specs.History.{History, calls_of}
-use Rattle.api_worker.specs.Worked.{HasWorked}
+use Rattle.octo_outside.proofs.Told.{became_so}
+use Rattle.api_worker.specs.Worked.{AreOfReturned, HasReturned, HasWorked}
 use Rattle.hand_over.specs.declared.workers.Workers.{Workers}
 use Rattle.hand_over.specs.Views.{AreCalls}
 use Rattle.octo_serve.specs.Around.{DoorState}
@@ -28,9 +29,15 @@ may_have_seen patience inputs coming served served' mine mine' saw held w = reco
   made = w.made;
   left = w.left;
   unheard = λ _. refl;
+  parted = λ _. refl;
   over = λ h. elim (w.over h) [ inl p ↦ inl (refl, p.1) | inr p ↦ inr p ];
   failed = w.failed;
 }
+
+-- the same of its calls alone
+returned_seeing : (mine mine' : History) (saw : Bool) → HasReturned (Some mine) (Some mine') saw → HasReturned (Some mine) (Some mine') true
+returned_seeing mine mine' saw returned = became_so (Some mine) (Some mine') (λ _ added. AreOfReturned saw added) (λ _ added. AreOfReturned true added) returned
+    (λ past added r. record { calls = r.calls; last = r.last; split = r.split; asks = r.asks; leave = r.leave; parted = λ _. refl })
 
 -- a worker that began without calls, and whose calls are these in the history
 pub served_by : (patience : ℕ) (old new : DoorState) (mine mine' calls : History) (saw held : Bool) → mine ≡ [] → calls ≡ mine'
@@ -38,6 +45,7 @@ pub served_by : (patience : ℕ) (old new : DoorState) (mine mine' calls : Histo
 served_by patience old new mine mine' calls saw held begins same w =
     let go : AtDoor patience old new (Some mine) (Some mine') true held = record {
       conns = λ inputs at. may_have_seen patience inputs new.coming old.served new.served (Some mine) (Some mine') saw held (w.conns inputs at);
+      returned = returned_seeing mine mine' saw w.returned;
       steady = w.steady;
       failed = w.failed;
     } in

@@ -1,10 +1,10 @@
 -- What four workers did at their doors.
-use Rattle.std.specs.Prelude.{◌≡◌, ℕ, Bool, true, false, ◌&&◌, List, [], Option, Some}
+use Rattle.std.specs.Prelude.{◌≡◌, ℕ, Bool, true, false, ◌&&◌, List, [], Option, Some, IfSome}
 use Rattle.octo_outside.specs.Told.{Rose}
 use Rattle.octo_doors.specs.declared.door.Doors.{Doors}
 use Rattle.octo_asks.specs.History.{History, calls_of}
 use Rattle.octo_asks.specs.Place.{Place}
-use Rattle.api_worker.specs.Worked.{HasWorked}
+use Rattle.api_worker.specs.Worked.{HasReturned, HasWorked}
 use Rattle.hand_over.specs.declared.workers.Workers.{Workers}
 use Rattle.hand_over.specs.Ends.{WorkerData, worker_place}
 use Rattle.octo_serve.specs.Around.{DoorState}
@@ -22,10 +22,12 @@ asker_state mine saw_close place end = record { mine = mine end; saw_close = saw
 abbrev pub worker_state : WorkerData → AskerState
 worker_state worker = record { mine = Some worker.view.mine; saw_close = worker.view.saw_close; place = worker_place worker }
 
--- the connections of a door that records them were served, with these calls; the door held, or a call of it failed
+-- the connections of a door that records them were served, with these calls; whatever it records, its worker has left or has seen that
+-- the host has ended; the door held, or a call of it failed
 pub record AtDoor (patience : ℕ) (old new : DoorState) (mine mine' : Option History) (saw_close held : Bool) : Type 0 where
   pub conns : (inputs : List (List ℕ)) → old.coming ≡ Some inputs
       → HasWorked patience inputs new.coming old.served new.served mine mine' saw_close held
+  pub returned : HasReturned mine mine' saw_close
   pub steady : held ≡ true → new.faults ≡ old.faults
   pub failed : held ≡ false → Rose old.faults new.faults
 
@@ -61,3 +63,13 @@ pub record AreServed (patience : ℕ) (old new : Doors DoorState) (history : His
   pub b : IsServedBy patience old.b new.b (calls_of 1 history) held_b
   pub c : IsServedBy patience old.c new.c (calls_of 2 history) held_c
   pub d : IsServedBy patience old.d new.d (calls_of 3 history) held_d
+
+-- no connection of a door will come any more, if it records those to come; after a failed call none does
+abbrev pub HasNoMore : (old new : DoorState) → Type 0
+HasNoMore old new = IfSome old.coming (λ _. new.coming ≡ Some [])
+
+pub record AllHaveNoMore (old new : Doors DoorState) : Type 0 where
+  pub a : HasNoMore old.a new.a
+  pub b : HasNoMore old.b new.b
+  pub c : HasNoMore old.c new.c
+  pub d : HasNoMore old.d new.d

@@ -1,10 +1,11 @@
 -- What a host did from its first connection to its end.
-use Rattle.std.specs.Prelude.{◌≡◌, ℕ, ◌≤◌, Bool, true, false, [], Option, Some}
+use Rattle.std.specs.Prelude.{◌≡◌, ◌⊎◌, ℕ, ◌≤◌, Bool, true, false, [], Option, Some}
 use Rattle.octo_outside.specs.Told.{Became}
 use Rattle.octo_doors.specs.declared.door.Doors.{Doors}
 use Rattle.octo_asks.specs.History.{History}
 use Rattle.hand_over.specs.Ends.{HistoryData}
 use Rattle.hand_over.specs.Views.{AreCalls, has_close}
+use Rattle.house_walks.specs.Counted.{is_shut}
 use Rattle.house_counts.specs.Faults.{AreCounted}
 use Rattle.house_counts.specs.LinkUse.{UsesLink}
 use Rattle.house_counts.specs.Shows.{Shows}
@@ -13,9 +14,9 @@ use Rattle.house_line.specs.InStep.{TiesLines}
 use Rattle.house_tables.specs.Kept.{KeepsRows}
 use Rattle.octo_house.specs.declared.house.House.{House}
 use Rattle.octo_house.specs.State.{IsListed, session_of, tables_of}
-use Rattle.house_run.specs.Runs.{HasRun, HasPrinted, IsOver, ArePassed, begins}
+use Rattle.house_run.specs.Runs.{HasRun, RunKeepsPrints, IsOver, ArePassed, begins}
 use Rattle.octo_serve.specs.Around.{LinkState, KeeperState, ShelfState, DoorState}
-use Rattle.octo_serve.specs.Doors.{AreServed}
+use Rattle.octo_serve.specs.Doors.{AreServed, AllHaveNoMore}
 
 -- a house, its link, its clock's moment, if that is recorded, its keeper and its shelf
 pub record Setting : Type 0 where
@@ -43,7 +44,7 @@ pub record Ran (old new : Setting) (past past' : Option History) (calls : ℕ) :
   pub temps : Became past past' (λ _ added. NotesTemps old.link.kind old.link.past new.link.past added)
   pub tied : TiesLines old.link.kind past past' old.link.past new.link.past
   -- what became of the prints
-  pub prints : HasPrinted old.link.kind past past' old.shelf.files old.link.past new.link.past old.house
+  pub prints : RunKeepsPrints old.link.kind past past' old.shelf.files old.link.past new.link.past old.house
   -- the link is down, and of the same kind
   pub down : new.link.up ≡ false
   pub kind : new.link.kind ≡ old.link.kind
@@ -62,3 +63,5 @@ pub record HasHosted (patience : ℕ) (old new : Setting) (doors doors' : Doors 
   -- each worker's calls are in the history once, in their order, and are those that its door's connections led to
   pub mines : AreCalls known.history 0 known.mines
   pub served : AreServed patience doors doors' known.history all_held
+  -- a shutdown was accepted, or no connection of any door will come any more
+  pub why : (is_shut known.history ≡ true) ⊎ AllHaveNoMore doors doors'

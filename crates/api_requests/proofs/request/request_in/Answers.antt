@@ -1,10 +1,14 @@
+use Rattle.api_requests.proofs.Others.{plain_callers}
 use Rattle.api_requests.proofs.request.request_in.Goals as goal
 
-pub returns-in-Nothing : goal.returns-in-Nothing
-returns-in-Nothing c = rw c.in-Nothing.is c.plain_request.ensures
+pub returns-in-Nothing-clause-asks : goal.returns-in-Nothing-clause-asks
+returns-in-Nothing-clause-asks c = rw c.in-Nothing.is c.plain_request.ensures.asks
 
-pub returns-in-Json : goal.returns-in-Json
-returns-in-Json c = rw c.in-Json.is c.json_request.ensures
+pub returns-in-Nothing-clause-callers : goal.returns-in-Nothing-clause-callers
+returns-in-Nothing-clause-callers c wants = plain_callers c.args.wanted c.in-Nothing.request _ c.in-Nothing.is wants c.plain_request.ensures.same
 
-pub returns-in-Upload : goal.returns-in-Upload
-returns-in-Upload c = rw c.in-Upload.is c.upload_request.ensures
+pub returns-in-Json-clause-asks : goal.returns-in-Json-clause-asks
+returns-in-Json-clause-asks c = rw c.in-Json.is c.json_request.ensures.asks
+
+pub returns-in-Upload-clause-asks : goal.returns-in-Upload-clause-asks
+returns-in-Upload-clause-asks c = rw c.in-Upload.is c.upload_request.ensures.asks

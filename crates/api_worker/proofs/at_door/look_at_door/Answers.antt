@@ -4,6 +4,7 @@ use Rattle.octo_asks.specs.History.{History}
 use Rattle.octo_doors.specs.Doors.{ConnState, state_of, Comes}
 use Rattle.octo_doors.specs.declared.door.Knock.{Knock}
 use Rattle.api_worker.specs.Worked.{HasVisited}
+use Rattle.api_worker.proofs.Asked.{once_none, once_after}
 use Rattle.api_worker.proofs.Walking.{visit_served, visit_quiet, visit_closed, visit_ended, visit_failed, opens_or_closes}
 use Rattle.api_worker.proofs.at_door.look_at_door.Goals as goal
 
@@ -40,3 +41,18 @@ pub returns-in-Err-clause-visited : goal.returns-in-Err-clause-visited
 returns-in-Err-clause-visited g c inputs coming =
     let Came : Option (List (List ℕ)) → Type 0 = λ was. IfSome was (λ _. g.D.Door.coming c.accept.new.self ≡ Some []) in
     visit_failed c.args.patience inputs (g.D.Door.coming c.accept.new.self) _ _ _ _ (subst Came coming c.in-Err.ensures.err) c.in-Err.ensures.served c.closed.ensures.mine
+
+pub returns-then-closed-clause-once : goal.returns-then-closed-clause-once
+returns-then-closed-clause-once g c = once_none _ _ c.closed.ensures.mine
+
+pub returns-in-Ok-Conn-clause-once : goal.returns-in-Ok-Conn-clause-once
+returns-in-Ok-Conn-clause-once g c = once_after _ _ _ c.closed.ensures.mine c.serve_and_finish.ensures.once
+
+pub returns-in-Ok-Quiet-clause-once : goal.returns-in-Ok-Quiet-clause-once
+returns-in-Ok-Quiet-clause-once g c = once_none _ _ c.closed.ensures.mine
+
+pub returns-in-Ok-Ended-clause-once : goal.returns-in-Ok-Ended-clause-once
+returns-in-Ok-Ended-clause-once g c = once_none _ _ c.closed.ensures.mine
+
+pub returns-in-Err-clause-once : goal.returns-in-Err-clause-once
+returns-in-Err-clause-once g c = once_none _ _ c.closed.ensures.mine

@@ -9,5 +9,8 @@ returns-in-Err-clause-replied g c =
     let At : HttpReply → Type 0 = λ reply. IsReplied c.args.message reply true [] in (
       [],
       adds_none (g.A.Asker.mine c.args.asker.now),
-      subst At (sym c.direct_bytes.ensures) (refused c.in-Err.direct c.in-Err.ensures),
+      subst At (sym c.direct_bytes.ensures) (refused c.in-Err.direct c.in-Err.ensures.says),
     )
+
+pub returns-in-Ok-clause-replied : goal.returns-in-Ok-clause-replied
+returns-in-Ok-clause-replied g c = c.reply_to_ask.ensures.replied c.args.message c.in-Ok.ensures.says c.in-Ok.ensures.callers

@@ -4,6 +4,8 @@ use Rattle.octo_http.specs.Message.{Writes, Answers, IsPatient}
 use Rattle.octo_outside.proofs.Told.{adds_none}
 use Rattle.octo_outside.specs.Told.{Rose}
 use Rattle.std.specs.Prelude.{Ok, Err}
+use Rattle.api_worker.specs.Served.{no_call}
+use Rattle.api_worker.proofs.Asked.{leads_to}
 use Rattle.api_worker.proofs.Writing.{unread, served_message}
 use Rattle.api_worker.proofs.serve.serve_conn.Goals as goal
 
@@ -36,3 +38,9 @@ returns-in-Err-clause-served g c input new =
           (λ is. subst Rises (ap (λ (s : ConnState). s.faults) new) (c.in-Err.ensures.counts.rose (ap Err is)))
           c.refuse.ensures.written c.refuse.ensures.left c.refuse.ensures.quiets c.refuse.ensures.counted,
     )
+
+pub returns-in-Ok-clause-once : goal.returns-in-Ok-clause-once
+returns-in-Ok-clause-once g c = let replied = c.reply_to_message-replied.ensures.replied in (replied.0, leads_to _ _ _ _ replied.2, replied.1)
+
+pub returns-in-Err-clause-once : goal.returns-in-Err-clause-once
+returns-in-Err-clause-once g c = ([], no_call, adds_none (g.A.Asker.mine c.args.asker.now))

@@ -5,7 +5,7 @@ use Rattle.hand_over.specs.Views.{house_of}
 use Rattle.hand_over.specs.Steps.{ask_in}
 use Rattle.hand_over.specs.Ends.{HouseData}
 use Rattle.hand_over.proofs.Sitting.{house_at, looks_as}
-use Rattle.hand_over.proofs.Counting.{seated_house, within_words, sized_at, still_running, missed_seat, missed_near, in_slot, hit_letter, hit_at, hit_seat, hit_near}
+use Rattle.hand_over.proofs.Counting.{seated_house, within_words, sized_at, still_running, same_four, missed_seat, missed_near, in_slot, hit_letter, hit_at, hit_seat, hit_near}
 use Rattle.hand_over.proofs.house_end.HouseEnd.look.Goals as goal
 
 pub load-requires : goal.load-requires
@@ -31,6 +31,7 @@ invariant_of-self c = let inv = c.self.invariant in let me = c.self.inside.seat.
       missed_seat me now c.args.worker c.load.result inv.3 untaken told,
       missed_near me now c.args.worker c.load.result inv.3 untaken told,
       still_running _ _ running,
+      same_four _ _ (ap (λ m. (house_of m.0).history) told) inv.6,
     )
 
 pub exchange-letter-requires : goal.exchange-letter-requires
@@ -59,4 +60,5 @@ invariant_of-self-2 c = let inv = c.self.invariant in let me = c.self.inside.sea
       hit_seat me mid now w found hit.0 hit.0 letter inv.3 hit.1 x.2 x.3,
       hit_near me mid now w found hit.0 hit.0 letter inv.3 hit.1 x.2 x.3 c.requires.worker,
       still_running _ _ running,
+      same_four _ _ (ap (λ m. (house_of m.0).history) at) inv.6,
     )
