@@ -78,7 +78,8 @@ pub(crate) fn answer_next<C: Counter, K: Keeper, S: Shelf>(
     // What stays, and what the keeper has of it.
     ensures kept { KeepsRows (K.tables keeper.old) (K.tables keeper.new)
         (tables_of house.old) (tables_of house.new) }
-    ensures listed { IsListed (S.files shelf.old) house.old → IsListed (S.files shelf.new) house.new }
+    ensures listed { IsListed (S.files shelf.old) house.old
+        → IsListed (S.files shelf.new) house.new }
     ensures apart { IsApartFrom house.old house.new }
     ensures given { C.given counter.new ≡ None }
     ensures closed { C.closed counter.new ≡ false }
@@ -117,7 +118,8 @@ fn answer_ask<C: Counter, K: Keeper, S: Shelf>(
         (S.faults shelf.old) (S.faults shelf.new) added) }
     ensures kept { KeepsRows (K.tables keeper.old) (K.tables keeper.new)
         (tables_of house.old) (tables_of house.new) }
-    ensures listed { IsListed (S.files shelf.old) house.old → IsListed (S.files shelf.new) house.new }
+    ensures listed { IsListed (S.files shelf.old) house.old
+        → IsListed (S.files shelf.new) house.new }
     ensures apart { IsApartFrom house.old house.new }
     ensures given { C.given counter.new ≡ None }
     ensures closed { C.closed counter.new ≡ false }

@@ -48,14 +48,16 @@ pub fn run<R: Wait, C: Counter, L: Link, T: Clock, K: Keeper, S: Shelf>(
     // The history is legal, and leads to the host and its files; the shelf's files are those that it names.
     ensures history { HasRun (C.past counter.old) (C.past counter.new)
         (S.files shelf.old) (S.files shelf.new) house.old house.new }
-    ensures listed { IsListed (S.files shelf.old) house.old → IsListed (S.files shelf.new) house.new }
+    ensures listed { IsListed (S.files shelf.old) house.old
+        → IsListed (S.files shelf.new) house.new }
     ensures kept { KeepsRows (K.tables keeper.old) (K.tables keeper.new)
         (tables_of house.old) (tables_of house.new) }
 
     // What the history says of the clock and of the link.
     ensures moments { ArePassed (T.moment clock.old) (T.moment clock.new)
         (C.past counter.old) (C.past counter.new) }
-    ensures link_use { Shows (C.past counter.old) (C.past counter.new) (S.files shelf.old) (begins house.old)
+    ensures link_use { Shows (C.past counter.old) (C.past counter.new) (S.files shelf.old)
+        (begins house.old)
         (UsesLink (L.kind link.old).listed (L.calls link.old) (L.calls link.new)) }
     ensures temps { Became (C.past counter.old) (C.past counter.new)
         (λ _ added. NotesTemps (L.kind link.old) (L.past link.old) (L.past link.new) added) }

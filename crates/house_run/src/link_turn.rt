@@ -34,7 +34,8 @@ pub(crate) fn take_turn<C: Counter, L: Link, K: Keeper>(
     requires open { C.closed counter.old ≡ false }
 
     // The history goes on.
-    ensures leads { (files : Option (List ShelfFile)) → Leads (C.past counter.old) (C.past counter.new)
+    ensures leads { (files : Option (List ShelfFile))
+        → Leads (C.past counter.old) (C.past counter.new)
         files files moment house.old house.new }
     ensures counted { Became (C.past counter.old) (C.past counter.new)
         (λ _ added. AreOf None added) }
@@ -46,13 +47,16 @@ pub(crate) fn take_turn<C: Counter, L: Link, K: Keeper>(
 
     // Beside the link's history.
     ensures tied { (before : Option History) (front : Option (List WorldEvent))
-        → InStep (L.kind link.old) before (C.past counter.old) front (L.past link.old) (session_of house.old)
-        → InStep (L.kind link.old) before (C.past counter.new) front (L.past link.new) (session_of house.new) }
+        → InStep (L.kind link.old) before (C.past counter.old) front (L.past link.old)
+        (session_of house.old)
+        → InStep (L.kind link.old) before (C.past counter.new) front (L.past link.new)
+        (session_of house.new) }
 
     // What stays, and what the keeper has of it.
     ensures kept { KeepsRows (K.tables keeper.old) (K.tables keeper.new)
         (tables_of house.old) (tables_of house.new) }
-    ensures listed { (files : Option (List ShelfFile)) → IsListed files house.old → IsListed files house.new }
+    ensures listed { (files : Option (List ShelfFile)) → IsListed files house.old
+        → IsListed files house.new }
     ensures up { L.up link.new ≡ (session_of house.new).up }
     ensures kind { L.kind link.new ≡ L.kind link.old }
     ensures given { C.given counter.new ≡ None }
