@@ -1,0 +1,6 @@
+//! Tests of a host's run: what its history holds and what it leaves, over a counter, a keeper, a shelf and a link in memory.
+//! They are in a crate of their own because their proofs are slow.
+#![tactic(auto)]
+
+#[cfg(test)]
+mod tests;

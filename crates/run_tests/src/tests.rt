@@ -1,0 +1,14 @@
+//! Runs over a counter, a keeper, a shelf and a link in memory.
+mod asks;
+mod makers;
+mod prints;
+mod ran;
+mod runs;
+mod seen;
+
+use asks::{add, leave, put_file, versions};
+use octo_asks::{AskList, Request};
+use ran::Ran;
+use seen::{Seen, SeenEntry};
+
+const ROOT: &[u8] = b"root-key-0123456789";

@@ -1,0 +1,53 @@
+//! Lists of asks.
+use super::ROOT;
+use super::makers::{blob, name};
+use octo_asks::{Ask, AskList, Request};
+use std::alloc::Global;
+use std::process::Abort;
+
+fn push(
+    rt: &impl Abort,
+    alloc: Global,
+    asks: &mut AskList,
+    worker: u8,
+    key: &[u8],
+    request: Request,
+) {
+    let key = blob(rt, alloc, key);
+    assert!(rt; asks.push((worker, Ask { key, request })).is_ok());
+}
+
+/// An ask of worker 1.
+pub(super) fn add(
+    rt: &impl Abort,
+    alloc: Global,
+    asks: &mut AskList,
+    key: &[u8],
+    request: Request,
+) {
+    push(rt, alloc, asks, 1, key, request);
+}
+
+/// All four workers leave.
+pub(super) fn leave(rt: &impl Abort, alloc: Global, asks: &mut AskList) {
+    for worker in 0..4 {
+        push(rt, alloc, asks, worker, b"", Request::Leave);
+    }
+}
+
+/// That many asks for the version, each of which is followed by a turn of the link.
+pub(super) fn versions(rt: &impl Abort, alloc: Global, asks: &mut AskList, count: u64) {
+    for _ in 0..count {
+        add(rt, alloc, asks, ROOT, Request::Version);
+    }
+}
+
+/// To store a file, to print it, and perhaps to select it.
+pub(super) fn put_file(rt: &impl Abort, alloc: Global, select: bool, bytes: &[u8]) -> Request {
+    Request::PutFile {
+        name: name(rt, "a.gcode"),
+        bytes: blob(rt, alloc, bytes),
+        select,
+        print: true,
+    }
+}

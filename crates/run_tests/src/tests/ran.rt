@@ -1,0 +1,98 @@
+//! A run that has ended.
+use super::makers::{counter_of, empty_shelf, house_of, keeper_of, link};
+use super::seen::{Seen, SeenEntry, entry_of};
+use house_run::run;
+use octo_asks::{AskList, Entry, MemoryCounter};
+use octo_house::House;
+use octo_keeper::{KeeperFault, MemoryKeeper, MemoryShelf};
+use octo_outside::MemoryClock;
+use print_records::Outcome;
+use printer_link::MemoryLink;
+use std::alloc::Global;
+use std::process::Abort;
+use std::sync::Wait;
+
+/// What a run left: the number that it returned, and its host and all that it went over.
+#[derive(Drop)]
+pub(super) struct Ran {
+    calls: u64,
+    house: House,
+    counter: MemoryCounter,
+    link: MemoryLink,
+    keeper: MemoryKeeper,
+    shelf: MemoryShelf,
+}
+
+impl Ran {
+    /// Runs a new host over these asks, at whose keeper these calls fail, counted from 1.
+    pub(super) fn over(
+        rt: &(impl Wait + Abort),
+        alloc: Global,
+        asks: AskList,
+        fails: &[u64],
+    ) -> Ran {
+        let mut counter = counter_of(rt, alloc, asks);
+        let mut keeper = keeper_of(rt, alloc, fails);
+        let mut shelf = empty_shelf(alloc);
+        let mut house = house_of(rt, alloc, &mut keeper, &mut shelf);
+        let mut link = link(rt, alloc);
+        assert!(rt; !link.is_up());
+        let mut clock = MemoryClock::new(100, 10);
+        let calls = run(
+            rt,
+            &mut house,
+            &mut counter,
+            &mut link,
+            &mut clock,
+            &mut keeper,
+            &mut shelf,
+        );
+        Ran {
+            calls,
+            house,
+            counter,
+            link,
+            keeper,
+            shelf,
+        }
+    }
+
+    /// Lets go of what the run left. A test that let it fall would prove the drops of all that it has again.
+    pub(super) fn end(self) {}
+
+    pub(super) fn calls(&self) -> u64 {
+        self.calls
+    }
+
+    pub(super) fn entries(&self) -> &[Entry] {
+        self.counter.entries().unwrap_or(&[])
+    }
+
+    /// The entry at a place of the history, counted from 0.
+    pub(super) fn entry(&self, place: usize) -> Option<SeenEntry> {
+        match self.entries().get(place) {
+            Some(entry) => Some(entry_of(entry)),
+            None => None,
+        }
+    }
+
+    /// The last entry of the history.
+    pub(super) fn last(&self) -> Option<SeenEntry> {
+        match self.entries().last() {
+            Some(entry) => Some(entry_of(entry)),
+            None => None,
+        }
+    }
+
+    /// The outcome of a kept record.
+    pub(super) fn kept_outcome(&self, place: usize) -> Option<Outcome> {
+        match self.keeper.tables() {
+            Some(tables) => Some(tables.prints.as_slice().get(place)?.outcome),
+            None => None,
+        }
+    }
+
+    pub(super) fn unwritten(&self) -> Option<(u32, KeeperFault)> {
+        self.house.unwritten()
+    }
+}
