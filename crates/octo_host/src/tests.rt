@@ -1,5 +1,5 @@
-//! Hosts over settings, tables, files, doors and a link in memory.
-ghost use Rattle.std.specs.Prelude.{◌≡◌, All, IfOk, false};
+//! Hosts over settings, tables, files, doors and a link in memory. Out of memory, a test stops.
+ghost use Rattle.std.specs.Prelude.{◌≡◌, All, false};
 ghost use Rattle.octo_doors.specs.Memory.{IsUntouched};
 ghost use Rattle.printer_link.specs.Memory.{link_world};
 
@@ -11,10 +11,9 @@ use octo_outside::{
     CallList, ItemList, MemoryClock, MemoryConn, MemorySink, MemorySource, NameList,
 };
 use printer_link::{FateList, MemoryLink, Schedule};
-use std::alloc::{AllocError, Global};
+use std::alloc::Global;
 use std::process::Abort;
 use std::sync::Wait;
-use std::test::Fail;
 use std::thread::Threads;
 
 /// The admin's key is rootxkeyx0000000.
@@ -59,125 +58,195 @@ const UNSERVED: Row = Row {
     ..SHUT
 };
 
-fn name(text: &str) -> Result<Name, Fail> {
-    Ok(Name::from_text(text).ok_or("a long name")?)
-}
-
-fn calls(alloc: Global, numbers: &[u64]) -> Result<CallList, AllocError> {
+fn calls(rt: &impl Abort, alloc: Global, numbers: &[u64]) -> CallList {
     let mut list = CallList::new(alloc);
     for number in numbers {
-        list.push(*number)?;
+        assert!(rt; list.push(*number).is_ok());
     }
-    Ok(list)
+    list
+}
+
+fn ports(rt: &impl Abort, alloc: Global) -> NameList {
+    let mut ports = NameList::new(alloc);
+    match Name::from_text("p") {
+        Some(name) => assert!(rt; ports.push(name).is_ok()),
+        None => panic!(rt; "a long name"),
+    }
+    ports
 }
 
 // A link that loses nothing.
-fn link(alloc: Global) -> Result<MemoryLink, Fail>
-    ensures { IfOk result (λ l. (link_world l).linked ≡ false) }
+fn link(rt: &impl Abort, alloc: Global) -> MemoryLink
+    ensures { (link_world result).linked ≡ false }
 {
-    let mut names = NameList::new(alloc);
-    names.push(name("p")?)?;
-    Ok(MemoryLink::new(
-        alloc,
-        Schedule {
-            names,
-            last: 0,
-            places: 4,
-            advanced: false,
-            fates: FateList::new(alloc),
-            slow: 0,
-            fail_at: CallList::new(alloc),
-            restart_at: CallList::new(alloc),
-        },
-    )?)
+    let schedule = Schedule {
+        names: ports(rt, alloc),
+        last: 0,
+        places: 4,
+        advanced: false,
+        fates: FateList::new(alloc),
+        slow: 0,
+        fail_at: CallList::new(alloc),
+        restart_at: CallList::new(alloc),
+    };
+    match MemoryLink::new(alloc, schedule) {
+        Ok(link) => link,
+        Err(_) => panic!(rt; "no memory"),
+    }
+}
+
+// A source whose file s has the settings.
+fn files(rt: &impl Abort, alloc: Global, row: &Row) -> MemorySource {
+    let mut files = MemorySource::new(alloc, calls(rt, alloc, row.source_fails));
+    assert!(rt; files.put("s", row.settings).is_ok());
+    files
 }
 
 // A keeper of empty tables.
-fn keeper(alloc: Global, fail_at: &[u64]) -> Result<MemoryKeeper, AllocError> {
+fn keeper(rt: &impl Abort, alloc: Global, fail_at: &[u64]) -> MemoryKeeper {
     let tables = Tables {
         users: ItemList::new(alloc),
         queue: ItemList::new(alloc),
         prints: ItemList::new(alloc),
     };
-    Ok(MemoryKeeper::new(tables, calls(alloc, fail_at)?))
+    MemoryKeeper::new(tables, calls(rt, alloc, fail_at))
 }
 
-// A door with these inputs.
-fn door(alloc: Global, inputs: &[&[u8]], fail_at: &[u64]) -> Result<MemoryDoor, AllocError> {
-    let mut conns = ConnList::new(alloc);
-    for input in inputs {
-        conns = with_conn(alloc, conns, input)?;
+fn conn(rt: &impl Abort, alloc: Global, input: &[u8]) -> MemoryConn
+    ensures { IsUntouched result }
+{
+    match MemoryConn::new(alloc, input, CallList::new(alloc), CallList::new(alloc)) {
+        Ok(conn) => conn,
+        Err(_) => panic!(rt; "no memory"),
     }
-    Ok(MemoryDoor::new(alloc, conns, CallList::new(alloc), calls(alloc, fail_at)?))
 }
 
 // One more connection with this input.
-fn with_conn(alloc: Global, conns: ConnList, input: &[u8]) -> Result<ConnList, AllocError>
+fn with_conn(rt: &impl Abort, alloc: Global, conns: ConnList, input: &[u8]) -> ConnList
     requires { All IsUntouched conns }
-    ensures { IfOk result (λ all. All IsUntouched all) }
+    ensures { All IsUntouched result }
 {
     let mut conns = conns;
-    conns.push(MemoryConn::new(alloc, input, CallList::new(alloc), CallList::new(alloc))?)?;
-    Ok(conns)
+    match conns.push(conn(rt, alloc, input)) {
+        Ok(()) => conns,
+        Err(_) => panic!(rt; "no memory"),
+    }
 }
 
-// The statuses of the replies at a door, in order; none for a connection without one.
-fn statuses(alloc: Global, door: &MemoryDoor) -> Result<Vec<u8>, AllocError> {
+// A door with these inputs.
+fn door(rt: &impl Abort, alloc: Global, inputs: &[&[u8]], fail_at: &[u64]) -> MemoryDoor {
+    let mut conns = ConnList::new(alloc);
+    for input in inputs {
+        conns = with_conn(rt, alloc, conns, input);
+    }
+    MemoryDoor::new(
+        alloc,
+        conns,
+        CallList::new(alloc),
+        calls(rt, alloc, fail_at),
+    )
+}
+
+/// What a host works with.
+#[derive(Drop)]
+struct Bench {
+    files: MemorySource,
+    link: MemoryLink,
+    clock: MemoryClock,
+    keeper: MemoryKeeper,
+    shelf: MemoryShelf,
+    doors: Doors<MemoryDoor>,
+}
+
+impl Bench {
+    // That of a row, whose connections come at its first door.
+    fn of(rt: &impl Abort, alloc: Global, row: &Row) -> Bench
+        ensures { (link_world result.link).linked ≡ false }
+    {
+        Bench {
+            files: files(rt, alloc, row),
+            link: link(rt, alloc),
+            clock: MemoryClock::new(0, 1),
+            keeper: keeper(rt, alloc, row.keeper_fails),
+            shelf: MemoryShelf::new(alloc, calls(rt, alloc, row.shelf_fails)),
+            doors: Doors {
+                a: door(rt, alloc, row.inputs, row.door_fails),
+                b: door(rt, alloc, &[], &[]),
+                c: door(rt, alloc, &[], &[]),
+                d: door(rt, alloc, &[], &[]),
+            },
+        }
+    }
+
+    fn host<R: Threads + Wait + Clone + Send + Sync + Drop>(
+        &mut self,
+        rt: &R,
+        alloc: Global,
+    ) -> HostEnd
+        requires { (link_world self.old.link).linked ≡ false }
+    {
+        host(
+            rt,
+            alloc,
+            &mut self.files,
+            "s",
+            &mut self.link,
+            &mut self.clock,
+            &mut self.keeper,
+            &mut self.shelf,
+            &mut self.doors,
+        )
+    }
+
+    // A test that let its bench fall would prove the drops of all that it has again.
+    fn end(self) {}
+}
+
+// The end of a host is that of the row.
+fn assert_end(rt: &impl Abort, alloc: Global, ended: HostEnd, row: &Row) {
+    let mut out = MemorySink::new(alloc, CallList::new(alloc));
+    assert!(rt; write_host_report(&mut out, &ended.report).is_ok());
+    assert_eq!(rt; out.written().unwrap_or(&[]), row.text);
+    assert_eq!(rt; ended.report.code(), row.code);
+    assert_eq!(rt; ended.history.is_some(), row.code == 0 || row.code == 12);
+}
+
+// The statuses of the replies at a door are these, in order; `-` for a connection without one.
+fn assert_replies(rt: &impl Abort, alloc: Global, door: &MemoryDoor, wanted: &[u8]) {
     let mut texts = Vec::new(alloc);
     for conn in door.served().unwrap_or(&[]) {
         let written = conn.written().unwrap_or(b"");
-        texts.extend_from_slice(written.get(9..12).unwrap_or(b"-"))?;
-        texts.push(b' ')?;
+        assert!(rt;
+            texts
+                .extend_from_slice(written.get(9..12).unwrap_or(b"-"))
+                .is_ok()
+        );
+        assert!(rt; texts.push(b' ').is_ok());
     }
-    Ok(texts)
+    assert_eq!(rt; texts.as_slice(), wanted);
 }
 
-// A host by the settings of a row, whose connections come at its first door.
-fn assert_row<R: Threads + Wait + Clone + Send + Sync + Drop + Abort + Alloc<A = Global>>(
+// A host by a row.
+fn assert_row<R: Threads + Wait + Clone + Send + Sync + Drop + Abort>(
     rt: &R,
+    alloc: Global,
     row: &Row,
-) -> Result<(), Fail> {
-    let alloc = rt.alloc();
-    let mut files = MemorySource::new(alloc, calls(alloc, row.source_fails)?);
-    files.put("s", row.settings)?;
-    let mut link = link(alloc)?;
-    let mut clock = MemoryClock::new(0, 1);
-    let mut keeper = keeper(alloc, row.keeper_fails)?;
-    let mut shelf = MemoryShelf::new(alloc, calls(alloc, row.shelf_fails)?);
-    let mut doors = Doors {
-        a: door(alloc, row.inputs, row.door_fails)?,
-        b: door(alloc, &[], &[])?,
-        c: door(alloc, &[], &[])?,
-        d: door(alloc, &[], &[])?,
-    };
-    let hosted = host(
-        rt,
-        alloc,
-        &mut files,
-        "s",
-        &mut link,
-        &mut clock,
-        &mut keeper,
-        &mut shelf,
-        &mut doors,
-    );
-    let mut out = MemorySink::new(alloc, CallList::new(alloc));
-    assert!(rt; write_host_report(&mut out, &hosted.report).is_ok());
-    assert_eq!(rt; out.written().unwrap_or(&[]), row.text);
-    assert_eq!(rt; hosted.report.code(), row.code);
-    assert_eq!(rt; statuses(alloc, &doors.a)?.as_slice(), row.replies);
-    assert_eq!(rt; hosted.history.is_some(), row.code == 0 || row.code == 12);
-    Ok(())
+) {
+    let mut bench = Bench::of(rt, alloc, row);
+    let ended = bench.host(rt, alloc);
+    assert_end(rt, alloc, ended, row);
+    assert_replies(rt, alloc, &bench.doors.a, row.replies);
+    bench.end();
 }
 
 #[test]
-fn ample(rt: HostRuntime) -> Result<(), Fail> {
-    assert_row(&rt, &SHUT)
+fn ample(rt: HostRuntime) {
+    assert_row(&rt, rt.alloc(), &SHUT);
 }
 
 // The settings are refused, or can't be read; the tables or the files can't.
 #[test]
-fn unserved(rt: HostRuntime) -> Result<(), Fail> {
+fn unserved(rt: HostRuntime) {
     let rows = [
         Row {
             settings: b"[printer]\n",
@@ -205,14 +274,13 @@ fn unserved(rt: HostRuntime) -> Result<(), Fail> {
         },
     ];
     for row in &rows {
-        assert_row(&rt, row)?;
+        assert_row(&rt, rt.alloc(), row);
     }
-    Ok(())
 }
 
 // A door that fails at once, and one that fails after a call: the others serve on until they end.
 #[test]
-fn a_door_that_fails(rt: HostRuntime) -> Result<(), Fail> {
+fn a_door_that_fails(rt: HostRuntime) {
     let at_once = Row {
         door_fails: &[1],
         code: 12,
@@ -227,21 +295,20 @@ fn a_door_that_fails(rt: HostRuntime) -> Result<(), Fail> {
         replies: b"200 ",
         ..SHUT
     };
-    assert_row(&rt, &at_once)?;
-    assert_row(&rt, &later)
+    assert_row(&rt, rt.alloc(), &at_once);
+    assert_row(&rt, rt.alloc(), &later);
 }
 
 // A keeper that wasn't opened returns the fault of its opening, and one that was its tables.
 #[test]
-fn opened_keepers(rt: HostRuntime) -> Result<(), Fail> {
+fn opened_keepers(rt: HostRuntime) {
     let alloc = rt.alloc();
     for fault in [KeeperFault::Failed, KeeperFault::NoMemory] {
         let mut unopened: Opened<MemoryKeeper> = Opened::new(Err(fault));
         assert!(rt; octo_keeper::Keeper::load(&mut unopened, alloc).is_err_and(|f| f == fault));
         assert!(rt; unopened.into_keeper().is_err());
     }
-    let mut opened = Opened::new(Ok(keeper(alloc, &[])?));
+    let mut opened = Opened::new(Ok(keeper(&rt, alloc, &[])));
     assert!(rt; octo_keeper::Keeper::load(&mut opened, alloc).is_ok());
     assert!(rt; opened.into_keeper().is_ok());
-    Ok(())
 }
