@@ -6,6 +6,8 @@ mod carry;
 mod command;
 mod end;
 mod lines;
+#[cfg(test)]
+mod tests;
 mod texts;
 
 use carry::carry_out;
