@@ -29,14 +29,16 @@ fn two_at_once_exchanged(rt: HostRuntime) {
     bench.end();
 }
 
-// A shutdown that is accepted ends the host; the connection that waits meanwhile is refused.
+// A shutdown that is accepted ends the host. The connection that waits meanwhile is refused, or left where it is if its worker
+// begins only afterwards.
 #[test]
 fn shutdown(rt: HostRuntime) {
     let mut bench = Bench::new(&rt, rt.alloc(), 0);
     let mut doors = gates(&rt, rt.alloc(), VERSION, SHUTDOWN);
     assert_eq!(rt; bench.serve(&rt, &mut doors), (1, true));
     assert!(rt; status(doors.b.reply()) == b"204".as_slice());
-    assert!(rt; status(doors.a.reply()) == b"503".as_slice());
+    let late = doors.a.reply();
+    assert!(rt; late.is_empty() || status(late) == b"503".as_slice());
     end_doors(doors);
     bench.end();
 }

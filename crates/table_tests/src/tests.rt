@@ -1,0 +1,5 @@
+//! Each call that takes memory, once.
+mod desk;
+mod makers;
+mod rows;
+mod tables;
