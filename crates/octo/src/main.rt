@@ -2,19 +2,15 @@
 #![tactic(auto)]
 
 ghost use Rattle.std.specs.Prelude.{◌≡◌};
-ghost use Rattle.octo.specs.Commands.{refused};
+ghost use Rattle.octo_commands.specs.Commands.{refused};
 
-mod demo;
 mod objects;
-mod run;
-#[cfg(test)]
-mod tests;
 
 use objects::{close, objects_of};
+use octo_commands::octo;
 use octo_host::{HostReport, write_host_report};
 use octo_outside::{ArgumentsFault, FileSource, StdSink, SystemClock, arguments};
 use octo_report::Report;
-use run::octo;
 use socket_link::SocketLink;
 use std::alloc::AllocError;
 use std::process::ExitCode;

@@ -1,7 +1,7 @@
 use Rattle.std.proofs.Common.{subst, sym, refl}
 use Rattle.octo_print.specs.Printing.{seen_of}
-use Rattle.octo.specs.Commands.{Reports}
-use Rattle.octo.proofs.run.carry_out.Goals as goal
+use Rattle.octo_commands.specs.Commands.{Reports}
+use Rattle.octo_commands.proofs.run.carry_out.Goals as goal
 
 pub returns-in-Check-clause-reports : goal.returns-in-Check-clause-reports
 returns-in-Check-clause-reports g c =

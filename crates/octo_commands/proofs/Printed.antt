@@ -18,12 +18,12 @@ use Rattle.octo_files.specs.Jobs.{job_in}
 use Rattle.octo_files.specs.Reading.{IsHeld, IsTrouble}
 use Rattle.octo_files.specs.Settings.{HaveSettings, settings_or}
 use Rattle.octo_print.specs.Printing.{Seen, HaveJob, Reads, no_settings, no_job, both, Follows, IsRun, reported, over_port}
-use Rattle.octo.specs.Commands.{Comes, out_of_memory, no_command, carried_out, hosted, hosted_by, Reports, seen_in}
+use Rattle.octo_commands.specs.Commands.{Comes, out_of_memory, no_command, carried_out, hosted, hosted_by, Reports, seen_in}
 use Rattle.hand_over.specs.Ends.{HistoryData}
 use Rattle.octo_host.specs.Hosting.{Around}
 use Rattle.octo_host.specs.declared.report.HostReport.{HostReport}
 use Rattle.octo_host.specs.declared.report.HostReport.TheVariants as host
-use Rattle.octo.specs.Enough.{Holds, GiveSettings, HasEnough, IsPrinted}
+use Rattle.octo_commands.specs.Enough.{Holds, GiveSettings, HasEnough, IsPrinted}
 
 ok_of : {A : Type 0} → A → Result A Report → A
 ok_of other (Ok x) = x

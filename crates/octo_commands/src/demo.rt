@@ -1,7 +1,7 @@
 //! The command `demo`.
 ghost use Rattle.std.specs.Prelude.{◌≡◌, ◌≤◌, ◌⊎◌, IfOk};
 ghost use Rattle.octo_report.specs.declared.report.Report.TheVariants as report;
-ghost use Rattle.octo.specs.Commands.{IsOther, IsSummary, status_of};
+ghost use Rattle.octo_commands.specs.Commands.{IsOther, IsSummary, status_of};
 
 use demo_print::{Demo, run_demo, summary};
 use octo_report::Report;

@@ -4,8 +4,8 @@ use Rattle.octo_report.specs.Status.{code_of}
 use Rattle.octo_serve.specs.Around.{link_state, keeper_state, shelf_state, door_state}
 use Rattle.octo_host.specs.Hosting.{around}
 use Rattle.octo_host.specs.Reports.{host_code}
-use Rattle.octo.proofs.Printed.{EndsPrinted, comes_printed}
-use Rattle.octo.proofs.run.octo.Goals as goal
+use Rattle.octo_commands.proofs.Printed.{EndsPrinted, comes_printed}
+use Rattle.octo_commands.proofs.run.octo.Goals as goal
 
 pub returns-in-Ok-clause-comes : goal.returns-in-Ok-clause-comes
 returns-in-Ok-clause-comes g c =

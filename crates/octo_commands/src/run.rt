@@ -10,8 +10,8 @@ ghost use Rattle.octo_serve.specs.Around.{link_state, keeper_state, shelf_state,
 ghost use Rattle.octo_host.specs.Hosting.{around};
 ghost use Rattle.octo_host.specs.Reports.{host_code};
 ghost use Rattle.octo_host.specs.declared.report.HostReport.{HostReport};
-ghost use Rattle.octo.specs.Commands.{Comes, HasCauses, HasPlainCauses, IsCheck, IsWritten, Reports, hosted_by, unread};
-ghost use Rattle.octo.specs.Enough.{HasEnough};
+ghost use Rattle.octo_commands.specs.Commands.{Comes, HasCauses, HasPlainCauses, IsCheck, IsWritten, Reports, hosted_by, unread};
+ghost use Rattle.octo_commands.specs.Enough.{HasEnough};
 
 use crate::demo::demo;
 use hand_over::History;

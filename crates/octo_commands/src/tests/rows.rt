@@ -1,11 +1,10 @@
 //! Commands, each with what it comes to.
 use super::{DONE, HOME_AND_MOVE, Row, UNSENT, assert_row};
 use printer_link::Fate;
-use std::test::Fail;
 
 // A line that is lost and one that is corrupted are sent again.
 #[test]
-fn lossy_line(rt: HostRuntime) -> Result<(), Fail> {
+fn lossy_line(rt: HostRuntime) {
     let corrupted = Row {
         fates: &[Fate::Whole, Fate::Garbled],
         sends: 5,
@@ -16,12 +15,12 @@ fn lossy_line(rt: HostRuntime) -> Result<(), Fail> {
         sends: 5,
         ..DONE
     };
-    assert_row(&rt, &corrupted)?;
-    assert_row(&rt, &lost)
+    assert_row(&rt, rt.alloc(), &corrupted);
+    assert_row(&rt, rt.alloc(), &lost);
 }
 
 #[test]
-fn failures(rt: HostRuntime) -> Result<(), Fail> {
+fn failures(rt: HostRuntime) {
     let rows = [
         Row {
             source_fails: &[1],
@@ -49,14 +48,13 @@ fn failures(rt: HostRuntime) -> Result<(), Fail> {
         },
     ];
     for row in &rows {
-        assert_row(&rt, row)?;
+        assert_row(&rt, rt.alloc(), row);
     }
-    Ok(())
 }
 
 // The printer restarts while the first command is on its way, and while the second is.
 #[test]
-fn restarts(rt: HostRuntime) -> Result<(), Fail> {
+fn restarts(rt: HostRuntime) {
     let restarted = Row {
         code: 6,
         text: b"session ended: printer restarted\n",
@@ -72,26 +70,27 @@ fn restarts(rt: HostRuntime) -> Result<(), Fail> {
         executed: b"G28\n",
         ..restarted
     };
-    assert_row(&rt, &at_first)?;
-    assert_row(&rt, &at_second)
+    assert_row(&rt, rt.alloc(), &at_first);
+    assert_row(&rt, rt.alloc(), &at_second);
 }
 
 #[test]
-fn allowed_turns(rt: HostRuntime) -> Result<(), Fail> {
+fn allowed_turns(rt: HostRuntime) {
     assert_row(
         &rt,
+        rt.alloc(),
         &Row {
             words: &["print", "p", "a.gcode", "--turns", "6"],
             code: 10,
             text: b"turns used: 6\n",
             ..DONE
         },
-    )
+    );
 }
 
 // Settings with a script at the beginning and at the end of a print, and the limit 250 for the tool.
 #[test]
-fn settings(rt: HostRuntime) -> Result<(), Fail> {
+fn settings(rt: HostRuntime) {
     let print = Row {
         words: &["print", "p", "a.gcode", "--settings", "s"],
         executed: b"M107\nG28\nG1 X10\nM84\n",
@@ -111,13 +110,13 @@ fn settings(rt: HostRuntime) -> Result<(), Fail> {
         text: b"settings: not toml\n",
         ..UNSENT
     };
-    assert_row(&rt, &print)?;
-    assert_row(&rt, &hot)?;
-    assert_row(&rt, &missing)
+    assert_row(&rt, rt.alloc(), &print);
+    assert_row(&rt, rt.alloc(), &hot);
+    assert_row(&rt, rt.alloc(), &missing);
 }
 
 #[test]
-fn checks(rt: HostRuntime) -> Result<(), Fail> {
+fn checks(rt: HostRuntime) {
     let check = Row {
         words: &["check", "a.gcode"],
         file: b"M109 S215\nG1 X10.5 E0.02 ; line\r\n\r\n",
@@ -125,11 +124,11 @@ fn checks(rt: HostRuntime) -> Result<(), Fail> {
         text: b"commands 2\nskipped 1\nhottest tool 215\nhottest bed 0\n",
         ..UNSENT
     };
-    assert_row(&rt, &check)
+    assert_row(&rt, rt.alloc(), &check);
 }
 
 #[test]
-fn measures(rt: HostRuntime) -> Result<(), Fail> {
+fn measures(rt: HostRuntime) {
     let file = b"G28\nM83\nG1 X10 Y5 E2.5\nG1 X20 E-1\nG92 E0\nG91\nG1 Z0.2 E1\n";
     let rest = Row {
         words: &["rest", "a.gcode", "4"],
@@ -144,13 +143,13 @@ fn measures(rt: HostRuntime) -> Result<(), Fail> {
         text: b"file: 7 commands\n",
         ..rest
     };
-    assert_row(&rt, &rest)?;
-    assert_row(&rt, &past)
+    assert_row(&rt, rt.alloc(), &rest);
+    assert_row(&rt, rt.alloc(), &past);
 }
 
 // A host without a message, one that is shut down by its first, and one that the settings refuse.
 #[test]
-fn hosts(rt: HostRuntime) -> Result<(), Fail> {
+fn hosts(rt: HostRuntime) {
     let unasked = Row {
         words: &["serve", "a", "f", "d", "--settings", "s"],
         code: 0,
@@ -170,18 +169,18 @@ fn hosts(rt: HostRuntime) -> Result<(), Fail> {
         text: b"settings: not toml\n",
         ..UNSENT
     };
-    assert_row(&rt, &unasked)?;
-    assert_row(&rt, &shut)?;
-    assert_row(&rt, &refused)
+    assert_row(&rt, rt.alloc(), &unasked);
+    assert_row(&rt, rt.alloc(), &shut);
+    assert_row(&rt, rt.alloc(), &refused);
 }
 
 #[test]
-fn demos(rt: HostRuntime) -> Result<(), Fail> {
+fn demos(rt: HostRuntime) {
     let demo = Row {
         words: &["demo", "1", "3"],
         code: 0,
         text: b"demo seed 1 commands 3\nexecuted 3\nsent 8\nfaults 2\nstatus 0\n",
         ..UNSENT
     };
-    assert_row(&rt, &demo)
+    assert_row(&rt, rt.alloc(), &demo);
 }

@@ -1,9 +1,9 @@
 use Rattle.std.proofs.Common.{subst, Ok}
 use Rattle.octo_files.specs.Settings.{HaveSettings}
 use Rattle.octo_files.specs.Checks.{check_report}
-use Rattle.octo.specs.Commands.{Given, checked}
+use Rattle.octo_commands.specs.Commands.{Given, checked}
 use Rattle.std.proofs.Common.{◌≡◌}
-use Rattle.octo.proofs.run.check.Goals as goal
+use Rattle.octo_commands.proofs.run.check.Goals as goal
 
 pub returns-in-Ok-clause-check : goal.returns-in-Ok-clause-check
 returns-in-Ok-clause-check g c =

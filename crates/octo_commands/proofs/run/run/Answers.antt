@@ -1,9 +1,9 @@
 use Rattle.std.proofs.Common.{◌≡◌, refl, sym, ap, true, false}
 use Rattle.octo_host.specs.declared.hosting.HostEnd.{HostEnd}
 use Rattle.octo_report.specs.declared.report.Report.TheVariants as report
-use Rattle.octo.specs.Commands.{carried_out, hosted}
-use Rattle.octo.proofs.Refusals.{other_host}
-use Rattle.octo.proofs.run.run.Goals as goal
+use Rattle.octo_commands.specs.Commands.{carried_out, hosted}
+use Rattle.octo_commands.proofs.Refusals.{other_host}
+use Rattle.octo_commands.proofs.run.run.Goals as goal
 
 pub returns-in-Some-clause-comes : goal.returns-in-Some-clause-comes
 returns-in-Some-clause-comes g c =

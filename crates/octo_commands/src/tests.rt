@@ -1,0 +1,286 @@
+//! Whole commands over files, a link, doors and an output in memory. Out of memory, a test stops.
+ghost use Rattle.std.specs.Prelude.{◌≡◌, false, All};
+ghost use Rattle.octo_doors.specs.Memory.{IsUntouched};
+ghost use Rattle.printer_link.specs.Memory.{link_world};
+
+mod rows;
+
+use crate::run::{Status, octo};
+use byte_text::Name;
+use octo_doors::{ConnList, Doors, MemoryDoor};
+use octo_keeper::{MemoryKeeper, MemoryShelf, Tables};
+use octo_outside::{
+    CallList, ItemList, MemoryClock, MemoryConn, MemorySink, MemorySource, NameList, WordList,
+};
+use printer_link::{Fate, FateList, MemoryLink, Schedule};
+use std::alloc::Global;
+use std::process::Abort;
+use std::sync::Wait;
+use std::thread::Threads;
+
+fn calls(rt: &impl Abort, alloc: Global, numbers: &[u64]) -> CallList {
+    let mut list = CallList::new(alloc);
+    for number in numbers {
+        assert!(rt; list.push(*number).is_ok());
+    }
+    list
+}
+
+fn ports(rt: &impl Abort, alloc: Global) -> NameList {
+    let mut ports = NameList::new(alloc);
+    match Name::from_text("p") {
+        Some(name) => assert!(rt; ports.push(name).is_ok()),
+        None => panic!(rt; "a long name"),
+    }
+    ports
+}
+
+fn fates(rt: &impl Abort, alloc: Global, row: &Row) -> FateList {
+    let mut list = FateList::new(alloc);
+    for fate in row.fates {
+        assert!(rt; list.push(*fate).is_ok());
+    }
+    list
+}
+
+// A printer at port p with 4 places and the last number 4.
+fn link(rt: &impl Abort, alloc: Global, row: &Row) -> MemoryLink
+    ensures { (link_world result).linked ≡ false }
+{
+    let schedule = Schedule {
+        names: ports(rt, alloc),
+        last: 4,
+        places: 4,
+        advanced: false,
+        fates: fates(rt, alloc, row),
+        slow: 0,
+        fail_at: calls(rt, alloc, row.link_fails),
+        restart_at: calls(rt, alloc, row.restarts),
+    };
+    match MemoryLink::new(alloc, schedule) {
+        Ok(link) => link,
+        Err(_) => panic!(rt; "no memory"),
+    }
+}
+
+fn word_list(rt: &impl Abort, alloc: Global, words: &[&str]) -> WordList {
+    let mut list = WordList::new(alloc);
+    for word in words {
+        assert!(rt; list.push(word).is_ok());
+    }
+    list
+}
+
+// A source with the row's file and the settings.
+fn files(rt: &impl Abort, alloc: Global, row: &Row) -> MemorySource {
+    let mut files = MemorySource::new(alloc, calls(rt, alloc, row.source_fails));
+    assert!(rt; files.put("a.gcode", row.file).is_ok());
+    assert!(rt; files.put("s", SETTINGS).is_ok());
+    files
+}
+
+// A keeper of empty tables.
+fn keeper(alloc: Global) -> MemoryKeeper {
+    let tables = Tables {
+        users: ItemList::new(alloc),
+        queue: ItemList::new(alloc),
+        prints: ItemList::new(alloc),
+    };
+    MemoryKeeper::new(tables, CallList::new(alloc))
+}
+
+fn conn(rt: &impl Abort, alloc: Global, input: &[u8]) -> MemoryConn
+    ensures { IsUntouched result }
+{
+    match MemoryConn::new(alloc, input, CallList::new(alloc), CallList::new(alloc)) {
+        Ok(conn) => conn,
+        Err(_) => panic!(rt; "no memory"),
+    }
+}
+
+// One more connection with this input.
+fn with_conn(rt: &impl Abort, alloc: Global, conns: ConnList, input: &[u8]) -> ConnList
+    requires { All IsUntouched conns }
+    ensures { All IsUntouched result }
+{
+    let mut conns = conns;
+    match conns.push(conn(rt, alloc, input)) {
+        Ok(()) => conns,
+        Err(_) => panic!(rt; "no memory"),
+    }
+}
+
+// A door at which these connections come.
+fn door(rt: &impl Abort, alloc: Global, inputs: &[&[u8]]) -> MemoryDoor {
+    let mut conns = ConnList::new(alloc);
+    for input in inputs {
+        conns = with_conn(rt, alloc, conns, input);
+    }
+    MemoryDoor::new(alloc, conns, CallList::new(alloc), CallList::new(alloc))
+}
+
+/// What a command works with.
+#[derive(Drop)]
+struct Bench {
+    files: MemorySource,
+    link: MemoryLink,
+    out: MemorySink,
+    clock: MemoryClock,
+    keeper: MemoryKeeper,
+    shelf: MemoryShelf,
+    doors: Doors<MemoryDoor>,
+}
+
+impl Bench {
+    // That of a row, whose connections come at its first door.
+    fn of(rt: &impl Abort, alloc: Global, row: &Row) -> Bench
+        ensures { (link_world result.link).linked ≡ false }
+    {
+        Bench {
+            files: files(rt, alloc, row),
+            link: link(rt, alloc, row),
+            out: MemorySink::new(alloc, calls(rt, alloc, row.sink_fails)),
+            clock: MemoryClock::new(0, 1),
+            keeper: keeper(alloc),
+            shelf: MemoryShelf::new(alloc, CallList::new(alloc)),
+            doors: Doors {
+                a: door(rt, alloc, row.inputs),
+                b: door(rt, alloc, &[]),
+                c: door(rt, alloc, &[]),
+                d: door(rt, alloc, &[]),
+            },
+        }
+    }
+
+    fn carry_out<R: Threads + Wait + Clone + Send + Sync + Drop>(
+        &mut self,
+        rt: &R,
+        alloc: Global,
+        words: &WordList,
+    ) -> Status
+        requires { (link_world self.old.link).linked ≡ false }
+    {
+        octo(
+            rt,
+            alloc,
+            words,
+            &mut self.files,
+            &mut self.link,
+            &mut self.out,
+            &mut self.clock,
+            &mut self.keeper,
+            &mut self.shelf,
+            &mut self.doors,
+        )
+    }
+
+    // A test that let its bench fall would prove the drops of all that it has again.
+    fn end(self) {}
+}
+
+const HOME_AND_MOVE: &[u8] = b"G28\nG1 X10\n";
+
+// A command with the calls that fail, and what it comes to.
+#[derive(Clone, Copy)]
+struct Row {
+    words: &'static [&'static str],
+    file: &'static [u8],
+    inputs: &'static [&'static [u8]],
+    fates: &'static [Fate],
+    link_fails: &'static [u64],
+    restarts: &'static [u64],
+    source_fails: &'static [u64],
+    sink_fails: &'static [u64],
+    code: u8,
+    text: &'static [u8],
+    executed: &'static [u8],
+    sends: u64,
+}
+
+const PRINT: &[&str] = &["print", "p", "a.gcode"];
+
+// A script before each print and after it, and a lower limit.
+const SETTINGS: &[u8] =
+    b"[printer]\nports = [\"p\"]\n\n[limits]\ntool = 250\n\n[admin]\nname = \"root\"\nkey_sha256 = \"470dc872b1b47dac8456c9f0800583d1176d1a2f194b626000379d1d7d7fc920\"\n\n[scripts]\nbeforePrintStarted = [\"M107\"]\nafterPrintDone = [\"M84\"]\n";
+
+// The print of two commands over a line without losses.
+const DONE: Row = Row {
+    words: PRINT,
+    file: HOME_AND_MOVE,
+    inputs: &[],
+    fates: &[],
+    link_fails: &[],
+    restarts: &[],
+    source_fails: &[],
+    sink_fails: &[],
+    code: 0,
+    text: b"done: 2 commands, 0 skipped\n",
+    executed: HOME_AND_MOVE,
+    sends: 3,
+};
+
+// A command that sends nothing.
+const UNSENT: Row = Row {
+    executed: b"",
+    sends: 0,
+    ..DONE
+};
+
+// The executed lines are these, each as its text and a line feed.
+fn assert_executed(rt: &impl Abort, alloc: Global, link: &MemoryLink, wanted: &[u8]) {
+    let mut texts = Vec::new(alloc);
+    match link.executed(1) {
+        Ok(lines) => {
+            for line in lines.as_slice() {
+                assert!(rt; texts.extend_from_slice(line.text.as_slice()).is_ok());
+                assert!(rt; texts.push(b'\n').is_ok());
+            }
+        }
+        Err(_) => panic!(rt; "no memory"),
+    }
+    assert_eq!(rt; texts.as_slice(), wanted);
+}
+
+fn code_of(status: Status) -> u8 {
+    status.code
+}
+
+// A command by a row.
+fn assert_row<R: Threads + Wait + Clone + Send + Sync + Drop + Abort>(
+    rt: &R,
+    alloc: Global,
+    row: &Row,
+) {
+    let words = word_list(rt, alloc, row.words);
+    let mut bench = Bench::of(rt, alloc, row);
+    let code = code_of(bench.carry_out(rt, alloc, &words));
+    assert_eq!(rt; code, row.code);
+    assert_eq!(rt; bench.out.written().unwrap_or(&[]), row.text);
+    assert_executed(rt, alloc, &bench.link, row.executed);
+    assert_eq!(rt; bench.link.sends(), row.sends);
+    bench.end();
+}
+
+#[test]
+fn ample(rt: HostRuntime) {
+    assert_row(&rt, rt.alloc(), &DONE);
+}
+
+#[test]
+fn refused_arguments(rt: HostRuntime) {
+    let rows: [&[&str]; 4] = [
+        &[],
+        &["print", "p"],
+        &["Check", "a.gcode"],
+        &["print", "p", "a.gcode", "--turns", "0"],
+    ];
+    for words in rows {
+        let row = Row {
+            words,
+            code: 2,
+            text: b"octo: bad words\n",
+            ..UNSENT
+        };
+        assert_row(&rt, rt.alloc(), &row);
+    }
+}
