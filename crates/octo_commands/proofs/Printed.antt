@@ -119,7 +119,7 @@ comes_printed words files old new r known e sure (out_of_memory is unused none) 
 comes_printed words files old new r known e sure (no_command is none unused unknown) =
     let no : None ≡ Some (command.Print e.port e.file e.turns e.settings) = sym none ∙ e.asked in
     absurd (cc)
-comes_printed words files old new r known e sure (carried_out asked plain is r_is reports aside none) =
+comes_printed words files old new r known e sure (carried_out asked plain is r_is reports waited aside none) =
     (plain, r_is, reports_printed words old.link.kind files (seen_in old new) plain e (λ failed. sure (r_is ∙ ap (λ (p : Report). host.Command p) failed)) asked is reports)
 comes_printed words files old new r known e sure (hosted asked settings is by hosts) =
     let same = same_Some asked (command.Print e.port e.file e.turns e.settings) (sym is ∙ e.asked) in

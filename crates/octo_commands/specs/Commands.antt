@@ -3,6 +3,7 @@ use Rattle.std.specs.Prelude.{◌≡◌, ◌≢◌, ◌⊎◌, ℕ, List, Option
 use Rattle.octo_outside.specs.Told.{Adds, AddsPrefix, Rose}
 use Rattle.octo_outside.specs.Traits.{Files}
 use Rattle.printer_link.specs.Link.{LinkKind, RoseBy}
+use Rattle.send_window.specs.declared.session_end.SessionEnd.TheVariants.{NoAnswer}
 use Rattle.session_print.specs.declared.end.PrintEnd.{PrintEnd}
 use Rattle.session_print.specs.declared.end.PrintEnd.TheVariants as end
 use Rattle.demo_print.specs.Run.{IsDemo, counts_of}
@@ -20,7 +21,7 @@ use Rattle.octo_files.specs.Checks.{check_report}
 use Rattle.octo_files.specs.Measures.{measure_report, IsRestReport}
 use Rattle.octo_files.specs.Reading.{FileGives, IsTrouble}
 use Rattle.octo_files.specs.Settings.{HaveSettings}
-use Rattle.octo_print.specs.Printing.{Seen, IsFilePrint, over_port, seen_of}
+use Rattle.octo_print.specs.Printing.{Seen, IsFilePrint, WaitedBySettings, over_port, seen_of}
 use Rattle.hand_over.specs.Ends.{HistoryData}
 use Rattle.octo_host.specs.Hosting.{Around, Hosts, HasHostCauses}
 use Rattle.octo_host.specs.Reports.{host_code, host_text}
@@ -76,6 +77,12 @@ Reports kind files h (command.Rest file from) r =
     Given files file r (λ bytes. IsRestReport from bytes r) × (h.now ≡ h.first)
 Reports kind files h (command.Serve address folder database settings) r = ⊥
 
+-- a print that is reported with no answer waited five limits of its settings, by a clock that showed this moment first
+abbrev pub HasWaitedFor : Option Files → Option ℕ → Option ℕ → Command → Report → Type 0
+HasWaitedFor files began now (command.Print port file turns settings) r =
+    (count : ℕ) → r ≡ report.Ended (NoAnswer count) → WaitedBySettings files settings count began now
+HasWaitedFor files began now asked r = Unit {0}
+
 -- the file of settings of a command that serves
 abbrev pub hosted_by : Command → Option (List ℕ)
 hosted_by (command.Serve address folder database settings) = Some settings
@@ -96,7 +103,8 @@ pub data Comes (words : List (List ℕ)) (files : Option Files) (old new : Aroun
   out_of_memory : r ≡ host.Command report.NoMemory → new ≡ old → known ≡ None → Comes words files old new r known
   no_command : r ≡ host.Command report.BadWords → command_of words ≡ None → new ≡ old → known ≡ None → Comes words files old new r known
   carried_out : (asked : Command) (plain : Report) → command_of words ≡ Some asked → r ≡ host.Command plain
-      → Reports old.link.kind files (seen_in old new) asked plain → AreAside old new → known ≡ None → Comes words files old new r known
+      → Reports old.link.kind files (seen_in old new) asked plain → HasWaitedFor files old.moment new.moment asked plain
+      → AreAside old new → known ≡ None → Comes words files old new r known
   hosted : (asked : Command) (settings : List ℕ) → command_of words ≡ Some asked → hosted_by asked ≡ Some settings
       → Hosts files settings old new r known → Comes words files old new r known
 

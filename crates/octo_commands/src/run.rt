@@ -10,7 +10,7 @@ ghost use Rattle.octo_serve.specs.Around.{link_state, keeper_state, shelf_state,
 ghost use Rattle.octo_host.specs.Hosting.{around};
 ghost use Rattle.octo_host.specs.Reports.{host_code};
 ghost use Rattle.octo_host.specs.declared.report.HostReport.{HostReport};
-ghost use Rattle.octo_commands.specs.Commands.{Comes, HasCauses, HasPlainCauses, IsCheck, IsWritten, Reports, hosted_by, unread};
+ghost use Rattle.octo_commands.specs.Commands.{Comes, HasCauses, HasPlainCauses, HasWaitedFor, IsCheck, IsWritten, Reports, hosted_by, unread};
 ghost use Rattle.octo_commands.specs.Enough.{HasEnough};
 
 use crate::demo::demo;
@@ -90,6 +90,8 @@ fn carry_out<F: Source, L: Link, T: Clock>(
         (L.faults link.old) (L.faults link.new) (T.moment clock.new)) command.now result }
     ensures causes { HasPlainCauses (F.faults files.old) (F.faults files.new)
         (L.faults link.old) (L.faults link.new) (L.calls link.old) (L.calls link.new) result }
+    ensures waited { HasWaitedFor (F.files files.old) (T.moment clock.old) (T.moment clock.new)
+        command.now result }
     ensures output { code_of result ≢ 8 }
     ensures kind { L.kind link.new ≡ L.kind link.old }
     ensures counted { F.faults files.old ≤ F.faults files.new }

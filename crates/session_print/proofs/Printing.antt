@@ -1,12 +1,14 @@
 -- What a print has made of a history, by its plan and its end.
-use Rattle.std.proofs.Common.{◌≡◌, ℕ, zero, suc, ◌≤◌, List, [], ◌∷◌, ◌++◌, length, take, refl, ◌∙◌, ap, arith}
-use Rattle.std.specs.Prelude.{Option, Some, None}
+use Rattle.std.proofs.Common.{◌≡◌, ◌⊎◌, inl, inr, ℕ, zero, suc, ◌≤◌, List, [], ◌∷◌, ◌++◌, length, take, refl, sym, ◌∙◌, ap, arith}
+use Rattle.std.specs.Prelude.{◌<◌, Option, Some, None}
 use Rattle.printer_model.specs.Executed.{opens, executed}
 use Rattle.printer_model.specs.declared.event.WorldEvent.{WorldEvent}
 use Rattle.printer_link.specs.Link.{LinkKind}
 use Rattle.lossy_line.specs.Tied.{logged_from}
 use Rattle.print_course.specs.Plan.{Weave, empty, WeavesPart}
-use Rattle.lossy_turns.specs.History.{HasIssued}
+use Rattle.octo_session.specs.Data.{SessionData}
+use Rattle.lossy_turns.specs.History.{HasIssued, IsMade}
+use Rattle.lossy_turns.specs.Patience.{IsUnanswered}
 use Rattle.session_print.specs.Printed.{HasPrinted}
 use Rattle.session_print.specs.declared.end.PrintEnd.{PrintEnd}
 use Rattle.session_print.specs.declared.end.PrintEnd.TheVariants as end
@@ -23,9 +25,10 @@ take_over (suc n) (x ∷ xs) within = ap (λ (l : List _). x ∷ l) (take_over n
 
 -- what was issued, by the plan
 pub printed_of : (kind : LinkKind) (plan : List (List ℕ)) (how : PrintEnd) (issued : List (List ℕ)) (acked : ℕ) (past added : List WorldEvent) →
-    WeavesPart issued plan → (how ≡ end.Done → Weave issued plan × (acked ≡ length issued)) → HasIssued kind issued acked past added →
+    WeavesPart issued plan → (how ≡ end.Done → Weave issued plan × (acked ≡ length issued)) →
+    ((count : ℕ) → how ≡ end.Ended (NoAnswer count) → (issued ≡ []) ⊎ (acked < length issued)) → HasIssued kind issued acked past added →
     HasPrinted kind plan how acked past added
-printed_of kind plan how issued acked past added part all h = record {
+printed_of kind plan how issued acked past added part all unanswered h = record {
   issued = issued;
   of_plan = part;
   history = h;
@@ -35,7 +38,22 @@ printed_of kind plan how issued acked past added part all h = record {
         ∙ ap (logged_from 1) (take_over (length (executed kind.slots kind.numbered (past ++ added) (suc (opens past)))) issued (omega (arith, whole.1, h.tied.acked_run)));
     all_acked = whole.1;
   });
+  unanswered = unanswered;
 }
+
+none_of : {X : Type 0} (xs : List X) → length xs ≡ 0 → xs ≡ []
+none_of [] none = refl
+none_of (x ∷ xs) none = absurd (omega (arith, none))
+
+-- a sender that waits for an answer issued nothing, or not all is acknowledged
+pub unanswered_of : (kind : LinkKind) (issued : List (List ℕ)) (x : SessionData) (past added : List WorldEvent) → IsMade kind issued x past added →
+    IsUnanswered x.sender → (issued ≡ []) ⊎ (x.sender.acked < length issued)
+unanswered_of kind issued x past added made (inl unready) =
+    let n = made.opened.traced.meets.numbers in
+    inl (none_of issued (sym n.holds.count ∙ n.sound.hello_first unready))
+unanswered_of kind issued x past added made (inr above) =
+    let n = made.opened.traced.meets.numbers in
+    inr (omega (arith, above, n.holds.count))
 
 -- nothing was issued
 pub part_none : (plan : List (List ℕ)) → WeavesPart [] plan

@@ -6,6 +6,7 @@ use Rattle.desk_steps.specs.declared.state.State.TheVariants.{Offline, Operation
 use Rattle.desk_steps.specs.declared.link_fact.LinkFact.{LinkFact}
 use Rattle.desk_steps.specs.declared.link_fact.LinkFact.TheVariants as fact
 use Rattle.send_window.specs.declared.session_end.SessionEnd.{SessionEnd}
+use Rattle.send_window.specs.declared.session_end.SessionEnd.TheVariants.{NoAnswer}
 use Rattle.print_records.specs.declared.ending.Ending.{Ending}
 use Rattle.printer_model.specs.declared.event.WorldEvent.{WorldEvent}
 use Rattle.printer_link.specs.Link.{LinkKind, Recorded, world_in}
@@ -33,11 +34,12 @@ use Rattle.lossy_line.proofs.Turned.{IsTurned, dials_down, rests_down, opens_dia
 use Rattle.session_print.specs.Ends.{IsUnsent, end_of}
 use Rattle.session_print.specs.Printed.{HasPrinted, IsOver}
 use Rattle.lossy_turns.specs.History.{IsMade}
+use Rattle.lossy_turns.specs.Patience.{IsUnanswered}
 use Rattle.session_print.specs.BetweenTurns.{IsDialling, IsTalking, IsBetweenTurns, GoesOn}
 use Rattle.session_print.specs.declared.end.PrintEnd.{PrintEnd}
 use Rattle.session_print.specs.declared.end.PrintEnd.TheVariants as end
 use Rattle.lossy_turns.proofs.Histories.{none_printed, nothing_added}
-use Rattle.session_print.proofs.Printing.{printed_of, part_none}
+use Rattle.session_print.proofs.Printing.{printed_of, unanswered_of, part_none}
 use Rattle.lossy_turns.proofs.Turns.{ports_dialling, turned_all, made_on, made_now, none_made, none_added, made_printed}
 use Rattle.session_print.proofs.Course.{closed_off}
 use Rattle.lossy_turns.proofs.Lasting.{sound_steps, ended_turn}
@@ -51,6 +53,7 @@ pub record HasTurned (moment : ℕ) (kind : LinkKind) (old_past new_past : Optio
   pub ready_is : mid.sender.ready ≡ ready_after (fact_of turned.note) old.sender.ready
   pub not_fallen : (fact_of turned.note ≡ fact.Opened) ⊎ (old.sender.acked ≤ mid.sender.acked)
   pub no_port : (fact_of turned.note ≡ fact.NoPort) ↔ ((doing old ≡ Dialling) × (kind.listed (port_of old.desk) ≡ false))
+  pub unanswered : (count : ℕ) → fact_of turned.note ≡ fact.Ended (NoAnswer count) → IsUnanswered mid.sender
   pub caused : (why : SessionEnd) → fact_of turned.note ≡ fact.Ended why → (issued : List (List ℕ)) → LinkedAs kind old_past issued old → EndCausedAs kind new_past why
 
 -- which end it is
@@ -121,7 +124,7 @@ module _ (moment : ℕ) (kind : LinkKind) (old_past new_past : Option (List Worl
       λ past added t. (let none = none_made moment kind old mid h.turn.got h.turn.found texts past added other d.dials t in
       let A : ℕ → Type 0 = λ n. HasPrinted kind whole how n past added in
       subst A (sym (ap (λ (s : SenderData). s.acked) none.1 ∙ d.none_acked))
-      (printed_of kind whole how [] 0 past added (part_none whole) (λ is. absurd (undone is)) (none_printed kind past added none.0)))
+      (printed_of kind whole how [] 0 past added (part_none whole) (λ is. absurd (undone is)) (λ count is. absurd (unended (NoAnswer count) is)) (none_printed kind past added none.0)))
       in
       record {
         printed = subst F d.nothing (recorded_so old_past new_past
@@ -232,7 +235,8 @@ module _ (moment : ℕ) (kind : LinkKind) (old_past new_past : Option (List Worl
         printed = recorded_so first new_past (λ past added. IsMade kind now mid past added)
             (λ past added. HasPrinted kind whole how mid.sender.acked past added) (talk_made l)
             (λ past added made. printed_of kind whole how now mid.sender.acked past added (underway-part p mid.desk now (underway l.issued l.on.course))
-            (λ done. talk_whole l (closed done)) (made_printed kind now mid past added made));
+            (λ done. talk_whole l (closed done))
+            (λ count is. unanswered_of kind now mid past added made (h.unanswered count (ends (NoAnswer count) is))) (made_printed kind now mid past added made));
         ended = λ why is. record { its_end = talk_ended why (sym its_fact ∙ ends why is); caused = h.caused why (ends why is) l.issued (talk_linked l) };
         unsent = λ none. absurd (sent none);
       }

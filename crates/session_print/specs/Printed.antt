@@ -1,9 +1,10 @@
 -- What a print has made of the history of its link.
-use Rattle.std.specs.Prelude.{◌≡◌, ℕ, suc, List, ◌++◌, length, Option, Some}
+use Rattle.std.specs.Prelude.{◌≡◌, ◌⊎◌, ◌<◌, ℕ, suc, List, [], ◌++◌, length, Option, Some}
 use Rattle.printer_model.specs.Executed.{opens, executed}
 use Rattle.printer_model.specs.declared.event.WorldEvent.{WorldEvent}
 use Rattle.printer_link.specs.Link.{LinkKind, Recorded}
 use Rattle.send_window.specs.declared.session_end.SessionEnd.{SessionEnd}
+use Rattle.send_window.specs.declared.session_end.SessionEnd.TheVariants.{NoAnswer}
 use Rattle.send_window.specs.Data.{SenderData}
 use Rattle.octo_session.specs.Data.{SessionData}
 use Rattle.lossy_line.specs.Tied.{EndCausedAs, logged_from}
@@ -27,6 +28,8 @@ pub record HasPrinted (kind : LinkKind) (plan : List (List ℕ)) (how : PrintEnd
   pub history : HasIssued kind issued acked past added
   -- a print that is done has made the whole of it
   pub done : how ≡ end.Done → IsWhole kind plan issued acked past added
+  -- one that had no answer had none to its hello, or not to all of its lines
+  pub unanswered : (count : ℕ) → how ≡ end.Ended (NoAnswer count) → (issued ≡ []) ⊎ (acked < length issued)
 
 -- a session ended so: its sender has, and the history shows the cause
 pub record HasEnded (kind : LinkKind) (now : Option (List WorldEvent)) (s : SenderData) (why : SessionEnd) : Type 0 where

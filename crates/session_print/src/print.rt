@@ -166,7 +166,8 @@ fn make_turn<L: Link, T: Clock>(
 ) -> Option<PrintEnd>
     requires as_up { L.up link.old ≡ session.old.up }
     requires unstarted { session.old.sender.ready ≡ false → session.old.desk.greatest ≡ 0 }
-    ensures goes { (p : PrintData) (port : List ℕ) (first : Option (List WorldEvent))
+    ensures goes { (p : PrintData) (port : List ℕ) (first : Option (List WorldEvent)) (limit : ℕ)
+        → IsPatient 0 limit session.old.sender
         → IsBetweenTurns (L.kind link.old) p port first (L.past link.old) session.old
         → GoesOn (L.kind link.old) p port result first (L.past link.new) session.new }
     ensures no_port { (result ≡ Some end.NoPort) ↔ ((doing session.old ≡ now_doing.Dialling)

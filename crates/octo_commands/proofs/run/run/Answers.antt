@@ -23,4 +23,4 @@ returns-in-Some-clause-output g c = other_host c.host.result.report c.host.ensur
 pub returns-clause-comes : goal.returns-clause-comes
 returns-clause-comes g c =
     carried_out c.in-Ok.command c.carry_out-report.result c.in-Ok.ensures.read (ap (λ (h : HostEnd). h.report) c.unserved.ensures)
-    c.carry_out-report.ensures.reports (record { keeper = refl; shelf = refl; doors = refl }) (ap (λ (h : HostEnd). h.history) c.unserved.ensures)
+    c.carry_out-report.ensures.reports c.carry_out-report.ensures.waited (record { keeper = refl; shelf = refl; doors = refl }) (ap (λ (h : HostEnd). h.history) c.unserved.ensures)

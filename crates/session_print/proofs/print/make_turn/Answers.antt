@@ -27,7 +27,7 @@ use Rattle.session_print.proofs.Prompting.{leads_left}
 use Rattle.session_print.proofs.print.make_turn.Goals as goal
 
 pub returns-clause-goes : goal.returns-clause-goes
-returns-clause-goes g c p port first way =
+returns-clause-goes g c p port first limit patient way =
     let e = c.turn_over_link-turned.ensures in
     let turned = c.turn_over_link-turned.result in
     let old : SessionData = c.args.session.now in
@@ -43,6 +43,10 @@ returns-clause-goes g c p port first way =
       ready_is = e.ready_is;
       not_fallen = e.not_fallen;
       no_port = e.no_port;
+      unanswered = λ count is. (let t = e.turn in
+          let found : fact_of turned.note ≡ t.found = noted_fact turned.note c.args.moment old.sender.acked mid.sender.acked t.lines t.got t.found t.none t.some in
+          let F : LinkFact → Type 0 = λ f. can_find (doing old) f ≡ true in
+          (turn_unanswered c.args.moment _ _ _ _ _ old mid turned t 0 limit (omega arith) count e.before patient (sym found ∙ is) (subst F found e.finds)).1);
       caused = λ why is issued linked. (let K : LinkKind → Type 0 = λ k. EndCausedAs k now why in subst K e.kind (e.caused why is issued linked));
     }
     in

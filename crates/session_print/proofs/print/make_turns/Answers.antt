@@ -43,7 +43,7 @@ loop-preserved g c =
     record {
       up = c.in-None.ensures.up refl;
       way = λ p dialling. (let K : LinkKind → Type 0 = λ k. IsTalking k p port first (g.L.Link.past c.make_turn.new.link) c.make_turn.new.session in
-          inr (subst K (sym c.make_turn.ensures.kind) (c.in-None.ensures.goes p port first (under c.loop.counter kind p port first now c.loop.session (i.way p dialling)))));
+          inr (subst K (sym c.make_turn.ensures.kind) (c.in-None.ensures.goes p port first c.args.session.now.sender.limit i.on_time.patient (under c.loop.counter kind p port first now c.loop.session (i.way p dialling)))));
       kind = c.make_turn.ensures.kind ∙ i.kind;
       calls = rose_then c.loop.counter 1 (g.L.Link.calls c.args.link.now) (g.L.Link.calls c.loop.link) _ i.calls (c.in-None.ensures.calls (awake c.loop.counter kind b.print port first now c.loop.session (i.way b.print b.dialling)) refl);
       on_time = on_time_next _ _ _ _ _ _ _ _ _ _ i.on_time c.now.ensures.now c.now.ensures.stays c.make_turn.ensures.clock c.max-moment.ensures
@@ -72,7 +72,7 @@ returns-in-Some-clause-over g c p dialling =
     let kind = g.L.Link.kind c.loop.link in
     let first = g.L.Link.past c.args.link.now in
     let port = port_of c.args.session.now.desk in
-    let over = c.in-Some.ensures.goes p port first (under c.loop.counter kind p port first (g.L.Link.past c.loop.link) c.loop.session (i.way p dialling)) in
+    let over = c.in-Some.ensures.goes p port first c.args.session.now.sender.limit i.on_time.patient (under c.loop.counter kind p port first (g.L.Link.past c.loop.link) c.loop.session (i.way p dialling)) in
     let K : LinkKind → Type 0 = λ k. IsOver k (plan p.scripts (print_commands p)) c.in-Some.end first (g.L.Link.past c.make_turn.new.link) c.make_turn.new.session in
     subst K i.kind over
 
