@@ -1,5 +1,6 @@
 -- What a door returns and takes back.
 use Rattle.std.specs.Prelude.{◌≡◌, ℕ, List, [], ◌∷◌, Option, Some}
+use Rattle.octo_doors.specs.declared.door.Doors.{Doors}
 use Rattle.octo_doors.specs.declared.door.Knock.{Knock}
 use Rattle.octo_doors.specs.declared.door.Knock.TheVariants.{Conn, Quiet, Ended}
 
@@ -38,3 +39,7 @@ abbrev pub IsEnded : {C : Type 0} → Knock C → Type 0
 IsEnded (Conn conn) = ⊥
 IsEnded Quiet = ⊥
 IsEnded Ended = Unit {0}
+
+-- each of four doors is so
+abbrev pub Each : {D : Type 0} → Doors D → (D → Type 0) → Type 0
+Each doors Is = Is doors.a × Is doors.b × Is doors.c × Is doors.d

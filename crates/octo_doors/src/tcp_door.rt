@@ -1,7 +1,8 @@
 //! Doors over TCP.
-ghost use Rattle.std.specs.Prelude.{◌≡◌, ◌↔◌, ◌⊎◌, Some, false, true, IsTrue, pos, ⊤};
+ghost use Rattle.std.specs.Prelude.{◌≡◌, ◌↔◌, ◌⊎◌, Some, None, false, true, ◌||◌, is_err, IfOk, OnOk, IsErr, IsOkAnd, IsTrue, pos, ⊤};
 ghost use Rattle.std.specs.IoError.{error_kind, raw_os_error};
 ghost use Rattle.octo_outside.specs.Told.{Counts};
+ghost use Rattle.octo_doors.specs.Doors.{Each, IsNew, IsEnded};
 
 use crate::{Door, Doors, Knock};
 use octo_outside::Failed;
@@ -65,7 +66,8 @@ fn may_pass(error: &io::Error) -> bool
 impl<R: Net<Listener = TcpListener, Stream = TcpStream> + Copy> TcpDoor<R> {
     /// A door whose first call fails.
     pub fn absent(rt: &R) -> Self
-        ensures { (result.faults ≡ 0) × (result.has_failed ≡ false) }
+        ensures new { (result.faults ≡ 0) × (result.has_failed ≡ false) }
+        ensures listener { result.listener ≡ None }
     {
         TcpDoor {
             rt: *rt,
@@ -89,7 +91,11 @@ impl<R: Net<Listener = TcpListener, Stream = TcpStream> + Copy> TcpDoor<R> {
 
     /// Four doors at the address `HOST:PORT`. They share one listener, so that the system wakes one worker for each
     /// connection. If the address can't be bound, the first call of each door fails.
-    pub fn four(alloc: Global, rt: &R, address: &str) -> Result<Doors<TcpDoor<R>>, AllocError> {
+    pub fn four(alloc: Global, rt: &R, address: &str) -> Result<Doors<TcpDoor<R>>, AllocError>
+        // No call of any of them has failed yet.
+        ensures { IfOk result (λ doors.
+            Each doors (λ door. (door.faults ≡ 0) × (door.has_failed ≡ false))) }
+    {
         let Ok(listener) = listen(rt, address) else {
             return Ok(Doors {
                 a: TcpDoor::absent(rt),
@@ -120,7 +126,9 @@ impl<R: Net<Listener = TcpListener, Stream = TcpStream> + Copy> TcpDoor<R> {
 
 impl<R: Net<Listener = TcpListener, Stream = TcpStream> + Clock + Copy> TcpDoor<R> {
     // The stream that comes within about 10 milliseconds, if one does; an error if the listener failed.
-    fn next_stream(&self) -> Result<Option<TcpStream>, Failed> {
+    fn next_stream(&self) -> Result<Option<TcpStream>, Failed>
+        ensures { self.now.listener ≡ None → IsErr result }
+    {
         let Some(listener) = &self.listener else {
             return Err(Failed);
         };
@@ -141,8 +149,6 @@ impl<R: Net<Listener = TcpListener, Stream = TcpStream> + Clock + Copy> TcpDoor<
 }
 
 impl<R: Net<Listener = TcpListener, Stream = TcpStream> + Clock + Copy + Send> Door for TcpDoor<R> {
-    ghost use Rattle.std.specs.Prelude.{None};
-
     type Conn = TcpConn<R>;
 
     ghost coming = { λ _. None };
@@ -153,7 +159,17 @@ impl<R: Net<Listener = TcpListener, Stream = TcpStream> + Clock + Copy + Send> D
 
     ghost has_failed = { λ d. d.has_failed };
 
-    fn accept(&mut self) -> Result<Knock<TcpConn<R>>, Failed> {
+    fn accept(&mut self) -> Result<Knock<TcpConn<R>>, Failed>
+        ensures absent { self.old.listener ≡ None → self.old.has_failed ≡ false → IsErr result }
+        ensures fresh { IfOk result (λ knock. IsNew
+            (λ (conn : TcpConn R TcpStream TcpListener). conn.faults)
+            (λ (conn : TcpConn R TcpStream TcpListener). conn.quiets)
+            knock) }
+        ensures has_failed { self.new.has_failed ≡ (self.old.has_failed || is_err result) }
+        ensures after { self.old.has_failed ≡ true → IsOkAnd result IsEnded }
+        ensures counts { Counts (IsErr result) self.old.faults self.new.faults }
+        ensures steady { OnOk result (self.new.faults ≡ self.old.faults) }
+    {
         if self.has_failed {
             return Ok(Knock::Ended);
         }

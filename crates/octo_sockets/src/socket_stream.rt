@@ -1,5 +1,6 @@
 //! A stream of the system, over TCP or over a Unix socket.
-ghost use Rattle.std.specs.Prelude.{◌≡◌, ◌++◌, codes, IfSome};
+ghost use Rattle.std.specs.Prelude.{◌≡◌, ◌++◌, false, codes, nat_eq, IfSome, IfNone};
+ghost use Rattle.std.specs.List.{starts_with};
 ghost use Rattle.octo_sockets.specs.Streams.{of_stream};
 
 use std::io;
@@ -11,7 +12,8 @@ use std::time::Duration;
 
 /// The path in a name `unix:PATH`, none in any other name.
 pub fn unix_path(name: &str) -> Option<&str>
-    ensures { IfSome result (λ path. name.now ≡ codes "unix:" ++ path.now) }
+    ensures some { IfSome result (λ path. name.now ≡ codes "unix:" ++ path.now) }
+    ensures none { IfNone result (starts_with nat_eq name.now (codes "unix:") ≡ false) }
 {
     name.strip_prefix("unix:")
 }

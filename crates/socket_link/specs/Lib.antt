@@ -1,3 +1,4 @@
 pub mod Address
+pub mod Heard
 pub mod Lines
 pub mod Sent

@@ -1,6 +1,6 @@
 //! Reply lines out of a stream's bytes.
 ghost use Rattle.std.specs.Prelude.{◌≡◌, ◌++◌, ◌-◌, ◌≤◌, ℕ, List, [], true, false, length, take, drop, IfOk, OnOk, OnErr};
-ghost use Rattle.std.specs.Io.KnownBytes.{Consumes};
+ghost use Rattle.std.specs.Io.KnownBytes.{Consumes, Keeps};
 ghost use Rattle.std.specs.List.{list_any, position_or_len, before_first, after_first};
 ghost use Rattle.socket_link.specs.Lines.{LinesData, cut, ends_line};
 
@@ -126,6 +126,8 @@ impl Lines {
         ensures came { OnOk result (Consumes (S.Read.remaining stream.old)
             (S.Read.remaining stream.new) self.new.waiting) }
         ensures err { OnErr result (self.new.waiting ≡ []) }
+        ensures kept { OnErr result (Keeps (S.Read.remaining stream.old)
+            (S.Read.remaining stream.new)) }
     {
         self.start = 0;
         self.end = 0;

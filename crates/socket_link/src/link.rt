@@ -1,5 +1,5 @@
 //! A link to a printer over TCP or a Unix socket.
-ghost use Rattle.std.specs.Prelude.{◌≡◌, ◌+◌, ◌<◌, ◌≤◌, ◌⊎◌, ◌↔◌, ◌++◌, ◌∷◌, [], length, true, false, is_some, Some, None, Ok, OnOk, OnErr, IsErr, IsOk, IsErrOf, IsTrue, MatchResult, ⊤};
+ghost use Rattle.std.specs.Prelude.{◌≡◌, ◌+◌, ◌<◌, ◌≤◌, ◌⊎◌, ◌↔◌, ◌++◌, ◌∷◌, [], length, true, false, is_some, Some, None, Ok, IfSome, IfOk, OnOk, OnErr, IsErr, IsOk, IsErrOf, IsTrue, MatchResult, ⊤};
 ghost use Rattle.std.specs.IoError.{error_kind};
 ghost use Rattle.std.specs.List.{list_any, before_first, after_first};
 ghost use Rattle.octo_outside.specs.Told.{Counts};
@@ -7,6 +7,7 @@ ghost use Rattle.socket_link.specs.Address.{names_port};
 ghost use Rattle.octo_sockets.specs.Streams.{of_stream};
 ghost use Rattle.socket_link.specs.Lines.{cut, ends_line};
 ghost use Rattle.socket_link.specs.Sent.{Joins, Wrote, WroteFirst};
+ghost use Rattle.socket_link.specs.Heard.{Came, HeardLater};
 ghost use Rattle.printer_link.specs.declared.link.Heard.TheVariants as heard;
 ghost use Rattle.printer_link.specs.declared.link.LinkFault.TheVariants as fault;
 
@@ -171,8 +172,12 @@ impl<R: Net + Drop> SocketLink<R> {
     }
 
     // Reads what comes within about a millisecond; `false` if the stream failed or the peer has closed.
+    #[tactic(auto, using(crate::proofs::Heard::nothing_came, crate::proofs::Heard::no_bytes_came))]
     fn read_in(&mut self) -> bool
         requires { self.old.lines.waiting ≡ [] }
+        ensures begun { self.new.lines.begun ≡ self.old.lines.begun }
+        ensures came { result ≡ true → Came (of_stream R.Stream.remaining)
+            self.old.stream self.new.stream self.new.lines.waiting }
         ensures unsent { self.new.unsent ≡ self.old.unsent }
         ensures up { self.new.up ≡ self.old.up }
         ensures faults { self.new.faults ≡ self.old.faults }
@@ -207,6 +212,13 @@ impl<R: Net + Drop> SocketLink<R> {
             → self.new.unsent ≡ [] }
         ensures written { list_any ends_line self.old.lines.waiting ≡ false → is_some result ≡ true
             → WroteFirst (of_stream R.Stream.contents) self.old.stream self.old.unsent }
+
+        // And the line, if one has ended then, is made of what had been read and what came.
+        ensures later { list_any ends_line self.old.lines.waiting ≡ false → IfSome result (λ got.
+            HeardLater (of_stream R.Stream.contents) (of_stream R.Stream.remaining)
+            self.old.stream self.new.stream self.old.unsent self.old.lines got into.new.items
+            self.new.lines) }
+
         ensures up { self.new.up ≡ self.old.up }
         ensures faults { self.new.faults ≡ self.old.faults }
     {
@@ -290,6 +302,12 @@ impl<R: Net + Clock + Drop> Link for SocketLink<R> {
         ensures written { list_any ends_line self.old.lines.waiting ≡ false
             → OnOk result (WroteFirst (of_stream R.Stream.contents)
             self.old.stream self.old.unsent) }
+
+        // And the line, if one has ended then, is made of what had been read and what came.
+        ensures later { list_any ends_line self.old.lines.waiting ≡ false → IfOk result (λ got.
+            HeardLater (of_stream R.Stream.contents) (of_stream R.Stream.remaining)
+            self.old.stream self.new.stream self.old.unsent self.old.lines got into.new.items
+            self.new.lines) }
 
         ensures no_port { IsErrOf result fault.NoPort → ⊥ }
         ensures up { OnOk result (self.new.up ≡ true) }

@@ -1,0 +1,23 @@
+use Rattle.std.proofs.Common.{ap, sym, ◌∙◌, refl}
+use Rattle.octo_sockets.specs.Streams.{of_stream}
+use Rattle.socket_link.specs.Lines.{LinesData}
+use Rattle.socket_link.proofs.Heard.{heard_line, heard_nothing}
+use Rattle.socket_link.proofs.link.SocketLink.hear.Goals as goal
+
+pub returns-then-take-2-clause-later : goal.returns-then-take-2-clause-later
+returns-then-take-2-clause-later g c none =
+    let old = c.args.self.now in
+    let read = c.read_in.new.self in
+    heard_line (of_stream g.R.Stream.Write.contents) (of_stream g.R.Stream.Read.remaining) old.stream c.write_out.new.self.stream read.stream old.unsent read.lines.waiting c.take-2.new.into.items read.lines.begun old.lines c.take-2.new.self
+    (c.if-not-write_out.ensures.written refl) (c.if-not-read_in.ensures.came refl)
+    (c.read_in.ensures.begun ∙ ap (λ (l : LinesData). l.begun) (c.write_out.ensures.lines ∙ c.if-take.ensures.none refl))
+    (sym c.if-take-2.ensures.found) (c.if-take-2.ensures.line refl) (c.if-take-2.ensures.behind refl)
+
+pub returns-clause-later : goal.returns-clause-later
+returns-clause-later g c none =
+    let old = c.args.self.now in
+    let read = c.read_in.new.self in
+    heard_nothing (of_stream g.R.Stream.Write.contents) (of_stream g.R.Stream.Read.remaining) old.stream c.write_out.new.self.stream read.stream old.unsent read.lines.waiting c.take-2.new.into.items read.lines.begun old.lines c.take-2.new.self
+    (c.if-not-write_out.ensures.written refl) (c.if-not-read_in.ensures.came refl)
+    (c.read_in.ensures.begun ∙ ap (λ (l : LinesData). l.begun) (c.write_out.ensures.lines ∙ c.if-take.ensures.none refl))
+    (sym c.if-take-2.ensures.found) (c.if-take-2.ensures.none refl)
