@@ -20,7 +20,7 @@ pub(super) enum Calls {
 /// The caller's key, what is asked for, the calls that are made if none fails, and what is seen.
 pub(super) type Step = (&'static [u8], Wish, Calls, Seen);
 
-/// Where a call fails.
+/// Which object has the call that fails.
 #[derive(Clone, Copy)]
 pub(super) enum Place {
     AtKeeper,
