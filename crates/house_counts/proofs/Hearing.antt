@@ -20,12 +20,12 @@ use Rattle.octo_session.specs.declared.found.Doing.{Doing}
 use Rattle.octo_session.specs.declared.found.Doing.TheVariants.{Dialling, HangingUp, Talking, Resting}
 use Rattle.octo_session.specs.declared.found.Turned.{Turned}
 use Rattle.printer_link.specs.Link.{LinkKind, IsSend, IsSendOf, IsSendLoss, IsHeard, MaySendFailing, IsHangUp, world_in}
-use Rattle.printer_model.specs.Exchanged.{received_by, received_from, front_line}
+use Rattle.link_history.specs.Exchanged.{received_by, received_from, front_line}
 use Rattle.printer_model.specs.World.{WorldData, world_from}
 use Rattle.printer_model.specs.declared.event.WorldEvent.{WorldEvent}
 use Rattle.printer_model.specs.declared.event.WorldEvent.TheVariants as event
 use Rattle.printer_model.proofs.Laws.{world_of-append}
-use Rattle.printer_model.proofs.Starts.{received_from-append, received_from-free, runs-free}
+use Rattle.link_history.proofs.Starts.{received_from-append, received_from-free, runs-free}
 use Rattle.house_counts.specs.Rounds.{IsCallAt, AsksAt, noted}
 use Rattle.house_counts.specs.Temps.{temps_list, temps_of_entry, temps_noted, temps_reported, NotesTemps}
 

@@ -3,12 +3,12 @@ use Rattle.std.proofs.Common.{length, ◌≡◌, ◌⊎◌, inl, inr, ℕ, zero,
 use Rattle.std.specs.List.{list_any}
 use Rattle.desk_steps.specs.declared.link_fact.LinkFact.{LinkFact}
 use Rattle.desk_steps.specs.declared.link_fact.LinkFact.TheVariants as fact
-use Rattle.printer_model.specs.World.{WorldData}
-use Rattle.printer_model.specs.Executed.{is_send, opens, till}
+use Rattle.printer_model.specs.World.{WorldData, is_send}
+use Rattle.link_history.specs.Executed.{opens, till}
 use Rattle.printer_model.specs.declared.event.WorldEvent.{WorldEvent}
 use Rattle.printer_model.specs.declared.event.WorldEvent.TheVariants.{Opened, Closed}
-use Rattle.printer_model.proofs.Sessions.{opens-append, till-all}
-use Rattle.printer_model.proofs.Starts.{opens-free, runs-free}
+use Rattle.link_history.proofs.Sessions.{opens-append, till-all}
+use Rattle.link_history.proofs.Starts.{opens-free, runs-free}
 use Rattle.printer_link.specs.Link.{LinkKind, IsDial, world_in}
 use Rattle.send_window.specs.Data.{SenderData, IsSound, most_lines}
 use Rattle.octo_session.specs.Data.{SessionData, doing}

@@ -12,11 +12,11 @@ use Rattle.send_window.specs.declared.session_end.SessionEnd.{SessionEnd}
 use Rattle.send_window.specs.declared.session_end.SessionEnd.TheVariants.{NoAnswer, AskedBack, AskedAhead, Counts, Restarted, NumbersUsed}
 use Rattle.printer_model.specs.Printer.{Logged}
 use Rattle.printer_model.specs.World.{WorldData, world_from}
-use Rattle.printer_model.specs.Exchanged.{sends_since}
+use Rattle.link_history.specs.Exchanged.{sends_since}
 use Rattle.printer_model.specs.declared.event.WorldEvent.{WorldEvent}
 use Rattle.printer_model.specs.declared.event.WorldEvent.TheVariants.{Recv, Closed}
 use Rattle.printer_model.proofs.Laws.{world_from-append}
-use Rattle.printer_model.proofs.Starts.{sends_since-append, sends_since-free}
+use Rattle.link_history.proofs.Starts.{sends_since-append, sends_since-free}
 use Rattle.printer_link.specs.Link.{IsHeard, IsSilence}
 use Rattle.send_window.specs.Counting.{IsQuiet}
 use Rattle.send_window.specs.Data.{SenderData}

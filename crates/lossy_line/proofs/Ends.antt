@@ -13,10 +13,10 @@ use Rattle.desk_steps.specs.declared.link_fact.LinkFact.TheVariants as fact
 use Rattle.send_window.specs.declared.session_end.SessionEnd.{SessionEnd}
 use Rattle.send_window.specs.declared.session_end.SessionEnd.TheVariants.{NoAnswer, AskedBack, AskedAhead, Counts, Restarted, NumbersUsed}
 use Rattle.printer_model.specs.World.{WorldData, is_free, world_from}
-use Rattle.printer_model.specs.Exchanged.{sends_since}
+use Rattle.link_history.specs.Exchanged.{sends_since}
 use Rattle.printer_model.specs.declared.event.WorldEvent.{WorldEvent}
 use Rattle.printer_model.specs.declared.event.WorldEvent.TheVariants.{Closed}
-use Rattle.printer_model.proofs.Starts.{runs-free, sends_since-append, sends_since-free, received_from-free}
+use Rattle.link_history.proofs.Starts.{runs-free, sends_since-append, sends_since-free, received_from-free}
 use Rattle.send_window.specs.Counting.{IsQuiet, own_oks}
 use Rattle.send_window.specs.Data.{SenderData}
 use Rattle.send_window.specs.Hearing.{tick_step}

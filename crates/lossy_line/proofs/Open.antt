@@ -9,7 +9,7 @@ use Rattle.printer_model.specs.World.{WorldData, is_free, happen, apply, world_f
 use Rattle.printer_model.specs.declared.event.WorldEvent.{WorldEvent}
 use Rattle.printer_model.specs.declared.event.WorldEvent.TheVariants.{Opened, Send, Arrive, Lose, Garble, Run, Restart, Chatter, Recv, Closed}
 use Rattle.printer_model.proofs.Laws.{after_event, happens, world_from-append, world_from-push, world_from-linked}
-use Rattle.printer_model.proofs.Starts.{runs-free}
+use Rattle.link_history.proofs.Starts.{runs-free}
 use Rattle.printer_link.specs.Link.{IsSendOf}
 use Rattle.send_window.specs.Data.{SenderData}
 use Rattle.send_window.specs.Sending.{Outgoing, next_of}

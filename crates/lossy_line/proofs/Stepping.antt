@@ -9,7 +9,7 @@ use Rattle.printer_model.specs.World.{WorldData, is_free, can_happen, world_from
 use Rattle.printer_model.specs.declared.event.WorldEvent.{WorldEvent}
 use Rattle.printer_model.specs.declared.event.WorldEvent.TheVariants.{Opened, Send, Arrive, Lose, Garble, Run, Restart, Chatter, Recv, Closed}
 use Rattle.printer_model.proofs.Laws.{world_from-append, world_from-linked}
-use Rattle.printer_model.proofs.Starts.{runs-free}
+use Rattle.link_history.proofs.Starts.{runs-free}
 use Rattle.printer_link.specs.Link.{IsSendOf, IsHeard, MaySendFailing}
 use Rattle.send_window.specs.Data.{SenderData}
 use Rattle.send_window.specs.Hearing.{hear_step, tick_step}

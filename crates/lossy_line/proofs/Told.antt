@@ -18,7 +18,7 @@ use Rattle.lossy_line.specs.Tied.{IsTied, TiedAs, WasUnopened, FormerTiedAs, IsE
 use Rattle.lossy_line.proofs.Promised.{turn_former, turn_caused}
 use Rattle.lossy_line.proofs.Tying.{opened_tied}
 use Rattle.send_window.specs.declared.session_end.SessionEnd.{SessionEnd}
-use Rattle.printer_model.specs.Executed.{opens}
+use Rattle.link_history.specs.Executed.{opens}
 use Rattle.lossy_line.proofs.Quiet.{StaysUp}
 use Rattle.lossy_line.proofs.Turned.{IsTurned}
 use Rattle.lossy_line.proofs.Turning.{turn_links, turn_keeps, opening}

@@ -6,12 +6,12 @@ use Rattle.desk_steps.specs.declared.link_fact.LinkFact.{LinkFact}
 use Rattle.desk_steps.specs.declared.link_fact.LinkFact.TheVariants as fact
 use Rattle.printer_model.specs.Printer.{Logged}
 use Rattle.printer_model.specs.World.{WorldData, can_happen, apply, world_from}
-use Rattle.printer_model.specs.Exchanged.{sends_since}
+use Rattle.link_history.specs.Exchanged.{sends_since}
 use Rattle.printer_model.specs.declared.event.WorldEvent.{WorldEvent}
 use Rattle.printer_model.specs.declared.event.WorldEvent.TheVariants.{Opened}
 use Rattle.printer_model.proofs.Laws.{happens, world_from-append, world_of-append, world_from-IsSameKind}
-use Rattle.printer_model.proofs.Sessions.{opens-append}
-use Rattle.printer_model.proofs.Starts.{sends_since-append}
+use Rattle.link_history.proofs.Sessions.{opens-append}
+use Rattle.link_history.proofs.Starts.{sends_since-append}
 use Rattle.printer_link.specs.Link.{LinkKind, world_in}
 use Rattle.send_window.specs.Counting.{IsQuiet}
 use Rattle.send_window.specs.Data.{SenderData, IsSound, begun}

@@ -5,12 +5,12 @@ use Rattle.std.proofs.lemmas.Bool.{ne_eqb}
 use Rattle.marlin_frame.specs.Numbering.{hello_number, wire_number}
 use Rattle.printer_model.specs.Printer.{Logged}
 use Rattle.printer_model.specs.World.{WorldData, apply, world_from}
-use Rattle.printer_model.specs.Executed.{opens, is_counted, executed}
-use Rattle.printer_model.specs.Exchanged.{session_of}
+use Rattle.link_history.specs.Executed.{opens, is_counted, executed}
+use Rattle.link_history.specs.Exchanged.{session_of}
 use Rattle.printer_model.specs.declared.event.WorldEvent.{WorldEvent}
 use Rattle.printer_model.specs.declared.event.WorldEvent.TheVariants.{Opened}
-use Rattle.printer_model.proofs.Sessions.{opens-append}
-use Rattle.printer_model.proofs.Starts.{till-stop, session_of-last, executed-from}
+use Rattle.link_history.proofs.Sessions.{opens-append}
+use Rattle.link_history.proofs.Starts.{till-stop, session_of-last, executed-from}
 use Rattle.printer_link.specs.Link.{LinkKind, world_in}
 use Rattle.send_window.specs.Counting.{acked_of}
 use Rattle.send_window.specs.Data.{SenderData}

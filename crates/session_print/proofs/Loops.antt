@@ -1,7 +1,7 @@
 -- What a print between two turns says of the next one, and what it leaves if no turn is left.
 use Rattle.std.proofs.Common.{◌≡◌, ◌⊎◌, inl, inr, ℕ, Bool, true, false, List, [], ◌++◌, Option, sym, ◌∙◌, ap, subst}
 use Rattle.printer_model.specs.declared.event.WorldEvent.{WorldEvent}
-use Rattle.printer_model.specs.Executed.{opens}
+use Rattle.link_history.specs.Executed.{opens}
 use Rattle.printer_link.specs.Link.{LinkKind, Recorded, Grows, IsHangUp, world_in}
 use Rattle.printer_link.proofs.Grown.{recorded_then, recorded_so}
 use Rattle.octo_session.specs.Data.{SessionData, doing, port_of}

@@ -1,6 +1,6 @@
 -- What a print has made of the history of its link.
 use Rattle.std.specs.Prelude.{◌≡◌, ◌⊎◌, ◌<◌, ℕ, suc, List, [], ◌++◌, length, Option, Some}
-use Rattle.printer_model.specs.Executed.{opens, executed}
+use Rattle.link_history.specs.Executed.{opens, executed}
 use Rattle.printer_model.specs.declared.event.WorldEvent.{WorldEvent}
 use Rattle.printer_link.specs.Link.{LinkKind, Recorded}
 use Rattle.send_window.specs.declared.session_end.SessionEnd.{SessionEnd}

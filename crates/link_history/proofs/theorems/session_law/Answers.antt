@@ -1,6 +1,6 @@
-use Rattle.printer_model.proofs.Sessions.{executed-append, executed-more}
-use Rattle.printer_model.proofs.Starts.{executed-before, executed-from, session_of-last, opens-free, runs-free}
-use Rattle.printer_model.proofs.theorems.session_law.Goals as goal
+use Rattle.link_history.proofs.Sessions.{executed-append, executed-more}
+use Rattle.link_history.proofs.Starts.{executed-before, executed-from, session_of-last, opens-free, runs-free}
+use Rattle.link_history.proofs.theorems.session_law.Goals as goal
 
 pub returns-clause-over : goal.returns-clause-over
 returns-clause-over c = executed-append

@@ -4,9 +4,9 @@ use Rattle.std.specs.Prelude.{Some, None, filter, Result, Ok, Err, IfOk}
 use Rattle.std.proofs.lemmas.List.{drop-append-le}
 use Rattle.std.proofs.lemmas.List.Elements.{filter-append}
 use Rattle.printer_model.specs.Printer.{Logged}
-use Rattle.printer_model.specs.World.{WorldData, world_of, world_from, Grew}
+use Rattle.printer_model.specs.World.{WorldData, world_of, world_from, Grew, is_opened}
 use Rattle.printer_model.proofs.Laws.{world_of-append, world_from-Grew}
-use Rattle.printer_model.specs.Executed.{left_behind, is_opened, opens, till, is_counted, executed}
+use Rattle.link_history.specs.Executed.{left_behind, opens, till, is_counted, executed}
 use Rattle.printer_model.specs.declared.event.WorldEvent.{WorldEvent}
 use Rattle.printer_model.specs.declared.event.WorldEvent.TheVariants.{Opened, Send, Arrive, Lose, Garble, Run, Restart, Chatter, Recv, Closed}
 

@@ -1,8 +1,8 @@
 use Rattle.std.proofs.Common.{◌≡◌, ◌∙◌, ap, drop, length}
 use Rattle.std.specs.Prelude.{filter}
-use Rattle.printer_model.specs.Executed.{is_counted}
-use Rattle.printer_model.proofs.Sessions.{session_lines, if_ok_so}
-use Rattle.printer_model.proofs.executed.Executed.of_session.Goals as goal
+use Rattle.link_history.specs.Executed.{is_counted}
+use Rattle.link_history.proofs.Sessions.{session_lines, if_ok_so}
+use Rattle.link_history.proofs.executed.Executed.of_session.Goals as goal
 
 pub returns : goal.returns
 returns c =

@@ -5,12 +5,12 @@ use Rattle.std.specs.List.{list_all}
 use Rattle.std.proofs.Math.Seq.{drop-append_seam}
 use Rattle.printer_model.specs.Printer.{Logged}
 use Rattle.printer_model.specs.World.{WorldData, apply, world_from, world_of, is_free, is_run}
-use Rattle.printer_model.specs.Executed.{opens, till, is_counted, executed}
-use Rattle.printer_model.specs.Exchanged.{session_of, received_by, received_from, sent_by, sends_since}
+use Rattle.link_history.specs.Executed.{opens, till, is_counted, executed}
+use Rattle.link_history.specs.Exchanged.{session_of, received_by, received_from, sent_by, sends_since}
 use Rattle.printer_model.specs.declared.event.WorldEvent.{WorldEvent}
 use Rattle.printer_model.specs.declared.event.WorldEvent.TheVariants.{Opened, Send, Arrive, Lose, Garble, Run, Restart, Chatter, Recv, Closed}
 use Rattle.printer_model.proofs.Laws.{both_left, both_right}
-use Rattle.printer_model.proofs.Sessions.{till-all, opens-append}
+use Rattle.link_history.proofs.Sessions.{till-all, opens-append}
 
 free_opens_none : (event : WorldEvent) (past : List WorldEvent) → is_free event ≡ true → opens (event ∷ past) ≡ opens past
 free_opens_none (Opened last) past free = absurd (cc)

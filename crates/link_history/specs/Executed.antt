@@ -2,25 +2,8 @@
 use Rattle.std.specs.Prelude.{ℕ, zero, suc, pred, Bool, true, false, not, ◌==◌, if◌then◌else◌, List, [], ◌∷◌, length, drop, filter, Option, Some, None}
 use Rattle.marlin_frame.specs.Numbering.{hello_number}
 use Rattle.printer_model.specs.Printer.{Logged}
-use Rattle.printer_model.specs.World.{world_of}
+use Rattle.printer_model.specs.World.{world_of, is_opened}
 use Rattle.printer_model.specs.declared.event.WorldEvent.{WorldEvent}
-use Rattle.printer_model.specs.declared.event.WorldEvent.TheVariants.{Opened, Send, Lose, Garble}
-
--- whether an event opens a session
-abbrev pub is_opened : WorldEvent → Bool
-is_opened (Opened last) = true
-is_opened _ = false
-
--- whether an event is a line that the host sent
-abbrev pub is_send : WorldEvent → Bool
-is_send (Send line) = true
-is_send _ = false
-
--- whether an event is a line lost or garbled on its way to the printer
-abbrev pub is_loss : WorldEvent → Bool
-is_loss (Lose at) = true
-is_loss (Garble at line) = true
-is_loss _ = false
 
 -- how many sessions a past has
 abbrev pub opens : List WorldEvent → ℕ

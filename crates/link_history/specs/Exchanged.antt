@@ -1,7 +1,7 @@
 -- What host and printer exchanged in a history: the replies that the host received, and the lines that it sent.
 use Rattle.std.specs.Prelude.{ℕ, ◌+◌, pred, Bool, true, false, ◌&&◌, ◌||◌, if◌then◌else◌, List, [], ◌∷◌, ◌++◌, length, drop}
 use Rattle.printer_model.specs.World.{WorldData, apply, is_free}
-use Rattle.printer_model.specs.Executed.{till}
+use Rattle.link_history.specs.Executed.{till}
 use Rattle.printer_model.specs.declared.event.WorldEvent.{WorldEvent}
 use Rattle.printer_model.specs.declared.event.WorldEvent.TheVariants.{Send, Recv, Closed}
 
