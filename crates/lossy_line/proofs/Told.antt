@@ -7,11 +7,11 @@ use Rattle.desk_steps.specs.declared.link_fact.LinkFact.TheVariants as fact
 use Rattle.printer_model.specs.declared.event.WorldEvent.{WorldEvent}
 use Rattle.printer_link.specs.Link.{LinkKind, world_in}
 use Rattle.send_window.specs.Sending.{next_of}
-use Rattle.octo_session.specs.Data.{SessionData, IsSession, doing}
-use Rattle.octo_session.specs.Found.{can_find, up_after}
-use Rattle.octo_session.specs.Turn.{IsTurn, IsSpent, fact_of, lines_of, texts_in}
-use Rattle.octo_session.specs.declared.found.Turned.{Turned}
-use Rattle.octo_session.proofs.Noting.{noted_fact, noted_lines}
+use Rattle.session_steps.specs.Data.{SessionData, IsSession, doing}
+use Rattle.session_steps.specs.Found.{can_find, up_after}
+use Rattle.session_steps.specs.Turn.{IsTurn, IsSpent, fact_of, lines_of, texts_in}
+use Rattle.session_steps.specs.declared.found.Turned.{Turned}
+use Rattle.session_steps.proofs.Noting.{noted_fact, noted_lines}
 use Rattle.lossy_line.specs.Issuing.{issued_in}
 use Rattle.lossy_line.specs.Linked.{IsUnopened, IsOpened, IsLinked, LinkedAs, OpenedAs, IsOpening}
 use Rattle.lossy_line.specs.Tied.{IsTied, TiedAs, WasUnopened, FormerTiedAs, IsEndCaused, EndCausedAs}

@@ -7,20 +7,20 @@ ghost use Rattle.desk_steps.specs.declared.link_fact.LinkFact.TheVariants as fac
 ghost use Rattle.printer_link.specs.Link.{RoseBy};
 ghost use Rattle.send_window.specs.Data.{IsSound, new_sender};
 ghost use Rattle.send_window.specs.Sending.{next_of};
-ghost use Rattle.octo_session.specs.Data.{IsSession, doing, is_calling, port_of};
-ghost use Rattle.octo_session.specs.DeskTurn.{IsQuietTurn, IsTurnEnding};
-ghost use Rattle.octo_session.specs.Found.{up_after, ready_after, can_find};
-ghost use Rattle.octo_session.specs.Turn.{fact_of, lines_of, IsNoteOn, IsSpent, IsTurn};
-ghost use Rattle.octo_session.specs.declared.found.Doing.TheVariants as now_doing;
+ghost use Rattle.session_steps.specs.Data.{IsSession, doing, is_calling, port_of};
+ghost use Rattle.session_steps.specs.DeskTurn.{IsQuietTurn, IsTurnEnding};
+ghost use Rattle.session_steps.specs.Found.{up_after, ready_after, can_find};
+ghost use Rattle.session_steps.specs.Turn.{fact_of, lines_of, IsNoteOn, IsSpent, IsTurn};
+ghost use Rattle.session_steps.specs.declared.found.Doing.TheVariants as now_doing;
 
 mod calls;
 mod turns;
 
-use crate::found::{Turned, turned_of};
 use byte_text::ReplyLine;
 use job_desk::Desk;
 use printer_link::Link;
 use send_window::Sender;
+use session_steps::{Turned, turned_of};
 use std::marker::Model;
 
 /// The session of a print host with its printer: a desk that says which lines are to be issued, a sender that carries
@@ -33,7 +33,7 @@ pub struct Session {
 }
 
 impl Model for Session {
-    ghost use Rattle.octo_session.specs.Data.{SessionData};
+    ghost use Rattle.session_steps.specs.Data.{SessionData};
 
     ghost Value = { SessionData };
 

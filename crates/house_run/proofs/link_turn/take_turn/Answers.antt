@@ -1,7 +1,7 @@
 use Rattle.std.proofs.Common.{◌≡◌, ℕ, List, Option, Some, refl, sym, ap, subst, ◌∙◌}
 use Rattle.desk_steps.specs.Data.{Data}
 use Rattle.desk_steps.specs.declared.state.State.{State}
-use Rattle.octo_session.specs.Data.{SessionData}
+use Rattle.session_steps.specs.Data.{SessionData}
 use Rattle.octo_house.specs.State.{known_of, session_of}
 use Rattle.house_run.specs.Turns.{Notes}
 use Rattle.house_run.proofs.Noting.{turn_walks, notes_count}

@@ -1,6 +1,6 @@
 use Rattle.std.proofs.Common.{sym, subst}
 use Rattle.printer_link.specs.Link.{LinkKind}
-use Rattle.octo_session.specs.Turn.{fact_of, lines_of, texts_in}
+use Rattle.session_steps.specs.Turn.{fact_of, lines_of, texts_in}
 use Rattle.lossy_line.specs.Issuing.{issued_in}
 use Rattle.lossy_line.specs.Linked.{LinkedAs, OpenedAs}
 use Rattle.lossy_line.specs.Tied.{TiedAs, FormerTiedAs, EndCausedAs}

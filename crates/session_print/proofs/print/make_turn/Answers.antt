@@ -5,13 +5,13 @@ use Rattle.desk_steps.specs.declared.link_fact.LinkFact.{LinkFact}
 use Rattle.desk_steps.specs.declared.link_fact.LinkFact.TheVariants as fact
 use Rattle.octo_outside.proofs.Told.{steady_not_rose}
 use Rattle.printer_link.specs.Link.{LinkKind}
-use Rattle.octo_session.specs.Data.{SessionData}
-use Rattle.octo_session.specs.Turn.{fact_of}
+use Rattle.session_steps.specs.Data.{SessionData}
+use Rattle.session_steps.specs.Turn.{fact_of}
 use Rattle.lossy_line.specs.Tied.{EndCausedAs}
 use Rattle.send_window.specs.declared.session_end.SessionEnd.TheVariants.{NoAnswer}
-use Rattle.octo_session.specs.Data.{doing}
-use Rattle.octo_session.specs.Found.{can_find}
-use Rattle.octo_session.proofs.Noting.{noted_fact}
+use Rattle.session_steps.specs.Data.{doing}
+use Rattle.session_steps.specs.Found.{can_find}
+use Rattle.session_steps.proofs.Noting.{noted_fact}
 use Rattle.lossy_turns.specs.Patience.{IsPatient, IsUnanswered}
 use Rattle.lossy_turns.proofs.Waits.{turn_patient, turn_unanswered}
 use Rattle.session_print.specs.Ends.{end_of, desk_after}

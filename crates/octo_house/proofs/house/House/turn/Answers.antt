@@ -2,7 +2,7 @@ use Rattle.std.proofs.Common.{subst}
 use Rattle.desk_steps.specs.Data.{Data}
 use Rattle.desk_steps.specs.Endings.{IsActive}
 use Rattle.octo_keeper.specs.Tables.{with_due_end}
-use Rattle.octo_session.specs.Data.{doing}
+use Rattle.session_steps.specs.Data.{doing}
 use Rattle.octo_house.specs.Turned.{temps_told}
 use Rattle.octo_house.proofs.Rested.{rested-after, numbered-after, ends-rested}
 use Rattle.octo_house.proofs.TurnKnown.{turned-knows, turned-goes, known-turned}

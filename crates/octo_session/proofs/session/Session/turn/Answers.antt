@@ -7,11 +7,11 @@ use Rattle.desk_steps.specs.declared.link_fact.LinkFact.{LinkFact}
 use Rattle.desk_steps.specs.declared.link_fact.LinkFact.TheVariants as fact
 use Rattle.desk_steps.specs.declared.issued.Note.{Note}
 use Rattle.send_window.specs.Data.{IsSound}
-use Rattle.octo_session.specs.Data.{SessionData, IsSession, doing}
-use Rattle.octo_session.specs.Found.{got_of, temps_in, temps_kept, can_find}
-use Rattle.octo_session.specs.Turn.{IsStill, IsUneventful, fact_of}
-use Rattle.octo_session.specs.declared.found.Found.{Found}
-use Rattle.octo_session.proofs.Noting.{turn_ready, turn_not_fallen, turn_within, turn_none_acked, turn_noted, turn_still, turn_ending}
+use Rattle.session_steps.specs.Data.{SessionData, IsSession, doing}
+use Rattle.session_steps.specs.Found.{got_of, temps_in, temps_kept, can_find}
+use Rattle.session_steps.specs.Turn.{IsStill, IsUneventful, fact_of}
+use Rattle.session_steps.specs.declared.found.Found.{Found}
+use Rattle.session_steps.proofs.Noting.{turn_ready, turn_not_fallen, turn_within, turn_none_acked, turn_noted, turn_still, turn_ending}
 use Rattle.octo_session.proofs.session.Session.turn.Goals as goal
 
 none_listed : (issued : List Issued) → map line_of issued ≡ [] → issued ≡ []

@@ -11,15 +11,15 @@ use Rattle.print_records.specs.declared.ending.Ending.{Ending}
 use Rattle.printer_model.specs.declared.event.WorldEvent.{WorldEvent}
 use Rattle.send_window.specs.Data.{SenderData}
 use Rattle.send_window.specs.Sending.{next_of, room_of}
-use Rattle.octo_session.specs.Data.{SessionData, doing}
-use Rattle.octo_session.specs.DeskTurn.{IsNoted}
+use Rattle.session_steps.specs.Data.{SessionData, doing}
+use Rattle.session_steps.specs.DeskTurn.{IsNoted}
 use Rattle.printer_link.specs.Link.{LinkKind}
-use Rattle.octo_session.specs.Found.{Got, lost, unasked, is_whole, may_issue, temps_in, temps_kept, end_by}
-use Rattle.octo_session.specs.Steps.{TakesSome, turn_steps}
-use Rattle.octo_session.specs.declared.found.Doing.{Doing}
-use Rattle.octo_session.specs.declared.found.Doing.TheVariants.{Dialling, HangingUp, Talking, Resting}
-use Rattle.octo_session.specs.declared.found.Found.{Found}
-use Rattle.octo_session.specs.declared.found.Turned.{Turned}
+use Rattle.session_steps.specs.Found.{Got, lost, unasked, is_whole, may_issue, temps_in, temps_kept, end_by}
+use Rattle.session_steps.specs.Steps.{TakesSome, turn_steps}
+use Rattle.session_steps.specs.declared.found.Doing.{Doing}
+use Rattle.session_steps.specs.declared.found.Doing.TheVariants.{Dialling, HangingUp, Talking, Resting}
+use Rattle.session_steps.specs.declared.found.Found.{Found}
+use Rattle.session_steps.specs.declared.found.Turned.{Turned}
 
 -- the fact of a turn: Quiet if it made no note
 abbrev pub fact_of : Option Note → LinkFact
