@@ -6,7 +6,7 @@ use Rattle.link_history.specs.Executed.{opens, till}
 use Rattle.printer_model.specs.declared.event.WorldEvent.{WorldEvent}
 use Rattle.link_history.proofs.Sessions.{opens-append}
 use Rattle.printer_link.specs.Link.{LinkKind, IsHangUp, world_in}
-use Rattle.octo_session.specs.Data.{SessionData}
+use Rattle.session_steps.specs.Data.{SessionData}
 use Rattle.octo_asks.specs.History.{History}
 use Rattle.octo_asks.specs.declared.entry.Entry.TheVariants as entry
 use Rattle.lossy_line.specs.Tied.{IsTied}

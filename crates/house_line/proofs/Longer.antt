@@ -10,8 +10,8 @@ use Rattle.printer_model.proofs.Laws.{world_from-append}
 use Rattle.link_history.proofs.Sessions.{opens-append}
 use Rattle.link_history.proofs.Starts.{runs-free}
 use Rattle.printer_link.specs.Link.{LinkKind, IsDial, IsHangUp, world_in}
-use Rattle.octo_session.specs.Data.{SessionData}
-use Rattle.octo_session.specs.Steps.{hangs_up, AreAdded}
+use Rattle.session_steps.specs.Data.{SessionData}
+use Rattle.session_steps.specs.Steps.{hangs_up, AreAdded}
 use Rattle.lossy_wires.specs.Pieces.{Each}
 use Rattle.lossy_wires.specs.Wires.{Meets}
 use Rattle.lossy_wires.specs.Traces.{replies_from, IsTallied, IsStartKnown, IsTraced}

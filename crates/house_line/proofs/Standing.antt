@@ -8,8 +8,8 @@ use Rattle.link_history.proofs.Sessions.{opens-append}
 use Rattle.printer_link.specs.Link.{LinkKind}
 use Rattle.send_window.specs.Data.{SenderData, IsSound}
 use Rattle.send_window.specs.declared.session_end.SessionEnd.{SessionEnd}
-use Rattle.octo_session.specs.Data.{SessionData}
-use Rattle.octo_session.specs.Turn.{texts_in}
+use Rattle.session_steps.specs.Data.{SessionData}
+use Rattle.session_steps.specs.Turn.{texts_in}
 use Rattle.octo_asks.specs.History.{History}
 use Rattle.octo_asks.specs.declared.entry.Entry.{Entry}
 use Rattle.house_history.specs.Issued.{is_opened, lines_at}

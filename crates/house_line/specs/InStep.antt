@@ -4,7 +4,7 @@ use Rattle.link_history.specs.Executed.{opens}
 use Rattle.printer_model.specs.declared.event.WorldEvent.{WorldEvent}
 use Rattle.printer_link.specs.Link.{LinkKind}
 use Rattle.send_window.specs.Data.{IsSound}
-use Rattle.octo_session.specs.Data.{SessionData}
+use Rattle.session_steps.specs.Data.{SessionData}
 use Rattle.octo_asks.specs.History.{History}
 use Rattle.octo_asks.specs.declared.entry.Entry.TheVariants as entry
 use Rattle.lossy_line.specs.Linked.{IsOpened}

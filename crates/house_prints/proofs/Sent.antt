@@ -6,7 +6,7 @@ use Rattle.marlin_frame.specs.Frame.{frame_of}
 use Rattle.marlin_frame.specs.Numbering.{wire_number}
 use Rattle.desk_steps.specs.Data.{ScriptTexts, Line}
 use Rattle.desk_steps.specs.Run.{Fate, Finished, Stopped, Left, Unplugged, Broken, is_of, lines_of, of_print}
-use Rattle.octo_session.specs.Turn.{texts_in}
+use Rattle.session_steps.specs.Turn.{texts_in}
 use Rattle.printer_model.specs.World.{is_send}
 use Rattle.link_history.specs.Executed.{till}
 use Rattle.printer_model.specs.declared.event.WorldEvent.{WorldEvent}

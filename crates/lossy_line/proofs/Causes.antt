@@ -23,9 +23,9 @@ use Rattle.send_window.specs.Data.{SenderData}
 use Rattle.send_window.specs.Hearing.{hear_step, tick_step}
 use Rattle.send_window.proofs.Ending.{ends_by_rule}
 use Rattle.send_window.proofs.Silence.{sends_in_silence}
-use Rattle.octo_session.specs.Found.{Got, unasked, lost, nothing, whole, end_by, can_find}
-use Rattle.octo_session.specs.declared.found.Doing.TheVariants.{Talking}
-use Rattle.octo_session.specs.Steps.{ticks, hangs_up, after_steps, AreAdded, clock_steps, talk_steps}
+use Rattle.session_steps.specs.Found.{Got, unasked, lost, nothing, whole, end_by, can_find}
+use Rattle.session_steps.specs.declared.found.Doing.TheVariants.{Talking}
+use Rattle.session_steps.specs.Steps.{ticks, hangs_up, after_steps, AreAdded, clock_steps, talk_steps}
 use Rattle.lossy_wires.specs.Pieces.{Each, heard_in, heard_of}
 use Rattle.lossy_wires.specs.Wires.{IsFair, Meets}
 use Rattle.lossy_wires.specs.Traces.{replies_from, IsTallied, is_restart, IsStartKnown, IsTraced}

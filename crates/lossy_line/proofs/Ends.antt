@@ -22,10 +22,10 @@ use Rattle.send_window.specs.Data.{SenderData}
 use Rattle.send_window.specs.Hearing.{tick_step}
 use Rattle.send_window.specs.Sending.{frame_step, push_step}
 use Rattle.send_window.proofs.Ending.{tick_ends}
-use Rattle.octo_session.specs.Found.{Got, can_find}
-use Rattle.octo_session.specs.declared.found.Doing.{Doing}
-use Rattle.octo_session.specs.declared.found.Doing.TheVariants.{Dialling, HangingUp, Talking, Resting}
-use Rattle.octo_session.specs.Steps.{Step, gives, fails_to_send, hangs_up, after_step, after_steps, AreAdded, issuing, speech, clock_steps, turn_steps}
+use Rattle.session_steps.specs.Found.{Got, can_find}
+use Rattle.session_steps.specs.declared.found.Doing.{Doing}
+use Rattle.session_steps.specs.declared.found.Doing.TheVariants.{Dialling, HangingUp, Talking, Resting}
+use Rattle.session_steps.specs.Steps.{Step, gives, fails_to_send, hangs_up, after_step, after_steps, AreAdded, issuing, speech, clock_steps, turn_steps}
 use Rattle.lossy_wires.specs.Wires.{IsFair}
 use Rattle.lossy_wires.specs.Traces.{replies_from, oks_of, IsTallied, is_restart}
 use Rattle.lossy_wires.proofs.Tracing.{replies_from-append}

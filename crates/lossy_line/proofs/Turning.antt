@@ -15,11 +15,11 @@ use Rattle.link_history.proofs.Starts.{sends_since-append}
 use Rattle.printer_link.specs.Link.{LinkKind, world_in}
 use Rattle.send_window.specs.Counting.{IsQuiet}
 use Rattle.send_window.specs.Data.{SenderData, IsSound, begun}
-use Rattle.octo_session.specs.Data.{SessionData, doing}
-use Rattle.octo_session.specs.Found.{Got, unasked, may_issue, can_find, up_after}
-use Rattle.octo_session.specs.declared.found.Doing.{Doing}
-use Rattle.octo_session.specs.declared.found.Doing.TheVariants.{Dialling, HangingUp, Talking, Resting}
-use Rattle.octo_session.specs.Steps.{opens, after_steps, AreAllowed, AreAdded, dial_steps, talk_steps, turn_steps}
+use Rattle.session_steps.specs.Data.{SessionData, doing}
+use Rattle.session_steps.specs.Found.{Got, unasked, may_issue, can_find, up_after}
+use Rattle.session_steps.specs.declared.found.Doing.{Doing}
+use Rattle.session_steps.specs.declared.found.Doing.TheVariants.{Dialling, HangingUp, Talking, Resting}
+use Rattle.session_steps.specs.Steps.{opens, after_steps, AreAllowed, AreAdded, dial_steps, talk_steps, turn_steps}
 use Rattle.lossy_wires.specs.Wires.{Meets}
 use Rattle.lossy_wires.specs.Traces.{replies_from, IsTallied, IsStartKnown, IsTraced}
 use Rattle.lossy_wires.specs.Pieces.{Each}

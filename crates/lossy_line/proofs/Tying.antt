@@ -14,7 +14,7 @@ use Rattle.link_history.proofs.Starts.{till-stop, session_of-last, executed-from
 use Rattle.printer_link.specs.Link.{LinkKind, world_in}
 use Rattle.send_window.specs.Counting.{acked_of}
 use Rattle.send_window.specs.Data.{SenderData}
-use Rattle.octo_session.specs.Data.{SessionData}
+use Rattle.session_steps.specs.Data.{SessionData}
 use Rattle.lossy_wires.specs.Pieces.{Piece, greeting, command, logged_in, AreLinesFrom}
 use Rattle.lossy_wires.specs.Wires.{Printed, before, after, lines_run}
 use Rattle.lossy_wires.specs.Traces.{replies_from, AreSendsFit, IsTraced}

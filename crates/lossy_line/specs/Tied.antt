@@ -10,7 +10,7 @@ use Rattle.printer_model.specs.declared.event.WorldEvent.{WorldEvent}
 use Rattle.printer_model.specs.declared.event.WorldEvent.TheVariants.{Opened}
 use Rattle.printer_link.specs.Link.{LinkKind, world_in}
 use Rattle.send_window.specs.Counting.{acked_of}
-use Rattle.octo_session.specs.Data.{SessionData}
+use Rattle.session_steps.specs.Data.{SessionData}
 use Rattle.lossy_wires.specs.Traces.{replies_from, AreSendsFit}
 use Rattle.lossy_line.specs.Linked.{IsCaused, IsUnopened}
 

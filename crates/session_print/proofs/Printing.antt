@@ -6,7 +6,7 @@ use Rattle.printer_model.specs.declared.event.WorldEvent.{WorldEvent}
 use Rattle.printer_link.specs.Link.{LinkKind}
 use Rattle.lossy_line.specs.Tied.{logged_from}
 use Rattle.print_course.specs.Plan.{Weave, empty, WeavesPart}
-use Rattle.octo_session.specs.Data.{SessionData}
+use Rattle.session_steps.specs.Data.{SessionData}
 use Rattle.lossy_turns.specs.History.{HasIssued, IsMade}
 use Rattle.lossy_turns.specs.Patience.{IsUnanswered}
 use Rattle.session_print.specs.Printed.{HasPrinted}

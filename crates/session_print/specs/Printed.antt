@@ -6,7 +6,7 @@ use Rattle.printer_link.specs.Link.{LinkKind, Recorded}
 use Rattle.send_window.specs.declared.session_end.SessionEnd.{SessionEnd}
 use Rattle.send_window.specs.declared.session_end.SessionEnd.TheVariants.{NoAnswer}
 use Rattle.send_window.specs.Data.{SenderData}
-use Rattle.octo_session.specs.Data.{SessionData}
+use Rattle.session_steps.specs.Data.{SessionData}
 use Rattle.lossy_line.specs.Tied.{EndCausedAs, logged_from}
 use Rattle.print_course.specs.Plan.{Weave, WeavesPart}
 use Rattle.lossy_turns.specs.History.{HasIssued}

@@ -13,12 +13,12 @@ use Rattle.send_window.specs.Data.{SenderData}
 use Rattle.send_window.specs.Hearing.{tick_step}
 use Rattle.desk_steps.specs.declared.link_fact.LinkFact.{LinkFact}
 use Rattle.desk_steps.specs.declared.link_fact.LinkFact.TheVariants as fact
-use Rattle.octo_session.specs.Found.{Got, unasked, lost, nothing, whole, is_got, got_of, is_said, may_issue, end_by, can_find}
-use Rattle.octo_session.specs.declared.found.Doing.{Doing}
-use Rattle.octo_session.specs.declared.found.Doing.TheVariants.{Dialling, Resting}
-use Rattle.octo_session.specs.declared.found.Received.{Received}
-use Rattle.octo_session.specs.declared.found.Received.TheVariants as received
-use Rattle.octo_session.specs.Steps.{Step, opens, finds_no_port, fails_to_dial, fails_to_receive, ticks, hangs_up, hears, listens, issues, gives, fails_to_send, received_by, clock_steps, dial_steps, talk_steps, turn_steps, after_step, after_steps, IsAllowed, AreAllowed, IsDone, IsDonePromptly, IsGiven, IsGivenAlone, IsAdded, AreAdded, calls_by, calls_after, Issues, Takes, TakesSome, issuing, sends, speech}
+use Rattle.session_steps.specs.Found.{Got, unasked, lost, nothing, whole, is_got, got_of, is_said, may_issue, end_by, can_find}
+use Rattle.session_steps.specs.declared.found.Doing.{Doing}
+use Rattle.session_steps.specs.declared.found.Doing.TheVariants.{Dialling, Resting}
+use Rattle.session_steps.specs.declared.found.Received.{Received}
+use Rattle.session_steps.specs.declared.found.Received.TheVariants as received
+use Rattle.session_steps.specs.Steps.{Step, opens, finds_no_port, fails_to_dial, fails_to_receive, ticks, hangs_up, hears, listens, issues, gives, fails_to_send, received_by, clock_steps, dial_steps, talk_steps, turn_steps, after_step, after_steps, IsAllowed, AreAllowed, IsDone, IsDonePromptly, IsGiven, IsGivenAlone, IsAdded, AreAdded, calls_by, calls_after, Issues, Takes, TakesSome, issuing, sends, speech}
 
 pub after_steps-append : (moment : ℕ) (xs ys : List Step) (s : SenderData) → after_steps moment (xs ++ ys) s ≡ after_steps moment ys (after_steps moment xs s)
 after_steps-append moment [] ys s = refl

@@ -13,17 +13,17 @@ use Rattle.desk_steps.specs.declared.link_fact.LinkFact.{LinkFact}
 use Rattle.desk_steps.specs.declared.link_fact.LinkFact.TheVariants as fact
 use Rattle.print_records.specs.declared.ending.Ending.{Ending}
 use Rattle.send_window.specs.Data.{SenderData}
-use Rattle.octo_session.specs.Data.{IsJoined}
-use Rattle.octo_session.specs.DeskTurn.{Pulls, IsNoted, last_noted}
-use Rattle.octo_session.specs.Steps.{Step, issues, after_steps, AreAllowed, Issues, issuing}
+use Rattle.session_steps.specs.Data.{IsJoined}
+use Rattle.session_steps.specs.DeskTurn.{Pulls, IsNoted, last_noted}
+use Rattle.session_steps.specs.Steps.{Step, issues, after_steps, AreAllowed, Issues, issuing}
 use Rattle.desk_steps.specs.Issued.{line_of}
 use Rattle.desk_steps.specs.declared.issued.Issued.{Issued}
 use Rattle.send_window.specs.declared.session_end.SessionEnd.{SessionEnd}
 use Rattle.send_window.specs.Hearing.{answer_of}
-use Rattle.octo_session.specs.Found.{up_after}
-use Rattle.octo_session.specs.Turn.{drawn, texts_in, is_unbroken}
-use Rattle.octo_session.proofs.Stepping.{after_steps-append, allowed_then}
-use Rattle.octo_session.proofs.Counts.{Counts}
+use Rattle.session_steps.specs.Found.{up_after}
+use Rattle.session_steps.specs.Turn.{drawn, texts_in, is_unbroken}
+use Rattle.session_steps.proofs.Stepping.{after_steps-append, allowed_then}
+use Rattle.session_steps.proofs.Counts.{Counts}
 
 -- one more pull with a line
 pub pulls_push : (moment : ℕ) (lines : List Line) (line : Line) (old mid : Data) → Pulls moment lines old mid → (pull_step moment mid).0 ≡ Some line →

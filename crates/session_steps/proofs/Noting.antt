@@ -15,17 +15,17 @@ use Rattle.print_records.specs.declared.ending.Ending.{Ending}
 use Rattle.send_window.specs.Data.{SenderData, IsSound}
 use Rattle.send_window.specs.Hearing.{hear_step, tick_step}
 use Rattle.send_window.proofs.Soundness.{hears_sound}
-use Rattle.octo_session.specs.Data.{SessionData, IsSession, doing}
-use Rattle.octo_session.specs.DeskTurn.{IsNoted, IsQuietTurn, IsTurnEnding}
-use Rattle.octo_session.specs.Found.{Got, unasked, lost, nothing, whole, can_find, temps_in, ready_after}
-use Rattle.octo_session.specs.Steps.{after_steps, issuing, sends, speech, clock_steps, dial_steps, talk_steps, turn_steps}
-use Rattle.octo_session.specs.Turn.{IsDeskTurn, IsNoteOf, IsNoteOn, IsTurn, IsUneventful, fact_of, lines_of, texts_in}
-use Rattle.octo_session.specs.declared.found.Doing.{Doing}
-use Rattle.octo_session.specs.declared.found.Doing.TheVariants.{Dialling, HangingUp, Talking, Resting}
-use Rattle.octo_session.specs.declared.found.Turned.{Turned}
-use Rattle.octo_session.proofs.Endings.{turn_ends}
-use Rattle.octo_session.proofs.Keeping.{keeps_issuing, unmoved_sends, ticked_keeps, ready_lasts, acked_heard, issued_heard}
-use Rattle.octo_session.proofs.Stepping.{after_steps-append}
+use Rattle.session_steps.specs.Data.{SessionData, IsSession, doing}
+use Rattle.session_steps.specs.DeskTurn.{IsNoted, IsQuietTurn, IsTurnEnding}
+use Rattle.session_steps.specs.Found.{Got, unasked, lost, nothing, whole, can_find, temps_in, ready_after}
+use Rattle.session_steps.specs.Steps.{after_steps, issuing, sends, speech, clock_steps, dial_steps, talk_steps, turn_steps}
+use Rattle.session_steps.specs.Turn.{IsDeskTurn, IsNoteOf, IsNoteOn, IsTurn, IsUneventful, fact_of, lines_of, texts_in}
+use Rattle.session_steps.specs.declared.found.Doing.{Doing}
+use Rattle.session_steps.specs.declared.found.Doing.TheVariants.{Dialling, HangingUp, Talking, Resting}
+use Rattle.session_steps.specs.declared.found.Turned.{Turned}
+use Rattle.session_steps.proofs.Endings.{turn_ends}
+use Rattle.session_steps.proofs.Keeping.{keeps_issuing, unmoved_sends, ticked_keeps, ready_lasts, acked_heard, issued_heard}
+use Rattle.session_steps.proofs.Stepping.{after_steps-append}
 
 -- the note says what the turn found and issued
 pub noted_fact : (note : Option Note) (moment before acked : ℕ) (lines : List Line) (got : Got) (found : LinkFact) →

@@ -1,6 +1,6 @@
+pub mod Choosing
 pub mod Counts
 pub mod Desk
-pub mod Doing
 pub mod Endings
 pub mod Keeping
 pub mod Noting

@@ -1,5 +1,5 @@
 -- What a turn promises.
-use Rattle.std.specs.Prelude.{◌≡◌, ◌≢◌, ◌⊎◌, ◌↔◌, ℕ, Bool, true, false, List, [], ◌∷◌, map, Option, None, Some, IfSome}
+use Rattle.std.specs.Prelude.{◌≡◌, ◌≢◌, ◌⊎◌, ◌↔◌, ◌≤◌, ℕ, Bool, true, false, List, [], ◌∷◌, map, Option, None, Some, IfSome}
 use Rattle.desk_steps.specs.Issued.{line_of}
 use Rattle.desk_steps.specs.declared.issued.Note.{Note}
 use Rattle.desk_steps.specs.Data.{Data, Line}
@@ -11,15 +11,15 @@ use Rattle.print_records.specs.declared.ending.Ending.{Ending}
 use Rattle.printer_model.specs.declared.event.WorldEvent.{WorldEvent}
 use Rattle.send_window.specs.Data.{SenderData}
 use Rattle.send_window.specs.Sending.{next_of, room_of}
-use Rattle.octo_session.specs.Data.{SessionData, doing}
-use Rattle.octo_session.specs.DeskTurn.{IsNoted}
+use Rattle.session_steps.specs.Data.{SessionData, IsSession, doing, port_of}
+use Rattle.session_steps.specs.DeskTurn.{IsNoted, IsQuietTurn, IsTurnEnding}
 use Rattle.printer_link.specs.Link.{LinkKind}
-use Rattle.octo_session.specs.Found.{Got, lost, unasked, is_whole, may_issue, temps_in, temps_kept, end_by}
-use Rattle.octo_session.specs.Steps.{TakesSome, turn_steps}
-use Rattle.octo_session.specs.declared.found.Doing.{Doing}
-use Rattle.octo_session.specs.declared.found.Doing.TheVariants.{Dialling, HangingUp, Talking, Resting}
-use Rattle.octo_session.specs.declared.found.Found.{Found}
-use Rattle.octo_session.specs.declared.found.Turned.{Turned}
+use Rattle.session_steps.specs.Found.{Got, lost, unasked, is_whole, may_issue, temps_in, temps_kept, end_by, can_find, up_after, ready_after}
+use Rattle.session_steps.specs.Steps.{TakesSome, turn_steps}
+use Rattle.session_steps.specs.declared.found.Doing.{Doing}
+use Rattle.session_steps.specs.declared.found.Doing.TheVariants.{Dialling, HangingUp, Talking, Resting}
+use Rattle.session_steps.specs.declared.found.Found.{Found}
+use Rattle.session_steps.specs.declared.found.Turned.{Turned}
 
 -- the fact of a turn: Quiet if it made no note
 abbrev pub fact_of : Option Note → LinkFact
@@ -110,3 +110,29 @@ pub record IsTurn (moment : ℕ) (kind : LinkKind) (old_past new_past : Option (
   pub none_issued : may_issue got found ≡ false → lines ≡ []
   pub desk : IsDeskTurn (doing old) moment new.sender.acked found lines old.desk turned.ending new.desk
   pub steps : TakesSome moment kind old_past new_past old_calls new_calls (turn_steps (doing old) old.up got found (texts_in lines)) old.sender new.sender
+
+-- what a turn leaves of a session, by its note
+pub record IsTurnByNote (moment : ℕ) (kind : LinkKind) (old new : SessionData) (turned : Turned) : Type 0 where
+  -- what it found: the state of the link and of the hello
+  pub finds : can_find (doing old) (fact_of turned.note) ≡ true
+  pub up : new.up ≡ up_after (fact_of turned.note) old.up
+  pub no_port : (fact_of turned.note ≡ fact.NoPort) ↔ ((doing old ≡ Dialling) × (kind.listed (port_of old.desk) ≡ false))
+  pub ready : (fact_of turned.note ≡ fact.Ready) ↔ ((old.sender.ready ≡ false) × (new.sender.ready ≡ true))
+  pub ready_is : new.sender.ready ≡ ready_after (fact_of turned.note) old.sender.ready
+  -- in the turn in which the hello is acknowledged nothing is issued; a quiet turn leaves nothing to issue or send
+  pub silent : fact_of turned.note ≡ fact.Ready → lines_of turned.note ≡ []
+  pub sent : fact_of turned.note ≡ fact.Ready → next_of new.sender ≡ None
+  pub spent : new.up ≡ true → fact_of turned.note ≡ fact.Quiet → IsSpent moment new.desk new.sender
+  -- the count of acknowledged lines falls only if a link is made, to 0
+  pub not_fallen : (fact_of turned.note ≡ fact.Opened) ⊎ (old.sender.acked ≤ new.sender.acked)
+  pub within : new.sender.acked ≤ old.sender.issued
+  pub none_acked : fact_of turned.note ≡ fact.Opened → new.sender.acked ≡ 0
+  -- what the note says of the desk; without a note the desk took at most a quiet one
+  pub noted : IfSome turned.note (λ note. IsNoteOn moment new.sender.acked old.desk new.desk turned.ending note)
+  pub still : turned.note ≡ None → IsQuietTurn (doing old) moment old.desk turned.ending new.desk
+  -- it ends only the active print
+  pub ends : IfSome turned.ending (λ ending. IsTurnEnding (fact_of turned.note) old.desk new.desk ending)
+  -- what stays, and what holds between turns
+  pub greatest : new.desk.greatest ≡ old.desk.greatest
+  pub before : IsSession old
+  pub joined : IsSession new

@@ -1,5 +1,5 @@
 -- How a print ends in a turn.
-use Rattle.std.proofs.Common.{◌≡◌, inl, inr, ℕ, ◌≤◌, true, false, List, [], ◌∷◌, Option, None, Some, refl, sym, ◌∙◌, ap, subst}
+use Rattle.std.proofs.Common.{◌≡◌, inl, inr, ℕ, ◌≤◌, true, List, [], ◌∷◌, Option, None, Some, refl, sym, ◌∙◌, ap, subst}
 use Rattle.std.specs.Prelude.{IfSome}
 use Rattle.std.specs.Option.{option_or}
 use Rattle.std.proofs.lemmas.Bool.{false≢true}
@@ -14,11 +14,11 @@ use Rattle.desk_steps.specs.declared.link_fact.LinkFact.TheVariants as fact
 use Rattle.print_records.specs.declared.ending.Ending.{Ending}
 use Rattle.print_records.specs.declared.ending.Outcome.{Outcome}
 use Rattle.print_records.specs.declared.ending.Outcome.TheVariants as outcome
-use Rattle.octo_session.specs.declared.found.Doing.{Doing}
-use Rattle.octo_session.specs.declared.found.Doing.TheVariants.{Dialling, HangingUp, Talking, Resting}
-use Rattle.octo_session.specs.DeskTurn.{Pulls, IsNoted, IsRunOut, EndsSo, IsTurnEnding}
-use Rattle.octo_session.specs.Turn.{IsDeskTurn}
-use Rattle.octo_session.proofs.Desk.{pulls_greatest}
+use Rattle.session_steps.specs.declared.found.Doing.{Doing}
+use Rattle.session_steps.specs.declared.found.Doing.TheVariants.{Dialling, HangingUp, Talking, Resting}
+use Rattle.session_steps.specs.DeskTurn.{Pulls, IsNoted, IsRunOut, EndsSo, IsTurnEnding}
+use Rattle.session_steps.specs.Turn.{IsDeskTurn}
+use Rattle.session_steps.proofs.Desk.{pulls_greatest}
 
 pulls_go : (moment : ℕ) (lines : List Line) (old new : Data) → Pulls moment lines old new → Goes old new
 pulls_go moment [] old new same =

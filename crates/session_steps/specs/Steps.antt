@@ -10,11 +10,9 @@ use Rattle.send_window.specs.Hearing.{hear_step, tick_step}
 use Rattle.printer_model.specs.World.{WorldData, world_from}
 use Rattle.printer_link.specs.Link.{LinkKind, Grows, IsDial, IsRuns, IsSend, IsSendOf, IsSendLoss, IsHeard, IsSilence, IsLoss, IsHangUp, counted_one, dial_events, recv_events}
 use Rattle.printer_model.specs.declared.event.WorldEvent.{WorldEvent}
-use Rattle.octo_session.specs.declared.open_turn.Gave.{Gave}
-use Rattle.octo_session.specs.declared.open_turn.Gave.TheVariants as gave
-use Rattle.octo_session.specs.Found.{Got, unasked, lost, nothing, whole}
-use Rattle.octo_session.specs.declared.found.Doing.{Doing}
-use Rattle.octo_session.specs.declared.found.Doing.TheVariants.{Dialling, HangingUp, Talking, Resting}
+use Rattle.session_steps.specs.Found.{Got, unasked, lost, nothing, whole}
+use Rattle.session_steps.specs.declared.found.Doing.{Doing}
+use Rattle.session_steps.specs.declared.found.Doing.TheVariants.{Dialling, HangingUp, Talking, Resting}
 
 -- a step of a turn
 pub data Step : Type 0 where
@@ -180,18 +178,6 @@ received_by unasked = []
 received_by lost = fails_to_receive ∷ []
 received_by nothing = listens ∷ []
 received_by (whole bytes) = hears bytes ∷ []
-
--- the step of a sending
-abbrev pub given_by : Gave → List Step
-given_by gave.Sent = gives ∷ []
-given_by gave.Nothing = []
-given_by gave.Failed = fails_to_send ∷ []
-
--- whether the link is up after a sending
-abbrev pub is_up_by : Gave → Bool
-is_up_by gave.Sent = true
-is_up_by gave.Nothing = true
-is_up_by gave.Failed = false
 
 -- a number of frames is sent, and if not all are sent the sending of one more fails
 abbrev pub sends : Bool → ℕ → List Step

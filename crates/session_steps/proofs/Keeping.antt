@@ -9,8 +9,8 @@ use Rattle.send_window.specs.Hearing.{hear_step, tick_step}
 use Rattle.send_window.specs.Sending.{next_of, room_of, frame_step, push_step}
 use Rattle.desk_steps.specs.Data.{Data}
 use Rattle.desk_steps.specs.Pull.{pull_step}
-use Rattle.octo_session.specs.Turn.{IsSpent}
-use Rattle.octo_session.specs.Steps.{after_steps, issuing, sends}
+use Rattle.session_steps.specs.Turn.{IsSpent}
+use Rattle.session_steps.specs.Steps.{after_steps, issuing, sends}
 
 -- what issuing and sending leave as it is
 pub record Keeps (s t : SenderData) : Type 0 where

@@ -1,11 +1,11 @@
 //! What a turn does, finds and returns.
 ghost use Rattle.std.specs.Prelude.{◌≡◌, ◌↔◌, ℕ, List, [], map, None, IfSome};
 ghost use Rattle.desk_steps.specs.Issued.{line_of};
-ghost use Rattle.octo_session.specs.Found.{got_of, is_whole, temps_kept};
-ghost use Rattle.octo_session.specs.Turn.{fact_of, lines_of, IsKeptIn, IsStill};
+ghost use Rattle.session_steps.specs.Found.{got_of, is_whole, temps_kept};
+ghost use Rattle.session_steps.specs.Turn.{fact_of, lines_of, IsKeptIn, IsStill};
 
 use arrayvec::ArrayVec;
-use job_desk::{Ending, Issued, LinkFact, Note};
+use desk_steps::{Ending, Issued, LinkFact, Note};
 use marlin_reply::Temps;
 
 /// What a turn does.
