@@ -38,7 +38,7 @@ fn post(alloc: Global, path: &'static str, body: &str) -> anyhow::Result<Pattern
     })
 }
 
-// So many lines for the printer.
+// This number of lines for the printer.
 fn lines(alloc: Global, count: usize) -> anyhow::Result<Pattern> {
     let mut body = Blob::from_slice(alloc, b"{\"commands\":[\"G28\"")?;
     for _ in 1..count {
