@@ -3,19 +3,19 @@ use Rattle.std.proofs.Common.{length, ◌≡◌, ◌⊎◌, inl, inr, ℕ, zero,
 use Rattle.std.specs.List.{list_any}
 use Rattle.desk_steps.specs.declared.link_fact.LinkFact.{LinkFact}
 use Rattle.desk_steps.specs.declared.link_fact.LinkFact.TheVariants as fact
-use Rattle.printer_model.specs.World.{WorldData}
-use Rattle.printer_model.specs.Executed.{is_send, opens, till}
+use Rattle.printer_model.specs.World.{WorldData, is_send}
+use Rattle.link_history.specs.Executed.{opens, till}
 use Rattle.printer_model.specs.declared.event.WorldEvent.{WorldEvent}
 use Rattle.printer_model.specs.declared.event.WorldEvent.TheVariants.{Opened, Closed}
-use Rattle.printer_model.proofs.Sessions.{opens-append, till-all}
-use Rattle.printer_model.proofs.Starts.{opens-free, runs-free}
+use Rattle.link_history.proofs.Sessions.{opens-append, till-all}
+use Rattle.link_history.proofs.Starts.{opens-free, runs-free}
 use Rattle.printer_link.specs.Link.{LinkKind, IsDial, world_in}
 use Rattle.send_window.specs.Data.{SenderData, IsSound, most_lines}
-use Rattle.octo_session.specs.Data.{SessionData, doing}
-use Rattle.octo_session.specs.Found.{Got, unasked, may_issue, can_find}
-use Rattle.octo_session.specs.Steps.{opens as makes_link, hangs_up, AreAdded, dial_steps, turn_steps}
-use Rattle.octo_session.specs.declared.found.Doing.{Doing}
-use Rattle.octo_session.specs.declared.found.Doing.TheVariants.{Dialling, HangingUp, Talking, Resting}
+use Rattle.session_steps.specs.Data.{SessionData, doing}
+use Rattle.session_steps.specs.Found.{Got, unasked, may_issue, can_find}
+use Rattle.session_steps.specs.Steps.{opens as makes_link, hangs_up, AreAdded, dial_steps, turn_steps}
+use Rattle.session_steps.specs.declared.found.Doing.{Doing}
+use Rattle.session_steps.specs.declared.found.Doing.TheVariants.{Dialling, HangingUp, Talking, Resting}
 use Rattle.lossy_line.specs.Issuing.{issued_in}
 use Rattle.lossy_line.specs.Linked.{IsOpened}
 use Rattle.lossy_line.specs.Tied.{IsTied}

@@ -6,8 +6,9 @@ use Rattle.marlin_frame.specs.Frame.{frame_of}
 use Rattle.marlin_frame.specs.Numbering.{wire_number}
 use Rattle.desk_steps.specs.Data.{ScriptTexts, Line}
 use Rattle.desk_steps.specs.Run.{Fate, Finished, Stopped, Left, Unplugged, Broken, is_of, lines_of, of_print}
-use Rattle.octo_session.specs.Turn.{texts_in}
-use Rattle.printer_model.specs.Executed.{is_send, till}
+use Rattle.session_steps.specs.Turn.{texts_in}
+use Rattle.printer_model.specs.World.{is_send}
+use Rattle.link_history.specs.Executed.{till}
 use Rattle.printer_model.specs.declared.event.WorldEvent.{WorldEvent}
 use Rattle.printer_model.specs.declared.event.WorldEvent.TheVariants.{Opened, Send, Arrive, Lose, Garble, Run, Restart, Chatter, Recv, Closed}
 use Rattle.printer_link.specs.Link.{LinkKind}

@@ -5,7 +5,7 @@ use Rattle.desk_steps.specs.Data.{ScriptTexts, Data, Line, new_desk}
 use Rattle.desk_steps.specs.Run.{Fate, Finished, is_of, lines_of, of_print}
 use Rattle.marlin_frame.specs.Frame.{frame_of, fails}
 use Rattle.marlin_frame.specs.Numbering.{wire_number, hello_frame}
-use Rattle.printer_model.specs.Executed.{till}
+use Rattle.link_history.specs.Executed.{till}
 use Rattle.printer_model.specs.declared.event.WorldEvent.{WorldEvent}
 use Rattle.printer_model.specs.declared.event.WorldEvent.TheVariants.{Send}
 use Rattle.printer_link.specs.Link.{LinkKind}

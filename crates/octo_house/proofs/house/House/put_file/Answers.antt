@@ -3,7 +3,7 @@ use Rattle.std.proofs.lemmas.Bool.{not-true, not-false}
 use Rattle.octo_asks.specs.declared.answer.Answer.TheVariants as answer
 use Rattle.house_verdicts.specs.Uploads.{named_file, is_selected, is_printed}
 use Rattle.house_tables.proofs.Keeping.{keeps-same}
-use Rattle.octo_session.specs.Data.{SessionData}
+use Rattle.session_steps.specs.Data.{SessionData}
 use Rattle.octo_house.specs.State.{known_of}
 use Rattle.octo_house.proofs.Startable.{startable, has-it}
 use Rattle.octo_house.proofs.Stored.{job-is, keeps-over, not-stored, not-shelved, done-alone, done-selected, done-printed, shelved}
