@@ -18,9 +18,9 @@ use Rattle.house_line.specs.Sessions.{sessions, texts_of, most_in, acked_in}
 use Rattle.house_line.specs.Tied.{Tied, WasTied, AreTied}
 use Rattle.house_line.specs.InStep.{AreCalls, IsUnmade, IsCurrent, AreInStep}
 use Rattle.house_line.proofs.Earlier.{tied_before}
-use Rattle.house_line.proofs.Grown.{below_or, few_other, few_none, texts-before, acked-before, sessions-other, texts-last, acked-last, open-after, split}
+use Rattle.house_line.proofs.Grown.{below_or, few_other, few_none, sessions-other, texts-last, acked-last, open-after, split}
 use Rattle.house_line.proofs.Longer.{hung_tied}
-use Rattle.house_line.proofs.Standing.{longer_throughout, entry_throughout, same_current, current_open, still_step}
+use Rattle.house_line.proofs.Standing.{longer_throughout, entry_throughout, earlier_tied, same_current, current_open, still_step}
 
 -- a link that is hung up is down
 hung_down : (kind : LinkKind) (past added : List WorldEvent) → IsHangUp true (world_in kind past) added → (world_in kind (past ++ added)).linked ≡ false
@@ -119,10 +119,8 @@ module _ (kind : LinkKind) (front : List WorldEvent) where
               → IsTied kind texts acked (past ++ added) (opens past)) →
               IsTied kind (texts_of s (h ++ entry.Close ∷ [])) (acked_in s (h ++ entry.Close ∷ [])) (past ++ added) (opens front + s)
           each s some (inl below) last =
-              subst (λ (l : List (List ℕ)). IsTied kind l (acked_in s (h ++ entry.Close ∷ [])) (past ++ added) (opens front + s))
-              (sym (texts-before h entry.Close (entry.Close ∷ []) s below))
-              (subst (λ (a : ℕ). IsTied kind (texts_of s h) a (past ++ added) (opens front + s)) (sym (acked-before h entry.Close (entry.Close ∷ []) s below))
-              (tied_before kind (texts_of s h) (acked_in s h) past added (opens front + s) (omega (arith, i.counted, below)) (i.former s some below)))
+              earlier_tied kind front h entry.Close (past ++ added) s below
+              (tied_before kind (texts_of s h) (acked_in s h) past added (opens front + s) (omega (arith, i.counted, below)) (i.former s some below))
           each s some (inr same) last =
               subst (λ (k : ℕ). IsTied kind (texts_of k (h ++ entry.Close ∷ [])) (acked_in k (h ++ entry.Close ∷ [])) (past ++ added) (opens front + k))
               (sym same)

@@ -104,6 +104,31 @@ entry_throughout kind front h e past tied caused all first later is = by (split 
         })
     by (within rest at behind) = all first rest at
 
+-- the sessions before the last one stay tied, if an entry more is noted
+pub earlier_tied : (kind : LinkKind) (front : List WorldEvent) (h : History) (e : Entry) (past : List WorldEvent) (s : ℕ) → s < sessions h →
+    IsTied kind (texts_of s h) (acked_in s h) past (opens front + s) →
+    IsTied kind (texts_of s (h ++ e ∷ [])) (acked_in s (h ++ e ∷ [])) past (opens front + s)
+earlier_tied kind front h e past s below tied =
+    subst (λ (l : List (List ℕ)). IsTied kind l (acked_in s (h ++ e ∷ [])) past (opens front + s)) (sym (texts-before h e (e ∷ []) s below))
+    (subst (λ (a : ℕ). IsTied kind (texts_of s h) a past (opens front + s)) (sym (acked-before h e (e ∷ []) s below)) tied)
+
+-- an entry more keeps a host in step, if its sessions are as they should be then
+pub in_step_by : (kind : LinkKind) (front : List WorldEvent) (h : History) (e : Entry) (past : List WorldEvent) (y : SessionData) →
+    opens past ≡ opens front + sessions (h ++ e ∷ []) →
+    ((s : ℕ) → 1 ≤ s → s < sessions (h ++ e ∷ []) → IsTied kind (texts_of s (h ++ e ∷ [])) (acked_in s (h ++ e ∷ [])) past (opens front + s)) →
+    ((s : ℕ) → s ≤ sessions (h ++ e ∷ []) → length (texts_of s (h ++ e ∷ [])) ≤ most_in s) →
+    IsCurrent kind (sessions (h ++ e ∷ [])) (texts_of (sessions (h ++ e ∷ [])) (h ++ e ∷ [])) (acked_in (sessions (h ++ e ∷ [])) (h ++ e ∷ [])) past y →
+    is_open (h ++ e ∷ []) ≡ y.up → ((end : SessionEnd) → end_at e ≡ Some end → IsEndCaused kind end past) → TiedThroughout kind front h past →
+    AreInStep kind front (h ++ e ∷ []) past y
+in_step_by kind front h e past y counted former few current open_now caused throughout = record {
+  counted = counted;
+  former = former;
+  few = few;
+  current = current;
+  open_as = open_now;
+  throughout = entry_throughout kind front h e past (tied_by kind front (h ++ e ∷ []) past y counted former few current open_now) caused throughout;
+}
+
 -- the session with another desk
 pub same_current : (kind : LinkKind) (n : ℕ) (texts : List (List ℕ)) (acked : ℕ) (past : List WorldEvent) (x y : SessionData) → y.sender ≡ x.sender
     → y.up ≡ x.up →
@@ -131,27 +156,16 @@ module _ (kind : LinkKind) (front : List WorldEvent) (h : History) (past : List 
       texts-last h e other ∙ ap (λ (l : List (List ℕ)). texts_of (sessions h) h ++ l) (ap texts_in silent) ∙ append-nil (texts_of (sessions h) h)
       in
       let counted : opens past ≡ opens front + sessions (h ++ e ∷ []) = omega (arith, i.counted, n) in
-      let former = λ (s : ℕ) (some : 1 ≤ s) (below : s < sessions (h ++ e ∷ [])). earlier s some (omega (arith, below, n)) i in
+      let former = λ (s : ℕ) (some : 1 ≤ s) (below : s < sessions (h ++ e ∷ [])).
+      earlier_tied kind front h e past s (omega (arith, below, n)) (i.former s some (omega (arith, below, n)))
+      in
       let few = few_other h e other i.few (subst (λ (l : List (List ℕ)). length l ≤ most_in (sessions h)) (sym texts) (i.few (sessions h) (omega arith))) in
       let current = now (sessions h) (sessions (h ++ e ∷ [])) (sym n) (texts_of (sessions h) h) (acked_in (sessions h) h) texts
       (acked-last h e other) i.current in
       let open_now : is_open (h ++ e ∷ []) ≡ y.up = open-after h e ∙ same_open (is_open h) ∙ i.open_as ∙ sym up in
-      record {
-        counted = counted;
-        former = former;
-        few = few;
-        current = current;
-        open_as = open_now;
-        throughout = entry_throughout kind front h e past (tied_by kind front (h ++ e ∷ []) past y counted former few current open_now)
-            (λ end ends. absurd (let no : None ≡ Some end = sym endless ∙ ends in cc no)) i.throughout;
-      }
+      in_step_by kind front h e past y counted former few current open_now
+      (λ end ends. absurd (let no : None ≡ Some end = sym endless ∙ ends in cc no)) i.throughout
     where
-      earlier : (s : ℕ) → 1 ≤ s → s < sessions h → AreInStep kind front h past x →
-          IsTied kind (texts_of s (h ++ e ∷ [])) (acked_in s (h ++ e ∷ [])) past (opens front + s)
-      earlier s some below i =
-          subst (λ (l : List (List ℕ)). IsTied kind l (acked_in s (h ++ e ∷ [])) past (opens front + s)) (sym (texts-before h e (e ∷ []) s below))
-          (subst (λ (a : ℕ). IsTied kind (texts_of s h) a past (opens front + s)) (sym (acked-before h e (e ∷ []) s below)) (i.former s some below))
-
       acked_same : (n : ℕ) (texts : List (List ℕ)) (acked : ℕ) → IsCurrent kind n texts acked past x → 1 ≤ n → acked_at e acked ≡ acked
       acked_same zero texts acked c some = absurd (omega arith)
       acked_same (suc n) texts acked c some = same_acked acked c.1
