@@ -75,7 +75,7 @@ module _ (moment : ℕ) (kind : LinkKind) (old new : SessionData) (got : Got) (f
       }
 
   -- the step of a turn that makes the link
-  dial_of : (past added : List WorldEvent) → found ≡ fact.Opened → IsTurned moment kind old new got found texts (world_in kind past) added →
+  pub dial_of : (past added : List WorldEvent) → found ≡ fact.Opened → IsTurned moment kind old new got found texts (world_in kind past) added →
       IsDial (world_in kind past) added
   dial_of past added is t =
       let F : LinkFact → Type 0 = λ f. can_find (doing old) f ≡ true in
