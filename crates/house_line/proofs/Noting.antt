@@ -109,6 +109,9 @@ module _ (moment : ℕ) (kind : LinkKind) (x y : SessionData) (got : Got) (f : L
     abbrev e : Entry
     e = entry.Note note
 
+    open_now : is_open (h ++ e ∷ []) ≡ y.up
+    open_now = open-after h e ∙ ap (λ (g : LinkFact). up_after g (is_open h)) its_fact ∙ open_then (is_open h) i.open_as
+
     -- a note of a turn that makes no link
     noted_other : is_opening note.fact ≡ false → AreInStep kind front (h ++ e ∷ []) (past ++ added) y
     noted_other other =
@@ -136,8 +139,8 @@ module _ (moment : ℕ) (kind : LinkKind) (x y : SessionData) (got : Got) (f : L
           former = former;
           few = few;
           current = current;
-          open_as = open-after h e ∙ ap (λ (g : LinkFact). up_after g (is_open h)) its_fact ∙ open_then (is_open h) i.open_as;
-          throughout = entry_throughout kind front h e (past ++ added) (tied_by kind front (h ++ e ∷ []) (past ++ added) y counted former few current)
+          open_as = open_now;
+          throughout = entry_throughout kind front h e (past ++ added) (tied_by kind front (h ++ e ∷ []) (past ++ added) y counted former few current open_now)
               (λ end ends. caused_turn end (sym its_fact ∙ end_is note.fact end ends)) along;
         }
       where
@@ -171,8 +174,8 @@ module _ (moment : ℕ) (kind : LinkKind) (x y : SessionData) (got : Got) (f : L
           former = former;
           few = few;
           current = current;
-          open_as = open-after h e ∙ ap (λ (g : LinkFact). up_after g (is_open h)) its_fact ∙ open_then (is_open h) i.open_as;
-          throughout = entry_throughout kind front h e (past ++ added) (tied_by kind front (h ++ e ∷ []) (past ++ added) y counted former few current)
+          open_as = open_now;
+          throughout = entry_throughout kind front h e (past ++ added) (tied_by kind front (h ++ e ∷ []) (past ++ added) y counted former few current open_now)
               (λ end ends. caused_turn end (sym its_fact ∙ end_is note.fact end ends)) along;
         }
       where

@@ -4,7 +4,7 @@ use Rattle.std.specs.List.{list_any}
 use Rattle.printer_model.specs.Executed.{is_send, opens, till}
 use Rattle.printer_model.specs.declared.event.WorldEvent.{WorldEvent}
 use Rattle.printer_model.proofs.Sessions.{opens-append}
-use Rattle.printer_link.specs.Link.{LinkKind}
+use Rattle.printer_link.specs.Link.{LinkKind, world_in}
 use Rattle.send_window.specs.Data.{SenderData, IsSound}
 use Rattle.send_window.specs.declared.session_end.SessionEnd.{SessionEnd}
 use Rattle.octo_session.specs.Data.{SessionData}
@@ -28,13 +28,24 @@ pub leaves_of : (kind : LinkKind) (front : List WorldEvent) (h : History) (past 
     Leaves kind front (sessions h) (λ s. texts_of s h) (λ s. acked_in s h) (texts_of (sessions h) h) (acked_in (sessions h) h) past x
 leaves_of kind front h past x i = record { counted = i.counted; former = i.former; current = i.current; few = i.few (sessions h) (omega arith) }
 
+-- the link is up exactly if the current session is
+pub current_open : (kind : LinkKind) (n : ℕ) (texts : List (List ℕ)) (acked : ℕ) (past : List WorldEvent) (x : SessionData) → 1 ≤ n →
+    IsCurrent kind n texts acked past x → (world_in kind past).linked ≡ x.up
+current_open kind zero texts acked past x some u = absurd (omega (arith, some))
+current_open kind (suc n) texts acked past x some c = c.0.open_as
+
 -- then they are tied
 pub tied_by : (kind : LinkKind) (front : List WorldEvent) (h : History) (past : List WorldEvent) (x : SessionData) → opens past ≡ opens front + sessions h →
     ((s : ℕ) → 1 ≤ s → s < sessions h → IsTied kind (texts_of s h) (acked_in s h) past (opens front + s)) →
     ((s : ℕ) → s ≤ sessions h → length (texts_of s h) ≤ most_in s) → IsCurrent kind (sessions h) (texts_of (sessions h) h) (acked_in (sessions h) h) past x →
-    Tied kind front h past
-tied_by kind front h past x counted former few current =
-    record { counted = counted; each = λ s some most. each s some (below_or s (sessions h) (omega (arith, most))); few = few }
+    is_open h ≡ x.up → Tied kind front h past
+tied_by kind front h past x counted former few current open_now =
+    record {
+      counted = counted;
+      each = λ s some most. each s some (below_or s (sessions h) (omega (arith, most)));
+      few = few;
+      open_as = λ some. current_open kind (sessions h) (texts_of (sessions h) h) (acked_in (sessions h) h) past x some current ∙ sym open_now;
+    }
   where
     last : (n : ℕ) (texts : List (List ℕ)) (acked : ℕ) → 1 ≤ n → opens past ≡ opens front + n → IsCurrent kind n texts acked past x →
         IsTied kind texts acked past (opens front + n)
@@ -51,7 +62,7 @@ tied_by kind front h past x counted former few current =
 
 pub tied_now : (kind : LinkKind) (front : List WorldEvent) (h : History) (past : List WorldEvent) (x : SessionData) → AreInStep kind front h past x
     → Tied kind front h past
-tied_now kind front h past x i = tied_by kind front h past x i.counted i.former i.few i.current
+tied_now kind front h past x i = tied_by kind front h past x i.counted i.former i.few i.current i.open_as
 
 -- more events, of which none is a sending if no session is open
 pub longer_throughout : (kind : LinkKind) (front : List WorldEvent) (h : History) (past added : List WorldEvent) → opens past ≡ opens front + sessions h →
@@ -123,13 +134,14 @@ module _ (kind : LinkKind) (front : List WorldEvent) (h : History) (past : List 
       let few = few_other h e other i.few (subst (λ (l : List (List ℕ)). length l ≤ most_in (sessions h)) (sym texts) (i.few (sessions h) (omega arith))) in
       let current = now (sessions h) (sessions (h ++ e ∷ [])) (sym n) (texts_of (sessions h) h) (acked_in (sessions h) h) texts
       (acked-last h e other) i.current in
+      let open_now : is_open (h ++ e ∷ []) ≡ y.up = open-after h e ∙ same_open (is_open h) ∙ i.open_as ∙ sym up in
       record {
         counted = counted;
         former = former;
         few = few;
         current = current;
-        open_as = open-after h e ∙ same_open (is_open h) ∙ i.open_as ∙ sym up;
-        throughout = entry_throughout kind front h e past (tied_by kind front (h ++ e ∷ []) past y counted former few current)
+        open_as = open_now;
+        throughout = entry_throughout kind front h e past (tied_by kind front (h ++ e ∷ []) past y counted former few current open_now)
             (λ end ends. absurd (let no : None ≡ Some end = sym endless ∙ ends in cc no)) i.throughout;
       }
     where

@@ -133,6 +133,9 @@ ended_of : (p : ℕ) (h : History) (fates : List Fate) (f : Fate) → fates ≡ 
 ended_of p h fates f is (inl u) = absurd (let no : f ∷ [] ≡ [] = sym is ∙ u.no_fate in cc no)
 ended_of p h fates f is (inr o) = o
 
+same_fate : (f g : Fate) → f ∷ [] ≡ g ∷ [] → f ≡ g
+same_fate f g is = cc
+
 pub sent_no_more : (kind : LinkKind) (front : List WorldEvent) (s : Standing) (h : History) (past : List WorldEvent) → IsRun kind front s h past →
     EachEndedIsSentNoMore kind front s h past
 sent_no_more kind front s h past run first more split p some fate ends =
@@ -153,6 +156,8 @@ sent_no_more kind front s h past run first more split p some fate ends =
       at = record { is = w.is; tied = w.tied };
       home = o.home;
       lives = subst (λ (x : History). LivesIn p x o.home) (sym split) stays.0;
+      leaves = subst (λ (f : Fate). LeavesSo p f o.home first) (same_fate o.fate fate (sym o.is ∙ ends)) o.leaves;
+      down = λ some closed. w.tied.open_as (omega (arith, some, o.within)) ∙ closed;
       none = subst (λ (x : History). (o.home < sessions first) ⊎ AreSentOther p (issued_of o.home x) (till 0 w.since)) (sym split)
           (by w tied o.home (place o.home (sessions first)) o.within so stays.1);
     }
