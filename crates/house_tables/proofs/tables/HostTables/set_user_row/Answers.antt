@@ -29,8 +29,8 @@ restore-requires-clause-key g c =
 pub returns-in-Ok-commit-clause-rest : goal.returns-in-Ok-commit-clause-rest
 returns-in-Ok-commit-clause-rest g c = record {
   kept = keeps-changed (change.SetUser c.args.row.now) _ _ _ _
-          (c.in-Ok-commit.ensures.ok ∙ ap (λ row. option_map (changed (change.SetUser row)) (g.K.Keeper.tables c.args.keeper.now)) c.copy.ensures)
-          (kept-set c.args.row.now _ _ c.requires (users-over _ _ c.change.new.self (replaced c.args.row.now) c.self.view_is c.in-Ok.ensures.rows));
+      (c.in-Ok-commit.ensures.ok ∙ ap (λ row. option_map (changed (change.SetUser row)) (g.K.Keeper.tables c.args.keeper.now)) c.copy.ensures)
+      (kept-set c.args.row.now _ _ c.requires (users-over _ _ c.change.new.self (replaced c.args.row.now) c.self.view_is c.in-Ok.ensures.rows));
   prints = search rules;
   written = search rules;
   keeper = search rules;
@@ -47,8 +47,8 @@ returns-in-Err-commit-clause-done g c =
 pub returns-in-Err-commit-clause-rest : goal.returns-in-Err-commit-clause-rest
 returns-in-Err-commit-clause-rest g c = record {
   kept = keeps-same _ _ _ _ c.in-Err-commit.ensures.err
-          (users-same _ _ c.restore.new.self c.self.view_is
-          (c.restore.ensures ∙ back-after c.args.row.now c.in-Ok.former c.self.inside.users c.change.new.self c.in-Ok.ensures.rows c.in-Ok.ensures.exact.1));
+      (users-same _ _ c.restore.new.self c.self.view_is
+      (c.restore.ensures ∙ back-after c.args.row.now c.in-Ok.former c.self.inside.users c.change.new.self c.in-Ok.ensures.rows c.in-Ok.ensures.exact.1));
   prints = search rules;
   written = search rules;
   keeper = search rules;
