@@ -49,10 +49,10 @@ returns-clause-turn g c =
       heard = search rules;
       none = uneventful c.turn_by_kind-found.result c.acked-before.result c.acked.result c.args.self.now.sender.acked c.turn_by_kind-found.new.self.sender.acked
           bytes c.turned_of.result.note c.turned_of.ensures.none (c.acked-before.ensures.acked ∙ ap (λ (x : SessionData). x.sender.acked) c.self.view_is)
-          (c.acked.ensures.acked ∙ ap (λ (x : SessionData). x.sender.acked) c.self-2.view_is) e.temps;
+          (c.acked.ensures.acked ∙ ap (λ (x : SessionData). x.sender.acked) c.self-2.view_is) e.found_by.temps;
       some = search rules;
       ended = search rules;
-      broken = e.broken;
+      broken = e.found_by.broken;
       none_issued = search rules;
       desk = search rules;
       steps = search rules;
@@ -68,7 +68,7 @@ returns-clause-by_note g c =
     let t = returns-clause-turn g c in
     let finds : can_find (doing old) (fact_of turned.note) ≡ true = subst (λ (f : LinkFact). can_find (doing old) f ≡ true) (sym is) e.finds in
     let ready : (fact_of turned.note ≡ fact.Ready) ↔ ((old.sender.ready ≡ false) × (new.sender.ready ≡ true)) =
-    subst (λ (f : LinkFact). (f ≡ fact.Ready) ↔ ((old.sender.ready ≡ false) × (new.sender.ready ≡ true))) (sym is) e.ready in
+    subst (λ (f : LinkFact). (f ≡ fact.Ready) ↔ ((old.sender.ready ≡ false) × (new.sender.ready ≡ true))) (sym is) e.found_by.ready in
     let sound : IsSound old.sender = subst (λ (x : SessionData). IsSound x.sender) c.self.view_is c.acked-before.ensures.sound in
     let before : IsSession old = subst IsSession c.self.view_is c.self.invariant in
     record {
@@ -77,8 +77,8 @@ returns-clause-by_note g c =
       no_port = (λ none. e.no_port.0 (sym is ∙ none), λ unlisted. is ∙ e.no_port.1 unlisted);
       ready = ready;
       ready_is = turn_ready c.args.moment _ _ _ _ _ old new turned t finds sound ready;
-      silent = λ readies. c.turned_of.ensures.lines ∙ ap (map line_of) (e.silent (sym is ∙ readies));
-      sent = λ readies. e.sent (sym is ∙ readies);
+      silent = λ readies. c.turned_of.ensures.lines ∙ ap (map line_of) (e.found_by.silent (sym is ∙ readies));
+      sent = λ readies. e.found_by.sent (sym is ∙ readies);
       spent = λ open_link quiet. e.spent open_link (sym is ∙ quiet);
       not_fallen = turn_not_fallen c.args.moment _ _ _ _ _ old new turned t finds sound;
       within = turn_within c.args.moment _ _ _ _ _ old new turned t finds sound;
