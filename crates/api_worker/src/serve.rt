@@ -6,6 +6,7 @@ ghost use Rattle.api_worker.specs.Served.{Sends, HasServed, AsksOnce, fault_byte
 
 use crate::reply::reply_to_message;
 use api_replies::fault_bytes;
+use api_routes::Routes;
 use octo_asks::Asker;
 use octo_http::{HttpReply, MessageFault, read_message, write_reply};
 use octo_outside::{Conn, Failed};
@@ -43,6 +44,7 @@ fn refuse<C: Conn>(alloc: Global, conn: &mut C, fault: &MessageFault)
 /// It waits through at most `patience` quiet reads. If memory runs out, the reply is 507.
 pub fn serve_conn<C: Conn, A: Asker>(
     alloc: Global,
+    routes: &Routes,
     conn: &mut C,
     asker: &mut A,
     patience: u32,
@@ -61,7 +63,7 @@ pub fn serve_conn<C: Conn, A: Asker>(
 {
     match read_message(alloc, conn, patience) {
         Ok(message) => {
-            let replied = reply_to_message(alloc, asker, message);
+            let replied = reply_to_message(alloc, routes, asker, message);
             write_or_leave(conn, &replied.reply);
             replied.is_open
         }
