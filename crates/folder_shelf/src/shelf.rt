@@ -39,6 +39,7 @@ impl<R: Files + AllocGlobal + Clone + Drop> FolderShelf<R> {
     fn count<T: Drop>(&mut self, done: Result<T, ShelfFault>) -> Result<T, ShelfFault>
         ensures same { result ≡ done }
         ensures counts { Counts (IsErrOf result fault.Failed) self.old.faults self.new.faults }
+        ensures steady { (IsErrOf result fault.Failed → ⊥) → self.new.faults ≡ self.old.faults }
     {
         if matches!(done, Err(ShelfFault::Failed)) {
             self.faults = self.faults.saturating_add(1);

@@ -1,6 +1,2 @@
-pub mod Data
-pub mod DeskTurn
 pub mod Fields
-pub mod Found
-pub mod Steps
-pub mod Turn
+pub mod Given

@@ -8,20 +8,20 @@ ghost use Rattle.printer_link.specs.Link.{HasSlots, Grows, IsDial, IsNothing, Is
 ghost use Rattle.printer_link.specs.declared.link.LinkFault.TheVariants as fault;
 ghost use Rattle.send_window.specs.Data.{begun};
 ghost use Rattle.send_window.specs.Sending.{next_of};
-ghost use Rattle.octo_session.specs.Data.{IsSession, doing, is_calling, port_of};
-ghost use Rattle.octo_session.specs.DeskTurn.{IsNoted};
-ghost use Rattle.octo_session.specs.Found.{got_of, temps_in, temps_kept, end_by, may_issue, up_after, can_find, lost, unasked};
-ghost use Rattle.octo_session.specs.Steps.{Takes, TakesSome, hangs_up, dial_steps, talk_steps, turn_steps};
-ghost use Rattle.octo_session.specs.Turn.{texts_in, IsDeskTurn, IsSpent};
-ghost use Rattle.octo_session.specs.declared.found.Doing.TheVariants as now_doing;
-ghost use Rattle.octo_session.specs.declared.found.Received.TheVariants as received;
+ghost use Rattle.session_steps.specs.Data.{IsSession, doing, is_calling, port_of};
+ghost use Rattle.session_steps.specs.DeskTurn.{IsNoted};
+ghost use Rattle.session_steps.specs.Found.{got_of, temps_in, temps_kept, end_by, may_issue, up_after, can_find, lost, unasked};
+ghost use Rattle.session_steps.specs.Steps.{Takes, TakesSome, hangs_up, dial_steps, talk_steps, turn_steps};
+ghost use Rattle.session_steps.specs.Turn.{texts_in, IsDeskTurn, IsSpent};
+ghost use Rattle.session_steps.specs.declared.found.Doing.TheVariants as now_doing;
+ghost use Rattle.session_steps.specs.declared.found.Received.TheVariants as received;
 
 use super::Session;
-use crate::found::{Doing, Found, Received};
 use crate::open_turn::{note_failure, receive_then_send};
 use byte_text::ReplyLine;
 use job_desk::{Desk, LinkFact, State};
 use printer_link::{Link, LinkFault};
+use session_steps::{Doing, Found, Received};
 
 // Dials the port of the desk.
 fn dial_port<L: Link>(desk: &Desk, link: &mut L) -> Result<(), LinkFault>

@@ -1,8 +1,8 @@
 use Rattle.std.proofs.Common.{◌≡◌, subst}
 use Rattle.std.specs.Prelude.{Some, ◌↔◌}
 use Rattle.desk_steps.specs.declared.link_fact.LinkFact.TheVariants as fact
-use Rattle.octo_session.specs.Data.{SessionData}
-use Rattle.octo_session.specs.Found.{got_of, end_by}
+use Rattle.session_steps.specs.Data.{SessionData}
+use Rattle.session_steps.specs.Found.{got_of, end_by}
 use Rattle.octo_session.proofs.session.Session.turn_while_up.Goals as goal
 
 pub returns-clause-ended : goal.returns-clause-ended
