@@ -2,8 +2,8 @@
 use Rattle.std.specs.Prelude.{ℕ, Bool, true, false, List, [], map, codes, Option, Some, None}
 use Rattle.serde_json.specs.Data.{Data}
 use Rattle.serde_json.specs.Written.{compact_text}
-use Rattle.octo_http.specs.declared.fault.MessageFault.{MessageFault}
-use Rattle.octo_http.specs.declared.fault.MessageFault.TheVariants as fault
+use Rattle.http_grammar.specs.declared.fault.MessageFault.{MessageFault}
+use Rattle.http_grammar.specs.declared.fault.MessageFault.TheVariants as fault
 use Rattle.octo_http.specs.declared.reply.HttpReply.{HttpReply}
 use Rattle.octo_http.specs.declared.reply.ReplyKind.TheVariants.{Empty, Json, Bytes}
 use Rattle.octo_asks.specs.declared.answer.Answer.{Answer}

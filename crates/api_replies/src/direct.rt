@@ -3,7 +3,8 @@ ghost use Rattle.std.specs.Prelude.{◌≡◌, option_map};
 ghost use Rattle.api_replies.specs.Replies.{empty_reply, direct_status, fault_status};
 
 use api_direct::Direct;
-use octo_http::{HttpReply, MessageFault, ReplyKind};
+use http_grammar::MessageFault;
+use octo_http::{HttpReply, ReplyKind};
 use octo_outside::Blob;
 use std::alloc::Global;
 

@@ -9,12 +9,13 @@ use arrayvec::ArrayVec;
 use byte_text::Name;
 use desk_steps::State;
 use gcode_lines::FileFault;
+use http_grammar::MessageFault;
 use octo_access::Permission;
 use octo_asks::{
     Answer, Progress, ShownEntry, ShownEntryList, ShownFile, ShownFileList, ShownHeat, ShownPrint,
     ShownPrintList, ShownUser, ShownUserList, StoredCause,
 };
-use octo_http::{MessageFault, ReplyKind};
+use octo_http::ReplyKind;
 use octo_outside::{Blob, NameList};
 use print_records::Outcome;
 use std::alloc::Global;

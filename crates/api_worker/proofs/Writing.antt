@@ -5,8 +5,8 @@ use Rattle.std.proofs.Math.Seq.{take-append-add}
 use Rattle.octo_outside.specs.Told.{Adds, AddsPrefix, Rose}
 use Rattle.octo_asks.specs.History.{History}
 use Rattle.octo_doors.specs.Doors.{ConnState, untouched}
-use Rattle.octo_http.specs.declared.fault.MessageFault.{MessageFault}
-use Rattle.octo_http.specs.declared.fault.MessageFault.TheVariants.{ReadFault}
+use Rattle.http_grammar.specs.declared.fault.MessageFault.{MessageFault}
+use Rattle.http_grammar.specs.declared.fault.MessageFault.TheVariants.{ReadFault}
 use Rattle.octo_http.specs.declared.message.Message.{Message}
 use Rattle.octo_http.specs.declared.reply.HttpReply.{HttpReply}
 use Rattle.octo_http.specs.Message.{Writes, Answers, IsPatient, IsSlow}

@@ -3,8 +3,8 @@ use Rattle.std.specs.Prelude.{◌≡◌, ◌⊎◌, ℕ, ◌<◌, Bool, true, fa
 use Rattle.std.specs.Option.{option_map_or}
 use Rattle.octo_outside.specs.Told.{Adds, AddsPrefix, Rose}
 use Rattle.octo_doors.specs.Doors.{ConnState, untouched}
-use Rattle.octo_http.specs.declared.fault.MessageFault.{MessageFault}
-use Rattle.octo_http.specs.declared.fault.MessageFault.TheVariants.{ReadFault}
+use Rattle.http_grammar.specs.declared.fault.MessageFault.{MessageFault}
+use Rattle.http_grammar.specs.declared.fault.MessageFault.TheVariants.{ReadFault}
 use Rattle.octo_http.specs.declared.message.Message.{Message}
 use Rattle.octo_http.specs.declared.reply.HttpReply.{HttpReply}
 use Rattle.octo_http.specs.Message.{MessageSays, Answers, IsSlow}

@@ -7,8 +7,9 @@ ghost use Rattle.api_worker.specs.Served.{Sends, HasServed, AsksOnce, fault_byte
 use crate::reply::reply_to_message;
 use api_replies::fault_bytes;
 use api_routes::Routes;
+use http_grammar::MessageFault;
 use octo_asks::Asker;
-use octo_http::{HttpReply, MessageFault, read_message, write_reply};
+use octo_http::{HttpReply, read_message, write_reply};
 use octo_outside::{Conn, Failed};
 use std::alloc::Global;
 

@@ -7,7 +7,8 @@ mod limits;
 mod slow;
 
 use byte_conn::ByteConn;
-use octo_http::{Message, MessageFault, read_message};
+use http_grammar::MessageFault;
+use octo_http::{Message, read_message};
 use octo_outside::{Blob, CallList, MemoryConn};
 use std::alloc::{AllocError, Global};
 use std::process::Abort;

@@ -1,13 +1,13 @@
 -- What the steps of a filling keep.
-use Rattle.std.proofs.Common.{◌≡◌, ◌≢◌, ℕ, ◌+◌, ◌-◌, ◌<◌, ◌≤◌, List, [], ◌++◌, length, take, drop, min, Option, Some, Result, Ok, Err, refl, sym, ap, ◌∙◌, subst, append_assoc, append-nil, arith, length-append}
+use Rattle.std.proofs.Common.{◌≡◌, ℕ, ◌+◌, ◌-◌, ◌<◌, ◌≤◌, List, [], ◌++◌, length, take, drop, min, Option, Result, Ok, Err, refl, sym, ap, ◌∙◌, subst, append_assoc, arith, length-append}
 use Rattle.std.specs.Result.{IfErr, IsErrAnd}
 use Rattle.std.proofs.lemmas.List.{take-append-drop, length-take}
-use Rattle.octo_http.specs.Input.{IntakeData, Holds, Took, Knows, Waits, IsPause, Goes}
+use Rattle.octo_http.specs.Input.{IntakeData, Took, Knows, IsPause}
 use Rattle.octo_http.specs.Stops.{Stops, IsShort}
-use Rattle.octo_http.specs.declared.fault.MessageFault.{MessageFault}
+use Rattle.http_grammar.specs.declared.fault.MessageFault.{MessageFault}
 use Rattle.octo_http.specs.declared.intake.Came.{Came}
 use Rattle.octo_http.specs.declared.intake.Came.TheVariants as came
-use Rattle.octo_http.proofs.Reading.{took_none, took_then, took_read, took_front, knows_since, stops_paused}
+use Rattle.octo_http.proofs.Reading.{took_then, took_read, took_front, knows_since, stops_paused}
 
 -- bytes were taken into a body from a beginning on, and more are due
 abbrev pub Sofar : ℕ → ℕ → List ℕ → List ℕ → List ℕ → Option (List ℕ) → Came → IntakeData → Option (List ℕ) → ℕ → ℕ → Type 0

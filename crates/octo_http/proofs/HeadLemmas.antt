@@ -1,51 +1,19 @@
 -- What a look at the first bytes says of the whole input.
-use Rattle.std.proofs.Common.{◌≡◌, ◌≢◌, ℕ, zero, suc, ◌⊎◌, ◌+◌, ◌-◌, ◌<◌, ◌≤◌, List, [], ◌∷◌, ◌++◌, length, take, drop, map, min, Option, Some, None, refl, sym, ap, ◌∙◌, subst, append_assoc, append-nil, arith, inl, inr, length-append}
-use Rattle.std.proofs.lemmas.List.{take-append-drop, take-append-le, take_all, length-take, length-map, take_at}
-use Rattle.httparse.specs.declared.spans.RequestSpans.{RequestSpans}
-use Rattle.httparse.specs.declared.spans.HeaderSpan.{HeaderSpan}
-use Rattle.httparse.specs.Grammar.{RequestHead, Field, print_request, ReadsRequest, HasNoRequest, NeverHasRequest, MayBecomeRequest}
-use Rattle.httparse.specs.Spans.{name_and_value, header_bytes, span_bytes, IsRequestAt, IsRequestOf, IsRequestWithin, RequestExceeds}
-use Rattle.octo_http.specs.Framing.{framing_of}
-use Rattle.octo_http.specs.Input.{IntakeData, Holds, Took, Knows, IsPause}
-use Rattle.octo_http.specs.Stops.{Stops, Refuses, Lacks}
+use Rattle.std.proofs.Common.{◌≡◌, ℕ, ◌<◌, ◌≤◌, List, [], ◌++◌, length, take, drop, Option, refl, sym, ap, ◌∙◌, subst, append_assoc, arith, inl, inr, length-append}
+use Rattle.std.proofs.lemmas.List.{take-append-drop, take-append-le, take_all}
+use Rattle.httparse.specs.Grammar.{HasNoRequest, NeverHasRequest, MayBecomeRequest}
+use Rattle.httparse.specs.Spans.{RequestExceeds}
+use Rattle.octo_http.specs.Input.{IntakeData, Took}
+use Rattle.octo_http.specs.Stops.{Refuses, Lacks}
 use Rattle.octo_http.specs.declared.intake.Came.{Came}
-use Rattle.octo_http.specs.declared.intake.Came.TheVariants as came
-use Rattle.octo_http.specs.declared.fault.MessageFault.{MessageFault}
-use Rattle.octo_http.specs.declared.fault.MessageFault.TheVariants.{BadHead, HeadTooLarge, BodyTooLarge, BadChunk, Ended, ReadFault, NoMemory, Slow}
-use Rattle.octo_http.proofs.Reading.{front_more, took_then, took_read, took_front, knows_since, stops_paused}
-use Rattle.octo_http.specs.Head.{TakesHead, fields_of, head_of, head_with, IsHeadOf, IsHead, IsUnframed, HeadFault, bad_head, unframed, many_fields, many_bytes, cut_head, IsRefused, IsOpen, IsFound}
-use Rattle.octo_http.specs.declared.framing.Framing.{Framing}
-use Rattle.octo_http.specs.declared.head.Head.{Head}
-use Rattle.octo_http.specs.declared.head.Found.{Found}
-
--- a front of the length of the printed head is the head
-front_is : (bytes : List ℕ) (h : RequestHead) (n : ℕ) → n ≡ length (print_request h) → ReadsRequest bytes h (drop n bytes) → ReadsRequest (take n bytes) h []
-front_is bytes h n long reads =
-    (reads.0, ap (λ text. take n text) reads.1 ∙ take_at (print_request h) (drop n bytes) n (sym long) ∙ sym (append-nil (print_request h)))
-
--- a head that was found is one within the limits
-pub found_within : (bytes : List ℕ) (spans : List HeaderSpan) (r : RequestSpans) (h : RequestHead) → IsRequestWithin bytes spans r
-    → IsRequestAt bytes spans r h → length bytes ≤ 16384 → length spans ≡ 64 → IsHeadOf (take r.len bytes) h
-found_within bytes spans r h within at short room = record {
-  reads = front_is bytes h r.len at.len at.reads;
-  short = omega (arith, length-take r.len bytes, short);
-  few = omega (arith, sym (length-map (take r.headers spans) (header_bytes bytes)), ap length at.fields, length-map h.fields name_and_value, length-take r.headers spans, room);
-}
-
--- a head whose fields contradict each other
-pub unframed_at : (bytes : List ℕ) (spans : List HeaderSpan) (r : RequestSpans) → IsRequestWithin bytes spans r → IsRequestOf bytes spans r
-    → length bytes ≤ 16384 → length spans ≡ 64 → None ≡ framing_of (map (header_bytes bytes) (take r.headers spans)) → IsUnframed (take r.len bytes)
-unframed_at bytes spans r within of short room none =
-    (of.0, found_within bytes spans r of.0 within of.1 short room, sym (none ∙ ap framing_of of.1.fields))
-
--- the same of the first bytes, which are no more than this number
-never_more : (front rest : List ℕ) → NeverHasRequest front → NeverHasRequest (front ++ rest)
-never_more front rest never more =
-    let Never : List ℕ → Type 0 = λ text. HasNoRequest text in
-    subst Never (sym (append_assoc front rest more)) (never (rest ++ more))
-
-exceeds_more : (front rest : List ℕ) → RequestExceeds 64 front → RequestExceeds 64 (front ++ rest)
-exceeds_more front rest e = (e.0, e.1 ++ rest, ap (λ text. text ++ rest) e.2 ∙ append_assoc e.0 e.1 rest, e.3, e.4, e.5)
+use Rattle.http_grammar.specs.declared.fault.MessageFault.{MessageFault}
+use Rattle.http_grammar.specs.declared.fault.MessageFault.TheVariants.{BadHead, HeadTooLarge, BodyTooLarge, BadChunk, Ended, ReadFault, NoMemory, Slow}
+use Rattle.http_grammar.proofs.HeadLemmas.{never_more, exceeds_more}
+use Rattle.octo_http.proofs.Reading.{front_more, took_then, took_front}
+use Rattle.http_grammar.specs.Head.{IsHead, HeadFault, bad_head, unframed, many_fields, many_bytes, cut_head, IsRefused, IsOpen, IsFound}
+use Rattle.octo_http.specs.Taken.{TakesHead}
+use Rattle.http_grammar.specs.declared.head.Head.{Head}
+use Rattle.http_grammar.specs.declared.head.Found.{Found}
 
 -- what a look refuses is a fault of every input that begins with the bytes
 refused_head : (bytes : List ℕ) (f : MessageFault) → IsRefused (take 16384 bytes) f → Refuses HeadFault bytes f

@@ -1,6 +1,5 @@
 pub mod Reading
 pub mod Filling
-pub mod FramingLemmas
 pub mod HeadLemmas
 pub mod PartLemmas
 pub mod ChunkLemmas

@@ -1,11 +1,10 @@
 -- How the steps of a reader join.
-use Rattle.std.proofs.Common.{◌≡◌, ◌≢◌, ℕ, zero, suc, ◌+◌, ◌<◌, ◌≤◌, List, [], ◌∷◌, ◌++◌, length, take, Option, Some, refl, sym, ap, ◌∙◌, subst, append_assoc, append-nil, arith}
-use Rattle.octo_outside.specs.Told.{Rose}
-use Rattle.octo_outside.proofs.Told.{rose_before, rose_after}
-use Rattle.octo_http.specs.Input.{IntakeData, Holds, Took, Knows, Waits, IsPause, Goes}
+use Rattle.std.proofs.Common.{◌≡◌, ◌≢◌, ℕ, zero, suc, ◌≤◌, List, [], ◌∷◌, ◌++◌, take, Option, refl, sym, ap, ◌∙◌, subst, append_assoc, arith}
+use Rattle.octo_outside.proofs.Told.{rose_after}
+use Rattle.octo_http.specs.Input.{IntakeData, Took, Knows, Waits, IsPause}
 use Rattle.octo_http.specs.Stops.{Grammar, Unfinished, IsFaultOf, Stops, Refuses, HasCause, Lacks}
-use Rattle.octo_http.specs.declared.fault.MessageFault.{MessageFault}
-use Rattle.octo_http.specs.declared.fault.MessageFault.TheVariants.{BadHead, HeadTooLarge, BodyTooLarge, BadChunk, Ended, ReadFault, NoMemory, Slow}
+use Rattle.http_grammar.specs.declared.fault.MessageFault.{MessageFault}
+use Rattle.http_grammar.specs.declared.fault.MessageFault.TheVariants.{BadHead, HeadTooLarge, BodyTooLarge, BadChunk, Ended, ReadFault, NoMemory, Slow}
 use Rattle.octo_http.specs.declared.intake.Came.{Came}
 use Rattle.octo_http.specs.declared.intake.Came.TheVariants as came
 

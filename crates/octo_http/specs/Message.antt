@@ -1,14 +1,14 @@
 -- What an input says as a message, and what a reader of it answers and writes.
-use Rattle.std.specs.Prelude.{◌≡◌, ℕ, ◌+◌, ◌<◌, ◌≤◌, ◌⊎◌, Bool, true, false, ◌&&◌, nat_lt, nat_le, if◌then◌else◌, List, [], ◌∷◌, ◌++◌, length, take, codes, Option, Some, Result, Ok, Err, IfErr}
+use Rattle.std.specs.Prelude.{◌≡◌, ℕ, ◌+◌, ◌<◌, ◌≤◌, ◌⊎◌, Bool, true, false, ◌&&◌, nat_lt, nat_le, if◌then◌else◌, List, [], ◌++◌, length, take, codes, Option, Some, Result, Ok, Err, IfErr}
 use Rattle.octo_outside.specs.Told.{Became}
-use Rattle.octo_http.specs.Head.{IsHead, HeadFault}
-use Rattle.octo_http.specs.Part.{crlf_crlf}
-use Rattle.octo_http.specs.Chunks as chunks
-use Rattle.octo_http.specs.declared.fault.MessageFault.{MessageFault}
-use Rattle.octo_http.specs.declared.fault.MessageFault.TheVariants.{BadHead, HeadTooLarge, BodyTooLarge, BadChunk, Ended, ReadFault, NoMemory, Slow}
-use Rattle.octo_http.specs.declared.framing.Framing.{Framing}
-use Rattle.octo_http.specs.declared.framing.Framing.TheVariants.{NoBody, Length, Chunked}
-use Rattle.octo_http.specs.declared.head.Head.{Head}
+use Rattle.http_grammar.specs.Head.{IsHead, HeadFault}
+use Rattle.http_grammar.specs.Part.{crlf_crlf}
+use Rattle.http_grammar.specs.Chunks as chunks
+use Rattle.http_grammar.specs.declared.fault.MessageFault.{MessageFault}
+use Rattle.http_grammar.specs.declared.fault.MessageFault.TheVariants.{BadHead, HeadTooLarge, BodyTooLarge, BadChunk, Ended, ReadFault, NoMemory, Slow}
+use Rattle.http_grammar.specs.declared.framing.Framing.{Framing}
+use Rattle.http_grammar.specs.declared.framing.Framing.TheVariants.{NoBody, Length, Chunked}
+use Rattle.http_grammar.specs.declared.head.Head.{Head}
 use Rattle.octo_http.specs.declared.message.Message.{Message}
 
 -- whether a length or chunks were given

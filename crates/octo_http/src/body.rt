@@ -4,11 +4,10 @@ ghost use Rattle.octo_http.specs.Input.{Took, Waits};
 ghost use Rattle.octo_http.specs.Stops.{Stops, HasCause};
 ghost use Rattle.octo_http.specs.Message.{BodySays, IsBodyFault};
 
-use crate::MessageFault;
 use crate::chunks::{MOST_BODY, read_chunks};
 use crate::fill::fill;
-use crate::framing::Framing;
 use crate::intake::Intake;
+use http_grammar::{Framing, MessageFault};
 use octo_outside::{Blob, Conn};
 use std::alloc::Global;
 

@@ -2,13 +2,13 @@
 ghost use Rattle.std.specs.Prelude.{◌≡◌, ◌<◌, ◌≤◌, ◌++◌, ℕ, List, [], length, Ok, Err, Result, IfOk, IfErr};
 ghost use Rattle.octo_http.specs.Input.{Took, Waits};
 ghost use Rattle.octo_http.specs.Stops.{Stops, HasCause};
-ghost use Rattle.octo_http.specs.Chunks.{Chunked, IsChunkFault, AddsChunk};
+ghost use Rattle.http_grammar.specs.Chunks.{Chunked, IsChunkFault};
+ghost use Rattle.octo_http.specs.Taken.{AddsChunk};
 
-use crate::MessageFault;
 use crate::fill::fill;
 use crate::intake::Intake;
-use crate::part::Part;
 use crate::read_part::read_part;
+use http_grammar::{MessageFault, Part};
 use octo_outside::{Blob, Conn};
 use std::alloc::Global;
 

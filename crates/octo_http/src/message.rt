@@ -3,14 +3,12 @@ ghost use Rattle.std.specs.Prelude.{◌≡◌, ◌<◌, ℕ, List, Some, Ok, Err
 ghost use Rattle.octo_outside.specs.Told.{Adds, AddsPrefix, Counts};
 ghost use Rattle.octo_http.specs.Message.{has_body, leave, asked, message_of, Answers, Writes, IsPatient};
 
-use crate::MessageFault;
 use crate::body::read_body;
 use crate::chunks::MOST_BODY;
-use crate::framing::Framing;
-use crate::head::Head;
 use crate::intake::Intake;
 use crate::read_head::read_head;
 use http::Method;
+use http_grammar::{Framing, Head, MessageFault};
 use octo_outside::{Blob, Conn, Failed, send_all};
 use std::alloc::Global;
 

@@ -2,12 +2,12 @@
 ghost use Rattle.std.specs.Prelude.{◌≡◌, ◌≢◌, ◌<◌, ◌≤◌, ◌++◌, ℕ, List, length, IfOk, IfErr, IfSome, IfNone, OnErr};
 ghost use Rattle.octo_http.specs.Input.{Took, Waits};
 ghost use Rattle.octo_http.specs.Stops.{Stops, HasCause, Refuses, Lacks};
-ghost use Rattle.octo_http.specs.Head.{IsHead, HeadFault, TakesHead};
+ghost use Rattle.http_grammar.specs.Head.{IsHead, HeadFault};
+ghost use Rattle.octo_http.specs.Taken.{TakesHead};
 
-use crate::MessageFault;
-use crate::head::{Head, look};
 use crate::intake::{Came, Intake};
 use crate::looks::{Looks, front_of};
+use http_grammar::{Head, MessageFault, look};
 use octo_outside::Conn;
 use std::alloc::Global;
 

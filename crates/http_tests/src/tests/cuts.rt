@@ -1,6 +1,7 @@
 //! Messages that end at each of their places.
 use super::{PATIENCE, conn_of, read};
-use octo_http::{MessageFault, read_message};
+use http_grammar::MessageFault;
+use octo_http::read_message;
 use std::alloc::{AllocError, Global};
 use std::process::Abort;
 use std::test::Fail;

@@ -1,6 +1,6 @@
 //! Heads that a server and another reader of them could take for different messages.
 use super::{reads, refuses};
-use octo_http::MessageFault;
+use http_grammar::MessageFault;
 use std::test::Fail;
 
 // A length beside chunks, and codings other than chunks alone.

@@ -2,7 +2,8 @@
 use super::cuts::{LEAVE, UPLOAD};
 use super::{PATIENCE, conn_of};
 use byte_conn::ByteConn;
-use octo_http::{Message, MessageFault, read_message};
+use http_grammar::MessageFault;
+use octo_http::{Message, read_message};
 use octo_outside::{CallList, MemoryConn};
 use std::alloc::{AllocError, Global};
 use std::test::Fail;

@@ -1,4 +1,4 @@
-use Rattle.std.proofs.Common.{arith, rules, ◌∙◌, length-drop, ◌≡◌, ◌-◌, ◌<◌, length, drop, ℕ, ap}
+use Rattle.std.proofs.Common.{arith, rules, ◌∙◌, length-drop, ◌≡◌, ◌-◌, length, ℕ, ap}
 use Rattle.octo_http.specs.Input.{IntakeData}
 use Rattle.octo_http.proofs.Filling.{sofar_moved, full, short_of, sofar_read, on_exit}
 use Rattle.octo_http.proofs.fill.fill.Goals as goal

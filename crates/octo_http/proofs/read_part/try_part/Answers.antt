@@ -1,5 +1,4 @@
 use Rattle.std.proofs.Common.{arith, ap, length}
-use Rattle.octo_http.specs.Part.{most_of}
 use Rattle.octo_http.proofs.Filling.{on_exit}
 use Rattle.octo_http.proofs.PartLemmas.{same_front, refuses_part, too_long, partless}
 use Rattle.octo_http.proofs.read_part.try_part.Goals as goal

@@ -1,0 +1,3 @@
+pub mod FramingLemmas
+pub mod HeadLemmas
+pub mod PartLemmas

@@ -1,0 +1,54 @@
+-- The fields of a head, and what they say.
+use Rattle.std.specs.Prelude.{ℕ, Bool, not, if◌then◌else◌, List, [], ◌∷◌, take, drop, codes, Option, Some, None, option_and_then}
+use Rattle.std.specs.List.{list_any}
+use Rattle.std.specs.Str.{str_eq_ignore_ascii_case}
+
+-- names and values, in the order of the head
+abbrev pub FieldList : Type 0
+FieldList = List (List ℕ × List ℕ)
+
+-- the values of the fields of a name, in any case
+abbrev pub values : List ℕ → FieldList → List (List ℕ)
+values name [] = []
+values name (field ∷ fields) =
+    if str_eq_ignore_ascii_case field.0 name then field.1 ∷ values name fields else values name fields
+
+-- the first of them
+abbrev pub first_of : List (List ℕ) → Option (List ℕ)
+first_of [] = None
+first_of (value ∷ more) = Some value
+
+-- whether one of them is this text, in any case
+abbrev pub one_is : List ℕ → List (List ℕ) → Bool
+one_is text vs = list_any (λ v. str_eq_ignore_ascii_case v text) vs
+
+-- whether one of them is another text
+abbrev pub one_is_not : List ℕ → List (List ℕ) → Bool
+one_is_not text vs = list_any (λ v. not (str_eq_ignore_ascii_case v text)) vs
+
+-- the key of an Authorization
+abbrev pub bearer_of : List ℕ → Option (List ℕ)
+bearer_of value =
+    if str_eq_ignore_ascii_case (take 7 value) (codes "Bearer ") then Some (drop 7 value) else None
+
+-- the first if there is one, else the second
+abbrev pub or_else : Option (List ℕ) → Option (List ℕ) → Option (List ℕ)
+or_else None other = other
+or_else (Some value) other = Some value
+
+-- the caller's key: the first X-Api-Key, else the first Authorization's
+abbrev pub key_of : FieldList → Option (List ℕ)
+key_of fields =
+    or_else (first_of (values (codes "X-Api-Key") fields)) (option_and_then bearer_of (first_of (values (codes "Authorization") fields)))
+
+-- the body's type
+abbrev pub kind_of : FieldList → Option (List ℕ)
+kind_of fields = first_of (values (codes "Content-Type") fields)
+
+-- whether the body is said to have a coding
+abbrev pub is_encoded : FieldList → Bool
+is_encoded fields = one_is_not (codes "identity") (values (codes "Content-Encoding") fields)
+
+-- whether the client waits for leave to send the body
+abbrev pub expects_leave : FieldList → Bool
+expects_leave fields = one_is (codes "100-continue") (values (codes "Expect") fields)

@@ -1,0 +1,5 @@
+pub mod Fields
+pub mod Framing
+pub mod Head
+pub mod Part
+pub mod Chunks

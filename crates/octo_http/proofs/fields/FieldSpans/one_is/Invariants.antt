@@ -1,8 +1,0 @@
-use Rattle.std.proofs.Common.{◌≡◌, ◌≤◌, ◌+◌, length, map, drop, bytes_eq}
-use Rattle.std.specs.List.{list_all}
-use Rattle.httparse.specs.Spans.{header_bytes}
-use Rattle.octo_http.specs.Fields.{values, first_of, one_is, one_is_not}
-use Rattle.octo_http.proofs.fields.FieldSpans.one_is.Given as goal
-
-abbrev pub invariant-loop-span : goal.invariant-loop-span
-invariant-loop-span l = one_is l.text (values l.name l.self) ≡ one_is l.text (values l.name (map (header_bytes l.self-inside.head.now) (drop l.span-index l.span-items)))
