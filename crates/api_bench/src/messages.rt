@@ -1,5 +1,6 @@
 //! Messages of each kind.
 use api_requests::to_request;
+use api_routes::Routes;
 use http::Method;
 use octo_http::Message;
 use octo_outside::Blob;
@@ -120,6 +121,6 @@ fn message_of(alloc: Global, pattern: &Pattern) -> anyhow::Result<Message> {
 }
 
 /// Whether a message of a pattern is a request.
-pub fn is_request(alloc: Global, pattern: &Pattern) -> anyhow::Result<bool> {
-    Ok(to_request(alloc, message_of(alloc, pattern)?).is_ok())
+pub fn is_request(alloc: Global, routes: &Routes, pattern: &Pattern) -> anyhow::Result<bool> {
+    Ok(to_request(alloc, routes, message_of(alloc, pattern)?).is_ok())
 }
