@@ -2,7 +2,7 @@
 //!
 //! Without arguments it does so once for each kind. With `reply KIND COUNT` it makes COUNT replies, each from an answer of its
 //! own, and prints how many bytes their bodies have in all. With `request KIND COUNT` it reads COUNT messages, each made
-//! anew, by one table of paths, and prints how many of them are requests.
+//! anew, by one table of routes, and prints how many of them are requests.
 #![tactic(auto)]
 
 mod answers;

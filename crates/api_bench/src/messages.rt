@@ -1,5 +1,5 @@
 //! Messages of each kind.
-use api_requests::to_request;
+use api_requests::request_by;
 use api_routes::Routes;
 use http::Method;
 use octo_http::Message;
@@ -122,5 +122,5 @@ fn message_of(alloc: Global, pattern: &Pattern) -> anyhow::Result<Message> {
 
 /// Whether a message of a pattern is a request.
 pub fn is_request(alloc: Global, routes: &Routes, pattern: &Pattern) -> anyhow::Result<bool> {
-    Ok(to_request(alloc, routes, message_of(alloc, pattern)?).is_ok())
+    Ok(request_by(alloc, routes, message_of(alloc, pattern)?).is_ok())
 }

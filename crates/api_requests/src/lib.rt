@@ -13,7 +13,7 @@ mod upload;
 mod user_bodies;
 
 pub use api_direct::Direct;
-pub use request::to_request;
+pub use request::{request_by, to_request};
 
 #[cfg(test)]
 mod tests;

@@ -124,12 +124,7 @@ fn request_in(alloc: Global, message: &Message, wanted: Wanted) -> Result<Reques
 }
 
 // What a method wants of a path.
-fn wanted_for(
-    alloc: Global,
-    routes: &Routes,
-    method: &str,
-    path: &[u8],
-) -> Result<Wanted, Direct>
+fn wanted_for(alloc: Global, routes: &Routes, method: &str, path: &[u8]) -> Result<Wanted, Direct>
     ensures wanted { (result ≡ Err Direct.NoMemory)
         ⊎ (result ≡ wanted_for method.now (target_of path.now)) }
     ensures callers { IfOk result WantsCallers }
@@ -161,13 +156,22 @@ fn key_of(alloc: Global, message: Message) -> Blob
     }
 }
 
-/// What a message asks. Of several faults the path's is returned first, then the method's, a missing length, the type and the
-/// body. Source: OctoPrint's REST API; RFC 9110, section 15.5.
-pub fn to_request(alloc: Global, routes: &Routes, message: Message) -> Result<Ask, Direct>
+/// What a message asks, by a table of routes that is made once. Of several faults the path's is returned first, then the
+/// method's, a missing length, the type and the body. Source: OctoPrint's REST API; RFC 9110, section 15.5.
+pub fn request_by(alloc: Global, routes: &Routes, message: Message) -> Result<Ask, Direct>
     ensures says { Says message result }
     ensures callers { IfOk result (λ ask. IsCallers ask.request) }
 {
     let request = request_of(alloc, routes, &message)?;
     let key = key_of(alloc, message);
     Ok(Ask { key, request })
+}
+
+/// What a message asks, as `request_by` returns it, by a table of routes made for this message.
+pub fn to_request(alloc: Global, message: Message) -> Result<Ask, Direct>
+    ensures says { Says message result }
+    ensures callers { IfOk result (λ ask. IsCallers ask.request) }
+{
+    let routes = Routes::new(alloc)?;
+    request_by(alloc, &routes, message)
 }

@@ -37,16 +37,10 @@ fn message(
     })
 }
 
-// What a message asks, by a table of paths made for it alone.
-fn asked(alloc: Global, message: Message) -> Result<Result<Ask, Direct>, Fail> {
-    let routes = Routes::new(alloc)?;
-    Ok(to_request(alloc, &routes, message))
-}
-
 // What a POST of JSON asks.
 fn posted(alloc: Global, path: &str, body: &str) -> Result<Result<Ask, Direct>, Fail> {
     let message = message(alloc, Method::POST, path, JSON, body.as_bytes())?;
-    asked(alloc, message)
+    Ok(to_request(alloc, message))
 }
 
 // The name of a request.
@@ -106,24 +100,26 @@ fn come_to(
 
 // Whether the message comes to this, and its key is this.
 fn has_key(alloc: Global, message: Message, wanted: &str, key: &[u8]) -> Result<bool, Fail> {
-    let ask = asked(alloc, message)??;
+    let ask = to_request(alloc, message)?;
     Ok(name_of(&ask.request) == wanted && ask.key.as_slice() == key)
 }
 
-// The calls that take memory, each once; the second message is looked for in the same table.
+// The calls that take memory, each once; one table of routes serves two messages.
 #[test]
 fn ample(rt: HostRuntime) -> Result<(), Fail> {
     let alloc = rt.alloc();
-    let routes = Routes::new(alloc)?;
     let kind = "application/json; charset=utf-8";
     let body = b"{\"command\":\"start\"}";
     let start = message(alloc, Method::POST, "/api/job", kind, body)?;
-    let ask = to_request(alloc, &routes, start)?;
-    assert!(rt; name_of(&ask.request) == "Start");
-    assert!(rt; ask.key.as_slice() == b"rootxkeyx0000000".as_slice());
-    let version = message(alloc, Method::GET, "/api/version", "", b"")?;
-    let ask = to_request(alloc, &routes, version)?;
-    assert!(rt; name_of(&ask.request) == "Version");
+    assert!(rt; has_key(alloc, start, "Start", b"rootxkeyx0000000")?);
+    let routes = Routes::new(alloc)?;
+    let cancel = b"{\"command\":\"cancel\"}";
+    for (body, wanted) in [(body.as_slice(), "Start"), (cancel.as_slice(), "Cancel")] {
+        let message = message(alloc, Method::POST, "/api/job", kind, body)?;
+        let ask = request_by(alloc, &routes, message)?;
+        assert!(rt; name_of(&ask.request) == wanted);
+        assert!(rt; ask.key.as_slice() == b"rootxkeyx0000000".as_slice());
+    }
     Ok(())
 }
 

@@ -81,7 +81,7 @@ fn router_of(alloc: Global, table: &[(&'static str, Place)]) -> Result<Router<Pl
     Ok(router)
 }
 
-/// The paths of the interface. They are made once, and then looked into for each message.
+/// The table of the interface's routes. It is made once, and then looked into for each message.
 #[derive(Drop)]
 pub struct Routes {
     router: Router<Place>,
@@ -89,7 +89,7 @@ pub struct Routes {
 }
 
 impl Routes {
-    /// The paths, unless memory runs out.
+    /// The table, unless memory runs out.
     pub fn new(alloc: Global) -> Result<Routes, AllocError> {
         let router = router_of(alloc, &route_list())?;
         Ok(Routes { router })

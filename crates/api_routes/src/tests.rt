@@ -9,7 +9,7 @@ const METHODS: [&str; 8] = [
     "GET", "POST", "PUT", "DELETE", "HEAD", "PATCH", "OPTIONS", "get",
 ];
 
-// What a path is about, by a table made for it alone.
+// What a path is about, by a table of routes made for it alone.
 fn about(alloc: Global, path: &[u8]) -> Result<Option<Target>, Fail> {
     let routes = Routes::new(alloc)?;
     Ok(target_of(alloc, &routes, path)?)

@@ -31,7 +31,7 @@ pub enum Visit {
 // Looks at the door, and serves the connection that has come.
 fn look_at_door<D: Door, A: Asker>(
     alloc: Global,
-    routes: &Routes,
+    routes: Option<&Routes>,
     door: &mut D,
     asker: &mut A,
     patience: u32,
@@ -59,7 +59,7 @@ fn look_at_door<D: Door, A: Asker>(
 // Serves a connection and returns it to the door.
 fn serve_and_finish<D: Door, A: Asker>(
     alloc: Global,
-    routes: &Routes,
+    routes: Option<&Routes>,
     door: &mut D,
     conn: D::Conn,
     asker: &mut A,
@@ -105,11 +105,11 @@ fn leave<A: Asker>(alloc: Global, asker: &mut A)
 
 /// Serves the connections of a door until no more come, the door fails or the host has ended. Returns whether the door held.
 ///
-/// It leaves by an ask of its own if the door has ended or failed. It waits at its door and for its answers.
+/// It leaves by an ask of its own if the door has ended or failed. It waits at its door and for its answers. It makes the
+/// table of routes at its beginning; without memory for it, one is made for each message.
 pub fn worker<R: Wait, D: Door, A: Asker>(
     alloc: Global,
     rt: &R,
-    routes: &Routes,
     door: &mut D,
     asker: &mut A,
     patience: u32,
@@ -128,8 +128,9 @@ pub fn worker<R: Wait, D: Door, A: Asker>(
     ensures held { result ≡ true → D.faults door.new ≡ D.faults door.old }
     ensures failed { result ≡ false → Rose (D.faults door.old) (D.faults door.new) }
 {
+    let routes = Routes::new(alloc).ok();
     for _ in rt.forever() {
-        match look_at_door(alloc, routes, door, asker, patience) {
+        match look_at_door(alloc, routes.as_ref(), door, asker, patience) {
             Visit::Open => {}
             Visit::Closed => return true,
             Visit::Ended => {

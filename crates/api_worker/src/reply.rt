@@ -1,5 +1,5 @@
 //! The reply to a message, and the call that it leads to.
-ghost use Rattle.std.specs.Prelude.{◌≡◌, Ok, true, false};
+ghost use Rattle.std.specs.Prelude.{◌≡◌, Ok, IfOk, true, false};
 ghost use Rattle.octo_outside.specs.Told.{Adds};
 ghost use Rattle.octo_http.specs.declared.message.Message.{Message};
 ghost use Rattle.api_requests.specs.Requests.{Says};
@@ -9,7 +9,7 @@ ghost use Rattle.api_worker.specs.Served.{IsReply, IsReplied};
 
 use api_direct::Direct;
 use api_replies::{direct_bytes, to_bytes};
-use api_requests::to_request;
+use api_requests::{request_by, to_request};
 use api_routes::Routes;
 use octo_asks::{Answer, Ask, Asker, Closed};
 use octo_http::{HttpReply, Message};
@@ -21,6 +21,17 @@ pub struct Replied {
     pub reply: HttpReply,
     /// Whether the host hasn't ended.
     pub is_open: bool,
+}
+
+// What a message asks. Without a table of routes one is made for it.
+fn read_request(alloc: Global, routes: Option<&Routes>, message: Message) -> Result<Ask, Direct>
+    ensures says { Says message result }
+    ensures callers { IfOk result (λ ask. IsCallers ask.request) }
+{
+    match routes {
+        Some(routes) => request_by(alloc, routes, message),
+        None => to_request(alloc, message),
+    }
 }
 
 // An answer's reply, or 507 if memory ran out for it.
@@ -57,7 +68,7 @@ fn reply_to_ask<A: Asker>(alloc: Global, asker: &mut A, ask: Ask) -> Replied
 /// Asks what a message says, if it says a request, and returns the reply.
 pub(crate) fn reply_to_message<A: Asker>(
     alloc: Global,
-    routes: &Routes,
+    routes: Option<&Routes>,
     asker: &mut A,
     message: Message,
 ) -> Replied
@@ -67,7 +78,7 @@ pub(crate) fn reply_to_message<A: Asker>(
     ensures seen { A.saw_close asker.old ≡ true → A.saw_close asker.new ≡ true }
     ensures place { A.place asker.new ≡ A.place asker.old }
 {
-    match to_request(alloc, routes, message) {
+    match read_request(alloc, routes, message) {
         Ok(ask) => reply_to_ask(alloc, asker, ask),
         Err(direct) => Replied {
             reply: direct_bytes(alloc, direct),

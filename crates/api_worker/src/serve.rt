@@ -42,10 +42,11 @@ fn refuse<C: Conn>(alloc: Global, conn: &mut C, fault: &MessageFault)
 
 /// Reads one message of a connection, asks what it says and writes the reply. Returns whether the host hasn't ended.
 ///
-/// It waits through at most `patience` quiet reads. If memory runs out, the reply is 507.
+/// It waits through at most `patience` quiet reads. Without a table of routes it makes one for the message. If memory runs
+/// out, the reply is 507.
 pub fn serve_conn<C: Conn, A: Asker>(
     alloc: Global,
-    routes: &Routes,
+    routes: Option<&Routes>,
     conn: &mut C,
     asker: &mut A,
     patience: u32,

@@ -96,7 +96,6 @@ fn statuses(alloc: Global, door: &MemoryDoor) -> Result<Vec<u8>, AllocError> {
 #[test]
 fn replies_and_leaves(rt: HostRuntime) -> Result<(), Fail> {
     let alloc = rt.alloc();
-    let routes = Routes::new(alloc)?;
     let conns = with_conn(alloc, ConnList::new(alloc), VERSION)?;
     let conns = with_conn(alloc, conns, b"GET /api/nothing HTTP/1.1\r\n\r\n")?;
     let conns = with_conn(alloc, conns, b"what is this\r\n\r\n")?;
@@ -104,7 +103,7 @@ fn replies_and_leaves(rt: HostRuntime) -> Result<(), Fail> {
     let conns = with_conn(alloc, conns, VERSION)?;
     let mut door = MemoryDoor::new(alloc, conns, calls(alloc, &[2])?, CallList::new(alloc));
     let mut host = Host::open_for(10);
-    assert!(rt; worker(alloc, &rt, &routes, &mut door, &mut host, 3));
+    assert!(rt; worker(alloc, &rt, &mut door, &mut host, 3));
     assert_eq!(rt;
         statuses(alloc, &door)?.as_slice(),
         b"200 404 400 - 200 ".as_slice()
@@ -117,13 +116,12 @@ fn replies_and_leaves(rt: HostRuntime) -> Result<(), Fail> {
 #[test]
 fn a_host_that_ends(rt: HostRuntime) -> Result<(), Fail> {
     let alloc = rt.alloc();
-    let routes = Routes::new(alloc)?;
     let conns = with_conn(alloc, ConnList::new(alloc), VERSION)?;
     let conns = with_conn(alloc, conns, VERSION)?;
     let conns = with_conn(alloc, conns, VERSION)?;
     let mut door = MemoryDoor::new(alloc, conns, CallList::new(alloc), CallList::new(alloc));
     let mut host = Host::open_for(1);
-    assert!(rt; worker(alloc, &rt, &routes, &mut door, &mut host, 3));
+    assert!(rt; worker(alloc, &rt, &mut door, &mut host, 3));
     assert_eq!(rt; statuses(alloc, &door)?.as_slice(), b"200 503 ".as_slice());
     assert_eq!(rt; (host.answered, host.left), (1, 0));
     Ok(())
@@ -133,12 +131,11 @@ fn a_host_that_ends(rt: HostRuntime) -> Result<(), Fail> {
 #[test]
 fn a_door_that_fails(rt: HostRuntime) -> Result<(), Fail> {
     let alloc = rt.alloc();
-    let routes = Routes::new(alloc)?;
     let conns = with_conn(alloc, ConnList::new(alloc), VERSION)?;
     let conns = with_conn(alloc, conns, VERSION)?;
     let mut door = MemoryDoor::new(alloc, conns, CallList::new(alloc), calls(alloc, &[2])?);
     let mut host = Host::open_for(10);
-    assert!(rt; !worker(alloc, &rt, &routes, &mut door, &mut host, 3));
+    assert!(rt; !worker(alloc, &rt, &mut door, &mut host, 3));
     assert_eq!(rt; statuses(alloc, &door)?.as_slice(), b"200 ".as_slice());
     assert_eq!(rt; (host.answered, host.left), (2, 1));
     Ok(())
@@ -148,7 +145,6 @@ fn a_door_that_fails(rt: HostRuntime) -> Result<(), Fail> {
 #[test]
 fn a_slow_peer(rt: HostRuntime) -> Result<(), Fail> {
     let alloc = rt.alloc();
-    let routes = Routes::new(alloc)?;
     let mut conns = ConnList::new(alloc);
     conns.push(MemoryConn::new(
         alloc,
@@ -158,26 +154,28 @@ fn a_slow_peer(rt: HostRuntime) -> Result<(), Fail> {
     )?)?;
     let mut door = MemoryDoor::new(alloc, conns, CallList::new(alloc), CallList::new(alloc));
     let mut host = Host::open_for(10);
-    assert!(rt; worker(alloc, &rt, &routes, &mut door, &mut host, 3));
+    assert!(rt; worker(alloc, &rt, &mut door, &mut host, 3));
     assert_eq!(rt; statuses(alloc, &door)?.as_slice(), b"408 ".as_slice());
     assert_eq!(rt; (host.answered, host.left), (1, 1));
     Ok(())
 }
 
-// The calls that take memory, each once: one connection, and then one at a door, by the same table of paths.
+// The calls that take memory, each once: two connections, with and without a table of routes, and then one at a door.
 #[test]
 fn ample(rt: HostRuntime) -> Result<(), Fail> {
     let alloc = rt.alloc();
     let routes = Routes::new(alloc)?;
-    let mut host = Host::open_for(3);
-    let mut conn = MemoryConn::new(alloc, VERSION, CallList::new(alloc), CallList::new(alloc))?;
-    assert!(rt; serve_conn(alloc, &routes, &mut conn, &mut host, 3));
-    let written = conn.written().unwrap_or(b"");
-    assert_eq!(rt; written.get(9..12).unwrap_or(b"-"), b"200".as_slice());
+    let mut host = Host::open_for(4);
+    for table in [Some(&routes), None] {
+        let mut conn = MemoryConn::new(alloc, VERSION, CallList::new(alloc), CallList::new(alloc))?;
+        assert!(rt; serve_conn(alloc, table, &mut conn, &mut host, 3));
+        let written = conn.written().unwrap_or(b"");
+        assert_eq!(rt; written.get(9..12).unwrap_or(b"-"), b"200".as_slice());
+    }
     let conns = with_conn(alloc, ConnList::new(alloc), VERSION)?;
     let mut door = MemoryDoor::new(alloc, conns, CallList::new(alloc), CallList::new(alloc));
-    assert!(rt; worker(alloc, &rt, &routes, &mut door, &mut host, 3));
+    assert!(rt; worker(alloc, &rt, &mut door, &mut host, 3));
     assert_eq!(rt; statuses(alloc, &door)?.as_slice(), b"200 ".as_slice());
-    assert_eq!(rt; (host.answered, host.left), (3, 1));
+    assert_eq!(rt; (host.answered, host.left), (4, 1));
     Ok(())
 }
