@@ -1,6 +1,6 @@
 #!/bin/sh
 # Measures the making of replies of the REST API, and the reading of its requests: each answer and each message is made anew, and the
-# reply made of it or the request read from it, so many times in one run of the program. A line is a kind with the microseconds a
+# reply made of it or the request read from it, again and again in one run of the program. A line is a kind with the microseconds a
 # call of three runs, by the clock and by the processor: the time of a run without that of one with a single call, by its count.
 # The making of the answer or the message is in it. The aim is 20 microseconds for a usual message, and a time that is linear in the
 # rows or the bytes. The program is the one that `scripts/build api_bench` leaves.

@@ -2,7 +2,7 @@
 //!
 //! Without arguments it does so once for each kind. With `reply KIND COUNT` it makes COUNT replies, each from an answer of its
 //! own, and prints how many bytes their bodies have in all. With `request KIND COUNT` it reads COUNT messages, each made
-//! anew, and prints how many of them are requests.
+//! anew, by one table of paths, and prints how many of them are requests.
 #![tactic(auto)]
 
 mod answers;
@@ -10,6 +10,7 @@ mod messages;
 
 use answers::answer_of;
 use api_replies::to_bytes;
+use api_routes::Routes;
 use byte_text::whole_number;
 use messages::{is_request, pattern_of};
 use octo_outside::{WordList, arguments};
@@ -57,10 +58,11 @@ fn make_replies(alloc: Global, kind: &str, count: u64) -> anyhow::Result<u64> {
 
 // Reads `count` messages of a kind, and returns how many are requests.
 fn read_requests(alloc: Global, kind: &str, count: u64) -> anyhow::Result<u64> {
+    let routes = Routes::new(alloc)?;
     let pattern = pattern_of(alloc, kind)?;
     let mut requests: u64 = 0;
     for _ in 0..count {
-        if is_request(alloc, &pattern)? {
+        if is_request(alloc, &routes, &pattern)? {
             requests = requests.wrapping_add(1);
         }
     }

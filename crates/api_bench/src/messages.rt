@@ -1,5 +1,6 @@
 //! Messages of each kind.
 use api_requests::to_request;
+use api_routes::Routes;
 use http::Method;
 use octo_http::Message;
 use octo_outside::Blob;
@@ -38,7 +39,7 @@ fn post(alloc: Global, path: &'static str, body: &str) -> anyhow::Result<Pattern
     })
 }
 
-// So many lines for the printer.
+// This number of lines for the printer.
 fn lines(alloc: Global, count: usize) -> anyhow::Result<Pattern> {
     let mut body = Blob::from_slice(alloc, b"{\"commands\":[\"G28\"")?;
     for _ in 1..count {
@@ -120,6 +121,6 @@ fn message_of(alloc: Global, pattern: &Pattern) -> anyhow::Result<Message> {
 }
 
 /// Whether a message of a pattern is a request.
-pub fn is_request(alloc: Global, pattern: &Pattern) -> anyhow::Result<bool> {
-    Ok(to_request(alloc, message_of(alloc, pattern)?).is_ok())
+pub fn is_request(alloc: Global, routes: &Routes, pattern: &Pattern) -> anyhow::Result<bool> {
+    Ok(to_request(alloc, routes, message_of(alloc, pattern)?).is_ok())
 }

@@ -10,7 +10,7 @@ ghost use Rattle.api_routes.specs.declared.wanted.Wanted.TheVariants as wanted;
 use crate::Direct;
 use crate::bodies::asked_in;
 use crate::upload::upload_of;
-use api_routes::{Form, Wanted, target_of, wanted_of};
+use api_routes::{Form, Routes, Wanted, target_of, wanted_of};
 use http_parts::has_type;
 use octo_asks::{Ask, Request};
 use octo_http::Message;
@@ -124,23 +124,29 @@ fn request_in(alloc: Global, message: &Message, wanted: Wanted) -> Result<Reques
 }
 
 // What a method wants of a path.
-fn wanted_for(alloc: Global, method: &str, path: &[u8]) -> Result<Wanted, Direct>
+fn wanted_for(
+    alloc: Global,
+    routes: &Routes,
+    method: &str,
+    path: &[u8],
+) -> Result<Wanted, Direct>
     ensures wanted { (result ≡ Err Direct.NoMemory)
         ⊎ (result ≡ wanted_for method.now (target_of path.now)) }
     ensures callers { IfOk result WantsCallers }
 {
-    let Some(target) = target_of(alloc, path)? else {
+    let Some(target) = target_of(alloc, routes, path)? else {
         return Err(Direct::NoRoute);
     };
     wanted_of(method, &target).ok_or(Direct::BadMethod)
 }
 
 // What a message asks, without the caller's key.
-fn request_of(alloc: Global, message: &Message) -> Result<Request, Direct>
+fn request_of(alloc: Global, routes: &Routes, message: &Message) -> Result<Request, Direct>
     ensures asks { Asks message.now (request_at message.now) result }
     ensures callers { IfOk result IsCallers }
 {
-    let wanted = wanted_for(alloc, message.method.as_str(), message.path.as_slice())?;
+    let method = message.method.as_str();
+    let wanted = wanted_for(alloc, routes, method, message.path.as_slice())?;
     request_in(alloc, message, wanted)
 }
 
@@ -157,11 +163,11 @@ fn key_of(alloc: Global, message: Message) -> Blob
 
 /// What a message asks. Of several faults the path's is returned first, then the method's, a missing length, the type and the
 /// body. Source: OctoPrint's REST API; RFC 9110, section 15.5.
-pub fn to_request(alloc: Global, message: Message) -> Result<Ask, Direct>
+pub fn to_request(alloc: Global, routes: &Routes, message: Message) -> Result<Ask, Direct>
     ensures says { Says message result }
     ensures callers { IfOk result (λ ask. IsCallers ask.request) }
 {
-    let request = request_of(alloc, &message)?;
+    let request = request_of(alloc, routes, &message)?;
     let key = key_of(alloc, message);
     Ok(Ask { key, request })
 }

@@ -5,6 +5,7 @@ mod rows;
 mod uploads;
 
 use crate::*;
+use api_routes::Routes;
 use http::Method;
 use octo_asks::{Ask, Request};
 use octo_http::Message;
@@ -36,10 +37,16 @@ fn message(
     })
 }
 
+// What a message asks, by a table of paths made for it alone.
+fn asked(alloc: Global, message: Message) -> Result<Result<Ask, Direct>, Fail> {
+    let routes = Routes::new(alloc)?;
+    Ok(to_request(alloc, &routes, message))
+}
+
 // What a POST of JSON asks.
 fn posted(alloc: Global, path: &str, body: &str) -> Result<Result<Ask, Direct>, Fail> {
     let message = message(alloc, Method::POST, path, JSON, body.as_bytes())?;
-    Ok(to_request(alloc, message))
+    asked(alloc, message)
 }
 
 // The name of a request.
@@ -99,17 +106,24 @@ fn come_to(
 
 // Whether the message comes to this, and its key is this.
 fn has_key(alloc: Global, message: Message, wanted: &str, key: &[u8]) -> Result<bool, Fail> {
-    let ask = to_request(alloc, message)?;
+    let ask = asked(alloc, message)??;
     Ok(name_of(&ask.request) == wanted && ask.key.as_slice() == key)
 }
 
+// The calls that take memory, each once; the second message is looked for in the same table.
 #[test]
 fn ample(rt: HostRuntime) -> Result<(), Fail> {
     let alloc = rt.alloc();
+    let routes = Routes::new(alloc)?;
     let kind = "application/json; charset=utf-8";
     let body = b"{\"command\":\"start\"}";
-    let message = message(alloc, Method::POST, "/api/job", kind, body)?;
-    assert!(rt; has_key(alloc, message, "Start", b"rootxkeyx0000000")?);
+    let start = message(alloc, Method::POST, "/api/job", kind, body)?;
+    let ask = to_request(alloc, &routes, start)?;
+    assert!(rt; name_of(&ask.request) == "Start");
+    assert!(rt; ask.key.as_slice() == b"rootxkeyx0000000".as_slice());
+    let version = message(alloc, Method::GET, "/api/version", "", b"")?;
+    let ask = to_request(alloc, &routes, version)?;
+    assert!(rt; name_of(&ask.request) == "Version");
     Ok(())
 }
 

@@ -9,6 +9,7 @@ mod target;
 mod wanted;
 
 pub use ascii::{ascii_text, is_key};
+pub use place::Routes;
 pub use target::{Target, target_of};
 pub use wanted::{Form, Wanted, wanted_of};
 

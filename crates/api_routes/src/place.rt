@@ -1,11 +1,10 @@
 //! What the paths of the interface mean.
-ghost use Rattle.std.specs.Prelude.{◌≡◌, map, OnOk, IfOk, IfErr};
+ghost use Rattle.std.specs.Prelude.{◌≡◌, map, OnOk, IfOk};
 ghost use Rattle.api_routes.specs.Places.{routes, with_route, rows_of, place_of};
 
 use crate::ascii::ascii_text;
-use api_direct::Direct;
 use matchit::Router;
-use std::alloc::Global;
+use std::alloc::{AllocError, Global};
 
 /// What a path means.
 #[derive(Clone, Copy, Debug, PartialEq, Eq)]
@@ -34,7 +33,7 @@ pub enum Place {
 /// Each path, with `{..}` for one of its parts. Source: OctoPrint's REST API; the paths for users, the queue and the prints
 /// are this project's own.
 #[tactic(auto, unfolding(crate::specs::Places::routes))]
-fn routes() -> [(&'static str, Place); 19]
+fn route_list() -> [(&'static str, Place); 19]
     ensures { map (λ route. (route.0.now, route.1)) result ≡ routes }
 {
     [
@@ -61,21 +60,19 @@ fn routes() -> [(&'static str, Place); 19]
 }
 
 // Adds a route. No two routes of the interface conflict, so only memory can run out.
-fn add(router: &mut Router<Place>, route: &str, place: Place) -> Result<(), Direct>
-    ensures ok { OnOk result (router.new ≡ with_route router.old (route.now, place)) }
-    ensures err { IfErr result (λ e. e ≡ Direct.NoMemory) }
+fn add(router: &mut Router<Place>, route: &str, place: Place) -> Result<(), AllocError>
+    ensures { OnOk result (router.new ≡ with_route router.old (route.now, place)) }
 {
     match router.insert(route, place) {
         Ok(()) => Ok(()),
-        Err(_) => Err(Direct::NoMemory),
+        Err(_) => Err(AllocError),
     }
 }
 
 // A router of these routes.
-fn router_of(alloc: Global, table: &[(&'static str, Place)]) -> Result<Router<Place>, Direct>
-    ensures ok { IfOk result (λ router. router
+fn router_of(alloc: Global, table: &[(&'static str, Place)]) -> Result<Router<Place>, AllocError>
+    ensures { IfOk result (λ router. router
         ≡ rows_of (map (λ route. (route.0.now, route.1)) table.now)) }
-    ensures err { IfErr result (λ e. e ≡ Direct.NoMemory) }
 {
     let mut router = Router::new(alloc);
     for (route, place) in table {
@@ -84,17 +81,28 @@ fn router_of(alloc: Global, table: &[(&'static str, Place)]) -> Result<Router<Pl
     Ok(router)
 }
 
-/// What a path means.
-pub(crate) fn place_of(alloc: Global, path: &[u8]) -> Result<Option<Place>, Direct>
-    ensures ok { IfOk result (λ place. place ≡ place_of path.now) }
-    ensures err { IfErr result (λ e. e ≡ Direct.NoMemory) }
-{
-    let Some(text) = ascii_text(path) else {
-        return Ok(None);
-    };
-    let router = router_of(alloc, &routes())?;
-    match router.at(text) {
-        Ok(found) => Ok(Some(*found.value)),
-        Err(_) => Ok(None),
+/// The paths of the interface. They are made once, and then looked into for each message.
+#[derive(Drop)]
+pub struct Routes {
+    router: Router<Place>,
+    ghost whole: { router ≡ rows_of routes },
+}
+
+impl Routes {
+    /// The paths, unless memory runs out.
+    pub fn new(alloc: Global) -> Result<Routes, AllocError> {
+        let router = router_of(alloc, &route_list())?;
+        Ok(Routes { router })
+    }
+
+    /// What a path means.
+    pub(crate) fn place_of(&self, path: &[u8]) -> Option<Place>
+        ensures { result ≡ place_of path.now }
+    {
+        let text = ascii_text(path)?;
+        match self.router.at(text) {
+            Ok(found) => Some(*found.value),
+            Err(_) => None,
+        }
     }
 }

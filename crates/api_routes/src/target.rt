@@ -4,7 +4,7 @@ ghost use Rattle.percent_encoding.specs.Percent.{percent_decode};
 ghost use Rattle.api_routes.specs.Places.{has_name, named, file_named, before_slash, others_entry, target_at, target_of};
 
 use crate::ascii::ascii_text;
-use crate::place::{Place, place_of};
+use crate::place::{Place, Routes};
 use api_direct::Direct;
 use byte_text::Name;
 use file_names::read_file_name;
@@ -159,11 +159,11 @@ fn target_at(alloc: Global, place: Place, path: &[u8]) -> Result<Option<Target>,
 }
 
 /// What a path is about, `None` if it is no path of the interface. Source: OctoPrint's REST API.
-pub fn target_of(alloc: Global, path: &[u8]) -> Result<Option<Target>, Direct>
+pub fn target_of(alloc: Global, routes: &Routes, path: &[u8]) -> Result<Option<Target>, Direct>
     ensures ok { IfOk result (λ target. target ≡ target_of path.now) }
     ensures err { IfErr result (λ e. e ≡ Direct.NoMemory) }
 {
-    match place_of(alloc, path)? {
+    match routes.place_of(path) {
         Some(place) => target_at(alloc, place, path),
         None => Ok(None),
     }

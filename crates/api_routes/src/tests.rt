@@ -9,9 +9,15 @@ const METHODS: [&str; 8] = [
     "GET", "POST", "PUT", "DELETE", "HEAD", "PATCH", "OPTIONS", "get",
 ];
 
+// What a path is about, by a table made for it alone.
+fn about(alloc: Global, path: &[u8]) -> Result<Option<Target>, Fail> {
+    let routes = Routes::new(alloc)?;
+    Ok(target_of(alloc, &routes, path)?)
+}
+
 // The path takes these methods and no others.
 fn takes(rt: &impl Abort, alloc: Global, path: &str, methods: &[&str]) -> Result<(), Fail> {
-    let target = target_of(alloc, path.as_bytes())?.ok_or("no route")?;
+    let target = about(alloc, path.as_bytes())?.ok_or("no route")?;
     for method in METHODS {
         let taken = methods.iter().any(|one| *one == method);
         assert!(rt; wanted_of(method, &target).is_some() == taken);
@@ -57,6 +63,7 @@ fn other_paths(rt: HostRuntime) -> Result<(), Fail> {
 #[test]
 fn no_paths(rt: HostRuntime) -> Result<(), Fail> {
     let alloc = rt.alloc();
+    let routes = Routes::new(alloc)?;
     for path in [
         "/",
         "",
@@ -73,15 +80,16 @@ fn no_paths(rt: HostRuntime) -> Result<(), Fail> {
         "/api/files/sdcard",
         "http://127.0.0.1/api/version",
     ] {
-        assert!(rt; target_of(alloc, path.as_bytes())?.is_none());
+        assert!(rt; target_of(alloc, &routes, path.as_bytes())?.is_none());
     }
-    assert!(rt; target_of(alloc, b"/api/queue/\xff")?.is_none());
+    assert!(rt; target_of(alloc, &routes, b"/api/queue/\xff")?.is_none());
     Ok(())
 }
 
 #[test]
 fn no_names(rt: HostRuntime) -> Result<(), Fail> {
     let alloc = rt.alloc();
+    let routes = Routes::new(alloc)?;
     for path in [
         "/api/files/local/%2e%2e",
         "/api/files/local/..",
@@ -101,14 +109,14 @@ fn no_names(rt: HostRuntime) -> Result<(), Fail> {
         "/api/queue/a%2fb",
         "/api/queue/a%2fb/c",
     ] {
-        assert!(rt; target_of(alloc, path.as_bytes())?.is_none());
+        assert!(rt; target_of(alloc, &routes, path.as_bytes())?.is_none());
     }
     Ok(())
 }
 
 // What a request without a body asks.
 fn asked(alloc: Global, method: &str, path: &str) -> Result<Request, Fail> {
-    let target = target_of(alloc, path.as_bytes())?.ok_or("no route")?;
+    let target = about(alloc, path.as_bytes())?.ok_or("no route")?;
     let Some(Wanted::Nothing { request }) = wanted_of(method, &target) else {
         return Err("no request")?;
     };
@@ -153,18 +161,27 @@ fn lengths_of_names(rt: HostRuntime) -> Result<(), Fail> {
     for _ in 0..100 {
         path.push(b'x')?;
     }
-    assert!(rt; target_of(alloc, path.as_slice())?.is_some());
+    assert!(rt; about(alloc, path.as_slice())?.is_some());
     path.push(b'x')?;
-    assert!(rt; target_of(alloc, path.as_slice())?.is_none());
+    assert!(rt; about(alloc, path.as_slice())?.is_none());
     Ok(())
 }
 
+// The calls that take memory, each once; the second path is looked for in the same table.
 #[test]
 fn ample(rt: HostRuntime) -> Result<(), Fail> {
     let alloc = rt.alloc();
-    let target = target_of(alloc, b"/api/files/local/%61.gcode")?.ok_or("no route")?;
-    assert!(rt; matches!(&target, Target::File { .. }));
-    let target = target_of(alloc, b"/api/queue/ana/job-1")?.ok_or("no route")?;
-    assert!(rt; matches!(&target, Target::OthersEntry { .. }));
+    let routes = Routes::new(alloc)?;
+    let found = target_of(alloc, &routes, b"/api/files/local/%61.gcode")?;
+    let Target::File { name } = &found.ok_or("no route")? else {
+        return Err("another target")?;
+    };
+    assert!(rt; name.as_str() == "a.gcode");
+    let found = target_of(alloc, &routes, b"/api/queue/ana/job-1")?;
+    let Target::OthersEntry { user, name } = &found.ok_or("no route")? else {
+        return Err("another target")?;
+    };
+    assert!(rt; user.as_str() == "ana");
+    assert!(rt; name.as_str() == "job-1");
     Ok(())
 }

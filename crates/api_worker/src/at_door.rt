@@ -8,6 +8,7 @@ ghost use Rattle.api_worker.specs.Served.{IsServed, AsksOnce};
 ghost use Rattle.api_worker.specs.Worked.{leave_ask, HasVisited, HasLeft, HasReturned, HasWorked, is_open};
 
 use crate::serve::serve_conn;
+use api_routes::Routes;
 use octo_asks::{Ask, Asker, Request};
 use octo_doors::{Door, Knock};
 use octo_outside::{Blob, Failed};
@@ -30,6 +31,7 @@ pub enum Visit {
 // Looks at the door, and serves the connection that has come.
 fn look_at_door<D: Door, A: Asker>(
     alloc: Global,
+    routes: &Routes,
     door: &mut D,
     asker: &mut A,
     patience: u32,
@@ -47,7 +49,7 @@ fn look_at_door<D: Door, A: Asker>(
         return Visit::Closed;
     }
     match door.accept() {
-        Ok(Knock::Conn(conn)) => serve_and_finish(alloc, door, conn, asker, patience),
+        Ok(Knock::Conn(conn)) => serve_and_finish(alloc, routes, door, conn, asker, patience),
         Ok(Knock::Quiet) => Visit::Open,
         Ok(Knock::Ended) => Visit::Ended,
         Err(Failed) => Visit::Failed,
@@ -57,6 +59,7 @@ fn look_at_door<D: Door, A: Asker>(
 // Serves a connection and returns it to the door.
 fn serve_and_finish<D: Door, A: Asker>(
     alloc: Global,
+    routes: &Routes,
     door: &mut D,
     conn: D::Conn,
     asker: &mut A,
@@ -76,7 +79,7 @@ fn serve_and_finish<D: Door, A: Asker>(
     ensures faults { D.faults door.new ≡ D.faults door.old }
 {
     let mut conn = conn;
-    let is_open = serve_conn(alloc, &mut conn, asker, patience);
+    let is_open = serve_conn(alloc, routes, &mut conn, asker, patience);
     door.finish(conn);
     if is_open { Visit::Open } else { Visit::Closed }
 }
@@ -106,6 +109,7 @@ fn leave<A: Asker>(alloc: Global, asker: &mut A)
 pub fn worker<R: Wait, D: Door, A: Asker>(
     alloc: Global,
     rt: &R,
+    routes: &Routes,
     door: &mut D,
     asker: &mut A,
     patience: u32,
@@ -125,7 +129,7 @@ pub fn worker<R: Wait, D: Door, A: Asker>(
     ensures failed { result ≡ false → Rose (D.faults door.old) (D.faults door.new) }
 {
     for _ in rt.forever() {
-        match look_at_door(alloc, door, asker, patience) {
+        match look_at_door(alloc, routes, door, asker, patience) {
             Visit::Open => {}
             Visit::Closed => return true,
             Visit::Ended => {

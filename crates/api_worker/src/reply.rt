@@ -10,6 +10,7 @@ ghost use Rattle.api_worker.specs.Served.{IsReply, IsReplied};
 use api_direct::Direct;
 use api_replies::{direct_bytes, to_bytes};
 use api_requests::to_request;
+use api_routes::Routes;
 use octo_asks::{Answer, Ask, Asker, Closed};
 use octo_http::{HttpReply, Message};
 use std::alloc::{AllocError, Global};
@@ -54,14 +55,19 @@ fn reply_to_ask<A: Asker>(alloc: Global, asker: &mut A, ask: Ask) -> Replied
 }
 
 /// Asks what a message says, if it says a request, and returns the reply.
-pub(crate) fn reply_to_message<A: Asker>(alloc: Global, asker: &mut A, message: Message) -> Replied
+pub(crate) fn reply_to_message<A: Asker>(
+    alloc: Global,
+    routes: &Routes,
+    asker: &mut A,
+    message: Message,
+) -> Replied
     ensures replied { (calls : History) × Adds (A.mine asker.old) (A.mine asker.new) calls
         × IsReplied message result.reply result.is_open calls }
     ensures closed { result.is_open ≡ false → A.saw_close asker.new ≡ true }
     ensures seen { A.saw_close asker.old ≡ true → A.saw_close asker.new ≡ true }
     ensures place { A.place asker.new ≡ A.place asker.old }
 {
-    match to_request(alloc, message) {
+    match to_request(alloc, routes, message) {
         Ok(ask) => reply_to_ask(alloc, asker, ask),
         Err(direct) => Replied {
             reply: direct_bytes(alloc, direct),

@@ -6,6 +6,7 @@ ghost use Rattle.api_worker.specs.Served.{Sends, HasServed, AsksOnce, fault_byte
 
 use crate::reply::reply_to_message;
 use api_replies::fault_bytes;
+use api_routes::Routes;
 use http_grammar::MessageFault;
 use octo_asks::Asker;
 use octo_http::{HttpReply, read_message, write_reply};
@@ -44,6 +45,7 @@ fn refuse<C: Conn>(alloc: Global, conn: &mut C, fault: &MessageFault)
 /// It waits through at most `patience` quiet reads. If memory runs out, the reply is 507.
 pub fn serve_conn<C: Conn, A: Asker>(
     alloc: Global,
+    routes: &Routes,
     conn: &mut C,
     asker: &mut A,
     patience: u32,
@@ -62,7 +64,7 @@ pub fn serve_conn<C: Conn, A: Asker>(
 {
     match read_message(alloc, conn, patience) {
         Ok(message) => {
-            let replied = reply_to_message(alloc, asker, message);
+            let replied = reply_to_message(alloc, routes, asker, message);
             write_or_leave(conn, &replied.reply);
             replied.is_open
         }

@@ -4,6 +4,7 @@ ghost use Rattle.octo_asks.specs.Place.{no_place};
 ghost use Rattle.octo_doors.specs.Memory.{IsUntouched};
 
 use crate::{serve_conn, worker};
+use api_routes::Routes;
 use octo_asks::{Answer, Ask, Asker, Closed, Request};
 use octo_doors::{ConnList, MemoryDoor};
 use octo_outside::{CallList, MemoryConn};
@@ -95,6 +96,7 @@ fn statuses(alloc: Global, door: &MemoryDoor) -> Result<Vec<u8>, AllocError> {
 #[test]
 fn replies_and_leaves(rt: HostRuntime) -> Result<(), Fail> {
     let alloc = rt.alloc();
+    let routes = Routes::new(alloc)?;
     let conns = with_conn(alloc, ConnList::new(alloc), VERSION)?;
     let conns = with_conn(alloc, conns, b"GET /api/nothing HTTP/1.1\r\n\r\n")?;
     let conns = with_conn(alloc, conns, b"what is this\r\n\r\n")?;
@@ -102,7 +104,7 @@ fn replies_and_leaves(rt: HostRuntime) -> Result<(), Fail> {
     let conns = with_conn(alloc, conns, VERSION)?;
     let mut door = MemoryDoor::new(alloc, conns, calls(alloc, &[2])?, CallList::new(alloc));
     let mut host = Host::open_for(10);
-    assert!(rt; worker(alloc, &rt, &mut door, &mut host, 3));
+    assert!(rt; worker(alloc, &rt, &routes, &mut door, &mut host, 3));
     assert_eq!(rt;
         statuses(alloc, &door)?.as_slice(),
         b"200 404 400 - 200 ".as_slice()
@@ -115,12 +117,13 @@ fn replies_and_leaves(rt: HostRuntime) -> Result<(), Fail> {
 #[test]
 fn a_host_that_ends(rt: HostRuntime) -> Result<(), Fail> {
     let alloc = rt.alloc();
+    let routes = Routes::new(alloc)?;
     let conns = with_conn(alloc, ConnList::new(alloc), VERSION)?;
     let conns = with_conn(alloc, conns, VERSION)?;
     let conns = with_conn(alloc, conns, VERSION)?;
     let mut door = MemoryDoor::new(alloc, conns, CallList::new(alloc), CallList::new(alloc));
     let mut host = Host::open_for(1);
-    assert!(rt; worker(alloc, &rt, &mut door, &mut host, 3));
+    assert!(rt; worker(alloc, &rt, &routes, &mut door, &mut host, 3));
     assert_eq!(rt; statuses(alloc, &door)?.as_slice(), b"200 503 ".as_slice());
     assert_eq!(rt; (host.answered, host.left), (1, 0));
     Ok(())
@@ -130,11 +133,12 @@ fn a_host_that_ends(rt: HostRuntime) -> Result<(), Fail> {
 #[test]
 fn a_door_that_fails(rt: HostRuntime) -> Result<(), Fail> {
     let alloc = rt.alloc();
+    let routes = Routes::new(alloc)?;
     let conns = with_conn(alloc, ConnList::new(alloc), VERSION)?;
     let conns = with_conn(alloc, conns, VERSION)?;
     let mut door = MemoryDoor::new(alloc, conns, CallList::new(alloc), calls(alloc, &[2])?);
     let mut host = Host::open_for(10);
-    assert!(rt; !worker(alloc, &rt, &mut door, &mut host, 3));
+    assert!(rt; !worker(alloc, &rt, &routes, &mut door, &mut host, 3));
     assert_eq!(rt; statuses(alloc, &door)?.as_slice(), b"200 ".as_slice());
     assert_eq!(rt; (host.answered, host.left), (2, 1));
     Ok(())
@@ -144,6 +148,7 @@ fn a_door_that_fails(rt: HostRuntime) -> Result<(), Fail> {
 #[test]
 fn a_slow_peer(rt: HostRuntime) -> Result<(), Fail> {
     let alloc = rt.alloc();
+    let routes = Routes::new(alloc)?;
     let mut conns = ConnList::new(alloc);
     conns.push(MemoryConn::new(
         alloc,
@@ -153,24 +158,25 @@ fn a_slow_peer(rt: HostRuntime) -> Result<(), Fail> {
     )?)?;
     let mut door = MemoryDoor::new(alloc, conns, CallList::new(alloc), CallList::new(alloc));
     let mut host = Host::open_for(10);
-    assert!(rt; worker(alloc, &rt, &mut door, &mut host, 3));
+    assert!(rt; worker(alloc, &rt, &routes, &mut door, &mut host, 3));
     assert_eq!(rt; statuses(alloc, &door)?.as_slice(), b"408 ".as_slice());
     assert_eq!(rt; (host.answered, host.left), (1, 1));
     Ok(())
 }
 
-// The calls that take memory, each once: one connection, and then one at a door.
+// The calls that take memory, each once: one connection, and then one at a door, by the same table of paths.
 #[test]
 fn ample(rt: HostRuntime) -> Result<(), Fail> {
     let alloc = rt.alloc();
+    let routes = Routes::new(alloc)?;
     let mut host = Host::open_for(3);
     let mut conn = MemoryConn::new(alloc, VERSION, CallList::new(alloc), CallList::new(alloc))?;
-    assert!(rt; serve_conn(alloc, &mut conn, &mut host, 3));
+    assert!(rt; serve_conn(alloc, &routes, &mut conn, &mut host, 3));
     let written = conn.written().unwrap_or(b"");
     assert_eq!(rt; written.get(9..12).unwrap_or(b"-"), b"200".as_slice());
     let conns = with_conn(alloc, ConnList::new(alloc), VERSION)?;
     let mut door = MemoryDoor::new(alloc, conns, CallList::new(alloc), CallList::new(alloc));
-    assert!(rt; worker(alloc, &rt, &mut door, &mut host, 3));
+    assert!(rt; worker(alloc, &rt, &routes, &mut door, &mut host, 3));
     assert_eq!(rt; statuses(alloc, &door)?.as_slice(), b"200 ".as_slice());
     assert_eq!(rt; (host.answered, host.left), (3, 1));
     Ok(())

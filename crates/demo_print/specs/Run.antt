@@ -6,7 +6,8 @@ use Rattle.job_desk.specs.Scripts.{no_scripts}
 use Rattle.lossy_line.specs.Tied.{EndCausedAs}
 use Rattle.printer_link.specs.Link.{LinkKind, Recorded}
 use Rattle.printer_link.specs.Memory.{MemoryLinkData, link_kind, link_world, new_link, sends}
-use Rattle.printer_model.specs.Executed.{executed, is_loss}
+use Rattle.printer_model.specs.World.{is_loss}
+use Rattle.link_history.specs.Executed.{executed}
 use Rattle.print_course.specs.Plan.{plan}
 use Rattle.send_window.specs.declared.session_end.SessionEnd.{SessionEnd}
 use Rattle.session_print.specs.Ends.{IsTooHot}

@@ -38,11 +38,15 @@ fn has_fates(rt: &impl Abort, schedule: &Schedule, letters: &[u8], count: usize)
     }
 }
 
+// The calls that take memory, each once.
 #[test]
 fn ample(rt: HostRuntime) -> Result<(), Fail> {
     let alloc = rt.alloc();
     let file = demo_file(alloc, 1, 3)?;
     assert!(rt; file.as_slice() == b"G1 E38\nG1 E158\nG1 Y113\n".as_slice());
+    let job = demo_job(alloc, 1, 3)?;
+    assert_eq!(rt; job.count(), 3);
+    assert!(rt; job.text() == file.as_slice());
     let schedule = demo_schedule(alloc, 1, 3)?;
     has_fates(&rt, &schedule, b"WWGWLWWW", 1013);
     let counts = DemoCounts {
@@ -53,7 +57,7 @@ fn ample(rt: HostRuntime) -> Result<(), Fail> {
     let text = summary(1, 3, &counts, 0);
     let wanted = b"demo seed 1 commands 3\nexecuted 3\nsent 8\nfaults 2\nstatus 0\n";
     assert!(rt; text.as_slice() == wanted.as_slice());
-    Ok(())
+    comes_to(&rt, alloc, 1, 3, (3, 8, 2))
 }
 
 // After two lines that are harmed the next one is whole, whatever its draw.

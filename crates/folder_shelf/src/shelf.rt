@@ -26,7 +26,8 @@ impl<R: Files + AllocGlobal + Clone + Drop> FolderShelf<R> {
 
     /// The files of that folder, which has to be there; no call yet.
     pub fn new(rt: R, folder: &Name) -> Self
-        ensures { result.faults ≡ 0 }
+        ensures faults { result.faults ≡ 0 }
+        ensures folder { result.folder ≡ folder.now }
     {
         FolderShelf {
             rt,
@@ -38,7 +39,9 @@ impl<R: Files + AllocGlobal + Clone + Drop> FolderShelf<R> {
     // Counts a fault, if the call was one; running out of memory isn't.
     fn count<T: Drop>(&mut self, done: Result<T, ShelfFault>) -> Result<T, ShelfFault>
         ensures same { result ≡ done }
+        ensures folder { self.new.folder ≡ self.old.folder }
         ensures counts { Counts (IsErrOf result fault.Failed) self.old.faults self.new.faults }
+        ensures steady { (IsErrOf result fault.Failed → ⊥) → self.new.faults ≡ self.old.faults }
     {
         if matches!(done, Err(ShelfFault::Failed)) {
             self.faults = self.faults.saturating_add(1);
@@ -48,28 +51,56 @@ impl<R: Files + AllocGlobal + Clone + Drop> FolderShelf<R> {
 }
 
 impl<R: Files + AllocGlobal + Clone + Drop> Shelf for FolderShelf<R> {
-    ghost use Rattle.std.specs.Prelude.{None};
+    ghost use Rattle.std.specs.Prelude.{◌≡◌, false, None, Ok, Err, IfOk, IsOk, IsErrOf};
+    ghost use Rattle.octo_outside.specs.Told.{Counts};
+    ghost use Rattle.file_names.specs.Names.{is_file_name};
+    ghost use Rattle.octo_keeper.specs.declared.shelf.ShelfFault.TheVariants as fault;
+    ghost use Rattle.folder_shelf.specs.Listed.{IsListing};
 
     ghost files = { λ _. None };
 
     ghost faults = { λ s. s.faults };
 
-    fn list(&mut self, _alloc: Global) -> Result<FileList, ShelfFault> {
+    fn list(&mut self, _alloc: Global) -> Result<FileList, ShelfFault>
+        ensures listed { IfOk result IsListing }
+        ensures folder { self.new.folder ≡ self.old.folder }
+
+        ensures counts { Counts (IsErrOf result fault.Failed) self.old.faults self.new.faults }
+        ensures steady { (IsErrOf result fault.Failed → ⊥) → self.new.faults ≡ self.old.faults }
+    {
         let listed = list_files(&self.rt, &self.folder);
         self.count(listed)
     }
 
-    fn get(&mut self, alloc: Global, name: &Name) -> Result<Option<Blob>, ShelfFault> {
+    fn get(&mut self, alloc: Global, name: &Name) -> Result<Option<Blob>, ShelfFault>
+        ensures other { is_file_name name.now ≡ false → result ≡ Ok None }
+        ensures folder { self.new.folder ≡ self.old.folder }
+
+        ensures counts { Counts (IsErrOf result fault.Failed) self.old.faults self.new.faults }
+        ensures steady { (IsErrOf result fault.Failed → ⊥) → self.new.faults ≡ self.old.faults }
+    {
         let read = read_file(alloc, &self.rt, &self.folder, name);
         self.count(read)
     }
 
-    fn put(&mut self, _alloc: Global, name: &Name, bytes: &[u8]) -> Result<(), ShelfFault> {
+    fn put(&mut self, _alloc: Global, name: &Name, bytes: &[u8]) -> Result<(), ShelfFault>
+        ensures other { is_file_name name.now ≡ false → result ≡ Err fault.Failed }
+        ensures folder { self.new.folder ≡ self.old.folder }
+
+        ensures counts { Counts (IsErrOf result fault.Failed) self.old.faults self.new.faults }
+        ensures steady { (IsErrOf result fault.Failed → ⊥) → self.new.faults ≡ self.old.faults }
+    {
         let done = write_file(&self.rt, &self.folder, name, bytes);
         self.count(done)
     }
 
-    fn remove(&mut self, _alloc: Global, name: &Name) -> Result<(), ShelfFault> {
+    fn remove(&mut self, _alloc: Global, name: &Name) -> Result<(), ShelfFault>
+        ensures other { is_file_name name.now ≡ false → IsOk result }
+        ensures folder { self.new.folder ≡ self.old.folder }
+
+        ensures counts { Counts (IsErrOf result fault.Failed) self.old.faults self.new.faults }
+        ensures steady { (IsErrOf result fault.Failed → ⊥) → self.new.faults ≡ self.old.faults }
+    {
         let done = remove_file(&self.rt, &self.folder, name);
         self.count(done)
     }

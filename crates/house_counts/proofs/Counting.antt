@@ -9,8 +9,8 @@ use Rattle.octo_asks.specs.declared.answer.Answer.{Answer}
 use Rattle.octo_asks.specs.declared.entry.Entry.{Entry}
 use Rattle.octo_asks.specs.declared.entry.Entry.TheVariants as entry
 use Rattle.octo_asks.specs.declared.request.Ask.{Ask}
-use Rattle.octo_session.specs.Data.{SessionData}
-use Rattle.octo_session.specs.Turn.{fact_of}
+use Rattle.session_steps.specs.Data.{SessionData}
+use Rattle.session_steps.specs.Turn.{fact_of}
 use Rattle.house_rows.specs.Counts.{is_keepers, is_shelfs}
 use Rattle.house_counts.specs.Faults.{HasRisen, AreCounted, is_failure, is_keepers_fault, is_shelfs_fault, is_links_fault}
 use Rattle.house_counts.specs.Rounds.{AsksAt, TurnsAt, noted}

@@ -13,11 +13,11 @@ use Rattle.octo_asks.specs.declared.answer.Answer.{Answer}
 use Rattle.octo_asks.specs.declared.entry.Entry.{Entry}
 use Rattle.octo_asks.specs.declared.entry.Entry.TheVariants as entry
 use Rattle.octo_asks.specs.declared.request.Ask.{Ask}
-use Rattle.octo_session.specs.Data.{SessionData, doing, is_connecting, port_of}
-use Rattle.octo_session.specs.Found.{can_find}
-use Rattle.octo_session.specs.Turn.{fact_of}
-use Rattle.octo_session.specs.declared.found.Doing.{Doing}
-use Rattle.octo_session.specs.declared.found.Doing.TheVariants.{Dialling, HangingUp, Talking, Resting}
+use Rattle.session_steps.specs.Data.{SessionData, doing, is_connecting, port_of}
+use Rattle.session_steps.specs.Found.{can_find}
+use Rattle.session_steps.specs.Turn.{fact_of}
+use Rattle.session_steps.specs.declared.found.Doing.{Doing}
+use Rattle.session_steps.specs.declared.found.Doing.TheVariants.{Dialling, HangingUp, Talking, Resting}
 use Rattle.printer_link.specs.Link.{RoseBy}
 use Rattle.house_history.specs.Legal.{Standing, after_entry, after_all, after_call}
 use Rattle.house_counts.specs.LinkUse.{is_of_dial, is_closing, is_close_note, IsUnlisted, AreUnlisted, BeginsWithDial, IsDialled, AreDialled, open_by, open_calls, UsesLink}

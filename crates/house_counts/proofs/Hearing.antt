@@ -12,20 +12,20 @@ use Rattle.send_window.specs.Data.{SenderData}
 use Rattle.send_window.specs.Sending.{Outgoing, bytes_of_outgoing, next_of}
 use Rattle.octo_asks.specs.History.{History}
 use Rattle.octo_asks.specs.declared.entry.Entry.TheVariants as entry
-use Rattle.octo_session.specs.Data.{SessionData, doing}
-use Rattle.octo_session.specs.Found.{Got, unasked, lost, nothing, whole, temps_in, temps_of_reply}
-use Rattle.octo_session.specs.Steps.{Step, opens, finds_no_port, fails_to_dial, hears, listens, fails_to_receive, ticks, issues, gives, fails_to_send, hangs_up, IsDone, IsGiven, AreAdded, after_step, issuing, sends, speech, clock_steps, talk_steps, dial_steps, turn_steps}
-use Rattle.octo_session.specs.Turn.{IsTurn, texts_in}
-use Rattle.octo_session.specs.declared.found.Doing.{Doing}
-use Rattle.octo_session.specs.declared.found.Doing.TheVariants.{Dialling, HangingUp, Talking, Resting}
-use Rattle.octo_session.specs.declared.found.Turned.{Turned}
+use Rattle.session_steps.specs.Data.{SessionData, doing}
+use Rattle.session_steps.specs.Found.{Got, unasked, lost, nothing, whole, temps_in, temps_of_reply}
+use Rattle.session_steps.specs.Steps.{Step, opens, finds_no_port, fails_to_dial, hears, listens, fails_to_receive, ticks, issues, gives, fails_to_send, hangs_up, IsDone, IsGiven, AreAdded, after_step, issuing, sends, speech, clock_steps, talk_steps, dial_steps, turn_steps}
+use Rattle.session_steps.specs.Turn.{IsTurn, texts_in}
+use Rattle.session_steps.specs.declared.found.Doing.{Doing}
+use Rattle.session_steps.specs.declared.found.Doing.TheVariants.{Dialling, HangingUp, Talking, Resting}
+use Rattle.session_steps.specs.declared.found.Turned.{Turned}
 use Rattle.printer_link.specs.Link.{LinkKind, IsSend, IsSendOf, IsSendLoss, IsHeard, MaySendFailing, IsHangUp, world_in}
-use Rattle.printer_model.specs.Exchanged.{received_by, received_from, front_line}
+use Rattle.link_history.specs.Exchanged.{received_by, received_from, front_line}
 use Rattle.printer_model.specs.World.{WorldData, world_from}
 use Rattle.printer_model.specs.declared.event.WorldEvent.{WorldEvent}
 use Rattle.printer_model.specs.declared.event.WorldEvent.TheVariants as event
 use Rattle.printer_model.proofs.Laws.{world_of-append}
-use Rattle.printer_model.proofs.Starts.{received_from-append, received_from-free, runs-free}
+use Rattle.link_history.proofs.Starts.{received_from-append, received_from-free, runs-free}
 use Rattle.house_counts.specs.Rounds.{IsCallAt, AsksAt, noted}
 use Rattle.house_counts.specs.Temps.{temps_list, temps_of_entry, temps_noted, temps_reported, NotesTemps}
 

@@ -6,7 +6,7 @@ use Rattle.octo_outside.proofs.Told.{became_so, became_same}
 use Rattle.octo_keeper.specs.declared.shelf.ShelfFile.{ShelfFile}
 use Rattle.octo_asks.specs.History.{History}
 use Rattle.octo_asks.specs.declared.entry.Entry.TheVariants as entry
-use Rattle.octo_session.specs.Data.{SessionData}
+use Rattle.session_steps.specs.Data.{SessionData}
 use Rattle.house_history.specs.Legal.{Standing, after_all}
 use Rattle.house_walks.specs.Walks.{Walks}
 use Rattle.house_counts.specs.LinkUse.{UsesLink}

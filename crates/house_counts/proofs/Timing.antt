@@ -11,7 +11,7 @@ use Rattle.octo_asks.specs.declared.answer.Answer.{Answer}
 use Rattle.octo_asks.specs.declared.entry.Entry.{Entry}
 use Rattle.octo_asks.specs.declared.entry.Entry.TheVariants as entry
 use Rattle.octo_asks.specs.declared.request.Ask.{Ask}
-use Rattle.octo_session.specs.Data.{SessionData}
+use Rattle.session_steps.specs.Data.{SessionData}
 use Rattle.house_counts.specs.Moments.{IsBetween, AreBetween}
 use Rattle.house_counts.specs.Rounds.{AsksAt, NotesAt, TurnsAt, noted}
 

@@ -5,13 +5,13 @@ use Rattle.octo_outside.specs.Told.{Counts}
 use Rattle.desk_steps.specs.declared.issued.Note.{Note}
 use Rattle.desk_steps.specs.declared.link_fact.LinkFact.{LinkFact}
 use Rattle.desk_steps.specs.declared.link_fact.LinkFact.TheVariants as fact
-use Rattle.octo_session.specs.Data.{SessionData, doing, is_calling, port_of}
-use Rattle.octo_session.specs.Found.{Got, can_find}
-use Rattle.octo_session.specs.Steps.{turn_steps, calls_after}
-use Rattle.octo_session.specs.Turn.{fact_of, IsTurn, texts_in}
-use Rattle.octo_session.specs.declared.found.Doing.{Doing}
-use Rattle.octo_session.specs.declared.found.Doing.TheVariants.{Dialling, HangingUp, Talking, Resting}
-use Rattle.octo_session.specs.declared.found.Turned.{Turned}
+use Rattle.session_steps.specs.Data.{SessionData, doing, is_calling, port_of}
+use Rattle.session_steps.specs.Found.{Got, can_find}
+use Rattle.session_steps.specs.Steps.{turn_steps, calls_after}
+use Rattle.session_steps.specs.Turn.{fact_of, IsTurn, texts_in}
+use Rattle.session_steps.specs.declared.found.Doing.{Doing}
+use Rattle.session_steps.specs.declared.found.Doing.TheVariants.{Dialling, HangingUp, Talking, Resting}
+use Rattle.session_steps.specs.declared.found.Turned.{Turned}
 use Rattle.printer_link.specs.Link.{LinkKind, RoseBy}
 use Rattle.printer_model.specs.declared.event.WorldEvent.{WorldEvent}
 use Rattle.house_counts.specs.Faults.{is_failure}

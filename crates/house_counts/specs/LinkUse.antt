@@ -5,7 +5,7 @@ use Rattle.desk_steps.specs.declared.link_fact.LinkFact.TheVariants as fact
 use Rattle.octo_asks.specs.History.{History}
 use Rattle.octo_asks.specs.declared.entry.Entry.{Entry}
 use Rattle.octo_asks.specs.declared.entry.Entry.TheVariants as entry
-use Rattle.octo_session.specs.Data.{port_of}
+use Rattle.session_steps.specs.Data.{port_of}
 use Rattle.printer_link.specs.Link.{RoseBy}
 use Rattle.house_history.specs.Legal.{Standing, IsDialling, after_entry}
 

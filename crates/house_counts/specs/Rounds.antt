@@ -6,9 +6,9 @@ use Rattle.octo_asks.specs.History.{History}
 use Rattle.octo_asks.specs.declared.answer.Answer.{Answer}
 use Rattle.octo_asks.specs.declared.entry.Entry.TheVariants as entry
 use Rattle.octo_asks.specs.declared.request.Ask.{Ask}
-use Rattle.octo_session.specs.Data.{SessionData, doing, port_of}
-use Rattle.octo_session.specs.Turn.{fact_of}
-use Rattle.octo_session.specs.declared.found.Doing.TheVariants.{Dialling}
+use Rattle.session_steps.specs.Data.{SessionData, doing, port_of}
+use Rattle.session_steps.specs.Turn.{fact_of}
+use Rattle.session_steps.specs.declared.found.Doing.TheVariants.{Dialling}
 use Rattle.octo_outside.specs.Told.{Counts}
 use Rattle.printer_link.specs.Link.{RoseBy}
 use Rattle.house_counts.specs.LinkUse.{is_of_dial, is_closing}

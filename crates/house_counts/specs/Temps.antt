@@ -6,9 +6,9 @@ use Rattle.marlin_reply.specs.declared.reply.Temps.{Temps}
 use Rattle.octo_asks.specs.History.{History}
 use Rattle.octo_asks.specs.declared.entry.Entry.{Entry}
 use Rattle.octo_asks.specs.declared.entry.Entry.TheVariants as entry
-use Rattle.octo_session.specs.Found.{temps_of_reply}
+use Rattle.session_steps.specs.Found.{temps_of_reply}
 use Rattle.printer_link.specs.Link.{LinkKind, world_in}
-use Rattle.printer_model.specs.Exchanged.{received_from}
+use Rattle.link_history.specs.Exchanged.{received_from}
 use Rattle.printer_model.specs.declared.event.WorldEvent.{WorldEvent}
 
 -- temperatures as a list: none, or one

@@ -3,7 +3,7 @@ use Rattle.std.specs.Prelude.{◌≡◌, true}
 use Rattle.octo_asks.specs.declared.answer.Answer.{Answer}
 use Rattle.house_verdicts.specs.Known.{Known}
 use Rattle.house_verdicts.specs.Verdict.{Verdict, IsDone}
-use Rattle.octo_session.specs.Data.{SessionData}
+use Rattle.session_steps.specs.Data.{SessionData}
 use Rattle.house_desk.specs.declared.host_desk.HostDesk.{HostDesk}
 
 -- what is known with this desk

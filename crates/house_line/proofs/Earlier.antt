@@ -3,12 +3,12 @@ use Rattle.std.proofs.Common.{◌≡◌, ℕ, zero, suc, pred, ◌<◌, Bool, tr
 use Rattle.std.specs.Prelude.{◌||◌}
 use Rattle.std.specs.List.{list_all, list_any}
 use Rattle.std.proofs.lemmas.List.Folds.{list_any-append}
-use Rattle.printer_model.specs.World.{is_free}
-use Rattle.printer_model.specs.Executed.{is_send, opens, till}
+use Rattle.printer_model.specs.World.{is_free, is_send}
+use Rattle.link_history.specs.Executed.{opens, till}
 use Rattle.printer_model.specs.declared.event.WorldEvent.{WorldEvent}
 use Rattle.printer_model.specs.declared.event.WorldEvent.TheVariants.{Opened, Send, Arrive, Lose, Garble, Run, Restart, Chatter, Recv, Closed}
 use Rattle.printer_model.proofs.Laws.{both_left, both_right}
-use Rattle.printer_model.proofs.Sessions.{executed-append, till-append, till-all}
+use Rattle.link_history.proofs.Sessions.{executed-append, till-append, till-all}
 use Rattle.printer_link.specs.Link.{LinkKind}
 use Rattle.lossy_line.specs.Tied.{IsTied}
 use Rattle.lossy_line.proofs.Former.{tied_as}

@@ -1,11 +1,15 @@
 -- Calls, the beginning and the end of a run keep a host in step.
 use Rattle.std.proofs.Common.{length, ◌≡◌, ◌⊎◌, inl, inr, ℕ, zero, suc, ◌+◌, ◌<◌, ◌≤◌, Bool, true, false, List, [], ◌∷◌, ◌++◌, refl, sym, ◌∙◌, ap, subst, append_assoc, append-nil, arith}
+use Rattle.std.specs.Prelude.{if◌then◌else◌}
 use Rattle.std.specs.List.{list_any}
-use Rattle.printer_model.specs.Executed.{is_send, opens, till}
+use Rattle.printer_model.specs.World.{WorldData, apply, happen, world_from, is_send}
+use Rattle.link_history.specs.Executed.{opens, till}
 use Rattle.printer_model.specs.declared.event.WorldEvent.{WorldEvent}
-use Rattle.printer_model.proofs.Sessions.{opens-append}
+use Rattle.printer_model.specs.declared.event.WorldEvent.TheVariants.{Closed}
+use Rattle.printer_model.proofs.Laws.{world_of-append}
+use Rattle.link_history.proofs.Sessions.{opens-append}
 use Rattle.printer_link.specs.Link.{LinkKind, IsHangUp, world_in}
-use Rattle.octo_session.specs.Data.{SessionData}
+use Rattle.session_steps.specs.Data.{SessionData}
 use Rattle.octo_asks.specs.History.{History}
 use Rattle.octo_asks.specs.declared.entry.Entry.TheVariants as entry
 use Rattle.lossy_line.specs.Tied.{IsTied}
@@ -14,9 +18,19 @@ use Rattle.house_line.specs.Sessions.{sessions, texts_of, most_in, acked_in}
 use Rattle.house_line.specs.Tied.{Tied, WasTied, AreTied}
 use Rattle.house_line.specs.InStep.{AreCalls, IsUnmade, IsCurrent, AreInStep}
 use Rattle.house_line.proofs.Earlier.{tied_before}
-use Rattle.house_line.proofs.Grown.{below_or, few_other, few_none, texts-before, acked-before, sessions-other, texts-last, acked-last, split}
+use Rattle.house_line.proofs.Grown.{below_or, few_other, few_none, sessions-other, texts-last, acked-last, open-after, split}
 use Rattle.house_line.proofs.Longer.{hung_tied}
-use Rattle.house_line.proofs.Standing.{longer_throughout, entry_throughout, same_current, still_step}
+use Rattle.house_line.proofs.Standing.{longer_throughout, entry_throughout, earlier_tied, same_current, current_open, still_step}
+
+-- a link that is hung up is down
+hung_down : (kind : LinkKind) (past added : List WorldEvent) → IsHangUp true (world_in kind past) added → (world_in kind (past ++ added)).linked ≡ false
+hung_down kind past added hung =
+    ap (λ (w : WorldData). w.linked) (world_of-append kind.slots kind.numbered past added)
+    ∙ ap (λ (es : List WorldEvent). (world_from (world_in kind past) es).linked) hung.0
+    ∙ closed (world_in kind past) hung.1
+  where
+    closed : (w : WorldData) → w.linked ≡ true → (apply w Closed).linked ≡ false
+    closed w up = ap (λ (b : Bool). (if b then happen w Closed else w).linked) up
 
 module _ (kind : LinkKind) (front : List WorldEvent) where
   -- nothing changes but the desk
@@ -58,7 +72,12 @@ module _ (kind : LinkKind) (front : List WorldEvent) where
         so_far = past;
         since = [];
         is = sym (append-nil past);
-        tied = record { counted = omega (arith, ap opens is); each = λ s some most. absurd (omega (arith, some, most)); few = λ s most. few_none s };
+        tied = record {
+          counted = omega (arith, ap opens is);
+          each = λ s some most. absurd (omega (arith, some, most));
+          few = λ s most. few_none s;
+          open_as = λ some. absurd (omega (arith, some));
+        };
         caused = λ end ends. absurd (cc ends);
         unsent = λ shut. refl;
       }
@@ -70,16 +89,21 @@ module _ (kind : LinkKind) (front : List WorldEvent) where
   end_step h past added x hung i = by x.up refl hung
     where
       -- after a hang-up the sessions are tied as before
-      closes : opens added ≡ 0 → list_any is_send (till 0 added) ≡ false →
+      closes : opens added ≡ 0 → list_any is_send (till 0 added) ≡ false → (1 ≤ sessions h → (world_in kind (past ++ added)).linked ≡ false) →
           ((n : ℕ) (texts : List (List ℕ)) (acked : ℕ) → 1 ≤ n → IsCurrent kind n texts acked past x → IsTied kind texts acked (past ++ added) (opens past)) →
           AreTied kind front (h ++ entry.Close ∷ []) (past ++ added)
-      closes none quiet last =
+      closes none quiet down last =
           let n : sessions (h ++ entry.Close ∷ []) ≡ sessions h = sessions-other h entry.Close refl in
           let few = few_other h entry.Close refl i.few
           (subst (λ (l : List (List ℕ)). length l ≤ most_in (sessions h)) (sym texts_now) (i.few (sessions h) (omega arith))) in
           let counted : opens (past ++ added) ≡ opens front + sessions (h ++ entry.Close ∷ []) = omega (arith, opens-append past added, none, i.counted, n) in
           let tied : Tied kind front (h ++ entry.Close ∷ []) (past ++ added) =
-          record { counted = counted; each = λ s some most. each s some (below_or s (sessions h) (omega (arith, most, n))) last; few = few }
+          record {
+            counted = counted;
+            each = λ s some most. each s some (below_or s (sessions h) (omega (arith, most, n))) last;
+            few = few;
+            open_as = λ some. down (omega (arith, some, n)) ∙ sym (open-after h entry.Close);
+          }
           in
           record {
             now = tied;
@@ -95,10 +119,8 @@ module _ (kind : LinkKind) (front : List WorldEvent) where
               → IsTied kind texts acked (past ++ added) (opens past)) →
               IsTied kind (texts_of s (h ++ entry.Close ∷ [])) (acked_in s (h ++ entry.Close ∷ [])) (past ++ added) (opens front + s)
           each s some (inl below) last =
-              subst (λ (l : List (List ℕ)). IsTied kind l (acked_in s (h ++ entry.Close ∷ [])) (past ++ added) (opens front + s))
-              (sym (texts-before h entry.Close (entry.Close ∷ []) s below))
-              (subst (λ (a : ℕ). IsTied kind (texts_of s h) a (past ++ added) (opens front + s)) (sym (acked-before h entry.Close (entry.Close ∷ []) s below))
-              (tied_before kind (texts_of s h) (acked_in s h) past added (opens front + s) (omega (arith, i.counted, below)) (i.former s some below)))
+              earlier_tied kind front h entry.Close (past ++ added) s below
+              (tied_before kind (texts_of s h) (acked_in s h) past added (opens front + s) (omega (arith, i.counted, below)) (i.former s some below))
           each s some (inr same) last =
               subst (λ (k : ℕ). IsTied kind (texts_of k (h ++ entry.Close ∷ [])) (acked_in k (h ++ entry.Close ∷ [])) (past ++ added) (opens front + k))
               (sym same)
@@ -110,7 +132,7 @@ module _ (kind : LinkKind) (front : List WorldEvent) where
 
       by : (up : Bool) → x.up ≡ up → IsHangUp up (world_in kind past) added → AreTied kind front (h ++ entry.Close ∷ []) (past ++ added)
       by true is hung =
-          closes (ap opens hung.0) (ap (λ (es : List WorldEvent). list_any is_send (till 0 es)) hung.0)
+          closes (ap opens hung.0) (ap (λ (es : List WorldEvent). list_any is_send (till 0 es)) hung.0) (λ some. hung_down kind past added hung)
           (λ n texts acked some c. last n texts acked some c hung)
         where
           last : (n : ℕ) (texts : List (List ℕ)) (acked : ℕ) → 1 ≤ n → IsCurrent kind n texts acked past x → IsHangUp true (world_in kind past) added →
@@ -119,10 +141,15 @@ module _ (kind : LinkKind) (front : List WorldEvent) where
           last (suc n) texts acked some c hung =
               subst (λ (a : ℕ). IsTied kind texts a (past ++ added) (opens past)) c.1 (hung_tied kind texts x past added hung c.0)
       by false is none =
-          closes (ap opens none) (ap (λ (es : List WorldEvent). list_any is_send (till 0 es)) none) (λ n texts acked some c. last n texts acked some c)
+          closes (ap opens none) (ap (λ (es : List WorldEvent). list_any is_send (till 0 es)) none) down (λ n texts acked some c. last n texts acked some c)
         where
           all : past ≡ past ++ added
           all = sym (append-nil past) ∙ ap (λ (es : List WorldEvent). past ++ es) (sym none)
+
+          down : 1 ≤ sessions h → (world_in kind (past ++ added)).linked ≡ false
+          down some =
+              ap (λ (es : List WorldEvent). (world_in kind es).linked) (sym all)
+              ∙ current_open kind (sessions h) (texts_of (sessions h) h) (acked_in (sessions h) h) past x some i.current ∙ is
 
           last : (n : ℕ) (texts : List (List ℕ)) (acked : ℕ) → 1 ≤ n → IsCurrent kind n texts acked past x
               → IsTied kind texts acked (past ++ added) (opens past)

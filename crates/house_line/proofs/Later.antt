@@ -4,11 +4,11 @@ use Rattle.std.proofs.lemmas.List.{drop-append-le, length-append, map-append}
 use Rattle.marlin_reply.specs.Kind.{kind_of}
 use Rattle.marlin_reply.specs.declared.reply.Reply.{Reply}
 use Rattle.printer_model.specs.World.{WorldData, apply, world_from}
-use Rattle.printer_model.specs.Executed.{opens, till}
-use Rattle.printer_model.specs.Exchanged.{session_of, received_by, received_from}
+use Rattle.link_history.specs.Executed.{opens, till}
+use Rattle.link_history.specs.Exchanged.{session_of, received_by, received_from}
 use Rattle.printer_model.specs.declared.event.WorldEvent.{WorldEvent}
 use Rattle.printer_model.specs.declared.event.WorldEvent.TheVariants.{Opened, Send, Arrive, Lose, Garble, Run, Restart, Chatter, Recv, Closed}
-use Rattle.printer_model.proofs.Sessions.{till-append, till-all, till-IsFront}
+use Rattle.link_history.proofs.Sessions.{till-append, till-all, till-IsFront}
 use Rattle.printer_link.specs.Link.{LinkKind, world_in}
 use Rattle.send_window.specs.Counting.{acked_of}
 use Rattle.send_window.proofs.OwnOks.{counts_next}

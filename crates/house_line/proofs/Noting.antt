@@ -4,16 +4,17 @@ use Rattle.std.specs.List.{list_any}
 use Rattle.desk_steps.specs.declared.issued.Note.{Note}
 use Rattle.desk_steps.specs.declared.link_fact.LinkFact.{LinkFact}
 use Rattle.desk_steps.specs.declared.link_fact.LinkFact.TheVariants as fact
-use Rattle.printer_model.specs.Executed.{is_send, opens, till}
+use Rattle.printer_model.specs.World.{is_send}
+use Rattle.link_history.specs.Executed.{opens, till}
 use Rattle.printer_model.specs.declared.event.WorldEvent.{WorldEvent}
 use Rattle.printer_link.specs.Link.{LinkKind, world_in}
 use Rattle.send_window.specs.declared.session_end.SessionEnd.{SessionEnd}
-use Rattle.octo_session.specs.Data.{SessionData, doing}
-use Rattle.octo_session.specs.Found.{Got, can_find}
-use Rattle.octo_session.specs.Found as found
-use Rattle.octo_session.specs.Turn.{texts_in}
-use Rattle.octo_session.specs.declared.found.Doing.{Doing}
-use Rattle.octo_session.specs.declared.found.Doing.TheVariants.{Dialling, HangingUp, Talking, Resting}
+use Rattle.session_steps.specs.Data.{SessionData, doing}
+use Rattle.session_steps.specs.Found.{Got, can_find}
+use Rattle.session_steps.specs.Found as found
+use Rattle.session_steps.specs.Turn.{texts_in}
+use Rattle.session_steps.specs.declared.found.Doing.{Doing}
+use Rattle.session_steps.specs.declared.found.Doing.TheVariants.{Dialling, HangingUp, Talking, Resting}
 use Rattle.octo_asks.specs.History.{History}
 use Rattle.octo_asks.specs.declared.entry.Entry.{Entry}
 use Rattle.octo_asks.specs.declared.entry.Entry.TheVariants as entry
@@ -29,7 +30,7 @@ use Rattle.house_line.specs.Tied.{TiedThroughout}
 use Rattle.house_line.specs.InStep.{IsCurrent, AreInStep}
 use Rattle.house_line.proofs.Grown.{below_or, few_other, few_open, texts-before, acked-before, sessions-other, texts-last, acked-last, sessions-opened, texts-ended, acked-ended, texts-new, acked-new, open-after}
 use Rattle.house_line.proofs.Turns.{turn_stays, turn_opens, turn_shut}
-use Rattle.house_line.proofs.Standing.{leaves_of, tied_by, longer_throughout, entry_throughout, current_as}
+use Rattle.house_line.proofs.Standing.{leaves_of, longer_throughout, earlier_tied, in_step_by, current_as}
 
 -- whether a session is open after a turn, as the history says it
 open_turn : (d : Doing) (f : LinkFact) (was : Bool) → can_find d f ≡ true → (d ≡ Talking → was ≡ true) → up_after f was ≡ found.up_after f was
@@ -109,6 +110,12 @@ module _ (moment : ℕ) (kind : LinkKind) (x y : SessionData) (got : Got) (f : L
     abbrev e : Entry
     e = entry.Note note
 
+    open_now : is_open (h ++ e ∷ []) ≡ y.up
+    open_now = open-after h e ∙ ap (λ (g : LinkFact). up_after g (is_open h)) its_fact ∙ open_then (is_open h) i.open_as
+
+    caused_now : (end : SessionEnd) → end_of note.fact ≡ Some end → IsEndCaused kind end (past ++ added)
+    caused_now end ends = caused_turn end (sym its_fact ∙ end_is note.fact end ends)
+
     -- a note of a turn that makes no link
     noted_other : is_opening note.fact ≡ false → AreInStep kind front (h ++ e ∷ []) (past ++ added) y
     noted_other other =
@@ -117,8 +124,9 @@ module _ (moment : ℕ) (kind : LinkKind) (x y : SessionData) (got : Got) (f : L
         (λ is. other_fact note.fact other (its_fact ∙ is)) t its_acked (leaves_of kind front h past x i)
         in
         let counted : opens (past ++ added) ≡ opens front + sessions (h ++ e ∷ []) = omega (arith, l.counted, n) in
-        let former = λ (s : ℕ) (some : 1 ≤ s) (below : s < sessions (h ++ e ∷ [])). earlier s some (omega (arith, below, n))
-        (l.former s some (omega (arith, below, n))) in
+        let former = λ (s : ℕ) (some : 1 ≤ s) (below : s < sessions (h ++ e ∷ [])).
+        earlier_tied kind front h e (past ++ added) s (omega (arith, below, n)) (l.former s some (omega (arith, below, n)))
+        in
         let texts_now : texts_of (sessions h) (h ++ e ∷ []) ≡ texts_of (sessions h) h ++ texts =
         texts-last h e other ∙ ap (λ (l : List (List ℕ)). texts_of (sessions h) h ++ l) its_texts
         in
@@ -131,21 +139,7 @@ module _ (moment : ℕ) (kind : LinkKind) (x y : SessionData) (got : Got) (f : L
         (past ++ added) y refl (sym (texts-last h e other ∙ ap (λ (l : List (List ℕ)). texts_of (sessions h) h ++ l) its_texts))
         (sym (acked-last h e other)) l.current)
         in
-        record {
-          counted = counted;
-          former = former;
-          few = few;
-          current = current;
-          open_as = open-after h e ∙ ap (λ (g : LinkFact). up_after g (is_open h)) its_fact ∙ open_then (is_open h) i.open_as;
-          throughout = entry_throughout kind front h e (past ++ added) (tied_by kind front (h ++ e ∷ []) (past ++ added) y counted former few current)
-              (λ end ends. caused_turn end (sym its_fact ∙ end_is note.fact end ends)) along;
-        }
-      where
-        earlier : (s : ℕ) → 1 ≤ s → s < sessions h → IsTied kind (texts_of s h) (acked_in s h) (past ++ added) (opens front + s) →
-            IsTied kind (texts_of s (h ++ e ∷ [])) (acked_in s (h ++ e ∷ [])) (past ++ added) (opens front + s)
-        earlier s some below tied =
-            subst (λ (l : List (List ℕ)). IsTied kind l (acked_in s (h ++ e ∷ [])) (past ++ added) (opens front + s)) (sym (texts-before h e (e ∷ []) s below))
-            (subst (λ (a : ℕ). IsTied kind (texts_of s h) a (past ++ added) (opens front + s)) (sym (acked-before h e (e ∷ []) s below)) tied)
+        in_step_by kind front h e (past ++ added) y counted former few current open_now caused_now along
 
     -- a note of one that does
     noted_opened : (note.acked ≡ 0) → is_opening note.fact ≡ true → AreInStep kind front (h ++ e ∷ []) (past ++ added) y
@@ -166,15 +160,7 @@ module _ (moment : ℕ) (kind : LinkKind) (x y : SessionData) (got : Got) (f : L
         (acked_in (suc (sessions h)) (h ++ e ∷ []))
         (past ++ added) y refl (sym (texts-new h e opens_now)) (none_acked ∙ sym (acked-new h e opens_now)) l.current)
         in
-        record {
-          counted = counted;
-          former = former;
-          few = few;
-          current = current;
-          open_as = open-after h e ∙ ap (λ (g : LinkFact). up_after g (is_open h)) its_fact ∙ open_then (is_open h) i.open_as;
-          throughout = entry_throughout kind front h e (past ++ added) (tied_by kind front (h ++ e ∷ []) (past ++ added) y counted former few current)
-              (λ end ends. caused_turn end (sym its_fact ∙ end_is note.fact end ends)) along;
-        }
+        in_step_by kind front h e (past ++ added) y counted former few current open_now caused_now along
       where
         texts_now : (s : ℕ) → (s < sessions h) ⊎ (s ≡ sessions h) → texts_of s (h ++ e ∷ []) ≡ texts_of s h
         texts_now s (inl below) = texts-before h e (e ∷ []) s below

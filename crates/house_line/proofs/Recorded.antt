@@ -7,9 +7,9 @@ use Rattle.desk_steps.specs.declared.link_fact.LinkFact.{LinkFact}
 use Rattle.desk_steps.specs.declared.link_fact.LinkFact.TheVariants as fact
 use Rattle.printer_model.specs.declared.event.WorldEvent.{WorldEvent}
 use Rattle.printer_link.specs.Link.{LinkKind, Grows, IsHangUp}
-use Rattle.octo_session.specs.Data.{SessionData}
-use Rattle.octo_session.specs.Turn.{IsTurn, IsNoteOf, texts_in}
-use Rattle.octo_session.specs.declared.found.Turned.{Turned}
+use Rattle.session_steps.specs.Data.{SessionData}
+use Rattle.session_steps.specs.Turn.{IsTurn, IsNoteOf, texts_in}
+use Rattle.session_steps.specs.declared.found.Turned.{Turned}
 use Rattle.octo_asks.specs.History.{History}
 use Rattle.octo_asks.specs.declared.entry.Entry.TheVariants as entry
 use Rattle.house_history.specs.Issued.{is_opening}
@@ -17,7 +17,7 @@ use Rattle.house_history.specs.Legal.{up_after}
 use Rattle.lossy_line.proofs.Told.{IsKept, turned_by}
 use Rattle.house_line.specs.Sessions.{end_of}
 use Rattle.house_line.specs.Tied.{AreTied}
-use Rattle.house_line.specs.InStep.{AreCalls, IsUnmade, AreInStep, InStep, TiesLines}
+use Rattle.house_line.specs.InStep.{AreCalls, IsUnmade, AreInStep, Grown, InStep, TiesLines}
 use Rattle.house_line.proofs.Ending.{begin_step, calls_step, end_step}
 use Rattle.house_line.proofs.Standing.{still_step}
 use Rattle.house_line.proofs.Noting.{noted_step, silent_step}
@@ -35,6 +35,20 @@ begin_in_step kind before front x u all now events there = record {
   so = begin_step kind events events x refl u;
 }
 
+-- entries more
+grown_more : {before now now' : Option History} {front past past' : Option (List WorldEvent)} {So So' : List WorldEvent → History → List WorldEvent → Type 0}
+    {mid all : History} {here events : List WorldEvent} → (more : History) → (g : Grown before now front past So mid here) → all ≡ mid ++ more →
+    So' g.old_events (g.added ++ more) events → Grown before now' front past' So' all events
+grown_more more g is so = record {
+  old = g.old;
+  added = g.added ++ more;
+  was = g.was;
+  grew = is ∙ ap (λ (h : History). h ++ more) g.grew ∙ append_assoc g.old g.added more;
+  old_events = g.old_events;
+  was_link = g.was_link;
+  so = so;
+}
+
 module _ (kind : LinkKind) (before now now' : Option History) (front link : Option (List WorldEvent)) (x y : SessionData) where
   -- calls are answered
   pub calls_in_step : Became now now' (λ _ added. AreCalls added) → y.sender ≡ x.sender → y.up ≡ x.up →
@@ -42,15 +56,7 @@ module _ (kind : LinkKind) (before now now' : Option History) (front link : Opti
   calls_in_step calls sender up i all is events there =
       let got = calls all is in
       let g = i got.0 got.2 events there in
-      record {
-        old = g.old;
-        added = g.added ++ got.1;
-        was = g.was;
-        grew = got.3 ∙ ap (λ (h : History). h ++ got.1) g.grew ∙ append_assoc g.old g.added got.1;
-        old_events = g.old_events;
-        was_link = g.was_link;
-        so = calls_step kind g.old_events got.1 g.added events x y got.4 sender up g.so;
-      }
+      grown_more got.1 g got.3 (calls_step kind g.old_events got.1 g.added events x y got.4 sender up g.so)
 
   -- an entry that issues and acknowledges nothing
   pub note_in_step : (note : Note) → note.fact ≡ fact.Quiet → note.acked ≡ x.sender.acked → note.issued.items ≡ [] → Adds now now' (entry.Note note ∷ []) →
@@ -58,17 +64,9 @@ module _ (kind : LinkKind) (before now now' : Option History) (front link : Opti
   note_in_step note quiet acked silent adds sender up i all is events there =
       let got = adds all is in
       let g = i got.0 got.2 events there in
-      record {
-        old = g.old;
-        added = g.added ++ entry.Note note ∷ [];
-        was = g.was;
-        grew = got.3 ∙ ap (λ (es : History). got.0 ++ es) got.4 ∙ ap (λ (h : History). h ++ entry.Note note ∷ []) g.grew
-            ∙ append_assoc g.old g.added (entry.Note note ∷ []);
-        old_events = g.old_events;
-        was_link = g.was_link;
-        so = still_step kind g.old_events g.added events x y (entry.Note note) (opens_none note.fact quiet) (ap end_of quiet)
-            (ap (map line_of) silent) (λ was same. acked ∙ same) (λ was. ap (λ (f : LinkFact). up_after f was) quiet) sender up g.so;
-      }
+      grown_more (entry.Note note ∷ []) g (got.3 ∙ ap (λ (es : History). got.0 ++ es) got.4)
+      (still_step kind g.old_events g.added events x y (entry.Note note) (opens_none note.fact quiet) (ap end_of quiet)
+      (ap (map line_of) silent) (λ was same. acked ∙ same) (λ was. ap (λ (f : LinkFact). up_after f was) quiet) sender up g.so)
     where
       opens_none : (f : LinkFact) → f ≡ fact.Quiet → is_opening f ≡ false
       opens_none f q = ap is_opening q
@@ -86,18 +84,10 @@ module _ (moment : ℕ) (kind : LinkKind) (link link' : Option (List WorldEvent)
       let of : IsNoteOf moment y.sender.acked t.lines t.got t.found note =
       subst (λ (n : Option Note). IfSome n (λ (one : Note). IsNoteOf moment y.sender.acked t.lines t.got t.found one)) is t.some
       in
-      record {
-        old = g.old;
-        added = g.added ++ entry.Note note ∷ [];
-        was = g.was;
-        grew = got.3 ∙ ap (λ (es : History). got.0 ++ es) got.4 ∙ ap (λ (h : History). h ++ entry.Note note ∷ []) g.grew
-            ∙ append_assoc g.old g.added (entry.Note note ∷ []);
-        old_events = g.old_events;
-        was_link = g.was_link;
-        so = subst (λ (es : List WorldEvent). AreInStep kind g.old_events (g.added ++ entry.Note note ∷ []) es y) (sym by.3)
-            (noted_step moment kind x y t.got t.found (texts_in t.lines) g.old_events g.added by.0 by.1 by.4 g.so note of.its_fact (ap texts_in of.its_lines)
-            (sym of.its_acked) (λ opened. of.its_acked ∙ none_acked opened));
-      }
+      grown_more (entry.Note note ∷ []) g (got.3 ∙ ap (λ (es : History). got.0 ++ es) got.4)
+      (subst (λ (es : List WorldEvent). AreInStep kind g.old_events (g.added ++ entry.Note note ∷ []) es y) (sym by.3)
+      (noted_step moment kind x y t.got t.found (texts_in t.lines) g.old_events g.added by.0 by.1 by.4 g.so note of.its_fact (ap texts_in of.its_lines)
+      (sym of.its_acked) (λ opened. of.its_acked ∙ none_acked opened)))
 
   -- a turn without one
   pub turn_silent : (now' : Option History) → turned.note ≡ None → now' ≡ now → InStep kind before now front link x → InStep kind before now' front link' y
@@ -124,14 +114,6 @@ end_ties kind before now now' front link link' x hung adds i all now_is events t
     let got = adds all now_is in
     let grew = hung.grew events there in
     let g = i got.0 got.2 grew.0 grew.2 in
-    record {
-      old = g.old;
-      added = g.added ++ entry.Close ∷ [];
-      was = g.was;
-      grew = got.3 ∙ ap (λ (es : History). got.0 ++ es) got.4 ∙ ap (λ (h : History). h ++ entry.Close ∷ []) g.grew
-          ∙ append_assoc g.old g.added (entry.Close ∷ []);
-      old_events = g.old_events;
-      was_link = g.was_link;
-      so = subst (λ (es : List WorldEvent). AreTied kind g.old_events (g.added ++ entry.Close ∷ []) es) (sym grew.3)
-          (end_step kind g.old_events g.added grew.0 grew.1 x grew.4 g.so);
-    }
+    grown_more (entry.Close ∷ []) g (got.3 ∙ ap (λ (es : History). got.0 ++ es) got.4)
+    (subst (λ (es : List WorldEvent). AreTied kind g.old_events (g.added ++ entry.Close ∷ []) es) (sym grew.3)
+    (end_step kind g.old_events g.added grew.0 grew.1 x grew.4 g.so))

@@ -1,14 +1,15 @@
 -- A host in step with its histories is tied; entries that issue and acknowledge nothing.
 use Rattle.std.proofs.Common.{Some, None, length, ◌≡◌, ◌⊎◌, inl, inr, ℕ, zero, suc, ◌+◌, ◌<◌, ◌≤◌, Bool, false, List, [], ◌∷◌, ◌++◌, refl, sym, ◌∙◌, ap, subst, append_assoc, append-nil, arith}
 use Rattle.std.specs.List.{list_any}
-use Rattle.printer_model.specs.Executed.{is_send, opens, till}
+use Rattle.printer_model.specs.World.{is_send}
+use Rattle.link_history.specs.Executed.{opens, till}
 use Rattle.printer_model.specs.declared.event.WorldEvent.{WorldEvent}
-use Rattle.printer_model.proofs.Sessions.{opens-append}
-use Rattle.printer_link.specs.Link.{LinkKind}
+use Rattle.link_history.proofs.Sessions.{opens-append}
+use Rattle.printer_link.specs.Link.{LinkKind, world_in}
 use Rattle.send_window.specs.Data.{SenderData, IsSound}
 use Rattle.send_window.specs.declared.session_end.SessionEnd.{SessionEnd}
-use Rattle.octo_session.specs.Data.{SessionData}
-use Rattle.octo_session.specs.Turn.{texts_in}
+use Rattle.session_steps.specs.Data.{SessionData}
+use Rattle.session_steps.specs.Turn.{texts_in}
 use Rattle.octo_asks.specs.History.{History}
 use Rattle.octo_asks.specs.declared.entry.Entry.{Entry}
 use Rattle.house_history.specs.Issued.{is_opened, lines_at}
@@ -28,13 +29,24 @@ pub leaves_of : (kind : LinkKind) (front : List WorldEvent) (h : History) (past 
     Leaves kind front (sessions h) (λ s. texts_of s h) (λ s. acked_in s h) (texts_of (sessions h) h) (acked_in (sessions h) h) past x
 leaves_of kind front h past x i = record { counted = i.counted; former = i.former; current = i.current; few = i.few (sessions h) (omega arith) }
 
+-- the link is up exactly if the current session is
+pub current_open : (kind : LinkKind) (n : ℕ) (texts : List (List ℕ)) (acked : ℕ) (past : List WorldEvent) (x : SessionData) → 1 ≤ n →
+    IsCurrent kind n texts acked past x → (world_in kind past).linked ≡ x.up
+current_open kind zero texts acked past x some u = absurd (omega (arith, some))
+current_open kind (suc n) texts acked past x some c = c.0.open_as
+
 -- then they are tied
 pub tied_by : (kind : LinkKind) (front : List WorldEvent) (h : History) (past : List WorldEvent) (x : SessionData) → opens past ≡ opens front + sessions h →
     ((s : ℕ) → 1 ≤ s → s < sessions h → IsTied kind (texts_of s h) (acked_in s h) past (opens front + s)) →
     ((s : ℕ) → s ≤ sessions h → length (texts_of s h) ≤ most_in s) → IsCurrent kind (sessions h) (texts_of (sessions h) h) (acked_in (sessions h) h) past x →
-    Tied kind front h past
-tied_by kind front h past x counted former few current =
-    record { counted = counted; each = λ s some most. each s some (below_or s (sessions h) (omega (arith, most))); few = few }
+    is_open h ≡ x.up → Tied kind front h past
+tied_by kind front h past x counted former few current open_now =
+    record {
+      counted = counted;
+      each = λ s some most. each s some (below_or s (sessions h) (omega (arith, most)));
+      few = few;
+      open_as = λ some. current_open kind (sessions h) (texts_of (sessions h) h) (acked_in (sessions h) h) past x some current ∙ sym open_now;
+    }
   where
     last : (n : ℕ) (texts : List (List ℕ)) (acked : ℕ) → 1 ≤ n → opens past ≡ opens front + n → IsCurrent kind n texts acked past x →
         IsTied kind texts acked past (opens front + n)
@@ -51,7 +63,7 @@ tied_by kind front h past x counted former few current =
 
 pub tied_now : (kind : LinkKind) (front : List WorldEvent) (h : History) (past : List WorldEvent) (x : SessionData) → AreInStep kind front h past x
     → Tied kind front h past
-tied_now kind front h past x i = tied_by kind front h past x i.counted i.former i.few i.current
+tied_now kind front h past x i = tied_by kind front h past x i.counted i.former i.few i.current i.open_as
 
 -- more events, of which none is a sending if no session is open
 pub longer_throughout : (kind : LinkKind) (front : List WorldEvent) (h : History) (past added : List WorldEvent) → opens past ≡ opens front + sessions h →
@@ -92,6 +104,31 @@ entry_throughout kind front h e past tied caused all first later is = by (split 
         })
     by (within rest at behind) = all first rest at
 
+-- the sessions before the last one stay tied, if an entry more is noted
+pub earlier_tied : (kind : LinkKind) (front : List WorldEvent) (h : History) (e : Entry) (past : List WorldEvent) (s : ℕ) → s < sessions h →
+    IsTied kind (texts_of s h) (acked_in s h) past (opens front + s) →
+    IsTied kind (texts_of s (h ++ e ∷ [])) (acked_in s (h ++ e ∷ [])) past (opens front + s)
+earlier_tied kind front h e past s below tied =
+    subst (λ (l : List (List ℕ)). IsTied kind l (acked_in s (h ++ e ∷ [])) past (opens front + s)) (sym (texts-before h e (e ∷ []) s below))
+    (subst (λ (a : ℕ). IsTied kind (texts_of s h) a past (opens front + s)) (sym (acked-before h e (e ∷ []) s below)) tied)
+
+-- an entry more keeps a host in step, if its sessions are as they should be then
+pub in_step_by : (kind : LinkKind) (front : List WorldEvent) (h : History) (e : Entry) (past : List WorldEvent) (y : SessionData) →
+    opens past ≡ opens front + sessions (h ++ e ∷ []) →
+    ((s : ℕ) → 1 ≤ s → s < sessions (h ++ e ∷ []) → IsTied kind (texts_of s (h ++ e ∷ [])) (acked_in s (h ++ e ∷ [])) past (opens front + s)) →
+    ((s : ℕ) → s ≤ sessions (h ++ e ∷ []) → length (texts_of s (h ++ e ∷ [])) ≤ most_in s) →
+    IsCurrent kind (sessions (h ++ e ∷ [])) (texts_of (sessions (h ++ e ∷ [])) (h ++ e ∷ [])) (acked_in (sessions (h ++ e ∷ [])) (h ++ e ∷ [])) past y →
+    is_open (h ++ e ∷ []) ≡ y.up → ((end : SessionEnd) → end_at e ≡ Some end → IsEndCaused kind end past) → TiedThroughout kind front h past →
+    AreInStep kind front (h ++ e ∷ []) past y
+in_step_by kind front h e past y counted former few current open_now caused throughout = record {
+  counted = counted;
+  former = former;
+  few = few;
+  current = current;
+  open_as = open_now;
+  throughout = entry_throughout kind front h e past (tied_by kind front (h ++ e ∷ []) past y counted former few current open_now) caused throughout;
+}
+
 -- the session with another desk
 pub same_current : (kind : LinkKind) (n : ℕ) (texts : List (List ℕ)) (acked : ℕ) (past : List WorldEvent) (x y : SessionData) → y.sender ≡ x.sender
     → y.up ≡ x.up →
@@ -119,26 +156,16 @@ module _ (kind : LinkKind) (front : List WorldEvent) (h : History) (past : List 
       texts-last h e other ∙ ap (λ (l : List (List ℕ)). texts_of (sessions h) h ++ l) (ap texts_in silent) ∙ append-nil (texts_of (sessions h) h)
       in
       let counted : opens past ≡ opens front + sessions (h ++ e ∷ []) = omega (arith, i.counted, n) in
-      let former = λ (s : ℕ) (some : 1 ≤ s) (below : s < sessions (h ++ e ∷ [])). earlier s some (omega (arith, below, n)) i in
+      let former = λ (s : ℕ) (some : 1 ≤ s) (below : s < sessions (h ++ e ∷ [])).
+      earlier_tied kind front h e past s (omega (arith, below, n)) (i.former s some (omega (arith, below, n)))
+      in
       let few = few_other h e other i.few (subst (λ (l : List (List ℕ)). length l ≤ most_in (sessions h)) (sym texts) (i.few (sessions h) (omega arith))) in
       let current = now (sessions h) (sessions (h ++ e ∷ [])) (sym n) (texts_of (sessions h) h) (acked_in (sessions h) h) texts
       (acked-last h e other) i.current in
-      record {
-        counted = counted;
-        former = former;
-        few = few;
-        current = current;
-        open_as = open-after h e ∙ same_open (is_open h) ∙ i.open_as ∙ sym up;
-        throughout = entry_throughout kind front h e past (tied_by kind front (h ++ e ∷ []) past y counted former few current)
-            (λ end ends. absurd (let no : None ≡ Some end = sym endless ∙ ends in cc no)) i.throughout;
-      }
+      let open_now : is_open (h ++ e ∷ []) ≡ y.up = open-after h e ∙ same_open (is_open h) ∙ i.open_as ∙ sym up in
+      in_step_by kind front h e past y counted former few current open_now
+      (λ end ends. absurd (let no : None ≡ Some end = sym endless ∙ ends in cc no)) i.throughout
     where
-      earlier : (s : ℕ) → 1 ≤ s → s < sessions h → AreInStep kind front h past x →
-          IsTied kind (texts_of s (h ++ e ∷ [])) (acked_in s (h ++ e ∷ [])) past (opens front + s)
-      earlier s some below i =
-          subst (λ (l : List (List ℕ)). IsTied kind l (acked_in s (h ++ e ∷ [])) past (opens front + s)) (sym (texts-before h e (e ∷ []) s below))
-          (subst (λ (a : ℕ). IsTied kind (texts_of s h) a past (opens front + s)) (sym (acked-before h e (e ∷ []) s below)) (i.former s some below))
-
       acked_same : (n : ℕ) (texts : List (List ℕ)) (acked : ℕ) → IsCurrent kind n texts acked past x → 1 ≤ n → acked_at e acked ≡ acked
       acked_same zero texts acked c some = absurd (omega arith)
       acked_same (suc n) texts acked c some = same_acked acked c.1

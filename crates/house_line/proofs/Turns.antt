@@ -3,25 +3,25 @@ use Rattle.std.proofs.Common.{length, ◌≡◌, ◌⊎◌, inl, inr, ℕ, zero,
 use Rattle.std.specs.List.{list_any}
 use Rattle.desk_steps.specs.declared.link_fact.LinkFact.{LinkFact}
 use Rattle.desk_steps.specs.declared.link_fact.LinkFact.TheVariants as fact
-use Rattle.printer_model.specs.World.{WorldData}
-use Rattle.printer_model.specs.Executed.{is_send, opens, till}
+use Rattle.printer_model.specs.World.{WorldData, is_send}
+use Rattle.link_history.specs.Executed.{opens, till}
 use Rattle.printer_model.specs.declared.event.WorldEvent.{WorldEvent}
 use Rattle.printer_model.specs.declared.event.WorldEvent.TheVariants.{Opened, Closed}
-use Rattle.printer_model.proofs.Sessions.{opens-append, till-all}
-use Rattle.printer_model.proofs.Starts.{opens-free, runs-free}
+use Rattle.link_history.proofs.Sessions.{opens-append, till-all}
+use Rattle.link_history.proofs.Starts.{opens-free, runs-free}
 use Rattle.printer_link.specs.Link.{LinkKind, IsDial, world_in}
 use Rattle.send_window.specs.Data.{SenderData, IsSound, most_lines}
-use Rattle.octo_session.specs.Data.{SessionData, doing}
-use Rattle.octo_session.specs.Found.{Got, unasked, may_issue, can_find}
-use Rattle.octo_session.specs.Steps.{opens as makes_link, hangs_up, AreAdded, dial_steps, turn_steps}
-use Rattle.octo_session.specs.declared.found.Doing.{Doing}
-use Rattle.octo_session.specs.declared.found.Doing.TheVariants.{Dialling, HangingUp, Talking, Resting}
+use Rattle.session_steps.specs.Data.{SessionData, doing}
+use Rattle.session_steps.specs.Found.{Got, unasked, may_issue, can_find}
+use Rattle.session_steps.specs.Steps.{hangs_up, AreAdded, turn_steps}
+use Rattle.session_steps.specs.declared.found.Doing.{Doing}
+use Rattle.session_steps.specs.declared.found.Doing.TheVariants.{Dialling, HangingUp, Talking, Resting}
 use Rattle.lossy_line.specs.Issuing.{issued_in}
 use Rattle.lossy_line.specs.Linked.{IsOpened}
 use Rattle.lossy_line.specs.Tied.{IsTied}
 use Rattle.lossy_line.proofs.Turned.{IsTurned, talks_up, opens_dialling, idle_steps, down_after}
 use Rattle.lossy_line.proofs.Turning.{going_on, is_opened_fact}
-use Rattle.lossy_turns.proofs.Turns.{none_opened, made_now}
+use Rattle.lossy_turns.proofs.Turns.{none_opened, dial_of, made_now}
 use Rattle.lossy_turns.specs.History.{IsMade}
 use Rattle.house_line.specs.Sessions.{most_in}
 use Rattle.house_line.specs.InStep.{IsUnmade, IsCurrent}
@@ -148,25 +148,12 @@ module _ (moment : ℕ) (kind : LinkKind) (old new : SessionData) (got : Got) (f
             (subst O (issued_other found issued (texts (suc n)) other) (going_on moment kind old new got found issued (texts (suc n)) past added other t o));
       }
 
-  -- the step of a turn that makes a link
-  pub dial_of : (past added : List WorldEvent) → found ≡ fact.Opened → IsTurned moment kind old new got found issued (world_in kind past) added →
-      IsDial (world_in kind past) added
-  dial_of past added is t =
-      let F : LinkFact → Type 0 = λ f. can_find (doing old) f ≡ true in
-      let dials : doing old ≡ Dialling = opens_dialling (doing old) (subst F is t.can) in
-      let S : Doing → Type 0 = λ d. AreAdded moment kind.prompt (turn_steps d old.up got found issued t.count) old.sender (world_in kind past) added in
-      let T : LinkFact → Type 0 = λ f. AreAdded moment kind.prompt (dial_steps f) old.sender (world_in kind past) added in
-      let step : AreAdded moment kind.prompt (makes_link ∷ []) old.sender (world_in kind past) added = subst T is (subst S dials t.steps) in
-      let same : step.0 ≡ added = sym (append-nil step.0) ∙ ap (λ (es : List WorldEvent). step.0 ++ es) (sym step.4) ∙ sym step.2 in
-      let D : List WorldEvent → Type 0 = λ es. IsDial (world_in kind past) es in
-      subst D same step.3.0.0
-
   -- a turn that makes a link
   pub turn_opens : (front past added : List WorldEvent) (n : ℕ) (texts : ℕ → List (List ℕ)) (acked : ℕ → ℕ) (last_acked : ℕ) → found ≡ fact.Opened →
       IsTurned moment kind old new got found issued (world_in kind past) added → new.sender.acked ≡ last_acked →
       Leaves kind front n texts acked (texts n) (acked n) past old → Leaves kind front (suc n) texts acked [] last_acked (past ++ added) new
   turn_opens front past added n texts acked last_acked is t same l =
-      let dial : IsDial (world_in kind past) added = dial_of past added is t in
+      let dial : IsDial (world_in kind past) added = dial_of moment kind old new got found issued past added is t in
       let made : IsMade kind [] new past added =
       made_now moment kind old new got found issued past added is (sound_at n (texts n) (acked n) past old l.current) (dials is t) t in
       record {
@@ -209,7 +196,7 @@ module _ (moment : ℕ) (kind : LinkKind) (old new : SessionData) (got : Got) (f
     where
       by : (found ≡ fact.Opened) ⊎ (found ≡ fact.Opened → ⊥) → list_any is_send (till 0 added) ≡ false
       by (inl is) =
-          let dial : IsDial (world_in kind past) added = dial_of past added is t in
+          let dial : IsDial (world_in kind past) added = dial_of moment kind old new got found issued past added is t in
           let free = runs-free dial.runs dial.only_runs in
           let here : till 0 (dial.runs ++ Opened dial.last ∷ []) ≡ dial.runs =
           till-none dial.runs (Opened dial.last ∷ []) (opens-free dial.runs free) ∙ append-nil dial.runs in

@@ -5,7 +5,7 @@ use Rattle.desk_steps.specs.declared.link_fact.LinkFact.{LinkFact}
 use Rattle.desk_steps.specs.declared.link_fact.LinkFact.TheVariants as fact
 use Rattle.send_window.specs.Data.{most_lines}
 use Rattle.send_window.specs.declared.session_end.SessionEnd.{SessionEnd}
-use Rattle.octo_session.specs.Turn.{texts_in}
+use Rattle.session_steps.specs.Turn.{texts_in}
 use Rattle.octo_asks.specs.History.{History}
 use Rattle.octo_asks.specs.declared.entry.Entry.{Entry}
 use Rattle.octo_asks.specs.declared.entry.Entry.TheVariants as entry

@@ -3,10 +3,11 @@ use Rattle.std.specs.Prelude.{◌≡◌, ◌⊎◌, ℕ, ◌+◌, ◌≤◌, tru
 use Rattle.std.specs.List.{list_any}
 use Rattle.marlin_frame.specs.Frame.{fails}
 use Rattle.marlin_frame.specs.Numbering.{hello_frame}
-use Rattle.printer_model.specs.Executed.{is_send, opens, till}
+use Rattle.printer_model.specs.World.{is_send}
+use Rattle.link_history.specs.Executed.{opens, till}
 use Rattle.printer_model.specs.declared.event.WorldEvent.{WorldEvent}
 use Rattle.printer_model.specs.declared.event.WorldEvent.TheVariants.{Send}
-use Rattle.printer_link.specs.Link.{LinkKind}
+use Rattle.printer_link.specs.Link.{LinkKind, world_in}
 use Rattle.send_window.specs.declared.session_end.SessionEnd.{SessionEnd}
 use Rattle.octo_asks.specs.History.{History}
 use Rattle.lossy_wires.specs.Traces.{IsLineAbove}
@@ -15,8 +16,8 @@ use Rattle.house_line.specs.Sessions.{sessions, texts_of, most_in, acked_in, is_
 
 -- Session by session a history is tied to what happened on its link since an earlier history of the link: what the printer
 -- executed are the first of the lines that the history says were issued, in order and each once; the acknowledged lines
--- are counted over the received replies, and all of them were executed; and each line that was sent is the hello or an
--- issued line above those acknowledged.
+-- are counted over the received replies, and all of them were executed; each line that was sent is the hello or an issued
+-- line above those acknowledged; and the link is up exactly if the history says that a session is open.
 pub record Tied (kind : LinkKind) (front : List WorldEvent) (history : History) (past : List WorldEvent) : Type 0 where
   -- the link was made once for each session
   pub counted : opens past ≡ opens front + sessions history
@@ -24,6 +25,8 @@ pub record Tied (kind : LinkKind) (front : List WorldEvent) (history : History) 
       → IsTied kind (texts_of session history) (acked_in session history) past (opens front + session)
   -- a session issues at most as many lines as it has numbers for, and none is issued before the first
   pub few : (session : ℕ) → session ≤ sessions history → length (texts_of session history) ≤ most_in session
+  -- once a link was made, it is up exactly if a session is open: after the note of an end it is down
+  pub open_as : 1 ≤ sessions history → (world_in kind past).linked ≡ is_open history
 
 -- the two were tied when the history had come so far
 pub record WasTied (kind : LinkKind) (front : List WorldEvent) (history : History) (past : List WorldEvent) : Type 0 where

@@ -34,6 +34,28 @@ module _ (scripts : ScriptTexts) (p : ℕ) (positive : nat_eq 0 p ≡ false) whe
   with_drawn None lines rest = ap (λ (l : List Line). l ++ rest) (sym (append-nil lines))
   with_drawn (Some line) lines rest = sym (append_assoc lines (line ∷ []) rest)
 
+  -- what the first of some calls pulls, and that there is room for it
+  record Draws (call : DeskCall) (calls : List DeskCall) (run : Run) (lines : List Line) : Type 0 where
+    desk : (after call run).desk ≡ desk_after call run.desk
+    whole : lines ++ lines_pulled (call ∷ calls) run.desk ≡ (lines ++ drawn_lines (line_pulled call run.desk)) ++ lines_pulled calls (after call run).desk
+    short : length (lines ++ drawn_lines (line_pulled call run.desk)) ≤ 18446744073709551615
+    few : length ((lines ++ drawn_lines (line_pulled call run.desk)) ++ lines_pulled calls (after call run).desk) ≤ 18446744073709551615
+
+  draws_first : (call : DeskCall) (calls : List DeskCall) (run : Run) (lines : List Line) →
+      length (lines ++ lines_pulled (call ∷ calls) run.desk) ≤ 18446744073709551615 → Draws call calls run lines
+  draws_first call calls run lines few =
+      let desk : (after call run).desk ≡ desk_after call run.desk = desk_call call run in
+      let drawn : List Line = lines ++ drawn_lines (line_pulled call run.desk) in
+      let rest : List Line = lines_pulled calls (desk_after call run.desk) in
+      let whole : lines ++ lines_pulled (call ∷ calls) run.desk ≡ drawn ++ rest = with_drawn (line_pulled call run.desk) lines rest in
+      let same : lines_pulled calls (after call run).desk ≡ rest = ap (λ (d : Data). lines_pulled calls d) desk in
+      record {
+        desk = desk;
+        whole = whole ∙ sym (ap (λ (x : List Line). drawn ++ x) same);
+        short = omega (arith, few, ap length whole, length-append drawn rest);
+        few = omega (arith, few, ap length whole, ap (λ (x : List Line). length (drawn ++ x)) same);
+      }
+
   -- what calls leave
   pub record Leads (run : Run) (lines : List Line) (is_open : Bool) : Type 0 where
     pub held : Held scripts p positive run lines
@@ -45,24 +67,17 @@ module _ (scripts : ScriptTexts) (p : ℕ) (positive : nat_eq 0 p ≡ false) whe
   leads_calls [] run lines is_open may plain few l = subst (λ (x : List Line). Leads run x is_open) (sym (append-nil lines)) l
   leads_calls (call ∷ calls) run lines is_open may plain few l =
       let next : Run = after call run in
-      let desk : next.desk ≡ desk_after call run.desk = desk_call call run in
       let drawn : List Line = lines ++ drawn_lines (line_pulled call run.desk) in
-      let rest : List Line = lines_pulled calls (desk_after call run.desk) in
-      let whole : lines ++ lines_pulled (call ∷ calls) run.desk ≡ drawn ++ rest = with_drawn (line_pulled call run.desk) lines rest in
-      let same : lines_pulled calls next.desk ≡ rest = ap (λ (d : Data). lines_pulled calls d) desk in
-      let short : length drawn ≤ 18446744073709551615 = omega (arith, few, ap length whole, length-append drawn rest) in
+      let draws : Draws call calls run lines = draws_first call calls run lines few in
       let first : Leads next drawn (open_by call is_open) =
       record {
-        held = held_call scripts p positive call run lines may.0 plain.0 short l.held;
+        held = held_call scripts p positive call run lines may.0 plain.0 draws.short l.held;
         status =
             status_call scripts p positive call run lines is_open plain.0 l.held l.status;
       }
       in
-      let last = leads_calls calls next drawn (open_by call is_open) may.1 (subst (λ (d : Data). ArePlain calls d) (sym desk) plain.1)
-      (omega (arith, few, ap length whole, ap (λ (x : List Line). length (drawn ++ x)) same)) first
-      in
-      subst (λ (x : List Line). Leads (run_of calls next) x (open_by_all calls (open_by call is_open)))
-      (ap (λ (x : List Line). drawn ++ x) same ∙ sym whole) last
+      let last = leads_calls calls next drawn (open_by call is_open) may.1 (subst (λ (d : Data). ArePlain calls d) (sym draws.desk) plain.1) draws.few first in
+      subst (λ (x : List Line). Leads (run_of calls next) x (open_by_all calls (open_by call is_open))) (sym draws.whole) last
 
   -- calls after the print's end: none of its lines is pulled
   pub record Passes (f : Fate) (calls : List DeskCall) (run : Run) (lines : List Line) : Type 0 where
@@ -81,24 +96,20 @@ module _ (scripts : ScriptTexts) (p : ℕ) (positive : nat_eq 0 p ≡ false) whe
       record { held = subst (λ (x : List Line). Held scripts p positive run x) (sym (append-nil lines)) h; ends = is; none = refl }
   passes_calls f (call ∷ calls) run lines may plain few h is =
       let next : Run = after call run in
-      let desk : next.desk ≡ desk_after call run.desk = desk_call call run in
       let drawn : List Line = lines ++ drawn_lines (line_pulled call run.desk) in
       let rest : List Line = lines_pulled calls (desk_after call run.desk) in
-      let whole : lines ++ lines_pulled (call ∷ calls) run.desk ≡ drawn ++ rest = with_drawn (line_pulled call run.desk) lines rest in
-      let same : lines_pulled calls next.desk ≡ rest = ap (λ (d : Data). lines_pulled calls d) desk in
-      let short : length drawn ≤ 18446744073709551615 = omega (arith, few, ap length whole, length-append drawn rest) in
+      let draws : Draws call calls run lines = draws_first call calls run lines few in
       let foreign : ForeignTo p run.desk = ended_foreign scripts p positive run f is h.known in
-      let last = passes_calls f calls next drawn may.1 (subst (λ (d : Data). ArePlain calls d) (sym desk) plain.1)
-      (omega (arith, few, ap length whole, ap (λ (x : List Line). length (drawn ++ x)) same))
-      (held_call scripts p positive call run lines may.0 plain.0 short h)
+      let last = passes_calls f calls next drawn may.1 (subst (λ (d : Data). ArePlain calls d) (sym draws.desk) plain.1) draws.few
+      (held_call scripts p positive call run lines may.0 plain.0 draws.short h)
       (ends_foreign scripts p positive call run foreign ∙ is)
       in
       record {
-        held = subst (λ (x : List Line). Held scripts p positive (run_of calls next) x) (ap (λ (x : List Line). drawn ++ x) same ∙ sym whole) last.held;
+        held = subst (λ (x : List Line). Held scripts p positive (run_of calls next) x) (sym draws.whole) last.held;
         ends = last.ends;
         none = ap (λ (x : List Line). lines_of p x) (drawn_first (line_pulled call run.desk) rest)
             ∙ none_both p (drawn_lines (line_pulled call run.desk)) rest (none_pulled scripts p positive call run.desk foreign)
-            (ap (λ (x : List Line). lines_of p x) (sym same) ∙ last.none);
+            (ap (λ (d : Data). lines_of p (lines_pulled calls d)) (sym draws.desk) ∙ last.none);
       }
 
   pub acked_calls : (calls : List DeskCall) (d : Data) → ArePlain calls d → d.acked ≤ (desk_after_all calls d).acked

@@ -81,13 +81,17 @@ module _ (p : ℕ) (h : History) (e : Entry) where
       alone k off (here same) = absurd (off same)
       alone k off (later above) = ap (λ (x : List Line). lines_of p x) (issued-beyond k (h ++ e ∷ []) (omega (arith, above, sessions-other h e other)))
 
+  -- a print of which no session gets a line more lives where it lived
+  lives_kept : (home : ℕ) → lines_of p (lines_at e) ≡ [] → ((k : ℕ) → lines_of p (issued_of k (h ++ e ∷ [])) ≡ lines_of p (issued_of k h)) →
+      LivesIn p h home → LivesIn p (h ++ e ∷ []) home
+  lives_kept home none kept l = record {
+    alone = λ k off. kept k ∙ l.alone k off;
+    all = lines_whole ∙ ap (λ (x : List Line). lines_of p (issued_in h) ++ x) none ∙ append-nil (lines_of p (issued_in h)) ∙ l.all ∙ sym (kept home);
+  }
+
   -- a print that has ended lives where it lived
   pub lives_past : is_opened e ≡ false → (home : ℕ) → home ≤ sessions h → lines_of p (lines_at e) ≡ [] → LivesIn p h home → LivesIn p (h ++ e ∷ []) home
-  lives_past other home within none l = record {
-    alone = λ k off. kept k (place k (sessions h)) ∙ l.alone k off;
-    all = lines_whole ∙ ap (λ (x : List Line). lines_of p (issued_in h) ++ x) none ∙ append-nil (lines_of p (issued_in h)) ∙ l.all
-        ∙ sym (kept home (place home (sessions h)));
-  }
+  lives_past other home within none l = lives_kept home none (λ k. kept k (place k (sessions h))) l
     where
       kept : (k : ℕ) → Place k (sessions h) → lines_of p (issued_of k (h ++ e ∷ [])) ≡ lines_of p (issued_of k h)
       kept k (earlier below) = ap (λ (x : List Line). lines_of p x) (issued-before h e (e ∷ []) k below)
@@ -101,11 +105,7 @@ module _ (p : ℕ) (h : History) (e : Entry) where
 
   -- the same if a session is opened
   pub lives_opened : is_opened e ≡ true → (home : ℕ) → lines_of p (lines_at e) ≡ [] → LivesIn p h home → LivesIn p (h ++ e ∷ []) home
-  lives_opened opens home none l = record {
-    alone = λ k off. kept k (place k (sessions h)) ∙ l.alone k off;
-    all = lines_whole ∙ ap (λ (x : List Line). lines_of p (issued_in h) ++ x) none ∙ append-nil (lines_of p (issued_in h)) ∙ l.all
-        ∙ sym (kept home (place home (sessions h)));
-  }
+  lives_opened opens home none l = lives_kept home none (λ k. kept k (place k (sessions h))) l
     where
       kept : (k : ℕ) → Place k (sessions h) → lines_of p (issued_of k (h ++ e ∷ [])) ≡ lines_of p (issued_of k h)
       kept k (earlier below) = ap (λ (x : List Line). lines_of p x) (issued-before h e (e ∷ []) k below)

@@ -5,7 +5,7 @@ use Rattle.std.proofs.lemmas.List.Elements.{All-nil, All-cons, All-weaker}
 use Rattle.desk_steps.specs.Data.{ScriptTexts, Line}
 use Rattle.desk_steps.specs.Run.{Fate, Finished, lines_of, of_print}
 use Rattle.desk_steps.specs.Story.{Story, never, going, finished, stopped, left, unplugged, broken}
-use Rattle.printer_model.specs.Executed.{opens}
+use Rattle.link_history.specs.Executed.{opens}
 use Rattle.printer_model.specs.declared.event.WorldEvent.{WorldEvent}
 use Rattle.printer_link.specs.Link.{LinkKind}
 use Rattle.octo_keeper.specs.Tables.{AreNumbered}

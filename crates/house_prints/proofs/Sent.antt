@@ -6,8 +6,9 @@ use Rattle.marlin_frame.specs.Frame.{frame_of}
 use Rattle.marlin_frame.specs.Numbering.{wire_number}
 use Rattle.desk_steps.specs.Data.{ScriptTexts, Line}
 use Rattle.desk_steps.specs.Run.{Fate, Finished, Stopped, Left, Unplugged, Broken, is_of, lines_of, of_print}
-use Rattle.octo_session.specs.Turn.{texts_in}
-use Rattle.printer_model.specs.Executed.{is_send, till}
+use Rattle.session_steps.specs.Turn.{texts_in}
+use Rattle.printer_model.specs.World.{is_send}
+use Rattle.link_history.specs.Executed.{till}
 use Rattle.printer_model.specs.declared.event.WorldEvent.{WorldEvent}
 use Rattle.printer_model.specs.declared.event.WorldEvent.TheVariants.{Opened, Send, Arrive, Lose, Garble, Run, Restart, Chatter, Recv, Closed}
 use Rattle.printer_link.specs.Link.{LinkKind}
@@ -133,6 +134,9 @@ ended_of : (p : ℕ) (h : History) (fates : List Fate) (f : Fate) → fates ≡ 
 ended_of p h fates f is (inl u) = absurd (let no : f ∷ [] ≡ [] = sym is ∙ u.no_fate in cc no)
 ended_of p h fates f is (inr o) = o
 
+same_fate : (f g : Fate) → f ∷ [] ≡ g ∷ [] → f ≡ g
+same_fate f g is = cc
+
 pub sent_no_more : (kind : LinkKind) (front : List WorldEvent) (s : Standing) (h : History) (past : List WorldEvent) → IsRun kind front s h past →
     EachEndedIsSentNoMore kind front s h past
 sent_no_more kind front s h past run first more split p some fate ends =
@@ -153,6 +157,8 @@ sent_no_more kind front s h past run first more split p some fate ends =
       at = record { is = w.is; tied = w.tied };
       home = o.home;
       lives = subst (λ (x : History). LivesIn p x o.home) (sym split) stays.0;
+      leaves = subst (λ (f : Fate). LeavesSo p f o.home first) (same_fate o.fate fate (sym o.is ∙ ends)) o.leaves;
+      down = λ some closed. w.tied.open_as (omega (arith, some, o.within)) ∙ closed;
       none = subst (λ (x : History). (o.home < sessions first) ⊎ AreSentOther p (issued_of o.home x) (till 0 w.since)) (sym split)
           (by w tied o.home (place o.home (sessions first)) o.within so stays.1);
     }

@@ -2,7 +2,7 @@
 use Rattle.std.specs.Prelude.{ℕ, suc, ◌+◌, List, [], ◌∷◌, length, take}
 use Rattle.desk_steps.specs.Course.{job_line}
 use Rattle.desk_steps.specs.Data.{Line}
-use Rattle.printer_model.specs.Executed.{opens, executed}
+use Rattle.link_history.specs.Executed.{opens, executed}
 use Rattle.printer_model.specs.declared.event.WorldEvent.{WorldEvent}
 use Rattle.printer_link.specs.Link.{LinkKind}
 use Rattle.octo_asks.specs.History.{History}

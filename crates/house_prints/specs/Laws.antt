@@ -1,14 +1,14 @@
 -- What holds of the prints of a host over a lossy line.
-use Rattle.std.specs.Prelude.{◌≡◌, ◌⊎◌, ℕ, ◌+◌, ◌<◌, true, false, List, [], ◌∷◌, ◌++◌, length, take, slice_get, Some, All}
+use Rattle.std.specs.Prelude.{◌≡◌, ◌⊎◌, ℕ, ◌+◌, ◌<◌, ◌≤◌, true, false, List, [], ◌∷◌, ◌++◌, length, take, slice_get, Some, All}
 use Rattle.desk_steps.specs.Course.{Done, Course}
 use Rattle.desk_steps.specs.Data.{ScriptTexts, Data, Line, new_desk}
 use Rattle.desk_steps.specs.Run.{Fate, Finished, is_of, lines_of, of_print}
 use Rattle.marlin_frame.specs.Frame.{frame_of, fails}
 use Rattle.marlin_frame.specs.Numbering.{wire_number, hello_frame}
-use Rattle.printer_model.specs.Executed.{till}
+use Rattle.link_history.specs.Executed.{till}
 use Rattle.printer_model.specs.declared.event.WorldEvent.{WorldEvent}
 use Rattle.printer_model.specs.declared.event.WorldEvent.TheVariants.{Send}
-use Rattle.printer_link.specs.Link.{LinkKind}
+use Rattle.printer_link.specs.Link.{LinkKind, world_in}
 use Rattle.octo_keeper.specs.Tables.{AreNumbered}
 use Rattle.octo_asks.specs.History.{History}
 use Rattle.octo_asks.specs.declared.answer.Answer.TheVariants as answer
@@ -24,10 +24,10 @@ use Rattle.house_history.specs.Legal.{Standing, Legal, after_all}
 use Rattle.house_history.specs.Scripts.{run_in}
 use Rattle.lossy_line.specs.Tied.{IsEndCaused}
 use Rattle.send_window.specs.declared.session_end.SessionEnd.{SessionEnd}
-use Rattle.house_line.specs.Sessions.{sessions, acked_in, last_end}
+use Rattle.house_line.specs.Sessions.{sessions, acked_in, is_open, last_end}
 use Rattle.house_line.specs.Tied.{Tied, AreTied}
 use Rattle.house_prints.specs.Jobs.{jobs_from, lines_executed, jobs_executed}
-use Rattle.house_prints.specs.Prints.{LivesIn}
+use Rattle.house_prints.specs.Prints.{LivesIn, LeavesSo}
 
 -- a desk at which nothing was done yet
 abbrev pub IsNewDesk : Data → Type 0
@@ -139,21 +139,26 @@ abbrev pub AreSentOther : ℕ → List Line → List WorldEvent → Type 0
 AreSentOther print lines [] = Unit {0}
 AreSentOther print lines (event ∷ events) = IsSentOther print lines event × AreSentOther print lines events
 
--- no line of a print was sent since the history had come so far: all its lines belong to a session that was over, or in which
--- only others were sent
-pub record IsSentNoMore (kind : LinkKind) (front past : List WorldEvent) (print : ℕ) (first history : History) : Type 0 where
+-- no line of a print that ended so was sent since the history had come so far: all its lines belong to a session that was over,
+-- or in which only others were sent
+pub record IsSentNoMore (kind : LinkKind) (front past : List WorldEvent) (print : ℕ) (fate : Fate) (first history : History)
+    : Type 0 where
   pub so_far : List WorldEvent
   pub since : List WorldEvent
   pub at : IsThen kind front first past so_far since
   pub home : ℕ
   pub lives : LivesIn print history home
+  -- all its lines were acknowledged; or, after a failure or a disconnect, its session was closed
+  pub leaves : LeavesSo print fate home first
+  -- and the link was down, if it was closed
+  pub down : 1 ≤ home → is_open first ≡ false → (world_in kind so_far).linked ≡ false
   pub none : (home < sessions first) ⊎ AreSentOther print (issued_of home history) (till 0 since)
 
 -- after each entry so it is of each print that had ended then
 abbrev pub EachEndedIsSentNoMore : LinkKind → (front : List WorldEvent) → Standing → History → (past : List WorldEvent) → Type 0
 EachEndedIsSentNoMore kind front s history past =
     (first later : History) → history ≡ first ++ later → (print : ℕ) → 0 < print
-    → (fate : Fate) → of_print print (run_in first s).ends ≡ fate ∷ [] → IsSentNoMore kind front past print first history
+    → (fate : Fate) → of_print print (run_in first s).ends ≡ fate ∷ [] → IsSentNoMore kind front past print fate first history
 
 -- a session that ended so did it with a cause that the link's history showed then: never for a Resend that asks for a line
 -- acknowledged or not issued, nor for an `ok` of another line; as restarted only after a restart of the printer in that session;

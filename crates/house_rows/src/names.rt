@@ -1,5 +1,5 @@
 //! Names of files and ports.
-ghost use Rattle.std.specs.Prelude.{◌≡◌, ◌<◌, ◌≤◌, length, map, insert, vec_len, Some, None, IfOk, IsOk, OnOk};
+ghost use Rattle.std.specs.Prelude.{◌≡◌, ◌<◌, ◌≤◌, length, map, insert, vec_len, Some, None, IfOk, IsOk, OnOk, OnErr};
 ghost use Rattle.std.specs.Vec.{vec_capacity};
 ghost use Rattle.std.specs.List.{list_any, prefix_len};
 ghost use Rattle.std.specs.Str.{bytes_eq};
@@ -72,6 +72,7 @@ fn insert_name(names: &mut Vec<Name>, name: &Name) -> Result<(), AllocError>
     ensures ok { OnOk result (names.new.items
         ≡ insert names.old.items
         (prefix_len (λ n. is_before n name.now) names.old.items) name.now) }
+    ensures err { OnErr result (names.new.items ≡ names.old.items) }
     ensures room { vec_len names.old < vec_capacity names.old → IsOk result }
 {
     let place = place_for(names, name);

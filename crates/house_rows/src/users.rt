@@ -1,5 +1,5 @@
 //! Users as requests name them.
-ghost use Rattle.std.specs.Prelude.{◌≡◌, ◌≤◌, [], length, option_map, unwrap_or};
+ghost use Rattle.std.specs.Prelude.{◌≡◌, ◌≤◌, true, [], length, replicate, option_map, unwrap_or};
 ghost use Rattle.std.specs.List.{position_or_len};
 ghost use Rattle.octo_access.specs.Rows.{held, is_named};
 ghost use Rattle.sha2.specs.Sha256.{sha256};
@@ -94,7 +94,9 @@ pub fn user_named(rows: &[UserRow], name: &Name) -> Option<UserRow>
 /// A user of that name in no group, for a request that names nobody; the key is of no text.
 pub fn nobody(name: &Name) -> UserRow
     ensures name { result.name ≡ name.now }
+    ensures digest { result.digest ≡ replicate 32 0 }
     ensures groups { result.groups.items ≡ [] }
+    ensures active { result.active ≡ true }
 {
     UserRow {
         name: name.copy(),

@@ -6,7 +6,7 @@ use Rattle.octo_asks.specs.History.{History}
 use Rattle.octo_asks.specs.declared.answer.Answer.{Answer}
 use Rattle.octo_asks.specs.declared.entry.Entry.TheVariants as entry
 use Rattle.octo_asks.specs.declared.request.Ask.{Ask}
-use Rattle.octo_session.specs.Data.{SessionData}
+use Rattle.session_steps.specs.Data.{SessionData}
 use Rattle.house_verdicts.specs.Answers.{verdict}
 use Rattle.house_verdicts.specs.Known.{Known}
 use Rattle.house_verdicts.specs.Verdict.{IsDone, files_after}

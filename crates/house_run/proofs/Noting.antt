@@ -16,11 +16,11 @@ use Rattle.desk_steps.specs.declared.link_fact.LinkFact.TheVariants as fact
 use Rattle.octo_asks.specs.History.{History}
 use Rattle.octo_asks.specs.declared.entry.Entry.{Entry}
 use Rattle.octo_asks.specs.declared.entry.Entry.TheVariants as entry
-use Rattle.octo_session.specs.Data.{SessionData, IsSession, doing}
-use Rattle.octo_session.specs.DeskTurn.{IsQuietTurn}
-use Rattle.octo_session.specs.Found.{can_find, up_after, ready_after}
-use Rattle.octo_session.specs.Turn.{IsTurn, IsNoteOn, IsSpent, fact_of}
-use Rattle.octo_session.specs.declared.found.Turned.{Turned}
+use Rattle.session_steps.specs.Data.{SessionData, IsSession, doing}
+use Rattle.session_steps.specs.DeskTurn.{IsQuietTurn}
+use Rattle.session_steps.specs.Found.{can_find, up_after, ready_after}
+use Rattle.session_steps.specs.Turn.{IsTurn, IsNoteOn, IsSpent, fact_of}
+use Rattle.session_steps.specs.declared.found.Turned.{Turned}
 use Rattle.house_verdicts.specs.Known.{Known}
 use Rattle.house_history.specs.Legal.{Standing}
 use Rattle.house_history.specs.Noted.{known_after_note}

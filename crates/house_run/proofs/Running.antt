@@ -20,7 +20,7 @@ use Rattle.octo_house.specs.State.{known_of, session_of}
 use Rattle.octo_house.specs.Turned.{Turns}
 use Rattle.house_run.specs.declared.tally.Asked.{Asked}
 use Rattle.house_run.specs.declared.tally.Tally.{Tally}
-use Rattle.house_run.specs.Runs.{stands, begins, ended, IsFresh, IsOver}
+use Rattle.house_run.specs.Runs.{stands, begins, ended, Leads, IsFresh, IsOver}
 use Rattle.house_run.specs.Tallies.{counted, tally_of, AreOf, tally_after, is_over}
 use Rattle.house_run.proofs.Noting.{Knows}
 use Rattle.house_run.proofs.Tallying.{tally_grows, tally_over}
@@ -44,6 +44,14 @@ begin_walks house past files fresh =
       moment_is = omega arith;
       closed_is = refl;
     }))
+
+-- a round: asks are answered, and then a turn is taken
+pub walks_round : (first before mid after : Option History) (start was held : Option (List ShelfFile)) (host old asked new : House) (at moment : ℕ)
+    → at ≤ moment → Walks first before start was (begins host) (stands old at) → Leads before mid was held moment old asked
+    → Walks mid after held held (stands asked moment) (stands new moment) → Walks first after start held (begins host) (stands new moment)
+walks_round first before mid after start was held host old asked new at moment below led answers turns =
+    walks_then first mid after start held held (begins host) (stands asked moment) (stands new moment)
+    (walks_then first before mid start was held (begins host) (stands old at) (stands asked moment) led (answers at below)) turns
 
 -- the end
 pub end_walks : (house : House) (past past' : Option History) (files : Option (List ShelfFile)) (moment : ℕ) → Adds past past' (entry.Close ∷ [])

@@ -7,10 +7,10 @@ use Rattle.desk_steps.specs.declared.issued.Note.{Note}
 use Rattle.desk_steps.specs.declared.state.State.{State}
 use Rattle.octo_asks.specs.History.{History}
 use Rattle.octo_asks.specs.declared.entry.Entry.TheVariants as entry
-use Rattle.octo_session.specs.Data.{SessionData}
-use Rattle.octo_session.specs.Found.{temps_in}
-use Rattle.octo_session.specs.Turn.{IsTurn, IsNoteOf, fact_of}
-use Rattle.octo_session.specs.declared.found.Turned.{Turned}
+use Rattle.session_steps.specs.Data.{SessionData}
+use Rattle.session_steps.specs.Found.{temps_in}
+use Rattle.session_steps.specs.Turn.{IsTurn, IsNoteOf, fact_of}
+use Rattle.session_steps.specs.declared.found.Turned.{Turned}
 use Rattle.printer_link.specs.Link.{LinkKind}
 use Rattle.printer_model.specs.declared.event.WorldEvent.{WorldEvent}
 use Rattle.house_counts.specs.Rounds.{TurnsAt, noted}

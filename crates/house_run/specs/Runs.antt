@@ -6,7 +6,7 @@ use Rattle.octo_asks.specs.History.{History}
 use Rattle.printer_model.specs.declared.event.WorldEvent.{WorldEvent}
 use Rattle.printer_link.specs.Link.{LinkKind}
 use Rattle.send_window.specs.Data.{IsSound}
-use Rattle.octo_session.specs.Data.{SessionData}
+use Rattle.session_steps.specs.Data.{SessionData}
 use Rattle.house_history.specs.Legal.{Standing, beginning}
 use Rattle.house_walks.specs.Stands.{StandsAt}
 use Rattle.house_walks.specs.Walks.{Walks}

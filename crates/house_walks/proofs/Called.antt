@@ -5,7 +5,7 @@ use Rattle.octo_asks.specs.declared.answer.Answer.{Answer}
 use Rattle.octo_asks.specs.declared.answer.Answer.TheVariants as answer
 use Rattle.octo_asks.specs.declared.entry.Entry.TheVariants as entry
 use Rattle.octo_asks.specs.declared.request.Ask.{Ask}
-use Rattle.octo_session.specs.Data.{SessionData}
+use Rattle.session_steps.specs.Data.{SessionData}
 use Rattle.send_window.specs.Data.{SenderData, IsSound}
 use Rattle.lossy_turns.specs.Patience.{IsPatient}
 use Rattle.house_verdicts.specs.Known.{Known}

@@ -9,11 +9,11 @@ use Rattle.desk_steps.specs.Table.{is_closable_at}
 use Rattle.desk_steps.specs.declared.state.State.{State}
 use Rattle.desk_steps.specs.declared.state.State.TheVariants.{Offline, Connecting, Operational, Printing, Pausing, Paused, Cancelling, Finishing, Closing, Fault}
 use Rattle.send_window.specs.declared.session_end.SessionEnd.{SessionEnd}
-use Rattle.octo_session.specs.Data.{SessionData, doing, is_connecting}
-use Rattle.octo_session.specs.Found.{can_find}
-use Rattle.octo_session.specs.declared.found.Doing.{Doing}
-use Rattle.octo_session.specs.declared.found.Doing.TheVariants.{Dialling, HangingUp, Talking, Resting}
-use Rattle.octo_session.proofs.Doing.{dials_at, hangs_up_at}
+use Rattle.session_steps.specs.Data.{SessionData, doing, is_connecting}
+use Rattle.session_steps.specs.Found.{can_find}
+use Rattle.session_steps.specs.declared.found.Doing.{Doing}
+use Rattle.session_steps.specs.declared.found.Doing.TheVariants.{Dialling, HangingUp, Talking, Resting}
+use Rattle.session_steps.proofs.Choosing.{dials_at, hangs_up_at}
 use Rattle.lossy_line.proofs.Turned.{talks_up, dials_down}
 use Rattle.house_verdicts.specs.Known.{Known}
 use Rattle.house_history.specs.Legal.{Standing, IsDialling, MayEnd, MayFind}

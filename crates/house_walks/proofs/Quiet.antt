@@ -15,12 +15,12 @@ use Rattle.desk_steps.specs.Run.{Pull, Note}
 use Rattle.send_window.specs.Data.{IsSound}
 use Rattle.send_window.specs.declared.session_end.SessionEnd.{SessionEnd}
 use Rattle.octo_asks.specs.declared.entry.Entry.TheVariants as entry
-use Rattle.octo_session.specs.Data.{SessionData, IsSession, doing}
-use Rattle.octo_session.specs.DeskTurn.{IsQuietTurn, IsNoted}
-use Rattle.octo_session.specs.Found as found
-use Rattle.octo_session.specs.Turn.{IsSpent as SessionSpent}
-use Rattle.octo_session.specs.declared.found.Doing.{Doing}
-use Rattle.octo_session.specs.declared.found.Doing.TheVariants.{Dialling, HangingUp, Talking, Resting}
+use Rattle.session_steps.specs.Data.{SessionData, IsSession, doing}
+use Rattle.session_steps.specs.DeskTurn.{IsQuietTurn, IsNoted}
+use Rattle.session_steps.specs.Found as found
+use Rattle.session_steps.specs.Turn.{IsSpent as SessionSpent}
+use Rattle.session_steps.specs.declared.found.Doing.{Doing}
+use Rattle.session_steps.specs.declared.found.Doing.TheVariants.{Dialling, HangingUp, Talking, Resting}
 use Rattle.lossy_turns.specs.Patience.{IsPatient}
 use Rattle.house_verdicts.specs.Known.{Known}
 use Rattle.house_history.specs.Legal.{Standing, IsLegal, after_entry}

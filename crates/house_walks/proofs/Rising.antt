@@ -7,8 +7,8 @@ use Rattle.send_window.specs.Data.{SenderData}
 use Rattle.send_window.specs.Hearing.{hear_step, tick_step}
 use Rattle.send_window.specs.Sending.{frame_step}
 use Rattle.send_window.proofs.Waiting.{waits_five_limits}
-use Rattle.octo_session.specs.Steps.{Step, opens, finds_no_port, fails_to_dial, hears, listens, fails_to_receive, ticks, issues, gives, fails_to_send, hangs_up, after_step, after_steps, IsAllowed, AreAllowed}
-use Rattle.octo_session.proofs.Keeping.{keeps_frame, ticked_keeps}
+use Rattle.session_steps.specs.Steps.{Step, opens, finds_no_port, fails_to_dial, hears, listens, fails_to_receive, ticks, issues, gives, fails_to_send, hangs_up, after_step, after_steps, IsAllowed, AreAllowed}
+use Rattle.session_steps.proofs.Keeping.{keeps_frame, ticked_keeps}
 use Rattle.lossy_turns.specs.Patience.{IsPatient}
 use Rattle.lossy_turns.proofs.Waits.{patient_steps}
 

@@ -18,14 +18,14 @@ use Rattle.send_window.specs.declared.session_end.SessionEnd.{SessionEnd}
 use Rattle.send_window.specs.declared.session_end.SessionEnd.TheVariants.{NoAnswer, NumbersUsed}
 use Rattle.send_window.proofs.Soundness.{begun_sound}
 use Rattle.send_window.proofs.Waiting.{waits_five_limits}
-use Rattle.octo_session.specs.Data.{SessionData, IsSession, doing}
-use Rattle.octo_session.specs.Found.{Got, unasked, lost, nothing, whole, end_by, can_find, up_after, ready_after}
-use Rattle.octo_session.specs.Steps.{Step, opens, finds_no_port, fails_to_dial, hears, listens, fails_to_receive, ticks, issues, gives, fails_to_send, hangs_up, after_step, after_steps, talk_steps, turn_steps}
-use Rattle.octo_session.specs.DeskTurn.{IsQuietTurn}
-use Rattle.octo_session.specs.Turn.{IsTurn, IsNoteOn, IsNoteOf, IsSpent, IsUneventful, texts_in}
-use Rattle.octo_session.specs.declared.found.Doing.{Doing}
-use Rattle.octo_session.specs.declared.found.Doing.TheVariants.{Dialling, HangingUp, Talking, Resting}
-use Rattle.octo_session.specs.declared.found.Turned.{Turned}
+use Rattle.session_steps.specs.Data.{SessionData, IsSession, doing}
+use Rattle.session_steps.specs.Found.{Got, unasked, lost, nothing, whole, end_by, can_find, up_after, ready_after}
+use Rattle.session_steps.specs.Steps.{Step, opens, finds_no_port, fails_to_dial, hears, listens, fails_to_receive, ticks, issues, gives, fails_to_send, hangs_up, after_step, after_steps, talk_steps, turn_steps}
+use Rattle.session_steps.specs.DeskTurn.{IsQuietTurn}
+use Rattle.session_steps.specs.Turn.{IsTurn, IsNoteOn, IsNoteOf, IsSpent, IsUneventful, texts_in}
+use Rattle.session_steps.specs.declared.found.Doing.{Doing}
+use Rattle.session_steps.specs.declared.found.Doing.TheVariants.{Dialling, HangingUp, Talking, Resting}
+use Rattle.session_steps.specs.declared.found.Turned.{Turned}
 use Rattle.lossy_turns.specs.Patience.{IsPatient, IsUnanswered}
 use Rattle.lossy_turns.proofs.Lasting.{sound_steps}
 use Rattle.lossy_turns.proofs.Waits.{turn_patient, turn_unanswered}
@@ -33,7 +33,7 @@ use Rattle.lossy_line.proofs.Turned.{talks_up}
 use Rattle.house_walks.proofs.Quiet.{TookQuiet}
 use Rattle.house_walks.proofs.Rising.{Risen, risen_steps}
 use Rattle.house_walks.proofs.Turned.{TookTurn}
-use Rattle.octo_session.proofs.Keeping.{issued_heard}
+use Rattle.session_steps.proofs.Keeping.{issued_heard}
 
 -- what no step changes
 record Lasts (s t : SenderData) : Type 0 where

@@ -14,11 +14,11 @@ use Rattle.send_window.specs.Sending.{room_of as sender_room, room_at}
 use Rattle.send_window.specs.declared.session_end.SessionEnd.{SessionEnd}
 use Rattle.send_window.specs.declared.session_end.SessionEnd.TheVariants as session_end
 use Rattle.octo_asks.specs.declared.entry.Entry.TheVariants as entry
-use Rattle.octo_session.specs.Data.{SessionData, IsSession, doing}
-use Rattle.octo_session.specs.Found as found
-use Rattle.octo_session.specs.declared.found.Doing.{Doing}
-use Rattle.octo_session.specs.declared.found.Doing.TheVariants.{Dialling, HangingUp, Talking, Resting}
-use Rattle.octo_session.specs.Turn.{IsNoteOn, IsSpent as SessionSpent}
+use Rattle.session_steps.specs.Data.{SessionData, IsSession, doing}
+use Rattle.session_steps.specs.Found as found
+use Rattle.session_steps.specs.declared.found.Doing.{Doing}
+use Rattle.session_steps.specs.declared.found.Doing.TheVariants.{Dialling, HangingUp, Talking, Resting}
+use Rattle.session_steps.specs.Turn.{IsNoteOn, IsSpent as SessionSpent}
 use Rattle.lossy_line.proofs.Turned.{talks_up}
 use Rattle.lossy_turns.specs.Patience.{IsPatient}
 use Rattle.house_verdicts.specs.Known.{Known}

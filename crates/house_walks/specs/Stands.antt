@@ -2,7 +2,7 @@
 use Rattle.std.specs.Prelude.{◌≡◌, ℕ, ◌≤◌, Bool, true, List}
 use Rattle.octo_keeper.specs.declared.shelf.ShelfFile.{ShelfFile}
 use Rattle.send_window.specs.Data.{IsSound}
-use Rattle.octo_session.specs.Data.{SessionData}
+use Rattle.session_steps.specs.Data.{SessionData}
 use Rattle.house_verdicts.specs.Known.{Known}
 use Rattle.house_history.specs.Legal.{Standing}
 use Rattle.lossy_turns.specs.Patience.{IsPatient}

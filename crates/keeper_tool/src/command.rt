@@ -10,7 +10,7 @@ use octo_outside::WordList;
 pub enum Work {
     /// Its tables are written out.
     Show,
-    /// So many records of finished prints are added to it.
+    /// This number of records of finished prints is added to it.
     Add { prints: u32 },
 }
 

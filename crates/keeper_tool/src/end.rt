@@ -9,7 +9,7 @@ use octo_keeper::KeeperFault;
 pub enum ToolEnd {
     /// The tables were written out.
     Shown,
-    /// So many print records were added.
+    /// This number of print records was added.
     Added { prints: u32 },
     /// The arguments are no command.
     BadWords,

@@ -12,20 +12,20 @@ use Rattle.send_window.specs.declared.session_end.SessionEnd.{SessionEnd}
 use Rattle.send_window.specs.declared.session_end.SessionEnd.TheVariants.{NoAnswer, AskedBack, AskedAhead, Counts, Restarted, NumbersUsed}
 use Rattle.printer_model.specs.Printer.{Logged}
 use Rattle.printer_model.specs.World.{WorldData, world_from}
-use Rattle.printer_model.specs.Exchanged.{sends_since}
+use Rattle.link_history.specs.Exchanged.{sends_since}
 use Rattle.printer_model.specs.declared.event.WorldEvent.{WorldEvent}
 use Rattle.printer_model.specs.declared.event.WorldEvent.TheVariants.{Recv, Closed}
 use Rattle.printer_model.proofs.Laws.{world_from-append}
-use Rattle.printer_model.proofs.Starts.{sends_since-append, sends_since-free}
+use Rattle.link_history.proofs.Starts.{sends_since-append, sends_since-free}
 use Rattle.printer_link.specs.Link.{IsHeard, IsSilence}
 use Rattle.send_window.specs.Counting.{IsQuiet}
 use Rattle.send_window.specs.Data.{SenderData}
 use Rattle.send_window.specs.Hearing.{hear_step, tick_step}
 use Rattle.send_window.proofs.Ending.{ends_by_rule}
 use Rattle.send_window.proofs.Silence.{sends_in_silence}
-use Rattle.octo_session.specs.Found.{Got, unasked, lost, nothing, whole, end_by, can_find}
-use Rattle.octo_session.specs.declared.found.Doing.TheVariants.{Talking}
-use Rattle.octo_session.specs.Steps.{ticks, hangs_up, after_steps, AreAdded, clock_steps, talk_steps}
+use Rattle.session_steps.specs.Found.{Got, unasked, lost, nothing, whole, end_by, can_find}
+use Rattle.session_steps.specs.declared.found.Doing.TheVariants.{Talking}
+use Rattle.session_steps.specs.Steps.{ticks, hangs_up, after_steps, AreAdded, clock_steps, talk_steps}
 use Rattle.lossy_wires.specs.Pieces.{Each, heard_in, heard_of}
 use Rattle.lossy_wires.specs.Wires.{IsFair, Meets}
 use Rattle.lossy_wires.specs.Traces.{replies_from, IsTallied, is_restart, IsStartKnown, IsTraced}

@@ -13,19 +13,19 @@ use Rattle.desk_steps.specs.declared.link_fact.LinkFact.TheVariants as fact
 use Rattle.send_window.specs.declared.session_end.SessionEnd.{SessionEnd}
 use Rattle.send_window.specs.declared.session_end.SessionEnd.TheVariants.{NoAnswer, AskedBack, AskedAhead, Counts, Restarted, NumbersUsed}
 use Rattle.printer_model.specs.World.{WorldData, is_free, world_from}
-use Rattle.printer_model.specs.Exchanged.{sends_since}
+use Rattle.link_history.specs.Exchanged.{sends_since}
 use Rattle.printer_model.specs.declared.event.WorldEvent.{WorldEvent}
 use Rattle.printer_model.specs.declared.event.WorldEvent.TheVariants.{Closed}
-use Rattle.printer_model.proofs.Starts.{runs-free, sends_since-append, sends_since-free, received_from-free}
+use Rattle.link_history.proofs.Starts.{runs-free, sends_since-append, sends_since-free, received_from-free}
 use Rattle.send_window.specs.Counting.{IsQuiet, own_oks}
 use Rattle.send_window.specs.Data.{SenderData}
 use Rattle.send_window.specs.Hearing.{tick_step}
 use Rattle.send_window.specs.Sending.{frame_step, push_step}
 use Rattle.send_window.proofs.Ending.{tick_ends}
-use Rattle.octo_session.specs.Found.{Got, can_find}
-use Rattle.octo_session.specs.declared.found.Doing.{Doing}
-use Rattle.octo_session.specs.declared.found.Doing.TheVariants.{Dialling, HangingUp, Talking, Resting}
-use Rattle.octo_session.specs.Steps.{Step, gives, fails_to_send, hangs_up, after_step, after_steps, AreAdded, issuing, speech, clock_steps, turn_steps}
+use Rattle.session_steps.specs.Found.{Got, can_find}
+use Rattle.session_steps.specs.declared.found.Doing.{Doing}
+use Rattle.session_steps.specs.declared.found.Doing.TheVariants.{Dialling, HangingUp, Talking, Resting}
+use Rattle.session_steps.specs.Steps.{Step, gives, fails_to_send, hangs_up, after_step, after_steps, AreAdded, issuing, speech, clock_steps, turn_steps}
 use Rattle.lossy_wires.specs.Wires.{IsFair}
 use Rattle.lossy_wires.specs.Traces.{replies_from, oks_of, IsTallied, is_restart}
 use Rattle.lossy_wires.proofs.Tracing.{replies_from-append}

@@ -2,12 +2,12 @@
 use Rattle.std.proofs.Common.{◌≡◌, ℕ, zero, suc, pred, ◌<◌, ◌≤◌, List, [], ◌∷◌, ◌++◌, length, take, drop, sym, ◌∙◌, ap, subst, arith}
 use Rattle.printer_model.specs.Printer.{Logged}
 use Rattle.printer_model.specs.World.{WorldData}
-use Rattle.printer_model.specs.Executed.{opens, till, executed}
-use Rattle.printer_model.specs.Exchanged.{session_of}
+use Rattle.link_history.specs.Executed.{opens, till, executed}
+use Rattle.link_history.specs.Exchanged.{session_of}
 use Rattle.printer_model.specs.declared.event.WorldEvent.{WorldEvent}
 use Rattle.printer_model.specs.declared.event.WorldEvent.TheVariants.{Opened}
-use Rattle.printer_model.proofs.Sessions.{till-all, till-append}
-use Rattle.printer_model.proofs.Starts.{till-stop, executed-before}
+use Rattle.link_history.proofs.Sessions.{till-all, till-append}
+use Rattle.link_history.proofs.Starts.{till-stop, executed-before}
 use Rattle.printer_link.specs.Link.{LinkKind, world_in}
 use Rattle.lossy_wires.specs.Traces.{replies_from, AreSendsFit}
 use Rattle.send_window.specs.Counting.{acked_of}

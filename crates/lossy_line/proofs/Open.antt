@@ -9,14 +9,14 @@ use Rattle.printer_model.specs.World.{WorldData, is_free, happen, apply, world_f
 use Rattle.printer_model.specs.declared.event.WorldEvent.{WorldEvent}
 use Rattle.printer_model.specs.declared.event.WorldEvent.TheVariants.{Opened, Send, Arrive, Lose, Garble, Run, Restart, Chatter, Recv, Closed}
 use Rattle.printer_model.proofs.Laws.{after_event, happens, world_from-append, world_from-push, world_from-linked}
-use Rattle.printer_model.proofs.Starts.{runs-free}
+use Rattle.link_history.proofs.Starts.{runs-free}
 use Rattle.printer_link.specs.Link.{IsSendOf}
 use Rattle.send_window.specs.Data.{SenderData}
 use Rattle.send_window.specs.Sending.{Outgoing, next_of}
-use Rattle.octo_session.specs.Found.{Got, unasked, lost, nothing, whole, can_find, up_after}
-use Rattle.octo_session.specs.declared.found.Doing.{Doing}
-use Rattle.octo_session.specs.declared.found.Doing.TheVariants.{Dialling, HangingUp, Talking, Resting}
-use Rattle.octo_session.specs.Steps.{Step, opens, finds_no_port, fails_to_dial, hears, listens, fails_to_receive, ticks, issues, gives, fails_to_send, hangs_up, after_step, IsGiven, IsDone, AreAdded, issuing, speech, clock_steps, talk_steps, dial_steps, turn_steps}
+use Rattle.session_steps.specs.Found.{Got, unasked, lost, nothing, whole, can_find, up_after}
+use Rattle.session_steps.specs.declared.found.Doing.{Doing}
+use Rattle.session_steps.specs.declared.found.Doing.TheVariants.{Dialling, HangingUp, Talking, Resting}
+use Rattle.session_steps.specs.Steps.{Step, opens, finds_no_port, fails_to_dial, hears, listens, fails_to_receive, ticks, issues, gives, fails_to_send, hangs_up, after_step, IsGiven, IsDone, AreAdded, issuing, speech, clock_steps, talk_steps, dial_steps, turn_steps}
 
 -- whether a link is open after a step
 abbrev pub up_by : Step → Bool → Bool

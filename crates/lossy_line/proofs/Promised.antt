@@ -8,21 +8,21 @@ use Rattle.send_window.specs.declared.session_end.SessionEnd.{SessionEnd}
 use Rattle.marlin_reply.specs.declared.reply.Reply.{Reply}
 use Rattle.printer_model.specs.Printer.{Logged}
 use Rattle.printer_model.specs.World.{WorldData, is_free, apply, world_from}
-use Rattle.printer_model.specs.Executed.{opens}
+use Rattle.link_history.specs.Executed.{opens}
 use Rattle.printer_model.specs.declared.event.WorldEvent.{WorldEvent}
 use Rattle.printer_model.specs.declared.event.WorldEvent.TheVariants.{Opened}
 use Rattle.printer_model.proofs.Laws.{world_from-append}
-use Rattle.printer_model.proofs.Sessions.{opens-append}
-use Rattle.printer_model.proofs.Starts.{runs-free}
+use Rattle.link_history.proofs.Sessions.{opens-append}
+use Rattle.link_history.proofs.Starts.{runs-free}
 use Rattle.printer_link.specs.Link.{LinkKind, IsOpenAs, world_in}
-use Rattle.printer_model.specs.Exchanged.{sends_since}
+use Rattle.link_history.specs.Exchanged.{sends_since}
 use Rattle.send_window.specs.Counting.{IsQuiet}
 use Rattle.send_window.specs.Data.{SenderData, IsSound}
-use Rattle.octo_session.specs.Data.{SessionData, doing}
-use Rattle.octo_session.specs.Found.{Got, unasked, lost, nothing, whole, end_by, can_find}
-use Rattle.octo_session.specs.declared.found.Doing.{Doing}
-use Rattle.octo_session.specs.declared.found.Doing.TheVariants.{Dialling, HangingUp, Talking, Resting}
-use Rattle.octo_session.specs.Steps.{opens as makes_link, after_steps, AreAdded, dial_steps, talk_steps, turn_steps}
+use Rattle.session_steps.specs.Data.{SessionData, doing}
+use Rattle.session_steps.specs.Found.{Got, unasked, lost, nothing, whole, end_by, can_find}
+use Rattle.session_steps.specs.declared.found.Doing.{Doing}
+use Rattle.session_steps.specs.declared.found.Doing.TheVariants.{Dialling, HangingUp, Talking, Resting}
+use Rattle.session_steps.specs.Steps.{opens as makes_link, after_steps, AreAdded, dial_steps, talk_steps, turn_steps}
 use Rattle.lossy_wires.specs.Pieces.{Each}
 use Rattle.lossy_wires.specs.Wires.{Meets}
 use Rattle.lossy_wires.specs.Traces.{replies_from, IsTallied, IsStartKnown, IsTraced}

@@ -7,10 +7,10 @@ use Rattle.marlin_reply.specs.Kind.{kind_of}
 use Rattle.desk_steps.specs.declared.link_fact.LinkFact.{LinkFact}
 use Rattle.desk_steps.specs.declared.link_fact.LinkFact.TheVariants as fact
 use Rattle.printer_model.specs.World.{WorldData, is_free, world_from}
-use Rattle.printer_model.specs.Exchanged.{sends_since}
+use Rattle.link_history.specs.Exchanged.{sends_since}
 use Rattle.printer_model.specs.declared.event.WorldEvent.{WorldEvent}
 use Rattle.printer_model.specs.declared.event.WorldEvent.TheVariants.{Opened, Send, Arrive, Lose, Garble, Run, Restart, Chatter, Recv, Closed}
-use Rattle.printer_model.proofs.Starts.{sends_since-append, sends_since-free}
+use Rattle.link_history.proofs.Starts.{sends_since-append, sends_since-free}
 use Rattle.printer_link.specs.Link.{IsSendOf, IsHeard}
 use Rattle.send_window.specs.Counting.{IsQuiet, OwesLine}
 use Rattle.send_window.specs.Data.{SenderData, IsSound}
@@ -18,8 +18,8 @@ use Rattle.send_window.specs.Hearing.{hear_step, tick_step}
 use Rattle.send_window.specs.Sending.{Outgoing, bytes_of_outgoing, next_of, frame_step, push_step}
 use Rattle.send_window.proofs.Silence.{sends_in_silence}
 use Rattle.send_window.proofs.Soundness.{hears_sound, ticks_sound, issues_sound, gives_sound}
-use Rattle.octo_session.specs.Found.{Got, unasked, lost, nothing, whole}
-use Rattle.octo_session.specs.Steps.{Step, opens, finds_no_port, fails_to_dial, hears, listens, fails_to_receive, ticks, issues, gives, fails_to_send, hangs_up, after_step, after_steps, IsAllowed, AreAllowed, IsGiven, IsDone, AreAdded, issuing, speech, clock_steps, talk_steps}
+use Rattle.session_steps.specs.Found.{Got, unasked, lost, nothing, whole}
+use Rattle.session_steps.specs.Steps.{Step, opens, finds_no_port, fails_to_dial, hears, listens, fails_to_receive, ticks, issues, gives, fails_to_send, hangs_up, after_step, after_steps, IsAllowed, AreAllowed, IsGiven, IsDone, AreAdded, issuing, speech, clock_steps, talk_steps}
 use Rattle.lossy_wires.specs.Pieces.{Each}
 
 -- a step of issuing or sending

@@ -10,10 +10,10 @@ use Rattle.printer_model.specs.World.{WorldData, world_from}
 use Rattle.printer_model.specs.declared.event.WorldEvent.{WorldEvent}
 use Rattle.send_window.specs.Data.{SenderData}
 use Rattle.send_window.specs.Hearing.{hear_step}
-use Rattle.octo_session.specs.Found.{Got, unasked, lost, nothing, whole, may_issue}
-use Rattle.octo_session.specs.declared.found.Doing.{Doing}
-use Rattle.octo_session.specs.declared.found.Doing.TheVariants.{Dialling, HangingUp, Talking, Resting}
-use Rattle.octo_session.specs.Steps.{Step, listens, fails_to_receive, gives, fails_to_send, hangs_up, after_step, after_steps, AreAllowed, AreAdded, issuing, speech, clock_steps, talk_steps, dial_steps, turn_steps}
+use Rattle.session_steps.specs.Found.{Got, unasked, lost, nothing, whole, may_issue}
+use Rattle.session_steps.specs.declared.found.Doing.{Doing}
+use Rattle.session_steps.specs.declared.found.Doing.TheVariants.{Dialling, HangingUp, Talking, Resting}
+use Rattle.session_steps.specs.Steps.{Step, listens, fails_to_receive, gives, fails_to_send, hangs_up, after_step, after_steps, AreAllowed, AreAdded, issuing, speech, clock_steps, talk_steps, dial_steps, turn_steps}
 use Rattle.lossy_wires.specs.Pieces.{Each}
 use Rattle.lossy_wires.specs.Wires.{Meets}
 use Rattle.lossy_wires.specs.Traces.{replies_from, IsTallied}

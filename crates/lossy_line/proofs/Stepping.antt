@@ -9,12 +9,12 @@ use Rattle.printer_model.specs.World.{WorldData, is_free, can_happen, world_from
 use Rattle.printer_model.specs.declared.event.WorldEvent.{WorldEvent}
 use Rattle.printer_model.specs.declared.event.WorldEvent.TheVariants.{Opened, Send, Arrive, Lose, Garble, Run, Restart, Chatter, Recv, Closed}
 use Rattle.printer_model.proofs.Laws.{world_from-append, world_from-linked}
-use Rattle.printer_model.proofs.Starts.{runs-free}
+use Rattle.link_history.proofs.Starts.{runs-free}
 use Rattle.printer_link.specs.Link.{IsSendOf, IsHeard, MaySendFailing}
 use Rattle.send_window.specs.Data.{SenderData}
 use Rattle.send_window.specs.Hearing.{hear_step, tick_step}
 use Rattle.send_window.specs.Sending.{Outgoing, bytes_of_outgoing, next_of, frame_step, push_step}
-use Rattle.octo_session.specs.Steps.{Step, opens, finds_no_port, fails_to_dial, hears, listens, fails_to_receive, ticks, issues, gives, fails_to_send, hangs_up, after_step, IsAllowed, IsGiven, IsDone}
+use Rattle.session_steps.specs.Steps.{Step, opens, finds_no_port, fails_to_dial, hears, listens, fails_to_receive, ticks, issues, gives, fails_to_send, hangs_up, after_step, IsAllowed, IsGiven, IsDone}
 use Rattle.lossy_wires.specs.Pieces.{IsFit}
 use Rattle.lossy_wires.specs.Wires.{Meets}
 use Rattle.lossy_wires.specs.Traces.{replies_from, IsTallied}

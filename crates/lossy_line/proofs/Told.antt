@@ -7,18 +7,18 @@ use Rattle.desk_steps.specs.declared.link_fact.LinkFact.TheVariants as fact
 use Rattle.printer_model.specs.declared.event.WorldEvent.{WorldEvent}
 use Rattle.printer_link.specs.Link.{LinkKind, world_in}
 use Rattle.send_window.specs.Sending.{next_of}
-use Rattle.octo_session.specs.Data.{SessionData, IsSession, doing}
-use Rattle.octo_session.specs.Found.{can_find, up_after}
-use Rattle.octo_session.specs.Turn.{IsTurn, IsSpent, fact_of, lines_of, texts_in}
-use Rattle.octo_session.specs.declared.found.Turned.{Turned}
-use Rattle.octo_session.proofs.Noting.{noted_fact, noted_lines}
+use Rattle.session_steps.specs.Data.{SessionData, IsSession, doing}
+use Rattle.session_steps.specs.Found.{can_find, up_after}
+use Rattle.session_steps.specs.Turn.{IsTurn, IsTurnByNote, IsSpent, fact_of, lines_of, texts_in}
+use Rattle.session_steps.specs.declared.found.Turned.{Turned}
+use Rattle.session_steps.proofs.Noting.{noted_fact, noted_lines}
 use Rattle.lossy_line.specs.Issuing.{issued_in}
 use Rattle.lossy_line.specs.Linked.{IsUnopened, IsOpened, IsLinked, LinkedAs, OpenedAs, IsOpening}
 use Rattle.lossy_line.specs.Tied.{IsTied, TiedAs, WasUnopened, FormerTiedAs, IsEndCaused, EndCausedAs}
 use Rattle.lossy_line.proofs.Promised.{turn_former, turn_caused}
 use Rattle.lossy_line.proofs.Tying.{opened_tied}
 use Rattle.send_window.specs.declared.session_end.SessionEnd.{SessionEnd}
-use Rattle.printer_model.specs.Executed.{opens}
+use Rattle.link_history.specs.Executed.{opens}
 use Rattle.lossy_line.proofs.Quiet.{StaysUp}
 use Rattle.lossy_line.proofs.Turned.{IsTurned}
 use Rattle.lossy_line.proofs.Turning.{turn_links, turn_keeps, opening}
@@ -30,6 +30,9 @@ pub record IsKept (moment : ℕ) (old new : SessionData) (turned : Turned) : Typ
   pub up : new.up ≡ up_after (fact_of turned.note) old.up
   pub sent : fact_of turned.note ≡ fact.Ready → next_of new.sender ≡ None
   pub spent : new.up ≡ true → fact_of turned.note ≡ fact.Quiet → IsSpent moment new.desk new.sender
+
+pub kept_by_note : {moment : ℕ} {kind : LinkKind} {old new : SessionData} {turned : Turned} → IsTurnByNote moment kind old new turned → IsKept moment old new turned
+kept_by_note n = record { before = n.before; finds = n.finds; up = n.up; sent = n.sent; spent = n.spent }
 
 module _ (moment : ℕ) (kind : LinkKind) (old_past new_past : Option (List WorldEvent)) (old_calls new_calls : Option ℕ) (old new : SessionData) (turned : Turned) where
   unsent : (t : IsTurn moment kind old_past new_past old_calls new_calls old new turned) → fact_of turned.note ≡ t.found →

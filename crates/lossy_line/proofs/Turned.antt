@@ -11,12 +11,12 @@ use Rattle.printer_model.proofs.Laws.{world_of-append}
 use Rattle.printer_link.specs.Link.{LinkKind, world_in}
 use Rattle.send_window.specs.Data.{SenderData, IsSound}
 use Rattle.send_window.specs.Sending.{next_of}
-use Rattle.octo_session.specs.Data.{SessionData, IsSession, doing}
-use Rattle.octo_session.specs.Found.{Got, unasked, lost, may_issue, end_by, can_find, up_after}
+use Rattle.session_steps.specs.Data.{SessionData, IsSession, doing}
+use Rattle.session_steps.specs.Found.{Got, unasked, lost, may_issue, end_by, can_find, up_after}
 use Rattle.send_window.specs.declared.session_end.SessionEnd.{SessionEnd}
-use Rattle.octo_session.specs.declared.found.Doing.{Doing}
-use Rattle.octo_session.specs.declared.found.Doing.TheVariants.{Dialling, HangingUp, Talking, Resting}
-use Rattle.octo_session.specs.Steps.{after_steps, AreAllowed, AreAdded, turn_steps}
+use Rattle.session_steps.specs.declared.found.Doing.{Doing}
+use Rattle.session_steps.specs.declared.found.Doing.TheVariants.{Dialling, HangingUp, Talking, Resting}
+use Rattle.session_steps.specs.Steps.{after_steps, AreAllowed, AreAdded, turn_steps}
 use Rattle.lossy_line.specs.Linked.{IsLinked, unopened, opened}
 use Rattle.lossy_line.proofs.Open.{IsUpFor, steps_up, up_all, turn_up}
 use Rattle.lossy_line.proofs.Quiet.{StaysUp}

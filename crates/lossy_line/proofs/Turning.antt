@@ -6,20 +6,20 @@ use Rattle.desk_steps.specs.declared.link_fact.LinkFact.{LinkFact}
 use Rattle.desk_steps.specs.declared.link_fact.LinkFact.TheVariants as fact
 use Rattle.printer_model.specs.Printer.{Logged}
 use Rattle.printer_model.specs.World.{WorldData, can_happen, apply, world_from}
-use Rattle.printer_model.specs.Exchanged.{sends_since}
+use Rattle.link_history.specs.Exchanged.{sends_since}
 use Rattle.printer_model.specs.declared.event.WorldEvent.{WorldEvent}
 use Rattle.printer_model.specs.declared.event.WorldEvent.TheVariants.{Opened}
 use Rattle.printer_model.proofs.Laws.{happens, world_from-append, world_of-append, world_from-IsSameKind}
-use Rattle.printer_model.proofs.Sessions.{opens-append}
-use Rattle.printer_model.proofs.Starts.{sends_since-append}
+use Rattle.link_history.proofs.Sessions.{opens-append}
+use Rattle.link_history.proofs.Starts.{sends_since-append}
 use Rattle.printer_link.specs.Link.{LinkKind, world_in}
 use Rattle.send_window.specs.Counting.{IsQuiet}
 use Rattle.send_window.specs.Data.{SenderData, IsSound, begun}
-use Rattle.octo_session.specs.Data.{SessionData, doing}
-use Rattle.octo_session.specs.Found.{Got, unasked, may_issue, can_find, up_after}
-use Rattle.octo_session.specs.declared.found.Doing.{Doing}
-use Rattle.octo_session.specs.declared.found.Doing.TheVariants.{Dialling, HangingUp, Talking, Resting}
-use Rattle.octo_session.specs.Steps.{opens, after_steps, AreAllowed, AreAdded, dial_steps, talk_steps, turn_steps}
+use Rattle.session_steps.specs.Data.{SessionData, doing}
+use Rattle.session_steps.specs.Found.{Got, unasked, may_issue, can_find, up_after}
+use Rattle.session_steps.specs.declared.found.Doing.{Doing}
+use Rattle.session_steps.specs.declared.found.Doing.TheVariants.{Dialling, HangingUp, Talking, Resting}
+use Rattle.session_steps.specs.Steps.{opens, after_steps, AreAllowed, AreAdded, dial_steps, talk_steps, turn_steps}
 use Rattle.lossy_wires.specs.Wires.{Meets}
 use Rattle.lossy_wires.specs.Traces.{replies_from, IsTallied, IsStartKnown, IsTraced}
 use Rattle.lossy_wires.specs.Pieces.{Each}

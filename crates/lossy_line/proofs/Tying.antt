@@ -5,16 +5,16 @@ use Rattle.std.proofs.lemmas.Bool.{ne_eqb}
 use Rattle.marlin_frame.specs.Numbering.{hello_number, wire_number}
 use Rattle.printer_model.specs.Printer.{Logged}
 use Rattle.printer_model.specs.World.{WorldData, apply, world_from}
-use Rattle.printer_model.specs.Executed.{opens, is_counted, executed}
-use Rattle.printer_model.specs.Exchanged.{session_of}
+use Rattle.link_history.specs.Executed.{opens, is_counted, executed}
+use Rattle.link_history.specs.Exchanged.{session_of}
 use Rattle.printer_model.specs.declared.event.WorldEvent.{WorldEvent}
 use Rattle.printer_model.specs.declared.event.WorldEvent.TheVariants.{Opened}
-use Rattle.printer_model.proofs.Sessions.{opens-append}
-use Rattle.printer_model.proofs.Starts.{till-stop, session_of-last, executed-from}
+use Rattle.link_history.proofs.Sessions.{opens-append}
+use Rattle.link_history.proofs.Starts.{till-stop, session_of-last, executed-from}
 use Rattle.printer_link.specs.Link.{LinkKind, world_in}
 use Rattle.send_window.specs.Counting.{acked_of}
 use Rattle.send_window.specs.Data.{SenderData}
-use Rattle.octo_session.specs.Data.{SessionData}
+use Rattle.session_steps.specs.Data.{SessionData}
 use Rattle.lossy_wires.specs.Pieces.{Piece, greeting, command, logged_in, AreLinesFrom}
 use Rattle.lossy_wires.specs.Wires.{Printed, before, after, lines_run}
 use Rattle.lossy_wires.specs.Traces.{replies_from, AreSendsFit, IsTraced}

@@ -2,7 +2,7 @@
 use Rattle.std.specs.Prelude.{ℕ, List, [], ◌∷◌, ◌++◌}
 use Rattle.desk_steps.specs.declared.link_fact.LinkFact.{LinkFact}
 use Rattle.desk_steps.specs.declared.link_fact.LinkFact.TheVariants as fact
-use Rattle.octo_session.specs.Steps.{Step, opens, issues}
+use Rattle.session_steps.specs.Steps.{Step, opens, issues}
 
 -- the texts of a session's lines after a step: a link that is made begins with none
 abbrev pub issued_by : Step → List (List ℕ) → List (List ℕ)

@@ -3,14 +3,14 @@ use Rattle.std.specs.Prelude.{◌≡◌, ◌⊎◌, ℕ, suc, pred, ◌-◌, ◌
 use Rattle.send_window.specs.declared.session_end.SessionEnd.{SessionEnd}
 use Rattle.marlin_frame.specs.Numbering.{wire_number}
 use Rattle.printer_model.specs.Printer.{Logged}
-use Rattle.printer_model.specs.Executed.{opens, till, executed}
-use Rattle.printer_model.specs.Exchanged.{session_of}
+use Rattle.link_history.specs.Executed.{opens, till, executed}
+use Rattle.link_history.specs.Exchanged.{session_of}
 use Rattle.printer_model.specs.World.{WorldData, apply}
 use Rattle.printer_model.specs.declared.event.WorldEvent.{WorldEvent}
 use Rattle.printer_model.specs.declared.event.WorldEvent.TheVariants.{Opened}
 use Rattle.printer_link.specs.Link.{LinkKind, world_in}
 use Rattle.send_window.specs.Counting.{acked_of}
-use Rattle.octo_session.specs.Data.{SessionData}
+use Rattle.session_steps.specs.Data.{SessionData}
 use Rattle.lossy_wires.specs.Traces.{replies_from, AreSendsFit}
 use Rattle.lossy_line.specs.Linked.{IsCaused, IsUnopened}
 

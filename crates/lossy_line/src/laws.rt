@@ -4,7 +4,7 @@ ghost use Rattle.std.specs.Prelude.{◌≡◌, ℕ, List, [], Option, false};
 ghost use Rattle.printer_link.specs.Link.{LinkKind, IsOpenAs};
 ghost use Rattle.printer_model.specs.declared.event.WorldEvent.{WorldEvent};
 ghost use Rattle.send_window.specs.Data.{IsSound};
-ghost use Rattle.octo_session.specs.Data.{SessionData};
+ghost use Rattle.session_steps.specs.Data.{SessionData};
 ghost use Rattle.lossy_line.specs.Linked.{LinkedAs};
 
 /// A new session is linked over a closed link, and a call of the desk alone leaves it linked.

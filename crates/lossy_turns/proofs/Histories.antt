@@ -3,10 +3,10 @@ use Rattle.std.proofs.Common.{◌≡◌, ℕ, zero, suc, ◌≤◌, true, false,
 use Rattle.std.specs.Prelude.{filter, Option, Some, None}
 use Rattle.printer_model.specs.Printer.{Logged}
 use Rattle.printer_model.specs.World.{world_of}
-use Rattle.printer_model.specs.Executed.{opens, till, is_counted, executed}
-use Rattle.printer_model.specs.Exchanged.{session_of}
+use Rattle.link_history.specs.Executed.{opens, till, is_counted, executed}
+use Rattle.link_history.specs.Exchanged.{session_of}
 use Rattle.printer_model.specs.declared.event.WorldEvent.{WorldEvent}
-use Rattle.printer_model.proofs.Sessions.{till-all, opens-append}
+use Rattle.link_history.proofs.Sessions.{till-all, opens-append}
 use Rattle.printer_link.specs.Link.{LinkKind, Recorded}
 use Rattle.send_window.specs.Counting.{acked_of}
 use Rattle.lossy_wires.specs.Traces.{replies_from, AreSendsFit}

@@ -6,21 +6,21 @@ use Rattle.desk_steps.specs.declared.link_fact.LinkFact.TheVariants as fact
 use Rattle.marlin_reply.specs.declared.reply.Reply.{Reply}
 use Rattle.printer_model.specs.Printer.{Logged}
 use Rattle.printer_model.specs.World.{WorldData, apply, world_from}
-use Rattle.printer_model.specs.Executed.{opens}
+use Rattle.link_history.specs.Executed.{opens}
 use Rattle.printer_model.specs.declared.event.WorldEvent.{WorldEvent}
 use Rattle.printer_model.specs.declared.event.WorldEvent.TheVariants.{Opened}
 use Rattle.printer_model.proofs.Laws.{world_from-append, world_from-linked}
-use Rattle.printer_model.proofs.Sessions.{opens-append}
-use Rattle.printer_model.proofs.Starts.{opens-free, runs-free}
+use Rattle.link_history.proofs.Sessions.{opens-append}
+use Rattle.link_history.proofs.Starts.{opens-free, runs-free}
 use Rattle.printer_link.specs.Link.{LinkKind, Recorded, IsDial, IsHangUp, world_in}
 use Rattle.send_window.specs.Data.{IsSound}
-use Rattle.octo_session.specs.Data.{SessionData, doing}
-use Rattle.octo_session.specs.Found.{Got, can_find}
-use Rattle.octo_session.specs.Steps.{opens as makes_link, finds_no_port, hangs_up, after_steps, AreAdded, dial_steps, turn_steps}
-use Rattle.octo_session.specs.Turn.{IsTurn, texts_in}
-use Rattle.octo_session.specs.declared.found.Doing.{Doing}
-use Rattle.octo_session.specs.declared.found.Doing.TheVariants.{Dialling, HangingUp, Talking, Resting}
-use Rattle.octo_session.specs.declared.found.Turned.{Turned}
+use Rattle.session_steps.specs.Data.{SessionData, doing}
+use Rattle.session_steps.specs.Found.{Got, can_find}
+use Rattle.session_steps.specs.Steps.{opens as makes_link, finds_no_port, hangs_up, after_steps, AreAdded, dial_steps, turn_steps}
+use Rattle.session_steps.specs.Turn.{IsTurn, texts_in}
+use Rattle.session_steps.specs.declared.found.Doing.{Doing}
+use Rattle.session_steps.specs.declared.found.Doing.TheVariants.{Dialling, HangingUp, Talking, Resting}
+use Rattle.session_steps.specs.declared.found.Turned.{Turned}
 use Rattle.lossy_wires.specs.Pieces.{Each}
 use Rattle.lossy_wires.specs.Wires.{Meets}
 use Rattle.lossy_wires.specs.Traces.{replies_from, IsTallied, IsStartKnown, IsTraced}
@@ -75,7 +75,7 @@ module _ (moment : ℕ) (kind : LinkKind) (old new : SessionData) (got : Got) (f
       }
 
   -- the step of a turn that makes the link
-  dial_of : (past added : List WorldEvent) → found ≡ fact.Opened → IsTurned moment kind old new got found texts (world_in kind past) added →
+  pub dial_of : (past added : List WorldEvent) → found ≡ fact.Opened → IsTurned moment kind old new got found texts (world_in kind past) added →
       IsDial (world_in kind past) added
   dial_of past added is t =
       let F : LinkFact → Type 0 = λ f. can_find (doing old) f ≡ true in

@@ -19,14 +19,14 @@ use Rattle.send_window.specs.Session.{hears as sender_hears, ticks as sender_tic
 use Rattle.send_window.proofs.Ending.{ends_by_rule}
 use Rattle.send_window.proofs.Soundness.{begun_sound, hears_sound, ticks_sound, issues_sound, gives_sound}
 use Rattle.send_window.proofs.Waiting.{waits_five_limits}
-use Rattle.octo_session.specs.Data.{SessionData, IsSession, doing}
-use Rattle.octo_session.specs.Found.{Got, unasked, lost, nothing, whole, end_by, can_find}
-use Rattle.octo_session.specs.Turn.{IsTurn, texts_in}
-use Rattle.octo_session.specs.declared.found.Doing.{Doing}
-use Rattle.octo_session.specs.declared.found.Doing.TheVariants.{Dialling, HangingUp, Talking, Resting}
-use Rattle.octo_session.specs.declared.found.Turned.{Turned}
-use Rattle.octo_session.specs.Steps.{Step, opens, finds_no_port, fails_to_dial, hears, listens, fails_to_receive, ticks, issues, gives, fails_to_send, hangs_up, after_step, after_steps, IsAllowed, AreAllowed, talk_steps, turn_steps}
-use Rattle.octo_session.proofs.Keeping.{ticked_keeps}
+use Rattle.session_steps.specs.Data.{SessionData, IsSession, doing}
+use Rattle.session_steps.specs.Found.{Got, unasked, lost, nothing, whole, end_by, can_find}
+use Rattle.session_steps.specs.Turn.{IsTurn, texts_in}
+use Rattle.session_steps.specs.declared.found.Doing.{Doing}
+use Rattle.session_steps.specs.declared.found.Doing.TheVariants.{Dialling, HangingUp, Talking, Resting}
+use Rattle.session_steps.specs.declared.found.Turned.{Turned}
+use Rattle.session_steps.specs.Steps.{Step, opens, finds_no_port, fails_to_dial, hears, listens, fails_to_receive, ticks, issues, gives, fails_to_send, hangs_up, after_step, after_steps, IsAllowed, AreAllowed, talk_steps, turn_steps}
+use Rattle.session_steps.proofs.Keeping.{ticked_keeps}
 use Rattle.lossy_line.proofs.Turned.{talks_up}
 use Rattle.lossy_turns.specs.Patience.{IsPatient, IsUnanswered, IsOnTime}
 

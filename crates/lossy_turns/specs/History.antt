@@ -1,9 +1,9 @@
 -- What the turns of a session have added to the history of a link.
 use Rattle.std.specs.Prelude.{◌≡◌, ◌≤◌, ℕ, suc, List, ◌++◌}
-use Rattle.printer_model.specs.Executed.{opens}
+use Rattle.link_history.specs.Executed.{opens}
 use Rattle.printer_model.specs.declared.event.WorldEvent.{WorldEvent}
 use Rattle.printer_link.specs.Link.{LinkKind}
-use Rattle.octo_session.specs.Data.{SessionData}
+use Rattle.session_steps.specs.Data.{SessionData}
 use Rattle.lossy_line.specs.Linked.{IsOpened}
 use Rattle.lossy_line.specs.Tied.{IsTied}
 

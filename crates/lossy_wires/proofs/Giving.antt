@@ -10,7 +10,7 @@ use Rattle.marlin_frame.specs.Frame.{fails}
 use Rattle.marlin_reply.specs.declared.reply.Reply.{Reply}
 use Rattle.printer_model.specs.Printer.{Logged}
 use Rattle.printer_model.specs.World.{WorldData, is_free, fits_wire, can_happen, happen, apply, world_from}
-use Rattle.printer_model.specs.Exchanged.{is_closed, closes_next}
+use Rattle.link_history.specs.Exchanged.{is_closed, closes_next}
 use Rattle.printer_model.specs.declared.event.WorldEvent.{WorldEvent}
 use Rattle.printer_model.specs.declared.event.WorldEvent.TheVariants.{Send, Closed}
 use Rattle.printer_model.proofs.Laws.{happens, after_event, both_left, both_right, world_from-linked}

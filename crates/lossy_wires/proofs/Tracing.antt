@@ -7,13 +7,13 @@ use Rattle.marlin_reply.specs.Kind.{kind_of}
 use Rattle.marlin_reply.specs.declared.reply.Reply.{Reply}
 use Rattle.printer_model.specs.Printer.{Logged}
 use Rattle.printer_model.specs.World.{WorldData, is_empty, is_free, can_happen, apply, world_from}
-use Rattle.printer_model.specs.Executed.{opens}
-use Rattle.printer_model.specs.Exchanged.{front_line, received_by, received_from, is_closed, closes_next}
+use Rattle.link_history.specs.Executed.{opens}
+use Rattle.link_history.specs.Exchanged.{front_line, received_by, received_from, is_closed, closes_next}
 use Rattle.printer_model.specs.declared.event.WorldEvent.{WorldEvent}
 use Rattle.printer_model.specs.declared.event.WorldEvent.TheVariants.{Send, Recv}
 use Rattle.printer_model.proofs.Laws.{happens, world_from-append, both_left, both_right}
-use Rattle.printer_model.proofs.Sessions.{opens-append}
-use Rattle.printer_model.proofs.Starts.{opens-free, received_from-append, received_from-free}
+use Rattle.link_history.proofs.Sessions.{opens-append}
+use Rattle.link_history.proofs.Starts.{opens-free, received_from-append, received_from-free}
 use Rattle.send_window.specs.Data.{SenderData}
 use Rattle.send_window.specs.Counting.{acked_of}
 use Rattle.send_window.specs.Hearing.{hear_step}

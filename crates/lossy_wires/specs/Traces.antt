@@ -8,8 +8,8 @@ use Rattle.marlin_reply.specs.declared.reply.Reply.{Reply}
 use Rattle.marlin_reply.specs.declared.reply.Reply.TheVariants as reply
 use Rattle.printer_model.specs.Printer.{Logged}
 use Rattle.printer_model.specs.World.{WorldData, apply, world_from}
-use Rattle.printer_model.specs.Executed.{opens}
-use Rattle.printer_model.specs.Exchanged.{received_by, received_from, closes_next}
+use Rattle.link_history.specs.Executed.{opens}
+use Rattle.link_history.specs.Exchanged.{received_by, received_from, closes_next}
 use Rattle.printer_model.specs.declared.event.WorldEvent.{WorldEvent}
 use Rattle.printer_model.specs.declared.event.WorldEvent.TheVariants.{Send, Restart}
 use Rattle.send_window.specs.Data.{SenderData}

@@ -40,6 +40,15 @@ fn serve_once<D: Door>(door: &mut D) -> char {
     }
 }
 
+// What was written to the connections that were given back, in order.
+fn written(alloc: Global, door: &MemoryDoor) -> Result<Vec<u8>, AllocError> {
+    let mut texts = Vec::new(alloc);
+    for conn in door.served().unwrap_or(&[]) {
+        texts.extend_from_slice(conn.written().unwrap_or(b""))?;
+    }
+    Ok(texts)
+}
+
 // The second call finds nothing yet, the fourth fails, and those after it find the end, whatever is listed.
 #[test]
 fn scheduled_accepts(rt: HostRuntime) -> Result<(), Fail> {
@@ -52,11 +61,7 @@ fn scheduled_accepts(rt: HostRuntime) -> Result<(), Fail> {
     for want in ['c', 'q', 'c', 'f', 'e', 'e'] {
         assert_eq!(rt; serve_once(&mut door), want);
     }
-    let mut texts = Vec::new(alloc);
-    for conn in door.served().unwrap_or(&[]) {
-        texts.extend_from_slice(conn.written().unwrap_or(b""))?;
-    }
-    assert_eq!(rt; texts.as_slice(), b"one.two.".as_slice());
+    assert_eq!(rt; written(alloc, &door)?.as_slice(), b"one.two.".as_slice());
     Ok(())
 }
 
@@ -70,6 +75,25 @@ fn no_connections(rt: HostRuntime) -> Result<(), Fail> {
     for want in ['e', 'f', 'e'] {
         assert_eq!(rt; serve_once(&mut door), want);
     }
+    Ok(())
+}
+
+// The calls that take memory, each once: a door in memory keeps the connection that is given back, and four doors share
+// a listener.
+#[test]
+fn ample(rt: HostRuntime) -> Result<(), Fail> {
+    let alloc = rt.alloc();
+    let mut conns = ConnList::new(alloc);
+    conns.push(untouched(alloc, b"one.")?)?;
+    let mut door = MemoryDoor::new(alloc, conns, CallList::new(alloc), CallList::new(alloc));
+    assert_eq!(rt; serve_once(&mut door), 'c');
+    assert!(rt; door.served().is_some());
+    assert_eq!(rt; written(alloc, &door)?.as_slice(), b"one.".as_slice());
+    let doors = TcpDoor::four(alloc, &rt, "127.0.0.1:0")?;
+    let address = doors.a.address();
+    assert!(rt; address.is_some());
+    assert!(rt; doors.b.address() == address && doors.c.address() == address);
+    assert!(rt; doors.d.address() == address);
     Ok(())
 }
 

@@ -36,6 +36,19 @@ fn assert_report(
     Ok(())
 }
 
+/// The measure of the short file.
+const MEASURED: &[u8] =
+    b"commands 7\nmoves 3\nfed 3.500000\ndrawn 1.000000\nX 10.000000 20.000000\nY 5.000000 5.000000\nZ 0.000000 0.200000\n";
+
+/// The rest of it from its fifth command.
+const REST: &[u8] =
+    b"G90\nM83\nG92 X20.000000 Y5.000000 Z0.000000 E1.500000\nG92 E0\nG91\nG1 Z0.2 E1\n";
+
+/// Settings that name all that has to be there, and a limit.
+const SETTINGS: &[u8] =
+    b"printer.ports = [\"p\"]\nlimits.tool = 250\nadmin.name = \"a\"\nadmin.key_sha256 = \"0123456789abcdef0123456789abcdef0123456789abcdef0123456789abcdef\"\n";
+
+/// The calls that take memory, each once.
 #[test]
 fn ample(rt: HostRuntime) -> Result<(), Fail> {
     let mut files = source(rt.alloc(), "a.gcode", SHORT)?;
@@ -43,29 +56,28 @@ fn ample(rt: HostRuntime) -> Result<(), Fail> {
         return Err(Fail::from("refused"));
     };
     assert_eq!(rt; job.count(), 7);
-    let report = check_file(rt.alloc(), &mut files, "a.gcode", &LIMITS);
+    let checked = check_file(rt.alloc(), &mut files, "a.gcode", &LIMITS);
     let text = b"commands 7\nskipped 0\nhottest tool 0\nhottest bed 0\n";
-    assert_report(&rt, &report, 0, text)
+    assert_report(&rt, &checked, 0, text)?;
+    let measured = measure_file(rt.alloc(), &mut files, "a.gcode");
+    assert_report(&rt, &measured, 0, MEASURED)?;
+    let rest = rest_of_file(rt.alloc(), &mut files, "a.gcode", 4);
+    assert_report(&rt, &rest, 0, REST)?;
+    assert_settings(&rt, SETTINGS, 250)
 }
 
 #[test]
 fn measures(rt: HostRuntime) -> Result<(), Fail> {
     let mut files = source(rt.alloc(), "a.gcode", SHORT)?;
     let report = measure_file(rt.alloc(), &mut files, "a.gcode");
-    let text =
-        b"commands 7\nmoves 3\nfed 3.500000\ndrawn 1.000000\nX 10.000000 20.000000\nY 5.000000 5.000000\nZ 0.000000 0.200000\n";
-    assert_report(&rt, &report, 0, text)
+    assert_report(&rt, &report, 0, MEASURED)
 }
 
 #[test]
 fn goes_on_at_a_command(rt: HostRuntime) -> Result<(), Fail> {
     let mut files = source(rt.alloc(), "a.gcode", SHORT)?;
     let rows = [
-        (
-            4,
-            0,
-            b"G90\nM83\nG92 X20.000000 Y5.000000 Z0.000000 E1.500000\nG92 E0\nG91\nG1 Z0.2 E1\n".as_slice(),
-        ),
+        (4, 0, REST),
         (
             7,
             0,
@@ -219,7 +231,7 @@ fn defaults(rt: HostRuntime) -> Result<(), Fail> {
     Ok(())
 }
 
-/// Settings that name all that has to be there, and one more line.
+/// These settings are read, with this limit.
 fn assert_settings(
     rt: &(impl Abort + Alloc<A = Global>),
     text: &[u8],
@@ -235,9 +247,7 @@ fn assert_settings(
 
 #[test]
 fn named_settings(rt: HostRuntime) -> Result<(), Fail> {
-    let text =
-        b"printer.ports = [\"p\"]\nlimits.tool = 250\nadmin.name = \"a\"\nadmin.key_sha256 = \"0123456789abcdef0123456789abcdef0123456789abcdef0123456789abcdef\"\n";
-    assert_settings(&rt, text, 250)
+    assert_settings(&rt, SETTINGS, 250)
 }
 
 #[test]

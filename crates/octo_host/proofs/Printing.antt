@@ -1,7 +1,7 @@
 -- What became of the prints of a host that began by its settings.
 use Rattle.std.proofs.Common.{◌≡◌, ℕ, Bool, List, [], ◌++◌, Some, refl, sym, ◌∙◌, ap, subst}
 use Rattle.octo_asks.specs.History.{History}
-use Rattle.octo_session.specs.Data.{SessionData}
+use Rattle.session_steps.specs.Data.{SessionData}
 use Rattle.hand_over.specs.Ends.{HistoryData}
 use Rattle.house_history.specs.Legal.{beginning}
 use Rattle.house_prints.specs.Headline.{KeepsPrints}

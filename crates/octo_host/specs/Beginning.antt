@@ -2,7 +2,7 @@
 use Rattle.std.specs.Prelude.{ℕ, false}
 use Rattle.desk_steps.specs.Data.{ScriptTexts, new_desk}
 use Rattle.octo_access.specs.declared.policy.Policy.{Policy}
-use Rattle.octo_session.specs.Data.{SessionData}
+use Rattle.session_steps.specs.Data.{SessionData}
 use Rattle.octo_settings.specs.declared.settings.Settings.{Settings}
 use Rattle.send_window.specs.Data.{new_sender}
 use Rattle.temp_rules.specs.declared.limits.Limits.{Limits}

@@ -33,6 +33,7 @@ impl<K: Keeper + Drop> Opened<K> {
         ensures same { result ≡ fault }
         ensures keeper { self.new.keeper ≡ self.old.keeper }
         ensures counts { Counts (fault ≡ KeeperFault.Failed) self.old.faults self.new.faults }
+        ensures steady { (fault ≡ KeeperFault.Failed → ⊥) → self.new.faults ≡ self.old.faults }
     {
         if fault == KeeperFault::Failed {
             self.faults = self.faults.saturating_add(1);

@@ -7,10 +7,10 @@ use Rattle.desk_steps.specs.declared.issued.Note.{Note}
 use Rattle.desk_steps.proofs.Going.{Goes}
 use Rattle.print_records.specs.declared.ending.Ending.{Ending}
 use Rattle.octo_keeper.specs.Tables.{with_due_end}
-use Rattle.octo_session.specs.Data.{doing}
-use Rattle.octo_session.specs.DeskTurn.{IsNoted, IsQuietTurn}
-use Rattle.octo_session.specs.Turn.{IsNoteOn}
-use Rattle.octo_session.specs.declared.found.Doing.{Doing}
+use Rattle.session_steps.specs.Data.{doing}
+use Rattle.session_steps.specs.DeskTurn.{IsNoted, IsQuietTurn}
+use Rattle.session_steps.specs.Turn.{IsNoteOn}
+use Rattle.session_steps.specs.declared.found.Doing.{Doing}
 use Rattle.marlin_reply.specs.declared.reply.Temps.{Temps}
 use Rattle.print_records.specs.declared.row.PrintRow.{PrintRow}
 use Rattle.house_tables.specs.Data.{TablesData}

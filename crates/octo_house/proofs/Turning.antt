@@ -18,9 +18,9 @@ use Rattle.desk_steps.proofs.Going.{Goes, goes_then, goes_pull, goes_note}
 use Rattle.print_records.specs.declared.ending.Ending.{Ending}
 use Rattle.print_records.specs.declared.row.PrintRow.{PrintRow}
 use Rattle.octo_keeper.specs.Tables.{with_due_end}
-use Rattle.octo_session.specs.declared.found.Doing.{Doing}
-use Rattle.octo_session.specs.declared.found.Doing.TheVariants.{Dialling, HangingUp, Talking, Resting}
-use Rattle.octo_session.specs.DeskTurn.{Pulls, IsNoted, IsQuietTurn}
+use Rattle.session_steps.specs.declared.found.Doing.{Doing}
+use Rattle.session_steps.specs.declared.found.Doing.TheVariants.{Dialling, HangingUp, Talking, Resting}
+use Rattle.session_steps.specs.DeskTurn.{Pulls, IsNoted, IsQuietTurn}
 use Rattle.house_verdicts.specs.Known.{Known}
 use Rattle.house_history.specs.Noted.{last_call, called_all, known_after_note, kept_unless, forgets, with_temps}
 

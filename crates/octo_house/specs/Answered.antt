@@ -1,10 +1,14 @@
 -- What a request makes of a host and of its shelf.
-use Rattle.std.specs.Prelude.{◌≡◌, List, Option, Some}
+use Rattle.std.specs.Prelude.{◌≡◌, ℕ, true, false, List, Option, Some}
+use Rattle.octo_outside.specs.Told.{Counts}
 use Rattle.octo_keeper.specs.declared.shelf.ShelfFile.{ShelfFile}
+use Rattle.octo_keeper.specs.declared.tables.Tables.{Tables}
 use Rattle.octo_asks.specs.declared.answer.Answer.{Answer}
 use Rattle.house_verdicts.specs.Verdict.{Verdict, IsDone, files_after}
+use Rattle.house_rows.specs.Counts.{is_keepers, is_shelfs}
+use Rattle.house_tables.specs.Kept.{KeepsRows}
 use Rattle.octo_house.specs.declared.house.House.{House}
-use Rattle.octo_house.specs.State.{known_of}
+use Rattle.octo_house.specs.State.{IsApartFrom, IsListed, known_of}
 
 -- the answer is the verdict's, and this is known then
 abbrev pub Answers : Verdict → Answer → House → House → Type 0
@@ -17,3 +21,43 @@ AnswersOn held v x old new = (files : List ShelfFile) → held ≡ Some files �
 -- the shelf holds the verdict's files then
 abbrev pub Shelves : Option (List ShelfFile) → Option (List ShelfFile) → (List ShelfFile → Verdict) → Answer → Type 0
 Shelves was now v x = (files : List ShelfFile) → was ≡ Some files → now ≡ Some (files_after (v files) x files)
+
+-- what a request leaves beside its answer, by what keeper and shelf record and how often each has failed
+pub record AskDone {K S : Type 0} (tables : K → Option Tables) (faults : K → ℕ) (files : S → Option (List ShelfFile))
+    (shelf_faults : S → ℕ) (was now : K) (held holds : S) (x : Answer) (old new : House)
+    : Type 0 where
+  -- the keeper's tables stay the host's, and the names those of the shelf's files
+  pub kept : KeepsRows (tables was) (tables now) old.tables new.tables
+  pub listed : IsListed (files held) old → IsListed (files holds) new
+  -- the sender, the link and the end that isn't written stay
+  pub apart : IsApartFrom old new
+  -- a fault is answered only if keeper or shelf counted it
+  pub keeper : Counts (is_keepers x ≡ true) (faults was) (faults now)
+  pub shelf : Counts (is_shelfs x ≡ true) (shelf_faults held) (shelf_faults holds)
+
+-- the same of a request that no shelf is asked for
+pub record KeeperDone {K : Type 0} (tables : K → Option Tables) (faults : K → ℕ) (was now : K) (x : Answer) (old new : House)
+    : Type 0 where
+  pub kept : KeepsRows (tables was) (tables now) old.tables new.tables
+  pub names : new.names.items ≡ old.names.items
+  pub apart : IsApartFrom old new
+  pub keeper : Counts (is_keepers x ≡ true) (faults was) (faults now)
+  pub shelf : is_shelfs x ≡ false
+
+-- of a request that the shelf is only read for
+pub record PrintDone {K S : Type 0} (tables : K → Option Tables) (faults : K → ℕ) (files : S → Option (List ShelfFile))
+    (shelf_faults : S → ℕ) (was now : K) (held holds : S) (x : Answer) (old new : House)
+    : Type 0 where
+  pub kept : KeepsRows (tables was) (tables now) old.tables new.tables
+  pub names : new.names.items ≡ old.names.items
+  pub stays : files holds ≡ files held
+  pub apart : IsApartFrom old new
+  pub keeper : Counts (is_keepers x ≡ true) (faults was) (faults now)
+  pub shelf : Counts (is_shelfs x ≡ true) (shelf_faults held) (shelf_faults holds)
+
+-- and of one that also no keeper is asked for
+pub record ShelfDone {S : Type 0} (files : S → Option (List ShelfFile)) (shelf_faults : S → ℕ) (held holds : S) (x : Answer)
+    : Type 0 where
+  pub stays : files holds ≡ files held
+  pub shelf : Counts (is_shelfs x ≡ true) (shelf_faults held) (shelf_faults holds)
+  pub keeper : is_keepers x ≡ false

@@ -4,7 +4,7 @@ use Rattle.octo_access.specs.declared.policy.Policy.{Policy}
 use Rattle.octo_keeper.specs.Tables.{AreNumbered}
 use Rattle.octo_keeper.specs.declared.shelf.ShelfFile.{ShelfFile}
 use Rattle.octo_keeper.specs.declared.tables.Tables.{Tables}
-use Rattle.octo_session.specs.Data.{SessionData}
+use Rattle.session_steps.specs.Data.{SessionData}
 use Rattle.house_history.specs.Begins.{Begins}
 use Rattle.house_history.specs.Noted.{no_temps}
 use Rattle.octo_house.specs.declared.house.House.{House}

@@ -53,7 +53,8 @@ pub trait Keeper {
         ensures sound { IfOk result AreSound }
         ensures stays { tables self.new ≡ tables self.old }
 
-        ensures counts { Counts (IsErrOf result fault.Failed) (faults self.old) (faults self.new) };
+        ensures counts { Counts (IsErrOf result fault.Failed) (faults self.old) (faults self.new) }
+        ensures steady { (IsErrOf result fault.Failed → ⊥) → faults self.new ≡ faults self.old };
 
     /// Makes all of a change, or after a fault nothing of it. All rows that the change doesn't name stay.
     fn commit(&mut self, alloc: Global, change: &Change) -> Result<(), KeeperFault>
@@ -61,5 +62,6 @@ pub trait Keeper {
             (tables self.new ≡ option_map (changed change.now) (tables self.old)) }
         ensures err { OnErr result (tables self.new ≡ tables self.old) }
 
-        ensures counts { Counts (IsErrOf result fault.Failed) (faults self.old) (faults self.new) };
+        ensures counts { Counts (IsErrOf result fault.Failed) (faults self.old) (faults self.new) }
+        ensures steady { (IsErrOf result fault.Failed → ⊥) → faults self.new ≡ faults self.old };
 }

@@ -63,7 +63,8 @@ pub trait Shelf {
         ensures ok { IfOk result (λ list. IfSome (files self.old) (λ held. list ≡ sizes_of held)) }
         ensures stays { files self.new ≡ files self.old }
 
-        ensures counts { Counts (IsErrOf result fault.Failed) (faults self.old) (faults self.new) };
+        ensures counts { Counts (IsErrOf result fault.Failed) (faults self.old) (faults self.new) }
+        ensures steady { (IsErrOf result fault.Failed → ⊥) → faults self.new ≡ faults self.old };
 
     /// The bytes of a file, `None` if there is no file of that name.
     fn get(&mut self, alloc: Global, name: &Name) -> Result<Option<Blob>, ShelfFault>
@@ -71,7 +72,8 @@ pub trait Shelf {
             (λ bytes. IfSome (files self.old) (λ held. bytes ≡ bytes_of name.now held)) }
         ensures stays { files self.new ≡ files self.old }
 
-        ensures counts { Counts (IsErrOf result fault.Failed) (faults self.old) (faults self.new) };
+        ensures counts { Counts (IsErrOf result fault.Failed) (faults self.old) (faults self.new) }
+        ensures steady { (IsErrOf result fault.Failed → ⊥) → faults self.new ≡ faults self.old };
 
     /// Sets the bytes of that name alone.
     fn put(&mut self, alloc: Global, name: &Name, bytes: &[u8]) -> Result<(), ShelfFault>
@@ -79,7 +81,8 @@ pub trait Shelf {
             (files self.new ≡ option_map (with_file name.now bytes.now) (files self.old)) }
         ensures err { OnErr result (files self.new ≡ files self.old) }
 
-        ensures counts { Counts (IsErrOf result fault.Failed) (faults self.old) (faults self.new) };
+        ensures counts { Counts (IsErrOf result fault.Failed) (faults self.old) (faults self.new) }
+        ensures steady { (IsErrOf result fault.Failed → ⊥) → faults self.new ≡ faults self.old };
 
     /// Takes the file of that name alone out, if there is one.
     fn remove(&mut self, alloc: Global, name: &Name) -> Result<(), ShelfFault>
@@ -87,5 +90,6 @@ pub trait Shelf {
             (files self.new ≡ option_map (without_file name.now) (files self.old)) }
         ensures err { OnErr result (files self.new ≡ files self.old) }
 
-        ensures counts { Counts (IsErrOf result fault.Failed) (faults self.old) (faults self.new) };
+        ensures counts { Counts (IsErrOf result fault.Failed) (faults self.old) (faults self.new) }
+        ensures steady { (IsErrOf result fault.Failed → ⊥) → faults self.new ≡ faults self.old };
 }

@@ -8,7 +8,7 @@ use Rattle.send_window.specs.Data.{SenderData, new_sender}
 use Rattle.send_window.specs.declared.session_end.SessionEnd.{SessionEnd}
 use Rattle.send_window.specs.declared.session_end.SessionEnd.TheVariants.{NoAnswer}
 use Rattle.printer_link.specs.Link.{LinkKind, Recorded}
-use Rattle.octo_session.specs.Data.{SessionData}
+use Rattle.session_steps.specs.Data.{SessionData}
 use Rattle.print_course.specs.Plan.{plan}
 use Rattle.session_print.specs.Ends.{IsTooHot, IsUnlisted, IsUnsent}
 use Rattle.session_print.specs.Printed.{HasPrinted, HasEnded}

@@ -59,7 +59,7 @@ pub enum Report {
     },
     /// The session with the printer ended by its own rules.
     Ended(SessionEnd),
-    /// So many turns were made, and the print wasn't over.
+    /// This number of turns was made, and the print wasn't over.
     TurnsUsed {
         turns: u64,
     },

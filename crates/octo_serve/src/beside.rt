@@ -4,6 +4,7 @@ ghost use Rattle.std.specs.Thread.{IsSend, IsSync};
 ghost use Rattle.octo_serve.specs.Around.{door_state, door_states};
 ghost use Rattle.octo_serve.specs.Doors.{WorksAt, AllWork, asker_state, worker_state};
 
+use api_routes::Routes;
 use api_worker::worker;
 use hand_over::Workers;
 use octo_asks::Asker;
@@ -16,6 +17,7 @@ use std::thread::{Threads, join_mut};
 fn work_at<R: Wait, D: Door, A: Asker>(
     rt: &R,
     alloc: Global,
+    routes: &Routes,
     door: &mut D,
     asker: &mut A,
     patience: u32,
@@ -25,7 +27,7 @@ fn work_at<R: Wait, D: Door, A: Asker>(
         (asker_state A.mine A.saw_close A.place asker.old)
         (asker_state A.mine A.saw_close A.place asker.new) result }
 {
-    worker(alloc, rt, door, asker, patience)
+    worker(alloc, rt, routes, door, asker, patience)
 }
 
 // A worker at its door in a thread of its own, and other work in this one. Returns whether the
@@ -33,6 +35,7 @@ fn work_at<R: Wait, D: Door, A: Asker>(
 fn one_beside<R: Threads + Wait + Sync, D: Door + Send, A: Asker + Send, G: FnMut() -> B, B>(
     rt: &R,
     alloc: Global,
+    routes: &Routes,
     door: &mut D,
     asker: &mut A,
     patience: u32,
@@ -45,13 +48,14 @@ fn one_beside<R: Threads + Wait + Sync, D: Door + Send, A: Asker + Send, G: FnMu
         (asker_state A.mine A.saw_close A.place asker.new) result.0 }
     ensures work { G.step work.old result.1 work.new }
 {
-    join_mut(rt, &mut || work_at(rt, alloc, door, asker, patience), work)
+    join_mut(rt, &mut || work_at(rt, alloc, routes, door, asker, patience), work)
 }
 
 // Two workers at their doors, and other work in this thread. Returns whether both doors held.
 fn two_beside<R: Threads + Wait + Sync, D: Door + Send, A: Asker + Send, G: FnMut() -> B, B>(
     rt: &R,
     alloc: Global,
+    routes: &Routes,
     one: &mut D,
     two: &mut D,
     first: &mut A,
@@ -73,6 +77,7 @@ fn two_beside<R: Threads + Wait + Sync, D: Door + Send, A: Asker + Send, G: FnMu
     one_beside(
         rt,
         alloc,
+        routes,
         one,
         first,
         patience,
@@ -84,7 +89,7 @@ fn two_beside<R: Threads + Wait + Sync, D: Door + Send, A: Asker + Send, G: FnMu
                 (asker_state A.mine A.saw_close A.place second.entry.now)
                 (asker_state A.mine A.saw_close A.place second.exit.now) result.0 }
             ensures work { G.step work.entry.now result.1 work.exit.now }
-        { one_beside(rt, alloc, two, second, patience, work) },
+        { one_beside(rt, alloc, routes, two, second, patience, work) },
     )
 }
 
@@ -98,6 +103,7 @@ pub(crate) fn four_beside<
 >(
     rt: &R,
     alloc: Global,
+    routes: &Routes,
     doors: &mut Doors<D>,
     workers: &mut Workers<R>,
     patience: u32,
@@ -120,6 +126,7 @@ pub(crate) fn four_beside<
     let (a_held, (b_held, (c_held, (d_held, done)))) = two_beside(
         rt,
         alloc,
+        routes,
         a,
         b,
         first,
@@ -135,7 +142,7 @@ pub(crate) fn four_beside<
                 (door_state D.coming D.served D.faults d.exit.now)
                 (worker_state fourth.entry.now) (worker_state fourth.exit.now) result.1.0 }
             ensures work { G.step work.entry.now result.1.1 work.exit.now }
-        { two_beside(rt, alloc, c, d, third, fourth, patience, work) },
+        { two_beside(rt, alloc, routes, c, d, third, fourth, patience, work) },
     );
     (a_held && b_held && c_held && d_held, done)
 }

@@ -8,6 +8,7 @@ ghost use Rattle.octo_serve.specs.Around.{door_state, door_states};
 ghost use Rattle.octo_serve.specs.Hosted.{setting, Ran, HasHosted};
 
 use crate::beside::four_beside;
+use api_routes::Routes;
 use hand_over::{History, HouseEnd, ends};
 use house_run::run;
 use octo_doors::{Door, Doors};
@@ -94,7 +95,7 @@ pub fn serve<
         (doors_at doors.old) (doors_at doors.new)
         served.calls served.doors_held served.history) }
 
-    // Without memory for the workers' places nothing was touched.
+    // Without memory for the paths of the interface and the workers' places nothing was touched.
     ensures house { OnErr result (house.new ≡ house.old) }
     ensures link { OnErr result (link.new ≡ link.old) }
     ensures clock { OnErr result (clock.new ≡ clock.old) }
@@ -102,10 +103,12 @@ pub fn serve<
     ensures shelf { OnErr result (shelf.new ≡ shelf.old) }
     ensures doors { OnErr result (doors.new ≡ doors.old) }
 {
+    let routes = Routes::new(alloc)?;
     let (mut counter, mut workers) = ends(alloc, rt)?;
     let (doors_held, calls) = four_beside(
         rt,
         alloc,
+        &routes,
         doors,
         &mut workers,
         patience,

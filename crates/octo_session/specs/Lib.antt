@@ -1,6 +1,3 @@
-pub mod Data
-pub mod DeskTurn
 pub mod Fields
-pub mod Found
-pub mod Steps
-pub mod Turn
+pub mod FoundBy
+pub mod Given

@@ -1,12 +1,11 @@
 //! The session of a print host with its printer: desk, sender and link, joined turn by turn.
 #![tactic(auto)]
 
-mod found;
 mod open_turn;
 mod session;
 #[cfg(test)]
 mod tests;
 
-pub use found::Turned;
 pub use job_desk::{Ending, Issued, LinkFact, Note, SessionEnd};
 pub use session::Session;
+pub use session_steps::Turned;

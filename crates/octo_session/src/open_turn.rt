@@ -8,21 +8,23 @@ ghost use Rattle.send_window.specs.declared.session_end.SessionEnd.{SessionEnd};
 ghost use Rattle.send_window.specs.Data.{IsSound};
 ghost use Rattle.send_window.specs.Hearing.{tick_step};
 ghost use Rattle.send_window.specs.Sending.{next_of, room_of};
-ghost use Rattle.octo_session.specs.Data.{IsJoined};
-ghost use Rattle.octo_session.specs.DeskTurn.{IsNoted, Pulls};
-ghost use Rattle.octo_session.specs.Found.{got_of, temps_kept, temps_in, temps_of_reply, is_got, end_by, is_said, may_issue, up_after, can_find, lost, unasked};
-ghost use Rattle.octo_session.specs.Steps.{AreBytes, Takes, TakesSome, Issues, given_by, received_by, is_up_by, sends, speech, clock_steps, talk_steps};
-ghost use Rattle.octo_session.specs.Turn.{drawn, texts_in, is_unbroken, IsSpent};
+ghost use Rattle.session_steps.specs.Data.{IsJoined};
+ghost use Rattle.session_steps.specs.DeskTurn.{IsNoted, Pulls};
+ghost use Rattle.session_steps.specs.Found.{got_of, temps_kept, temps_in, temps_of_reply, is_got, is_said, up_after, can_find, unasked};
+ghost use Rattle.session_steps.specs.Steps.{AreBytes, Takes, TakesSome, Issues, received_by, sends, speech, clock_steps, talk_steps};
+ghost use Rattle.octo_session.specs.FoundBy.{IsFoundBy};
+ghost use Rattle.session_steps.specs.Turn.{drawn, texts_in, is_unbroken, IsSpent};
+ghost use Rattle.octo_session.specs.Given.{given_by, is_up_by};
 ghost use Rattle.octo_session.specs.declared.open_turn.Gave.TheVariants as gave;
-ghost use Rattle.octo_session.specs.declared.found.Doing.TheVariants as doing_now;
+ghost use Rattle.session_steps.specs.declared.found.Doing.TheVariants as doing_now;
 
-use crate::found::{Found, Received};
 use arrayvec::ArrayVec;
 use byte_text::{Line, ReplyLine};
 use job_desk::{Desk, Ending, Issued, LinkFact};
 use marlin_reply::{Reply, Temps, read_reply};
 use printer_link::{Heard, Link};
 use send_window::Sender;
+use session_steps::{Found, Received};
 
 /// What became of the next frame.
 #[derive(Clone, Copy)]
@@ -291,19 +293,10 @@ pub fn receive_then_send<L: Link>(
     requires joined { IsJoined desk.old sender.old true }
     ensures finds { can_find doing_now.Talking result.fact ≡ true }
     ensures asked { got_of result.received line.new.items ≢ unasked }
-    ensures temps { temps_kept result.received ≡ temps_in (got_of result.received line.new.items) }
+    ensures found_by { IsFoundBy moment (got_of result.received line.new.items) result
+        sender.old sender.new }
     ensures noted { IsNoted moment sender.new.acked result.fact (map line_of result.issued.items)
         desk.old result.ending desk.new }
-    ensures ended { (end : SessionEnd)
-        → (result.fact ≡ fact.Ended end)
-        ↔ (end_by (got_of result.received line.new.items) moment sender.old ≡ Some end) }
-    ensures ready { (result.fact ≡ fact.Ready)
-        ↔ ((sender.old.ready ≡ false) × (sender.new.ready ≡ true)) }
-    ensures broken { got_of result.received line.new.items ≡ lost → result.fact ≡ fact.Failed }
-    ensures none_issued { may_issue (got_of result.received line.new.items) result.fact ≡ false
-        → result.issued.items ≡ [] }
-    ensures silent { result.fact ≡ fact.Ready → result.issued.items ≡ [] }
-    ensures sent { result.fact ≡ fact.Ready → next_of sender.new ≡ None }
     ensures spent { result.fact ≡ fact.Quiet → IsSpent moment desk.new sender.new }
     ensures joined { IsJoined desk.new sender.new (up_after result.fact true) }
     ensures steps { TakesSome moment (L.kind link.old) (L.past link.old) (L.past link.new)

@@ -9,7 +9,7 @@ use Rattle.desk_steps.specs.Pull.{Drawn, talk, nothing, issue, from_scripts, fro
 use Rattle.desk_steps.specs.declared.state.State.{State}
 use Rattle.desk_steps.specs.declared.state.State.TheVariants.{Offline, Connecting, Operational, Printing, Pausing, Paused, Cancelling, Finishing, Closing, Fault}
 use Rattle.desk_steps.specs.declared.state.Tag.TheVariants.{Poll}
-use Rattle.octo_session.specs.DeskTurn.{Pulls}
+use Rattle.session_steps.specs.DeskTurn.{Pulls}
 use Rattle.print_course.specs.Plan.{PrintData}
 use Rattle.print_course.specs.Underway.{IsUnderway}
 use Rattle.print_course.specs.Progress.{after_pull}

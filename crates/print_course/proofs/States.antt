@@ -7,8 +7,8 @@ use Rattle.desk_steps.specs.Note.{Noted, end_at, opened, ready_at, fail, note_st
 use Rattle.desk_steps.specs.declared.state.State.{State}
 use Rattle.desk_steps.specs.declared.state.State.TheVariants.{Connecting, Operational, Fault}
 use Rattle.desk_steps.specs.declared.state.Tag.TheVariants.{Manual, Poll}
-use Rattle.octo_session.specs.DeskTurn.{Pulls}
-use Rattle.octo_session.proofs.Counts.{counted_pull}
+use Rattle.session_steps.specs.DeskTurn.{Pulls}
+use Rattle.session_steps.proofs.Counts.{counted_pull}
 use Rattle.print_course.proofs.Pulling.{issue_state}
 
 -- What pulls leave as it is.

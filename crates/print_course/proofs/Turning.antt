@@ -16,18 +16,18 @@ use Rattle.desk_steps.specs.declared.state.State.{State}
 use Rattle.desk_steps.specs.declared.state.State.TheVariants.{Offline, Connecting, Operational, Printing, Pausing, Paused, Cancelling, Finishing, Closing, Fault}
 use Rattle.printer_link.specs.Link.{LinkKind}
 use Rattle.printer_model.specs.declared.event.WorldEvent.{WorldEvent}
-use Rattle.octo_session.specs.Data.{SessionData, IsSession, is_connecting, doing}
-use Rattle.octo_session.specs.DeskTurn.{Pulls, last_noted, IsNoted}
-use Rattle.octo_session.specs.Found.{Got, unasked, lost, nothing as silence, whole, can_find, may_issue}
-use Rattle.octo_session.specs.Turn.{fact_of, lines_of, IsTurn, IsDeskTurn}
-use Rattle.octo_session.specs.declared.found.Doing.{Doing}
-use Rattle.octo_session.specs.declared.found.Doing.TheVariants.{Dialling, HangingUp, Talking, Resting}
-use Rattle.octo_session.proofs.Desk.{noted_greatest}
-use Rattle.octo_session.proofs.Counts.{begins, counts_note}
-use Rattle.octo_session.proofs.Doing.{dials_at, hangs_up_at}
+use Rattle.session_steps.specs.Data.{SessionData, IsSession, is_connecting, doing}
+use Rattle.session_steps.specs.DeskTurn.{Pulls, last_noted, IsNoted}
+use Rattle.session_steps.specs.Found.{Got, unasked, lost, nothing as silence, whole, can_find, may_issue}
+use Rattle.session_steps.specs.Turn.{fact_of, lines_of, IsTurn, IsDeskTurn}
+use Rattle.session_steps.specs.declared.found.Doing.{Doing}
+use Rattle.session_steps.specs.declared.found.Doing.TheVariants.{Dialling, HangingUp, Talking, Resting}
+use Rattle.session_steps.proofs.Desk.{noted_greatest}
+use Rattle.session_steps.proofs.Counts.{begins, counts_note}
+use Rattle.session_steps.proofs.Choosing.{dials_at, hangs_up_at}
 use Rattle.lossy_line.specs.Issuing.{issued_in}
-use Rattle.octo_session.proofs.Noting.{noted_fact, noted_lines}
-use Rattle.octo_session.specs.declared.found.Turned.{Turned}
+use Rattle.session_steps.proofs.Noting.{noted_fact, noted_lines}
+use Rattle.session_steps.specs.declared.found.Turned.{Turned}
 use Rattle.print_course.specs.Plan.{PrintData, line_texts}
 use Rattle.print_course.specs.Underway.{standing, IsUnderway, Suits, ComesTo, EndsAs}
 use Rattle.print_course.specs.Progress.{after_pull, after_fact}

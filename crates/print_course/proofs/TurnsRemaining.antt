@@ -5,7 +5,7 @@ use Rattle.desk_steps.specs.Pull.{pull_step}
 use Rattle.desk_steps.specs.Note.{Noted, note_step}
 use Rattle.desk_steps.specs.declared.link_fact.LinkFact.TheVariants as fact
 use Rattle.print_records.specs.declared.ending.Ending.{Ending}
-use Rattle.octo_session.specs.DeskTurn.{Pulls, IsNoted}
+use Rattle.session_steps.specs.DeskTurn.{Pulls, IsNoted}
 use Rattle.print_course.specs.Plan.{PrintData}
 use Rattle.print_course.specs.Underway.{standing, IsUnderway}
 use Rattle.print_course.specs.Progress.{after_pull}

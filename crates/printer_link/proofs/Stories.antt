@@ -6,8 +6,7 @@ use Rattle.std.proofs.lemmas.List.{replicate_more}
 use Rattle.std.proofs.lemmas.Bool.{cond_both}
 use Rattle.std.proofs.lemmas.List.Folds.{list_all-append}
 use Rattle.printer_model.specs.Printer.{is_full}
-use Rattle.printer_model.specs.Executed.{is_opened}
-use Rattle.printer_model.specs.World.{WorldData, arrive_front, world_from, apply, happen, can_happen, is_free, is_empty}
+use Rattle.printer_model.specs.World.{is_opened, WorldData, arrive_front, world_from, apply, happen, can_happen, is_free, is_empty}
 use Rattle.printer_link.specs.Link.{arrivals, dial_events, printer_events}
 use Rattle.printer_link.specs.Memory.{StoryData, FreeOnly, before_reply, opening_last, queue_runs, restart_events, story_world, with_events}
 use Rattle.printer_model.specs.declared.event.WorldEvent.{WorldEvent}

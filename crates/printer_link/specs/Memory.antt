@@ -5,8 +5,7 @@ use Rattle.std.specs.Str.{bytes_eq}
 use Rattle.arrayvec.specs.ArrayVec.{ArrayVec}
 use Rattle.octo_outside.specs.Memory.{one_more}
 use Rattle.printer_model.specs.Garble.{garbled}
-use Rattle.printer_model.specs.World.{WorldData, world_from, world_of, is_empty, is_free, IsFrontReply}
-use Rattle.printer_model.specs.Executed.{is_send, is_opened}
+use Rattle.printer_model.specs.World.{WorldData, world_from, world_of, is_empty, is_free, IsFrontReply, is_send, is_opened}
 use Rattle.printer_link.specs.Link.{LinkKind, printer_events}
 use Rattle.printer_model.specs.declared.event.WorldEvent.{WorldEvent}
 use Rattle.printer_model.specs.declared.event.WorldEvent.TheVariants.{Send, Lose, Garble, Run, Restart, Recv, Closed}

@@ -2,7 +2,8 @@
 ghost use Rattle.std.specs.Prelude.{◌≡◌, ◌≤◌, ◌∷◌, [], true, false, IfOk, OnOk, OnErr, IsErr, ◌↔◌, ℕ, IsErrOf, Err, Some, length, count_by};
 ghost use Rattle.octo_outside.specs.Memory.{one_more, is_listed};
 ghost use Rattle.octo_outside.specs.Told.{Counts};
-ghost use Rattle.printer_model.specs.Executed.{executed, is_loss};
+ghost use Rattle.printer_model.specs.World.{is_loss};
+ghost use Rattle.link_history.specs.Executed.{executed};
 ghost use Rattle.printer_link.specs.Memory.{called, closing_events, failed, grown, heard, is_due, is_prompt, link_kind, lists_name, link_world, new_link, next_fate, opening_last, send_events, sends, LinkReceived};
 ghost use Rattle.printer_link.specs.Link.{HasSlots, Grows, IsDial, IsHangUp, IsHeard, IsLoss, IsNothing, IsOpenAs, IsRuns, IsSend, IsSendLoss, IsSendOf, IsSilence, counted_one, dial_events, recv_events};
 ghost use Rattle.printer_model.specs.declared.event.WorldEvent.{WorldEvent};
@@ -14,8 +15,8 @@ use crate::link::{Heard, Link, LinkFault};
 use crate::schedule::Schedule;
 use crate::story::Story;
 use byte_text::{Line, ReplyLine};
+use link_history::Executed;
 use octo_outside::{CallList, NameList};
-use printer_model::Executed;
 use std::alloc::{AllocError, Global};
 use std::marker::Model;
 

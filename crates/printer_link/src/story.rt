@@ -1,8 +1,7 @@
 //! A world together with the events that led to it.
 ghost use Rattle.std.specs.Prelude.{◌≡◌, ◌<◌, ◌≤◌, ◌+◌, ◌%◌, ◌∷◌, ◌++◌, [], true, false, if◌then◌else◌, length, min, slice_index, slice_index_or, slice_set, vec_len, vec_capacity, OnOk, OnErr, IfOk};
 ghost use Rattle.std.specs.List.{list_any};
-ghost use Rattle.printer_model.specs.Executed.{is_opened, is_send};
-ghost use Rattle.printer_model.specs.World.{apply, world_from, takes_memory, IsFrontReply};
+ghost use Rattle.printer_model.specs.World.{is_opened, is_send, apply, world_from, takes_memory, IsFrontReply};
 ghost use Rattle.printer_link.specs.Link.{arrivals, due_run, printer_events, dial_events};
 ghost use Rattle.printer_link.specs.Memory.{story_world, with_events, sends, next_fate, harm_events, send_events, restart_events, before_reply, opening_last, queue_runs, closing_events, RunsOnly, FreeOnly};
 ghost use Rattle.printer_model.specs.declared.event.WorldEvent.TheVariants as event;

@@ -1,5 +1,3 @@
-pub mod Exchanged
-pub mod Executed
 pub mod Garble
 pub mod Printer
 pub mod Replies

@@ -46,6 +46,22 @@ is_free Restart = true
 is_free (Chatter reply) = true
 is_free _ = false
 
+-- whether an event opens a session
+abbrev pub is_opened : WorldEvent → Bool
+is_opened (Opened last) = true
+is_opened _ = false
+
+-- whether an event is a line that the host sent
+abbrev pub is_send : WorldEvent → Bool
+is_send (Send line) = true
+is_send _ = false
+
+-- whether an event is a line lost or garbled on its way to the printer
+abbrev pub is_loss : WorldEvent → Bool
+is_loss (Lose at) = true
+is_loss (Garble at line) = true
+is_loss _ = false
+
 -- the printer runs a line
 abbrev pub is_run : WorldEvent → Bool
 is_run Run = true

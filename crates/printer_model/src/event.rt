@@ -1,6 +1,6 @@
 //! What can happen between host and printer.
 ghost use Rattle.std.specs.Prelude.{◌≡◌};
-ghost use Rattle.printer_model.specs.Executed.{is_opened, is_send, is_loss};
+ghost use Rattle.printer_model.specs.World.{is_opened, is_send, is_loss};
 
 use byte_text::{Line, ReplyLine};
 

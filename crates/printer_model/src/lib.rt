@@ -11,11 +11,11 @@ mod wire;
 mod world;
 
 pub use event::WorldEvent;
-pub use executed::{Executed, ExecutedLine};
+pub use executed::ExecutedLine;
 pub use garble::garbled;
 pub use printer::{Printer, Ran, Reason, Taken};
 pub use replies::{error_line, ok_line, resend_line, start_line};
-pub use theorems::{line_law, reply_law, session_law, world_law};
+pub use theorems::{line_law, reply_law, world_law};
 pub use world::World;
 
 #[cfg(test)]

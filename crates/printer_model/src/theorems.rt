@@ -1,6 +1,6 @@
 //! Laws of the printer and of the world, on which proofs about hosts rest. A law's function does nothing: its contract
 //! is the law.
-ghost use Rattle.std.specs.Prelude.{◌≡◌, ◌≢◌, ℕ, suc, ◌<◌, ◌≤◌, ◌+◌, ◌^◌, ◌++◌, ◌∷◌, Bool, true, false, [], List, Option, Some, None, Ok, Err, bytes_eq, codes, pos, filter};
+ghost use Rattle.std.specs.Prelude.{◌≡◌, ◌≢◌, ℕ, ◌<◌, ◌+◌, ◌^◌, Bool, true, false, List, Option, Some, None, Ok, Err, bytes_eq, codes, pos};
 ghost use Rattle.std.specs.List.{list_all};
 ghost use Rattle.byte_text.specs.Marks.{has_m110};
 ghost use Rattle.marlin_frame.specs.Frame.{IsNumberedLine, begins_with_n, fails, has_checksum, lead_of, line_number_of};
@@ -9,10 +9,8 @@ ghost use Rattle.marlin_reply.specs.declared.reply.Reply.TheVariants as reply;
 ghost use Rattle.printer_model.specs.Replies.{asked_after, error_line, ok_line, resend_line, run_reply, start_line};
 ghost use Rattle.printer_model.specs.declared.printer.Reason.{Reason};
 ghost use Rattle.printer_model.specs.declared.printer.Reason.TheVariants as reason;
-ghost use Rattle.printer_model.specs.Exchanged.{session_of};
-ghost use Rattle.printer_model.specs.Executed.{executed, is_counted, opens};
 ghost use Rattle.printer_model.specs.World.{is_run};
-ghost use Rattle.printer_model.specs.Printer.{IsInTurn, IsRefusal, IsSameKind, Logged, judged, plain_entry};
+ghost use Rattle.printer_model.specs.Printer.{IsInTurn, IsRefusal, IsSameKind, judged, plain_entry};
 ghost use Rattle.printer_model.specs.World.{Grew, IsTidy, WorldData, accepted_lines, apply, is_free, moves_down, moves_printer, moves_up, world_from, world_of};
 ghost use Rattle.printer_model.specs.declared.event.WorldEvent.{WorldEvent};
 ghost use Rattle.printer_model.specs.declared.event.WorldEvent.TheVariants as event;
@@ -82,37 +80,4 @@ pub fn reply_law()
     ensures unnamed { (text : List ℕ) (free : ℕ) → bytes_eq text (codes "M105") ≡ false
         → free < 2 ^ 32
         → kind_of (run_reply true None text free) ≡ reply.Ok None (Some 15) (Some free) None }
-{}
-
-/// What more events leave of what a session executed and add to it, and the last session by itself.
-pub fn session_law()
-    ensures over { (places : ℕ) (advanced : Bool) (past added : List WorldEvent) (s : ℕ)
-        → s < opens past
-        → executed places advanced (past ++ added) s ≡ executed places advanced past s }
-    ensures grows { (places : ℕ) (advanced : Bool) (past added : List WorldEvent) (s : ℕ)
-        (lines : List Logged) → 0 < s → opens past ≡ s → opens added ≡ 0
-        → (world_of places advanced (past ++ added)).log
-        ≡ (world_of places advanced past).log ++ lines
-        → executed places advanced (past ++ added) s
-        ≡ executed places advanced past s ++ filter is_counted lines }
-
-    // Another session leaves those before it. What it executes is what the log gains from its Opened on.
-    ensures before { (places : ℕ) (advanced : Bool) (past rest : List WorldEvent) (last s : ℕ)
-        → s ≤ opens past
-        → executed places advanced (past ++ event.Opened last ∷ rest) s
-        ≡ executed places advanced past s }
-    ensures begun { (places : ℕ) (advanced : Bool) (front rest : List WorldEvent) (last : ℕ)
-        (lines : List Logged) → opens rest ≡ 0
-        → (world_of places advanced (front ++ event.Opened last ∷ rest)).log
-        ≡ (world_of places advanced front).log ++ lines
-        → executed places advanced (front ++ event.Opened last ∷ rest) (suc (opens front))
-        ≡ filter is_counted lines }
-    ensures events { (front rest : List WorldEvent) (last : ℕ) → opens rest ≡ 0
-        → session_of (suc (opens front)) (front ++ event.Opened last ∷ rest)
-        ≡ event.Opened last ∷ rest }
-
-    // What the line and the printer do by themselves opens no session, runs among it.
-    ensures free { (events : List WorldEvent) → list_all is_free events ≡ true → opens events ≡ 0 }
-    ensures runs { (events : List WorldEvent) → list_all is_run events ≡ true
-        → list_all is_free events ≡ true }
 {}

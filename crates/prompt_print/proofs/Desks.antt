@@ -10,8 +10,8 @@ use Rattle.desk_steps.specs.declared.state.Tag.TheVariants.{Job, Manual, Poll}
 use Rattle.desk_steps.specs.declared.link_fact.LinkFact.TheVariants as fact
 use Rattle.print_records.specs.declared.ending.Ending.{Ending}
 use Rattle.print_records.specs.declared.ending.Outcome.TheVariants as outcome
-use Rattle.octo_session.specs.DeskTurn.{Pulls, IsNoted}
-use Rattle.octo_session.proofs.Desk.{pull_settles, note_settles}
+use Rattle.session_steps.specs.DeskTurn.{Pulls, IsNoted}
+use Rattle.session_steps.proofs.Desk.{pull_settles, note_settles}
 use Rattle.print_course.specs.Plan.{PrintData}
 use Rattle.print_course.specs.Underway.{IsUnderway}
 use Rattle.print_course.specs.Progress.{after_pull}

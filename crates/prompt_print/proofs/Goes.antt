@@ -15,13 +15,13 @@ use Rattle.printer_link.specs.Link.{LinkKind, world_in}
 use Rattle.send_window.specs.Data.{SenderData, most_lines}
 use Rattle.send_window.specs.Sending.{room_of}
 use Rattle.send_window.specs.declared.session_end.SessionEnd.{SessionEnd}
-use Rattle.octo_session.specs.Data.{SessionData, doing}
-use Rattle.octo_session.specs.DeskTurn.{IsNoted}
-use Rattle.octo_session.specs.Found.{Got, unasked, lost, nothing, whole, can_find, end_by, up_after}
-use Rattle.octo_session.specs.Steps.{talk_steps}
-use Rattle.octo_session.specs.Turn.{fact_of, texts_in, IsSpent}
-use Rattle.octo_session.specs.declared.found.Doing.TheVariants.{Talking}
-use Rattle.octo_session.specs.declared.found.Turned.{Turned}
+use Rattle.session_steps.specs.Data.{SessionData, doing}
+use Rattle.session_steps.specs.DeskTurn.{IsNoted}
+use Rattle.session_steps.specs.Found.{Got, unasked, lost, nothing, whole, can_find, end_by, up_after}
+use Rattle.session_steps.specs.Steps.{talk_steps}
+use Rattle.session_steps.specs.Turn.{fact_of, texts_in, IsSpent}
+use Rattle.session_steps.specs.declared.found.Doing.TheVariants.{Talking}
+use Rattle.session_steps.specs.declared.found.Turned.{Turned}
 use Rattle.prompt_turns.specs.Prompt.{IsSaying}
 use Rattle.prompt_turns.proofs.Prompted.{HasGoneOn, prompt_talk, heard_goes_on, silence_goes_on}
 use Rattle.print_course.specs.Plan.{PrintData, line_texts}

@@ -16,13 +16,13 @@ use Rattle.send_window.specs.Data.{SenderData, begun}
 use Rattle.send_window.specs.Hearing.{made_ready}
 use Rattle.send_window.specs.Sending.{next_of}
 use Rattle.send_window.specs.declared.session_end.SessionEnd.{SessionEnd}
-use Rattle.octo_session.specs.Data.{SessionData, doing}
-use Rattle.octo_session.specs.DeskTurn.{IsNoted}
-use Rattle.octo_session.specs.Found.{Got, unasked, lost, nothing, whole, can_find, end_by, is_said, ready_after, up_after}
-use Rattle.octo_session.specs.Steps.{after_steps, dial_steps, talk_steps}
-use Rattle.octo_session.specs.Turn.{fact_of, texts_in}
-use Rattle.octo_session.specs.declared.found.Doing.TheVariants.{Dialling, Talking}
-use Rattle.octo_session.specs.declared.found.Turned.{Turned}
+use Rattle.session_steps.specs.Data.{SessionData, doing}
+use Rattle.session_steps.specs.DeskTurn.{IsNoted}
+use Rattle.session_steps.specs.Found.{Got, unasked, lost, nothing, whole, can_find, end_by, is_said, ready_after, up_after}
+use Rattle.session_steps.specs.Steps.{after_steps, dial_steps, talk_steps}
+use Rattle.session_steps.specs.Turn.{fact_of, texts_in}
+use Rattle.session_steps.specs.declared.found.Doing.TheVariants.{Dialling, Talking}
+use Rattle.session_steps.specs.declared.found.Turned.{Turned}
 use Rattle.lossy_line.specs.Issuing.{issued_in}
 use Rattle.prompt_turns.specs.Prompt.{IsSaying, IsGreeting}
 use Rattle.prompt_turns.proofs.Greeting.{dial_greeting}

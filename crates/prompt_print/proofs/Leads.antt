@@ -4,9 +4,9 @@ use Rattle.std.specs.Prelude.{Option}
 use Rattle.desk_steps.specs.declared.link_fact.LinkFact.{LinkFact}
 use Rattle.printer_model.specs.declared.event.WorldEvent.{WorldEvent}
 use Rattle.printer_link.specs.Link.{LinkKind}
-use Rattle.octo_session.specs.Data.{SessionData}
-use Rattle.octo_session.specs.Turn.{fact_of}
-use Rattle.octo_session.specs.declared.found.Turned.{Turned}
+use Rattle.session_steps.specs.Data.{SessionData}
+use Rattle.session_steps.specs.Turn.{fact_of}
+use Rattle.session_steps.specs.declared.found.Turned.{Turned}
 use Rattle.print_course.specs.Plan.{PrintData}
 use Rattle.prompt_print.specs.OnWay.{IsOnWay, dials, greets, waits, goes, LeadsOn}
 use Rattle.prompt_print.proofs.Turns.{HasTurned, its_fact}

@@ -11,7 +11,7 @@ use Rattle.printer_link.specs.Link.{LinkKind}
 use Rattle.send_window.specs.Data.{SenderData, IsSound, most_lines}
 use Rattle.send_window.specs.Sending.{Outgoing, line, next_at, next_of, room_at, room_of}
 use Rattle.send_window.specs.declared.session_end.SessionEnd.{SessionEnd}
-use Rattle.octo_session.specs.Data.{SessionData}
+use Rattle.session_steps.specs.Data.{SessionData}
 use Rattle.print_course.specs.Plan.{PrintData}
 use Rattle.print_course.specs.Remaining.{is_giving}
 use Rattle.prompt_print.specs.OnWay.{IsInPrint, Silences, starts, prints, leaves, closes, IsGoing}

@@ -10,8 +10,8 @@ use Rattle.desk_steps.specs.declared.state.State.{State}
 use Rattle.desk_steps.specs.declared.state.State.TheVariants.{Offline, Connecting, Operational, Printing, Pausing, Paused, Cancelling, Finishing, Closing, Fault}
 use Rattle.printer_model.specs.declared.event.WorldEvent.{WorldEvent}
 use Rattle.printer_link.specs.Link.{LinkKind}
-use Rattle.octo_session.specs.Data.{SessionData, doing, is_connecting}
-use Rattle.octo_session.specs.declared.found.Doing.TheVariants.{Dialling}
+use Rattle.session_steps.specs.Data.{SessionData, doing, is_connecting}
+use Rattle.session_steps.specs.declared.found.Doing.TheVariants.{Dialling}
 use Rattle.print_course.specs.Plan.{PrintData}
 use Rattle.prompt_print.specs.OnWay.{plan_length, IsOnWay}
 use Rattle.prompt_print.specs.Smooth.{IsUnsaturated, IsSmooth}

@@ -11,14 +11,14 @@ use Rattle.printer_model.specs.World.{WorldData, world_from}
 use Rattle.printer_model.proofs.Laws.{world_of-append}
 use Rattle.printer_link.specs.Link.{LinkKind, world_in}
 use Rattle.send_window.specs.Data.{SenderData}
-use Rattle.octo_session.specs.Data.{SessionData, IsSession, doing, port_of}
-use Rattle.octo_session.specs.Found.{unasked, lost, is_got, is_said, can_find, ready_after}
-use Rattle.octo_session.specs.Steps.{Step, after_steps, AreAllowed, AreAdded, Takes, turn_steps}
-use Rattle.octo_session.specs.Turn.{IsTurn, IsDeskTurn, fact_of, lines_of, texts_in}
-use Rattle.octo_session.specs.declared.found.Doing.{Doing}
-use Rattle.octo_session.specs.declared.found.Doing.TheVariants.{Dialling, HangingUp, Talking}
-use Rattle.octo_session.specs.declared.found.Turned.{Turned}
-use Rattle.octo_session.proofs.Noting.{noted_fact, noted_lines}
+use Rattle.session_steps.specs.Data.{SessionData, IsSession, doing, port_of}
+use Rattle.session_steps.specs.Found.{unasked, lost, is_got, is_said, can_find, ready_after}
+use Rattle.session_steps.specs.Steps.{Step, after_steps, AreAllowed, AreAdded, Takes, turn_steps}
+use Rattle.session_steps.specs.Turn.{IsTurn, IsDeskTurn, fact_of, lines_of, texts_in}
+use Rattle.session_steps.specs.declared.found.Doing.{Doing}
+use Rattle.session_steps.specs.declared.found.Doing.TheVariants.{Dialling, HangingUp, Talking}
+use Rattle.session_steps.specs.declared.found.Turned.{Turned}
+use Rattle.session_steps.proofs.Noting.{noted_fact, noted_lines}
 use Rattle.lossy_line.proofs.Told.{IsKept}
 use Rattle.print_course.specs.Plan.{PrintData}
 use Rattle.print_course.specs.Turned.{IsTurnOf}

@@ -12,8 +12,8 @@ use Rattle.printer_model.specs.World.{WorldData}
 use Rattle.printer_model.specs.declared.event.WorldEvent.{WorldEvent}
 use Rattle.printer_link.specs.Link.{LinkKind, world_in}
 use Rattle.send_window.specs.Data.{SenderData, IsSound, most_lines}
-use Rattle.octo_session.specs.Data.{SessionData, doing, port_of}
-use Rattle.octo_session.specs.declared.found.Doing.TheVariants.{Dialling}
+use Rattle.session_steps.specs.Data.{SessionData, doing, port_of}
+use Rattle.session_steps.specs.declared.found.Doing.TheVariants.{Dialling}
 use Rattle.temp_rules.specs.Hot.{first_hot_of}
 use Rattle.prompt_turns.specs.Prompt.{IsSaying, IsGreeting}
 use Rattle.print_course.specs.Plan.{PrintData, print_commands, plan}

@@ -13,9 +13,9 @@ use Rattle.printer_link.specs.Link.{IsHeard, IsSilence, recv_events}
 use Rattle.send_window.specs.Data.{SenderData}
 use Rattle.send_window.specs.Hearing.{made_ready, hear_step, tick_step, is_past}
 use Rattle.send_window.specs.Sending.{next_of}
-use Rattle.octo_session.specs.Found.{nothing, whole, end_by}
-use Rattle.octo_session.specs.Steps.{Step, opens, finds_no_port, fails_to_dial, hears, listens, fails_to_receive, ticks, issues, gives, fails_to_send, hangs_up, after_step, after_steps, AreAllowed, AreAdded, speech, talk_steps}
-use Rattle.octo_session.proofs.Keeping.{keeps_frame}
+use Rattle.session_steps.specs.Found.{nothing, whole, end_by}
+use Rattle.session_steps.specs.Steps.{Step, opens, finds_no_port, fails_to_dial, hears, listens, fails_to_receive, ticks, issues, gives, fails_to_send, hangs_up, after_step, after_steps, AreAllowed, AreAdded, speech, talk_steps}
+use Rattle.session_steps.proofs.Keeping.{keeps_frame}
 use Rattle.lossy_wires.specs.Pieces.{Each}
 use Rattle.prompt_turns.specs.Prompt.{IsSaying, IsGreeting}
 use Rattle.prompt_turns.proofs.Saying.{tick_idle, IsSayStep, say_speech}

@@ -18,7 +18,7 @@ use Rattle.send_window.specs.Hearing.{made_ready, hear_step}
 use Rattle.send_window.specs.Sending.{Outgoing, hello, next_at, next_of, given as given_out, timed, frame_step, room_of}
 use Rattle.send_window.specs.declared.session_end.SessionEnd.{SessionEnd}
 use Rattle.send_window.proofs.Soundness.{begun_sound, hears_sound, gives_sound}
-use Rattle.octo_session.specs.Steps.{after_steps, AreAllowed, AreAdded, IsGiven, IsGivenAlone, speech}
+use Rattle.session_steps.specs.Steps.{after_steps, AreAllowed, AreAdded, IsGiven, IsGivenAlone, speech}
 use Rattle.lossy_wires.specs.Pieces.{greeting, text_in, bytes_in, entry_in, ok_heard, named_by, Each, IsFit}
 use Rattle.lossy_wires.proofs.Hearing.{hear_as, ok_by}
 use Rattle.lossy_wires.proofs.Reading.{greeting_accepted, last_after-greeting, IsRunReply, run_heard}

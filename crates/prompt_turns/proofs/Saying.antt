@@ -15,7 +15,7 @@ use Rattle.send_window.specs.Data.{SenderData, IsSound, most_lines}
 use Rattle.send_window.specs.Hearing.{later, acknowledged, hear_step, tick_step, deadline_at, end_of_numbers, is_past}
 use Rattle.send_window.specs.Sending.{Outgoing, line, next_at, next_of, given as given_out, timed, frame_step, push_step, room_of}
 use Rattle.send_window.specs.declared.session_end.SessionEnd.{SessionEnd}
-use Rattle.octo_session.specs.Steps.{Step, opens, finds_no_port, fails_to_dial, hears, listens, fails_to_receive, ticks, issues, gives, fails_to_send, hangs_up, after_steps, AreAllowed, AreAdded, IsGiven, IsGivenAlone, issuing, speech}
+use Rattle.session_steps.specs.Steps.{Step, opens, finds_no_port, fails_to_dial, hears, listens, fails_to_receive, ticks, issues, gives, fails_to_send, hangs_up, after_steps, AreAllowed, AreAdded, IsGiven, IsGivenAlone, issuing, speech}
 use Rattle.printer_model.specs.Printer.{Entry, PrinterData}
 use Rattle.send_window.proofs.Soundness.{hears_sound, issues_sound, gives_sound}
 use Rattle.lossy_wires.specs.Pieces.{command, bytes_in, entry_in, ok_heard, named_by, Each, IsFit}

@@ -6,7 +6,7 @@ use Rattle.printer_model.specs.declared.event.WorldEvent.{WorldEvent}
 use Rattle.printer_link.specs.Link.{LinkKind}
 use Rattle.printer_link.proofs.Grown.{recorded_same}
 use Rattle.send_window.specs.Data.{SenderData, IsSound}
-use Rattle.octo_session.specs.Data.{SessionData, doing, port_of}
+use Rattle.session_steps.specs.Data.{SessionData, doing, port_of}
 use Rattle.temp_rules.specs.Hot.{first_hot_of}
 use Rattle.print_course.specs.Underway.{IsUnderway}
 use Rattle.print_course.proofs.Calls.{select-underway}

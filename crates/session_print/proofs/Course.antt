@@ -9,7 +9,7 @@ use Rattle.desk_steps.specs.declared.link_fact.LinkFact.TheVariants as fact
 use Rattle.desk_steps.specs.declared.state.State.{State}
 use Rattle.desk_steps.specs.declared.state.State.TheVariants.{Offline, Connecting, Operational, Printing, Pausing, Paused, Cancelling, Finishing, Closing, Fault}
 use Rattle.print_records.specs.declared.ending.Ending.{Ending}
-use Rattle.octo_session.specs.DeskTurn.{Pulls, IsNoted}
+use Rattle.session_steps.specs.DeskTurn.{Pulls, IsNoted}
 use Rattle.print_course.specs.Plan.{PrintData}
 use Rattle.print_course.specs.Underway.{IsUnderway}
 use Rattle.print_course.proofs.Calls.{start-underway, disconnect-underway}

@@ -13,10 +13,10 @@ use Rattle.print_records.specs.declared.ending.Ending.{Ending}
 use Rattle.printer_model.specs.declared.event.WorldEvent.{WorldEvent}
 use Rattle.printer_link.specs.Link.{LinkKind}
 use Rattle.printer_link.proofs.Grown.{recorded_so}
-use Rattle.octo_session.specs.Data.{SessionData, doing, is_calling}
-use Rattle.octo_session.specs.Found.{can_find}
-use Rattle.octo_session.specs.declared.found.Doing.{Doing}
-use Rattle.octo_session.specs.declared.found.Doing.TheVariants.{Dialling, HangingUp, Talking, Resting}
+use Rattle.session_steps.specs.Data.{SessionData, doing, is_calling}
+use Rattle.session_steps.specs.Found.{can_find}
+use Rattle.session_steps.specs.declared.found.Doing.{Doing}
+use Rattle.session_steps.specs.declared.found.Doing.TheVariants.{Dialling, HangingUp, Talking, Resting}
 use Rattle.print_course.specs.Plan.{PrintData, print_commands, plan}
 use Rattle.print_course.specs.Underway.{IsUnderway}
 use Rattle.lossy_line.proofs.Turned.{rests_down}

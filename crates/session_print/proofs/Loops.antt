@@ -1,11 +1,11 @@
 -- What a print between two turns says of the next one, and what it leaves if no turn is left.
 use Rattle.std.proofs.Common.{◌≡◌, ◌⊎◌, inl, inr, ℕ, Bool, true, false, List, [], ◌++◌, Option, sym, ◌∙◌, ap, subst}
 use Rattle.printer_model.specs.declared.event.WorldEvent.{WorldEvent}
-use Rattle.printer_model.specs.Executed.{opens}
+use Rattle.link_history.specs.Executed.{opens}
 use Rattle.printer_link.specs.Link.{LinkKind, Recorded, Grows, IsHangUp, world_in}
 use Rattle.printer_link.proofs.Grown.{recorded_then, recorded_so}
-use Rattle.octo_session.specs.Data.{SessionData, doing, port_of}
-use Rattle.octo_session.specs.declared.found.Doing.TheVariants.{Dialling}
+use Rattle.session_steps.specs.Data.{SessionData, doing, port_of}
+use Rattle.session_steps.specs.declared.found.Doing.TheVariants.{Dialling}
 use Rattle.lossy_line.proofs.Turned.{dials_down}
 use Rattle.print_course.specs.Plan.{PrintData, print_commands, plan}
 use Rattle.print_course.proofs.Results.{underway-part}

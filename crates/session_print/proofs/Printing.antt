@@ -1,12 +1,12 @@
 -- What a print has made of a history, by its plan and its end.
 use Rattle.std.proofs.Common.{◌≡◌, ◌⊎◌, inl, inr, ℕ, zero, suc, ◌≤◌, List, [], ◌∷◌, ◌++◌, length, take, refl, sym, ◌∙◌, ap, arith}
 use Rattle.std.specs.Prelude.{◌<◌, Option, Some, None}
-use Rattle.printer_model.specs.Executed.{opens, executed}
+use Rattle.link_history.specs.Executed.{opens, executed}
 use Rattle.printer_model.specs.declared.event.WorldEvent.{WorldEvent}
 use Rattle.printer_link.specs.Link.{LinkKind}
 use Rattle.lossy_line.specs.Tied.{logged_from}
 use Rattle.print_course.specs.Plan.{Weave, empty, WeavesPart}
-use Rattle.octo_session.specs.Data.{SessionData}
+use Rattle.session_steps.specs.Data.{SessionData}
 use Rattle.lossy_turns.specs.History.{HasIssued, IsMade}
 use Rattle.lossy_turns.specs.Patience.{IsUnanswered}
 use Rattle.session_print.specs.Printed.{HasPrinted}

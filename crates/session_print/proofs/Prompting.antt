@@ -7,7 +7,7 @@ use Rattle.desk_steps.specs.declared.link_fact.LinkFact.TheVariants as fact
 use Rattle.print_records.specs.declared.ending.Ending.{Ending}
 use Rattle.printer_model.specs.declared.event.WorldEvent.{WorldEvent}
 use Rattle.printer_link.specs.Link.{LinkKind}
-use Rattle.octo_session.specs.Data.{SessionData, port_of}
+use Rattle.session_steps.specs.Data.{SessionData, port_of}
 use Rattle.print_course.specs.Plan.{PrintData}
 use Rattle.prompt_print.specs.OnWay.{plan_length, IsOnWay, dials, LeadsOn}
 use Rattle.prompt_print.specs.Smooth.{IsSmooth}

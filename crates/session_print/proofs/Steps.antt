@@ -12,14 +12,14 @@ use Rattle.printer_model.specs.declared.event.WorldEvent.{WorldEvent}
 use Rattle.printer_link.specs.Link.{LinkKind, Recorded, world_in}
 use Rattle.printer_link.proofs.Grown.{recorded_then, recorded_so}
 use Rattle.send_window.specs.Data.{SenderData, IsSound}
-use Rattle.octo_session.specs.Data.{SessionData, IsSession, doing, port_of}
-use Rattle.octo_session.specs.DeskTurn.{IsNoted}
-use Rattle.octo_session.specs.Found.{is_got, is_said, can_find, up_after, ready_after}
-use Rattle.octo_session.specs.Steps.{after_steps, turn_steps}
-use Rattle.octo_session.specs.Turn.{IsTurn, IsDeskTurn, fact_of, lines_of, texts_in}
-use Rattle.octo_session.specs.declared.found.Doing.{Doing}
-use Rattle.octo_session.specs.declared.found.Doing.TheVariants.{Dialling, HangingUp, Talking, Resting}
-use Rattle.octo_session.specs.declared.found.Turned.{Turned}
+use Rattle.session_steps.specs.Data.{SessionData, IsSession, doing, port_of}
+use Rattle.session_steps.specs.DeskTurn.{IsNoted}
+use Rattle.session_steps.specs.Found.{is_got, is_said, can_find, up_after, ready_after}
+use Rattle.session_steps.specs.Steps.{after_steps, turn_steps}
+use Rattle.session_steps.specs.Turn.{IsTurn, IsDeskTurn, fact_of, lines_of, texts_in}
+use Rattle.session_steps.specs.declared.found.Doing.{Doing}
+use Rattle.session_steps.specs.declared.found.Doing.TheVariants.{Dialling, HangingUp, Talking, Resting}
+use Rattle.session_steps.specs.declared.found.Turned.{Turned}
 use Rattle.print_course.specs.Plan.{PrintData, print_commands, plan, Weave, line_texts}
 use Rattle.print_course.specs.Turned.{IsTurnOf}
 use Rattle.print_course.proofs.Turning.{turn-underway}
@@ -28,7 +28,7 @@ use Rattle.print_course.proofs.Results.{underway-part, underway-whole}
 use Rattle.lossy_line.specs.Issuing.{issued_in}
 use Rattle.lossy_line.specs.Linked.{IsLinked, LinkedAs, opened}
 use Rattle.lossy_line.specs.Tied.{EndCausedAs}
-use Rattle.octo_session.proofs.Noting.{noted_fact, noted_lines}
+use Rattle.session_steps.proofs.Noting.{noted_fact, noted_lines}
 use Rattle.lossy_line.proofs.Told.{IsKept}
 use Rattle.lossy_line.proofs.Turned.{IsTurned, dials_down, rests_down, opens_dialling}
 use Rattle.session_print.specs.Ends.{IsUnsent, end_of}

@@ -3,8 +3,8 @@ use Rattle.std.specs.Prelude.{◌≡◌, ◌⊎◌, ℕ, true, false, List, [], 
 use Rattle.printer_model.specs.declared.event.WorldEvent.{WorldEvent}
 use Rattle.printer_link.specs.Link.{LinkKind, Recorded}
 use Rattle.send_window.specs.Data.{IsSound}
-use Rattle.octo_session.specs.Data.{SessionData, doing, port_of}
-use Rattle.octo_session.specs.declared.found.Doing.TheVariants.{Dialling}
+use Rattle.session_steps.specs.Data.{SessionData, doing, port_of}
+use Rattle.session_steps.specs.declared.found.Doing.TheVariants.{Dialling}
 use Rattle.temp_rules.specs.Hot.{first_hot_of}
 use Rattle.print_course.specs.Plan.{PrintData, print_commands, plan}
 use Rattle.print_course.specs.Underway.{IsUnderway}

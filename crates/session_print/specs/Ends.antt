@@ -6,7 +6,7 @@ use Rattle.desk_steps.specs.declared.link_fact.LinkFact.{LinkFact}
 use Rattle.desk_steps.specs.declared.link_fact.LinkFact.TheVariants as fact
 use Rattle.print_records.specs.declared.ending.Ending.{Ending}
 use Rattle.send_window.specs.Data.{IsSound, new_sender}
-use Rattle.octo_session.specs.Data.{SessionData}
+use Rattle.session_steps.specs.Data.{SessionData}
 use Rattle.temp_rules.specs.declared.job.HotLine.{HotLine}
 use Rattle.print_course.specs.Plan.{PrintData}
 use Rattle.session_print.specs.declared.end.PrintEnd.{PrintEnd}

@@ -2,7 +2,7 @@
 use Rattle.std.specs.Prelude.{◌≡◌, ℕ, List, Option, None, Some}
 use Rattle.printer_model.specs.declared.event.WorldEvent.{WorldEvent}
 use Rattle.printer_link.specs.Link.{LinkKind}
-use Rattle.octo_session.specs.Data.{SessionData}
+use Rattle.session_steps.specs.Data.{SessionData}
 use Rattle.print_course.specs.Plan.{PrintData}
 use Rattle.prompt_print.specs.OnWay.{IsOnWay}
 use Rattle.session_print.specs.declared.end.PrintEnd.{PrintEnd}

@@ -1,12 +1,12 @@
 -- What a print has made of the history of its link.
 use Rattle.std.specs.Prelude.{◌≡◌, ◌⊎◌, ◌<◌, ℕ, suc, List, [], ◌++◌, length, Option, Some}
-use Rattle.printer_model.specs.Executed.{opens, executed}
+use Rattle.link_history.specs.Executed.{opens, executed}
 use Rattle.printer_model.specs.declared.event.WorldEvent.{WorldEvent}
 use Rattle.printer_link.specs.Link.{LinkKind, Recorded}
 use Rattle.send_window.specs.declared.session_end.SessionEnd.{SessionEnd}
 use Rattle.send_window.specs.declared.session_end.SessionEnd.TheVariants.{NoAnswer}
 use Rattle.send_window.specs.Data.{SenderData}
-use Rattle.octo_session.specs.Data.{SessionData}
+use Rattle.session_steps.specs.Data.{SessionData}
 use Rattle.lossy_line.specs.Tied.{EndCausedAs, logged_from}
 use Rattle.print_course.specs.Plan.{Weave, WeavesPart}
 use Rattle.lossy_turns.specs.History.{HasIssued}

@@ -4,7 +4,7 @@ use Rattle.std.proofs.KnownBytes.{Consumes-nil}
 use Rattle.std.specs.Io.KnownBytes.{Keeps, Consumes}
 use Rattle.std.specs.List.{list_any, before_first, after_first}
 use Rattle.printer_link.specs.declared.link.Heard.TheVariants.{Line, Nothing}
-use Rattle.socket_link.specs.Heard.{Came, Hears, HeardLater}
+use Rattle.socket_link.specs.Heard.{Came, HeardLater}
 use Rattle.socket_link.specs.Lines.{LinesData, cut, ends_line}
 use Rattle.socket_link.specs.Sent.{Wrote}
 

@@ -29,6 +29,16 @@ fn refusals(rt: HostRuntime) -> Result<(), Fail> {
             409,
             "{\"error\":\"KeyTaken\",\"name\":\"eve\"}",
         ),
+    ] {
+        shows(&rt, alloc, answer, status, body)?;
+    }
+    Ok(())
+}
+
+#[test]
+fn states_and_counts(rt: HostRuntime) -> Result<(), Fail> {
+    let alloc = rt.alloc();
+    for (answer, status, body) in [
         (
             Answer::WrongState {
                 state: State::Printing,
@@ -72,6 +82,16 @@ fn file_refusals(rt: HostRuntime) -> Result<(), Fail> {
             400,
             "{\"bytes\":67108865,\"error\":\"BadFile\",\"fault\":\"TooLarge\"}",
         ),
+    ] {
+        shows(&rt, alloc, answer, status, body)?;
+    }
+    Ok(())
+}
+
+#[test]
+fn heat_refusals(rt: HostRuntime) -> Result<(), Fail> {
+    let alloc = rt.alloc();
+    for (answer, status, body) in [
         (
             Answer::TooHot {
                 asked: 260,

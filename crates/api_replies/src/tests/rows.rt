@@ -12,7 +12,7 @@ fn puts(rt: &impl Abort, alloc: Global, reply: &HttpReply, bytes: &str) -> Resul
     Ok(())
 }
 
-// A pause while printing, a restart while printing; too hot; a denied start.
+// A pause while printing, a restart while printing; too hot.
 #[test]
 fn jobs(rt: HostRuntime) -> Result<(), Fail> {
     let alloc = rt.alloc();
@@ -45,6 +45,18 @@ Content-Type: application/json\r\n\r\n{\"asked\":260,\"error\":\"TooHot\",\"limi
             "HTTP/1.1 409 Conflict\r\nConnection: close\r\nContent-Length: 55\r\n\
 Content-Type: application/json\r\n\r\n{\"asked\":260,\"error\":\"TooHotLine\",\"limit\":250,\"line\":3}",
         ),
+    ] {
+        let reply = to_bytes(alloc, answer)?;
+        puts(&rt, alloc, &reply, bytes)?;
+    }
+    Ok(())
+}
+
+// A denied start, a caller without a key, a keeper that fails, out of memory.
+#[test]
+fn denials(rt: HostRuntime) -> Result<(), Fail> {
+    let alloc = rt.alloc();
+    for (answer, bytes) in [
         (
             Answer::Denied {
                 permission: Some(Permission::Print),
@@ -109,7 +121,7 @@ Content-Type: application/json\r\n\r\n{\"count\":64,\"error\":\"Full\"}",
     Ok(())
 }
 
-// An upload, one whose print was not started, a file that is printed, a shelf that fails, a download.
+// An upload, and two whose print was not started.
 #[test]
 fn uploads(rt: HostRuntime) -> Result<(), Fail> {
     let alloc = rt.alloc();
@@ -139,6 +151,18 @@ Content-Type: application/json\r\n\r\n{\"done\":true,\"effectivePrint\":false,\"
             "HTTP/1.1 507 Insufficient Storage\r\nConnection: close\r\nContent-Length: 149\r\n\
 Content-Type: application/json\r\n\r\n{\"done\":true,\"effectivePrint\":false,\"effectiveSelect\":true,\"error\":\"NoMemory\",\"files\":{\"local\":{\"name\":\"a.gcode\",\"origin\":\"local\",\"path\":\"a.gcode\"}}}",
         ),
+    ] {
+        let reply = to_bytes(alloc, answer)?;
+        puts(&rt, alloc, &reply, bytes)?;
+    }
+    Ok(())
+}
+
+// A file that is printed, a shelf that fails, a download.
+#[test]
+fn files(rt: HostRuntime) -> Result<(), Fail> {
+    let alloc = rt.alloc();
+    for (answer, bytes) in [
         (
             Answer::FileBusy,
             "HTTP/1.1 409 Conflict\r\nConnection: close\r\nContent-Length: 20\r\n\
@@ -203,6 +227,13 @@ fn no_requests(rt: HostRuntime) -> Result<(), Fail> {
         let reply = direct_bytes(alloc, direct);
         puts(&rt, alloc, &reply, bytes)?;
     }
+    Ok(())
+}
+
+// Messages with a fault; a peer that has gone gets no reply.
+#[test]
+fn faulty_messages(rt: HostRuntime) -> Result<(), Fail> {
+    let alloc = rt.alloc();
     for (fault, bytes) in [
         (
             MessageFault::BadHead,

@@ -1,9 +1,19 @@
 //! The states of the printer, and its temperatures.
 use super::*;
 
-// Each state with its text and its flags.
+// A printer in this state, without a temperature, is shown so.
+fn is_shown(rt: &impl Abort, alloc: Global, state: State, body: &str) -> Result<(), Fail> {
+    let answer = Answer::Printer {
+        state,
+        tool: None,
+        bed: None,
+    };
+    shows(rt, alloc, answer, 200, body)
+}
+
+// Each state without a print, with its text and its flags.
 #[test]
-fn states(rt: HostRuntime) -> Result<(), Fail> {
+fn states_without_a_print(rt: HostRuntime) -> Result<(), Fail> {
     let alloc = rt.alloc();
     for (state, body) in [
         (
@@ -21,6 +31,27 @@ fn states(rt: HostRuntime) -> Result<(), Fail> {
             "{\"state\":{\"flags\":{\"cancelling\":false,\"closedOrError\":false,\"error\":false,\"finishing\":false,\
 \"operational\":true,\"paused\":false,\"pausing\":false,\"printing\":false,\"ready\":true,\"sdReady\":false},\"text\":\"Operational\"},\"temperature\":{}}",
         ),
+        (
+            State::Closing,
+            "{\"state\":{\"flags\":{\"cancelling\":false,\"closedOrError\":false,\"error\":false,\"finishing\":false,\
+\"operational\":false,\"paused\":false,\"pausing\":false,\"printing\":false,\"ready\":false,\"sdReady\":false},\"text\":\"Closing\"},\"temperature\":{}}",
+        ),
+        (
+            State::Fault,
+            "{\"state\":{\"flags\":{\"cancelling\":false,\"closedOrError\":true,\"error\":true,\"finishing\":false,\
+\"operational\":false,\"paused\":false,\"pausing\":false,\"printing\":false,\"ready\":false,\"sdReady\":false},\"text\":\"Error\"},\"temperature\":{}}",
+        ),
+    ] {
+        is_shown(&rt, alloc, state, body)?;
+    }
+    Ok(())
+}
+
+// Each state of a print, with its text and its flags.
+#[test]
+fn states_of_a_print(rt: HostRuntime) -> Result<(), Fail> {
+    let alloc = rt.alloc();
+    for (state, body) in [
         (
             State::Printing,
             "{\"state\":{\"flags\":{\"cancelling\":false,\"closedOrError\":false,\"error\":false,\"finishing\":false,\
@@ -46,23 +77,8 @@ fn states(rt: HostRuntime) -> Result<(), Fail> {
             "{\"state\":{\"flags\":{\"cancelling\":false,\"closedOrError\":false,\"error\":false,\"finishing\":true,\
 \"operational\":true,\"paused\":false,\"pausing\":false,\"printing\":false,\"ready\":false,\"sdReady\":false},\"text\":\"Finishing\"},\"temperature\":{}}",
         ),
-        (
-            State::Closing,
-            "{\"state\":{\"flags\":{\"cancelling\":false,\"closedOrError\":false,\"error\":false,\"finishing\":false,\
-\"operational\":false,\"paused\":false,\"pausing\":false,\"printing\":false,\"ready\":false,\"sdReady\":false},\"text\":\"Closing\"},\"temperature\":{}}",
-        ),
-        (
-            State::Fault,
-            "{\"state\":{\"flags\":{\"cancelling\":false,\"closedOrError\":true,\"error\":true,\"finishing\":false,\
-\"operational\":false,\"paused\":false,\"pausing\":false,\"printing\":false,\"ready\":false,\"sdReady\":false},\"text\":\"Error\"},\"temperature\":{}}",
-        ),
     ] {
-        let answer = Answer::Printer {
-            state,
-            tool: None,
-            bed: None,
-        };
-        shows(&rt, alloc, answer, 200, body)?;
+        is_shown(&rt, alloc, state, body)?;
     }
     Ok(())
 }

@@ -105,7 +105,7 @@ fn connections(rt: HostRuntime) -> Result<(), Fail> {
 // How many lines a body asks for, and how many bytes the last of them has.
 fn lines(alloc: Global, body: &[u8]) -> Result<(usize, usize), Fail> {
     let message = message(alloc, Method::POST, "/api/printer/command", JSON, body)?;
-    let ask = to_request(alloc, message)?;
+    let ask = asked(alloc, message)??;
     let Request::Lines { texts } = &ask.request else {
         return Err("another request")?;
     };
@@ -149,10 +149,8 @@ fn many_commands(rt: HostRuntime) -> Result<(), Fail> {
     assert!(rt; lines(alloc, most.as_slice())? == (256, 3));
     let more = many_lines(alloc, 257)?;
     let path = "/api/printer/command";
-    let answer = to_request(
-        alloc,
-        message(alloc, Method::POST, path, JSON, more.as_slice())?,
-    );
+    let message = message(alloc, Method::POST, path, JSON, more.as_slice())?;
+    let answer = asked(alloc, message)?;
     assert!(rt; outcome(&answer) == "BadBody");
     Ok(())
 }

@@ -13,7 +13,7 @@ fn faulty(
     let mut message = message(alloc, method, path, kind, b"{\"command\":\"begin\"}")?;
     message.sized = sized;
     message.encoded = encoded;
-    let answer = to_request(alloc, message);
+    let answer = asked(alloc, message)?;
     Ok(outcome(&answer))
 }
 
@@ -99,7 +99,7 @@ fn sized_post(alloc: Global, count: usize) -> Result<&'static str, Fail> {
         body.push(b' ')?;
     }
     let message = message(alloc, Method::POST, "/api/job", JSON, body.as_slice())?;
-    let answer = to_request(alloc, message);
+    let answer = asked(alloc, message)?;
     Ok(outcome(&answer))
 }
 

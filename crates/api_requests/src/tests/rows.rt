@@ -96,7 +96,7 @@ fn no_new_users(rt: HostRuntime) -> Result<(), Fail> {
 fn put(alloc: Global, body: &str) -> Result<Result<Ask, Direct>, Fail> {
     let path = "/api/access/users/eve";
     let message = message(alloc, Method::PUT, path, JSON, body.as_bytes())?;
-    Ok(to_request(alloc, message))
+    asked(alloc, message)
 }
 
 // Of the changes of a user's key, groups and activity, those that a body asks for.

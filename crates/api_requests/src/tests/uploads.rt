@@ -11,7 +11,7 @@ fn uploaded(alloc: Global, filename: &str) -> Result<Result<Ask, Direct>, Fail> 
     body.extend_from_slice(b"\"\r\n\r\nG28 ; --XY\r\nG1 X10\n\r\n--XY--\r\n")?;
     let path = "/api/files/local";
     let message = message(alloc, Method::POST, path, FORM, body.as_slice())?;
-    Ok(to_request(alloc, message))
+    asked(alloc, message)
 }
 
 // Whether an upload of this filename is stored under this name.
@@ -79,7 +79,7 @@ fn form(alloc: Global, body: &str) -> Result<&'static str, Fail> {
         FORM,
         body.as_bytes(),
     )?;
-    let answer = to_request(alloc, message);
+    let answer = asked(alloc, message)?;
     Ok(outcome(&answer))
 }
 

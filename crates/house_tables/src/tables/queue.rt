@@ -14,7 +14,7 @@ ghost use Rattle.house_verdicts.specs.Verdict.{IsDone, is_fault};
 ghost use Rattle.octo_outside.specs.Told.{Counts};
 ghost use Rattle.house_rows.specs.Counts.{is_keepers, is_shelfs};
 ghost use Rattle.house_tables.specs.Data.{over};
-ghost use Rattle.house_tables.specs.Kept.{KeepsRows};
+ghost use Rattle.house_tables.specs.Done.{TablesDone};
 
 use super::HostTables;
 use byte_text::Name;
@@ -32,12 +32,8 @@ impl HostTables {
             asked.now.priority asked.now.copies asked.now.material }
         ensures done { (k : Known) → IsDone (put_by (put_answer self.old.queue asked.now)
             (over k self.old)) result (over k self.old) (over k self.new) }
-        ensures written { self.new.unwritten ≡ self.old.unwritten }
-        ensures prints { self.new.prints ≡ self.old.prints }
-        ensures kept { KeepsRows (K.tables keeper.old) (K.tables keeper.new) self.old self.new }
-        ensures keeper { Counts (is_keepers result ≡ true)
-            (K.faults keeper.old) (K.faults keeper.new) }
-        ensures shelf { is_shelfs result ≡ false }
+        ensures rest { TablesDone K.tables K.faults keeper.old keeper.new
+            result self.old self.new }
     {
         let put = match self.queue.put(
             &asked.user,
@@ -88,12 +84,8 @@ impl HostTables {
         ensures done { (k : Known)
             → IsDone (drop_verdict user.now name.now (over k self.old)) result
             (over k self.old) (over k self.new) }
-        ensures written { self.new.unwritten ≡ self.old.unwritten }
-        ensures prints { self.new.prints ≡ self.old.prints }
-        ensures kept { KeepsRows (K.tables keeper.old) (K.tables keeper.new) self.old self.new }
-        ensures keeper { Counts (is_keepers result ≡ true)
-            (K.faults keeper.old) (K.faults keeper.new) }
-        ensures shelf { is_shelfs result ≡ false }
+        ensures rest { TablesDone K.tables K.faults keeper.old keeper.new
+            result self.old self.new }
     {
         if !has_entry(self.queue.entries(), user, name) {
             return Answer::NoEntry;

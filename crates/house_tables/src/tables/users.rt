@@ -1,13 +1,11 @@
 //! Users are added and changed.
-ghost use Rattle.std.specs.Prelude.{◌≡◌, true, false};
+ghost use Rattle.std.specs.Prelude.{◌≡◌};
 ghost use Rattle.octo_access.specs.Rows.{IsUserTable};
 ghost use Rattle.house_verdicts.specs.Known.{Known};
 ghost use Rattle.house_verdicts.specs.Rows.{put_user_verdict, change_user_verdict, replace_verdict, new_user};
 ghost use Rattle.house_verdicts.specs.Verdict.{IsDone};
-ghost use Rattle.octo_outside.specs.Told.{Counts};
-ghost use Rattle.house_rows.specs.Counts.{is_keepers, is_shelfs};
 ghost use Rattle.house_tables.specs.Data.{over};
-ghost use Rattle.house_tables.specs.Kept.{KeepsRows};
+ghost use Rattle.house_tables.specs.Done.{TablesDone};
 
 use super::HostTables;
 use arrayvec::ArrayVec;
@@ -32,12 +30,8 @@ impl HostTables {
         ensures done { (k : Known) → k.policy ≡ policy.now → IsDone
             (put_user_verdict (new_user name.now key.now groups.now active) (over k self.old))
             result (over k self.old) (over k self.new) }
-        ensures written { self.new.unwritten ≡ self.old.unwritten }
-        ensures prints { self.new.prints ≡ self.old.prints }
-        ensures kept { KeepsRows (K.tables keeper.old) (K.tables keeper.new) self.old self.new }
-        ensures keeper { Counts (is_keepers result ≡ true)
-            (K.faults keeper.old) (K.faults keeper.new) }
-        ensures shelf { is_shelfs result ≡ false }
+        ensures rest { TablesDone K.tables K.faults keeper.old keeper.new
+            result self.old self.new }
     {
         self.put_user_row(keeper, policy, &new_user(name, key, groups, active))
     }
@@ -47,12 +41,8 @@ impl HostTables {
         ensures done { (k : Known) → k.policy ≡ policy.now → IsDone
             (put_user_verdict row.now (over k self.old)) result
             (over k self.old) (over k self.new) }
-        ensures written { self.new.unwritten ≡ self.old.unwritten }
-        ensures prints { self.new.prints ≡ self.old.prints }
-        ensures kept { KeepsRows (K.tables keeper.old) (K.tables keeper.new) self.old self.new }
-        ensures keeper { Counts (is_keepers result ≡ true)
-            (K.faults keeper.old) (K.faults keeper.new) }
-        ensures shelf { is_shelfs result ≡ false }
+        ensures rest { TablesDone K.tables K.faults keeper.old keeper.new
+            result self.old self.new }
     {
         if let Err(refusal) = self.users.put(row, policy) {
             return user_refused(&refusal);
@@ -81,12 +71,8 @@ impl HostTables {
         ensures done { (k : Known) → k.policy ≡ policy.now → IsDone
             (change_user_verdict name.now key.now groups.now active (over k self.old))
             result (over k self.old) (over k self.new) }
-        ensures written { self.new.unwritten ≡ self.old.unwritten }
-        ensures prints { self.new.prints ≡ self.old.prints }
-        ensures kept { KeepsRows (K.tables keeper.old) (K.tables keeper.new) self.old self.new }
-        ensures keeper { Counts (is_keepers result ≡ true)
-            (K.faults keeper.old) (K.faults keeper.new) }
-        ensures shelf { is_shelfs result ≡ false }
+        ensures rest { TablesDone K.tables K.faults keeper.old keeper.new
+            result self.old self.new }
     {
         let Some(former) = user_named(self.users.rows(), name) else {
             let row = changed_user(&nobody(name), key, groups, active);
@@ -100,12 +86,8 @@ impl HostTables {
         requires { IsUserTable self.old.users }
         ensures done { (k : Known) → k.policy ≡ policy.now → IsDone
             (replace_verdict row.now (over k self.old)) result (over k self.old) (over k self.new) }
-        ensures written { self.new.unwritten ≡ self.old.unwritten }
-        ensures prints { self.new.prints ≡ self.old.prints }
-        ensures kept { KeepsRows (K.tables keeper.old) (K.tables keeper.new) self.old self.new }
-        ensures keeper { Counts (is_keepers result ≡ true)
-            (K.faults keeper.old) (K.faults keeper.new) }
-        ensures shelf { is_shelfs result ≡ false }
+        ensures rest { TablesDone K.tables K.faults keeper.old keeper.new
+            result self.old self.new }
     {
         let former = match self.users.change(row, policy) {
             Ok(former) => former,

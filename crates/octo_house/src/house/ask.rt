@@ -5,12 +5,9 @@ ghost use Rattle.print_queue.specs.Calls.{wanted};
 ghost use Rattle.print_queue.specs.Lawful.{IsWhole};
 ghost use Rattle.house_verdicts.specs.Answers.{verdict, request_verdict, lacking};
 ghost use Rattle.house_verdicts.specs.Rows.{put_entry_verdict};
-ghost use Rattle.house_tables.specs.Kept.{KeepsRows};
-ghost use Rattle.octo_house.specs.Answered.{Answers, AnswersOn, Shelves};
-ghost use Rattle.octo_outside.specs.Told.{Counts};
-ghost use Rattle.house_rows.specs.Counts.{is_keepers, is_shelfs};
+ghost use Rattle.octo_house.specs.Answered.{Answers, AnswersOn, Shelves, AskDone, KeeperDone};
 ghost use Rattle.octo_house.specs.Groups.{is_edit, is_row};
-ghost use Rattle.octo_house.specs.State.{IsApartFrom, IsListed, known_of};
+ghost use Rattle.octo_house.specs.State.{known_of};
 
 use super::House;
 use house_rows::asked_entry;
@@ -29,21 +26,15 @@ impl House {
         ask: Ask,
         _moment: u64,
     ) -> Answer
-        // The answer, and what it leaves: of the host, of the files and of the tables.
+        // The answer, and what it leaves of the host and of the files.
         ensures done { AnswersOn (S.files shelf.old)
             (λ files. verdict ask files (known_of self.old)) result self.old self.new }
         ensures files { Shelves (S.files shelf.old) (S.files shelf.new)
             (λ files. verdict ask files (known_of self.old)) result }
-        ensures kept { KeepsRows (K.tables keeper.old) (K.tables keeper.new)
-            self.old.tables self.new.tables }
-        ensures listed { IsListed (S.files shelf.old) self.old
-            → IsListed (S.files shelf.new) self.new }
-        ensures apart { IsApartFrom self.old self.new }
 
-        // Faults, by their counts.
-        ensures keeper { Counts (is_keepers result ≡ true)
-            (K.faults keeper.old) (K.faults keeper.new) }
-        ensures shelf { Counts (is_shelfs result ≡ true) (S.faults shelf.old) (S.faults shelf.new) }
+        // What it leaves else, and the counts of faults.
+        ensures rest { AskDone K.tables K.faults S.files S.faults
+            keeper.old keeper.new shelf.old shelf.new result self.old self.new }
     {
         let permissions = needed(&ask.request);
         if permissions.as_slice().is_empty() {
@@ -85,14 +76,8 @@ impl House {
             result self.old self.new }
         ensures files { Shelves (S.files shelf.old) (S.files shelf.new)
             (λ files. request_verdict request.now user.now files (known_of self.old)) result }
-        ensures kept { KeepsRows (K.tables keeper.old) (K.tables keeper.new)
-            self.old.tables self.new.tables }
-        ensures listed { IsListed (S.files shelf.old) self.old
-            → IsListed (S.files shelf.new) self.new }
-        ensures apart { IsApartFrom self.old self.new }
-        ensures keeper { Counts (is_keepers result ≡ true)
-            (K.faults keeper.old) (K.faults keeper.new) }
-        ensures shelf { Counts (is_shelfs result ≡ true) (S.faults shelf.old) (S.faults shelf.new) }
+        ensures rest { AskDone K.tables K.faults S.files S.faults
+            keeper.old keeper.new shelf.old shelf.new result self.old self.new }
     {
         match request {
             Request::Version => Answer::Version,
@@ -136,14 +121,8 @@ impl House {
             result self.old self.new }
         ensures files { Shelves (S.files shelf.old) (S.files shelf.new)
             (λ files. request_verdict request.now user.now files (known_of self.old)) result }
-        ensures kept { KeepsRows (K.tables keeper.old) (K.tables keeper.new)
-            self.old.tables self.new.tables }
-        ensures listed { IsListed (S.files shelf.old) self.old
-            → IsListed (S.files shelf.new) self.new }
-        ensures apart { IsApartFrom self.old self.new }
-        ensures keeper { Counts (is_keepers result ≡ true)
-            (K.faults keeper.old) (K.faults keeper.new) }
-        ensures shelf { Counts (is_shelfs result ≡ true) (S.faults shelf.old) (S.faults shelf.new) }
+        ensures rest { AskDone K.tables K.faults S.files S.faults
+            keeper.old keeper.new shelf.old shelf.new result self.old self.new }
     {
         match request {
             Request::PutFile {
@@ -170,13 +149,8 @@ impl House {
         ensures done { (files : List ShelfFile) → Answers
             (request_verdict request.now user.now files (known_of self.old)) result
             self.old self.new }
-        ensures kept { KeepsRows (K.tables keeper.old) (K.tables keeper.new)
-            self.old.tables self.new.tables }
-        ensures names { self.new.names.items ≡ self.old.names.items }
-        ensures apart { IsApartFrom self.old self.new }
-        ensures keeper { Counts (is_keepers result ≡ true)
-            (K.faults keeper.old) (K.faults keeper.new) }
-        ensures shelf { is_shelfs result ≡ false }
+        ensures rest { KeeperDone K.tables K.faults keeper.old keeper.new
+            result self.old self.new }
     {
         match request {
             Request::PutUser {
@@ -217,13 +191,8 @@ impl House {
             asked.now.priority asked.now.copies asked.now.material }
         ensures done { Answers (put_entry_verdict asked.now (known_of self.old)) result
             self.old self.new }
-        ensures kept { KeepsRows (K.tables keeper.old) (K.tables keeper.new)
-            self.old.tables self.new.tables }
-        ensures names { self.new.names.items ≡ self.old.names.items }
-        ensures apart { IsApartFrom self.old self.new }
-        ensures keeper { Counts (is_keepers result ≡ true)
-            (K.faults keeper.old) (K.faults keeper.new) }
-        ensures shelf { is_shelfs result ≡ false }
+        ensures rest { KeeperDone K.tables K.faults keeper.old keeper.new
+            result self.old self.new }
     {
         if !self.holds(&asked.file) {
             return Answer::NoFile;

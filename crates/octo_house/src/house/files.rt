@@ -3,7 +3,7 @@ ghost use Rattle.std.specs.Prelude.{◌≡◌, true, false};
 ghost use Rattle.desk_steps.specs.Table.{drop_file_step};
 ghost use Rattle.house_verdicts.specs.Reads.{list_files_verdict, get_file_verdict, download_verdict};
 ghost use Rattle.house_verdicts.specs.Uploads.{delete_verdict};
-ghost use Rattle.octo_house.specs.Answered.{Answers, AnswersOn, Shelves};
+ghost use Rattle.octo_house.specs.Answered.{Answers, AnswersOn, Shelves, ShelfDone};
 ghost use Rattle.octo_outside.specs.Told.{Counts};
 ghost use Rattle.house_rows.specs.Counts.{is_keepers, is_shelfs};
 ghost use Rattle.octo_house.specs.State.{AreRowsLeft, IsListed, known_of};
@@ -19,9 +19,7 @@ impl House {
     // All files.
     pub(super) fn list_files<S: Shelf>(&self, shelf: &mut S) -> Answer
         ensures done { AnswersOn (S.files shelf.old) list_files_verdict result self.now self.now }
-        ensures stays { S.files shelf.new ≡ S.files shelf.old }
-        ensures shelf { Counts (is_shelfs result ≡ true) (S.faults shelf.old) (S.faults shelf.new) }
-        ensures keeper { is_keepers result ≡ false }
+        ensures rest { ShelfDone S.files S.faults shelf.old shelf.new result }
     {
         let files = match shelf.list(self.desk.alloc) {
             Ok(files) => files,
@@ -38,9 +36,7 @@ impl House {
         ensures done { AnswersOn (S.files shelf.old)
             (λ files. get_file_verdict name.now files (known_of self.now))
             result self.now self.now }
-        ensures stays { S.files shelf.new ≡ S.files shelf.old }
-        ensures shelf { Counts (is_shelfs result ≡ true) (S.faults shelf.old) (S.faults shelf.new) }
-        ensures keeper { is_keepers result ≡ false }
+        ensures rest { ShelfDone S.files S.faults shelf.old shelf.new result }
     {
         if !self.holds(name) {
             return Answer::NoFile;
@@ -61,9 +57,7 @@ impl House {
         ensures done { AnswersOn (S.files shelf.old)
             (λ files. download_verdict name.now files (known_of self.now))
             result self.now self.now }
-        ensures stays { S.files shelf.new ≡ S.files shelf.old }
-        ensures shelf { Counts (is_shelfs result ≡ true) (S.faults shelf.old) (S.faults shelf.new) }
-        ensures keeper { is_keepers result ≡ false }
+        ensures rest { ShelfDone S.files S.faults shelf.old shelf.new result }
     {
         if !self.holds(name) {
             return Answer::NoFile;

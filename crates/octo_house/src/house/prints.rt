@@ -1,13 +1,10 @@
 //! The selected file is printed: the keeper writes the record first, and then what can't fail is changed.
-ghost use Rattle.std.specs.Prelude.{◌≡◌, ℕ, true, false, OnOk};
+ghost use Rattle.std.specs.Prelude.{◌≡◌, ℕ, true, OnOk};
 ghost use Rattle.desk_steps.specs.Table.{restart_at, start_at};
 ghost use Rattle.house_verdicts.specs.Known.{next_number};
 ghost use Rattle.house_verdicts.specs.Prints.{has_room, new_row, start_verdict, restart_verdict};
-ghost use Rattle.octo_outside.specs.Told.{Counts};
-ghost use Rattle.house_rows.specs.Counts.{is_keepers, is_shelfs};
-ghost use Rattle.house_tables.specs.Kept.{KeepsRows};
-ghost use Rattle.octo_house.specs.Answered.{Answers};
-ghost use Rattle.octo_house.specs.State.{IsApartFrom, known_of};
+ghost use Rattle.octo_house.specs.Answered.{Answers, KeeperDone};
+ghost use Rattle.octo_house.specs.State.{known_of};
 
 use super::House;
 use byte_text::Name;
@@ -51,13 +48,8 @@ impl House {
     pub(super) fn start<K: Keeper>(&mut self, keeper: &mut K, user: &Name) -> Answer
         ensures done { Answers (start_verdict user.now (known_of self.old)) result
             self.old self.new }
-        ensures kept { KeepsRows (K.tables keeper.old) (K.tables keeper.new)
-            self.old.tables self.new.tables }
-        ensures names { self.new.names.items ≡ self.old.names.items }
-        ensures apart { IsApartFrom self.old self.new }
-        ensures keeper { Counts (is_keepers result ≡ true)
-            (K.faults keeper.old) (K.faults keeper.new) }
-        ensures shelf { is_shelfs result ≡ false }
+        ensures rest { KeeperDone K.tables K.faults keeper.old keeper.new
+            result self.old self.new }
     {
         if let Err(refusal) = self.may_start() {
             return refused(refusal);
@@ -91,13 +83,8 @@ impl House {
     pub(super) fn restart<K: Keeper>(&mut self, keeper: &mut K, user: &Name) -> Answer
         ensures done { Answers (restart_verdict user.now (known_of self.old)) result
             self.old self.new }
-        ensures kept { KeepsRows (K.tables keeper.old) (K.tables keeper.new)
-            self.old.tables self.new.tables }
-        ensures names { self.new.names.items ≡ self.old.names.items }
-        ensures apart { IsApartFrom self.old self.new }
-        ensures keeper { Counts (is_keepers result ≡ true)
-            (K.faults keeper.old) (K.faults keeper.new) }
-        ensures shelf { is_shelfs result ≡ false }
+        ensures rest { KeeperDone K.tables K.faults keeper.old keeper.new
+            result self.old self.new }
     {
         let print = match self.may_restart() {
             Ok(print) => print,

@@ -3,11 +3,8 @@ ghost use Rattle.std.specs.Prelude.{◌≡◌, [], true, false};
 ghost use Rattle.desk_steps.specs.declared.state.State.TheVariants as state;
 ghost use Rattle.octo_keeper.specs.Tables.{with_taken};
 ghost use Rattle.house_verdicts.specs.Uploads.{select_verdict, next_verdict, take_verdict, print_verdict, named_file};
-ghost use Rattle.house_tables.specs.Kept.{KeepsRows};
-ghost use Rattle.octo_house.specs.Answered.{Answers, AnswersOn};
-ghost use Rattle.octo_outside.specs.Told.{Counts};
-ghost use Rattle.house_rows.specs.Counts.{is_keepers, is_shelfs};
-ghost use Rattle.octo_house.specs.State.{IsApartFrom, IsDeskAlone, known_of};
+ghost use Rattle.octo_house.specs.Answered.{Answers, AnswersOn, KeeperDone, PrintDone, ShelfDone};
+ghost use Rattle.octo_house.specs.State.{IsDeskAlone, known_of};
 ghost use Rattle.octo_house.specs.Taken.{taken_answer};
 
 use super::House;
@@ -26,9 +23,7 @@ impl House {
             (λ files. select_verdict [] name.now false files (known_of self.old)) result
             self.old self.new }
         ensures alone { IsDeskAlone self.old self.new }
-        ensures stays { S.files shelf.new ≡ S.files shelf.old }
-        ensures shelf { Counts (is_shelfs result ≡ true) (S.faults shelf.old) (S.faults shelf.new) }
-        ensures keeper { is_keepers result ≡ false }
+        ensures rest { ShelfDone S.files S.faults shelf.old shelf.new result }
     {
         if !self.holds(name) {
             return Answer::NoFile;
@@ -57,14 +52,8 @@ impl House {
         ensures done { AnswersOn (S.files shelf.old)
             (λ files. select_verdict user.now name.now true files (known_of self.old)) result
             self.old self.new }
-        ensures kept { KeepsRows (K.tables keeper.old) (K.tables keeper.new)
-            self.old.tables self.new.tables }
-        ensures names { self.new.names.items ≡ self.old.names.items }
-        ensures stays { S.files shelf.new ≡ S.files shelf.old }
-        ensures apart { IsApartFrom self.old self.new }
-        ensures keeper { Counts (is_keepers result ≡ true)
-            (K.faults keeper.old) (K.faults keeper.new) }
-        ensures shelf { Counts (is_shelfs result ≡ true) (S.faults shelf.old) (S.faults shelf.new) }
+        ensures rest { PrintDone K.tables K.faults S.files S.faults
+            keeper.old keeper.new shelf.old shelf.new result self.old self.new }
     {
         if !self.holds(name) {
             return Answer::NoFile;
@@ -92,13 +81,8 @@ impl House {
         ensures done { Answers (print_verdict (taken_answer taken) user.now
             (with_taken taken self.old.tables.queue) (known_of self.old)
             (named_file name.now job)) result self.old self.new }
-        ensures kept { KeepsRows (K.tables keeper.old) (K.tables keeper.new)
-            self.old.tables self.new.tables }
-        ensures names { self.new.names.items ≡ self.old.names.items }
-        ensures apart { IsApartFrom self.old self.new }
-        ensures keeper { Counts (is_keepers result ≡ true)
-            (K.faults keeper.old) (K.faults keeper.new) }
-        ensures shelf { is_shelfs result ≡ false }
+        ensures rest { KeeperDone K.tables K.faults keeper.old keeper.new
+            result self.old self.new }
     {
         if let Err(refusal) = check_job(&job, self.desk.session.desk().limits()) {
             return refused(refusal);
@@ -125,14 +109,8 @@ impl House {
     ) -> Answer
         ensures done { AnswersOn (S.files shelf.old)
             (λ files. next_verdict files (known_of self.old)) result self.old self.new }
-        ensures kept { KeepsRows (K.tables keeper.old) (K.tables keeper.new)
-            self.old.tables self.new.tables }
-        ensures names { self.new.names.items ≡ self.old.names.items }
-        ensures stays { S.files shelf.new ≡ S.files shelf.old }
-        ensures apart { IsApartFrom self.old self.new }
-        ensures keeper { Counts (is_keepers result ≡ true)
-            (K.faults keeper.old) (K.faults keeper.new) }
-        ensures shelf { Counts (is_shelfs result ≡ true) (S.faults shelf.old) (S.faults shelf.new) }
+        ensures rest { PrintDone K.tables K.faults S.files S.faults
+            keeper.old keeper.new shelf.old shelf.new result self.old self.new }
     {
         let state = self.desk.session.desk().state();
         if state != State::Operational {
@@ -154,14 +132,8 @@ impl House {
         requires { self.old.desk.session.desk.state ≡ state.Operational }
         ensures done { AnswersOn (S.files shelf.old)
             (λ files. take_verdict files (known_of self.old) entry) result self.old self.new }
-        ensures kept { KeepsRows (K.tables keeper.old) (K.tables keeper.new)
-            self.old.tables self.new.tables }
-        ensures names { self.new.names.items ≡ self.old.names.items }
-        ensures stays { S.files shelf.new ≡ S.files shelf.old }
-        ensures apart { IsApartFrom self.old self.new }
-        ensures keeper { Counts (is_keepers result ≡ true)
-            (K.faults keeper.old) (K.faults keeper.new) }
-        ensures shelf { Counts (is_shelfs result ≡ true) (S.faults shelf.old) (S.faults shelf.new) }
+        ensures rest { PrintDone K.tables K.faults S.files S.faults
+            keeper.old keeper.new shelf.old shelf.new result self.old self.new }
     {
         if !self.holds(&entry.file) {
             return Answer::NoFile;

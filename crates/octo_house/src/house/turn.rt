@@ -1,14 +1,11 @@
 //! Turns of the link, and the ends of prints that they bring.
-ghost use Rattle.std.specs.Prelude.{◌≡◌, ◌↔◌, ◌≤◌, ◌⊎◌, [], true, false, None, IfSome};
+ghost use Rattle.std.specs.Prelude.{◌≡◌, ◌⊎◌, true, None};
 ghost use Rattle.desk_steps.specs.Endings.{IsActive};
 ghost use Rattle.desk_steps.specs.declared.link_fact.LinkFact.TheVariants as fact;
 ghost use Rattle.printer_link.specs.Link.{RoseBy};
-ghost use Rattle.send_window.specs.Sending.{next_of};
-ghost use Rattle.octo_session.specs.Data.{IsSession, doing, is_calling, port_of};
-ghost use Rattle.octo_session.specs.DeskTurn.{IsTurnEnding};
-ghost use Rattle.octo_session.specs.declared.found.Doing.TheVariants as now_doing;
-ghost use Rattle.octo_session.specs.Found.{up_after, ready_after, can_find};
-ghost use Rattle.octo_session.specs.Turn.{fact_of, lines_of, IsNoteOn, IsSpent, IsTurn};
+ghost use Rattle.session_steps.specs.Data.{doing, is_calling};
+ghost use Rattle.session_steps.specs.declared.found.Doing.TheVariants as now_doing;
+ghost use Rattle.session_steps.specs.Turn.{fact_of, IsTurn, IsTurnByNote};
 ghost use Rattle.house_tables.specs.Kept.{KeepsRows};
 ghost use Rattle.octo_outside.specs.Told.{Counts};
 ghost use Rattle.std.specs.Option.{option_or};
@@ -52,38 +49,10 @@ impl House {
         ensures turn { IsTurn moment (L.kind link.old) (L.past link.old) (L.past link.new)
             (L.calls link.old) (L.calls link.new)
             self.old.desk.session self.new.desk.session result }
-        ensures finds { can_find (doing self.old.desk.session) (fact_of result.note) ≡ true }
-        ensures up { self.new.desk.session.up
-            ≡ up_after (fact_of result.note) self.old.desk.session.up }
+        ensures by_note { IsTurnByNote moment (L.kind link.old)
+            self.old.desk.session self.new.desk.session result }
         ensures link { L.up link.new ≡ self.new.desk.session.up }
-        ensures ready_is { self.new.desk.session.sender.ready
-            ≡ ready_after (fact_of result.note) self.old.desk.session.sender.ready }
-        ensures spent { self.new.desk.session.up ≡ true → fact_of result.note ≡ fact.Quiet
-            → IsSpent moment self.new.desk.session.desk self.new.desk.session.sender }
-        ensures no_port { (fact_of result.note ≡ fact.NoPort)
-            ↔ ((doing self.old.desk.session ≡ now_doing.Dialling)
-            × ((L.kind link.old).listed (port_of self.old.desk.session.desk) ≡ false)) }
-        ensures ready { (fact_of result.note ≡ fact.Ready)
-            ↔ ((self.old.desk.session.sender.ready ≡ false)
-            × (self.new.desk.session.sender.ready ≡ true)) }
-        ensures silent { fact_of result.note ≡ fact.Ready → lines_of result.note ≡ [] }
-        ensures sent { fact_of result.note ≡ fact.Ready
-            → next_of self.new.desk.session.sender ≡ None }
-        ensures greatest { self.new.desk.session.desk.greatest
-            ≡ self.old.desk.session.desk.greatest }
-        ensures ends { IfSome result.ending (λ ending. IsTurnEnding (fact_of result.note)
-            self.old.desk.session.desk self.new.desk.session.desk ending) }
-        ensures before { IsSession self.old.desk.session }
-        ensures joined { IsSession self.new.desk.session }
         ensures kind { L.kind link.new ≡ L.kind link.old }
-        ensures not_fallen { (fact_of result.note ≡ fact.Opened)
-            ⊎ (self.old.desk.session.sender.acked ≤ self.new.desk.session.sender.acked) }
-        ensures within { self.new.desk.session.sender.acked ≤ self.old.desk.session.sender.issued }
-        ensures none_acked { fact_of result.note ≡ fact.Opened
-            → self.new.desk.session.sender.acked ≡ 0 }
-        ensures told { IfSome result.note
-            (λ note. IsNoteOn moment self.new.desk.session.sender.acked
-            self.old.desk.session.desk self.new.desk.session.desk result.ending note) }
 
         // What the host knows then, and what the keeper keeps.
         ensures knows { Turns moment result.note result.ending self.old self.new }

@@ -9,12 +9,10 @@ ghost use Rattle.temp_rules.specs.Hot.{first_hot_of};
 ghost use Rattle.house_verdicts.specs.Prints.{has_room, started};
 ghost use Rattle.house_verdicts.specs.Uploads.{put_file_verdict, named_file, has_file_room, is_selected, is_printed};
 ghost use Rattle.house_verdicts.specs.Verdict.{begins, is_fault};
-ghost use Rattle.house_tables.specs.Kept.{KeepsRows};
-ghost use Rattle.octo_house.specs.Answered.{Answers, Shelves};
+ghost use Rattle.octo_house.specs.Answered.{Answers, Shelves, AskDone, KeeperDone};
 ghost use Rattle.octo_outside.specs.Told.{Counts};
-ghost use Rattle.house_rows.specs.Counts.{is_keepers, is_shelfs};
 ghost use Rattle.house_rows.specs.Reading.{is_keepers_fault, is_shelfs_fault};
-ghost use Rattle.octo_house.specs.State.{AreRowsLeft, IsApartFrom, IsListed, known_of};
+ghost use Rattle.octo_house.specs.State.{AreRowsLeft, IsListed, known_of};
 ghost use Rattle.octo_house.specs.Storing.{IsStored, IsNotStored, IsStartable, cause_of};
 
 use super::House;
@@ -54,14 +52,8 @@ impl House {
         ensures files { Shelves (S.files shelf.old) (S.files shelf.new)
             (λ _. put_file_verdict user.now name.now bytes.now select print (known_of self.old))
             result }
-        ensures kept { KeepsRows (K.tables keeper.old) (K.tables keeper.new)
-            self.old.tables self.new.tables }
-        ensures listed { IsListed (S.files shelf.old) self.old
-            → IsListed (S.files shelf.new) self.new }
-        ensures apart { IsApartFrom self.old self.new }
-        ensures keeper { Counts (is_keepers result ≡ true)
-            (K.faults keeper.old) (K.faults keeper.new) }
-        ensures shelf { Counts (is_shelfs result ≡ true) (S.faults shelf.old) (S.faults shelf.new) }
+        ensures rest { AskDone K.tables K.faults S.files S.faults
+            keeper.old keeper.new shelf.old shelf.new result self.old self.new }
     {
         let job = match read_commands(self.desk.alloc, bytes) {
             Ok(job) => job,
@@ -178,14 +170,9 @@ impl House {
             (started user.now self.old.desk.session.desk.file
             (Start (next_number (known_of self.old)) ∷ [])
             (known_of self.old)) name.now) result self.old self.new }
-        ensures kept { KeepsRows (K.tables keeper.old) (K.tables keeper.new)
-            self.old.tables self.new.tables }
         ensures plain { is_fault result ≡ false }
-        ensures names { self.new.names.items ≡ self.old.names.items }
-        ensures apart { IsApartFrom self.old self.new }
-        ensures keeper { Counts (is_keepers result ≡ true)
-            (K.faults keeper.old) (K.faults keeper.new) }
-        ensures shelf { is_shelfs result ≡ false }
+        ensures rest { KeeperDone K.tables K.faults keeper.old keeper.new
+            result self.old self.new }
     {
         let row = self.tables.next_row(user, name, commands);
         let number = row.number;

@@ -4,7 +4,7 @@ ghost use Rattle.byte_text.specs.Sendable.{IsSendable};
 ghost use Rattle.desk_steps.specs.Table.{cancel_at, connect_at, disconnect_at, drop_file_step, manual_at, pause_at, restart_at, resume_at, select_at, start_at, toggle_at};
 ghost use Rattle.job_desk.specs.DeskViews.{named_file};
 ghost use Rattle.job_desk.specs.Views.{bytes_of};
-ghost use Rattle.octo_session.specs.Data.{IsSession};
+ghost use Rattle.session_steps.specs.Data.{IsSession};
 
 use super::Session;
 use byte_text::{Name, Text};

@@ -3,25 +3,24 @@ ghost use Rattle.std.specs.Prelude.{◌≡◌, ◌≢◌, ◌↔◌, ◌≤◌, 
 ghost use Rattle.octo_outside.specs.Told.{Counts};
 ghost use Rattle.desk_steps.specs.Issued.{line_of};
 ghost use Rattle.desk_steps.specs.declared.link_fact.LinkFact.TheVariants as fact;
-ghost use Rattle.send_window.specs.declared.session_end.SessionEnd.{SessionEnd};
 ghost use Rattle.printer_link.specs.Link.{HasSlots, Grows, IsDial, IsNothing, IsRuns, RoseBy, counted_one, dial_events};
 ghost use Rattle.printer_link.specs.declared.link.LinkFault.TheVariants as fault;
 ghost use Rattle.send_window.specs.Data.{begun};
-ghost use Rattle.send_window.specs.Sending.{next_of};
-ghost use Rattle.octo_session.specs.Data.{IsSession, doing, is_calling, port_of};
-ghost use Rattle.octo_session.specs.DeskTurn.{IsNoted};
-ghost use Rattle.octo_session.specs.Found.{got_of, temps_in, temps_kept, end_by, may_issue, up_after, can_find, lost, unasked};
-ghost use Rattle.octo_session.specs.Steps.{Takes, TakesSome, hangs_up, dial_steps, talk_steps, turn_steps};
-ghost use Rattle.octo_session.specs.Turn.{texts_in, IsDeskTurn, IsSpent};
-ghost use Rattle.octo_session.specs.declared.found.Doing.TheVariants as now_doing;
-ghost use Rattle.octo_session.specs.declared.found.Received.TheVariants as received;
+ghost use Rattle.session_steps.specs.Data.{IsSession, doing, is_calling, port_of};
+ghost use Rattle.session_steps.specs.DeskTurn.{IsNoted};
+ghost use Rattle.session_steps.specs.Found.{got_of, up_after, can_find, unasked};
+ghost use Rattle.session_steps.specs.Steps.{Takes, TakesSome, hangs_up, dial_steps, talk_steps, turn_steps};
+ghost use Rattle.octo_session.specs.FoundBy.{IsFoundBy};
+ghost use Rattle.session_steps.specs.Turn.{texts_in, IsDeskTurn, IsSpent};
+ghost use Rattle.session_steps.specs.declared.found.Doing.TheVariants as now_doing;
+ghost use Rattle.session_steps.specs.declared.found.Received.TheVariants as received;
 
 use super::Session;
-use crate::found::{Doing, Found, Received};
 use crate::open_turn::{note_failure, receive_then_send};
 use byte_text::ReplyLine;
 use job_desk::{Desk, LinkFact, State};
 use printer_link::{Link, LinkFault};
+use session_steps::{Doing, Found, Received};
 
 // Dials the port of the desk.
 fn dial_port<L: Link>(desk: &Desk, link: &mut L) -> Result<(), LinkFault>
@@ -157,20 +156,10 @@ impl Session {
         requires up { L.up link.old ≡ true }
         ensures finds { can_find now_doing.Talking result.fact ≡ true }
         ensures asked { (got_of result.received line.new.items) ≢ unasked }
-        ensures temps { temps_kept result.received
-            ≡ temps_in (got_of result.received line.new.items) }
+        ensures found_by { IsFoundBy moment (got_of result.received line.new.items) result
+            self.old.sender self.new.sender }
         ensures noted { IsNoted moment self.new.sender.acked result.fact
             (map line_of result.issued.items) self.old.desk result.ending self.new.desk }
-        ensures ended { (end : SessionEnd)
-            → (result.fact ≡ fact.Ended end)
-            ↔ (end_by (got_of result.received line.new.items) moment self.old.sender ≡ Some end) }
-        ensures ready { (result.fact ≡ fact.Ready)
-            ↔ ((self.old.sender.ready ≡ false) × (self.new.sender.ready ≡ true)) }
-        ensures broken { got_of result.received line.new.items ≡ lost → result.fact ≡ fact.Failed }
-        ensures none_issued { may_issue (got_of result.received line.new.items) result.fact ≡ false
-            → result.issued.items ≡ [] }
-        ensures silent { result.fact ≡ fact.Ready → result.issued.items ≡ [] }
-        ensures sent { result.fact ≡ fact.Ready → next_of self.new.sender ≡ None }
         ensures spent { result.fact ≡ fact.Quiet → IsSpent moment self.new.desk self.new.sender }
         ensures joined { IsSession self.new }
         ensures up { self.new.up ≡ up_after result.fact true }
@@ -202,20 +191,10 @@ impl Session {
         ensures finds { can_find (doing self.old) result.fact ≡ true }
         ensures asked { ((got_of result.received line.new.items) ≡ unasked)
             ↔ (doing self.old ≢ now_doing.Talking) }
-        ensures temps { temps_kept result.received
-            ≡ temps_in (got_of result.received line.new.items) }
+        ensures found_by { IsFoundBy moment (got_of result.received line.new.items) result
+            self.old.sender self.new.sender }
         ensures desk { IsDeskTurn (doing self.old) moment self.new.sender.acked result.fact
             (map line_of result.issued.items) self.old.desk result.ending self.new.desk }
-        ensures ended { (end : SessionEnd)
-            → (result.fact ≡ fact.Ended end)
-            ↔ (end_by (got_of result.received line.new.items) moment self.old.sender ≡ Some end) }
-        ensures ready { (result.fact ≡ fact.Ready)
-            ↔ ((self.old.sender.ready ≡ false) × (self.new.sender.ready ≡ true)) }
-        ensures broken { got_of result.received line.new.items ≡ lost → result.fact ≡ fact.Failed }
-        ensures none_issued { may_issue (got_of result.received line.new.items) result.fact ≡ false
-            → result.issued.items ≡ [] }
-        ensures silent { result.fact ≡ fact.Ready → result.issued.items ≡ [] }
-        ensures sent { result.fact ≡ fact.Ready → next_of self.new.sender ≡ None }
         ensures spent { self.new.up ≡ true → result.fact ≡ fact.Quiet
             → IsSpent moment self.new.desk self.new.sender }
         ensures joined { IsSession self.new }

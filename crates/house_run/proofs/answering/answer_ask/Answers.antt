@@ -21,7 +21,7 @@ returns-clause-leads g c before below =
     let Adds_by : Option Given → Type 0 = λ given. IfSome given (λ one. Adds past past' (entry.Call c.args.worker one.ask c.args.moment c.ask-answer.result ∷ [])) in
     call_walks (known_of c.args.house.now) (known_of c.ask-answer.new.self) (session_of c.args.house.now) (session_of c.ask-answer.new.self) past past' _ _
     c.args.worker c.args.ask c.args.moment c.ask-answer.result (subst Adds_by c.requires.given c.answer.ensures.past) c.ask-answer.ensures.done c.ask-answer.ensures.files
-    c.ask-answer.ensures.apart.sender c.ask-answer.ensures.apart.up refl before below
+    c.ask-answer.ensures.rest.apart.sender c.ask-answer.ensures.rest.apart.up refl before below
 
 pub returns-clause-counted : goal.returns-clause-counted
 returns-clause-counted g c =
@@ -46,4 +46,4 @@ returns-clause-asks g c =
     let Adds_by : Option Given → Type 0 = λ given. IfSome given (λ one. Adds past past' (entry.Call c.args.worker one.ask c.args.moment c.ask-answer.result ∷ [])) in
     became_so past past' _ _ (subst Adds_by c.requires.given c.answer.ensures.past)
     (λ old added is. subst (λ (h : History). AsksAt c.args.moment keeper keeper' shelf shelf' h) (sym is)
-    (call_asks c.args.moment keeper keeper' shelf shelf' c.args.worker c.args.ask c.ask-answer.result c.ask-answer.ensures.keeper c.ask-answer.ensures.shelf))
+    (call_asks c.args.moment keeper keeper' shelf shelf' c.args.worker c.args.ask c.ask-answer.result c.ask-answer.ensures.rest.keeper c.ask-answer.ensures.rest.shelf))

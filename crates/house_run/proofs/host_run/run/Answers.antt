@@ -16,7 +16,7 @@ use Rattle.house_counts.proofs.Showing.{begin_shows}
 use Rattle.house_counts.proofs.Timing.{Timed, timed_begins, timed_round, timed_later, timed_ends}
 use Rattle.octo_outside.proofs.Told.{became_same}
 use Rattle.printer_link.specs.Link.{LinkKind}
-use Rattle.house_run.proofs.Running.{begin_walks, end_walks, tally_then, no_entry, over_by}
+use Rattle.house_run.proofs.Running.{begin_walks, walks_round, end_walks, tally_then, no_entry, over_by}
 use Rattle.house_run.proofs.Rounds.{counted_round, counted_end, uses_round, uses_end, temps_round, temps_end_of}
 use Rattle.house_line.proofs.Recorded.{begin_in_step}
 use Rattle.house_run.proofs.Printing.{run_prints}
@@ -61,10 +61,8 @@ loop-preserved g c =
     let moment = c.max-moment.result in
     let Counted : Tally → Type 0 = λ u. Became first after (λ _ added. tally_of added ≡ u) in
     record {
-      leads = walks_then first mid after (g.S.Shelf.files c.args.shelf.now) held held (begins c.args.house.now) (stands c.answer_next-asked.new.house moment)
-          (stands c.take_turn-heard.new.house moment)
-          (walks_then first before mid (g.S.Shelf.files c.args.shelf.now) (g.S.Shelf.files c.loop.shelf) held (begins c.args.house.now)
-          (stands c.loop.house c.loop.moment) (stands c.answer_next-asked.new.house moment) i.leads (a.leads c.loop.moment (omega (arith, c.max-moment.ensures))))
+      leads = walks_round first before mid after (g.S.Shelf.files c.args.shelf.now) (g.S.Shelf.files c.loop.shelf) held c.args.house.now c.loop.house
+          c.answer_next-asked.new.house c.take_turn-heard.new.house c.loop.moment moment (omega (arith, c.max-moment.ensures)) i.leads a.leads
           (t.leads held moment (omega arith));
       counted = subst Counted (sym c.tally_after-tally.ensures)
           (tally_then first mid after None _ (tally_then first before mid c.answer_next-asked.result c.loop.tally i.counted a.counted) t.counted);
@@ -104,10 +102,8 @@ returns-then-is_over-clause-history g c =
     let held = g.S.Shelf.files c.answer_next-asked.new.shelf in
     let moment = c.max-moment.result in
     walks_then first after last start held held (begins c.args.house.now) (stands c.take_turn-heard.new.house moment) (ended c.take_turn-heard.new.house)
-    (walks_then first mid after start held held (begins c.args.house.now) (stands c.answer_next-asked.new.house moment) (stands c.take_turn-heard.new.house moment)
-    (walks_then first before mid start (g.S.Shelf.files c.loop.shelf) held (begins c.args.house.now)
-    (stands c.loop.house c.loop.moment) (stands c.answer_next-asked.new.house moment) c.loop.invariant.leads
-    (c.answer_next-asked.ensures.leads c.loop.moment (omega (arith, c.max-moment.ensures))))
+    (walks_round first before mid after start (g.S.Shelf.files c.loop.shelf) held c.args.house.now c.loop.house c.answer_next-asked.new.house
+    c.take_turn-heard.new.house c.loop.moment moment (omega (arith, c.max-moment.ensures)) c.loop.invariant.leads c.answer_next-asked.ensures.leads
     (c.take_turn-heard.ensures.leads held moment (omega arith)))
     (end_walks c.take_turn-heard.new.house after last held moment c.close.ensures.past)
 
@@ -172,10 +168,8 @@ returns-then-is_over-clause-link_use g c =
     let t = c.take_turn-heard.ensures in
     uses_end kind.listed (g.L.Link.calls c.args.link.now) (g.L.Link.calls c.take_turn-heard.new.link) (g.L.Link.calls c.hang_up.new.self) c.hang_up.ensures.calls
     first after (g.C.Counter.past c.close.new.self) start held (begins c.args.house.now) (stands c.take_turn-heard.new.house moment)
-    (walks_then first mid after start held held (begins c.args.house.now) (stands c.answer_next-asked.new.house moment) (stands c.take_turn-heard.new.house moment)
-    (walks_then first before mid start (g.S.Shelf.files c.loop.shelf) held (begins c.args.house.now)
-    (stands c.loop.house c.loop.moment) (stands c.answer_next-asked.new.house moment) i.leads (a.leads c.loop.moment (omega (arith, c.max-moment.ensures))))
-    (t.leads held moment (omega arith)))
+    (walks_round first before mid after start (g.S.Shelf.files c.loop.shelf) held c.args.house.now c.loop.house c.answer_next-asked.new.house
+    c.take_turn-heard.new.house c.loop.moment moment (omega (arith, c.max-moment.ensures)) i.leads a.leads (t.leads held moment (omega arith)))
     (uses_round kind (g.L.Link.kind c.loop.link) i.kind c.args.house.now c.loop.house c.answer_next-asked.new.house c.loop.moment moment
     (omega (arith, c.max-moment.ensures)) _ _ _ _ _ _ _ _ _ first before mid after start (g.S.Shelf.files c.loop.shelf) held i.leads i.uses a.leads a.asks t.turns)
     c.close.ensures.past

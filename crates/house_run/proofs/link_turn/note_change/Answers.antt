@@ -1,6 +1,6 @@
 use Rattle.std.proofs.Common.{◌≡◌, inl, inr, ℕ, refl, sym, ap, subst, ◌∙◌}
 use Rattle.desk_steps.specs.Data.{Data}
-use Rattle.octo_session.specs.Data.{SessionData}
+use Rattle.session_steps.specs.Data.{SessionData}
 use Rattle.octo_house.specs.State.{session_of}
 use Rattle.house_run.proofs.link_turn.note_change.Goals as goal
 

@@ -1,7 +1,8 @@
 use Rattle.std.proofs.Common.{◌≡◌, ℕ, List, Option, Some, refl, sym, ap, subst, ◌∙◌}
 use Rattle.desk_steps.specs.Data.{Data}
 use Rattle.desk_steps.specs.declared.state.State.{State}
-use Rattle.octo_session.specs.Data.{SessionData}
+use Rattle.session_steps.specs.Data.{SessionData}
+use Rattle.lossy_line.proofs.Told.{kept_by_note}
 use Rattle.octo_house.specs.State.{known_of, session_of}
 use Rattle.house_run.specs.Turns.{Notes}
 use Rattle.house_run.proofs.Noting.{turn_walks, notes_count}
@@ -25,17 +26,17 @@ returns-clause-leads g c files before below =
     (g.L.Link.calls c.turn-turned.new.link) x y c.turn-turned.result (known_of c.args.house.now) (known_of c.turn-turned.new.self)
     (record {
       turn = t.turn;
-      before = t.before;
-      joined = t.joined;
-      can = t.finds;
-      up = t.up;
-      ready_is = t.ready_is;
-      unready = λ ready. (t.ready.0 ready).0;
-      spent = t.spent;
-      not_fallen = t.not_fallen;
-      within = t.within;
-      none_acked = t.none_acked;
-      told = t.told;
+      before = t.by_note.before;
+      joined = t.by_note.joined;
+      can = t.by_note.finds;
+      up = t.by_note.up;
+      ready_is = t.by_note.ready_is;
+      unready = λ ready. (t.by_note.ready.0 ready).0;
+      spent = t.by_note.spent;
+      not_fallen = t.by_note.not_fallen;
+      within = t.by_note.within;
+      none_acked = t.by_note.none_acked;
+      told = t.by_note.noted;
     })
     refl past past' files (knows_of c.args.moment c.turn-turned.result.note c.turn-turned.result.ending c.args.house.now c.turn-turned.new.self t.knows)
     (subst From was c.note_turn.ensures.notes) before below
@@ -49,7 +50,7 @@ returns-clause-turns g c =
     turn_adds c.args.moment (session_of c.turn-turned.new.self).sender.acked _ _ (g.L.Link.kind c.args.link.now) (g.L.Link.past c.args.link.now)
     (g.L.Link.past c.turn-turned.new.link) (g.L.Link.calls c.args.link.now) (g.L.Link.calls c.turn-turned.new.link) (session_of c.args.house.now)
     (session_of c.turn-turned.new.self) c.turn-turned.result t.turn (g.L.Link.faults c.args.link.now) (g.L.Link.faults c.turn-turned.new.link)
-    (record { can = t.finds; no_port = λ is. (t.no_port.0 is).1; calling = t.calls; counts = t.counts }) _ _ c.note_turn.ensures.notes
+    (record { can = t.by_note.finds; no_port = λ is. (t.by_note.no_port.0 is).1; calling = t.calls; counts = t.counts }) _ _ c.note_turn.ensures.notes
 
 pub returns-clause-temps : goal.returns-clause-temps
 returns-clause-temps g c =
@@ -63,5 +64,5 @@ returns-clause-tied g c before front =
     let t = c.turn-turned.ensures in
     turn_ties c.args.moment (g.L.Link.kind c.args.link.now) (g.L.Link.past c.args.link.now) (g.L.Link.past c.turn-turned.new.link) (g.L.Link.calls c.args.link.now)
     (g.L.Link.calls c.turn-turned.new.link) (session_of c.args.house.now) (session_of c.turn-turned.new.self) c.turn-turned.result t.turn
-    (record { before = t.before; finds = t.finds; up = t.up; sent = t.sent; spent = t.spent }) before (g.C.Counter.past c.args.counter.now)
-    (g.C.Counter.past c.note_turn.new.counter) front _ _ t.none_acked c.note_turn.ensures.notes
+    (kept_by_note t.by_note) before (g.C.Counter.past c.args.counter.now)
+    (g.C.Counter.past c.note_turn.new.counter) front _ _ t.by_note.none_acked c.note_turn.ensures.notes

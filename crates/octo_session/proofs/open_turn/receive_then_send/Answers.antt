@@ -1,11 +1,11 @@
 use Rattle.std.proofs.Common.{◌≡◌, inr, true, map, sym, ap, subst, ◌∙◌}
 use Rattle.octo_outside.proofs.Told.{counts_then}
 use Rattle.desk_steps.specs.Issued.{line_of}
-use Rattle.octo_session.specs.Found.{Got, got_of, temps_in, temps_kept, is_got, end_by}
-use Rattle.octo_session.specs.Steps.{TakesSome, talk_steps}
-use Rattle.octo_session.specs.Turn.{texts_in}
-use Rattle.octo_session.specs.declared.found.Received.{Received}
-use Rattle.octo_session.proofs.Stepping.{takes_talk, end_by_is, got_some, got_kept, none_said}
+use Rattle.session_steps.specs.Found.{Got, got_of, temps_in, temps_kept, is_got, end_by}
+use Rattle.session_steps.specs.Steps.{TakesSome, talk_steps}
+use Rattle.session_steps.specs.Turn.{texts_in}
+use Rattle.session_steps.specs.declared.found.Received.{Received}
+use Rattle.session_steps.proofs.Stepping.{takes_talk, end_by_is, got_some, got_kept, none_said}
 use Rattle.octo_session.proofs.open_turn.receive_then_send.Goals as goal
 
 pub returns-in_default : goal.returns-in_default
@@ -22,17 +22,19 @@ returns-in_default g c =
     record {
       finds = e.finds;
       asked = λ none. r.asked (sym got_same ∙ none);
-      temps = ap temps_kept same ∙ r.temps ∙ sym (ap temps_in got_same);
+      found_by = record {
+        temps = ap temps_kept same ∙ r.temps ∙ sym (ap temps_in got_same);
+        ended = λ end. (λ is_end. ends_same ∙ (e.ended end).0 is_end, λ is_end. (e.ended end).1 (sym ends_same ∙ is_end));
+        ready = (
+          λ is_ready. (sym c.ready-was_ready.ensures.ready ∙ (e.ready.0 is_ready).0, (e.ready.0 is_ready).1),
+          λ becomes. e.ready.1 (c.ready-was_ready.ensures.ready ∙ becomes.0, becomes.1),
+        );
+        broken = λ gone. absurd (got_kept got (got_of c.after_receiving.result.received bytes) got_same is gone);
+        none_issued = λ none. e.none_issued (none_said got (got_of c.after_receiving.result.received bytes) c.after_receiving.result.fact got_same is none);
+        silent = e.silent;
+        sent = e.sent;
+      };
       noted = e.noted;
-      ended = λ end. (λ is_end. ends_same ∙ (e.ended end).0 is_end, λ is_end. (e.ended end).1 (sym ends_same ∙ is_end));
-      ready = (
-        λ is_ready. (sym c.ready-was_ready.ensures.ready ∙ (e.ready.0 is_ready).0, (e.ready.0 is_ready).1),
-        λ becomes. e.ready.1 (c.ready-was_ready.ensures.ready ∙ becomes.0, becomes.1),
-      );
-      broken = λ gone. absurd (got_kept got (got_of c.after_receiving.result.received bytes) got_same is gone);
-      none_issued = λ none. e.none_issued (none_said got (got_of c.after_receiving.result.received bytes) c.after_receiving.result.fact got_same is none);
-      silent = e.silent;
-      sent = e.sent;
       spent = e.spent;
       joined = e.joined;
       steps = let P : Got → Type 0 = λ x. TakesSome c.args.moment (g.L.Link.kind c.args.link.now) (g.L.Link.past c.args.link.now)

@@ -5,13 +5,14 @@ use Rattle.desk_steps.specs.declared.link_fact.LinkFact.{LinkFact}
 use Rattle.desk_steps.specs.declared.link_fact.LinkFact.TheVariants as fact
 use Rattle.octo_outside.proofs.Told.{steady_not_rose}
 use Rattle.printer_link.specs.Link.{LinkKind}
-use Rattle.octo_session.specs.Data.{SessionData}
-use Rattle.octo_session.specs.Turn.{fact_of}
+use Rattle.session_steps.specs.Data.{SessionData}
+use Rattle.session_steps.specs.Turn.{fact_of}
 use Rattle.lossy_line.specs.Tied.{EndCausedAs}
 use Rattle.send_window.specs.declared.session_end.SessionEnd.TheVariants.{NoAnswer}
-use Rattle.octo_session.specs.Data.{doing}
-use Rattle.octo_session.specs.Found.{can_find}
-use Rattle.octo_session.proofs.Noting.{noted_fact}
+use Rattle.session_steps.specs.Data.{doing}
+use Rattle.session_steps.specs.Found.{can_find}
+use Rattle.session_steps.proofs.Noting.{noted_fact}
+use Rattle.lossy_line.proofs.Told.{kept_by_note}
 use Rattle.lossy_turns.specs.Patience.{IsPatient, IsUnanswered}
 use Rattle.lossy_turns.proofs.Waits.{turn_patient, turn_unanswered}
 use Rattle.session_print.specs.Ends.{end_of, desk_after}
@@ -37,22 +38,22 @@ returns-clause-goes g c p port first limit patient way =
     let h : HasTurned c.args.moment kind (g.L.Link.past c.args.link.now) now (g.L.Link.calls c.args.link.now) (g.L.Link.calls c.turn_over_link-turned.new.link) old mid turned =
     record {
       turn = e.turn;
-      kept = record { before = e.before; finds = e.finds; up = e.up; sent = e.sent; spent = e.spent };
-      joined = e.joined;
-      greatest = e.greatest;
-      ready_is = e.ready_is;
-      not_fallen = e.not_fallen;
-      no_port = e.no_port;
+      kept = kept_by_note e.by_note;
+      joined = e.by_note.joined;
+      greatest = e.by_note.greatest;
+      ready_is = e.by_note.ready_is;
+      not_fallen = e.by_note.not_fallen;
+      no_port = e.by_note.no_port;
       unanswered = λ count is. (let t = e.turn in
           let found : fact_of turned.note ≡ t.found = noted_fact turned.note c.args.moment old.sender.acked mid.sender.acked t.lines t.got t.found t.none t.some in
           let F : LinkFact → Type 0 = λ f. can_find (doing old) f ≡ true in
-          (turn_unanswered c.args.moment _ _ _ _ _ old mid turned t 0 limit (omega arith) count e.before patient (sym found ∙ is) (subst F found e.finds)).1);
+          (turn_unanswered c.args.moment _ _ _ _ _ old mid turned t 0 limit (omega arith) count e.by_note.before patient (sym found ∙ is) (subst F found e.by_note.finds)).1);
       caused = λ why is issued linked. (let K : LinkKind → Type 0 = λ k. EndCausedAs k now why in subst K e.kind (e.caused why is issued linked));
     }
     in
     let went = turn_goes c.args.moment kind _ _ _ _ old mid turned h p port first way in
     let on = follows kind p port first now mid (fact_of turned.note) turned.ending
-    (λ is. ((e.ready.0 is).1, e.greatest ∙ c.requires.unstarted (e.ready.0 is).0))
+    (λ is. ((e.by_note.ready.0 is).1, e.by_note.greatest ∙ c.requires.unstarted (e.by_note.ready.0 is).0))
     (turn_free c.args.moment kind _ _ _ _ old mid turned h p port first way) went
     in
     let F : LinkFact → Type 0 = λ f. GoesOn kind p port (end_of f) first now (record mid { desk = desk_after f turned.ending mid.desk }) in
@@ -74,7 +75,7 @@ returns-clause-waited g c start limit count since p is =
     let found : fact_of note ≡ t.found = noted_fact note c.args.moment old.sender.acked c.turn_over_link-turned.new.session.sender.acked t.lines t.got t.found t.none t.some in
     let ends : fact_of note ≡ fact.Ended (NoAnswer count) = fact_by (fact_of note) (NoAnswer count) (ap end_of (sym c.fact_of_turn.ensures) ∙ sym c.go_on.ensures.end ∙ is) in
     let F : LinkFact → Type 0 = λ f. can_find (doing old) f ≡ true in
-    let w = turn_unanswered c.args.moment _ _ _ _ _ old c.turn_over_link-turned.new.session c.turn_over_link-turned.result t start limit since count e.before p (sym found ∙ ends) (subst F found e.finds) in
+    let w = turn_unanswered c.args.moment _ _ _ _ _ old c.turn_over_link-turned.new.session c.turn_over_link-turned.result t start limit since count e.by_note.before p (sym found ∙ ends) (subst F found e.by_note.finds) in
     let S : SessionData → Type 0 = λ x. IsUnanswered x.sender in
     (w.0, subst S (sym c.go_on.ensures.after) w.1)
 
@@ -82,7 +83,7 @@ pub returns-clause-calls : goal.returns-clause-calls
 returns-clause-calls g c awake is =
     let e = c.turn_over_link-turned.ensures in
     let note = c.turn_over_link-turned.result.note in
-    e.calls (calls_of c.args.session.now (fact_of note) awake e.finds (ap end_of (sym c.fact_of_turn.ensures) ∙ sym c.go_on.ensures.end ∙ is))
+    e.calls (calls_of c.args.session.now (fact_of note) awake e.by_note.finds (ap end_of (sym c.fact_of_turn.ensures) ∙ sym c.go_on.ensures.end ∙ is))
 
 pub returns-clause-prompt : goal.returns-clause-prompt
 returns-clause-prompt g c p poll_ms at left prompt steady range before after way =
@@ -96,13 +97,13 @@ returns-clause-prompt g c p poll_ms at left prompt steady range before after way
     let h : IsPromptTurn c.args.moment at poll_ms kind (g.L.Link.past c.args.link.now) now (g.L.Link.calls c.args.link.now) (g.L.Link.calls c.turn_over_link-turned.new.link) old mid turned =
     record {
       turn = e.turn;
-      kept = record { before = e.before; finds = e.finds; up = e.up; sent = e.sent; spent = e.spent };
-      joined = e.joined;
-      greatest = e.greatest;
-      ready_is = e.ready_is;
-      readies = λ is. (e.ready.0 is).0;
-      not_fallen = e.not_fallen;
-      no_port = e.no_port;
+      kept = kept_by_note e.by_note;
+      joined = e.by_note.joined;
+      greatest = e.by_note.greatest;
+      ready_is = e.by_note.ready_is;
+      readies = λ is. (e.by_note.ready.0 is).0;
+      not_fallen = e.by_note.not_fallen;
+      no_port = e.by_note.no_port;
       unbroken = λ is. steady_not_rose _ _ steady (e.counts.rose is);
       prompt = prompt;
       small = omega (arith, moment, range.answers);

@@ -3,7 +3,7 @@ use Rattle.std.proofs.lemmas.Option.{same_Some}
 use Rattle.octo_outside.proofs.Told.{rose_after, steady_after}
 use Rattle.printer_link.specs.Link.{LinkKind, RoseBy, Grows, IsHangUp}
 use Rattle.printer_link.proofs.Calls.{rose_none, rose_then}
-use Rattle.octo_session.specs.Data.{port_of}
+use Rattle.session_steps.specs.Data.{port_of}
 use Rattle.print_course.specs.Plan.{print_commands, plan}
 use Rattle.session_print.specs.Printed.{IsOver}
 use Rattle.session_print.specs.BetweenTurns.{IsTalking}

@@ -1,6 +1,6 @@
 use Rattle.std.proofs.Common.{◌≡◌, ◌≤◌, ◌+◌, ◌-◌, ℕ, Some}
 use Rattle.printer_link.specs.Link.{RoseBy}
-use Rattle.octo_session.specs.Data.{port_of}
+use Rattle.session_steps.specs.Data.{port_of}
 use Rattle.print_course.specs.Plan.{PrintData}
 use Rattle.session_print.specs.BetweenTurns.{IsDialling}
 use Rattle.lossy_turns.specs.Patience.{IsOnTime}

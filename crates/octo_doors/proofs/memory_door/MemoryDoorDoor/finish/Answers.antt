@@ -1,4 +1,4 @@
-use Rattle.std.proofs.Common.{[], ◌∷◌, ◌++◌, List, map, Option, Some, None, ap, sym, subst, ◌∙◌}
+use Rattle.std.proofs.Common.{[], ◌∷◌, List, map, Option, Some, None, ap, sym, subst}
 use Rattle.std.specs.Prelude.{option_map, if◌then◌else◌}
 use Rattle.octo_outside.specs.Memory.{ConnData}
 use Rattle.octo_outside.specs.Told.{Adds}

@@ -8,7 +8,7 @@ use Rattle.octo_house.proofs.house.House.edit.Goals as goal
 
 pub returns-in-SelectFile-default-true-clause-files : goal.returns-in-SelectFile-default-true-clause-files
 returns-in-SelectFile-default-true-clause-files g c =
-    shelves-same _ _ (λ files. request_verdict c.args.request.now c.args.user.now files (known_of c.args.self.now)) _ c.print_named.ensures.stays
+    shelves-same _ _ (λ files. request_verdict c.args.request.now c.args.user.now files (known_of c.args.self.now)) _ c.print_named.ensures.rest.stays
     (λ files. request-leaves c.args.request.now c.args.user.now files (known_of c.args.self.now) (ap is_storing c.in-SelectFile-default-true.is))
 
 pub returns-in-SelectFile-default-false-clause-files : goal.returns-in-SelectFile-default-false-clause-files
@@ -16,15 +16,27 @@ returns-in-SelectFile-default-false-clause-files g c =
     shelves-same _ _ (λ files. request_verdict c.args.request.now c.args.user.now files (known_of c.args.self.now)) _ c.select_named.ensures.stays
     (λ files. request-leaves c.args.request.now c.args.user.now files (known_of c.args.self.now) (ap is_storing c.in-SelectFile-default-false.is))
 
-pub returns-in-SelectFile-default-false-clause-kept : goal.returns-in-SelectFile-default-false-clause-kept
-returns-in-SelectFile-default-false-clause-kept g c = keeps-same _ _ _ _ refl c.select_named.ensures.alone.tables
+pub returns-in-SelectFile-default-false-clause-rest : goal.returns-in-SelectFile-default-false-clause-rest
+returns-in-SelectFile-default-false-clause-rest g c = record {
+  kept = keeps-same _ _ _ _ refl c.select_named.ensures.alone.tables;
+  listed = search rules;
+  apart = search rules;
+  keeper = search rules;
+  shelf = search rules;
+}
 
-pub returns-in-DeleteFile-clause-kept : goal.returns-in-DeleteFile-clause-kept
-returns-in-DeleteFile-clause-kept g c = keeps-same _ _ _ _ refl c.delete_file.ensures.rows.tables
+pub returns-in-DeleteFile-clause-rest : goal.returns-in-DeleteFile-clause-rest
+returns-in-DeleteFile-clause-rest g c = record {
+  kept = keeps-same _ _ _ _ refl c.delete_file.ensures.rows.tables;
+  listed = c.delete_file.ensures.listed;
+  apart = c.delete_file.ensures.rows.apart;
+  keeper = search rules;
+  shelf = c.delete_file.ensures.shelf;
+}
 
 pub returns-in-NextEntry-clause-files : goal.returns-in-NextEntry-clause-files
 returns-in-NextEntry-clause-files g c =
-    shelves-same _ _ (λ files. request_verdict c.args.request.now c.args.user.now files (known_of c.args.self.now)) _ c.print_next.ensures.stays
+    shelves-same _ _ (λ files. request_verdict c.args.request.now c.args.user.now files (known_of c.args.self.now)) _ c.print_next.ensures.rest.stays
     (λ files. request-leaves c.args.request.now c.args.user.now files (known_of c.args.self.now) (ap is_storing c.in-NextEntry.is))
 
 pub returns-in-DropOwn-clause-done : goal.returns-in-DropOwn-clause-done
@@ -40,9 +52,11 @@ returns-in_default g c =
       done = λ files at. c.put_row.ensures.done files;
       files = shelves-same _ _ (λ files. request_verdict c.args.request.now c.args.user.now files (known_of c.args.self.now)) _ refl
           (λ files. request-leaves c.args.request.now c.args.user.now files (known_of c.args.self.now) still);
-      kept = c.put_row.ensures.kept;
-      listed = λ listed files at. c.put_row.ensures.names ∙ listed files at;
-      apart = c.put_row.ensures.apart;
-      keeper = c.put_row.ensures.keeper;
-      shelf = record { later = omega arith; rose = λ failed. absurd (false≢true (sym c.put_row.ensures.shelf ∙ failed)) };
+      rest = record {
+        kept = c.put_row.ensures.rest.kept;
+        listed = λ listed files at. c.put_row.ensures.rest.names ∙ listed files at;
+        apart = c.put_row.ensures.rest.apart;
+        keeper = c.put_row.ensures.rest.keeper;
+        shelf = record { later = omega arith; rose = λ failed. absurd (false≢true (sym c.put_row.ensures.rest.shelf ∙ failed)) };
+      };
     }

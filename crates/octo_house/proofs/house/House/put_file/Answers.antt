@@ -1,9 +1,9 @@
-use Rattle.std.proofs.Common.{◌≡◌, true, false, refl, sym, ap, ◌∙◌}
+use Rattle.std.proofs.Common.{◌≡◌, true, false, refl, sym, ap, ◌∙◌, rules}
 use Rattle.std.proofs.lemmas.Bool.{not-true, not-false}
 use Rattle.octo_asks.specs.declared.answer.Answer.TheVariants as answer
 use Rattle.house_verdicts.specs.Uploads.{named_file, is_selected, is_printed}
 use Rattle.house_tables.proofs.Keeping.{keeps-same}
-use Rattle.octo_session.specs.Data.{SessionData}
+use Rattle.session_steps.specs.Data.{SessionData}
 use Rattle.octo_house.specs.State.{known_of}
 use Rattle.octo_house.proofs.Startable.{startable, has-it}
 use Rattle.octo_house.proofs.Stored.{job-is, keeps-over, not-stored, not-shelved, done-alone, done-selected, done-printed, shelved}
@@ -20,8 +20,14 @@ returns-in-Err-store-clause-files g c =
     not-shelved c.args.user.now c.args.name.now c.args.bytes.now c.args.select c.args.print (known_of c.args.self.now) c.in-Ok.job
     (job-is _ c.in-Ok.job c.in-Ok.ensures.exact) c.in-Err-store.answer _ _ c.in-Err-store.ensures.stored.why c.in-Err-store.ensures.same
 
-pub returns-in-Err-store-clause-kept : goal.returns-in-Err-store-clause-kept
-returns-in-Err-store-clause-kept g c = keeps-same _ _ _ _ refl c.in-Err-store.ensures.rows.tables
+pub returns-in-Err-store-clause-rest : goal.returns-in-Err-store-clause-rest
+returns-in-Err-store-clause-rest g c = record {
+  kept = keeps-same _ _ _ _ refl c.in-Err-store.ensures.rows.tables;
+  listed = search rules;
+  apart = search rules;
+  keeper = search rules;
+  shelf = search rules;
+}
 
 pub returns-then-not-wanted-clause-done : goal.returns-then-not-wanted-clause-done
 returns-then-not-wanted-clause-done g c =
@@ -36,8 +42,14 @@ returns-then-not-wanted-clause-files g c =
     shelved c.args.user.now c.args.name.now c.args.bytes.now c.args.select c.args.print (known_of c.args.self.now) c.in-Ok.job
     (job-is _ c.in-Ok.job c.in-Ok.ensures.exact) (answer.Uploaded c.copy.result false false) _ _ c.in_default.ensures.stored.allowed refl c.in_default.ensures.files
 
-pub returns-then-not-wanted-clause-kept : goal.returns-then-not-wanted-clause-kept
-returns-then-not-wanted-clause-kept g c = keeps-same _ _ _ _ refl c.in_default.ensures.rows.tables
+pub returns-then-not-wanted-clause-rest : goal.returns-then-not-wanted-clause-rest
+returns-then-not-wanted-clause-rest g c = record {
+  kept = keeps-same _ _ _ _ refl c.in_default.ensures.rows.tables;
+  listed = search rules;
+  apart = search rules;
+  keeper = search rules;
+  shelf = search rules;
+}
 
 pub returns-then-not-wanted-2-clause-done : goal.returns-then-not-wanted-2-clause-done
 returns-then-not-wanted-2-clause-done g c =
@@ -56,8 +68,14 @@ returns-then-not-wanted-2-clause-files g c =
     (job-is _ c.in-Ok.job c.in-Ok.ensures.exact) (answer.Uploaded c.copy-then-not-wanted-2.result true false) _ _ c.in_default.ensures.stored.allowed refl
     c.in_default.ensures.files
 
-pub returns-then-not-wanted-2-clause-kept : goal.returns-then-not-wanted-2-clause-kept
-returns-then-not-wanted-2-clause-kept g c = keeps-same _ _ _ _ refl c.in_default.ensures.rows.tables
+pub returns-then-not-wanted-2-clause-rest : goal.returns-then-not-wanted-2-clause-rest
+returns-then-not-wanted-2-clause-rest g c = record {
+  kept = keeps-same _ _ _ _ refl c.in_default.ensures.rows.tables;
+  listed = search rules;
+  apart = search rules;
+  keeper = search rules;
+  shelf = search rules;
+}
 
 pub print_stored-requires : goal.print_stored-requires
 print_stored-requires g c =
@@ -91,5 +109,11 @@ returns-clause-files g c =
     (job-is _ c.in-Ok.job c.in-Ok.ensures.exact) c.print_stored.result _ _ c.in_default.ensures.stored.allowed c.print_stored.ensures.plain
     c.in_default.ensures.files
 
-pub returns-clause-kept : goal.returns-clause-kept
-returns-clause-kept g c = keeps-over _ _ _ _ _ c.in_default.ensures.rows.tables c.print_stored.ensures.kept
+pub returns-clause-rest : goal.returns-clause-rest
+returns-clause-rest g c = record {
+  kept = keeps-over _ _ _ _ _ c.in_default.ensures.rows.tables c.print_stored.ensures.rest.kept;
+  listed = search rules;
+  apart = search rules;
+  keeper = search rules;
+  shelf = search rules;
+}

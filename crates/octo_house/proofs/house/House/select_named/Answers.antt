@@ -6,7 +6,7 @@ use Rattle.house_verdicts.specs.Known.{is_held}
 use Rattle.house_verdicts.specs.States.{may_select}
 use Rattle.house_verdicts.specs.Uploads.{named_file}
 use Rattle.house_verdicts.specs.Verdict.{makes, at_desk}
-use Rattle.octo_session.specs.Data.{SessionData}
+use Rattle.session_steps.specs.Data.{SessionData}
 use Rattle.octo_house.specs.State.{known_of}
 use Rattle.octo_house.proofs.ReadDone.{made, passed, job-read, job-missed}
 use Rattle.octo_house.proofs.house.House.select_named.Goals as goal

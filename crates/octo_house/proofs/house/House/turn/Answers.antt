@@ -2,7 +2,7 @@ use Rattle.std.proofs.Common.{subst}
 use Rattle.desk_steps.specs.Data.{Data}
 use Rattle.desk_steps.specs.Endings.{IsActive}
 use Rattle.octo_keeper.specs.Tables.{with_due_end}
-use Rattle.octo_session.specs.Data.{doing}
+use Rattle.session_steps.specs.Data.{doing}
 use Rattle.octo_house.specs.Turned.{temps_told}
 use Rattle.octo_house.proofs.Rested.{rested-after, numbered-after, ends-rested}
 use Rattle.octo_house.proofs.TurnKnown.{turned-knows, turned-goes, known-turned}
@@ -13,14 +13,14 @@ invariant_of-self g c =
     let old = c.args.self.now.desk.session in
     let new = c.turn-turned.new.self in
     let goes = turned-goes c.args.moment new.sender.acked (doing old) c.turn-turned.result.ending old.desk new.desk c.turn-turned.result.note
-    c.turn-turned.ensures.noted c.turn-turned.ensures.still in
+    c.turn-turned.ensures.by_note.noted c.turn-turned.ensures.by_note.still in
     record {
       numbered = numbered-after c.args.self.now.tables c.note_end.new.self c.turn-turned.result.ending old.desk.greatest new.desk.greatest
           c.args.self.now.numbered
-          c.turn-turned.ensures.greatest c.note_end.ensures.rest;
+          c.turn-turned.ensures.by_note.greatest c.note_end.ensures.rest;
       rested = rested-after c.args.self.now.tables c.note_end.new.self c.turn-turned.result.ending old.desk.active new.desk.active
           c.args.self.now.rested goes.before
-          (ends-rested c.turn-turned.result.ending new.desk.active c.turn-turned.ensures.ends (λ e ends. ends.rests)) c.note_end.ensures.due;
+          (ends-rested c.turn-turned.result.ending new.desk.active c.turn-turned.ensures.by_note.ends (λ e ends. ends.rests)) c.note_end.ensures.due;
     }
 
 pub returns-clause-knows : goal.returns-clause-knows
@@ -29,4 +29,4 @@ returns-clause-knows g c =
     (subst (λ (d : Data). IsActive d) c.desk.ensures c.is_active.ensures) c.turn-turned.result.note
     (known-turned c.args.self.now c.turn-turned.new.self.desk c.temps_after_turn-self.result (temps_told c.turn-turned.result.note c.args.self.now.desk.temps)
     c.note_end.new.self (with_due_end c.turn-turned.result.ending c.args.self.now.tables.prints) c.temps_after_turn-self.ensures c.note_end.ensures.rest)
-    c.turn-turned.ensures.noted c.turn-turned.ensures.still
+    c.turn-turned.ensures.by_note.noted c.turn-turned.ensures.by_note.still

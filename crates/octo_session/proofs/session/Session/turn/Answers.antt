@@ -7,11 +7,11 @@ use Rattle.desk_steps.specs.declared.link_fact.LinkFact.{LinkFact}
 use Rattle.desk_steps.specs.declared.link_fact.LinkFact.TheVariants as fact
 use Rattle.desk_steps.specs.declared.issued.Note.{Note}
 use Rattle.send_window.specs.Data.{IsSound}
-use Rattle.octo_session.specs.Data.{SessionData, IsSession, doing}
-use Rattle.octo_session.specs.Found.{got_of, temps_in, temps_kept, can_find}
-use Rattle.octo_session.specs.Turn.{IsStill, IsUneventful, fact_of}
-use Rattle.octo_session.specs.declared.found.Found.{Found}
-use Rattle.octo_session.proofs.Noting.{turn_ready, turn_not_fallen, turn_within, turn_none_acked, turn_noted, turn_still, turn_ending}
+use Rattle.session_steps.specs.Data.{SessionData, IsSession, doing}
+use Rattle.session_steps.specs.Found.{got_of, temps_in, temps_kept, can_find, up_after}
+use Rattle.session_steps.specs.Turn.{IsStill, IsUneventful, fact_of}
+use Rattle.session_steps.specs.declared.found.Found.{Found}
+use Rattle.session_steps.proofs.Noting.{turn_ready, turn_not_fallen, turn_within, turn_none_acked, turn_noted, turn_still, turn_ending}
 use Rattle.octo_session.proofs.session.Session.turn.Goals as goal
 
 none_listed : (issued : List Issued) → map line_of issued ≡ [] → issued ≡ []
@@ -49,61 +49,45 @@ returns-clause-turn g c =
       heard = search rules;
       none = uneventful c.turn_by_kind-found.result c.acked-before.result c.acked.result c.args.self.now.sender.acked c.turn_by_kind-found.new.self.sender.acked
           bytes c.turned_of.result.note c.turned_of.ensures.none (c.acked-before.ensures.acked ∙ ap (λ (x : SessionData). x.sender.acked) c.self.view_is)
-          (c.acked.ensures.acked ∙ ap (λ (x : SessionData). x.sender.acked) c.self-2.view_is) e.temps;
+          (c.acked.ensures.acked ∙ ap (λ (x : SessionData). x.sender.acked) c.self-2.view_is) e.found_by.temps;
       some = search rules;
       ended = search rules;
-      broken = e.broken;
+      broken = e.found_by.broken;
       none_issued = search rules;
       desk = search rules;
       steps = search rules;
     }
 
-pub returns-clause-ready_is : goal.returns-clause-ready_is
-returns-clause-ready_is g c =
-    let finds : can_find (doing c.args.self.now) (fact_of c.turned_of.result.note) ≡ true =
-    subst (λ (f : LinkFact). can_find (doing c.args.self.now) f ≡ true) (sym c.turned_of.ensures.fact) c.turn_by_kind-found.ensures.finds in
-    let sound : IsSound c.args.self.now.sender = subst (λ (x : SessionData). IsSound x.sender) c.self.view_is c.acked-before.ensures.sound in
-    turn_ready c.args.moment _ _ _ _ _ c.args.self.now c.turn_by_kind-found.new.self c.turned_of.result (returns-clause-turn g c) finds sound
-    (subst (λ (f : LinkFact). (f ≡ fact.Ready) ↔ ((c.args.self.now.sender.ready ≡ false) × (c.turn_by_kind-found.new.self.sender.ready ≡ true)))
-    (sym c.turned_of.ensures.fact) c.turn_by_kind-found.ensures.ready)
-
-pub returns-clause-not_fallen : goal.returns-clause-not_fallen
-returns-clause-not_fallen g c =
-    let finds : can_find (doing c.args.self.now) (fact_of c.turned_of.result.note) ≡ true =
-    subst (λ (f : LinkFact). can_find (doing c.args.self.now) f ≡ true) (sym c.turned_of.ensures.fact) c.turn_by_kind-found.ensures.finds in
-    let sound : IsSound c.args.self.now.sender = subst (λ (x : SessionData). IsSound x.sender) c.self.view_is c.acked-before.ensures.sound in
-    turn_not_fallen c.args.moment _ _ _ _ _ c.args.self.now c.turn_by_kind-found.new.self c.turned_of.result (returns-clause-turn g c) finds sound
-
-pub returns-clause-within : goal.returns-clause-within
-returns-clause-within g c =
-    let finds : can_find (doing c.args.self.now) (fact_of c.turned_of.result.note) ≡ true =
-    subst (λ (f : LinkFact). can_find (doing c.args.self.now) f ≡ true) (sym c.turned_of.ensures.fact) c.turn_by_kind-found.ensures.finds in
-    let sound : IsSound c.args.self.now.sender = subst (λ (x : SessionData). IsSound x.sender) c.self.view_is c.acked-before.ensures.sound in
-    turn_within c.args.moment _ _ _ _ _ c.args.self.now c.turn_by_kind-found.new.self c.turned_of.result (returns-clause-turn g c) finds sound
-
-pub returns-clause-none_acked : goal.returns-clause-none_acked
-returns-clause-none_acked g c opens =
-    let finds : can_find (doing c.args.self.now) (fact_of c.turned_of.result.note) ≡ true =
-    subst (λ (f : LinkFact). can_find (doing c.args.self.now) f ≡ true) (sym c.turned_of.ensures.fact) c.turn_by_kind-found.ensures.finds in
-    let sound : IsSound c.args.self.now.sender = subst (λ (x : SessionData). IsSound x.sender) c.self.view_is c.acked-before.ensures.sound in
-    turn_none_acked c.args.moment _ _ _ _ _ c.args.self.now c.turn_by_kind-found.new.self c.turned_of.result (returns-clause-turn g c) finds sound opens
-
-pub returns-clause-noted : goal.returns-clause-noted
-returns-clause-noted g c =
-    let finds : can_find (doing c.args.self.now) (fact_of c.turned_of.result.note) ≡ true =
-    subst (λ (f : LinkFact). can_find (doing c.args.self.now) f ≡ true) (sym c.turned_of.ensures.fact) c.turn_by_kind-found.ensures.finds in
-    turn_noted c.args.moment _ _ _ _ _ c.args.self.now c.turn_by_kind-found.new.self c.turned_of.result (returns-clause-turn g c) finds
-
-pub returns-clause-still : goal.returns-clause-still
-returns-clause-still g c none =
-    let finds : can_find (doing c.args.self.now) (fact_of c.turned_of.result.note) ≡ true =
-    subst (λ (f : LinkFact). can_find (doing c.args.self.now) f ≡ true) (sym c.turned_of.ensures.fact) c.turn_by_kind-found.ensures.finds in
-    turn_still c.args.moment _ _ _ _ _ c.args.self.now c.turn_by_kind-found.new.self c.turned_of.result (returns-clause-turn g c) finds
-    (subst IsSession c.self.view_is c.self.invariant) none
-
-pub returns-clause-ends : goal.returns-clause-ends
-returns-clause-ends g c =
-    let finds : can_find (doing c.args.self.now) (fact_of c.turned_of.result.note) ≡ true =
-    subst (λ (f : LinkFact). can_find (doing c.args.self.now) f ≡ true) (sym c.turned_of.ensures.fact) c.turn_by_kind-found.ensures.finds in
-    turn_ending c.args.moment _ _ _ _ _ c.args.self.now c.turn_by_kind-found.new.self c.turned_of.result (returns-clause-turn g c) finds
-    c.turn_by_kind-found.ensures.joined (subst (λ (x : SessionData). IsActive x.desk) c.self.view_is c.is_active.ensures)
+pub returns-clause-by_note : goal.returns-clause-by_note
+returns-clause-by_note g c =
+    let e = c.turn_by_kind-found.ensures in
+    let old = c.args.self.now in
+    let new = c.turn_by_kind-found.new.self in
+    let turned = c.turned_of.result in
+    let is : fact_of turned.note ≡ c.turn_by_kind-found.result.fact = c.turned_of.ensures.fact in
+    let t = returns-clause-turn g c in
+    let finds : can_find (doing old) (fact_of turned.note) ≡ true = subst (λ (f : LinkFact). can_find (doing old) f ≡ true) (sym is) e.finds in
+    let ready : (fact_of turned.note ≡ fact.Ready) ↔ ((old.sender.ready ≡ false) × (new.sender.ready ≡ true)) =
+    subst (λ (f : LinkFact). (f ≡ fact.Ready) ↔ ((old.sender.ready ≡ false) × (new.sender.ready ≡ true))) (sym is) e.found_by.ready in
+    let sound : IsSound old.sender = subst (λ (x : SessionData). IsSound x.sender) c.self.view_is c.acked-before.ensures.sound in
+    let before : IsSession old = subst IsSession c.self.view_is c.self.invariant in
+    record {
+      finds = finds;
+      up = e.up ∙ ap (λ (f : LinkFact). up_after f old.up) (sym is);
+      no_port = (λ none. e.no_port.0 (sym is ∙ none), λ unlisted. is ∙ e.no_port.1 unlisted);
+      ready = ready;
+      ready_is = turn_ready c.args.moment _ _ _ _ _ old new turned t finds sound ready;
+      silent = λ readies. c.turned_of.ensures.lines ∙ ap (map line_of) (e.found_by.silent (sym is ∙ readies));
+      sent = λ readies. e.found_by.sent (sym is ∙ readies);
+      spent = λ open_link quiet. e.spent open_link (sym is ∙ quiet);
+      not_fallen = turn_not_fallen c.args.moment _ _ _ _ _ old new turned t finds sound;
+      within = turn_within c.args.moment _ _ _ _ _ old new turned t finds sound;
+      none_acked = turn_none_acked c.args.moment _ _ _ _ _ old new turned t finds sound;
+      noted = turn_noted c.args.moment _ _ _ _ _ old new turned t finds;
+      still = turn_still c.args.moment _ _ _ _ _ old new turned t finds before;
+      ends = turn_ending c.args.moment _ _ _ _ _ old new turned t finds e.joined
+          (subst (λ (x : SessionData). IsActive x.desk) c.self.view_is c.is_active.ensures);
+      greatest = e.greatest;
+      before = before;
+      joined = e.joined;
+    }

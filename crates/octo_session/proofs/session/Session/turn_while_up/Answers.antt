@@ -1,13 +1,12 @@
-use Rattle.std.proofs.Common.{◌≡◌, subst}
-use Rattle.std.specs.Prelude.{Some, ◌↔◌}
-use Rattle.desk_steps.specs.declared.link_fact.LinkFact.TheVariants as fact
-use Rattle.octo_session.specs.Data.{SessionData}
-use Rattle.octo_session.specs.Found.{got_of, end_by}
+use Rattle.std.proofs.Common.{subst}
+use Rattle.session_steps.specs.Data.{SessionData}
+use Rattle.session_steps.specs.Found.{got_of}
+use Rattle.octo_session.specs.FoundBy.{IsFoundBy}
 use Rattle.octo_session.proofs.session.Session.turn_while_up.Goals as goal
 
-pub returns-clause-ended : goal.returns-clause-ended
-returns-clause-ended g c end =
+pub returns-clause-found_by : goal.returns-clause-found_by
+returns-clause-found_by g c =
     let found = c.receive_then_send-found.result in
-    let P : SessionData → Type 0 = λ s. (found.fact ≡ fact.Ended end) ↔ (end_by (got_of found.received c.receive_then_send-found.new.line.items) c.args.moment
-    s.sender ≡ Some end) in
-    subst P c.self.view_is (c.receive_then_send-found.ensures.ended end)
+    let P : SessionData → Type 0 = λ s. IsFoundBy c.args.moment (got_of found.received c.receive_then_send-found.new.line.items) found s.sender
+    c.receive_then_send-found.new.sender in
+    subst P c.self.view_is c.receive_then_send-found.ensures.found_by

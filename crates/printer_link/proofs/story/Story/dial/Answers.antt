@@ -1,8 +1,7 @@
 use Rattle.std.proofs.Common.{◌≡◌, ◌∙◌, ℕ, ap}
 use Rattle.std.specs.Prelude.{if◌then◌else◌}
 use Rattle.std.specs.List.{list_any}
-use Rattle.printer_model.specs.World.{WorldData}
-use Rattle.printer_model.specs.Executed.{is_opened}
+use Rattle.printer_model.specs.World.{WorldData, is_opened}
 use Rattle.printer_link.specs.Memory.{story_world}
 use Rattle.printer_link.proofs.Stories.{dialled, on_ok_so}
 use Rattle.printer_link.proofs.story.Story.dial.Goals as goal

@@ -1,0 +1,46 @@
+-- What was executed in a session of a past.
+use Rattle.std.specs.Prelude.{ℕ, zero, suc, pred, Bool, true, false, not, ◌==◌, if◌then◌else◌, List, [], ◌∷◌, length, drop, filter, Option, Some, None}
+use Rattle.marlin_frame.specs.Numbering.{hello_number}
+use Rattle.printer_model.specs.Printer.{Logged}
+use Rattle.printer_model.specs.World.{world_of, is_opened}
+use Rattle.printer_model.specs.declared.event.WorldEvent.{WorldEvent}
+
+-- how many sessions a past has
+abbrev pub opens : List WorldEvent → ℕ
+opens [] = 0
+opens (event ∷ past) = if is_opened event then suc (opens past) else opens past
+
+-- how many sessions are still to come after an event, none if it opens one too many
+abbrev pub left_behind : ℕ → Bool → Option ℕ
+left_behind s false = Some s
+left_behind zero true = None
+left_behind (suc s) true = Some s
+
+-- the events from an Opened on, if sessions are still to come
+abbrev pub open_on : ℕ → List WorldEvent → List WorldEvent
+open_on zero events = []
+open_on (suc s) events = events
+
+-- the events before the Opened that follows session s
+abbrev pub till : ℕ → List WorldEvent → List WorldEvent
+till s [] = []
+till s (event ∷ past) =
+    if is_opened event then open_on s (event ∷ till (pred s) past) else event ∷ till s past
+
+-- whether a number is the hello's
+abbrev pub is_hello : Option ℕ → Bool
+is_hello None = false
+is_hello (Some number) = number == hello_number
+
+-- whether a line that was run has another number than the hello
+abbrev pub is_counted : Logged → Bool
+is_counted line = not (is_hello line.number)
+
+-- what the printer had run by the end of session s
+abbrev pub log_till : ℕ → Bool → ℕ → List WorldEvent → List Logged
+log_till places advanced s past = (world_of places advanced (till s past)).log
+
+-- the lines run in session s, counted from 1, without the hello
+abbrev pub executed : ℕ → Bool → List WorldEvent → ℕ → List Logged
+executed places advanced past s =
+    filter is_counted (drop (length (log_till places advanced (pred s) past)) (log_till places advanced s past))

@@ -1,7 +1,0 @@
-pub mod Counts
-pub mod Desk
-pub mod Doing
-pub mod Endings
-pub mod Keeping
-pub mod Noting
-pub mod Stepping

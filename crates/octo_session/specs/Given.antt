@@ -1,0 +1,17 @@
+-- What the sending of a frame is among the steps of a turn.
+use Rattle.std.specs.Prelude.{Bool, true, false, List, [], ◌∷◌}
+use Rattle.session_steps.specs.Steps.{Step, gives, fails_to_send}
+use Rattle.octo_session.specs.declared.open_turn.Gave.{Gave}
+use Rattle.octo_session.specs.declared.open_turn.Gave.TheVariants as gave
+
+-- the step of a sending
+abbrev pub given_by : Gave → List Step
+given_by gave.Sent = gives ∷ []
+given_by gave.Nothing = []
+given_by gave.Failed = fails_to_send ∷ []
+
+-- whether the link is up after a sending
+abbrev pub is_up_by : Gave → Bool
+is_up_by gave.Sent = true
+is_up_by gave.Nothing = true
+is_up_by gave.Failed = false
