@@ -1,15 +1,13 @@
 -- When each fact of a turn may come.
-use Rattle.std.proofs.Common.{◌≡◌, inl, inr, ℕ, Bool, true, false, ◌&&◌, not, cond, List, refl, sym, ap, subst, ◌∙◌}
+use Rattle.std.proofs.Common.{◌≡◌, inl, inr, ℕ, true, false, List, refl, sym, ap, subst, ◌∙◌}
 use Rattle.std.proofs.lemmas.Bool.{false≢true}
 use Rattle.octo_keeper.specs.declared.shelf.ShelfFile.{ShelfFile}
 use Rattle.desk_steps.specs.declared.link_fact.LinkFact.{LinkFact}
 use Rattle.desk_steps.specs.declared.link_fact.LinkFact.TheVariants as fact
 use Rattle.desk_steps.specs.Data.{Data}
 use Rattle.desk_steps.specs.Table.{is_closable_at}
-use Rattle.desk_steps.specs.declared.state.State.{State}
-use Rattle.desk_steps.specs.declared.state.State.TheVariants.{Offline, Connecting, Operational, Printing, Pausing, Paused, Cancelling, Finishing, Closing, Fault}
 use Rattle.send_window.specs.declared.session_end.SessionEnd.{SessionEnd}
-use Rattle.session_steps.specs.Data.{SessionData, doing, is_connecting}
+use Rattle.session_steps.specs.Data.{SessionData, doing}
 use Rattle.session_steps.specs.Found.{can_find}
 use Rattle.session_steps.specs.declared.found.Doing.{Doing}
 use Rattle.session_steps.specs.declared.found.Doing.TheVariants.{Dialling, HangingUp, Talking, Resting}

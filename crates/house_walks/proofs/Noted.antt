@@ -12,7 +12,7 @@ use Rattle.desk_steps.specs.Note.{note_step, first_fact}
 use Rattle.desk_steps.specs.Pull.{pull_step}
 use Rattle.desk_steps.specs.Run.{Pull}
 use Rattle.session_steps.specs.Data.{SessionData, IsSession}
-use Rattle.session_steps.specs.DeskTurn.{Pulls, IsNoted}
+use Rattle.session_steps.specs.DeskTurn.{Pulls}
 use Rattle.session_steps.specs.Turn.{IsNoteOn}
 use Rattle.house_verdicts.specs.Known.{Known}
 use Rattle.house_verdicts.specs.Desk.{desk_after_all, lines_pulled, with_line}

@@ -1,7 +1,6 @@
 -- How long a session waits for an answer.
-use Rattle.std.specs.Prelude.{◌≡◌, ◌⊎◌, ℕ, ◌*◌, ◌<◌, ◌≤◌, false, Option, Some}
+use Rattle.std.specs.Prelude.{◌≡◌, ◌⊎◌, ℕ, ◌<◌, ◌≤◌, false, Option, Some}
 use Rattle.send_window.specs.Data.{SenderData, IsSound}
-use Rattle.send_window.specs.Hearing.{later}
 use Rattle.send_window.specs.Session.{WaitsSince}
 
 -- from a moment on a sender waits five limits before it ends with no answer

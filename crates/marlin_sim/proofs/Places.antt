@@ -1,35 +1,21 @@
 -- The places that a word lists.
-use Rattle.std.proofs.Common.{◌≡◌, ℕ, ◌≤◌, true, List, [], ◌∷◌, ◌++◌, length, refl, sym, ◌∙◌, ap, subst, append_assoc, arith, lit≤, codes}
-use Rattle.std.specs.Prelude.{◌&&◌, nat_le, nat_lt, Option, Some, None, option_map, Result, Ok, Err, IfOk, IfSome}
-use Rattle.std.specs.Char.{is_ascii_digit}
+use Rattle.std.proofs.Common.{◌≡◌, ℕ, ◌≤◌, Bool, true, false, List, [], ◌∷◌, refl, sym, ◌∙◌, ap, subst, arith, lit≤, codes}
+use Rattle.std.specs.Prelude.{if◌then◌else◌, nat_le, nat_lt, Option, Some, None, option_map, Result, Ok, Err, IfOk, IfSome}
 use Rattle.std.specs.List.{list_all, slice_split}
 use Rattle.std.specs.Str.{bytes_eq}
 use Rattle.std.proofs.lemmas.Bool.{and_parts, and_from, cond_both}
 use Rattle.std.proofs.lemmas.Bool.Decides.{nat_tests}
-use Rattle.byte_text.specs.Number.{decimal_value}
+use Rattle.byte_text.specs.Number.{whole_number}
 use Rattle.marlin_sim.specs.declared.plan.SimPlan.{SimPlan}
-use Rattle.marlin_sim.specs.Plan.{is_number, number_in, count_in, place_in, with_place, places_above, places_in, is_comma, is_places, is_place, is_address, plan_with, plan_of, IsPlan}
+use Rattle.marlin_sim.specs.Plan.{only_if, number_in, count_in, place_in, with_place, places_above, places_in, is_comma, is_places, is_place, is_address, plan_with, plan_of, IsPlan}
 
--- places in two parts
-joined : (front : List ℕ) (n : ℕ) (later : Option (List ℕ)) → option_map (λ more. front ++ more) (option_map (λ more. n ∷ more) later) ≡ option_map (λ more. (front ++ n ∷ []) ++ more) later
-joined front n None = refl
-joined front n (Some more) = ap Some (sym (append_assoc front (n ∷ []) more))
-
--- one more place
-pub place_next : (front : List ℕ) (least n : ℕ) (piece : List ℕ) (pieces : List (List ℕ)) → Some n ≡ place_in least piece → option_map (λ more. front ++ more) (places_above least (piece ∷ pieces)) ≡ option_map (λ more. (front ++ n ∷ []) ++ more) (places_above n pieces)
-place_next front least n piece pieces is =
-    ap (λ (place : Option ℕ). option_map (λ (more : List ℕ). front ++ more) (with_place place (λ m. places_above m pieces))) (sym is)
-    ∙ joined front n (places_above n pieces)
-
--- none if a text is no place
-pub no_place : (front : List ℕ) (least : ℕ) (piece : List ℕ) (pieces : List (List ℕ)) → None ≡ place_in least piece → option_map (λ more. front ++ more) (places_above least (piece ∷ pieces)) ≡ None
-no_place front least piece pieces is =
-    ap (λ (place : Option ℕ). option_map (λ (more : List ℕ). front ++ more) (with_place place (λ m. places_above m pieces))) (sym is)
-
--- the last place
-pub place_last : (front : List ℕ) (least n : ℕ) (piece : List ℕ) → Some n ≡ place_in least piece → option_map (λ more. front ++ more) (places_above least (piece ∷ [])) ≡ Some (front ++ n ∷ [])
-place_last front least n piece is =
-    ap (λ (place : Option ℕ). option_map (λ (more : List ℕ). front ++ more) (with_place place (λ m. places_above m []))) (sym is)
+-- the places of a word that is cut at its commas
+pub places_cut : {E : Type 0} (word : List ℕ) (pieces : List (List ℕ)) (result : Result (Option (List ℕ)) E) → bytes_eq word (codes "-") ≡ false
+    → pieces ≡ slice_split is_comma word → IfOk result (λ places. places ≡ places_above 0 pieces) → IfOk result (λ places. places ≡ places_in word)
+places_cut word pieces (Ok places) other cut is =
+    is ∙ ap (λ (p : List (List ℕ)). places_above 0 p) cut
+    ∙ sym (ap (λ (b : Bool). if b then Some [] else places_above 0 (slice_split is_comma word)) other)
+places_cut word pieces (Err error) other cut is = tt
 
 -- a place is small
 small : Option ℕ → Type 0
@@ -41,15 +27,17 @@ bounded : Option (List ℕ) → Type 0
 bounded None = Unit {0}
 bounded (Some places) = list_all is_place places ≡ true
 
-place_small : (least : ℕ) (word : List ℕ) → small (place_in least word)
+-- a number that passes the test of words is small
+number_small : (number : Option ℕ) → small (only_if (λ n. nat_le n 4294967295) number)
 unfolding small
-place_small least word =
-    cond_both (is_number word && nat_lt least (decimal_value word)) (Some (decimal_value word)) None small
-    (λ is. (let number = and_parts (is_number word) (nat_lt least (decimal_value word)) is in
-    let sized = and_parts (list_all is_ascii_digit word) (nat_le 1 (length word) && (nat_le (length word) 10 && nat_le (decimal_value word) 4294967295)) number.0 in
-    let some = and_parts (nat_le 1 (length word)) (nat_le (length word) 10 && nat_le (decimal_value word) 4294967295) sized.1 in
-    (and_parts (nat_le (length word) 10) (nat_le (decimal_value word) 4294967295) some.1).1))
-    (λ _. tt)
+number_small None = tt
+number_small (Some n) = cond_both (nat_le n 4294967295) (Some n) None small (λ is. is) (λ _. tt)
+
+-- it is still small if it passes another test
+place_small : (test : ℕ → Bool) (number : Option ℕ) → small number → small (only_if test number)
+unfolding small
+place_small test None is = tt
+place_small test (Some n) is = cond_both (test n) (Some n) None small (λ _. is) (λ _. tt)
 
 map_bounded : (n : ℕ) (places : Option (List ℕ)) → is_place n ≡ true → bounded places → bounded (option_map (λ more. n ∷ more) places)
 unfolding bounded
@@ -64,7 +52,8 @@ with_bounded (Some n) later one all = map_bounded n (later n) one (all n)
 places_bounded : (least : ℕ) (pieces : List (List ℕ)) → bounded (places_above least pieces)
 unfolding bounded
 places_bounded least [] = refl
-places_bounded least (piece ∷ pieces) = with_bounded (place_in least piece) (λ n. places_above n pieces) (place_small least piece) (λ n. places_bounded n pieces)
+places_bounded least (piece ∷ pieces) = with_bounded (place_in least piece) (λ n. places_above n pieces)
+    (place_small (λ n. nat_lt least n) (number_in piece) (number_small (whole_number piece 10))) (λ n. places_bounded n pieces)
 
 word_bounded : (word : List ℕ) → bounded (places_in word)
 unfolding bounded
@@ -83,12 +72,10 @@ places_fit n is =
     let high : n ≤ 16 = grind (arith, nat_tests, parts.1) in
     (low, high)
 
-count_fits : (word : List ℕ) → fits (count_in word)
+count_fits : (number : Option ℕ) → fits (only_if is_places number)
 unfolding fits
-count_fits word =
-    cond_both (is_number word && is_places (decimal_value word)) (Some (decimal_value word)) None fits
-    (λ is. places_fit (decimal_value word) (and_parts (is_number word) (is_places (decimal_value word)) is).1)
-    (λ _. tt)
+count_fits None = tt
+count_fits (Some n) = cond_both (is_places n) (Some n) None fits (λ is. places_fit n is) (λ _. tt)
 
 with_plan : (last places : Option ℕ) (dropped garbled : Option (List ℕ)) → fits places → bounded dropped → bounded garbled → IfSome (plan_with last places dropped garbled) IsPlan
 unfolding fits bounded
@@ -108,7 +95,7 @@ plan_given (a ∷ b ∷ c ∷ []) = tt
 plan_given (a ∷ b ∷ c ∷ d ∷ []) = tt
 plan_given (address ∷ last ∷ places ∷ dropped ∷ garbled ∷ []) =
     cond_both (is_address address) (plan_with (number_in last) (count_in places) (places_in dropped) (places_in garbled)) None (λ plan. IfSome plan IsPlan)
-    (λ _. with_plan (number_in last) (count_in places) (places_in dropped) (places_in garbled) (count_fits places) (word_bounded dropped) (word_bounded garbled))
+    (λ _. with_plan (number_in last) (count_in places) (places_in dropped) (places_in garbled) (count_fits (number_in places)) (word_bounded dropped) (word_bounded garbled))
     (λ _. tt)
 plan_given (a ∷ b ∷ c ∷ d ∷ e ∷ f ∷ more) = tt
 

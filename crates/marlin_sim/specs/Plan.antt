@@ -1,23 +1,22 @@
 -- The arguments of the printer as a program, and the plan that they name.
 use Rattle.std.specs.Prelude.{◌≡◌, ℕ, ◌≤◌, Bool, true, ◌==◌, ◌&&◌, nat_le, nat_lt, if◌then◌else◌, List, [], ◌∷◌, length, codes, Option, Some, None, option_map}
-use Rattle.std.specs.Char.{is_ascii_digit}
 use Rattle.std.specs.List.{list_all, slice_split}
 use Rattle.std.specs.Str.{bytes_eq}
-use Rattle.byte_text.specs.Number.{decimal_value}
+use Rattle.byte_text.specs.Number.{whole_number}
 use Rattle.marlin_sim.specs.declared.plan.SimPlan.{SimPlan}
 
--- whether a word is a number: 1 to 10 digits, at most 4,294,967,295
-abbrev pub is_number : List ℕ → Bool
-is_number word =
-    list_all is_ascii_digit word && (nat_le 1 (length word) && (nat_le (length word) 10 && nat_le (decimal_value word) 4294967295))
+-- a number, if it passes a test
+abbrev pub only_if : (ℕ → Bool) → Option ℕ → Option ℕ
+only_if test None = None
+only_if test (Some n) = if test n then Some n else None
 
--- the number that a word is
+-- the number that a word is: 1 to 10 digits, at most 4,294,967,295
 abbrev pub number_in : List ℕ → Option ℕ
-number_in word = if is_number word then Some (decimal_value word) else None
+number_in word = only_if (λ n. nat_le n 4294967295) (whole_number word 10)
 
 -- the place that a text is, if it is above this one
 abbrev pub place_in : ℕ → List ℕ → Option ℕ
-place_in least word = if is_number word && nat_lt least (decimal_value word) then Some (decimal_value word) else None
+place_in least word = only_if (λ n. nat_lt least n) (number_in word)
 
 -- a place, and later ones that depend on it
 abbrev pub with_place : Option ℕ → (ℕ → Option (List ℕ)) → Option (List ℕ)
@@ -43,7 +42,7 @@ is_places n = nat_le 1 n && nat_le n 16
 
 -- how many lines the printer keeps waiting: 1 to 16
 abbrev pub count_in : List ℕ → Option ℕ
-count_in word = if is_number word && is_places (decimal_value word) then Some (decimal_value word) else None
+count_in word = only_if is_places (number_in word)
 
 -- a plan of these parts, if all are there; a connection is served for 4,000,000,000,000 turns
 abbrev pub plan_with : Option ℕ → Option ℕ → Option (List ℕ) → Option (List ℕ) → Option SimPlan

@@ -1,11 +1,9 @@
 //! The plan of a simulation, as the arguments name it.
-ghost use Rattle.std.specs.Prelude.{◌≡◌, ◌≤◌, min, length, IfOk, IfSome, IsTrue};
-ghost use Rattle.std.specs.Char.{is_ascii_digit};
-ghost use Rattle.std.specs.List.{list_all, slice_split};
-ghost use Rattle.byte_text.specs.Number.{decimal_value};
-ghost use Rattle.marlin_sim.specs.Plan.{is_number, number_in, place_in, count_in, is_comma, places_above, places_in, is_address, plan_of, IsPlan};
+ghost use Rattle.std.specs.Prelude.{◌≡◌, map, IfOk, IfSome};
+ghost use Rattle.std.specs.List.{slice_split};
+ghost use Rattle.marlin_sim.specs.Plan.{number_in, place_in, count_in, is_comma, places_above, places_in, is_address, plan_of, IsPlan};
 
-use crate::cuts::split_at_first;
+use byte_text::whole_number;
 use octo_outside::{CallList, WordList};
 use std::alloc::{AllocError, Global};
 
@@ -27,47 +25,18 @@ pub struct SimPlan {
 // For how many reads the program serves a connection.
 const TURNS: u64 = 4_000_000_000_000;
 
-// What digits say in decimal.
-#[tactic(auto, unfolding(byte_text::specs::Number::decimal_value))]
-fn value_of(digits: &[u8]) -> u64
-    ensures { result ≡ min (decimal_value digits.now) 18446744073709551615 }
-{
-    let mut value: u64 = 0;
-    for digit in digits {
-        let digit = u64::from(digit.saturating_sub(b'0'));
-        value = value.saturating_mul(10).saturating_add(digit);
-    }
-    value
-}
-
-// Whether all bytes are digits.
-fn all_digits(word: &[u8]) -> bool
-    ensures { result ≡ list_all is_ascii_digit word.now }
-{
-    word.iter().all(|byte| byte.is_ascii_digit())
-}
-
-// Whether a word is a number: 1 to 10 digits, at most 4,294,967,295.
-fn is_number(word: &[u8]) -> bool
-    ensures value { result ≡ is_number word.now }
-    ensures small { IsTrue result → decimal_value word.now ≤ 4294967295 }
-{
-    all_digits(word) && !word.is_empty() && word.len() <= 10 && value_of(word) <= 4_294_967_295
-}
-
-// The number that a word is.
-fn number_in(word: &[u8]) -> Option<u32>
+// The number that a word is: 1 to 10 digits, at most 4,294,967,295.
+fn number_in(word: &str) -> Option<u32>
     ensures { result ≡ number_in word.now }
 {
-    if is_number(word) {
-        Some(value_of(word) as u32)
-    } else {
-        None
+    match whole_number(word, 10) {
+        Some(number) if number <= 4_294_967_295 => Some(number as u32),
+        _ => None,
     }
 }
 
 // The place that a text is, if it is above this one.
-fn place_in(least: u32, word: &[u8]) -> Option<u32>
+fn place_in(least: u32, word: &str) -> Option<u32>
     ensures { result ≡ place_in least word.now }
 {
     match number_in(word) {
@@ -76,40 +45,43 @@ fn place_in(least: u32, word: &[u8]) -> Option<u32>
     }
 }
 
-// The places that texts between commas are, each above the one before.
-fn listed_places(alloc: Global, word: &[u8]) -> Result<Option<CallList>, AllocError>
-    ensures { IfOk result (λ places. places ≡ places_above 0 (slice_split is_comma word.now)) }
+// The places that texts are, each above the one before.
+fn listed_places(alloc: Global, pieces: &[&str]) -> Result<Option<CallList>, AllocError>
+    ensures { IfOk result (λ places. places ≡ places_above 0 (map (λ p. p.now) pieces.now)) }
 {
     let mut places = CallList::new(alloc);
     let mut least = 0;
-    let mut rest = word;
-    while let Some((piece, behind)) = split_at_first(rest, b',') {
+    for piece in pieces {
         let Some(place) = place_in(least, piece) else {
             return Ok(None);
         };
         places.push(u64::from(place))?;
         least = place;
-        rest = behind;
     }
-    let Some(place) = place_in(least, rest) else {
-        return Ok(None);
-    };
-    places.push(u64::from(place))?;
     Ok(Some(places))
 }
 
+// What is between the commas of a word.
+fn pieces_of(alloc: Global, word: &str) -> Result<Vec<&str>, AllocError>
+    ensures { IfOk result (λ pieces. map (λ p. p.now) pieces.items
+        ≡ slice_split is_comma word.now) }
+{
+    word.split(',').collect(alloc)
+}
+
 // The places that a word lists: none for a dash.
-fn read_places(alloc: Global, word: &[u8]) -> Result<Option<CallList>, AllocError>
+fn read_places(alloc: Global, word: &str) -> Result<Option<CallList>, AllocError>
     ensures { IfOk result (λ places. places ≡ places_in word.now) }
 {
-    if word == b"-".as_slice() {
+    if word == "-" {
         return Ok(Some(CallList::new(alloc)));
     }
-    listed_places(alloc, word)
+    let pieces = pieces_of(alloc, word)?;
+    listed_places(alloc, pieces.as_slice())
 }
 
 // How many lines the printer keeps waiting.
-fn read_count(word: &[u8]) -> Option<u8>
+fn read_count(word: &str) -> Option<u8>
     ensures { result ≡ count_in word.now }
 {
     match number_in(word) {
@@ -125,16 +97,16 @@ fn plan_in(alloc: Global, words: &WordList) -> Result<Option<SimPlan>, AllocErro
     if words.count() != 5 || !is_address(words.get(0)) {
         return Ok(None);
     }
-    let Some(last) = number_in(words.get(1).as_bytes()) else {
+    let Some(last) = number_in(words.get(1)) else {
         return Ok(None);
     };
-    let Some(places) = read_count(words.get(2).as_bytes()) else {
+    let Some(places) = read_count(words.get(2)) else {
         return Ok(None);
     };
-    let Some(drop) = read_places(alloc, words.get(3).as_bytes())? else {
+    let Some(drop) = read_places(alloc, words.get(3))? else {
         return Ok(None);
     };
-    let Some(garble) = read_places(alloc, words.get(4).as_bytes())? else {
+    let Some(garble) = read_places(alloc, words.get(4))? else {
         return Ok(None);
     };
     Ok(Some(SimPlan {

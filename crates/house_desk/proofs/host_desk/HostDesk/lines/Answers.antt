@@ -1,4 +1,4 @@
-use Rattle.std.proofs.Common.{◌≡◌, Some, sym, ap, ◌∙◌, subst}
+use Rattle.std.proofs.Common.{Some, sym, ap, ◌∙◌, subst}
 use Rattle.job_desk.specs.Views.{bytes_of}
 use Rattle.octo_asks.specs.declared.answer.Answer.TheVariants as answer
 use Rattle.house_verdicts.specs.Prints.{manual_verdict}
