@@ -42,6 +42,8 @@ fn add_print<K: Keeper>(alloc: Global, keeper: &mut K, number: u32) -> Result<()
     ensures err { OnErr result (K.tables keeper.new ≡ K.tables keeper.old) }
     ensures counts { Counts (IsErrOf result fault.Failed)
         (K.faults keeper.old) (K.faults keeper.new) }
+    ensures steady { (IsErrOf result fault.Failed → ⊥)
+        → K.faults keeper.new ≡ K.faults keeper.old }
 {
     let change = Change::Begin {
         ended: None,
@@ -64,6 +66,8 @@ fn add_from<K: Keeper>(
     ensures err { OnErr result (AddsFrom first prints (K.tables keeper.old) (K.tables keeper.new)) }
     ensures counts { Counts (IsErrOf result fault.Failed)
         (K.faults keeper.old) (K.faults keeper.new) }
+    ensures steady { (IsErrOf result fault.Failed → ⊥)
+        → K.faults keeper.new ≡ K.faults keeper.old }
 {
     for place in 0..prints {
         add_print(alloc, keeper, first + place)?;
@@ -94,6 +98,7 @@ pub fn add_prints<K: Keeper>(alloc: Global, keeper: &mut K, prints: u32) -> Tool
         → IfSome (K.tables keeper.old) (λ t. 4294967295 < length t.prints + 1 + prints) }
     ensures counts { Counts (result ≡ end.KeeperFailed)
         (K.faults keeper.old) (K.faults keeper.new) }
+    ensures steady { result ≢ end.KeeperFailed → K.faults keeper.new ≡ K.faults keeper.old }
 {
     let tables = match keeper.load(alloc) {
         Ok(tables) => tables,

@@ -26,6 +26,7 @@ fn show<K: Keeper, O: Sink>(alloc: Global, keeper: &mut K, out: &mut O) -> ToolE
     ensures stays { K.tables keeper.new ≡ K.tables keeper.old }
     ensures counts { Counts (result ≡ end.KeeperFailed)
         (K.faults keeper.old) (K.faults keeper.new) }
+    ensures steady { result ≢ end.KeeperFailed → K.faults keeper.new ≡ K.faults keeper.old }
     ensures output { Counts (result ≡ end.OutputFailed) (O.faults out.old) (O.faults out.new) }
 {
     let tables = match keeper.load(alloc) {
@@ -65,6 +66,7 @@ pub fn carry_out<K: Keeper, O: Sink>(
     // Faults, by their counts.
     ensures counts { Counts (result ≡ end.KeeperFailed)
         (K.faults keeper.old) (K.faults keeper.new) }
+    ensures steady { result ≢ end.KeeperFailed → K.faults keeper.new ≡ K.faults keeper.old }
     ensures output { Counts (result ≡ end.OutputFailed) (O.faults out.old) (O.faults out.new) }
 {
     match work {

@@ -1,4 +1,4 @@
-use Rattle.std.proofs.Common.{◌≡◌, ◌≤◌}
+use Rattle.std.proofs.Common.{◌≡◌}
 use Rattle.std.specs.Option.{option_map}
 use Rattle.keeper_tool.specs.Prints.{with_prints}
 use Rattle.keeper_tool.proofs.add.add_from.Given as goal
@@ -7,5 +7,5 @@ use Rattle.keeper_tool.proofs.add.add_from.Given as goal
 abbrev pub invariant-loop-place : goal.invariant-loop-place
 invariant-loop-place g l = record {
   tables : g.K.Keeper.tables l.keeper ≡ option_map (with_prints l.first l.place) (g.K.Keeper.tables l.fn.keeper);
-  counted : g.K.Keeper.faults l.fn.keeper ≤ g.K.Keeper.faults l.keeper;
+  counted : g.K.Keeper.faults l.keeper ≡ g.K.Keeper.faults l.fn.keeper;
 }
