@@ -13,7 +13,7 @@ returns-in-SelectFile-default-true-clause-files g c =
 
 pub returns-in-SelectFile-default-false-clause-files : goal.returns-in-SelectFile-default-false-clause-files
 returns-in-SelectFile-default-false-clause-files g c =
-    shelves-same _ _ (λ files. request_verdict c.args.request.now c.args.user.now files (known_of c.args.self.now)) _ c.select_named.ensures.stays
+    shelves-same _ _ (λ files. request_verdict c.args.request.now c.args.user.now files (known_of c.args.self.now)) _ c.select_named.ensures.rest.stays
     (λ files. request-leaves c.args.request.now c.args.user.now files (known_of c.args.self.now) (ap is_storing c.in-SelectFile-default-false.is))
 
 pub returns-in-SelectFile-default-false-clause-rest : goal.returns-in-SelectFile-default-false-clause-rest
