@@ -1,7 +1,10 @@
 //! The keeper over a database file.
 #![tactic(auto)]
 
-ghost use Rattle.std.specs.Prelude.{◌≡◌, IfOk};
+ghost use Rattle.std.specs.Prelude.{◌≡◌, codes, None, IfOk, IsErrOf};
+ghost use Rattle.sqlite.specs.Files.{file_state};
+ghost use Rattle.sqlite.specs.State.{HasCleanDisk};
+ghost use Rattle.octo_keeper.specs.declared.keeper.KeeperFault.TheVariants as fault;
 
 use byte_text::Name;
 use octo_keeper::KeeperFault;
@@ -12,12 +15,17 @@ use sqlite::{Connection, File, FileStore};
 pub type FileKeeper = SqlKeeper<FileStore<File>>;
 
 /// Opens the database file of that path and adopts it; a file that isn't there is made. The file is locked until the keeper
-/// is dropped: another program that has it open is a fault, and so is a path that is no database.
+/// is dropped: another program that has it open is a fault, and so are a path that is no database and `:memory:`.
 ///
 /// `FILE` and `FILE-wal` belong together: the log holds what was committed and isn't in the file yet.
 /// Source: SQLite file format, sections 1 and 4.
 pub fn open_keeper(rt: &HostRuntime, path: &Name) -> Result<FileKeeper, KeeperFault>
     ensures fresh { IfOk result (λ keeper. keeper.faults ≡ 0) }
+    // Each later read is tested against a digest, and no query is cut short.
+    ensures guarded { IfOk result (λ keeper. HasCleanDisk (file_state keeper.connection)
+        → (file_state keeper.connection).IsShielded) }
+    ensures unlimited { IfOk result (λ keeper. keeper.connection.step_limit ≡ None) }
+    ensures memory { path.now ≡ codes ":memory:" → IsErrOf result fault.Failed }
 {
     let connection = match Connection::open(rt, path.as_str()) {
         Ok(connection) => connection,

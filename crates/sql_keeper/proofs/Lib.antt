@@ -1,3 +1,5 @@
 pub mod Columns
 pub mod Groups
 pub mod Kept
+pub mod Pieces
+pub mod Statements

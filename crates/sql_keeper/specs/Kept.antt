@@ -1,6 +1,9 @@
 -- What a call leaves of the database.
 use Rattle.std.specs.Prelude.{◌≡◌, false, IsTrue}
+use Rattle.std.specs.Borrow.{MutBor}
 use Rattle.sqlite_trees.specs.Tree.{Trees}
+use Rattle.sqlite_trees.specs.declared.store.Store.{Ghosts}
+use Rattle.sqlite.specs.Held.{Held, state}
 use Rattle.sqlite.specs.State.{State, HasCleanDisk, KeepsCommit, Survives}
 
 -- after a stop the next open finds what it would have found before
@@ -11,6 +14,17 @@ StoresNothing old new = Survives old new (λ _. ⊥)
 pub record KeepsLast (old new : State) : Type 0 where
   pub stores : StoresNothing old new
   pub kept : HasCleanDisk new → KeepsCommit old new
+
+-- a call inside a transaction: its connection is the same one, whose state moved in this way
+pub record Inside {S : Type 0} (g : Ghosts S) (Moved : State → State → Type 0) (old new : MutBor (Held S)) : Type 0 where
+  pub same_reference : new.ghost_name ≡ old.ghost_name
+  pub moved : Moved (state g old.now) (state g new.now)
+
+abbrev pub Kept : {S : Type 0} → Ghosts S → MutBor (Held S) → MutBor (Held S) → Type 0
+Kept g = Inside g KeepsLast
+
+abbrev pub Unstored : {S : Type 0} → Ghosts S → MutBor (Held S) → MutBor (Held S) → Type 0
+Unstored g = Inside g StoresNothing
 
 -- after a stop the next open finds what it would have found before, or this one other content
 abbrev pub IsAtomic : State → State → Type 0

@@ -1,3 +1,6 @@
+pub mod Holds
 pub mod Kept
+pub mod Loads
 pub mod Rows
+pub mod Statements
 pub mod Upgrade

@@ -1,8 +1,11 @@
 //! A database as it is when its keeper begins.
-ghost use Rattle.std.specs.Prelude.{◌≡◌, map, IfSome, IfOk};
+ghost use Rattle.std.specs.Prelude.{◌≡◌, map, MatchOption, IfOk, IsErrOf};
+ghost use Rattle.std.specs.List.{All};
 ghost use Rattle.sqlite.specs.Held.{state};
-ghost use Rattle.sql_keeper.specs.Kept.{IsAtomic, StoresNothing};
+ghost use Rattle.sql_keeper.specs.Kept.{IsAtomic, Unstored};
+ghost use Rattle.sql_keeper.specs.Holds.{HoldsOldEntry};
 ghost use Rattle.sql_keeper.specs.Rows.{old_entry_row};
+ghost use Rattle.octo_keeper.specs.declared.keeper.KeeperFault.TheVariants as fault;
 
 use crate::entries::put_entry;
 use crate::old_queue::{OldEntry, upgrade};
@@ -16,9 +19,7 @@ use std::alloc::Global;
 
 // Runs a statement without parameters.
 fn run<S: Alter>(transaction: &mut Transaction<'_, S>, sql: &str) -> Result<(), KeeperFault>
-    ensures same_reference { transaction.new.conn.ghost_name ≡ transaction.old.conn.ghost_name }
-    ensures stores { StoresNothing (state S.Store transaction.old.conn.now)
-        (state S.Store transaction.new.conn.now) }
+    ensures stores { Unstored S.Store transaction.old.conn transaction.new.conn }
 {
     match statement::run(transaction, sql, &[]) {
         Ok(()) => Ok(()),
@@ -31,9 +32,7 @@ fn rows_of<S: Alter>(
     transaction: &mut Transaction<'_, S>,
     sql: &str,
 ) -> Result<Vec<Row>, KeeperFault>
-    ensures same_reference { transaction.new.conn.ghost_name ≡ transaction.old.conn.ghost_name }
-    ensures stores { StoresNothing (state S.Store transaction.old.conn.now)
-        (state S.Store transaction.new.conn.now) }
+    ensures stores { Unstored S.Store transaction.old.conn transaction.new.conn }
 {
     match transaction.query_all(sql, &[]) {
         Ok(rows) => Ok(rows),
@@ -43,9 +42,7 @@ fn rows_of<S: Alter>(
 
 // The number of the schema, 0 if the database has none yet.
 fn schema_of<S: Alter>(transaction: &mut Transaction<'_, S>) -> Result<i64, KeeperFault>
-    ensures same_reference { transaction.new.conn.ghost_name ≡ transaction.old.conn.ghost_name }
-    ensures stores { StoresNothing (state S.Store transaction.old.conn.now)
-        (state S.Store transaction.new.conn.now) }
+    ensures stores { Unstored S.Store transaction.old.conn transaction.new.conn }
 {
     let rows = rows_of(transaction, "SELECT schema FROM meta")?;
     match rows.as_slice() {
@@ -56,11 +53,9 @@ fn schema_of<S: Alter>(transaction: &mut Transaction<'_, S>) -> Result<i64, Keep
 }
 
 // Makes the tables of the schema.
-#[tactic(auto, using(crate::proofs::Kept::nothing_then, crate::proofs::Kept::nothing_same))]
+#[tactic(auto, using(crate::proofs::Kept::unstored_then, crate::proofs::Kept::unstored_same))]
 fn make_tables<S: Alter>(transaction: &mut Transaction<'_, S>) -> Result<(), KeeperFault>
-    ensures same_reference { transaction.new.conn.ghost_name ≡ transaction.old.conn.ghost_name }
-    ensures stores { StoresNothing (state S.Store transaction.old.conn.now)
-        (state S.Store transaction.new.conn.now) }
+    ensures stores { Unstored S.Store transaction.old.conn transaction.new.conn }
 {
     run(transaction, USERS)?;
     run(transaction, ENTRIES)?;
@@ -71,7 +66,8 @@ fn make_tables<S: Alter>(transaction: &mut Transaction<'_, S>) -> Result<(), Kee
 // The entry of a row of the schema before.
 #[tactic(auto, using(crate::proofs::Columns::five_columns))]
 fn old_entry_of(row: &Row) -> Option<OldEntry>
-    ensures { IfSome result (λ entry. row.now ≡ old_entry_row entry) }
+    ensures { MatchOption result (¬ HoldsOldEntry row.now)
+        (λ entry. row.now ≡ old_entry_row entry) }
 {
     if row.column_count() != 5 {
         return None;
@@ -87,7 +83,8 @@ fn old_entry_of(row: &Row) -> Option<OldEntry>
 
 // The entries of such rows.
 fn old_entries_of(alloc: Global, rows: &[Row]) -> Result<Vec<OldEntry>, KeeperFault>
-    ensures { IfOk result (λ entries. map old_entry_row entries.items ≡ rows.now) }
+    ensures ok { IfOk result (λ entries. map old_entry_row entries.items ≡ rows.now) }
+    ensures failed { IsErrOf result fault.Failed → ¬ All HoldsOldEntry rows.now }
 {
     let mut entries = Vec::new(alloc);
     for row in rows {
@@ -100,14 +97,12 @@ fn old_entries_of(alloc: Global, rows: &[Row]) -> Result<Vec<OldEntry>, KeeperFa
 }
 
 // Adds entries.
-#[tactic(auto, using(crate::proofs::Kept::nothing_then, crate::proofs::Kept::nothing_same))]
+#[tactic(auto, using(crate::proofs::Kept::unstored_then, crate::proofs::Kept::unstored_same))]
 fn put_entries<S: Alter>(
     transaction: &mut Transaction<'_, S>,
     entries: &[QueueEntry],
 ) -> Result<(), KeeperFault>
-    ensures same_reference { transaction.new.conn.ghost_name ≡ transaction.old.conn.ghost_name }
-    ensures stores { StoresNothing (state S.Store transaction.old.conn.now)
-        (state S.Store transaction.new.conn.now) }
+    ensures stores { Unstored S.Store transaction.old.conn transaction.new.conn }
 {
     for entry in entries {
         if let Err(error) = put_entry(transaction, entry) {
@@ -118,14 +113,12 @@ fn put_entries<S: Alter>(
 }
 
 // Brings the queue of the schema before into the table that has its place now.
-#[tactic(auto, using(crate::proofs::Kept::nothing_then, crate::proofs::Kept::nothing_same))]
+#[tactic(auto, using(crate::proofs::Kept::unstored_then, crate::proofs::Kept::unstored_same))]
 fn upgrade_tables<S: Alter>(
     alloc: Global,
     transaction: &mut Transaction<'_, S>,
 ) -> Result<(), KeeperFault>
-    ensures same_reference { transaction.new.conn.ghost_name ≡ transaction.old.conn.ghost_name }
-    ensures stores { StoresNothing (state S.Store transaction.old.conn.now)
-        (state S.Store transaction.new.conn.now) }
+    ensures stores { Unstored S.Store transaction.old.conn transaction.new.conn }
 {
     let rows = rows_of(
         transaction,
@@ -140,11 +133,9 @@ fn upgrade_tables<S: Alter>(
 }
 
 // Brings the database to the schema that is kept.
-#[tactic(auto, using(crate::proofs::Kept::nothing_then, crate::proofs::Kept::nothing_same))]
+#[tactic(auto, using(crate::proofs::Kept::unstored_then, crate::proofs::Kept::unstored_same))]
 fn settle<S: Alter>(alloc: Global, transaction: &mut Transaction<'_, S>) -> Result<(), KeeperFault>
-    ensures same_reference { transaction.new.conn.ghost_name ≡ transaction.old.conn.ghost_name }
-    ensures stores { StoresNothing (state S.Store transaction.old.conn.now)
-        (state S.Store transaction.new.conn.now) }
+    ensures stores { Unstored S.Store transaction.old.conn transaction.new.conn }
 {
     run(transaction, META)?;
     match schema_of(transaction)? {

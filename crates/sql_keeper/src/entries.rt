@@ -1,22 +1,29 @@
 //! Entries of the queue as rows of the database.
-ghost use Rattle.std.specs.Prelude.{◌≡◌, map, IfSome, IfOk};
-ghost use Rattle.sqlite_value.specs.Value.{owned};
+ghost use Rattle.std.specs.Prelude.{◌≡◌, ◌∷◌, [], Some, map, MatchOption, IfOk, IsErrOf, OnOk};
+ghost use Rattle.std.specs.List.{All};
 ghost use Rattle.sqlite.specs.Held.{state};
-ghost use Rattle.sql_keeper.specs.Kept.{KeepsLast};
+ghost use Rattle.sqlite.specs.State.{HasCleanDisk};
+ghost use Rattle.sqlite.specs.Values.{bound};
+ghost use Rattle.sql_keeper.specs.Kept.{Kept};
+ghost use Rattle.sql_keeper.specs.Loads.{FailsToFind, Finds};
+ghost use Rattle.sql_keeper.specs.Statements.{Runs, copy_taken, entry_dropped, entry_put, key_values};
+ghost use Rattle.sql_keeper.specs.Holds.{HoldsEntry};
 ghost use Rattle.sql_keeper.specs.Rows.{entry_row};
+ghost use Rattle.octo_keeper.specs.declared.keeper.KeeperFault.TheVariants as fault;
 
 use crate::reading::{fault_of, name_at, u8_at, u32_at};
+use crate::schema::{DELETE_ENTRY, DELETE_LAST_COPY, INSERT_ENTRY, LOWER_COPIES, SELECT_ENTRIES};
 use crate::statement::run;
 use byte_text::Name;
 use octo_keeper::KeeperFault;
 use print_queue::{EntryList, QueueEntry};
 use sqlite::types::ValueRef;
-use sqlite::{Alter, Connection, Error, Row, Transaction, params};
+use sqlite::{Alter, Connection, Error, Row, Transaction};
 use std::alloc::Global;
 
 // The values of an entry's row.
 fn entry_values<'a>(entry: &'a QueueEntry) -> [ValueRef<'a>; 8]
-    ensures { map owned result ≡ entry_row entry.now }
+    ensures { bound result ≡ entry_row entry.now }
 {
     [
         ValueRef::Text(entry.user.as_bytes()),
@@ -30,10 +37,20 @@ fn entry_values<'a>(entry: &'a QueueEntry) -> [ValueRef<'a>; 8]
     ]
 }
 
+// The values of an entry's key.
+fn key_values<'a>(user: &'a Name, name: &'a Name) -> [ValueRef<'a>; 2]
+    ensures { bound result ≡ key_values user.now name.now }
+{
+    [
+        ValueRef::Text(user.as_bytes()),
+        ValueRef::Text(name.as_bytes()),
+    ]
+}
+
 // The entry of a row.
 #[tactic(auto, using(crate::proofs::Columns::eight_columns))]
 fn entry_of(row: &Row) -> Option<QueueEntry>
-    ensures { IfSome result (λ entry. row.now ≡ entry_row entry) }
+    ensures { MatchOption result (¬ HoldsEntry row.now) (λ entry. row.now ≡ entry_row entry) }
 {
     if row.column_count() != 8 {
         return None;
@@ -52,7 +69,8 @@ fn entry_of(row: &Row) -> Option<QueueEntry>
 
 // The entries of rows.
 fn entries_of(alloc: Global, rows: &[Row]) -> Result<EntryList, KeeperFault>
-    ensures { IfOk result (λ entries. map entry_row entries ≡ rows.now) }
+    ensures ok { IfOk result (λ entries. map entry_row entries ≡ rows.now) }
+    ensures failed { IsErrOf result fault.Failed → ¬ All HoldsEntry rows.now }
 {
     let mut entries = EntryList::new(alloc);
     for row in rows {
@@ -68,11 +86,15 @@ fn entries_of(alloc: Global, rows: &[Row]) -> Result<EntryList, KeeperFault>
 pub fn load_entries<S: Alter>(
     alloc: Global,
     connection: &mut Connection<S>,
-) -> Result<EntryList, KeeperFault> {
-    match connection.query_all(
-        "SELECT user, name, file, priority, arrival, copies, remaining, material FROM entries ORDER BY priority DESC, arrival",
-        &[],
-    ) {
+) -> Result<EntryList, KeeperFault>
+    ensures rows { IfOk result (λ entries.
+        Finds S.Store SELECT_ENTRIES.now (map entry_row entries) connection.old connection.new) }
+    ensures failed { IsErrOf result fault.Failed
+        → FailsToFind S.Store SELECT_ENTRIES.now HoldsEntry connection.old connection.new }
+    ensures clean { HasCleanDisk (state S.Store connection.new)
+        → HasCleanDisk (state S.Store connection.old) }
+{
+    match connection.query_all(SELECT_ENTRIES, &[]) {
         Ok(rows) => entries_of(alloc, rows.as_slice()),
         Err(error) => Err(fault_of(error)),
     }
@@ -83,15 +105,11 @@ pub fn put_entry<S: Alter>(
     transaction: &mut Transaction<'_, S>,
     entry: &QueueEntry,
 ) -> Result<(), Error>
-    ensures same_reference { transaction.new.conn.ghost_name ≡ transaction.old.conn.ghost_name }
-    ensures kept { KeepsLast (state S.Store transaction.old.conn.now)
-        (state S.Store transaction.new.conn.now) }
+    ensures kept { Kept S.Store transaction.old.conn transaction.new.conn }
+    ensures ran { OnOk result (Runs S.Store (entry_put entry.now ∷ [])
+        transaction.old.conn.now transaction.new.conn.now) }
 {
-    run(
-        transaction,
-        "INSERT INTO entries (user, name, file, priority, arrival, copies, remaining, material) VALUES (?1, ?2, ?3, ?4, ?5, ?6, ?7, ?8)",
-        &entry_values(entry),
-    )
+    run(transaction, INSERT_ENTRY, &entry_values(entry))
 }
 
 /// Takes a user's entry of a name out.
@@ -100,36 +118,47 @@ pub fn drop_entry<S: Alter>(
     user: &Name,
     name: &Name,
 ) -> Result<(), Error>
-    ensures same_reference { transaction.new.conn.ghost_name ≡ transaction.old.conn.ghost_name }
-    ensures kept { KeepsLast (state S.Store transaction.old.conn.now)
-        (state S.Store transaction.new.conn.now) }
+    ensures kept { Kept S.Store transaction.old.conn transaction.new.conn }
+    ensures ran { OnOk result (Runs S.Store (entry_dropped user.now name.now ∷ [])
+        transaction.old.conn.now transaction.new.conn.now) }
 {
-    run(
-        transaction,
-        "DELETE FROM entries WHERE user = ?1 AND name = ?2",
-        params![user.as_str(), name.as_str()],
-    )
+    run(transaction, DELETE_ENTRY, &key_values(user, name))
 }
 
-/// Starts one copy of a user's entry of a name; after its last copy the entry is gone.
-#[tactic(auto, using(crate::proofs::Kept::keeps_last_then, crate::proofs::Kept::keeps_last_same))]
-pub fn take_entry<S: Alter>(
+// Starts one copy of an entry; after its last copy the entry is gone.
+#[tactic(auto, using(crate::proofs::Kept::kept_then, crate::proofs::Kept::kept_same))]
+fn take_copy<S: Alter>(
     transaction: &mut Transaction<'_, S>,
-    user: &Name,
-    name: &Name,
+    taken: &QueueEntry,
 ) -> Result<(), Error>
-    ensures same_reference { transaction.new.conn.ghost_name ≡ transaction.old.conn.ghost_name }
-    ensures kept { KeepsLast (state S.Store transaction.old.conn.now)
-        (state S.Store transaction.new.conn.now) }
+    ensures kept { Kept S.Store transaction.old.conn transaction.new.conn }
+    ensures ran { OnOk result (Runs S.Store (copy_taken (Some taken.now))
+        transaction.old.conn.now transaction.new.conn.now) }
 {
     run(
         transaction,
-        "DELETE FROM entries WHERE user = ?1 AND name = ?2 AND remaining <= 1",
-        params![user.as_str(), name.as_str()],
+        DELETE_LAST_COPY,
+        &key_values(&taken.user, &taken.name),
     )?;
     run(
         transaction,
-        "UPDATE entries SET remaining = remaining - 1 WHERE user = ?1 AND name = ?2",
-        params![user.as_str(), name.as_str()],
+        LOWER_COPIES,
+        &key_values(&taken.user, &taken.name),
     )
+}
+
+/// Starts one copy of the entry that was taken, if one was.
+#[tactic(auto, using(crate::proofs::Kept::kept_same))]
+pub fn take_entry<S: Alter>(
+    transaction: &mut Transaction<'_, S>,
+    taken: &Option<QueueEntry>,
+) -> Result<(), Error>
+    ensures kept { Kept S.Store transaction.old.conn transaction.new.conn }
+    ensures ran { OnOk result (Runs S.Store (copy_taken taken.now)
+        transaction.old.conn.now transaction.new.conn.now) }
+{
+    match taken {
+        Some(taken) => take_copy(transaction, taken),
+        None => Ok(()),
+    }
 }

@@ -64,6 +64,7 @@ impl<S: Alter + Drop> SqlKeeper<S> {
         ensures same { result ≡ done }
         ensures stays { self.new.connection ≡ self.old.connection }
         ensures counts { Counts (IsErrOf result fault.Failed) self.old.faults self.new.faults }
+        ensures steady { (IsErrOf result fault.Failed → ⊥) → self.new.faults ≡ self.old.faults }
     {
         if matches!(done, Err(KeeperFault::Failed)) {
             self.faults = self.faults.saturating_add(1);
@@ -73,28 +74,49 @@ impl<S: Alter + Drop> SqlKeeper<S> {
 }
 
 impl<S: Alter + Drop> Keeper for SqlKeeper<S> {
-    ghost use Rattle.std.specs.Prelude.{◌≡◌, None, OnErr, IsErrOf};
+    ghost use Rattle.std.specs.Prelude.{◌≡◌, ◌⊎◌, None, IfOk, OnOk, OnErr, IsErrOf};
+    ghost use Rattle.std.specs.List.{All};
     ghost use Rattle.sqlite.specs.Held.{state};
+    ghost use Rattle.sqlite.specs.State.{HasCleanDisk};
     ghost use Rattle.octo_outside.specs.Told.{Counts};
+    ghost use Rattle.octo_keeper.specs.Tables.{AreSound};
     ghost use Rattle.octo_keeper.specs.declared.keeper.KeeperFault.TheVariants as fault;
+    ghost use Rattle.sql_keeper.specs.Holds.{HasGroups};
     ghost use Rattle.sql_keeper.specs.Kept.{IsAtomic, IsUndone};
+    ghost use Rattle.sql_keeper.specs.Loads.{FailsToLoad, IsUnsound, Loads};
+    ghost use Rattle.sql_keeper.specs.Statements.{Commits, statements};
 
     ghost tables = { λ _. None };
 
     ghost faults = { λ k. k.faults };
 
-    fn load(&mut self, alloc: Global) -> Result<Tables, KeeperFault> {
+    fn load(&mut self, alloc: Global) -> Result<Tables, KeeperFault>
+        ensures sound { IfOk result AreSound }
+        ensures rows { IfOk result (λ tables. HasCleanDisk (state S.Store self.new.connection)
+            → Loads S.Store tables self.old.connection self.new.connection) }
+        ensures groups { IfOk result (λ tables. All HasGroups tables.users) }
+        ensures failed { IsErrOf result fault.Failed
+            → HasCleanDisk (state S.Store self.new.connection)
+            → FailsToLoad S.Store self.old.connection self.new.connection
+            ⊎ IsUnsound S.Store self.old.connection self.new.connection }
+
+        ensures counts { Counts (IsErrOf result fault.Failed) self.old.faults self.new.faults }
+        ensures steady { (IsErrOf result fault.Failed → ⊥) → self.new.faults ≡ self.old.faults }
+    {
         let loaded = load_tables(alloc, &mut self.connection);
         self.count(loaded)
     }
 
     fn commit(&mut self, alloc: Global, change: &Change) -> Result<(), KeeperFault>
+        ensures written { OnOk result (HasCleanDisk (state S.Store self.new.connection)
+            → Commits S.Store (statements change.now) self.old.connection self.new.connection) }
         ensures nothing { OnErr result
             (IsUndone (state S.Store self.old.connection) (state S.Store self.new.connection)) }
         ensures atomic { IsAtomic
             (state S.Store self.old.connection) (state S.Store self.new.connection) }
 
         ensures counts { Counts (IsErrOf result fault.Failed) self.old.faults self.new.faults }
+        ensures steady { (IsErrOf result fault.Failed → ⊥) → self.new.faults ≡ self.old.faults }
     {
         let done = commit_change(alloc, &mut self.connection, change);
         self.count(done)

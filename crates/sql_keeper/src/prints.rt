@@ -1,16 +1,24 @@
 //! Print records as rows of the database.
-ghost use Rattle.std.specs.Prelude.{◌≡◌, pos, map, IfSome, IfOk};
-ghost use Rattle.sqlite_value.specs.Value.{owned};
+ghost use Rattle.std.specs.Prelude.{◌≡◌, ◌∷◌, [], pos, map, MatchOption, IfOk, IsErrOf, OnOk};
+ghost use Rattle.std.specs.List.{All};
+ghost use Rattle.sqlite_value.specs.declared.value.Value.TheVariants.{Int};
 ghost use Rattle.sqlite.specs.Held.{state};
-ghost use Rattle.sql_keeper.specs.Kept.{KeepsLast};
+ghost use Rattle.sqlite.specs.State.{HasCleanDisk};
+ghost use Rattle.sqlite.specs.Values.{bound};
+ghost use Rattle.sql_keeper.specs.Kept.{Kept};
+ghost use Rattle.sql_keeper.specs.Loads.{FailsToFind, Finds};
+ghost use Rattle.sql_keeper.specs.Statements.{Runs, due_end, print_ended, print_put};
+ghost use Rattle.sql_keeper.specs.Holds.{HoldsBelow, HoldsPrint};
 ghost use Rattle.sql_keeper.specs.Rows.{outcome_number, print_row};
+ghost use Rattle.octo_keeper.specs.declared.keeper.KeeperFault.TheVariants as fault;
 
 use crate::reading::{fault_of, name_at, number_at, u32_at};
+use crate::schema::{END_PRINT, INSERT_PRINT, SELECT_PRINTS};
 use crate::statement::run;
 use octo_keeper::KeeperFault;
 use print_records::{Ending, Outcome, PrintList, PrintRow};
 use sqlite::types::ValueRef;
-use sqlite::{Alter, Connection, Error, Row, Transaction, params};
+use sqlite::{Alter, Connection, Error, Row, Transaction};
 use std::alloc::Global;
 
 // The number of an outcome.
@@ -27,7 +35,8 @@ fn number_of(outcome: Outcome) -> u32
 
 // The outcome of such a number.
 fn outcome_of(number: i64) -> Option<Outcome>
-    ensures { IfSome result (λ outcome. number ≡ pos (outcome_number outcome)) }
+    ensures { MatchOption result (¬ HoldsBelow 4 (Int number))
+        (λ outcome. number ≡ pos (outcome_number outcome)) }
 {
     match number {
         0 => Some(Outcome::Active),
@@ -40,7 +49,7 @@ fn outcome_of(number: i64) -> Option<Outcome>
 
 // The values of a print's row.
 fn print_values<'a>(print: &'a PrintRow) -> [ValueRef<'a>; 5]
-    ensures { map owned result ≡ print_row print.now }
+    ensures { bound result ≡ print_row print.now }
 {
     [
         ValueRef::Int(i64::from(print.number)),
@@ -54,7 +63,7 @@ fn print_values<'a>(print: &'a PrintRow) -> [ValueRef<'a>; 5]
 // The print of a row.
 #[tactic(auto, using(crate::proofs::Columns::five_columns))]
 fn print_of(row: &Row) -> Option<PrintRow>
-    ensures { IfSome result (λ print. row.now ≡ print_row print) }
+    ensures { MatchOption result (¬ HoldsPrint row.now) (λ print. row.now ≡ print_row print) }
 {
     if row.column_count() != 5 {
         return None;
@@ -70,7 +79,8 @@ fn print_of(row: &Row) -> Option<PrintRow>
 
 // The prints of rows.
 fn prints_of(alloc: Global, rows: &[Row]) -> Result<PrintList, KeeperFault>
-    ensures { IfOk result (λ prints. map print_row prints ≡ rows.now) }
+    ensures ok { IfOk result (λ prints. map print_row prints ≡ rows.now) }
+    ensures failed { IsErrOf result fault.Failed → ¬ All HoldsPrint rows.now }
 {
     let mut prints = PrintList::new(alloc);
     for row in rows {
@@ -86,11 +96,15 @@ fn prints_of(alloc: Global, rows: &[Row]) -> Result<PrintList, KeeperFault>
 pub fn load_prints<S: Alter>(
     alloc: Global,
     connection: &mut Connection<S>,
-) -> Result<PrintList, KeeperFault> {
-    match connection.query_all(
-        "SELECT number, user, file, commands, outcome FROM prints ORDER BY number",
-        &[],
-    ) {
+) -> Result<PrintList, KeeperFault>
+    ensures rows { IfOk result (λ prints.
+        Finds S.Store SELECT_PRINTS.now (map print_row prints) connection.old connection.new) }
+    ensures failed { IsErrOf result fault.Failed
+        → FailsToFind S.Store SELECT_PRINTS.now HoldsPrint connection.old connection.new }
+    ensures clean { HasCleanDisk (state S.Store connection.new)
+        → HasCleanDisk (state S.Store connection.old) }
+{
+    match connection.query_all(SELECT_PRINTS, &[]) {
         Ok(rows) => prints_of(alloc, rows.as_slice()),
         Err(error) => Err(fault_of(error)),
     }
@@ -101,15 +115,21 @@ pub fn put_print<S: Alter>(
     transaction: &mut Transaction<'_, S>,
     print: &PrintRow,
 ) -> Result<(), Error>
-    ensures same_reference { transaction.new.conn.ghost_name ≡ transaction.old.conn.ghost_name }
-    ensures kept { KeepsLast (state S.Store transaction.old.conn.now)
-        (state S.Store transaction.new.conn.now) }
+    ensures kept { Kept S.Store transaction.old.conn transaction.new.conn }
+    ensures ran { OnOk result (Runs S.Store (print_put print.now ∷ [])
+        transaction.old.conn.now transaction.new.conn.now) }
 {
-    run(
-        transaction,
-        "INSERT INTO prints (number, user, file, commands, outcome) VALUES (?1, ?2, ?3, ?4, ?5)",
-        &print_values(print),
-    )
+    run(transaction, INSERT_PRINT, &print_values(print))
+}
+
+// The values of an end.
+fn end_values<'a>(ending: Ending) -> [ValueRef<'a>; 2]
+    ensures { bound result ≡ (print_ended ending).values }
+{
+    [
+        ValueRef::Int(i64::from(ending.print)),
+        ValueRef::Int(i64::from(number_of(ending.outcome))),
+    ]
 }
 
 /// Ends the print of a number.
@@ -117,13 +137,25 @@ pub fn end_print<S: Alter>(
     transaction: &mut Transaction<'_, S>,
     ending: Ending,
 ) -> Result<(), Error>
-    ensures same_reference { transaction.new.conn.ghost_name ≡ transaction.old.conn.ghost_name }
-    ensures kept { KeepsLast (state S.Store transaction.old.conn.now)
-        (state S.Store transaction.new.conn.now) }
+    ensures kept { Kept S.Store transaction.old.conn transaction.new.conn }
+    ensures ran { OnOk result (Runs S.Store (print_ended ending ∷ [])
+        transaction.old.conn.now transaction.new.conn.now) }
 {
-    run(
-        transaction,
-        "UPDATE prints SET outcome = ?2 WHERE number = ?1",
-        params![ending.print, number_of(ending.outcome)],
-    )
+    run(transaction, END_PRINT, &end_values(ending))
+}
+
+/// Ends another print, if its end is due.
+#[tactic(auto, using(crate::proofs::Kept::kept_same))]
+pub fn end_due<S: Alter>(
+    transaction: &mut Transaction<'_, S>,
+    ended: Option<Ending>,
+) -> Result<(), Error>
+    ensures kept { Kept S.Store transaction.old.conn transaction.new.conn }
+    ensures ran { OnOk result (Runs S.Store (due_end ended)
+        transaction.old.conn.now transaction.new.conn.now) }
+{
+    match ended {
+        Some(ending) => end_print(transaction, ending),
+        None => Ok(()),
+    }
 }

@@ -20,3 +20,44 @@ pub const ENTRIES: &str =
 /// Makes the table of the records of prints.
 pub const PRINTS: &str =
     "CREATE TABLE prints (number INTEGER PRIMARY KEY, user TEXT NOT NULL, file TEXT NOT NULL, commands INTEGER NOT NULL, outcome INTEGER NOT NULL)";
+
+/// All users, by name.
+pub const SELECT_USERS: &str = "SELECT name, digest, groups, active FROM users ORDER BY name";
+
+/// Adds a user.
+pub const INSERT_USER: &str =
+    "INSERT INTO users (name, digest, groups, active) VALUES (?1, ?2, ?3, ?4)";
+
+/// Sets the row of a user's name.
+pub const UPDATE_USER: &str =
+    "UPDATE users SET digest = ?2, groups = ?3, active = ?4 WHERE name = ?1";
+
+/// All entries: greatest priority first, then least arrival.
+pub const SELECT_ENTRIES: &str =
+    "SELECT user, name, file, priority, arrival, copies, remaining, material FROM entries ORDER BY priority DESC, arrival";
+
+/// Adds an entry.
+pub const INSERT_ENTRY: &str =
+    "INSERT INTO entries (user, name, file, priority, arrival, copies, remaining, material) VALUES (?1, ?2, ?3, ?4, ?5, ?6, ?7, ?8)";
+
+/// Takes a user's entry of a name out.
+pub const DELETE_ENTRY: &str = "DELETE FROM entries WHERE user = ?1 AND name = ?2";
+
+/// Takes such an entry out if at most one copy is left.
+pub const DELETE_LAST_COPY: &str =
+    "DELETE FROM entries WHERE user = ?1 AND name = ?2 AND remaining <= 1";
+
+/// Leaves such an entry one copy less.
+pub const LOWER_COPIES: &str =
+    "UPDATE entries SET remaining = remaining - 1 WHERE user = ?1 AND name = ?2";
+
+/// All print records, by number.
+pub const SELECT_PRINTS: &str =
+    "SELECT number, user, file, commands, outcome FROM prints ORDER BY number";
+
+/// Adds a print record.
+pub const INSERT_PRINT: &str =
+    "INSERT INTO prints (number, user, file, commands, outcome) VALUES (?1, ?2, ?3, ?4, ?5)";
+
+/// Ends the print of a number.
+pub const END_PRINT: &str = "UPDATE prints SET outcome = ?2 WHERE number = ?1";

@@ -1,7 +1,8 @@
 //! Statements inside a transaction.
-ghost use Rattle.std.specs.Prelude.{◌≡◌};
-ghost use Rattle.sqlite.specs.Held.{state};
-ghost use Rattle.sql_keeper.specs.Kept.{KeepsLast};
+ghost use Rattle.std.specs.Prelude.{[], ◌∷◌, OnOk};
+ghost use Rattle.sqlite.specs.Values.{bound};
+ghost use Rattle.sql_keeper.specs.Kept.{Kept};
+ghost use Rattle.sql_keeper.specs.Statements.{Runs, with_values};
 
 use sqlite::types::ValueRef;
 use sqlite::{Alter, Error, Transaction};
@@ -12,9 +13,9 @@ pub fn run<S: Alter>(
     sql: &str,
     values: &[ValueRef<'_>],
 ) -> Result<(), Error>
-    ensures same_reference { transaction.new.conn.ghost_name ≡ transaction.old.conn.ghost_name }
-    ensures kept { KeepsLast (state S.Store transaction.old.conn.now)
-        (state S.Store transaction.new.conn.now) }
+    ensures kept { Kept S.Store transaction.old.conn transaction.new.conn }
+    ensures ran { OnOk result (Runs S.Store (with_values sql.now (bound values.now) ∷ [])
+        transaction.old.conn.now transaction.new.conn.now) }
 {
     transaction.execute(sql, values)?;
     Ok(())

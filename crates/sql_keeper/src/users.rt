@@ -1,11 +1,18 @@
 //! Users as rows of the database.
-ghost use Rattle.std.specs.Prelude.{◌≡◌, ◌++◌, map, string_bytes, IfOk, OnOk};
-ghost use Rattle.sqlite_value.specs.Value.{owned};
+ghost use Rattle.std.specs.Prelude.{◌≡◌, ◌++◌, ◌∷◌, [], ℕ, List, map, string_bytes, MatchOption, IfOk, IsErrOf, OnOk};
+ghost use Rattle.std.specs.List.{All};
 ghost use Rattle.sqlite.specs.Held.{state};
-ghost use Rattle.sql_keeper.specs.Kept.{KeepsLast};
+ghost use Rattle.sqlite.specs.State.{HasCleanDisk};
+ghost use Rattle.sqlite.specs.Values.{bound};
+ghost use Rattle.sql_keeper.specs.Kept.{Kept};
+ghost use Rattle.sql_keeper.specs.Loads.{FailsToFind, Finds};
+ghost use Rattle.sql_keeper.specs.Statements.{Runs, user_put, user_set};
+ghost use Rattle.sql_keeper.specs.Holds.{HasGroups, HoldsUser, IsTextOf};
+ghost use Rattle.octo_keeper.specs.declared.keeper.KeeperFault.TheVariants as fault;
 ghost use Rattle.sql_keeper.specs.Rows.{joined, spaced, user_row};
 
 use crate::reading::{digest_at, fault_of, flag_at, name_at, text_at};
+use crate::schema::{INSERT_USER, SELECT_USERS, UPDATE_USER};
 use crate::statement::run;
 use arrayvec::ArrayVec;
 use byte_text::Name;
@@ -42,7 +49,7 @@ fn text_of_groups(alloc: Global, groups: &[Name]) -> Result<String, AllocError>
 // The values of a user's row; the groups as their text.
 fn user_values<'a>(user: &'a UserRow, groups: &'a str) -> [ValueRef<'a>; 4]
     requires { groups.now ≡ joined user.now.groups.items }
-    ensures { map owned result ≡ user_row user.now }
+    ensures { bound result ≡ user_row user.now }
 {
     [
         ValueRef::Text(user.name.as_bytes()),
@@ -53,7 +60,10 @@ fn user_values<'a>(user: &'a UserRow, groups: &'a str) -> [ValueRef<'a>; 4]
 }
 
 // The names of groups of such a text; at most eight, none of them empty.
-fn groups_of(text: &str) -> Option<ArrayVec<Name, 8>> {
+fn groups_of(text: &str) -> Option<ArrayVec<Name, 8>>
+    ensures { MatchOption result ((groups : List (List ℕ)) → ¬ IsTextOf groups text.now)
+        (λ groups. IsTextOf groups.items text.now) }
+{
     let mut groups = ArrayVec::new();
     if text.is_empty() {
         return Some(groups);
@@ -68,7 +78,14 @@ fn groups_of(text: &str) -> Option<ArrayVec<Name, 8>> {
 }
 
 // The user of a row.
-fn user_of(row: &Row) -> Option<UserRow> {
+#[tactic(auto, using(crate::proofs::Columns::four_columns))]
+fn user_of(row: &Row) -> Option<UserRow>
+    ensures { MatchOption result (¬ HoldsUser row.now)
+        (λ user. (row.now ≡ user_row user) × HasGroups user) }
+{
+    if row.column_count() != 4 {
+        return None;
+    }
     Some(UserRow {
         name: name_at(row, 0)?,
         digest: digest_at(row, 1)?,
@@ -78,7 +95,11 @@ fn user_of(row: &Row) -> Option<UserRow> {
 }
 
 // The users of rows.
-fn users_of(alloc: Global, rows: &[Row]) -> Result<UserList, KeeperFault> {
+fn users_of(alloc: Global, rows: &[Row]) -> Result<UserList, KeeperFault>
+    ensures ok { IfOk result (λ users. map user_row users ≡ rows.now) }
+    ensures groups { IfOk result (All HasGroups) }
+    ensures failed { IsErrOf result fault.Failed → ¬ All HoldsUser rows.now }
+{
     let mut users = UserList::new(alloc);
     for row in rows {
         let Some(user) = user_of(row) else {
@@ -93,50 +114,55 @@ fn users_of(alloc: Global, rows: &[Row]) -> Result<UserList, KeeperFault> {
 pub fn load_users<S: Alter>(
     alloc: Global,
     connection: &mut Connection<S>,
-) -> Result<UserList, KeeperFault> {
-    match connection.query_all(
-        "SELECT name, digest, groups, active FROM users ORDER BY name",
-        &[],
-    ) {
+) -> Result<UserList, KeeperFault>
+    ensures rows { IfOk result
+        (λ users. Finds S.Store SELECT_USERS.now (map user_row users) connection.old connection.new) }
+    ensures groups { IfOk result (All HasGroups) }
+    ensures failed { IsErrOf result fault.Failed
+        → FailsToFind S.Store SELECT_USERS.now HoldsUser connection.old connection.new }
+    ensures clean { HasCleanDisk (state S.Store connection.new)
+        → HasCleanDisk (state S.Store connection.old) }
+{
+    match connection.query_all(SELECT_USERS, &[]) {
         Ok(rows) => users_of(alloc, rows.as_slice()),
         Err(error) => Err(fault_of(error)),
     }
 }
 
 /// Adds a user.
-#[tactic(auto, using(crate::proofs::Kept::keeps_last_then, crate::proofs::Kept::keeps_last_same))]
+#[tactic(auto, using(crate::proofs::Kept::kept_then, crate::proofs::Kept::kept_same))]
 pub fn put_user<S: Alter>(
     alloc: Global,
     transaction: &mut Transaction<'_, S>,
     user: &UserRow,
 ) -> Result<(), Error>
-    ensures same_reference { transaction.new.conn.ghost_name ≡ transaction.old.conn.ghost_name }
-    ensures kept { KeepsLast (state S.Store transaction.old.conn.now)
-        (state S.Store transaction.new.conn.now) }
+    ensures kept { Kept S.Store transaction.old.conn transaction.new.conn }
+    ensures ran { OnOk result (Runs S.Store (user_put user.now ∷ [])
+        transaction.old.conn.now transaction.new.conn.now) }
 {
     let groups = text_of_groups(alloc, user.groups.as_slice())?;
     run(
         transaction,
-        "INSERT INTO users (name, digest, groups, active) VALUES (?1, ?2, ?3, ?4)",
+        INSERT_USER,
         &user_values(user, groups.as_str()),
     )
 }
 
 /// Sets the row of a user's name.
-#[tactic(auto, using(crate::proofs::Kept::keeps_last_then, crate::proofs::Kept::keeps_last_same))]
+#[tactic(auto, using(crate::proofs::Kept::kept_then, crate::proofs::Kept::kept_same))]
 pub fn set_user<S: Alter>(
     alloc: Global,
     transaction: &mut Transaction<'_, S>,
     user: &UserRow,
 ) -> Result<(), Error>
-    ensures same_reference { transaction.new.conn.ghost_name ≡ transaction.old.conn.ghost_name }
-    ensures kept { KeepsLast (state S.Store transaction.old.conn.now)
-        (state S.Store transaction.new.conn.now) }
+    ensures kept { Kept S.Store transaction.old.conn transaction.new.conn }
+    ensures ran { OnOk result (Runs S.Store (user_set user.now ∷ [])
+        transaction.old.conn.now transaction.new.conn.now) }
 {
     let groups = text_of_groups(alloc, user.groups.as_slice())?;
     run(
         transaction,
-        "UPDATE users SET digest = ?2, groups = ?3, active = ?4 WHERE name = ?1",
+        UPDATE_USER,
         &user_values(user, groups.as_str()),
     )
 }

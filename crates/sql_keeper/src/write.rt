@@ -1,10 +1,12 @@
 //! A change as one transaction of the database.
-ghost use Rattle.std.specs.Prelude.{◌≡◌, OnErr};
+ghost use Rattle.std.specs.Prelude.{◌∷◌, ◌++◌, OnOk, OnErr};
 ghost use Rattle.sqlite.specs.Held.{state};
-ghost use Rattle.sql_keeper.specs.Kept.{IsAtomic, IsUndone, KeepsLast};
+ghost use Rattle.sqlite.specs.State.{HasCleanDisk};
+ghost use Rattle.sql_keeper.specs.Kept.{IsAtomic, IsUndone, Kept};
+ghost use Rattle.sql_keeper.specs.Statements.{Commits, Runs, copy_taken, due_end, print_put, statements};
 
 use crate::entries::{drop_entry, put_entry, take_entry};
-use crate::prints::{end_print, put_print};
+use crate::prints::{end_due, end_print, put_print};
 use crate::reading::fault_of;
 use crate::users::{put_user, set_user};
 use octo_keeper::{Change, KeeperFault};
@@ -14,25 +16,21 @@ use sqlite::{Alter, Connection, Error, Transaction};
 use std::alloc::Global;
 
 // Adds a print after the end of another one, if that is due, and starts the copy that was taken, if one was.
-#[tactic(auto, using(crate::proofs::Kept::keeps_last_then, crate::proofs::Kept::keeps_last_same))]
+#[tactic(auto, using(crate::proofs::Kept::kept_then, crate::proofs::Kept::kept_same))]
 fn begin_print<S: Alter>(
     transaction: &mut Transaction<'_, S>,
     ended: Option<Ending>,
     print: &PrintRow,
     taken: &Option<QueueEntry>,
 ) -> Result<(), Error>
-    ensures same_reference { transaction.new.conn.ghost_name ≡ transaction.old.conn.ghost_name }
-    ensures kept { KeepsLast (state S.Store transaction.old.conn.now)
-        (state S.Store transaction.new.conn.now) }
+    ensures kept { Kept S.Store transaction.old.conn transaction.new.conn }
+    ensures ran { OnOk result
+        (Runs S.Store (due_end ended ++ print_put print.now ∷ copy_taken taken.now)
+        transaction.old.conn.now transaction.new.conn.now) }
 {
-    if let Some(ending) = ended {
-        end_print(transaction, ending)?;
-    }
+    end_due(transaction, ended)?;
     put_print(transaction, print)?;
-    match taken {
-        Some(taken) => take_entry(transaction, &taken.user, &taken.name),
-        None => Ok(()),
-    }
+    take_entry(transaction, taken)
 }
 
 // Writes a change within a transaction.
@@ -41,9 +39,9 @@ fn write_change<S: Alter>(
     transaction: &mut Transaction<'_, S>,
     change: &Change,
 ) -> Result<(), Error>
-    ensures same_reference { transaction.new.conn.ghost_name ≡ transaction.old.conn.ghost_name }
-    ensures kept { KeepsLast (state S.Store transaction.old.conn.now)
-        (state S.Store transaction.new.conn.now) }
+    ensures kept { Kept S.Store transaction.old.conn transaction.new.conn }
+    ensures ran { OnOk result (Runs S.Store (statements change.now)
+        transaction.old.conn.now transaction.new.conn.now) }
 {
     match change {
         Change::PutUser(user) => put_user(alloc, transaction, user),
@@ -59,12 +57,14 @@ fn write_change<S: Alter>(
     }
 }
 
-/// Writes a change in one transaction: if a statement is refused or fails, nothing of it is kept.
+/// Writes a change in one transaction: all of its statements run, or nothing of it is kept.
 pub fn commit_change<S: Alter>(
     alloc: Global,
     connection: &mut Connection<S>,
     change: &Change,
 ) -> Result<(), KeeperFault>
+    ensures written { OnOk result (HasCleanDisk (state S.Store connection.new)
+        → Commits S.Store (statements change.now) connection.old connection.new) }
     ensures nothing { OnErr result
         (IsUndone (state S.Store connection.old) (state S.Store connection.new)) }
     ensures atomic { IsAtomic (state S.Store connection.old) (state S.Store connection.new) }

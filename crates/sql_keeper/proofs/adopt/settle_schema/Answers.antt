@@ -12,7 +12,7 @@ pub returns-in-Err : goal.returns-in-Err
 returns-in-Err g c =
     let end = c.rollback.new.self.0 in
     let it = undone_atomic g.S.Store c.args.connection.now c.transaction-transaction.result.conn.now c.settle.new.transaction.conn.now (state g.S.Store end)
-    c.transaction-transaction.ensures.begun c.settle.ensures.stores c.rollback.ensures.survives in
+    c.transaction-transaction.ensures.begun c.settle.ensures.stores.moved c.rollback.ensures.survives in
     let same : end ≡ c.connection-1.given.0 = search rules in
     subst (λ h. IsAtomic (state g.S.Store c.args.connection.now) (state g.S.Store h)) same it
 
@@ -20,7 +20,7 @@ pub returns-in-Ok : goal.returns-in-Ok
 returns-in-Ok g c =
     let end = c.commit.new.self.0 in
     let it = committed_atomic g.S.Store c.args.connection.now c.transaction-transaction.result.conn.now c.settle.new.transaction.conn.now (state g.S.Store end)
-    c.transaction-transaction.ensures.begun c.settle.ensures.stores c.commit.ensures.survives in
+    c.transaction-transaction.ensures.begun c.settle.ensures.stores.moved c.commit.ensures.survives in
     let same : end ≡ c.connection-2-1.given.0 = search rules in
     subst (λ h. IsAtomic (state g.S.Store c.args.connection.now) (state g.S.Store h)) same it
 
@@ -28,6 +28,6 @@ pub returns-in-Err-commit : goal.returns-in-Err-commit
 returns-in-Err-commit g c =
     let end = c.commit.new.self.0 in
     let it = committed_atomic g.S.Store c.args.connection.now c.transaction-transaction.result.conn.now c.settle.new.transaction.conn.now (state g.S.Store end)
-    c.transaction-transaction.ensures.begun c.settle.ensures.stores c.commit.ensures.survives in
+    c.transaction-transaction.ensures.begun c.settle.ensures.stores.moved c.commit.ensures.survives in
     let same : end ≡ c.connection-2-1.given.0 = search rules in
     subst (λ h. IsAtomic (state g.S.Store c.args.connection.now) (state g.S.Store h)) same it

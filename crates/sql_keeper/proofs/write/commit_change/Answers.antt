@@ -1,6 +1,8 @@
 -- What a stop leaves of the transaction, which was undone or committed.
-use Rattle.std.proofs.Common.{◌≡◌, rules, subst}
+use Rattle.std.proofs.Common.{◌≡◌, rules, subst, arith}
 use Rattle.sqlite.specs.Held.{state}
+use Rattle.sqlite.specs.State.{HasCleanDisk}
+use Rattle.sql_keeper.specs.Statements.{Commits, RanInTurn, statements}
 use Rattle.sql_keeper.specs.Kept.{IsAtomic}
 use Rattle.sql_keeper.proofs.Kept.{atomic_same, undone_atomic, committed_atomic}
 use Rattle.sql_keeper.proofs.write.commit_change.Goals as goal
@@ -12,7 +14,7 @@ pub returns-in-Err-clause-atomic : goal.returns-in-Err-clause-atomic
 returns-in-Err-clause-atomic g c =
     let end = c.rollback.new.self.0 in
     let it = undone_atomic g.S.Store c.args.connection.now c.transaction-transaction.result.conn.now c.write_change.new.transaction.conn.now (state g.S.Store end)
-    c.transaction-transaction.ensures.begun c.write_change.ensures.kept.stores c.rollback.ensures.survives in
+    c.transaction-transaction.ensures.begun c.write_change.ensures.kept.moved.stores c.rollback.ensures.survives in
     let same : end ≡ c.connection-1.given.0 = search rules in
     subst (λ h. IsAtomic (state g.S.Store c.args.connection.now) (state g.S.Store h)) same it
 
@@ -20,7 +22,7 @@ pub returns-in-Ok-clause-atomic : goal.returns-in-Ok-clause-atomic
 returns-in-Ok-clause-atomic g c =
     let end = c.commit.new.self.0 in
     let it = committed_atomic g.S.Store c.args.connection.now c.transaction-transaction.result.conn.now c.write_change.new.transaction.conn.now (state g.S.Store end)
-    c.transaction-transaction.ensures.begun c.write_change.ensures.kept.stores c.commit.ensures.survives in
+    c.transaction-transaction.ensures.begun c.write_change.ensures.kept.moved.stores c.commit.ensures.survives in
     let same : end ≡ c.connection-2-1.given.0 = search rules in
     subst (λ h. IsAtomic (state g.S.Store c.args.connection.now) (state g.S.Store h)) same it
 
@@ -28,6 +30,18 @@ pub returns-in-Err-commit-clause-atomic : goal.returns-in-Err-commit-clause-atom
 returns-in-Err-commit-clause-atomic g c =
     let end = c.commit.new.self.0 in
     let it = committed_atomic g.S.Store c.args.connection.now c.transaction-transaction.result.conn.now c.write_change.new.transaction.conn.now (state g.S.Store end)
-    c.transaction-transaction.ensures.begun c.write_change.ensures.kept.stores c.commit.ensures.survives in
+    c.transaction-transaction.ensures.begun c.write_change.ensures.kept.moved.stores c.commit.ensures.survives in
     let same : end ≡ c.connection-2-1.given.0 = search rules in
     subst (λ h. IsAtomic (state g.S.Store c.args.connection.now) (state g.S.Store h)) same it
+
+pub returns-in-Ok-clause-written : goal.returns-in-Ok-clause-written
+returns-in-Ok-clause-written g c =
+    let end = c.commit.new.self.0 in
+    let last = c.write_change.new.transaction.conn.now in
+    let same : end ≡ c.connection-2-1.given.0 = search rules in
+    subst (λ h. HasCleanDisk (state g.S.Store h) → Commits g.S.Store (statements c.args.change.now) c.args.connection.now h) same
+    (λ clean. record {
+      last = last;
+      ran = subst (λ h. RanInTurn g.S.Store (statements c.args.change.now) h last) c.transaction-transaction.ensures.begun (c.in_default.ensures.ran (omega (arith, c.commit.ensures.survives.clean, clean)));
+      committed = (c.in-Ok.ensures.ok clean).1;
+    })

@@ -1,0 +1,9 @@
+use Rattle.std.proofs.Common.{List, All, inr, subst}
+use Rattle.sqlite_value.specs.Order.{Row}
+use Rattle.sql_keeper.specs.Holds.{HoldsPrint}
+use Rattle.sql_keeper.proofs.prints.load_prints.Goals as goal
+
+-- a row that the query showed can't be read
+pub returns-in-Ok-clause-failed : goal.returns-in-Ok-clause-failed
+returns-in-Ok-clause-failed g c failed clean =
+    inr (c.in-Ok.rows.items, c.in-Ok.ensures.ok clean, subst (λ (rows : List Row). ¬ All HoldsPrint rows) c.as_slice.ensures.value (c.prints_of.ensures.failed failed))

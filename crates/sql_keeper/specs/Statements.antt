@@ -1,0 +1,83 @@
+-- The statements that write a change, and what it means that they ran.
+use Rattle.std.specs.Prelude.{◌≡◌, ℕ, pos, true, false, List, [], ◌∷◌, ◌++◌, Option, Some, None, Ok}
+use Rattle.sqlite_value.specs.declared.value.Value.TheVariants.{Int, Text}
+use Rattle.sqlite_value.specs.Order.{Row}
+use Rattle.sqlite_trees.specs.declared.store.Store.{Ghosts}
+use Rattle.sqlite.specs.Held.{Held, state}
+use Rattle.sqlite.specs.State.{HasCleanDisk, Shows, ExecutesInside}
+use Rattle.octo_access.specs.declared.row.UserRow.{UserRow}
+use Rattle.print_queue.specs.declared.entry.QueueEntry.{QueueEntry}
+use Rattle.print_records.specs.declared.ending.Ending.{Ending}
+use Rattle.print_records.specs.declared.row.PrintRow.{PrintRow}
+use Rattle.octo_keeper.specs.declared.tables.Change.{Change}
+use Rattle.octo_keeper.specs.declared.tables.Change.TheVariants as change
+use Rattle.sql_keeper.specs.declared.schema.TheConstants.{INSERT_USER, UPDATE_USER, INSERT_ENTRY, DELETE_ENTRY, DELETE_LAST_COPY, LOWER_COPIES, INSERT_PRINT, END_PRINT}
+use Rattle.sql_keeper.specs.Rows.{user_row, entry_row, print_row, outcome_number}
+
+-- a text of SQL, and the values of its parameters
+pub record Statement : Type 0 where
+  pub text : List ℕ
+  pub values : Row
+
+abbrev pub with_values : List ℕ → Row → Statement
+with_values text values = record { text = text; values = values }
+
+abbrev pub user_put : UserRow → Statement
+user_put user = with_values INSERT_USER.now (user_row user)
+
+abbrev pub user_set : UserRow → Statement
+user_set user = with_values UPDATE_USER.now (user_row user)
+
+abbrev pub entry_put : QueueEntry → Statement
+entry_put entry = with_values INSERT_ENTRY.now (entry_row entry)
+
+abbrev pub key_values : List ℕ → List ℕ → Row
+key_values user name = Text user ∷ Text name ∷ []
+
+abbrev pub entry_dropped : List ℕ → List ℕ → Statement
+entry_dropped user name = with_values DELETE_ENTRY.now (key_values user name)
+
+-- a copy is started: the entry goes with its last one, and else has one less
+abbrev pub copy_taken : Option QueueEntry → List Statement
+copy_taken None = []
+copy_taken (Some taken) = with_values DELETE_LAST_COPY.now (key_values taken.user taken.name) ∷ with_values LOWER_COPIES.now (key_values taken.user taken.name) ∷ []
+
+abbrev pub print_put : PrintRow → Statement
+print_put print = with_values INSERT_PRINT.now (print_row print)
+
+abbrev pub print_ended : Ending → Statement
+print_ended ending = with_values END_PRINT.now (Int (pos ending.print) ∷ Int (pos (outcome_number ending.outcome)) ∷ [])
+
+-- the end of another print, if it is due
+abbrev pub due_end : Option Ending → List Statement
+due_end None = []
+due_end (Some ending) = print_ended ending ∷ []
+
+-- the statements of a change, in turn
+abbrev pub statements : Change → List Statement
+statements (change.PutUser user) = user_put user ∷ []
+statements (change.SetUser user) = user_set user ∷ []
+statements (change.PutEntry entry) = entry_put entry ∷ []
+statements (change.DropEntry user name) = entry_dropped user name ∷ []
+statements (change.Begin ended print taken) = due_end ended ++ print_put print ∷ copy_taken taken
+statements (change.End ending) = print_ended ending ∷ []
+
+module _ {S : Type 0} (g : Ghosts S) where
+  -- a statement ran inside a transaction
+  abbrev pub Ran : Statement → Held S → Held S → Type 0
+  Ran it old new = (count : ℕ) × ExecutesInside 0 it.text it.values (state g old) (state g new) (Ok count)
+
+  -- these statements did, in turn
+  abbrev pub RanInTurn : List Statement → Held S → Held S → Type 0
+  RanInTurn [] old new = new ≡ old
+  RanInTurn (it ∷ others) old new = (next : Held S) × Ran it old next × RanInTurn others next new
+
+  -- the same, if the disk returned what was written
+  abbrev pub Runs : List Statement → Held S → Held S → Type 0
+  Runs list old new = HasCleanDisk (state g new) → RanInTurn list old new
+
+  -- they ran in a transaction of their own, whose end is the last commit
+  pub record Commits (list : List Statement) (old new : Held S) : Type 0 where
+    pub last : Held S
+    pub ran : RanInTurn list (record old { in_transaction = true }) last
+    pub committed : Shows (state g last) (state g new) (state g last).now (state g last).now false
