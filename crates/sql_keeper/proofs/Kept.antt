@@ -46,6 +46,12 @@ module _ {S : Type 0} (g : Ghosts S) where
   pub kept_clean : (a b : MutBor (Held S)) → Kept g a b → HasCleanDisk (state g b.now) → HasCleanDisk (state g a.now)
   kept_clean a b kept clean = omega (arith, kept.moved.stores.clean, clean)
 
+  pub kept_unstored : (a b : MutBor (Held S)) → Kept g a b → Unstored g a b
+  kept_unstored a b kept = record { same_reference = kept.same_reference; moved = kept.moved.stores }
+
+  pub unstored_clean : (a b : MutBor (Held S)) → Unstored g a b → HasCleanDisk (state g b.now) → HasCleanDisk (state g a.now)
+  unstored_clean a b unstored clean = omega (arith, unstored.moved.clean, clean)
+
   pub unstored_same : (a : MutBor (Held S)) → Unstored g a a
   unstored_same a = record { same_reference = refl; moved = nothing_same (state g a.now) }
 

@@ -1,23 +1,61 @@
 -- Statements that ran one after the other.
-use Rattle.std.proofs.Common.{◌≡◌, ℕ, List, [], ◌∷◌, ◌++◌, Result, Ok, Err, OnOk, subst}
+use Rattle.std.proofs.Common.{◌≡◌, ℕ, ◌+◌, ◌<◌, suc, ℤ, List, [], ◌∷◌, ◌++◌, map, take, length, get_or, Option, Some, None, ok_or, MatchOption, Result, Ok, Err, OnOk, IfOk, ap, sym, subst, ◌∙◌, arith}
+use Rattle.std.proofs.Math.Seq.{take-suc}
+use Rattle.std.proofs.lemmas.List.{map-append}
+use Rattle.print_queue.specs.declared.entry.QueueEntry.{QueueEntry}
 use Rattle.std.specs.Borrow.{MutBor}
 use Rattle.sqlite_value.specs.Order.{Row}
 use Rattle.sqlite_trees.specs.declared.store.Store.{Ghosts}
-use Rattle.sqlite.specs.Held.{Held}
-use Rattle.sql_keeper.specs.Kept.{Kept}
-use Rattle.sql_keeper.specs.Statements.{Statement, with_values, RanInTurn, Runs}
-use Rattle.sql_keeper.proofs.Kept.{kept_clean}
+use Rattle.sqlite.specs.Held.{Held, state}
+use Rattle.sqlite.specs.State.{HasCleanDisk}
+use Rattle.sql_keeper.specs.Kept.{Kept, Unstored}
+use Rattle.sql_keeper.specs.Statements.{Statement, with_values, entry_put, RanInTurn, Runs}
+use Rattle.sql_keeper.proofs.Kept.{kept_clean, unstored_clean}
 
 module _ {S : Type 0} (g : Ghosts S) where
   ran_then : (one two : List Statement) (a b c : Held S) → RanInTurn g one a b → RanInTurn g two b c → RanInTurn g (one ++ two) a c
   ran_then [] two a b c same ran = subst (λ h. RanInTurn g two h c) same ran
   ran_then (it ∷ others) two a b c first ran = (first.0, first.1, ran_then others two first.0 b c first.2 ran)
 
+  pub runs_both : (one two : List Statement) (a b c : Held S) → (HasCleanDisk (state g c) → HasCleanDisk (state g b)) → Runs g one a b → Runs g two b c → Runs g (one ++ two) a c
+  runs_both one two a b c clean first second last = ran_then one two a b c (first (clean last)) (second last)
+
   -- after those of one call those of the next, which returns r
+  runs_on : {T E : Type 0} (r : Result T E) (one two : List Statement) (a b c : Held S) → (HasCleanDisk (state g c) → HasCleanDisk (state g b)) → Runs g one a b → OnOk r (Runs g two b c) → OnOk r (Runs g (one ++ two) a c)
+  runs_on (Ok x) one two a b c clean first second = runs_both one two a b c clean first second
+  runs_on (Err e) one two a b c clean first second = second
+
   pub runs_then : {T E : Type 0} (r : Result T E) (one two : List Statement) (a b c : MutBor (Held S)) → Kept g b c → Runs g one a.now b.now → OnOk r (Runs g two b.now c.now) → OnOk r (Runs g (one ++ two) a.now c.now)
-  runs_then (Ok x) one two a b c kept first second = λ clean. ran_then one two a.now b.now c.now (first (kept_clean g b c kept clean)) (second clean)
-  runs_then (Err e) one two a b c kept first second = second
+  runs_then r one two a b c kept = runs_on r one two a.now b.now c.now (kept_clean g b c kept)
+
+  pub runs_unstored : {T E : Type 0} (r : Result T E) (one two : List Statement) (a b c : MutBor (Held S)) → Unstored g b c → Runs g one a.now b.now → OnOk r (Runs g two b.now c.now) → OnOk r (Runs g (one ++ two) a.now c.now)
+  runs_unstored r one two a b c unstored = runs_on r one two a.now b.now c.now (unstored_clean g b c unstored)
 
   -- a statement with equal values
   pub runs_with : {T E : Type 0} (r : Result T E) (text : List ℕ) (a b : Held S) (values row : Row) → values ≡ row → OnOk r (Runs g (with_values text values ∷ []) a b) → OnOk r (Runs g (with_values text row ∷ []) a b)
   runs_with r text a b values row same ran = subst (λ (row : Row). OnOk r (Runs g (with_values text row ∷ []) a b)) same ran
+
+-- a fact of a call that did well, from another one
+pub on_ok : {T E : Type 0} (r : Result T E) (P Q : Type 0) → (P → Q) → OnOk r P → OnOk r Q
+on_ok (Ok x) P Q then known = then known
+on_ok (Err e) P Q then known = known
+
+-- the statements of one entry more
+pub put_more : (entries : List QueueEntry) (i : ℕ) (entry : QueueEntry) → i < length entries → entry ≡ get_or entries i entry
+    → map entry_put (take (i + 1) entries) ≡ map entry_put (take i entries) ++ entry_put entry ∷ []
+put_more entries i entry within is =
+    let next : i + 1 ≡ suc i = omega arith in
+    rw next (
+    ap (map entry_put) (take-suc entries i entry within) ∙ map-append entry_put (take i entries) (get_or entries i entry ∷ [])
+    ∙ ap (λ e. map entry_put (take i entries) ++ entry_put e ∷ []) (sym is))
+
+-- what a number says, if there is one
+pub if_found : {E : Type 0} (N : Type 0) (o : Option ℤ) (e : E) (r : Result ℤ E) (P Q : ℤ → Type 0) → r ≡ ok_or o e → MatchOption o N P → ((n : ℤ) → P n → Q n) → IfOk r Q
+if_found N None e r P Q is none then = subst (λ r. IfOk r Q) (sym is) tt
+if_found N (Some n) e r P Q is known then = subst (λ r. IfOk r Q) (sym is) (then n known)
+
+-- the only row of a list
+pub one_row : (rows : List Row) (row : Row) → length rows ≡ 1 → row ≡ get_or rows 0 row → row ∷ [] ≡ rows
+one_row [] row one is = absurd (omega (arith, one))
+one_row (first ∷ []) row one is = ap (λ r. r ∷ []) is
+one_row (first ∷ next ∷ rows) row one is = absurd (omega (arith, one))

@@ -1,8 +1,12 @@
 //! A database as it is when its keeper begins.
-ghost use Rattle.std.specs.Prelude.{◌≡◌, map, MatchOption, IfOk, IsErrOf};
+ghost use Rattle.std.specs.Prelude.{◌≡◌, ◌∷◌, [], map, MatchOption, IfOk, IsErrOf, OnOk};
 ghost use Rattle.std.specs.List.{All};
 ghost use Rattle.sqlite.specs.Held.{state};
+ghost use Rattle.sqlite.specs.State.{HasCleanDisk};
 ghost use Rattle.sql_keeper.specs.Kept.{IsAtomic, Unstored};
+ghost use Rattle.sql_keeper.specs.Loads.{Finds};
+ghost use Rattle.sql_keeper.specs.Settled.{FoundNumber, Settled, Settles, Upgraded, plain, tables_made};
+ghost use Rattle.sql_keeper.specs.Statements.{Runs, entry_put};
 ghost use Rattle.sql_keeper.specs.Holds.{HoldsOldEntry};
 ghost use Rattle.sql_keeper.specs.Rows.{old_entry_row};
 ghost use Rattle.octo_keeper.specs.declared.keeper.KeeperFault.TheVariants as fault;
@@ -10,7 +14,10 @@ ghost use Rattle.octo_keeper.specs.declared.keeper.KeeperFault.TheVariants as fa
 use crate::entries::put_entry;
 use crate::old_queue::{OldEntry, upgrade};
 use crate::reading::{fault_of, name_at, number_at, u8_at, u32_at};
-use crate::schema::{ENTRIES, META, PRINTS, SCHEMA, SCHEMA_BEFORE, USERS};
+use crate::schema::{
+    DROP_OLD_QUEUE, ENTRIES, INSERT_SCHEMA, META, PRINTS, SCHEMA, SCHEMA_BEFORE, SELECT_OLD_QUEUE,
+    SELECT_SCHEMA, UPDATE_SCHEMA, USERS,
+};
 use crate::statement;
 use octo_keeper::KeeperFault;
 use print_queue::QueueEntry;
@@ -20,6 +27,8 @@ use std::alloc::Global;
 // Runs a statement without parameters.
 fn run<S: Alter>(transaction: &mut Transaction<'_, S>, sql: &str) -> Result<(), KeeperFault>
     ensures stores { Unstored S.Store transaction.old.conn transaction.new.conn }
+    ensures ran { OnOk result (Runs S.Store (plain sql.now ∷ [])
+        transaction.old.conn.now transaction.new.conn.now) }
 {
     match statement::run(transaction, sql, &[]) {
         Ok(()) => Ok(()),
@@ -33,6 +42,8 @@ fn rows_of<S: Alter>(
     sql: &str,
 ) -> Result<Vec<Row>, KeeperFault>
     ensures stores { Unstored S.Store transaction.old.conn transaction.new.conn }
+    ensures found { IfOk result (λ rows.
+        Finds S.Store sql.now rows.items transaction.old.conn.now transaction.new.conn.now) }
 {
     match transaction.query_all(sql, &[]) {
         Ok(rows) => Ok(rows),
@@ -43,8 +54,10 @@ fn rows_of<S: Alter>(
 // The number of the schema, 0 if the database has none yet.
 fn schema_of<S: Alter>(transaction: &mut Transaction<'_, S>) -> Result<i64, KeeperFault>
     ensures stores { Unstored S.Store transaction.old.conn transaction.new.conn }
+    ensures number { IfOk result (λ number. HasCleanDisk (state S.Store transaction.new.conn.now)
+        → FoundNumber S.Store number transaction.old.conn.now transaction.new.conn.now) }
 {
-    let rows = rows_of(transaction, "SELECT schema FROM meta")?;
+    let rows = rows_of(transaction, SELECT_SCHEMA)?;
     match rows.as_slice() {
         [] => Ok(0),
         [row] => number_at(row, 0).ok_or(KeeperFault::Failed),
@@ -56,11 +69,13 @@ fn schema_of<S: Alter>(transaction: &mut Transaction<'_, S>) -> Result<i64, Keep
 #[tactic(auto, using(crate::proofs::Kept::unstored_then, crate::proofs::Kept::unstored_same))]
 fn make_tables<S: Alter>(transaction: &mut Transaction<'_, S>) -> Result<(), KeeperFault>
     ensures stores { Unstored S.Store transaction.old.conn transaction.new.conn }
+    ensures ran { OnOk result (Runs S.Store (tables_made)
+        transaction.old.conn.now transaction.new.conn.now) }
 {
     run(transaction, USERS)?;
     run(transaction, ENTRIES)?;
     run(transaction, PRINTS)?;
-    run(transaction, "INSERT INTO meta (schema) VALUES (2)")
+    run(transaction, INSERT_SCHEMA)
 }
 
 // The entry of a row of the schema before.
@@ -103,6 +118,8 @@ fn put_entries<S: Alter>(
     entries: &[QueueEntry],
 ) -> Result<(), KeeperFault>
     ensures stores { Unstored S.Store transaction.old.conn transaction.new.conn }
+    ensures ran { OnOk result (Runs S.Store (map entry_put entries.now)
+        transaction.old.conn.now transaction.new.conn.now) }
 {
     for entry in entries {
         if let Err(error) = put_entry(transaction, entry) {
@@ -119,23 +136,24 @@ fn upgrade_tables<S: Alter>(
     transaction: &mut Transaction<'_, S>,
 ) -> Result<(), KeeperFault>
     ensures stores { Unstored S.Store transaction.old.conn transaction.new.conn }
+    ensures ran { OnOk result (HasCleanDisk (state S.Store transaction.new.conn.now)
+        → Upgraded S.Store transaction.old.conn.now transaction.new.conn.now) }
 {
-    let rows = rows_of(
-        transaction,
-        "SELECT user, name, file, priority, arrival FROM queue ORDER BY arrival",
-    )?;
+    let rows = rows_of(transaction, SELECT_OLD_QUEUE)?;
     let old = old_entries_of(alloc, rows.as_slice())?;
     let entries = upgrade(alloc, old.as_slice())?;
     run(transaction, ENTRIES)?;
     put_entries(transaction, entries.as_slice())?;
-    run(transaction, "DROP TABLE queue")?;
-    run(transaction, "UPDATE meta SET schema = 2")
+    run(transaction, DROP_OLD_QUEUE)?;
+    run(transaction, UPDATE_SCHEMA)
 }
 
 // Brings the database to the schema that is kept.
 #[tactic(auto, using(crate::proofs::Kept::unstored_then, crate::proofs::Kept::unstored_same))]
 fn settle<S: Alter>(alloc: Global, transaction: &mut Transaction<'_, S>) -> Result<(), KeeperFault>
     ensures stores { Unstored S.Store transaction.old.conn transaction.new.conn }
+    ensures settled { OnOk result (HasCleanDisk (state S.Store transaction.new.conn.now)
+        → Settled S.Store transaction.old.conn.now transaction.new.conn.now) }
 {
     run(transaction, META)?;
     match schema_of(transaction)? {
@@ -151,7 +169,9 @@ pub fn settle_schema<S: Alter>(
     alloc: Global,
     connection: &mut Connection<S>,
 ) -> Result<(), KeeperFault>
-    ensures { IsAtomic (state S.Store connection.old) (state S.Store connection.new) }
+    ensures settled { OnOk result (HasCleanDisk (state S.Store connection.new)
+        → Settles S.Store connection.old connection.new) }
+    ensures atomic { IsAtomic (state S.Store connection.old) (state S.Store connection.new) }
 {
     if !connection.is_autocommit() {
         return Err(KeeperFault::Failed);

@@ -25,7 +25,9 @@ pub struct NotAdopted<S: Alter + Drop> {
 impl<S: Alter + Drop> SqlKeeper<S> {
     ghost use Rattle.std.specs.Prelude.{◌≡◌, IfOk, IfErr, IsErrOf};
     ghost use Rattle.sqlite.specs.Held.{state};
+    ghost use Rattle.sqlite.specs.State.{HasCleanDisk};
     ghost use Rattle.sql_keeper.specs.Kept.{IsAtomic};
+    ghost use Rattle.sql_keeper.specs.Settled.{Settles};
     ghost use Rattle.octo_outside.specs.Told.{Counts};
     ghost use Rattle.octo_keeper.specs.declared.keeper.KeeperFault.TheVariants as fault;
 
@@ -33,6 +35,8 @@ impl<S: Alter + Drop> SqlKeeper<S> {
     /// another schema, and one whose transaction is open, is a fault.
     pub fn adopt(alloc: Global, connection: Connection<S>) -> Result<SqlKeeper<S>, NotAdopted<S>>
         ensures fresh { IfOk result (λ keeper. keeper.faults ≡ 0) }
+        ensures settled { IfOk result (λ keeper. HasCleanDisk (state S.Store keeper.connection)
+            → Settles S.Store connection keeper.connection) }
         ensures adopted { IfOk result
             (λ keeper. IsAtomic (state S.Store connection) (state S.Store keeper.connection)) }
         ensures refused { IfErr result

@@ -21,6 +21,22 @@ pub const ENTRIES: &str =
 pub const PRINTS: &str =
     "CREATE TABLE prints (number INTEGER PRIMARY KEY, user TEXT NOT NULL, file TEXT NOT NULL, commands INTEGER NOT NULL, outcome INTEGER NOT NULL)";
 
+/// The schema's number.
+pub const SELECT_SCHEMA: &str = "SELECT schema FROM meta";
+
+/// Adds the schema's number.
+pub const INSERT_SCHEMA: &str = "INSERT INTO meta (schema) VALUES (2)";
+
+/// Sets the schema's number.
+pub const UPDATE_SCHEMA: &str = "UPDATE meta SET schema = 2";
+
+/// The queue of the schema before, by arrival.
+pub const SELECT_OLD_QUEUE: &str =
+    "SELECT user, name, file, priority, arrival FROM queue ORDER BY arrival";
+
+/// Drops that queue.
+pub const DROP_OLD_QUEUE: &str = "DROP TABLE queue";
+
 /// All users, by name.
 pub const SELECT_USERS: &str = "SELECT name, digest, groups, active FROM users ORDER BY name";
 

@@ -1,6 +1,11 @@
+use Rattle.std.proofs.Common.{map, take}
 use Rattle.sql_keeper.specs.Kept.{Unstored}
+use Rattle.sql_keeper.specs.Statements.{Runs, entry_put}
 use Rattle.sql_keeper.proofs.adopt.put_entries.Given as goal
 
--- nothing is stored so far
+-- nothing is stored so far, and the statements of the entries so far ran
 abbrev pub invariant-loop-entry : goal.invariant-loop-entry
-invariant-loop-entry g l = Unstored g.S.Store l.fn.transaction.conn l.transaction.conn
+invariant-loop-entry g l = record {
+  stores : Unstored g.S.Store l.fn.transaction.conn l.transaction.conn;
+  ran : Runs g.S.Store (map entry_put (take l.entry-index l.entries)) l.fn.transaction.conn.now l.transaction.conn.now;
+}

@@ -1,0 +1,19 @@
+-- One entry more.
+use Rattle.std.proofs.Common.{[], ◌∷◌, map, take, subst, sym, arith}
+use Rattle.sql_keeper.specs.Statements.{Runs, entry_put}
+use Rattle.sql_keeper.proofs.Kept.{kept_clean, kept_unstored, unstored_then}
+use Rattle.sql_keeper.proofs.Statements.{put_more, runs_both}
+use Rattle.sql_keeper.proofs.adopt.put_entries.Goals as goal
+
+pub loop-entry-preserved : goal.loop-entry-preserved
+loop-entry-preserved g c =
+    let a = c.args.transaction.now.conn in
+    let b = c.loop-entry.transaction.conn in
+    let d = c.put_entry.new.transaction.conn in
+    let kept = c.put_entry.ensures.kept in
+    let entry = c.entry-item.result in
+    record {
+      stores = unstored_then g.S.Store a b d c.loop-entry.invariant.stores (kept_unstored g.S.Store b d kept);
+      ran = subst (λ list. Runs g.S.Store list a.now d.now) (sym (put_more c.args.entries.now c.loop-entry.entry-index entry (omega arith) c.entry-item.is))
+          (runs_both g.S.Store (map entry_put (take c.loop-entry.entry-index c.args.entries.now)) (entry_put entry ∷ []) a.now b.now d.now (kept_clean g.S.Store b d kept) c.loop-entry.invariant.ran c.in_default.ensures.ran);
+    }

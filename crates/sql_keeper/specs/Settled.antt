@@ -1,0 +1,63 @@
+-- What an adoption makes of a database.
+use Rattle.std.specs.Prelude.{◌≡◌, ◌⊎◌, ℕ, ℤ, pos, true, false, List, [], ◌∷◌, ◌++◌, map}
+use Rattle.sqlite_value.specs.declared.value.Value.TheVariants.{Int}
+use Rattle.sqlite_value.specs.Order.{Row, column}
+use Rattle.sqlite_trees.specs.declared.store.Store.{Ghosts}
+use Rattle.sqlite.specs.Held.{Held, state}
+use Rattle.sqlite.specs.State.{Shows}
+use Rattle.sql_keeper.specs.declared.old_queue.OldEntry.{OldEntry}
+use Rattle.sql_keeper.specs.declared.schema.TheConstants.{META, SELECT_SCHEMA, USERS, ENTRIES, PRINTS, INSERT_SCHEMA, SELECT_OLD_QUEUE, DROP_OLD_QUEUE, UPDATE_SCHEMA}
+use Rattle.sql_keeper.specs.Loads.{Found}
+use Rattle.sql_keeper.specs.Rows.{old_entry_row}
+use Rattle.sql_keeper.specs.Statements.{Statement, with_values, entry_put, RanInTurn}
+use Rattle.sql_keeper.specs.Upgrade.{upgraded}
+
+abbrev pub plain : List ℕ → Statement
+plain text = with_values text []
+
+-- the tables of an empty database
+abbrev pub tables_made : List Statement
+tables_made = plain USERS.now ∷ plain ENTRIES.now ∷ plain PRINTS.now ∷ plain INSERT_SCHEMA.now ∷ []
+
+-- the queue of the schema before, entry by entry, in the table that has its place
+abbrev pub queue_upgraded : List OldEntry → List Statement
+queue_upgraded olds = plain ENTRIES.now ∷ map entry_put (map upgraded olds) ++ plain DROP_OLD_QUEUE.now ∷ plain UPDATE_SCHEMA.now ∷ []
+
+-- the number of the schema is that of its only row, and 0 if there is none
+abbrev pub IsSchema : ℤ → List Row → Type 0
+IsSchema number [] = number ≡ pos 0
+IsSchema number (row ∷ []) = column row 0 ≡ Int number
+IsSchema number (row ∷ next ∷ rows) = ⊥
+
+module _ {S : Type 0} (g : Ghosts S) where
+  pub record Upgraded (old new : Held S) : Type 0 where
+    pub olds : List OldEntry
+    pub read : Held S
+    pub found : Found g SELECT_OLD_QUEUE.now (map old_entry_row olds) old read
+    pub ran : RanInTurn g (queue_upgraded olds) read new
+
+  -- by the number of the schema
+  abbrev pub SettledFrom : ℤ → Held S → Held S → Type 0
+  SettledFrom number old new =
+      ((number ≡ pos 0) × RanInTurn g tables_made old new)
+      ⊎ (((number ≡ pos 1) × Upgraded old new) ⊎ ((number ≡ pos 2) × (new ≡ old)))
+
+  -- the query of the schema's number shows this one
+  pub record FoundNumber (number : ℤ) (old new : Held S) : Type 0 where
+    pub rows : List Row
+    pub found : Found g SELECT_SCHEMA.now rows old new
+    pub is : IsSchema number rows
+
+  pub record Settled (old new : Held S) : Type 0 where
+    pub made : Held S
+    pub read : Held S
+    pub number : ℤ
+    pub meta : RanInTurn g (plain META.now ∷ []) old made
+    pub found : FoundNumber number made read
+    pub settled : SettledFrom number read new
+
+  -- in a transaction of its own, whose end is the last commit
+  pub record Settles (old new : Held S) : Type 0 where
+    pub last : Held S
+    pub settled : Settled (record old { in_transaction = true }) last
+    pub committed : Shows (state g last) (state g new) (state g last).now (state g last).now false
