@@ -1,5 +1,5 @@
 -- A turn of the link leads a host on.
-use Rattle.std.proofs.Common.{◌≡◌, ◌⊎◌, inl, inr, ℕ, ◌≤◌, Bool, true, false, List, [], ◌∷◌, Option, Some, None, refl, sym, ap, subst, ◌∙◌, arith}
+use Rattle.std.proofs.Common.{◌≡◌, ◌⊎◌, inl, inr, ℕ, ◌≤◌, true, false, List, [], ◌∷◌, Option, Some, None, refl, sym, ap, subst, ◌∙◌}
 use Rattle.std.specs.Prelude.{IfSome}
 use Rattle.octo_outside.specs.Told.{Became, Adds}
 use Rattle.octo_outside.proofs.Told.{became_so, became_same}
@@ -9,12 +9,10 @@ use Rattle.octo_keeper.specs.Tables.{with_due_end}
 use Rattle.print_records.specs.declared.ending.Ending.{Ending}
 use Rattle.printer_link.specs.Link.{LinkKind}
 use Rattle.printer_model.specs.declared.event.WorldEvent.{WorldEvent}
-use Rattle.desk_steps.specs.Data.{Data}
 use Rattle.desk_steps.specs.declared.issued.Note.{Note}
 use Rattle.desk_steps.specs.declared.link_fact.LinkFact.{LinkFact}
 use Rattle.desk_steps.specs.declared.link_fact.LinkFact.TheVariants as fact
 use Rattle.octo_asks.specs.History.{History}
-use Rattle.octo_asks.specs.declared.entry.Entry.{Entry}
 use Rattle.octo_asks.specs.declared.entry.Entry.TheVariants as entry
 use Rattle.session_steps.specs.Data.{SessionData, IsSession, doing}
 use Rattle.session_steps.specs.DeskTurn.{IsQuietTurn}
@@ -26,11 +24,11 @@ use Rattle.house_history.specs.Legal.{Standing}
 use Rattle.house_history.specs.Noted.{known_after_note}
 use Rattle.house_walks.specs.Stands.{StandsAt}
 use Rattle.house_walks.specs.Walks.{Walks}
-use Rattle.house_walks.proofs.Quiet.{TookQuiet, IsQuietNote, quiet_stays, quiet_leads}
+use Rattle.house_walks.proofs.Quiet.{TookQuiet, quiet_stays, quiet_leads}
 use Rattle.house_walks.proofs.Taking.{took_turn, took_quiet}
 use Rattle.house_walks.proofs.Turned.{TookTurn, note_legal, note_leads}
 use Rattle.house_walks.proofs.Walking.{walks_none, walks_one}
-use Rattle.house_run.specs.Turns.{IsQuiet, NotesChange, Notes}
+use Rattle.house_run.specs.Turns.{NotesChange, Notes}
 use Rattle.house_run.specs.Tallies.{AreOf}
 use Rattle.house_run.proofs.Tallying.{none_counts, note_counts}
 

@@ -1,7 +1,7 @@
 -- What the rounds of a run add up to.
-use Rattle.std.proofs.Common.{◌≡◌, ℕ, ◌≤◌, Bool, false, List, [], ◌∷◌, ◌++◌, Option, refl, sym, ap, subst, ◌∙◌}
+use Rattle.std.proofs.Common.{◌≡◌, ℕ, ◌≤◌, Bool, List, [], ◌∷◌, Option, sym, ap, subst, ◌∙◌}
 use Rattle.octo_outside.specs.Told.{Became, Adds}
-use Rattle.octo_outside.proofs.Told.{became_then, became_so}
+use Rattle.octo_outside.proofs.Told.{became_then}
 use Rattle.octo_keeper.specs.declared.shelf.ShelfFile.{ShelfFile}
 use Rattle.octo_asks.specs.History.{History}
 use Rattle.octo_asks.specs.declared.entry.Entry.TheVariants as entry
@@ -9,11 +9,10 @@ use Rattle.session_steps.specs.Data.{SessionData}
 use Rattle.house_verdicts.specs.Known.{Known}
 use Rattle.house_history.specs.Legal.{Standing}
 use Rattle.house_walks.specs.Walks.{Walks}
-use Rattle.house_walks.specs.Stands.{StandsAt}
 use Rattle.printer_link.specs.Link.{LinkKind, IsHangUp, world_in}
 use Rattle.printer_model.specs.declared.event.WorldEvent.{WorldEvent}
 use Rattle.octo_house.specs.declared.house.House.{House}
-use Rattle.octo_house.specs.State.{known_of, session_of}
+use Rattle.octo_house.specs.State.{session_of}
 use Rattle.house_counts.specs.Faults.{AreCounted}
 use Rattle.house_counts.specs.LinkUse.{UsesLink}
 use Rattle.house_counts.specs.Rounds.{AsksAt, TurnsAt}

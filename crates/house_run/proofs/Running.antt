@@ -1,5 +1,5 @@
 -- How a run begins, goes on and ends.
-use Rattle.std.proofs.Common.{◌≡◌, ◌⊎◌, ℕ, ◌≤◌, Bool, true, false, List, [], ◌∷◌, ◌++◌, Option, Some, None, refl, sym, ap, subst, ◌∙◌, arith}
+use Rattle.std.proofs.Common.{◌≡◌, ℕ, ◌≤◌, true, false, List, [], ◌∷◌, Option, Some, None, refl, sym, ap, subst, ◌∙◌, arith}
 use Rattle.std.proofs.lemmas.Bool.{false≢true}
 use Rattle.octo_outside.specs.Told.{Became, Adds}
 use Rattle.octo_outside.proofs.Told.{became_then, became_same, became_so}
@@ -8,11 +8,8 @@ use Rattle.print_records.specs.declared.ending.Ending.{Ending}
 use Rattle.desk_steps.specs.Data.{Data}
 use Rattle.desk_steps.specs.declared.issued.Note.{Note}
 use Rattle.octo_asks.specs.History.{History}
-use Rattle.octo_asks.specs.declared.entry.Entry.{Entry}
 use Rattle.octo_asks.specs.declared.entry.Entry.TheVariants as entry
 use Rattle.house_history.specs.Legal.{Standing}
-use Rattle.house_walks.specs.Counted.{leaves_made, is_shut}
-use Rattle.house_walks.specs.Stands.{StandsAt}
 use Rattle.house_walks.specs.Walks.{Walks}
 use Rattle.house_walks.proofs.Walking.{walks_none, walks_one, walks_then}
 use Rattle.octo_house.specs.declared.house.House.{House}
@@ -21,7 +18,7 @@ use Rattle.octo_house.specs.Turned.{Turns}
 use Rattle.house_run.specs.declared.tally.Asked.{Asked}
 use Rattle.house_run.specs.declared.tally.Tally.{Tally}
 use Rattle.house_run.specs.Runs.{stands, begins, ended, Leads, IsFresh, IsOver}
-use Rattle.house_run.specs.Tallies.{counted, tally_of, AreOf, tally_after, is_over}
+use Rattle.house_run.specs.Tallies.{tally_of, AreOf, tally_after, is_over}
 use Rattle.house_run.proofs.Noting.{Knows}
 use Rattle.house_run.proofs.Tallying.{tally_grows, tally_over}
 

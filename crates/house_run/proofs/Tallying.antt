@@ -1,18 +1,16 @@
 -- What a run counts as its history grows.
-use Rattle.std.proofs.Common.{◌≡◌, ◌⊎◌, inl, inr, ℕ, ◌+◌, ◌≤◌, ◌<◌, Bool, true, false, ◌||◌, ◌&&◌, not, nat_lt, min, List, [], ◌∷◌, ◌++◌, Option, Some, None, refl, sym, ap, subst, ◌∙◌, arith}
+use Rattle.std.proofs.Common.{◌≡◌, ◌⊎◌, inl, inr, ℕ, ◌+◌, ◌≤◌, Bool, true, false, ◌||◌, ◌&&◌, not, nat_lt, [], ◌∷◌, ◌++◌, Option, Some, None, refl, sym, ap, subst, ◌∙◌, arith}
 use Rattle.std.proofs.lemmas.Bool.Decides.{nat_tests}
-use Rattle.octo_outside.specs.Told.{Became, Adds}
 use Rattle.desk_steps.specs.Data.{Data}
 use Rattle.desk_steps.specs.declared.issued.Note.{Note}
 use Rattle.octo_asks.specs.History.{History}
 use Rattle.octo_asks.specs.declared.answer.Answer.{Answer}
-use Rattle.octo_asks.specs.declared.entry.Entry.{Entry}
 use Rattle.octo_asks.specs.declared.entry.Entry.TheVariants as entry
 use Rattle.octo_asks.specs.declared.request.Ask.{Ask}
 use Rattle.house_walks.specs.Counted.{is_leave, is_shutdown, calls_made, leaves_made, is_shut}
 use Rattle.house_run.specs.declared.tally.Asked.{Asked}
 use Rattle.house_run.specs.declared.tally.Tally.{Tally}
-use Rattle.house_run.specs.Tallies.{counted, no_tally, tally_of, one_if, calls_by, leaves_by, shut_by, AreOf, tally_after, is_over}
+use Rattle.house_run.specs.Tallies.{counted, tally_of, one_if, AreOf, tally_after, is_over}
 
 or_false : (b : Bool) → (b || false) ≡ b
 or_false true = refl

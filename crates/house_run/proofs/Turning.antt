@@ -1,12 +1,11 @@
 -- What a turn of the link adds to a history: its note, or a quiet one in its place, or nothing.
-use Rattle.std.proofs.Common.{◌≡◌, ◌⊎◌, inl, inr, ℕ, List, [], ◌∷◌, Option, None, Some, refl, sym, ap, subst, ◌∙◌}
+use Rattle.std.proofs.Common.{◌≡◌, inl, inr, ℕ, List, Option, None, Some, refl, sym, ap, subst, ◌∙◌}
 use Rattle.std.specs.Prelude.{IfSome}
-use Rattle.octo_outside.specs.Told.{Became, Adds}
+use Rattle.octo_outside.specs.Told.{Became}
 use Rattle.octo_outside.proofs.Told.{became_so, became_same}
 use Rattle.desk_steps.specs.declared.issued.Note.{Note}
 use Rattle.desk_steps.specs.declared.state.State.{State}
 use Rattle.octo_asks.specs.History.{History}
-use Rattle.octo_asks.specs.declared.entry.Entry.TheVariants as entry
 use Rattle.session_steps.specs.Data.{SessionData}
 use Rattle.session_steps.specs.Found.{temps_in}
 use Rattle.session_steps.specs.Turn.{IsTurn, IsNoteOf, fact_of}

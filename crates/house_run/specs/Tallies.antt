@@ -1,5 +1,5 @@
 -- What a run counts of its history.
-use Rattle.std.specs.Prelude.{◌≡◌, ℕ, ◌+◌, ◌≤◌, Bool, true, false, ◌||◌, ◌&&◌, not, nat_lt, min, List, [], Option, Some, None}
+use Rattle.std.specs.Prelude.{◌≡◌, ℕ, ◌+◌, Bool, true, false, ◌||◌, ◌&&◌, not, nat_lt, min, Option, Some, None}
 use Rattle.desk_steps.specs.Data.{Data}
 use Rattle.octo_asks.specs.History.{History}
 use Rattle.house_walks.specs.Counted.{calls_made, leaves_made, is_shut}

@@ -1,5 +1,5 @@
 -- What a turn of a host adds to its history.
-use Rattle.std.specs.Prelude.{◌≡◌, ◌⊎◌, ℕ, List, [], ◌∷◌, Option, Some, None}
+use Rattle.std.specs.Prelude.{◌≡◌, ◌⊎◌, ℕ, [], ◌∷◌, Option, Some, None}
 use Rattle.octo_outside.specs.Told.{Adds}
 use Rattle.desk_steps.specs.declared.issued.Note.{Note}
 use Rattle.desk_steps.specs.declared.link_fact.LinkFact.TheVariants as fact

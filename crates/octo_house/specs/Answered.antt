@@ -29,7 +29,7 @@ pub record AskDone {K S : Type 0} (tables : K → Option Tables) (faults : K →
   -- the keeper's tables stay the host's, and the names those of the shelf's files
   pub kept : KeepsRows (tables was) (tables now) old.tables new.tables
   pub listed : IsListed (files held) old → IsListed (files holds) new
-  -- the sender, the link and the end that isn't written stay
+  -- the sender and the link stay, and so does the end that isn't written, unless a start writes it
   pub apart : IsApartFrom old new
   -- a fault is answered only if keeper or shelf counted it
   pub keeper : Counts (is_keepers x ≡ true) (faults was) (faults now)

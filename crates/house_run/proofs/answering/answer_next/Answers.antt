@@ -1,4 +1,4 @@
-use Rattle.std.proofs.Common.{◌≡◌, ℕ, List, Option, Some, None, refl, sym, ap, subst, ◌∙◌}
+use Rattle.std.proofs.Common.{Option, Some, None, refl, sym, subst}
 use Rattle.octo_outside.specs.Told.{Became}
 use Rattle.octo_asks.specs.History.{History}
 use Rattle.octo_house.specs.State.{known_of, session_of}

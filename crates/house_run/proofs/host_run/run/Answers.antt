@@ -1,4 +1,4 @@
-use Rattle.std.proofs.Common.{◌≡◌, ◌≤◌, ℕ, Bool, true, List, [], Option, Some, None, refl, sym, ap, subst, ◌∙◌, arith}
+use Rattle.std.proofs.Common.{◌≡◌, ℕ, [], Option, None, refl, sym, subst, ◌∙◌, arith}
 use Rattle.std.specs.Prelude.{IfSome}
 use Rattle.octo_outside.specs.Told.{Became}
 use Rattle.octo_house.specs.State.{session_of}
@@ -6,16 +6,11 @@ use Rattle.house_walks.proofs.Walking.{walks_then}
 use Rattle.house_run.specs.declared.tally.Tally.{Tally}
 use Rattle.house_run.specs.Runs.{stands, begins, ended}
 use Rattle.house_run.specs.Tallies.{tally_of}
-use Rattle.house_counts.specs.Faults.{AreCounted}
-use Rattle.house_counts.specs.LinkUse.{UsesLink}
-use Rattle.house_counts.specs.Shows.{Shows}
-use Rattle.house_counts.specs.Temps.{NotesTemps}
 use Rattle.house_counts.proofs.Counting.{none_counted}
 use Rattle.house_counts.proofs.Hearing.{temps_none}
 use Rattle.house_counts.proofs.Showing.{begin_shows}
 use Rattle.house_counts.proofs.Timing.{Timed, timed_begins, timed_round, timed_later, timed_ends}
 use Rattle.octo_outside.proofs.Told.{became_same}
-use Rattle.printer_link.specs.Link.{LinkKind}
 use Rattle.house_run.proofs.Running.{begin_walks, walks_round, end_walks, tally_then, no_entry, over_by}
 use Rattle.house_run.proofs.Rounds.{counted_round, counted_end, uses_round, uses_end, temps_round, temps_end_of}
 use Rattle.house_line.proofs.Recorded.{begin_in_step}

@@ -1,6 +1,5 @@
-use Rattle.std.proofs.Common.{◌≡◌, ◌≤◌, Bool, false, Option, None}
+use Rattle.std.proofs.Common.{◌≡◌, ◌≤◌, false, None}
 use Rattle.octo_outside.specs.Told.{Became}
-use Rattle.octo_asks.specs.declared.counter.Given.{Given}
 use Rattle.house_counts.specs.Faults.{AreCounted}
 use Rattle.house_counts.specs.LinkUse.{UsesLink}
 use Rattle.house_counts.specs.Shows.{Shows}

@@ -1,4 +1,4 @@
-use Rattle.std.proofs.Common.{◌≡◌, inl, inr, ℕ, refl, sym, ap, subst, ◌∙◌}
+use Rattle.std.proofs.Common.{◌≡◌, inl, inr, refl, sym, ap, ◌∙◌}
 use Rattle.desk_steps.specs.Data.{Data}
 use Rattle.session_steps.specs.Data.{SessionData}
 use Rattle.octo_house.specs.State.{session_of}

@@ -1,4 +1,4 @@
-use Rattle.std.proofs.Common.{◌≡◌, ℕ, List, Option, Some, refl, sym, ap, subst, ◌∙◌}
+use Rattle.std.proofs.Common.{◌≡◌, refl, ap, subst, ◌∙◌}
 use Rattle.desk_steps.specs.Data.{Data}
 use Rattle.desk_steps.specs.declared.state.State.{State}
 use Rattle.session_steps.specs.Data.{SessionData}
@@ -6,7 +6,6 @@ use Rattle.lossy_line.proofs.Told.{kept_by_note}
 use Rattle.octo_house.specs.State.{known_of, session_of}
 use Rattle.house_run.specs.Turns.{Notes}
 use Rattle.house_run.proofs.Noting.{turn_walks, notes_count}
-use Rattle.house_counts.proofs.Turning.{HasCalled}
 use Rattle.house_run.proofs.Running.{knows_of}
 use Rattle.house_run.proofs.Turning.{turn_adds, turn_temps}
 use Rattle.house_run.proofs.Tying.{turn_ties}
