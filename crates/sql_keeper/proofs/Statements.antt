@@ -1,15 +1,16 @@
 -- Statements that ran one after the other.
-use Rattle.std.proofs.Common.{◌≡◌, ℕ, ◌+◌, ◌<◌, suc, ℤ, List, [], ◌∷◌, ◌++◌, map, take, length, get_or, Option, Some, None, ok_or, MatchOption, Result, Ok, Err, OnOk, IfOk, ap, sym, subst, ◌∙◌, arith}
+use Rattle.std.proofs.Common.{◌≡◌, ℕ, ◌+◌, ◌<◌, suc, ℤ, List, [], ◌∷◌, ◌++◌, map, take, length, get_or, Option, Some, None, ok_or, MatchOption, IsTrue, inl, inr, Result, Ok, Err, OnOk, IfOk, IfErr, ap, sym, subst, ◌∙◌, arith}
 use Rattle.std.proofs.Math.Seq.{take-suc}
 use Rattle.std.proofs.lemmas.List.{map-append}
 use Rattle.print_queue.specs.declared.entry.QueueEntry.{QueueEntry}
 use Rattle.std.specs.Borrow.{MutBor}
 use Rattle.sqlite_value.specs.Order.{Row}
 use Rattle.sqlite_trees.specs.declared.store.Store.{Ghosts}
+use Rattle.sqlite.specs.declared.error.Error.{Error}
 use Rattle.sqlite.specs.Held.{Held, state}
 use Rattle.sqlite.specs.State.{HasCleanDisk}
 use Rattle.sql_keeper.specs.Kept.{Kept, Unstored}
-use Rattle.sql_keeper.specs.Statements.{Statement, with_values, entry_put, RanInTurn, Runs}
+use Rattle.sql_keeper.specs.Statements.{Statement, with_values, entry_put, RanInTurn, Runs, FailsInTurn, Refuses}
 use Rattle.sql_keeper.proofs.Kept.{kept_clean, unstored_clean}
 
 module _ {S : Type 0} (g : Ghosts S) where
@@ -30,6 +31,33 @@ module _ {S : Type 0} (g : Ghosts S) where
 
   pub runs_unstored : {T E : Type 0} (r : Result T E) (one two : List Statement) (a b c : MutBor (Held S)) → Unstored g b c → Runs g one a.now b.now → OnOk r (Runs g two b.now c.now) → OnOk r (Runs g (one ++ two) a.now c.now)
   runs_unstored r one two a b c unstored = runs_on r one two a.now b.now c.now (unstored_clean g b c unstored)
+
+  -- a transaction goes on after statements that ran
+  ran_inside : (list : List Statement) (a b : Held S) → RanInTurn g list a b → IsTrue a.in_transaction → IsTrue b.in_transaction
+  ran_inside [] a b same inside = subst (λ h. IsTrue h.in_transaction) (sym same) inside
+  ran_inside (it ∷ others) a b ran inside = ran_inside others ran.0 b ran.2 ran.1.1.1.mode
+
+  fails_first : (one two : List Statement) (a b : Held S) → FailsInTurn g one a b → FailsInTurn g (one ++ two) a b
+  fails_first [] two a b fails = absurd fails
+  fails_first (it ∷ others) two a b (inl refused) = inl refused
+  fails_first (it ∷ others) two a b (inr later) = inr (later.0, later.1, fails_first others two later.0 b later.2)
+
+  fails_later : (one two : List Statement) (a b c : Held S) → RanInTurn g one a b → FailsInTurn g two b c → FailsInTurn g (one ++ two) a c
+  fails_later [] two a b c same fails = subst (λ h. FailsInTurn g two h c) same fails
+  fails_later (it ∷ others) two a b c ran fails = inr (ran.0, ran.1, fails_later others two ran.0 b c ran.2 fails)
+
+  -- an error of the first of two calls, and of the second
+  pub refused_first : (one two : List Statement) (a b : Held S) (error : Error) → Refuses g one a b error → Refuses g (one ++ two) a b error
+  refused_first one two a b error refused other clean inside = fails_first one two a b (refused other clean inside)
+
+  pub refused_then : {T : Type 0} (r : Result T Error) (one two : List Statement) (a b c : MutBor (Held S)) → Kept g b c → Runs g one a.now b.now → IfErr r (Refuses g two b.now c.now) → IfErr r (Refuses g (one ++ two) a.now c.now)
+  refused_then (Ok x) one two a b c kept first refused = refused
+  refused_then (Err e) one two a b c kept first refused = λ other clean inside.
+      let ran = first (kept_clean g b c kept clean) in
+      fails_later one two a.now b.now c.now ran (refused other clean (ran_inside one a.now b.now ran inside))
+
+  pub refused_with : {T : Type 0} (r : Result T Error) (text : List ℕ) (a b : Held S) (values row : Row) → values ≡ row → IfErr r (Refuses g (with_values text values ∷ []) a b) → IfErr r (Refuses g (with_values text row ∷ []) a b)
+  refused_with r text a b values row same refused = subst (λ (row : Row). IfErr r (Refuses g (with_values text row ∷ []) a b)) same refused
 
   -- a statement with equal values
   pub runs_with : {T E : Type 0} (r : Result T E) (text : List ℕ) (a b : Held S) (values row : Row) → values ≡ row → OnOk r (Runs g (with_values text values ∷ []) a b) → OnOk r (Runs g (with_values text row ∷ []) a b)

@@ -1,10 +1,14 @@
 -- The statements that write a change, and what it means that they ran.
-use Rattle.std.specs.Prelude.{◌≡◌, ℕ, pos, true, false, List, [], ◌∷◌, ◌++◌, Option, Some, None, Ok}
+use Rattle.std.specs.Prelude.{◌≡◌, ◌≢◌, ◌⊎◌, ℕ, pos, true, false, IsTrue, List, [], ◌∷◌, ◌++◌, Option, Some, None, Ok, Err}
 use Rattle.sqlite_value.specs.declared.value.Value.TheVariants.{Int, Text}
 use Rattle.sqlite_value.specs.Order.{Row}
 use Rattle.sqlite_trees.specs.declared.store.Store.{Ghosts}
+use Rattle.sqlite.specs.declared.error.Error.{Error}
+use Rattle.sqlite.specs.declared.error.Error.TheVariants.{SqliteFailure}
+use Rattle.sqlite.specs.declared.error.ErrorCode.TheVariants.{OutOfMemory}
 use Rattle.sqlite.specs.Held.{Held, state}
-use Rattle.sqlite.specs.State.{HasCleanDisk, Shows, ExecutesInside}
+use Rattle.sqlite.specs.State.{HasCleanDisk, IsRolledBack, Shows, ExecutesInside}
+use Rattle.sqlite.specs.Steps.{FailsToCommit}
 use Rattle.octo_access.specs.declared.row.UserRow.{UserRow}
 use Rattle.print_queue.specs.declared.entry.QueueEntry.{QueueEntry}
 use Rattle.print_records.specs.declared.ending.Ending.{Ending}
@@ -81,3 +85,21 @@ module _ {S : Type 0} (g : Ghosts S) where
     pub last : Held S
     pub ran : RanInTurn list (record old { in_transaction = true }) last
     pub committed : Shows (state g last) (state g new) (state g last).now (state g last).now false
+
+  -- one of these statements didn't run, after the earlier ones did
+  abbrev pub FailsInTurn : List Statement → Held S → Held S → Type 0
+  FailsInTurn [] old new = ⊥
+  FailsInTurn (it ∷ others) old new =
+      ((error : Error) × ExecutesInside 0 it.text it.values (state g old) (state g new) (Err error)) ⊎ ((next : Held S) × Ran it old next × FailsInTurn others next new)
+
+  -- why these statements inside a transaction end in an error: one didn't run, or out of memory
+  abbrev pub Refuses : List Statement → Held S → Held S → Error → Type 0
+  Refuses list old new error = error ≢ SqliteFailure OutOfMemory → HasCleanDisk (state g new) → IsTrue old.in_transaction → FailsInTurn list old new
+
+  -- they weren't committed: a transaction was open, one of them didn't run and all was undone, or the commit failed
+  abbrev pub FailsAt : List Statement → Held S → Held S → Held S → Type 0
+  FailsAt list begun last new =
+      (FailsInTurn list begun last × IsRolledBack (state g last) (state g new)) ⊎ (RanInTurn list begun last × (error : Error) × FailsToCommit (state g last) (state g new) error)
+
+  abbrev pub FailsToWrite : List Statement → Held S → Held S → Type 0
+  FailsToWrite list old new = IsTrue old.in_transaction ⊎ ((last : Held S) × FailsAt list (record old { in_transaction = true }) last new)

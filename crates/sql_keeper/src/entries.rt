@@ -1,12 +1,12 @@
 //! Entries of the queue as rows of the database.
-ghost use Rattle.std.specs.Prelude.{◌≡◌, ◌∷◌, [], Some, map, MatchOption, IfOk, IsErrOf, OnOk};
+ghost use Rattle.std.specs.Prelude.{◌≡◌, ◌∷◌, [], Some, map, MatchOption, IfOk, IsErrOf, IfErr, OnOk};
 ghost use Rattle.std.specs.List.{All};
 ghost use Rattle.sqlite.specs.Held.{state};
 ghost use Rattle.sqlite.specs.State.{HasCleanDisk};
 ghost use Rattle.sqlite.specs.Values.{bound};
 ghost use Rattle.sql_keeper.specs.Kept.{Kept};
 ghost use Rattle.sql_keeper.specs.Loads.{FailsToFind, Finds};
-ghost use Rattle.sql_keeper.specs.Statements.{Runs, copy_taken, entry_dropped, entry_put, key_values};
+ghost use Rattle.sql_keeper.specs.Statements.{Refuses, Runs, copy_taken, entry_dropped, entry_put, key_values};
 ghost use Rattle.sql_keeper.specs.Holds.{HoldsEntry};
 ghost use Rattle.sql_keeper.specs.Rows.{entry_row};
 ghost use Rattle.octo_keeper.specs.declared.keeper.KeeperFault.TheVariants as fault;
@@ -108,6 +108,8 @@ pub fn put_entry<S: Alter>(
     ensures kept { Kept S.Store transaction.old.conn transaction.new.conn }
     ensures ran { OnOk result (Runs S.Store (entry_put entry.now ∷ [])
         transaction.old.conn.now transaction.new.conn.now) }
+    ensures failed { IfErr result (Refuses S.Store (entry_put entry.now ∷ [])
+        transaction.old.conn.now transaction.new.conn.now) }
 {
     run(transaction, INSERT_ENTRY, &entry_values(entry))
 }
@@ -121,6 +123,8 @@ pub fn drop_entry<S: Alter>(
     ensures kept { Kept S.Store transaction.old.conn transaction.new.conn }
     ensures ran { OnOk result (Runs S.Store (entry_dropped user.now name.now ∷ [])
         transaction.old.conn.now transaction.new.conn.now) }
+    ensures failed { IfErr result (Refuses S.Store (entry_dropped user.now name.now ∷ [])
+        transaction.old.conn.now transaction.new.conn.now) }
 {
     run(transaction, DELETE_ENTRY, &key_values(user, name))
 }
@@ -133,6 +137,8 @@ fn take_copy<S: Alter>(
 ) -> Result<(), Error>
     ensures kept { Kept S.Store transaction.old.conn transaction.new.conn }
     ensures ran { OnOk result (Runs S.Store (copy_taken (Some taken.now))
+        transaction.old.conn.now transaction.new.conn.now) }
+    ensures failed { IfErr result (Refuses S.Store (copy_taken (Some taken.now))
         transaction.old.conn.now transaction.new.conn.now) }
 {
     run(
@@ -155,6 +161,8 @@ pub fn take_entry<S: Alter>(
 ) -> Result<(), Error>
     ensures kept { Kept S.Store transaction.old.conn transaction.new.conn }
     ensures ran { OnOk result (Runs S.Store (copy_taken taken.now)
+        transaction.old.conn.now transaction.new.conn.now) }
+    ensures failed { IfErr result (Refuses S.Store (copy_taken taken.now)
         transaction.old.conn.now transaction.new.conn.now) }
 {
     match taken {

@@ -88,7 +88,7 @@ impl<S: Alter + Drop> Keeper for SqlKeeper<S> {
     ghost use Rattle.sql_keeper.specs.Holds.{HasGroups};
     ghost use Rattle.sql_keeper.specs.Kept.{IsAtomic, IsUndone};
     ghost use Rattle.sql_keeper.specs.Loads.{FailsToLoad, IsUnsound, Loads};
-    ghost use Rattle.sql_keeper.specs.Statements.{Commits, statements};
+    ghost use Rattle.sql_keeper.specs.Statements.{Commits, FailsToWrite, statements};
 
     ghost tables = { λ _. None };
 
@@ -114,6 +114,10 @@ impl<S: Alter + Drop> Keeper for SqlKeeper<S> {
     fn commit(&mut self, alloc: Global, change: &Change) -> Result<(), KeeperFault>
         ensures written { OnOk result (HasCleanDisk (state S.Store self.new.connection)
             → Commits S.Store (statements change.now) self.old.connection self.new.connection) }
+        ensures failed { IsErrOf result fault.Failed
+            → HasCleanDisk (state S.Store self.new.connection)
+            → FailsToWrite S.Store (statements change.now)
+            self.old.connection self.new.connection }
         ensures nothing { OnErr result
             (IsUndone (state S.Store self.old.connection) (state S.Store self.new.connection)) }
         ensures atomic { IsAtomic

@@ -1,5 +1,5 @@
 //! Print records as rows of the database.
-ghost use Rattle.std.specs.Prelude.{◌≡◌, ◌∷◌, [], pos, map, MatchOption, IfOk, IsErrOf, OnOk};
+ghost use Rattle.std.specs.Prelude.{◌≡◌, ◌∷◌, [], pos, map, MatchOption, IfOk, IsErrOf, IfErr, OnOk};
 ghost use Rattle.std.specs.List.{All};
 ghost use Rattle.sqlite_value.specs.declared.value.Value.TheVariants.{Int};
 ghost use Rattle.sqlite.specs.Held.{state};
@@ -7,7 +7,7 @@ ghost use Rattle.sqlite.specs.State.{HasCleanDisk};
 ghost use Rattle.sqlite.specs.Values.{bound};
 ghost use Rattle.sql_keeper.specs.Kept.{Kept};
 ghost use Rattle.sql_keeper.specs.Loads.{FailsToFind, Finds};
-ghost use Rattle.sql_keeper.specs.Statements.{Runs, due_end, print_ended, print_put};
+ghost use Rattle.sql_keeper.specs.Statements.{Refuses, Runs, due_end, print_ended, print_put};
 ghost use Rattle.sql_keeper.specs.Holds.{HoldsBelow, HoldsPrint};
 ghost use Rattle.sql_keeper.specs.Rows.{outcome_number, print_row};
 ghost use Rattle.octo_keeper.specs.declared.keeper.KeeperFault.TheVariants as fault;
@@ -118,6 +118,8 @@ pub fn put_print<S: Alter>(
     ensures kept { Kept S.Store transaction.old.conn transaction.new.conn }
     ensures ran { OnOk result (Runs S.Store (print_put print.now ∷ [])
         transaction.old.conn.now transaction.new.conn.now) }
+    ensures failed { IfErr result (Refuses S.Store (print_put print.now ∷ [])
+        transaction.old.conn.now transaction.new.conn.now) }
 {
     run(transaction, INSERT_PRINT, &print_values(print))
 }
@@ -140,6 +142,8 @@ pub fn end_print<S: Alter>(
     ensures kept { Kept S.Store transaction.old.conn transaction.new.conn }
     ensures ran { OnOk result (Runs S.Store (print_ended ending ∷ [])
         transaction.old.conn.now transaction.new.conn.now) }
+    ensures failed { IfErr result (Refuses S.Store (print_ended ending ∷ [])
+        transaction.old.conn.now transaction.new.conn.now) }
 {
     run(transaction, END_PRINT, &end_values(ending))
 }
@@ -152,6 +156,8 @@ pub fn end_due<S: Alter>(
 ) -> Result<(), Error>
     ensures kept { Kept S.Store transaction.old.conn transaction.new.conn }
     ensures ran { OnOk result (Runs S.Store (due_end ended)
+        transaction.old.conn.now transaction.new.conn.now) }
+    ensures failed { IfErr result (Refuses S.Store (due_end ended)
         transaction.old.conn.now transaction.new.conn.now) }
 {
     match ended {

@@ -1,8 +1,8 @@
 //! Statements inside a transaction.
-ghost use Rattle.std.specs.Prelude.{[], ◌∷◌, OnOk};
+ghost use Rattle.std.specs.Prelude.{[], ◌∷◌, IfErr, OnOk};
 ghost use Rattle.sqlite.specs.Values.{bound};
 ghost use Rattle.sql_keeper.specs.Kept.{Kept};
-ghost use Rattle.sql_keeper.specs.Statements.{Runs, with_values};
+ghost use Rattle.sql_keeper.specs.Statements.{Refuses, Runs, with_values};
 
 use sqlite::types::ValueRef;
 use sqlite::{Alter, Error, Transaction};
@@ -15,6 +15,8 @@ pub fn run<S: Alter>(
 ) -> Result<(), Error>
     ensures kept { Kept S.Store transaction.old.conn transaction.new.conn }
     ensures ran { OnOk result (Runs S.Store (with_values sql.now (bound values.now) ∷ [])
+        transaction.old.conn.now transaction.new.conn.now) }
+    ensures failed { IfErr result (Refuses S.Store (with_values sql.now (bound values.now) ∷ [])
         transaction.old.conn.now transaction.new.conn.now) }
 {
     transaction.execute(sql, values)?;

@@ -1,12 +1,12 @@
 //! Users as rows of the database.
-ghost use Rattle.std.specs.Prelude.{◌≡◌, ◌++◌, ◌∷◌, [], ℕ, List, map, string_bytes, MatchOption, IfOk, IsErrOf, OnOk};
+ghost use Rattle.std.specs.Prelude.{◌≡◌, ◌++◌, ◌∷◌, [], ℕ, List, map, string_bytes, MatchOption, IfOk, IsErrOf, IfErr, OnOk};
 ghost use Rattle.std.specs.List.{All};
 ghost use Rattle.sqlite.specs.Held.{state};
 ghost use Rattle.sqlite.specs.State.{HasCleanDisk};
 ghost use Rattle.sqlite.specs.Values.{bound};
 ghost use Rattle.sql_keeper.specs.Kept.{Kept};
 ghost use Rattle.sql_keeper.specs.Loads.{FailsToFind, Finds};
-ghost use Rattle.sql_keeper.specs.Statements.{Runs, user_put, user_set};
+ghost use Rattle.sql_keeper.specs.Statements.{Refuses, Runs, user_put, user_set};
 ghost use Rattle.sql_keeper.specs.Holds.{HasGroups, HoldsUser, IsTextOf};
 ghost use Rattle.octo_keeper.specs.declared.keeper.KeeperFault.TheVariants as fault;
 ghost use Rattle.sql_keeper.specs.Rows.{joined, spaced, user_row};
@@ -139,6 +139,8 @@ pub fn put_user<S: Alter>(
     ensures kept { Kept S.Store transaction.old.conn transaction.new.conn }
     ensures ran { OnOk result (Runs S.Store (user_put user.now ∷ [])
         transaction.old.conn.now transaction.new.conn.now) }
+    ensures failed { IfErr result (Refuses S.Store (user_put user.now ∷ [])
+        transaction.old.conn.now transaction.new.conn.now) }
 {
     let groups = text_of_groups(alloc, user.groups.as_slice())?;
     run(
@@ -157,6 +159,8 @@ pub fn set_user<S: Alter>(
 ) -> Result<(), Error>
     ensures kept { Kept S.Store transaction.old.conn transaction.new.conn }
     ensures ran { OnOk result (Runs S.Store (user_set user.now ∷ [])
+        transaction.old.conn.now transaction.new.conn.now) }
+    ensures failed { IfErr result (Refuses S.Store (user_set user.now ∷ [])
         transaction.old.conn.now transaction.new.conn.now) }
 {
     let groups = text_of_groups(alloc, user.groups.as_slice())?;

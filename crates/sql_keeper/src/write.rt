@@ -1,9 +1,10 @@
 //! A change as one transaction of the database.
-ghost use Rattle.std.specs.Prelude.{◌∷◌, ◌++◌, OnOk, OnErr};
+ghost use Rattle.std.specs.Prelude.{◌∷◌, ◌++◌, IfErr, IsErrOf, OnOk, OnErr};
 ghost use Rattle.sqlite.specs.Held.{state};
 ghost use Rattle.sqlite.specs.State.{HasCleanDisk};
+ghost use Rattle.octo_keeper.specs.declared.keeper.KeeperFault.TheVariants as fault;
 ghost use Rattle.sql_keeper.specs.Kept.{IsAtomic, IsUndone, Kept};
-ghost use Rattle.sql_keeper.specs.Statements.{Commits, Runs, copy_taken, due_end, print_put, statements};
+ghost use Rattle.sql_keeper.specs.Statements.{Commits, FailsToWrite, Refuses, Runs, copy_taken, due_end, print_put, statements};
 
 use crate::entries::{drop_entry, put_entry, take_entry};
 use crate::prints::{end_due, end_print, put_print};
@@ -27,6 +28,9 @@ fn begin_print<S: Alter>(
     ensures ran { OnOk result
         (Runs S.Store (due_end ended ++ print_put print.now ∷ copy_taken taken.now)
         transaction.old.conn.now transaction.new.conn.now) }
+    ensures failed { IfErr result
+        (Refuses S.Store (due_end ended ++ print_put print.now ∷ copy_taken taken.now)
+        transaction.old.conn.now transaction.new.conn.now) }
 {
     end_due(transaction, ended)?;
     put_print(transaction, print)?;
@@ -41,6 +45,8 @@ fn write_change<S: Alter>(
 ) -> Result<(), Error>
     ensures kept { Kept S.Store transaction.old.conn transaction.new.conn }
     ensures ran { OnOk result (Runs S.Store (statements change.now)
+        transaction.old.conn.now transaction.new.conn.now) }
+    ensures failed { IfErr result (Refuses S.Store (statements change.now)
         transaction.old.conn.now transaction.new.conn.now) }
 {
     match change {
@@ -65,6 +71,8 @@ pub fn commit_change<S: Alter>(
 ) -> Result<(), KeeperFault>
     ensures written { OnOk result (HasCleanDisk (state S.Store connection.new)
         → Commits S.Store (statements change.now) connection.old connection.new) }
+    ensures failed { IsErrOf result fault.Failed → HasCleanDisk (state S.Store connection.new)
+        → FailsToWrite S.Store (statements change.now) connection.old connection.new }
     ensures nothing { OnErr result
         (IsUndone (state S.Store connection.old) (state S.Store connection.new)) }
     ensures atomic { IsAtomic (state S.Store connection.old) (state S.Store connection.new) }
