@@ -67,12 +67,9 @@ fn ample(rt: HostRuntime) -> Result<(), Fail> {
     Ok(())
 }
 
-// Each kind of change once: a user is switched off, a copy of two is started, and the rest is taken out.
-#[test]
-fn ample_changes(rt: HostRuntime) -> Result<(), Fail> {
-    let alloc = rt.alloc();
-    let mut keeper = MemoryKeeper::new(empty(alloc), CallList::new(alloc));
-    let changes = [
+// Each kind of change but one: a user is switched off, and a copy of two is started.
+fn changes() -> Result<[Change; 6], Fail> {
+    Ok([
         Change::PutUser(user("ana", true)?),
         Change::SetUser(user("ana", false)?),
         Change::PutEntry(entry()?),
@@ -93,24 +90,42 @@ fn ample_changes(rt: HostRuntime) -> Result<(), Fail> {
             print: 2,
             outcome: Outcome::Done,
         }),
-    ];
-    for change in &changes {
-        assert_eq!(rt; keeper.commit(alloc, change), Ok(()));
+    ])
+}
+
+// The tables of a keeper that has committed these changes.
+fn kept_after(alloc: Global, changes: &[Change]) -> Option<Tables> {
+    let mut keeper = MemoryKeeper::new(empty(alloc), CallList::new(alloc));
+    for change in changes {
+        keeper.commit(alloc, change).ok()?;
     }
-    let loaded = keeper.load(alloc).ok().ok_or("no tables")?;
-    assert_eq!(rt; loaded.users.as_slice().len(), 1);
-    assert!(rt; !loaded.users.as_slice()[0].active);
-    assert_eq!(rt; loaded.queue.as_slice()[0].left, 1);
-    assert_eq!(rt; loaded.prints.as_slice().len(), 2);
-    assert_eq!(rt; loaded.prints.as_slice()[0].outcome, Outcome::Cancelled);
-    assert_eq!(rt; loaded.prints.as_slice()[1].outcome, Outcome::Done);
+    keeper.load(alloc).ok()
+}
+
+#[test]
+fn ample_changes(rt: HostRuntime) -> Result<(), Fail> {
+    let changes = changes()?;
+    let tables = kept_after(rt.alloc(), &changes).ok_or("no tables")?;
+    let users = tables.users.as_slice();
+    assert!(rt; users.len() == 1 && users.iter().all(|user| !user.active));
+    let queue = tables.queue.as_slice();
+    assert!(rt; queue.len() == 1 && queue.iter().all(|entry| entry.left == 1));
+    let prints = tables.prints.as_slice();
+    assert_eq!(rt; prints.len(), 2);
+    assert!(rt; prints.first().is_some_and(|print| print.outcome == Outcome::Cancelled));
+    assert!(rt; prints.last().is_some_and(|print| print.outcome == Outcome::Done));
+    Ok(())
+}
+
+#[test]
+fn entry_taken_out(rt: HostRuntime) -> Result<(), Fail> {
+    let put = Change::PutEntry(entry()?);
     let drop = Change::DropEntry {
         user: name("ana")?,
         name: name("job-1")?,
     };
-    assert_eq!(rt; keeper.commit(alloc, &drop), Ok(()));
-    let loaded = keeper.load(alloc).ok().ok_or("no tables")?;
-    assert!(rt; loaded.queue.as_slice().is_empty());
+    let tables = kept_after(rt.alloc(), &[put, drop]).ok_or("no tables")?;
+    assert!(rt; tables.queue.as_slice().is_empty());
     Ok(())
 }
 
@@ -125,10 +140,27 @@ fn ample_shelf(rt: HostRuntime) -> Result<(), Fail> {
     assert_eq!(rt; shelf.remove(alloc, &file), Err(ShelfFault::Failed));
     let kept = shelf.get(alloc, &file).ok().flatten().ok_or("no file")?;
     assert!(rt; kept.as_slice() == b"G28\n".as_slice());
-    let listed = shelf.list(alloc).ok().ok_or("no list")?;
-    assert_eq!(rt; listed.as_slice().len(), 1);
-    assert_eq!(rt; listed.as_slice()[0].1, 4);
+    Ok(())
+}
+
+// How many bytes the files of a shelf have.
+fn sizes(alloc: Global, shelf: &mut MemoryShelf) -> Option<u64> {
+    let files = shelf.list(alloc).ok()?;
+    let mut bytes: u64 = 0;
+    for file in files.as_slice() {
+        bytes = bytes.saturating_add(file.1);
+    }
+    Some(bytes)
+}
+
+#[test]
+fn ample_list(rt: HostRuntime) -> Result<(), Fail> {
+    let alloc = rt.alloc();
+    let file = name("a.gcode")?;
+    let mut shelf = MemoryShelf::new(alloc, CallList::new(alloc));
+    assert_eq!(rt; shelf.put(alloc, &file, b"G28\n"), Ok(()));
+    assert_eq!(rt; sizes(alloc, &mut shelf), Some(4));
     assert_eq!(rt; shelf.remove(alloc, &file), Ok(()));
-    assert!(rt; matches!(shelf.get(alloc, &file), Ok(None)));
+    assert_eq!(rt; sizes(alloc, &mut shelf), Some(0));
     Ok(())
 }
