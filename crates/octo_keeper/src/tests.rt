@@ -1,4 +1,4 @@
-//! Tables in memory whose first commit fails, and a shelf in memory.
+//! Tables in memory that take each kind of change, one of whose commits fails, and a shelf in memory.
 use crate::{Change, Keeper, KeeperFault, MemoryKeeper, MemoryShelf, Shelf, ShelfFault, Tables};
 use byte_text::Name;
 use octo_access::{Admin, UserRow, digest_of};
@@ -6,161 +6,176 @@ use octo_outside::{CallList, ItemList};
 use print_queue::QueueEntry;
 use print_records::{Ending, Outcome, PrintRow};
 use std::alloc::Global;
-use std::test::Fail;
+use std::process::Abort;
 
-fn name(text: &str) -> Result<Name, Fail> {
-    Ok(Name::from_text(text).ok_or("a long name")?)
+fn name(rt: &impl Abort, text: &str) -> Name {
+    match Name::from_text(text) {
+        Some(name) => name,
+        None => panic!(rt; "a long name"),
+    }
 }
 
-fn entry() -> Result<QueueEntry, Fail> {
-    Ok(QueueEntry {
-        user: name("ana")?,
-        name: name("job-1")?,
-        file: name("a.gcode")?,
+// ana's entry of two copies.
+fn entry(rt: &impl Abort) -> QueueEntry {
+    QueueEntry {
+        user: name(rt, "ana"),
+        name: name(rt, "job-1"),
+        file: name(rt, "a.gcode"),
         priority: 5,
         copies: 2,
         left: 2,
-        material: name("any")?,
+        material: name(rt, "any"),
         arrival: 1,
-    })
-}
-
-fn user(text: &str, active: bool) -> Result<UserRow, Fail> {
-    let mut row = Admin {
-        name: name(text)?,
-        digest: digest_of(text.as_bytes()),
     }
-    .row();
-    row.active = active;
-    Ok(row)
 }
 
-fn print(number: u32) -> Result<PrintRow, Fail> {
-    Ok(PrintRow {
+fn user(rt: &impl Abort, active: bool) -> UserRow {
+    let admin = Admin {
+        name: name(rt, "ana"),
+        digest: digest_of(b"ana-key-0123456789"),
+    };
+    let mut row = admin.row();
+    row.active = active;
+    row
+}
+
+fn print(rt: &impl Abort, number: u32) -> PrintRow {
+    PrintRow {
         number,
-        user: name("ana")?,
-        file: name("a.gcode")?,
+        user: name(rt, "ana"),
+        file: name(rt, "a.gcode"),
         commands: 3,
         outcome: Outcome::Active,
-    })
+    }
 }
 
-fn empty(alloc: Global) -> Tables {
-    Tables {
+fn end_of(print: u32, outcome: Outcome) -> Ending {
+    Ending { print, outcome }
+}
+
+// No tables' rows; the calls with these numbers fail.
+fn keeper(alloc: Global, fail_at: CallList) -> MemoryKeeper {
+    let empty = Tables {
         users: ItemList::new(alloc),
         queue: ItemList::new(alloc),
         prints: ItemList::new(alloc),
-    }
-}
-
-#[test]
-fn ample(rt: HostRuntime) -> Result<(), Fail> {
-    let alloc = rt.alloc();
-    let mut first = CallList::new(alloc);
-    first.push(1)?;
-    let mut keeper = MemoryKeeper::new(empty(alloc), first);
-    let change = Change::PutEntry(entry()?);
-    assert_eq!(rt; keeper.commit(alloc, &change), Err(KeeperFault::Failed));
-    assert_eq!(rt; keeper.commit(alloc, &change), Ok(()));
-    let loaded = keeper.load(alloc).ok().ok_or("no tables")?;
-    assert_eq!(rt; loaded.queue.as_slice().len(), 1);
-    Ok(())
-}
-
-// Each kind of change but one: a user is switched off, and a copy of two is started.
-fn changes() -> Result<[Change; 6], Fail> {
-    Ok([
-        Change::PutUser(user("ana", true)?),
-        Change::SetUser(user("ana", false)?),
-        Change::PutEntry(entry()?),
-        Change::Begin {
-            ended: None,
-            print: print(1)?,
-            taken: None,
-        },
-        Change::Begin {
-            ended: Some(Ending {
-                print: 1,
-                outcome: Outcome::Cancelled,
-            }),
-            print: print(2)?,
-            taken: Some(entry()?),
-        },
-        Change::End(Ending {
-            print: 2,
-            outcome: Outcome::Done,
-        }),
-    ])
-}
-
-// The tables of a keeper that has committed these changes.
-fn kept_after(alloc: Global, changes: &[Change]) -> Option<Tables> {
-    let mut keeper = MemoryKeeper::new(empty(alloc), CallList::new(alloc));
-    for change in changes {
-        keeper.commit(alloc, change).ok()?;
-    }
-    keeper.load(alloc).ok()
-}
-
-#[test]
-fn ample_changes(rt: HostRuntime) -> Result<(), Fail> {
-    let changes = changes()?;
-    let tables = kept_after(rt.alloc(), &changes).ok_or("no tables")?;
-    let users = tables.users.as_slice();
-    assert!(rt; users.len() == 1 && users.iter().all(|user| !user.active));
-    let queue = tables.queue.as_slice();
-    assert!(rt; queue.len() == 1 && queue.iter().all(|entry| entry.left == 1));
-    let prints = tables.prints.as_slice();
-    assert_eq!(rt; prints.len(), 2);
-    assert!(rt; prints.first().is_some_and(|print| print.outcome == Outcome::Cancelled));
-    assert!(rt; prints.last().is_some_and(|print| print.outcome == Outcome::Done));
-    Ok(())
-}
-
-#[test]
-fn entry_taken_out(rt: HostRuntime) -> Result<(), Fail> {
-    let put = Change::PutEntry(entry()?);
-    let drop = Change::DropEntry {
-        user: name("ana")?,
-        name: name("job-1")?,
     };
-    let tables = kept_after(rt.alloc(), &[put, drop]).ok_or("no tables")?;
-    assert!(rt; tables.queue.as_slice().is_empty());
-    Ok(())
+    MemoryKeeper::new(empty, fail_at)
 }
 
+// The list of one call.
+fn only(rt: &impl Abort, alloc: Global, call: u64) -> CallList {
+    let mut calls = CallList::new(alloc);
+    assert!(rt; calls.push(call).is_ok());
+    calls
+}
+
+fn commits(alloc: Global, keeper: &mut MemoryKeeper, change: Change) -> Result<(), KeeperFault> {
+    keeper.commit(alloc, &change)
+}
+
+// How many users, entries and prints are loaded.
+fn counts(alloc: Global, keeper: &mut MemoryKeeper) -> Option<(usize, usize, usize)> {
+    let tables = keeper.load(alloc).ok()?;
+    Some((
+        tables.users.as_slice().len(),
+        tables.queue.as_slice().len(),
+        tables.prints.as_slice().len(),
+    ))
+}
+
+fn is_active(keeper: &MemoryKeeper) -> Option<bool> {
+    Some(keeper.tables()?.users.as_slice().first()?.active)
+}
+
+fn copies_left(keeper: &MemoryKeeper) -> Option<u8> {
+    Some(keeper.tables()?.queue.as_slice().first()?.left)
+}
+
+fn outcome(keeper: &MemoryKeeper, place: usize) -> Option<Outcome> {
+    Some(keeper.tables()?.prints.as_slice().get(place)?.outcome)
+}
+
+// The first commit fails; an entry is put and dropped.
 #[test]
-fn ample_shelf(rt: HostRuntime) -> Result<(), Fail> {
+fn ample(rt: HostRuntime) {
     let alloc = rt.alloc();
-    let mut second = CallList::new(alloc);
-    second.push(2)?;
-    let mut shelf = MemoryShelf::new(alloc, second);
-    let file = name("a.gcode")?;
+    let mut keeper = keeper(alloc, only(&rt, alloc, 1));
+    let failed = commits(alloc, &mut keeper, Change::PutEntry(entry(&rt)));
+    assert_eq!(rt; failed, Err(KeeperFault::Failed));
+    let put = commits(alloc, &mut keeper, Change::PutEntry(entry(&rt)));
+    assert_eq!(rt; put, Ok(()));
+    assert!(rt; counts(alloc, &mut keeper) == Some((0, 1, 0)));
+    let drop = Change::DropEntry {
+        user: name(&rt, "ana"),
+        name: name(&rt, "job-1"),
+    };
+    assert_eq!(rt; commits(alloc, &mut keeper, drop), Ok(()));
+    assert!(rt; counts(alloc, &mut keeper) == Some((0, 0, 0)));
+}
+
+// A user is added and switched off.
+#[test]
+fn ample_users(rt: HostRuntime) {
+    let alloc = rt.alloc();
+    let mut keeper = keeper(alloc, CallList::new(alloc));
+    let put = commits(alloc, &mut keeper, Change::PutUser(user(&rt, true)));
+    assert_eq!(rt; put, Ok(()));
+    let set = commits(alloc, &mut keeper, Change::SetUser(user(&rt, false)));
+    assert_eq!(rt; set, Ok(()));
+    assert!(rt; is_active(&keeper) == Some(false));
+    assert!(rt; counts(alloc, &mut keeper) == Some((1, 0, 0)));
+}
+
+// A print begins, is left for a copy of an entry, and that one ends.
+#[test]
+fn ample_prints(rt: HostRuntime) {
+    let alloc = rt.alloc();
+    let mut keeper = keeper(alloc, CallList::new(alloc));
+    let put = commits(alloc, &mut keeper, Change::PutEntry(entry(&rt)));
+    assert_eq!(rt; put, Ok(()));
+    let first = Change::Begin {
+        ended: None,
+        print: print(&rt, 1),
+        taken: None,
+    };
+    assert_eq!(rt; commits(alloc, &mut keeper, first), Ok(()));
+    let second = Change::Begin {
+        ended: Some(end_of(1, Outcome::Cancelled)),
+        print: print(&rt, 2),
+        taken: Some(entry(&rt)),
+    };
+    assert_eq!(rt; commits(alloc, &mut keeper, second), Ok(()));
+    let end = commits(alloc, &mut keeper, Change::End(end_of(2, Outcome::Done)));
+    assert_eq!(rt; end, Ok(()));
+    assert!(rt; copies_left(&keeper) == Some(1));
+    assert!(rt; outcome(&keeper, 0) == Some(Outcome::Cancelled));
+    assert!(rt; outcome(&keeper, 1) == Some(Outcome::Done));
+}
+
+fn holds(alloc: Global, shelf: &mut MemoryShelf, file: &Name) -> bool {
+    match shelf.get(alloc, file) {
+        Ok(Some(kept)) => kept.as_slice() == b"G28\n".as_slice(),
+        _ => false,
+    }
+}
+
+// The size of the first file of the list.
+fn size_listed(alloc: Global, shelf: &mut MemoryShelf) -> Option<u64> {
+    let list = shelf.list(alloc).ok()?;
+    Some(list.as_slice().first()?.1)
+}
+
+// The second call fails.
+#[test]
+fn ample_shelf(rt: HostRuntime) {
+    let alloc = rt.alloc();
+    let mut shelf = MemoryShelf::new(alloc, only(&rt, alloc, 2));
+    let file = name(&rt, "a.gcode");
     assert_eq!(rt; shelf.put(alloc, &file, b"G28\n"), Ok(()));
     assert_eq!(rt; shelf.remove(alloc, &file), Err(ShelfFault::Failed));
-    let kept = shelf.get(alloc, &file).ok().flatten().ok_or("no file")?;
-    assert!(rt; kept.as_slice() == b"G28\n".as_slice());
-    Ok(())
-}
-
-// How many bytes the files of a shelf have.
-fn sizes(alloc: Global, shelf: &mut MemoryShelf) -> Option<u64> {
-    let files = shelf.list(alloc).ok()?;
-    let mut bytes: u64 = 0;
-    for file in files.as_slice() {
-        bytes = bytes.saturating_add(file.1);
-    }
-    Some(bytes)
-}
-
-#[test]
-fn ample_list(rt: HostRuntime) -> Result<(), Fail> {
-    let alloc = rt.alloc();
-    let file = name("a.gcode")?;
-    let mut shelf = MemoryShelf::new(alloc, CallList::new(alloc));
-    assert_eq!(rt; shelf.put(alloc, &file, b"G28\n"), Ok(()));
-    assert_eq!(rt; sizes(alloc, &mut shelf), Some(4));
+    assert!(rt; holds(alloc, &mut shelf, &file));
+    assert!(rt; size_listed(alloc, &mut shelf) == Some(4));
     assert_eq!(rt; shelf.remove(alloc, &file), Ok(()));
-    assert_eq!(rt; sizes(alloc, &mut shelf), Some(0));
-    Ok(())
+    assert!(rt; !holds(alloc, &mut shelf, &file));
 }
