@@ -37,8 +37,9 @@ tool_row() {
 }
 
 # name, a database, statements for sqlite3, and what it prints
+# A program that was just killed may hold its lock for a moment.
 sqlite_row() {
-    timeout 60 sqlite3 "$2" "$3" >"$work/sqlite" 2>&1
+    timeout 60 sqlite3 -cmd '.timeout 20000' "$2" "$3" >"$work/sqlite" 2>&1
     compare "$1" $? "$work/sqlite" 0 "$4"
 }
 
