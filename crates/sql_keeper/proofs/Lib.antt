@@ -1,5 +1,2 @@
-pub mod Columns
-pub mod Groups
 pub mod Kept
-pub mod Pieces
 pub mod Statements

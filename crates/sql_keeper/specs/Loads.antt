@@ -9,8 +9,8 @@ use Rattle.sqlite.specs.State.{HasCleanDisk, FailsToQuery, Shown}
 use Rattle.octo_keeper.specs.declared.tables.Tables.{Tables}
 use Rattle.octo_keeper.specs.Sound.{are_sound}
 use Rattle.sql_keeper.specs.declared.schema.TheConstants.{SELECT_USERS, SELECT_ENTRIES, SELECT_PRINTS}
-use Rattle.sql_keeper.specs.Holds.{HoldsUser, HoldsEntry, HoldsPrint}
-use Rattle.sql_keeper.specs.Rows.{user_row, entry_row, print_row}
+use Rattle.sql_rows.specs.Holds.{HoldsUser, HoldsEntry, HoldsPrint}
+use Rattle.sql_rows.specs.Rows.{user_row, entry_row, print_row}
 
 module _ {S : Type 0} (g : Ghosts S) where
   -- a query without parameters shows these rows

@@ -5,12 +5,12 @@ use Rattle.sqlite_value.specs.Order.{Row, column}
 use Rattle.sqlite_trees.specs.declared.store.Store.{Ghosts}
 use Rattle.sqlite.specs.Held.{Held, state}
 use Rattle.sqlite.specs.State.{Shows}
-use Rattle.sql_keeper.specs.declared.old_queue.OldEntry.{OldEntry}
+use Rattle.sql_rows.specs.declared.old_queue.OldEntry.{OldEntry}
 use Rattle.sql_keeper.specs.declared.schema.TheConstants.{META, SELECT_SCHEMA, USERS, ENTRIES, PRINTS, INSERT_SCHEMA, SELECT_OLD_QUEUE, DROP_OLD_QUEUE, UPDATE_SCHEMA}
 use Rattle.sql_keeper.specs.Loads.{Found}
-use Rattle.sql_keeper.specs.Rows.{old_entry_row}
+use Rattle.sql_rows.specs.Rows.{old_entry_row}
 use Rattle.sql_keeper.specs.Statements.{Statement, with_values, entry_put, RanInTurn}
-use Rattle.sql_keeper.specs.Upgrade.{upgraded}
+use Rattle.sql_rows.specs.Upgrade.{upgraded}
 
 abbrev pub plain : List ℕ → Statement
 plain text = with_values text []

@@ -16,7 +16,7 @@ use Rattle.print_records.specs.declared.row.PrintRow.{PrintRow}
 use Rattle.octo_keeper.specs.declared.tables.Change.{Change}
 use Rattle.octo_keeper.specs.declared.tables.Change.TheVariants as change
 use Rattle.sql_keeper.specs.declared.schema.TheConstants.{INSERT_USER, UPDATE_USER, INSERT_ENTRY, DELETE_ENTRY, DELETE_LAST_COPY, LOWER_COPIES, INSERT_PRINT, END_PRINT}
-use Rattle.sql_keeper.specs.Rows.{user_row, entry_row, print_row, outcome_number}
+use Rattle.sql_rows.specs.Rows.{user_row, entry_row, print_row, outcome_number}
 
 -- a text of SQL, and the values of its parameters
 pub record Statement : Type 0 where

@@ -1,19 +1,14 @@
 //! A database as it is when its keeper begins.
-ghost use Rattle.std.specs.Prelude.{◌≡◌, ◌∷◌, [], map, MatchOption, IfOk, IsErrOf, OnOk};
-ghost use Rattle.std.specs.List.{All};
+ghost use Rattle.std.specs.Prelude.{◌∷◌, [], map, IfOk, OnOk};
 ghost use Rattle.sqlite.specs.Held.{state};
 ghost use Rattle.sqlite.specs.State.{HasCleanDisk};
 ghost use Rattle.sql_keeper.specs.Kept.{IsAtomic, Unstored};
 ghost use Rattle.sql_keeper.specs.Loads.{Finds};
 ghost use Rattle.sql_keeper.specs.Settled.{FoundNumber, Settled, Settles, Upgraded, plain, tables_made};
 ghost use Rattle.sql_keeper.specs.Statements.{Runs, entry_put};
-ghost use Rattle.sql_keeper.specs.Holds.{HoldsOldEntry};
-ghost use Rattle.sql_keeper.specs.Rows.{old_entry_row};
-ghost use Rattle.octo_keeper.specs.declared.keeper.KeeperFault.TheVariants as fault;
 
 use crate::entries::put_entry;
-use crate::old_queue::{OldEntry, upgrade};
-use crate::reading::{fault_of, name_at, number_at, u8_at, u32_at};
+use crate::fault::fault_of;
 use crate::schema::{
     DROP_OLD_QUEUE, ENTRIES, INSERT_SCHEMA, META, PRINTS, SCHEMA, SCHEMA_BEFORE, SELECT_OLD_QUEUE,
     SELECT_SCHEMA, UPDATE_SCHEMA, USERS,
@@ -21,6 +16,7 @@ use crate::schema::{
 use crate::statement;
 use octo_keeper::KeeperFault;
 use print_queue::QueueEntry;
+use sql_rows::{number_at, old_entries_of, upgrade};
 use sqlite::{Alter, Connection, Error, Row, Transaction};
 use std::alloc::Global;
 
@@ -76,39 +72,6 @@ fn make_tables<S: Alter>(transaction: &mut Transaction<'_, S>) -> Result<(), Kee
     run(transaction, ENTRIES)?;
     run(transaction, PRINTS)?;
     run(transaction, INSERT_SCHEMA)
-}
-
-// The entry of a row of the schema before.
-#[tactic(auto, using(crate::proofs::Columns::five_columns))]
-fn old_entry_of(row: &Row) -> Option<OldEntry>
-    ensures { MatchOption result (¬ HoldsOldEntry row.now)
-        (λ entry. row.now ≡ old_entry_row entry) }
-{
-    if row.column_count() != 5 {
-        return None;
-    }
-    Some(OldEntry {
-        user: name_at(row, 0)?,
-        name: name_at(row, 1)?,
-        file: name_at(row, 2)?,
-        priority: u8_at(row, 3)?,
-        arrival: u32_at(row, 4)?,
-    })
-}
-
-// The entries of such rows.
-fn old_entries_of(alloc: Global, rows: &[Row]) -> Result<Vec<OldEntry>, KeeperFault>
-    ensures ok { IfOk result (λ entries. map old_entry_row entries.items ≡ rows.now) }
-    ensures failed { IsErrOf result fault.Failed → ¬ All HoldsOldEntry rows.now }
-{
-    let mut entries = Vec::new(alloc);
-    for row in rows {
-        let Some(entry) = old_entry_of(row) else {
-            return Err(KeeperFault::Failed);
-        };
-        entries.push(entry)?;
-    }
-    Ok(entries)
 }
 
 // Adds entries.

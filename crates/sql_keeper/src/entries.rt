@@ -1,5 +1,5 @@
-//! Entries of the queue as rows of the database.
-ghost use Rattle.std.specs.Prelude.{◌≡◌, ◌∷◌, [], Some, map, MatchOption, IfOk, IsErrOf, IfErr, OnOk};
+//! Entries of the queue in the database.
+ghost use Rattle.std.specs.Prelude.{◌≡◌, ◌∷◌, [], Some, map, IfOk, IsErrOf, IfErr, OnOk};
 ghost use Rattle.std.specs.List.{All};
 ghost use Rattle.sqlite.specs.Held.{state};
 ghost use Rattle.sqlite.specs.State.{HasCleanDisk};
@@ -7,35 +7,20 @@ ghost use Rattle.sqlite.specs.Values.{bound};
 ghost use Rattle.sql_keeper.specs.Kept.{Kept};
 ghost use Rattle.sql_keeper.specs.Loads.{FailsToFind, Finds};
 ghost use Rattle.sql_keeper.specs.Statements.{Refuses, Runs, copy_taken, entry_dropped, entry_put, key_values};
-ghost use Rattle.sql_keeper.specs.Holds.{HoldsEntry};
-ghost use Rattle.sql_keeper.specs.Rows.{entry_row};
+ghost use Rattle.sql_rows.specs.Holds.{HoldsEntry};
+ghost use Rattle.sql_rows.specs.Rows.{entry_row};
 ghost use Rattle.octo_keeper.specs.declared.keeper.KeeperFault.TheVariants as fault;
 
-use crate::reading::{fault_of, name_at, u8_at, u32_at};
+use crate::fault::fault_of;
 use crate::schema::{DELETE_ENTRY, DELETE_LAST_COPY, INSERT_ENTRY, LOWER_COPIES, SELECT_ENTRIES};
 use crate::statement::run;
 use byte_text::Name;
 use octo_keeper::KeeperFault;
 use print_queue::{EntryList, QueueEntry};
+use sql_rows::{entries_of, entry_values};
 use sqlite::types::ValueRef;
-use sqlite::{Alter, Connection, Error, Row, Transaction};
+use sqlite::{Alter, Connection, Error, Transaction};
 use std::alloc::Global;
-
-// The values of an entry's row.
-fn entry_values<'a>(entry: &'a QueueEntry) -> [ValueRef<'a>; 8]
-    ensures { bound result ≡ entry_row entry.now }
-{
-    [
-        ValueRef::Text(entry.user.as_bytes()),
-        ValueRef::Text(entry.name.as_bytes()),
-        ValueRef::Text(entry.file.as_bytes()),
-        ValueRef::Int(i64::from(entry.priority)),
-        ValueRef::Int(i64::from(entry.arrival)),
-        ValueRef::Int(i64::from(entry.copies)),
-        ValueRef::Int(i64::from(entry.left)),
-        ValueRef::Text(entry.material.as_bytes()),
-    ]
-}
 
 // The values of an entry's key.
 fn key_values<'a>(user: &'a Name, name: &'a Name) -> [ValueRef<'a>; 2]
@@ -45,41 +30,6 @@ fn key_values<'a>(user: &'a Name, name: &'a Name) -> [ValueRef<'a>; 2]
         ValueRef::Text(user.as_bytes()),
         ValueRef::Text(name.as_bytes()),
     ]
-}
-
-// The entry of a row.
-#[tactic(auto, using(crate::proofs::Columns::eight_columns))]
-fn entry_of(row: &Row) -> Option<QueueEntry>
-    ensures { MatchOption result (¬ HoldsEntry row.now) (λ entry. row.now ≡ entry_row entry) }
-{
-    if row.column_count() != 8 {
-        return None;
-    }
-    Some(QueueEntry {
-        user: name_at(row, 0)?,
-        name: name_at(row, 1)?,
-        file: name_at(row, 2)?,
-        priority: u8_at(row, 3)?,
-        arrival: u32_at(row, 4)?,
-        copies: u8_at(row, 5)?,
-        left: u8_at(row, 6)?,
-        material: name_at(row, 7)?,
-    })
-}
-
-// The entries of rows.
-fn entries_of(alloc: Global, rows: &[Row]) -> Result<EntryList, KeeperFault>
-    ensures ok { IfOk result (λ entries. map entry_row entries ≡ rows.now) }
-    ensures failed { IsErrOf result fault.Failed → ¬ All HoldsEntry rows.now }
-{
-    let mut entries = EntryList::new(alloc);
-    for row in rows {
-        let Some(entry) = entry_of(row) else {
-            return Err(KeeperFault::Failed);
-        };
-        entries.push(entry)?;
-    }
-    Ok(entries)
 }
 
 /// All entries: greatest priority first, then least arrival.

@@ -85,7 +85,7 @@ impl<S: Alter + Drop> Keeper for SqlKeeper<S> {
     ghost use Rattle.octo_outside.specs.Told.{Counts};
     ghost use Rattle.octo_keeper.specs.Tables.{AreSound};
     ghost use Rattle.octo_keeper.specs.declared.keeper.KeeperFault.TheVariants as fault;
-    ghost use Rattle.sql_keeper.specs.Holds.{HasGroups};
+    ghost use Rattle.sql_rows.specs.Holds.{HasGroups};
     ghost use Rattle.sql_keeper.specs.Kept.{IsAtomic, IsUndone};
     ghost use Rattle.sql_keeper.specs.Loads.{FailsToLoad, IsUnsound, Loads};
     ghost use Rattle.sql_keeper.specs.Statements.{Commits, FailsToWrite, statements};

@@ -3,16 +3,14 @@
 
 mod adopt;
 mod entries;
+mod fault;
 mod keeper;
 mod load;
-mod old_queue;
 mod prints;
-mod reading;
 mod schema;
 mod statement;
 mod users;
 mod write;
 
+pub use fault::fault_of;
 pub use keeper::{NotAdopted, SqlKeeper};
-pub use old_queue::{OldEntry, upgrade};
-pub use reading::fault_of;

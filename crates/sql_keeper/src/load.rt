@@ -5,7 +5,7 @@ ghost use Rattle.sqlite.specs.Held.{state};
 ghost use Rattle.sqlite.specs.State.{HasCleanDisk};
 ghost use Rattle.octo_keeper.specs.Tables.{AreSound};
 ghost use Rattle.octo_keeper.specs.declared.keeper.KeeperFault.TheVariants as fault;
-ghost use Rattle.sql_keeper.specs.Holds.{HasGroups};
+ghost use Rattle.sql_rows.specs.Holds.{HasGroups};
 ghost use Rattle.sql_keeper.specs.Loads.{FailsToLoad, IsUnsound, Loads};
 
 use crate::entries::load_entries;

@@ -7,8 +7,8 @@ ghost use Rattle.sql_keeper.specs.Kept.{IsAtomic, IsUndone, Kept};
 ghost use Rattle.sql_keeper.specs.Statements.{Commits, FailsToWrite, Refuses, Runs, copy_taken, due_end, print_put, statements};
 
 use crate::entries::{drop_entry, put_entry, take_entry};
+use crate::fault::fault_of;
 use crate::prints::{end_due, end_print, put_print};
-use crate::reading::fault_of;
 use crate::users::{put_user, set_user};
 use octo_keeper::{Change, KeeperFault};
 use print_queue::QueueEntry;

@@ -7,7 +7,7 @@ use Rattle.sql_keeper.specs.declared.schema.TheConstants.{ENTRIES, SELECT_OLD_QU
 use Rattle.sql_keeper.specs.Loads.{Found}
 use Rattle.sql_keeper.specs.Settled.{Upgraded, plain, queue_upgraded}
 use Rattle.sql_keeper.specs.Statements.{Runs, entry_put}
-use Rattle.sql_keeper.specs.Upgrade.{upgraded}
+use Rattle.sql_rows.specs.Upgrade.{upgraded}
 use Rattle.sql_keeper.proofs.Kept.{unstored_clean, unstored_then}
 use Rattle.sql_keeper.proofs.Statements.{on_ok, runs_unstored}
 use Rattle.sql_keeper.proofs.adopt.upgrade_tables.Goals as goal

@@ -1,7 +1,7 @@
 -- The three queries one after the other.
 use Rattle.std.proofs.Common.{map, inl, inr, IsErrOf, rules}
 use Rattle.octo_keeper.specs.declared.keeper.KeeperFault.TheVariants as fault
-use Rattle.sql_keeper.specs.Rows.{user_row, entry_row}
+use Rattle.sql_rows.specs.Rows.{user_row, entry_row}
 use Rattle.sql_keeper.proofs.load.load_rows.Goals as goal
 
 pub returns-in_err-queue-clause-failed : goal.returns-in_err-queue-clause-failed

@@ -1,6 +1,6 @@
 use Rattle.std.proofs.Common.{List, All, inr, subst}
 use Rattle.sqlite_value.specs.Order.{Row}
-use Rattle.sql_keeper.specs.Holds.{HoldsPrint}
+use Rattle.sql_rows.specs.Holds.{HoldsPrint}
 use Rattle.sql_keeper.proofs.prints.load_prints.Goals as goal
 
 -- a row that the query showed can't be read

@@ -1,6 +1,6 @@
 use Rattle.sqlite.specs.Values.{bound}
 use Rattle.sql_keeper.specs.declared.schema.TheConstants.{INSERT_PRINT}
-use Rattle.sql_keeper.specs.Rows.{print_row}
+use Rattle.sql_rows.specs.Rows.{print_row}
 use Rattle.sql_keeper.proofs.Statements.{runs_with, refused_with}
 use Rattle.sql_keeper.proofs.prints.put_print.Goals as goal
 

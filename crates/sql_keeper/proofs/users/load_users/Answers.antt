@@ -1,6 +1,6 @@
 use Rattle.std.proofs.Common.{List, All, inr, subst}
 use Rattle.sqlite_value.specs.Order.{Row}
-use Rattle.sql_keeper.specs.Holds.{HoldsUser}
+use Rattle.sql_rows.specs.Holds.{HoldsUser}
 use Rattle.sql_keeper.proofs.users.load_users.Goals as goal
 
 -- a row that the query showed can't be read

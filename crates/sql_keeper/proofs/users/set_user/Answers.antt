@@ -1,6 +1,6 @@
 use Rattle.sqlite.specs.Values.{bound}
 use Rattle.sql_keeper.specs.declared.schema.TheConstants.{UPDATE_USER}
-use Rattle.sql_keeper.specs.Rows.{user_row}
+use Rattle.sql_rows.specs.Rows.{user_row}
 use Rattle.sql_keeper.proofs.Statements.{runs_with, refused_with}
 use Rattle.sql_keeper.proofs.users.set_user.Goals as goal
 

@@ -1,6 +1,6 @@
 use Rattle.std.proofs.Common.{◌≡◌, map, take}
-use Rattle.sql_keeper.specs.Upgrade.{upgraded}
-use Rattle.sql_keeper.proofs.old_queue.upgrade.Given as goal
+use Rattle.sql_rows.specs.Upgrade.{upgraded}
+use Rattle.sql_rows.proofs.old_queue.upgrade.Given as goal
 
 -- the rows so far
 abbrev pub invariant-loop-row : goal.invariant-loop-row

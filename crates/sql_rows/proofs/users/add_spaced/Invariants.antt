@@ -1,6 +1,6 @@
 use Rattle.std.proofs.Common.{◌≡◌, ◌++◌, string_bytes, take}
-use Rattle.sql_keeper.specs.Rows.{spaced}
-use Rattle.sql_keeper.proofs.users.add_spaced.Given as goal
+use Rattle.sql_rows.specs.Rows.{spaced}
+use Rattle.sql_rows.proofs.users.add_spaced.Given as goal
 
 -- the names so far
 abbrev pub invariant-loop-name : goal.invariant-loop-name

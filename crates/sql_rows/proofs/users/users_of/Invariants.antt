@@ -1,7 +1,7 @@
 use Rattle.std.proofs.Common.{◌≡◌, map, take, All}
-use Rattle.sql_keeper.specs.Holds.{HasGroups}
-use Rattle.sql_keeper.specs.Rows.{user_row}
-use Rattle.sql_keeper.proofs.users.users_of.Given as goal
+use Rattle.sql_rows.specs.Holds.{HasGroups}
+use Rattle.sql_rows.specs.Rows.{user_row}
+use Rattle.sql_rows.proofs.users.users_of.Given as goal
 
 -- the users so far are those of the rows so far
 abbrev pub invariant-loop-row : goal.invariant-loop-row

@@ -4,11 +4,11 @@ use Rattle.std.proofs.lemmas.Iterator.Consumers.{YieldsList-turn, YieldsList-end
 use Rattle.std.proofs.lemmas.Iterator.Splits.{YieldsList-from_str_split}
 use Rattle.std.proofs.lemmas.List.{length-map, map-append}
 use Rattle.std.proofs.lemmas.List.Elements.{All-push}
-use Rattle.sql_keeper.specs.Rows.{joined}
-use Rattle.sql_keeper.specs.Holds.{IsGroup}
-use Rattle.sql_keeper.proofs.Pieces.{unfit_piece, too_many_pieces, fit_piece, joined_pieces}
-use Rattle.sql_keeper.proofs.users.groups_of.Goals.{then-is_empty-2-via-then-is_empty-2, then-is_empty-2-via-else-is_empty-2+then-is_full}
-use Rattle.sql_keeper.proofs.users.groups_of.Goals as goal
+use Rattle.sql_rows.specs.Rows.{joined}
+use Rattle.sql_rows.specs.Holds.{IsGroup}
+use Rattle.sql_rows.proofs.Pieces.{unfit_piece, too_many_pieces, fit_piece, joined_pieces}
+use Rattle.sql_rows.proofs.users.groups_of.Goals.{then-is_empty-2-via-then-is_empty-2, then-is_empty-2-via-else-is_empty-2+then-is_full}
+use Rattle.sql_rows.proofs.users.groups_of.Goals as goal
 
 pub returns-then-is_empty-2 : goal.returns-then-is_empty-2
 returns-then-is_empty-2 c =

@@ -1,7 +1,7 @@
 -- One name more.
 use Rattle.std.proofs.Common.{◌++◌, string_bytes, ap, ◌∙◌, arith}
-use Rattle.sql_keeper.proofs.Groups.{text_more}
-use Rattle.sql_keeper.proofs.users.add_spaced.Goals as goal
+use Rattle.sql_rows.proofs.Groups.{text_more}
+use Rattle.sql_rows.proofs.users.add_spaced.Goals as goal
 
 pub loop-name-preserved : goal.loop-name-preserved
 loop-name-preserved c =

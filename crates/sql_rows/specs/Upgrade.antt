@@ -1,7 +1,7 @@
 -- An entry of the schema before, in the schema that is kept.
 use Rattle.std.specs.Prelude.{codes}
 use Rattle.print_queue.specs.declared.entry.QueueEntry.{QueueEntry}
-use Rattle.sql_keeper.specs.declared.old_queue.OldEntry.{OldEntry}
+use Rattle.sql_rows.specs.declared.old_queue.OldEntry.{OldEntry}
 
 -- one copy of any material
 abbrev pub upgraded : OldEntry → QueueEntry

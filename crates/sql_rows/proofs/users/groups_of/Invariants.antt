@@ -1,6 +1,6 @@
 use Rattle.std.proofs.Common.{◌≡◌, ◌≤◌, map, length, All}
-use Rattle.sql_keeper.specs.Holds.{IsGroup}
-use Rattle.sql_keeper.proofs.users.groups_of.Given as goal
+use Rattle.sql_rows.specs.Holds.{IsGroup}
+use Rattle.sql_rows.proofs.users.groups_of.Given as goal
 
 -- the groups are the pieces so far, each of which can be a group's name
 abbrev pub invariant-loop-word : goal.invariant-loop-word

@@ -7,7 +7,7 @@ use Rattle.print_queue.specs.declared.entry.QueueEntry.{QueueEntry}
 use Rattle.print_records.specs.declared.ending.Outcome.{Outcome}
 use Rattle.print_records.specs.declared.ending.Outcome.TheVariants.{Active, Done, Cancelled, Failed}
 use Rattle.print_records.specs.declared.row.PrintRow.{PrintRow}
-use Rattle.sql_keeper.specs.declared.old_queue.OldEntry.{OldEntry}
+use Rattle.sql_rows.specs.declared.old_queue.OldEntry.{OldEntry}
 
 -- each name after a space
 abbrev pub spaced : List (List ℕ) → List ℕ

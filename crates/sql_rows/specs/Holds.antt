@@ -6,7 +6,7 @@ use Rattle.sqlite_value.specs.declared.value.Value.{Value}
 use Rattle.sqlite_value.specs.declared.value.Value.TheVariants.{Int, Text, Blob}
 use Rattle.sqlite_value.specs.Order.{Row, column}
 use Rattle.octo_access.specs.declared.row.UserRow.{UserRow}
-use Rattle.sql_keeper.specs.Rows.{joined}
+use Rattle.sql_rows.specs.Rows.{joined}
 
 -- a number from 0 up to a bound
 pub record HoldsBelow (bound : ℕ) (value : Value) : Type 0 where

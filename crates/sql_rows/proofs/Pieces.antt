@@ -3,8 +3,8 @@ use Rattle.std.proofs.Common.{◌≡◌, ◌≢◌, ℕ, ◌<◌, ◌≤◌, Boo
 use Rattle.std.specs.List.{slice_split, onto_first}
 use Rattle.std.proofs.lemmas.List.Elements.{All-nil, All-cons, All-head, All-tail, All-weaker}
 use Rattle.std.proofs.lemmas.List.Splits.{slice_split_none, slice_split_at, length-slice_split}
-use Rattle.sql_keeper.specs.Rows.{joined}
-use Rattle.sql_keeper.specs.Holds.{IsGroup, IsTextOf}
+use Rattle.sql_rows.specs.Rows.{joined}
+use Rattle.sql_rows.specs.Holds.{IsGroup, IsTextOf}
 
 -- the pieces of a text between its spaces
 abbrev pub pieces : List ℕ → List (List ℕ)

@@ -1,24 +1,12 @@
-//! Values of a row, and why a call of the database is a fault.
-ghost use Rattle.std.specs.Prelude.{◌≡◌, ◌≢◌, ◌↔◌, ℤ, pos, if◌then◌else◌, MatchOption};
+//! Values of a row.
+ghost use Rattle.std.specs.Prelude.{◌≡◌, ◌≢◌, ℤ, pos, if◌then◌else◌, MatchOption};
 ghost use Rattle.sqlite_value.specs.Order.{column};
 ghost use Rattle.sqlite_value.specs.declared.value.Value.TheVariants.{Int, Text, Blob};
-ghost use Rattle.octo_keeper.specs.declared.keeper.KeeperFault.TheVariants as fault;
-ghost use Rattle.sql_keeper.specs.Holds.{HoldsBelow, HoldsDigest, HoldsName, HoldsText};
+ghost use Rattle.sql_rows.specs.Holds.{HoldsBelow, HoldsDigest, HoldsName, HoldsText};
 
 use byte_text::Name;
-use octo_keeper::KeeperFault;
+use sqlite::Row;
 use sqlite::types::ValueRef;
-use sqlite::{Error, ErrorCode, Row};
-
-/// The fault of a refused call: out of memory only if the database says so.
-pub fn fault_of(error: Error) -> KeeperFault
-    ensures { (result ≡ fault.NoMemory) ↔ (error ≡ Error.SqliteFailure ErrorCode.OutOfMemory) }
-{
-    match error {
-        Error::SqliteFailure(ErrorCode::OutOfMemory) => KeeperFault::NoMemory,
-        _ => KeeperFault::Failed,
-    }
-}
 
 /// The number of a column.
 pub fn number_at(row: &Row, place: usize) -> Option<i64>
