@@ -10,6 +10,7 @@ use Rattle.octo_asks.specs.declared.shown.ShownEntry.{ShownEntry}
 use Rattle.octo_asks.specs.declared.shown.ShownPrint.{ShownPrint}
 use Rattle.api_replies.specs.Texts.{outcome_text}
 
+-- a count as a number
 abbrev pub count : ℕ → Data
 count n = number (unsigned n)
 

@@ -22,10 +22,6 @@ use std::alloc::Global;
 use std::process::Abort;
 use std::test::Fail;
 
-fn name(text: &str) -> Result<Name, Fail> {
-    Ok(Name::from_text(text).ok_or("a long name")?)
-}
-
 // The answer's reply is JSON with this status and body.
 fn shows(
     rt: &impl Abort,
@@ -43,19 +39,19 @@ fn shows(
 
 fn entry() -> Result<ShownEntry, Fail> {
     Ok(ShownEntry {
-        user: name("ana")?,
-        name: name("job-1")?,
-        file: name("a.gcode")?,
+        user: Name::of("ana")?,
+        name: Name::of("job-1")?,
+        file: Name::of("a.gcode")?,
         priority: 5,
         copies: 1,
         left: 1,
-        material: name("any")?,
+        material: Name::of("any")?,
     })
 }
 
 fn file() -> Result<ShownFile, Fail> {
     Ok(ShownFile {
-        name: name("a.gcode")?,
+        name: Name::of("a.gcode")?,
         size: 19,
     })
 }

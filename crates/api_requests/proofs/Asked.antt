@@ -1,7 +1,7 @@
 -- What a body is, and what it asks, is one.
 use Rattle.std.proofs.Common.{◌≡◌, ◌⊎◌, inl, inr, nat_lt, false, length, List, ℕ, Option, Some, None, Result, Ok, Err, refl, sym, ◌∙◌, ap}
 use Rattle.serde_json.specs.Data.{Data}
-use Rattle.http_parts.specs.Parts.{FormSays}
+use Rattle.http_parts.specs.Parts.{FormReadsAs}
 use Rattle.http_parts.specs.declared.types.Parts.{Parts}
 use Rattle.http_parts.specs.declared.types.PartFault.{PartFault}
 use Rattle.http_parts.proofs.Unique.{says_unique}
@@ -41,8 +41,8 @@ asks_one form body d result small is (inr e) =
 
 -- what is asked by what a form says is what the form asks
 pub uploads_one : (body kind : List ℕ) (said : Result Parts PartFault) (result : Result Request Direct)
-    → FormSays body kind said → (result ≡ Err direct.NoMemory) ⊎ (result ≡ form_asked body said)
-    → (result ≡ Err direct.NoMemory) ⊎ ((parts : Result Parts PartFault) → FormSays body kind parts → result ≡ form_asked body parts)
+    → FormReadsAs body kind said → (result ≡ Err direct.NoMemory) ⊎ (result ≡ form_asked body said)
+    → (result ≡ Err direct.NoMemory) ⊎ ((parts : Result Parts PartFault) → FormReadsAs body kind parts → result ≡ form_asked body parts)
 uploads_one body kind said result is (inl e) = inl e
 uploads_one body kind said result is (inr e) =
     inr (λ parts other. e ∙ ap (form_asked body) (says_unique body kind said parts is other))

@@ -13,9 +13,11 @@ use Rattle.api_requests.specs.Fields.{or_default, text_at, is_text_at, whole_at,
 abbrev pub port_name : List ℕ → Option (Option (List ℕ))
 port_name text = if nat_le 1 (length text) && nat_le (length text) 100 then Some (Some text) else None
 
+-- a JSON text as the name of a port
 abbrev pub as_port : Data → Option (Option (List ℕ))
 as_port found = option_and_then port_name (as_str found)
 
+-- what a body about the connection asks
 abbrev pub connection_asked : Data → Option Request
 connection_asked body =
     if is_text_at (codes "command") (codes "connect") body
@@ -26,12 +28,14 @@ connection_asked body =
 abbrev pub degrees_at : List ℕ → Data → Option ℕ
 degrees_at key body = whole_at key 0 65535 None body
 
+-- the target of the tool
 abbrev pub tool_asked : Data → Option Request
 tool_asked body =
     if is_text_at (codes "command") (codes "target") body
     then option_and_then (λ targets. option_map request.HeatTool (degrees_at (codes "tool0") targets)) (get (codes "targets") body)
     else None
 
+-- the target of the bed
 abbrev pub bed_asked : Data → Option Request
 bed_asked body =
     if is_text_at (codes "command") (codes "target") body then option_map request.HeatBed (degrees_at (codes "target") body) else None
@@ -46,6 +50,7 @@ pause_asked body =
     else None
     else Some request.Toggle
 
+-- what a body about the job asks
 abbrev pub job_asked : Data → Option Request
 job_asked body =
     if is_text_at (codes "command") (codes "start") body then Some request.Start
@@ -54,16 +59,18 @@ job_asked body =
     else if is_text_at (codes "command") (codes "pause") body then pause_asked body
     else None
 
+-- the selection of a file, with a flag for its print
 abbrev pub selection_asked : List ℕ → Data → Option Request
 selection_asked name body =
     if is_text_at (codes "command") (codes "select") body
     then option_map (request.SelectFile name) (flag_at (codes "print") false body)
     else None
 
--- one command, or 1 to 256, and not both
+-- a request to issue one command
 abbrev pub one_line : List ℕ → Request
 one_line text = request.Lines (text ∷ [])
 
+-- one command, or a list of 1 to 256, and not both
 abbrev pub lines_asked : Data → Option Request
 lines_asked body =
     if is_some (get (codes "commands") body)
@@ -75,6 +82,7 @@ lines_asked body =
 abbrev pub as_groups : Data → Option (ArrayVec (List ℕ))
 as_groups found = option_map (λ names. record { items = names }) (as_list as_name 0 8 found)
 
+-- a new user, who is active unless the body says otherwise
 abbrev pub user_asked : Data → Option Request
 user_asked body =
     option_and_then (λ name.
@@ -90,6 +98,7 @@ user_asked body =
 abbrev pub optional : {A : Type 0} → (Data → Option A) → Option Data → Option (Option A)
 optional read found = or_default (Some None) (λ value. option_map Some (read value)) found
 
+-- a change of a user; what is missing stays as it is
 abbrev pub change_asked : List ℕ → Data → Option Request
 change_asked name body =
     option_and_then (λ key.
@@ -99,6 +108,7 @@ change_asked name body =
     (optional as_groups (get (codes "groups") body)))
     (optional as_key (get (codes "key") body))
 
+-- a new entry of the queue
 abbrev pub entry_asked : Data → Option Request
 entry_asked body =
     option_and_then (λ name.

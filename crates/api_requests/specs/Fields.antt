@@ -1,4 +1,4 @@
--- The fields of JSON bodies. A field that isn't there may have a default; null is there.
+-- The fields of JSON bodies. A missing field may have a default; a null isn't missing.
 use Rattle.std.specs.Prelude.{◌≡◌, ◌⊎◌, ℕ, Bool, true, false, ◌&&◌, nat_le, List, [], ◌∷◌, length, if◌then◌else◌, Option, Some, None, option_map, option_and_then, Result, Ok, Err}
 use Rattle.std.specs.Option.{option_map_or}
 use Rattle.std.specs.Str.{bytes_eq}
@@ -10,6 +10,7 @@ use Rattle.api_direct.specs.declared.direct.Direct.{Direct}
 use Rattle.api_direct.specs.declared.direct.Direct.TheVariants as direct
 use Rattle.file_names.specs.Names.{file_name_of}
 use Rattle.api_routes.specs.Ascii.{is_key}
+use Rattle.byte_text.specs.Number.{in_range}
 
 -- a result is what a reading returns, BadBody if it returns nothing; memory may run out
 abbrev pub Gives : {A : Type 0} → Option A → Result A Direct → Type 0
@@ -29,16 +30,15 @@ text_at key body = option_and_then as_str (get key body)
 abbrev pub is_text_at : List ℕ → List ℕ → Data → Bool
 is_text_at key text body = option_map_or (λ found. bytes_eq found text) (text_at key body) false
 
--- a whole number in a range
+-- a whole number
 abbrev pub as_whole : Data → Option ℕ
 as_whole found = option_and_then as_u64 (as_number found)
 
-abbrev pub in_range : ℕ → ℕ → ℕ → Option ℕ
-in_range least most n = if nat_le least n && nat_le n most then Some n else None
-
+-- a whole number in a range
 abbrev pub as_whole_in : ℕ → ℕ → Data → Option ℕ
 as_whole_in least most found = option_and_then (in_range least most) (as_whole found)
 
+-- a field with a whole number in a range, which may have a default
 abbrev pub whole_at : List ℕ → ℕ → ℕ → Option ℕ → Data → Option ℕ
 whole_at key least most default body = or_default default (as_whole_in least most) (get key body)
 
@@ -46,13 +46,15 @@ whole_at key least most default body = or_default default (as_whole_in least mos
 abbrev pub flag_at : List ℕ → Bool → Data → Option Bool
 flag_at key default body = or_default (Some default) as_bool (get key body)
 
--- a name, which may have a default
+-- a JSON text as a name
 abbrev pub as_name : Data → Option (List ℕ)
 as_name found = option_and_then name_of (as_str found)
 
+-- a field with a name, which may have a default
 abbrev pub name_at : List ℕ → Option (List ℕ) → Data → Option (List ℕ)
 name_at key default body = or_default default as_name (get key body)
 
+-- a JSON text as the name of a file
 abbrev pub as_file_name : Data → Option (List ℕ)
 as_file_name found = option_and_then file_name_of (as_str found)
 
@@ -64,6 +66,7 @@ file_at key body = option_and_then as_file_name (get key body)
 abbrev pub key_of : List ℕ → Option (List ℕ)
 key_of text = if is_key text then Some text else None
 
+-- a JSON text as a caller's key
 abbrev pub as_key : Data → Option (List ℕ)
 as_key found = option_and_then key_of (as_str found)
 
@@ -76,8 +79,10 @@ all_of read (item found rest) = option_and_then (λ first. option_map (λ others
 abbrev pub in_bounds : ℕ → ℕ → Items → Option Items
 in_bounds least most items = if nat_le least (items_len items) && nat_le (items_len items) most then Some items else None
 
+-- the items of a JSON list, if their number is in a range
 abbrev pub items_in : ℕ → ℕ → Data → Option Items
 items_in least most found = option_and_then (in_bounds least most) (as_array found)
 
+-- the items as they are read, if each can be read and their number is in a range
 abbrev pub as_list : {A : Type 0} → (Data → Option A) → ℕ → ℕ → Data → Option (List A)
 as_list read least most found = option_and_then (all_of read) (items_in least most found)

@@ -4,7 +4,7 @@ use Rattle.std.specs.Option.{option_map_or}
 use Rattle.serde_json.specs.Data.{Data}
 use Rattle.serde_json.specs.Read.{read}
 use Rattle.http_parts.specs.Values.{has_type}
-use Rattle.http_parts.specs.Parts.{FormSays}
+use Rattle.http_parts.specs.Parts.{FormReadsAs}
 use Rattle.http_parts.specs.declared.types.Parts.{Parts}
 use Rattle.http_parts.specs.declared.types.PartFault.{PartFault}
 use Rattle.http_parts.specs.declared.types.PartFault.TheVariants as part_fault
@@ -62,6 +62,7 @@ abbrev pub or_bad_method : Option Wanted → Result Wanted Direct
 or_bad_method None = Err direct.BadMethod
 or_bad_method (Some wanted) = Ok wanted
 
+-- what a path and a method want
 abbrev pub wanted_for : List ℕ → Option Target → Result Wanted Direct
 wanted_for method None = Err direct.NoRoute
 wanted_for method (Some target) = or_bad_method (wanted_of method target)
@@ -71,6 +72,7 @@ abbrev pub request_for : Result Wanted Direct → Message → Option Data → Re
 request_for (Ok wanted) message value parts = request_in wanted message value parts
 request_for (Err e) message value parts = Err e
 
+-- what a message asks, if its body is this JSON and says these parts
 abbrev pub request_at : Message → Option Data → Result Parts PartFault → Result Request Direct
 request_at message value parts = request_for (wanted_for message.method (target_of message.path)) message value parts
 
@@ -82,6 +84,7 @@ key_of message = unwrap_or message.key []
 abbrev pub type_of : Message → List ℕ
 type_of message = unwrap_or message.kind []
 
+-- a request with the key of its caller
 abbrev pub asked_by : List ℕ → Result Request Direct → Result Ask Direct
 asked_by key (Ok request) = Ok (record { key = key; request = request })
 asked_by key (Err e) = Err e
@@ -91,9 +94,9 @@ abbrev pub Asks : {A : Type 0} → Message → (Option Data → Result Parts Par
 Asks message asked result =
     (result ≡ Err direct.NoMemory)
     ⊎ ((value : Option Data) → IsJson message.body value
-    → (parts : Result Parts PartFault) → FormSays message.body (type_of message) parts
+    → (parts : Result Parts PartFault) → FormReadsAs message.body (type_of message) parts
     → result ≡ asked value parts)
 
 -- what a message says
-abbrev pub Says : Message → Result Ask Direct → Type 0
-Says message result = Asks message (λ value parts. asked_by (key_of message) (request_at message value parts)) result
+abbrev pub MessageReadsAs : Message → Result Ask Direct → Type 0
+MessageReadsAs message result = Asks message (λ value parts. asked_by (key_of message) (request_at message value parts)) result

@@ -25,9 +25,11 @@ without_folders filename = after_last is_separator filename
 abbrev pub clean_byte : ℕ → ℕ
 clean_byte byte = if is_name_byte byte then byte else 95
 
+-- a full stop in front becomes `_`
 abbrev pub start_byte : ℕ → ℕ
 start_byte byte = if byte == 46 then 95 else byte
 
+-- a name without a full stop in front
 abbrev pub clean_start : List ℕ → List ℕ
 clean_start [] = []
 clean_start (byte ∷ bytes) = start_byte byte ∷ bytes
@@ -43,6 +45,7 @@ checked_name name =
     else if nat_le (length name) 100 then Ok name
     else Err direct.BadBody
 
+-- the request to store a file under a name, or why the name is refused
 abbrev pub put_file : Parts → List ℕ → Result (List ℕ) Direct → Result Request Direct
 put_file parts bytes (Ok name) = Ok (request.PutFile name bytes parts.select parts.print)
 put_file parts bytes (Err e) = Err e

@@ -162,7 +162,7 @@ fn plain_request(form: &Form, body: &Value) -> Option<Request>
 }
 
 // What a reading returns, BadBody if it returns nothing.
-fn given(read: Option<Request>) -> Result<Request, Direct>
+fn or_bad_body(read: Option<Request>) -> Result<Request, Direct>
     ensures { Gives read result }
 {
     match read {
@@ -179,6 +179,6 @@ pub(crate) fn asked_in(alloc: Global, form: &Form, body: &Value) -> Result<Reque
         Form::Lines => lines_of(alloc, body),
         Form::PutUser => user_of(alloc, body),
         Form::ChangeUser { name } => change_of(alloc, name, body),
-        _ => given(plain_request(form, body)),
+        _ => or_bad_body(plain_request(form, body)),
     }
 }

@@ -1,4 +1,4 @@
-//! The fields of JSON bodies, one function for each kind. A field that isn't there may have a default; null is there.
+//! The fields of JSON bodies, one function for each kind. A missing field may have a default; a null isn't missing.
 ghost use Rattle.std.specs.Prelude.{◌≡◌, ◌≤◌, None, Some, IfSome, option_map, codes};
 ghost use Rattle.serde_json.specs.View.{view};
 ghost use Rattle.api_requests.specs.Fields.{text_at, is_text_at, as_whole_in, whole_at, flag_at, as_name, name_at, file_at, as_key};

@@ -3,7 +3,7 @@ ghost use Rattle.std.specs.Prelude.{◌≡◌, ◌⊎◌, Err, IfOk, IfErr, Opti
 ghost use Rattle.serde_json.specs.Data.{Data};
 ghost use Rattle.serde_json.specs.View.{view};
 ghost use Rattle.api_routes.specs.Places.{target_of};
-ghost use Rattle.api_requests.specs.Requests.{takes_json, key_of, type_of, asked_body, wanted_for, request_in, request_at, IsJson, Asks, Says};
+ghost use Rattle.api_requests.specs.Requests.{takes_json, key_of, type_of, asked_body, wanted_for, request_in, request_at, IsJson, Asks, MessageReadsAs};
 ghost use Rattle.api_requests.specs.Callers.{IsCallers, WantsCallers};
 ghost use Rattle.api_routes.specs.declared.wanted.Wanted.TheVariants as wanted;
 
@@ -159,7 +159,7 @@ fn key_of(alloc: Global, message: Message) -> Blob
 /// What a message asks, by a table of routes that is made once. Of several faults the path's is returned first, then the
 /// method's, a missing length, the type and the body. Source: OctoPrint's REST API; RFC 9110, section 15.5.
 pub fn request_by(alloc: Global, routes: &Routes, message: Message) -> Result<Ask, Direct>
-    ensures says { Says message result }
+    ensures says { MessageReadsAs message result }
     ensures callers { IfOk result (λ ask. IsCallers ask.request) }
 {
     let request = request_of(alloc, routes, &message)?;
@@ -169,7 +169,7 @@ pub fn request_by(alloc: Global, routes: &Routes, message: Message) -> Result<As
 
 /// What a message asks, as `request_by` returns it, by a table of routes made for this message.
 pub fn to_request(alloc: Global, message: Message) -> Result<Ask, Direct>
-    ensures says { Says message result }
+    ensures says { MessageReadsAs message result }
     ensures callers { IfOk result (λ ask. IsCallers ask.request) }
 {
     let routes = Routes::new(alloc)?;

@@ -1,7 +1,6 @@
 //! The name that an uploaded file is stored under.
 ghost use Rattle.std.specs.Prelude.{◌≡◌, ◌⊎◌, ◌≤◌, ◌++◌, length, map, not, true, Err, IfOk, OnOk};
 ghost use Rattle.std.specs.List.{list_all, suffix_len};
-ghost use Rattle.octo_access.specs.Names.{is_name_byte};
 ghost use Rattle.api_routes.specs.Ascii.{is_ascii_byte};
 ghost use Rattle.api_requests.specs.Uploads.{is_separator, without_folders, clean_byte, start_byte, clean_start, stored_name, checked_name};
 
@@ -9,6 +8,7 @@ use crate::Direct;
 use api_routes::ascii_text;
 use byte_text::Name;
 use file_names::is_gcode;
+use octo_access::is_name_byte;
 use std::alloc::{AllocError, Global};
 
 // Whether a byte is a slash or a backslash.
@@ -35,12 +35,6 @@ fn without_folders(filename: &[u8]) -> &[u8]
     ensures { result.now ≡ without_folders filename.now }
 {
     &filename[filename.len() - last_len(filename)..]
-}
-
-fn is_name_byte(byte: u8) -> bool
-    ensures { result ≡ is_name_byte byte }
-{
-    byte.is_ascii_alphanumeric() || b"._-()+".contains(&byte)
 }
 
 // The byte itself if a name may have it, else `_`.

@@ -38,7 +38,7 @@ fn message(
 }
 
 // What a POST of JSON asks.
-fn posted(alloc: Global, path: &str, body: &str) -> Result<Result<Ask, Direct>, Fail> {
+fn ask_of_post(alloc: Global, path: &str, body: &str) -> Result<Result<Ask, Direct>, Fail> {
     let message = message(alloc, Method::POST, path, JSON, body.as_bytes())?;
     Ok(to_request(alloc, message))
 }
@@ -80,7 +80,7 @@ fn outcome(answer: &Result<Ask, Direct>) -> &'static str {
 
 // The name of what a POST of JSON comes to.
 fn post(alloc: Global, path: &str, body: &str) -> Result<&'static str, Fail> {
-    let answer = posted(alloc, path, body)?;
+    let answer = ask_of_post(alloc, path, body)?;
     Ok(outcome(&answer))
 }
 

@@ -1,6 +1,6 @@
 //! What uploads ask.
 ghost use Rattle.std.specs.Prelude.{◌≡◌, ◌⊎◌, Err, Result, IfOk};
-ghost use Rattle.http_parts.specs.Parts.{ArePartsIn, FormSays};
+ghost use Rattle.http_parts.specs.Parts.{ArePartsIn, FormReadsAs};
 ghost use Rattle.http_parts.specs.declared.types.Parts.{Parts};
 ghost use Rattle.http_parts.specs.declared.types.PartFault.{PartFault};
 ghost use Rattle.api_requests.specs.Uploads.{file_asked, refused_by, form_asked};
@@ -46,7 +46,7 @@ fn refused_by(fault: PartFault) -> Direct
 /// What an upload asks. Source: OctoPrint's REST API, file operations; RFC 7578.
 pub(crate) fn upload_of(alloc: Global, body: &[u8], kind: &[u8]) -> Result<Request, Direct>
     ensures asks { (result ≡ Err Direct.NoMemory)
-        ⊎ ((parts : Result Parts PartFault) → FormSays body.now kind.now parts
+        ⊎ ((parts : Result Parts PartFault) → FormReadsAs body.now kind.now parts
         → result ≡ form_asked body.now parts) }
     ensures callers { IfOk result IsCallers }
 {

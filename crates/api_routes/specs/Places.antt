@@ -45,6 +45,7 @@ abbrev pub with_scan : Result Scan InsertError → Place → RowsOf (RouteOf Pla
 with_scan (Ok scan) place rows = placed (scan.pattern, route_from scan place) rows
 with_scan (Err error) place rows = rows
 
+-- the rows of a router after one more path and its place
 abbrev pub with_route : RowsOf (RouteOf Place) → List ℕ × Place → RowsOf (RouteOf Place)
 with_route rows route = with_scan (parse_route route.0) route.1 rows
 
@@ -58,23 +59,27 @@ place_of path =
     if list_all is_ascii_byte path then option_map (λ (route : RouteOf Place). route.value) (first (rows_of routes) path) else None
 
 -- the text that a part of a path is percent-encoded from, as a name
-abbrev pub named : List ℕ → Option (List ℕ)
-named part = name_of (percent_decode part)
+abbrev pub name_of_part : List ℕ → Option (List ℕ)
+name_of_part part = name_of (percent_decode part)
 
-abbrev pub file_named : List ℕ → Option (List ℕ)
-file_named part = file_name_of (percent_decode part)
+-- the same as the name of a file
+abbrev pub file_name_of_part : List ℕ → Option (List ℕ)
+file_name_of_part part = file_name_of (percent_decode part)
 
--- how many bytes there are in front of the first slash
+-- a byte that is no slash
 abbrev pub is_no_slash : ℕ → Bool
 is_no_slash byte = not (byte == 47)
 
+-- how many bytes are in front of the first slash
 abbrev pub before_slash : List ℕ → ℕ
 before_slash parts = prefix_len is_no_slash parts
 
 -- a user and a name, with a slash between them
 abbrev pub others_entry : List ℕ → Option Target
 others_entry parts =
-    option_and_then (λ user. option_map (target.OthersEntry user) (named (drop (before_slash parts + 1) parts))) (named (take (before_slash parts) parts))
+    option_and_then
+    (λ user. option_map (target.OthersEntry user) (name_of_part (drop (before_slash parts + 1) parts)))
+    (name_of_part (take (before_slash parts) parts))
 
 -- what a request is about, with the names in the path
 abbrev pub target_at : Place → List ℕ → Option Target
@@ -87,12 +92,12 @@ target_at place.Command path = Some target.Command
 target_at place.Job path = Some target.Job
 target_at place.AllFiles path = Some target.AllFiles
 target_at place.Files path = Some target.Files
-target_at place.File path = option_map target.File (file_named (drop (length (codes "/api/files/local/")) path))
-target_at place.Download path = option_map target.Download (file_named (drop (length (codes "/downloads/files/local/")) path))
+target_at place.File path = option_map target.File (file_name_of_part (drop (length (codes "/api/files/local/")) path))
+target_at place.Download path = option_map target.Download (file_name_of_part (drop (length (codes "/downloads/files/local/")) path))
 target_at place.Users path = Some target.Users
-target_at place.User path = option_map target.User (named (drop (length (codes "/api/access/users/")) path))
+target_at place.User path = option_map target.User (name_of_part (drop (length (codes "/api/access/users/")) path))
 target_at place.Queue path = Some target.Queue
-target_at place.Entry path = option_map target.Entry (named (drop (length (codes "/api/queue/")) path))
+target_at place.Entry path = option_map target.Entry (name_of_part (drop (length (codes "/api/queue/")) path))
 target_at place.OthersEntry path = others_entry (drop (length (codes "/api/queue/")) path)
 target_at place.NextEntry path = Some target.NextEntry
 target_at place.Prints path = Some target.Prints

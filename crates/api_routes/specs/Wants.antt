@@ -35,6 +35,7 @@ asked_by_get target.Queue = Some request.ListQueue
 asked_by_get target.Prints = Some request.ListPrints
 asked_by_get _ = None
 
+-- what a DELETE asks
 abbrev pub asked_by_delete : Target → Option Request
 asked_by_delete (target.File name) = Some (request.DeleteFile name)
 asked_by_delete (target.Entry name) = Some (request.DropOwn name)
@@ -56,20 +57,23 @@ wanted_by_post target.NextEntry = Some (Nothing request.NextEntry)
 wanted_by_post target.Shutdown = Some (Nothing request.Shutdown)
 wanted_by_post _ = None
 
+-- what a PUT wants
 abbrev pub wanted_by_put : Target → Option Wanted
 wanted_by_put (target.User name) = Some (Json (form.ChangeUser name))
 wanted_by_put _ = None
 
+-- a request that wants no body
 abbrev pub without_body : Option Request → Option Wanted
 without_body None = None
 without_body (Some asked) = Some (Nothing asked)
 
--- what a method wants of a target, none if it isn't for it
+-- what a method wants of a target, none if the target has no such method
 abbrev pub wanted_by : Verb → Target → Option Wanted
 wanted_by Get target = without_body (asked_by_get target)
 wanted_by Delete target = without_body (asked_by_delete target)
 wanted_by Post target = wanted_by_post target
 wanted_by Put target = wanted_by_put target
 
+-- what a method, by its name, wants of a target
 abbrev pub wanted_of : List ℕ → Target → Option Wanted
 wanted_of method target = option_and_then (λ verb. wanted_by verb target) (verb_of method)

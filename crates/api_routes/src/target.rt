@@ -1,7 +1,7 @@
 //! What a request is about: a path with its names.
 ghost use Rattle.std.specs.Prelude.{◌≡◌, ◌≤◌, IfOk, IfErr, true, drop, length};
 ghost use Rattle.percent_encoding.specs.Percent.{percent_decode};
-ghost use Rattle.api_routes.specs.Places.{has_name, named, file_named, before_slash, others_entry, target_at, target_of};
+ghost use Rattle.api_routes.specs.Places.{has_name, name_of_part, file_name_of_part, before_slash, others_entry, target_at, target_of};
 
 use crate::ascii::ascii_text;
 use crate::place::{Place, Routes};
@@ -37,7 +37,7 @@ pub enum Target {
 }
 
 // The text that a part of a path is percent-encoded from. Source: RFC 3986, section 2.1.
-fn decoded(alloc: Global, part: &[u8]) -> Result<Vec<u8>, Direct>
+fn decode_part(alloc: Global, part: &[u8]) -> Result<Vec<u8>, Direct>
     ensures ok { IfOk result (λ bytes. bytes.items ≡ percent_decode part.now) }
     ensures err { IfErr result (λ e. e ≡ Direct.NoMemory) }
 {
@@ -48,11 +48,11 @@ fn decoded(alloc: Global, part: &[u8]) -> Result<Vec<u8>, Direct>
 
 // The name that a part of a path is percent-encoded from.
 #[tactic(auto, using(crate::proofs::Texts::not_a_name))]
-fn named(alloc: Global, part: &[u8]) -> Result<Option<Name>, Direct>
-    ensures ok { IfOk result (λ name. name ≡ named part.now) }
+fn name_of_part(alloc: Global, part: &[u8]) -> Result<Option<Name>, Direct>
+    ensures ok { IfOk result (λ name. name ≡ name_of_part part.now) }
     ensures err { IfErr result (λ e. e ≡ Direct.NoMemory) }
 {
-    let bytes = decoded(alloc, part)?;
+    let bytes = decode_part(alloc, part)?;
     match ascii_text(bytes.as_slice()) {
         Some(text) => Ok(read_name(text)),
         None => Ok(None),
@@ -61,11 +61,11 @@ fn named(alloc: Global, part: &[u8]) -> Result<Option<Name>, Direct>
 
 // The name of a file that a part of a path is percent-encoded from.
 #[tactic(auto, using(crate::proofs::Texts::not_a_name))]
-fn file_named(alloc: Global, part: &[u8]) -> Result<Option<Name>, Direct>
-    ensures ok { IfOk result (λ name. name ≡ file_named part.now) }
+fn file_name_of_part(alloc: Global, part: &[u8]) -> Result<Option<Name>, Direct>
+    ensures ok { IfOk result (λ name. name ≡ file_name_of_part part.now) }
     ensures err { IfErr result (λ e. e ≡ Direct.NoMemory) }
 {
-    let bytes = decoded(alloc, part)?;
+    let bytes = decode_part(alloc, part)?;
     match ascii_text(bytes.as_slice()) {
         Some(text) => Ok(read_file_name(text)),
         None => Ok(None),
@@ -97,10 +97,10 @@ fn others_entry(alloc: Global, parts: &[u8]) -> Result<Option<Target>, Direct>
     ensures err { IfErr result (λ e. e ≡ Direct.NoMemory) }
 {
     let slash = before_slash(parts);
-    let Some(user) = named(alloc, &parts[..slash])? else {
+    let Some(user) = name_of_part(alloc, &parts[..slash])? else {
         return Ok(None);
     };
-    match named(alloc, after(parts, slash + 1))? {
+    match name_of_part(alloc, after(parts, slash + 1))? {
         Some(name) => Ok(Some(Target::OthersEntry { user, name })),
         None => Ok(None),
     }
@@ -113,19 +113,19 @@ fn named_target(alloc: Global, place: Place, path: &[u8]) -> Result<Option<Targe
     ensures err { IfErr result (λ e. e ≡ Direct.NoMemory) }
 {
     match place {
-        Place::File => match file_named(alloc, after(path, 17))? {
+        Place::File => match file_name_of_part(alloc, after(path, 17))? {
             Some(name) => Ok(Some(Target::File { name })),
             None => Ok(None),
         },
-        Place::Download => match file_named(alloc, after(path, 23))? {
+        Place::Download => match file_name_of_part(alloc, after(path, 23))? {
             Some(name) => Ok(Some(Target::Download { name })),
             None => Ok(None),
         },
-        Place::User => match named(alloc, after(path, 18))? {
+        Place::User => match name_of_part(alloc, after(path, 18))? {
             Some(name) => Ok(Some(Target::User { name })),
             None => Ok(None),
         },
-        Place::Entry => match named(alloc, after(path, 11))? {
+        Place::Entry => match name_of_part(alloc, after(path, 11))? {
             Some(name) => Ok(Some(Target::Entry { name })),
             None => Ok(None),
         },

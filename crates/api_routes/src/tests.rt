@@ -9,7 +9,7 @@ const METHODS: [&str; 8] = [
     "GET", "POST", "PUT", "DELETE", "HEAD", "PATCH", "OPTIONS", "get",
 ];
 
-// What a path is about, by a table of routes made for it alone.
+// What a path is about, by a table of routes made for this path alone.
 fn about(alloc: Global, path: &[u8]) -> Result<Option<Target>, Fail> {
     let routes = Routes::new(alloc)?;
     Ok(target_of(alloc, &routes, path)?)
@@ -115,7 +115,7 @@ fn no_names(rt: HostRuntime) -> Result<(), Fail> {
 }
 
 // What a request without a body asks.
-fn asked(alloc: Global, method: &str, path: &str) -> Result<Request, Fail> {
+fn request_at(alloc: Global, method: &str, path: &str) -> Result<Request, Fail> {
     let target = about(alloc, path.as_bytes())?.ok_or("no route")?;
     let Some(Wanted::Nothing { request }) = wanted_of(method, &target) else {
         return Err("no request")?;
@@ -125,7 +125,7 @@ fn asked(alloc: Global, method: &str, path: &str) -> Result<Request, Fail> {
 
 // The file of that path is to be deleted.
 fn deletes(rt: &impl Abort, alloc: Global, path: &str, wanted: &str) -> Result<(), Fail> {
-    let request = asked(alloc, "DELETE", path)?;
+    let request = request_at(alloc, "DELETE", path)?;
     let Request::DeleteFile { name } = &request else {
         return Err("another request")?;
     };
@@ -145,7 +145,7 @@ fn decoded_names(rt: HostRuntime) -> Result<(), Fail> {
 
 #[test]
 fn entry_names(rt: HostRuntime) -> Result<(), Fail> {
-    let request = asked(rt.alloc(), "DELETE", "/api/queue/a%6ea/job%2d1")?;
+    let request = request_at(rt.alloc(), "DELETE", "/api/queue/a%6ea/job%2d1")?;
     let Request::DropOther { user, name } = &request else {
         return Err("another request")?;
     };

@@ -136,7 +136,7 @@ fn wanted_by_put(target: &Target) -> Option<Wanted>
     }
 }
 
-/// What a method wants of a target, `None` if it isn't for it.
+/// What a method wants of a target, `None` if the target has no such method.
 pub fn wanted_of(method: &str, target: &Target) -> Option<Wanted>
     ensures { result ≡ wanted_of method.now target.now }
 {

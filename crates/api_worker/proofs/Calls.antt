@@ -2,8 +2,8 @@
 use Rattle.std.proofs.Common.{◌≡◌, ℕ, Bool, true, List, [], ◌∷◌, ◌++◌, Option, Some, None, refl, sym, ap, subst, ◌∙◌}
 use Rattle.std.specs.Prelude.{option_map, Result, Ok, Err, IfOk, OnErr}
 use Rattle.std.specs.Option.{option_map_or}
-use Rattle.octo_outside.specs.Told.{Adds}
-use Rattle.octo_outside.proofs.Told.{adds_none}
+use Rattle.octo_outside.specs.Recorded.{Adds}
+use Rattle.octo_outside.proofs.Recorded.{adds_none}
 use Rattle.octo_asks.specs.declared.answer.Answer.{Answer}
 use Rattle.octo_asks.specs.declared.asker.Closed.{Closed}
 use Rattle.octo_asks.specs.declared.request.Ask.{Ask}
@@ -13,12 +13,7 @@ use Rattle.octo_http.specs.declared.reply.HttpReply.{HttpReply}
 use Rattle.octo_http.specs.Reply.{reply_bytes}
 use Rattle.api_replies.specs.Replies.{empty_reply}
 use Rattle.api_worker.specs.Worked.{no_leave, one_leave, leave_ask, HasLeft}
-
-none_some : {A : Type 0} (x : A) → None ≡ Some x → ⊥
-none_some x e = cc
-
-some_is : {A : Type 0} (a b : A) → Some a ≡ Some b → a ≡ b
-some_is a b e = cc
+use Rattle.std.proofs.lemmas.Option.{same_Some, none-some}
 
 -- nothing is added if all stays
 pub added_none : {A : Type 0} (old new : Option (List A)) → new ≡ old → Adds old new []
@@ -29,16 +24,16 @@ added_none {A} old new same =
 -- the call that an answered ask adds; of a worker that doesn't record its calls, any
 pub call_of : (ask : Ask) (answer : Answer) (mine mine' : Option History) → Finishes ask answer mine mine'
     → (worker : ℕ) × (moment : ℕ) × Adds mine mine' (entry.Call worker ask moment answer ∷ [])
-call_of ask answer mine None finishes = (0, 0, λ now e. absurd (none_some now e))
+call_of ask answer mine None finishes = (0, 0, λ now e. absurd (none-some now e))
 call_of ask answer mine (Some now) finishes =
     let got = finishes now refl in
-    (got.4.0, got.4.1, λ other e. (got.0, got.1, got.2, sym (some_is now other e) ∙ got.3, got.4.2))
+    (got.4.0, got.4.1, λ other e. (got.0, got.1, got.2, sym (same_Some now other e) ∙ got.3, got.4.2))
 
 -- the bytes of the reply to a fault
 pub fault_reply : (status : Option ℕ) (reply : HttpReply) → Some reply ≡ option_map empty_reply status
     → reply_bytes reply ≡ option_map_or (λ s. reply_bytes (empty_reply s)) status []
 fault_reply None reply e = absurd cc
-fault_reply (Some status) reply e = ap reply_bytes (some_is reply (empty_reply status) e)
+fault_reply (Some status) reply e = ap reply_bytes (same_Some reply (empty_reply status) e)
 
 -- what a worker's last ask adds: a call, or nothing if the host has ended
 left_by : (result : Result Answer Closed) (mine mine' : Option History) (saw_close : Bool)

@@ -1,10 +1,10 @@
 -- A worker's looks at its door, one after the other.
 use Rattle.std.proofs.Common.{◌≡◌, ◌⊎◌, inl, inr, ℕ, Bool, true, false, List, [], ◌∷◌, ◌++◌, Option, Some, None, refl, sym, ap, subst, ◌∙◌, append_assoc, append-nil}
-use Rattle.octo_outside.specs.Told.{Adds}
-use Rattle.octo_outside.proofs.Told.{adds_then, adds_none}
+use Rattle.octo_outside.specs.Recorded.{Adds}
+use Rattle.octo_outside.proofs.Recorded.{adds_then, adds_none}
 use Rattle.octo_asks.specs.History.{History}
 use Rattle.octo_doors.specs.declared.door.Knock.TheVariants as knock
-use Rattle.octo_doors.specs.Doors.{ConnState, untouched, Comes}
+use Rattle.octo_doors.specs.Doors.{ConnState, fresh_conn, Comes}
 use Rattle.api_worker.specs.declared.at_door.Visit.{Visit}
 use Rattle.api_worker.specs.declared.at_door.Visit.TheVariants as visit
 use Rattle.api_worker.specs.Served.{IsServed}
@@ -15,7 +15,7 @@ use Rattle.api_worker.specs.Worked.{Served, none_served, one_more, is_open, Leav
 pub visit_served : {C : Type 0} (state : C → ConnState) (patience : ℕ) (conn : C) (inputs : List (List ℕ)) (coming coming' : Option (List (List ℕ)))
     (kept kept' : Option (List ConnState)) (mine mine' : Option History) (v : Visit)
     → Comes state inputs (knock.Conn conn) coming → coming' ≡ coming → (v ≡ visit.Open) ⊎ (v ≡ visit.Closed)
-    → ((input : List ℕ) → state conn ≡ untouched input → (after : ConnState) × (calls : History)
+    → ((input : List ℕ) → state conn ≡ fresh_conn input → (after : ConnState) × (calls : History)
     × IsServed patience input after (is_open v) calls × Adds kept kept' (after ∷ []) × Adds mine mine' calls)
     → HasVisited patience inputs coming' kept kept' mine mine' v
 visit_served state patience conn [] coming coming' kept kept' mine mine' v comes same either serves = absurd comes

@@ -2,9 +2,9 @@
 use Rattle.std.proofs.Common.{◌≡◌, ◌⊎◌, inl, inr, ℕ, ◌≤◌, ◌<◌, ◌+◌, Bool, true, false, List, [], ◌∷◌, ◌++◌, length, take, Option, Some, None, refl, sym, ap, subst, ◌∙◌, arith}
 use Rattle.std.specs.Prelude.{IfSome, Result, Ok, Err, IsErrOf}
 use Rattle.std.proofs.Math.Seq.{take-append-add}
-use Rattle.octo_outside.specs.Told.{Adds, AddsPrefix, Rose}
+use Rattle.octo_outside.specs.Recorded.{Adds, AddsPrefix, Rose}
 use Rattle.octo_asks.specs.History.{History}
-use Rattle.octo_doors.specs.Doors.{ConnState, untouched}
+use Rattle.octo_doors.specs.Doors.{ConnState, fresh_conn}
 use Rattle.http_grammar.specs.declared.fault.MessageFault.{MessageFault}
 use Rattle.http_grammar.specs.declared.fault.MessageFault.TheVariants.{ReadFault}
 use Rattle.octo_http.specs.declared.message.Message.{Message}
@@ -12,23 +12,18 @@ use Rattle.octo_http.specs.declared.reply.HttpReply.{HttpReply}
 use Rattle.octo_http.specs.Message.{Writes, Answers, IsPatient, IsSlow}
 use Rattle.octo_http.specs.Reply.{reply_bytes}
 use Rattle.api_worker.specs.Served.{Sends, Wrote, HasCause, IsReplied, IsServed, no_message, message, fault_bytes}
-
-some_is : {A : Type 0} {a b : A} → Some a ≡ Some b → a ≡ b
-some_is e = cc
+use Rattle.std.proofs.lemmas.Option.{none-some, same_Some}
 
 -- the bytes that a reader wrote at a connection at which nothing was written before
 sent_of : (written : Option (List ℕ)) (Says : List ℕ → Type 0) → Writes (Some []) written Says → (sent : List ℕ) × Says sent × IfSome written (λ w. w ≡ sent)
 sent_of None Says writes = (writes.0.0, writes.0.1, tt)
 sent_of (Some now) Says writes =
     let became = writes.1 now refl in
-    (became.1, became.4, became.3 ∙ ap (λ (front : List ℕ). front ++ became.1) (sym (some_is became.2)))
+    (became.1, became.4, became.3 ∙ ap (λ (front : List ℕ). front ++ became.1) (sym (same_Some _ _ became.2)))
 
 -- these bytes, or their beginning if faults were counted
 abbrev Tells : Option (List ℕ) → ℕ → List ℕ → Type 0
 Tells written faults bytes = IfSome written (λ w. (w ≡ bytes) ⊎ ((0 < faults) × (n : ℕ) × (w ≡ take n bytes)))
-
-none_some : {A : Type 0} (x : A) → None ≡ Some x → ⊥
-none_some x e = cc
 
 -- a count that rose isn't 0
 above_none : (faults faults' : ℕ) → faults ≤ faults' → Rose faults faults' → 0 < faults'
@@ -38,18 +33,18 @@ above_none faults faults' below rose = grind (arith, rose)
 wrote_then : (before after : Option (List ℕ)) (faults faults' : ℕ) (sent bytes : List ℕ)
     → IfSome before (λ w. w ≡ sent) → faults ≤ faults' → Sends before after faults faults' bytes → Tells after faults' (sent ++ bytes)
 wrote_then before None faults faults' sent bytes held below sends = tt
-wrote_then None (Some now) faults faults' sent bytes held below (inl adds) = absurd (none_some (adds now refl).0 (adds now refl).2)
-wrote_then None (Some now) faults faults' sent bytes held below (inr cut) = absurd (none_some (cut.1 now refl).0 (cut.1 now refl).2)
+wrote_then None (Some now) faults faults' sent bytes held below (inl adds) = absurd (none-some (adds now refl).0 (adds now refl).2)
+wrote_then None (Some now) faults faults' sent bytes held below (inr cut) = absurd (none-some (cut.1 now refl).0 (cut.1 now refl).2)
 wrote_then (Some w) (Some now) faults faults' sent bytes held below (inl adds) =
     let got = adds now refl in
-    inl (got.3 ∙ ap (λ (front : List ℕ). front ++ got.1) (sym (some_is got.2) ∙ held) ∙ ap (λ (more : List ℕ). sent ++ more) got.4)
+    inl (got.3 ∙ ap (λ (front : List ℕ). front ++ got.1) (sym (same_Some _ _ got.2) ∙ held) ∙ ap (λ (more : List ℕ). sent ++ more) got.4)
 wrote_then (Some w) (Some now) faults faults' sent bytes held below (inr cut) =
     let got = cut.1 now refl in
     inr (
       above_none faults faults' below cut.0,
       length sent + got.4.0,
       (got.3
-          ∙ ap (λ (front : List ℕ). front ++ got.1) (sym (some_is got.2) ∙ held)
+          ∙ ap (λ (front : List ℕ). front ++ got.1) (sym (same_Some _ _ got.2) ∙ held)
           ∙ ap (λ (more : List ℕ). sent ++ more) got.4.1
           ∙ sym (take-append-add sent bytes got.4.0)),
     )

@@ -1,6 +1,6 @@
 -- What a worker did at its door: the connections that it served, in order, and its calls.
 use Rattle.std.specs.Prelude.{◌≡◌, ◌⊎◌, ℕ, Bool, true, false, List, [], ◌∷◌, ◌++◌, All, Option, Some}
-use Rattle.octo_outside.specs.Told.{Became, Adds}
+use Rattle.octo_outside.specs.Recorded.{Became, Adds}
 use Rattle.octo_doors.specs.Doors.{ConnState}
 use Rattle.octo_asks.specs.declared.answer.Answer.{Answer}
 use Rattle.octo_asks.specs.declared.request.Ask.{Ask}
@@ -79,6 +79,7 @@ pub record AreOfReturned (saw_close : Bool) (added : History) : Type 0 where
   pub leave : Leaves last
   pub parted : last ≡ [] → saw_close ≡ true
 
+-- the calls that were added are those of a worker that has returned
 abbrev pub HasReturned : (mine mine' : Option History) (saw_close : Bool) → Type 0
 HasReturned mine mine' saw_close = Became mine mine' (λ _ added. AreOfReturned saw_close added)
 

@@ -1,8 +1,8 @@
 //! A worker at its door.
 ghost use Rattle.std.specs.Prelude.{◌≡◌, ◌≢◌, ◌⊎◌, ℕ, List, [], ◌∷◌, true, false, Some};
-ghost use Rattle.octo_outside.specs.Told.{Adds, Rose};
+ghost use Rattle.octo_outside.specs.Recorded.{Adds, Rose};
 ghost use Rattle.octo_asks.specs.History.{History};
-ghost use Rattle.octo_doors.specs.Doors.{ConnState, state_of, untouched};
+ghost use Rattle.octo_doors.specs.Doors.{ConnState, state_of, fresh_conn};
 ghost use Rattle.api_worker.specs.declared.at_door.Visit.TheVariants as visit;
 ghost use Rattle.api_worker.specs.Served.{IsServed, AsksOnce};
 ghost use Rattle.api_worker.specs.Worked.{leave_ask, HasVisited, HasLeft, HasReturned, HasWorked, is_open};
@@ -66,7 +66,7 @@ fn serve_and_finish<D: Door, A: Asker>(
     patience: u32,
 ) -> Visit
     ensures served { (input : List ℕ)
-        → state_of D.Conn.left D.Conn.written D.Conn.faults D.Conn.quiets conn ≡ untouched input
+        → state_of D.Conn.left D.Conn.written D.Conn.faults D.Conn.quiets conn ≡ fresh_conn input
         → (after : ConnState) × (calls : History)
         × IsServed patience input after (is_open result) calls
         × Adds (D.served door.old) (D.served door.new) (after ∷ [])
@@ -106,10 +106,10 @@ fn leave<A: Asker>(alloc: Global, asker: &mut A)
 /// Serves the connections of a door until no more come, the door fails or the host has ended. Returns whether the door held.
 ///
 /// It leaves by an ask of its own if the door has ended or failed. It waits at its door and for its answers. It makes the
-/// table of routes at its beginning; without memory for it, one is made for each message.
+/// table of routes at its beginning; if memory runs out, it makes one for each message.
 pub fn worker<R: Wait, D: Door, A: Asker>(
-    alloc: Global,
     rt: &R,
+    alloc: Global,
     door: &mut D,
     asker: &mut A,
     patience: u32,

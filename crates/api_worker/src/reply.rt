@@ -1,8 +1,8 @@
 //! The reply to a message, and the call that it leads to.
 ghost use Rattle.std.specs.Prelude.{◌≡◌, Ok, IfOk, true, false};
-ghost use Rattle.octo_outside.specs.Told.{Adds};
+ghost use Rattle.octo_outside.specs.Recorded.{Adds};
 ghost use Rattle.octo_http.specs.declared.message.Message.{Message};
-ghost use Rattle.api_requests.specs.Requests.{Says};
+ghost use Rattle.api_requests.specs.Requests.{MessageReadsAs};
 ghost use Rattle.api_requests.specs.Callers.{IsCallers};
 ghost use Rattle.octo_asks.specs.History.{History};
 ghost use Rattle.api_worker.specs.Served.{IsReply, IsReplied};
@@ -23,9 +23,9 @@ pub struct Replied {
     pub is_open: bool,
 }
 
-// What a message asks. Without a table of routes one is made for it.
+// What a message asks. Without a table of routes one is made for this message.
 fn read_request(alloc: Global, routes: Option<&Routes>, message: Message) -> Result<Ask, Direct>
-    ensures says { Says message result }
+    ensures says { MessageReadsAs message result }
     ensures callers { IfOk result (λ ask. IsCallers ask.request) }
 {
     match routes {
@@ -34,7 +34,7 @@ fn read_request(alloc: Global, routes: Option<&Routes>, message: Message) -> Res
     }
 }
 
-// An answer's reply, or 507 if memory ran out for it.
+// An answer's reply, or 507 if memory ran out.
 fn reply_to(alloc: Global, answer: Answer) -> HttpReply
     ensures { IsReply answer result }
 {
@@ -46,7 +46,7 @@ fn reply_to(alloc: Global, answer: Answer) -> HttpReply
 
 // Asks, and returns the reply to the answer.
 fn reply_to_ask<A: Asker>(alloc: Global, asker: &mut A, ask: Ask) -> Replied
-    ensures replied { (message : Message) → Says message (Ok ask) → IsCallers ask.request
+    ensures replied { (message : Message) → MessageReadsAs message (Ok ask) → IsCallers ask.request
         → (calls : History) × Adds (A.mine asker.old) (A.mine asker.new) calls
         × IsReplied message result.reply result.is_open calls }
     ensures closed { result.is_open ≡ false → A.saw_close asker.new ≡ true }

@@ -7,8 +7,9 @@ use crate::{serve_conn, worker};
 use api_routes::Routes;
 use octo_asks::{Answer, Ask, Asker, Closed, Request};
 use octo_doors::{ConnList, MemoryDoor};
-use octo_outside::{CallList, MemoryConn};
+use octo_outside::{CallList, MemoryConn, calls_of};
 use std::alloc::{AllocError, Global};
+use std::process::Abort;
 use std::sync::Wait;
 use std::test::Fail;
 
@@ -46,8 +47,13 @@ impl Asker for Host {
         }
         self.open_for -= 1;
         self.answered = self.answered.wrapping_add(1);
-        match ask.request {
+        match &ask.request {
             Request::Version => Ok(Answer::Version),
+            Request::PutFile { name, .. } => Ok(Answer::Uploaded {
+                name: name.copy(),
+                select: false,
+                print: false,
+            }),
             Request::Leave => {
                 self.left = self.left.wrapping_add(1);
                 Ok(Answer::Accepted)
@@ -63,6 +69,23 @@ impl Asker for Host {
 
 const VERSION: &[u8] = b"GET /api/version HTTP/1.1\r\nHost: a\r\n\r\n";
 
+const VERSION_REPLY: &[u8] = b"HTTP/1.1 200 OK\r\nConnection: close\r\nContent-Length: 63\r\n\
+Content-Type: application/json\r\n\r\n\
+{\"api\":\"0.1\",\"server\":\"profile-1\",\"text\":\"OctoPrint profile-1\"}";
+
+// An upload that waits for leave to send its body.
+const UPLOAD: &[u8] = b"POST /api/files/local HTTP/1.1\r\nExpect: 100-continue\r\n\
+Content-Type: multipart/form-data; boundary=XY\r\nContent-Length: 142\r\n\r\n\
+--XY\r\nContent-Disposition: form-data; name=\"file\"; filename=\"a.gcode\"\r\n\
+Content-Type: application/octet-stream\r\n\r\nG28 ; --XY\r\nG1 X10\n\r\n--XY--\r\n";
+
+// The leave, and the reply.
+const UPLOAD_REPLY: &[u8] = b"HTTP/1.1 100 Continue\r\n\r\n\
+HTTP/1.1 201 Created\r\nConnection: close\r\nContent-Length: 131\r\n\
+Content-Type: application/json\r\n\r\n\
+{\"done\":true,\"effectivePrint\":false,\"effectiveSelect\":false,\"files\":{\"local\":\
+{\"name\":\"a.gcode\",\"origin\":\"local\",\"path\":\"a.gcode\"}}}";
+
 // One more connection with this input.
 fn with_conn(alloc: Global, conns: ConnList, input: &[u8]) -> Result<ConnList, AllocError>
     requires { All IsUntouched conns }
@@ -71,14 +94,6 @@ fn with_conn(alloc: Global, conns: ConnList, input: &[u8]) -> Result<ConnList, A
     let mut conns = conns;
     conns.push(MemoryConn::new(alloc, input, CallList::new(alloc), CallList::new(alloc))?)?;
     Ok(conns)
-}
-
-fn calls(alloc: Global, listed: &[u64]) -> Result<CallList, AllocError> {
-    let mut calls = CallList::new(alloc);
-    for call in listed {
-        calls.push(*call)?;
-    }
-    Ok(calls)
 }
 
 // The statuses of the replies at a door, in order; none for a connection without one.
@@ -101,9 +116,9 @@ fn replies_and_leaves(rt: HostRuntime) -> Result<(), Fail> {
     let conns = with_conn(alloc, conns, b"what is this\r\n\r\n")?;
     let conns = with_conn(alloc, conns, b"GET /api/version HT")?;
     let conns = with_conn(alloc, conns, VERSION)?;
-    let mut door = MemoryDoor::new(alloc, conns, calls(alloc, &[2])?, CallList::new(alloc));
+    let mut door = MemoryDoor::new(alloc, conns, calls_of(alloc, &[2])?, CallList::new(alloc));
     let mut host = Host::open_for(10);
-    assert!(rt; worker(alloc, &rt, &mut door, &mut host, 3));
+    assert!(rt; worker(&rt, alloc, &mut door, &mut host, 3));
     assert_eq!(rt;
         statuses(alloc, &door)?.as_slice(),
         b"200 404 400 - 200 ".as_slice()
@@ -121,7 +136,7 @@ fn a_host_that_ends(rt: HostRuntime) -> Result<(), Fail> {
     let conns = with_conn(alloc, conns, VERSION)?;
     let mut door = MemoryDoor::new(alloc, conns, CallList::new(alloc), CallList::new(alloc));
     let mut host = Host::open_for(1);
-    assert!(rt; worker(alloc, &rt, &mut door, &mut host, 3));
+    assert!(rt; worker(&rt, alloc, &mut door, &mut host, 3));
     assert_eq!(rt; statuses(alloc, &door)?.as_slice(), b"200 503 ".as_slice());
     assert_eq!(rt; (host.answered, host.left), (1, 0));
     Ok(())
@@ -133,9 +148,9 @@ fn a_door_that_fails(rt: HostRuntime) -> Result<(), Fail> {
     let alloc = rt.alloc();
     let conns = with_conn(alloc, ConnList::new(alloc), VERSION)?;
     let conns = with_conn(alloc, conns, VERSION)?;
-    let mut door = MemoryDoor::new(alloc, conns, CallList::new(alloc), calls(alloc, &[2])?);
+    let mut door = MemoryDoor::new(alloc, conns, CallList::new(alloc), calls_of(alloc, &[2])?);
     let mut host = Host::open_for(10);
-    assert!(rt; !worker(alloc, &rt, &mut door, &mut host, 3));
+    assert!(rt; !worker(&rt, alloc, &mut door, &mut host, 3));
     assert_eq!(rt; statuses(alloc, &door)?.as_slice(), b"200 ".as_slice());
     assert_eq!(rt; (host.answered, host.left), (2, 1));
     Ok(())
@@ -149,15 +164,48 @@ fn a_slow_peer(rt: HostRuntime) -> Result<(), Fail> {
     conns.push(MemoryConn::new(
         alloc,
         VERSION,
-        calls(alloc, &[1, 2, 3])?,
+        calls_of(alloc, &[1, 2, 3])?,
         CallList::new(alloc),
     )?)?;
     let mut door = MemoryDoor::new(alloc, conns, CallList::new(alloc), CallList::new(alloc));
     let mut host = Host::open_for(10);
-    assert!(rt; worker(alloc, &rt, &mut door, &mut host, 3));
+    assert!(rt; worker(&rt, alloc, &mut door, &mut host, 3));
     assert_eq!(rt; statuses(alloc, &door)?.as_slice(), b"408 ".as_slice());
     assert_eq!(rt; (host.answered, host.left), (1, 1));
     Ok(())
+}
+
+// A door after a worker that served an upload, of whose connection this call failed, and another message.
+fn serve_upload(rt: &(impl Wait + Abort), alloc: Global, number: u64) -> Result<MemoryDoor, Fail> {
+    let mut conns = ConnList::new(alloc);
+    let failing = calls_of(alloc, &[number])?;
+    conns.push(MemoryConn::new(alloc, UPLOAD, CallList::new(alloc), failing)?)?;
+    let conns = with_conn(alloc, conns, VERSION)?;
+    let mut door = MemoryDoor::new(alloc, conns, CallList::new(alloc), CallList::new(alloc));
+    let mut host = Host::open_for(10);
+    assert!(rt; worker(rt, alloc, &mut door, &mut host, 3));
+    assert_eq!(rt; host.left, 1);
+    Ok(door)
+}
+
+// Each call of an upload's connection fails in turn, until no call is left that could fail: what was written are the first
+// bytes of the leave and the reply, and the next connection has its whole reply.
+#[test]
+fn each_call_of_an_upload_failing(rt: HostRuntime) -> Result<(), Fail> {
+    let alloc = rt.alloc();
+    for number in 1..=100 {
+        let door = serve_upload(&rt, alloc, number)?;
+        let Some([upload, version]) = door.served() else {
+            return Err("not two connections")?;
+        };
+        let written = upload.written().unwrap_or(b"none");
+        assert!(rt; UPLOAD_REPLY.starts_with(written));
+        assert!(rt; version.written() == Some(VERSION_REPLY));
+        if written.len() == UPLOAD_REPLY.len() {
+            return Ok(());
+        }
+    }
+    Err("no whole reply")?
 }
 
 // The calls that take memory, each once: two connections, with and without a table of routes, and then one at a door.
@@ -174,7 +222,7 @@ fn ample(rt: HostRuntime) -> Result<(), Fail> {
     }
     let conns = with_conn(alloc, ConnList::new(alloc), VERSION)?;
     let mut door = MemoryDoor::new(alloc, conns, CallList::new(alloc), CallList::new(alloc));
-    assert!(rt; worker(alloc, &rt, &mut door, &mut host, 3));
+    assert!(rt; worker(&rt, alloc, &mut door, &mut host, 3));
     assert_eq!(rt; statuses(alloc, &door)?.as_slice(), b"200 ".as_slice());
     assert_eq!(rt; (host.answered, host.left), (4, 1));
     Ok(())

@@ -27,7 +27,7 @@ impl<C: Conn + Drop> ByteConn<C> {
 
 impl<C: Conn + Drop> Conn for ByteConn<C> {
     ghost use Rattle.std.specs.Prelude.{◌≡◌, ◌<◌, ◌≤◌, length, IfOk, OnErr, IsErr, IfSome};
-    ghost use Rattle.octo_outside.specs.Told.{Counts};
+    ghost use Rattle.octo_outside.specs.Recorded.{Counts};
     ghost use Rattle.octo_outside.specs.Traits.{Receives, IsWithin, quiets_after};
 
     ghost left = { λ c. C.left c.conn };

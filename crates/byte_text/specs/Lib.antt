@@ -1,3 +1,4 @@
+pub mod Chars
 pub mod Marks
 pub mod Number
 pub mod Sendable

@@ -1,3 +1,4 @@
+-- Bytes and texts that lines hold: a byte, a text, and `M110`, which sets the printer's line number.
 use Rattle.std.specs.Prelude.{ℕ, Bool, ◌||◌, List, [], ◌∷◌, codes, nat_eq, ◌==◌}
 use Rattle.std.specs.List.{starts_with, list_any}
 

@@ -1,3 +1,4 @@
+-- The commands that may be sent to a printer in one numbered line.
 use Rattle.std.specs.Prelude.{◌≡◌, ℕ, ◌≤◌, List, length, false}
 use Rattle.byte_text.specs.Marks.{has_byte, has_m110}
 

@@ -1,3 +1,4 @@
+-- The exclusive or of bytes, which is the checksum of a numbered line.
 use Rattle.std.specs.Prelude.{ℕ, List, fold, bit_xor}
 
 -- the exclusive or of all the bytes

@@ -23,7 +23,7 @@ pub fn number_law()
         → has_byte byte (decimal n) ≡ false }
 {}
 
-/// A byte is in joined bytes if it is in a piece; after its last place it isn't there any more.
+/// A byte is in joined bytes if it is in a piece; after its last place it isn't in them any more.
 pub fn byte_law()
     ensures pieces { (byte : ℕ) (front back : List ℕ)
         → has_byte byte (front ++ back) ≡ (has_byte byte front || has_byte byte back) }

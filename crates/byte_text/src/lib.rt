@@ -1,6 +1,7 @@
-//! Readings of bytes that several crates share: the checksum, a number with its ceiling, and marks in a line.
+//! Readings of bytes that several crates share: the checksum, numbers with their ceiling, marks in a line, and characters.
 #![tactic(auto)]
 
+mod chars;
 mod laws;
 mod marks;
 mod name;
@@ -11,12 +12,15 @@ mod texts;
 ghost use Rattle.std.specs.Prelude.{◌≡◌};
 ghost use Rattle.byte_text.specs.Xor.{xor_of};
 
+pub use chars::{is_space, same_text};
 pub use laws::{byte_law, m110_law, number_law, xor_law};
 pub use marks::{has_byte, has_m110, split_at_last};
-pub use name::Name;
-pub use numbers::{are_digits, leading_digits, number, whole_number};
+pub use name::{LongName, MOST_NAME_BYTES, Name};
+pub use numbers::{are_digits, leading_digits, number, number_in, whole_number};
 pub use sendable::is_sendable;
-pub use texts::{Line, ReplyLine, Text, append, append_decimal, append_number, bounded_text};
+pub use texts::{
+    Line, MOST_LINE_BYTES, ReplyLine, Text, append, append_decimal, append_number, bounded_text,
+};
 
 /// The exclusive or of all bytes, which Marlin's serial protocol takes as a line's checksum.
 #[tactic(auto, unfolding(crate::specs::Xor::xor_of))]

@@ -1,14 +1,21 @@
 //! Names: of a port, a file, a user, a group, a material or a queue entry.
-ghost use Rattle.std.specs.Prelude.{◌≡◌, ◌<◌, ◌≤◌, ◌↔◌, ◌^◌, ℕ, List, [], length, IsTrue, MatchOption};
+ghost use Rattle.std.specs.Prelude.{◌≡◌, ◌<◌, ◌≤◌, ◌↔◌, ◌^◌, ℕ, List, [], length, IsTrue, MatchOption, MatchResult};
 ghost use Rattle.std.specs.List.{All};
 
 use arrayvec::ArrayString;
 use std::marker::Model;
 
+/// How many bytes a name has at most.
+pub const MOST_NAME_BYTES: usize = 100;
+
+/// A text has over 100 bytes, so it isn't a name.
+#[derive(Clone, Copy, Debug, PartialEq, Eq)]
+pub struct LongName;
+
 /// A name of at most 100 bytes of UTF-8, seen as its bytes.
 #[derive(Debug, Drop)]
 pub struct Name {
-    text: ArrayString<100>,
+    text: ArrayString<MOST_NAME_BYTES>,
 }
 
 impl Model for Name {
@@ -39,12 +46,24 @@ impl Name {
 
     /// The name of this text, or `None` if it has over 100 bytes.
     pub fn from_text(text: &str) -> Option<Name>
-        ensures { MatchOption result (100 < length text.now)
-            (λ name. (name ≡ text.now) × (length text.now ≤ 100)) }
+        ensures { MatchOption result (MOST_NAME_BYTES < length text.now)
+            (λ name. (name ≡ text.now) × (length text.now ≤ MOST_NAME_BYTES)) }
     {
         match ArrayString::from(text) {
             Ok(text) => Some(Name { text }),
             Err(_) => None,
+        }
+    }
+
+    /// The name of this text, or that it is too long.
+    pub fn of(text: &str) -> Result<Name, LongName>
+        ensures { MatchResult result
+            (λ name. (name ≡ text.now) × (length text.now ≤ MOST_NAME_BYTES))
+            (λ _. MOST_NAME_BYTES < length text.now) }
+    {
+        match Name::from_text(text) {
+            Some(name) => Ok(name),
+            None => Err(LongName),
         }
     }
 
@@ -65,7 +84,7 @@ impl Name {
     /// The name as a text of at most 100 bytes.
     pub fn as_str(&self) -> &str
         ensures bytes { result.now ≡ self.now }
-        ensures short { length result.now ≤ 100 }
+        ensures short { length result.now ≤ MOST_NAME_BYTES }
     {
         self.text.as_str()
     }
@@ -73,7 +92,7 @@ impl Name {
     /// The bytes of the name.
     pub fn as_bytes(&self) -> &[u8]
         ensures bytes { result.now ≡ self.now }
-        ensures short { length result.now ≤ 100 }
+        ensures short { length result.now ≤ MOST_NAME_BYTES }
     {
         self.text.as_str().as_bytes()
     }

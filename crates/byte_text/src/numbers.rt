@@ -2,7 +2,7 @@
 ghost use Rattle.std.specs.Prelude.{◌≡◌, ◌≤◌};
 ghost use Rattle.std.specs.Char.{is_ascii_digit};
 ghost use Rattle.std.specs.List.{list_all, prefix_len};
-ghost use Rattle.byte_text.specs.Number.{leading_digits, number_of, whole_number};
+ghost use Rattle.byte_text.specs.Number.{leading_digits, number_of, whole_number, number_in};
 
 // How many digits are at the front.
 fn digit_count(bytes: &[u8]) -> usize
@@ -53,4 +53,14 @@ pub fn whole_number(text: &str, most: usize) -> Option<u64>
         return None;
     }
     text.parse().ok()
+}
+
+/// The number that a text is: 1 to 10 digits, at most 4,294,967,295.
+pub fn number_in(text: &str) -> Option<u32>
+    ensures { result ≡ number_in text.now }
+{
+    match whole_number(text, 10) {
+        Some(number) if number <= 4_294_967_295 => Some(number as u32),
+        _ => None,
+    }
 }

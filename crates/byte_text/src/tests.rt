@@ -1,3 +1,4 @@
+//! Sums, numbers, marks and letters of short texts.
 use super::*;
 
 #[test]
@@ -36,6 +37,19 @@ fn whole_texts(rt: HostRuntime) {
 }
 
 #[test]
+fn whole_texts_of_32_bits(rt: HostRuntime) {
+    for (text, want) in [
+        ("", None),
+        ("0000000007", Some(7)),
+        ("00000000007", None),
+        ("4294967295", Some(4_294_967_295)),
+        ("4294967296", None),
+    ] {
+        assert!(rt; number_in(text) == want);
+    }
+}
+
+#[test]
 fn marks_in_a_line(rt: HostRuntime) {
     assert!(rt; has_m110(b"N0 M110 N0"));
     assert!(rt; has_m110(b"M1110M1101"));
@@ -47,6 +61,13 @@ fn marks_in_a_line(rt: HostRuntime) {
     assert!(rt;
         parts.is_some_and(|parts| parts.0 == b"G28*1".as_slice() && parts.1 == b"22".as_slice())
     );
+}
+
+#[test]
+fn letters_in_any_case(rt: HostRuntime) {
+    assert!(rt; same_text(b"Expect-9", b"eXPECT-9"));
+    assert!(rt; !same_text(b"Expect", b"Expect-"));
+    assert!(rt; !same_text(b"@", b"`"));
 }
 
 #[test]

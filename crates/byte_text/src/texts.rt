@@ -8,7 +8,10 @@ use itoa::Buffer;
 /// A command, 1 to 79 bytes if it may be sent.
 pub type Text = ArrayVec<u8, 79>;
 
-/// A line to the printer without its line end, at most 95 bytes if it may be sent. Source: Marlin's `MAX_CMD_SIZE`, 96.
+/// How many bytes a line to the printer has at most, without its line end. Source: Marlin's `MAX_CMD_SIZE`, 96.
+pub const MOST_LINE_BYTES: usize = 95;
+
+/// A line to the printer without its line end, at most 95 bytes if it may be sent.
 pub type Line = ArrayVec<u8, 96>;
 
 /// A line from the printer without its line end, cut to 256 bytes.

@@ -2,7 +2,7 @@
 use Rattle.std.proofs.Common.{◌≡◌, ◌∙◌, ◌<◌, ◌≤◌, ◌+◌, ◌*◌, ◌%◌, ℕ, zero, suc, Bool, true, false, ◌&&◌, ◌==◌, ◌⊎◌, inl, inr, true≢false, nat_lt, List, [], ◌∷◌, ◌++◌, length, map, codes, decimal, cond, refl, ap, sym, subst, arith, Result, Ok, Err, Option, None, Some}
 use Rattle.std.specs.List.{list_any, list_all}
 use Rattle.std.specs.Char.{is_ascii_digit}
-use Rattle.std.proofs.lemmas.Bool.{or_parts, or_from, le-ltb}
+use Rattle.std.proofs.lemmas.Bool.{or_parts, or_from, le-ltb, and_parts}
 use Rattle.std.proofs.lemmas.Bool.Decides.{nat_tests}
 use Rattle.std.proofs.lemmas.List.{append_assoc, length-append}
 use Rattle.std.proofs.lemmas.List.Folds.{list_any-append}
@@ -14,8 +14,9 @@ use Rattle.gcode_lines.specs.Text.{begin_of, has_control, is_control, is_skipped
 use Rattle.gcode_lines.specs.declared.fault.FileFault.{FileFault}
 use Rattle.gcode_lines.specs.declared.fault.FileFault.TheVariants.{TooLong, ControlByte, NoMemory}
 use Rattle.gcode_lines.proofs.TextCut.{IsPart-ends, IsPart-text_of}
-use Rattle.demo_print.specs.Draws.{draws, next_number}
+use Rattle.demo_print.specs.Draws.{draws, next_draw}
 use Rattle.demo_print.specs.File.{command_of, demo_file, lines_of}
+use Rattle.gcode_lines.proofs.Sendable.{line_feed_is_control}
 
 -- a short line without control bytes, and so without a line feed
 record IsPlain (line : List ℕ) : Type 0 where
@@ -25,14 +26,10 @@ record IsPlain (line : List ℕ) : Type 0 where
 digit_clean : (byte : ℕ) → is_ascii_digit byte ≡ true → is_control byte ≡ false
 digit_clean byte digit = grind (arith, nat_tests)
 
-both : (a b : Bool) → (a && b) ≡ true → (a ≡ true) × (b ≡ true)
-both true b e = (refl, e)
-both false b e = absurd (true≢false (sym e))
-
 digits_clean : (bytes : List ℕ) → list_all is_ascii_digit bytes ≡ true → list_any is_control bytes ≡ false
 digits_clean [] all = refl
 digits_clean (byte ∷ bytes) all =
-    let parts = both (is_ascii_digit byte) (list_all is_ascii_digit bytes) all in
+    let parts = and_parts (is_ascii_digit byte) (list_all is_ascii_digit bytes) all in
     or_from _ _ (digit_clean byte parts.0) (digits_clean bytes parts.1)
 
 -- four bytes and a small number
@@ -95,11 +92,8 @@ first_piece : (line rest : List ℕ) → list_any is_control line ≡ false → 
 first_piece [] rest clean = refl
 first_piece (byte ∷ line) rest clean =
     let parts = or_parts (is_control byte) (list_any is_control line) clean in
-    let other : (byte == 10) ≡ false = not_feed byte parts.0 in
+    let other : (byte == 10) ≡ false = line_feed_is_control byte parts.0 in
     rw (other, first_piece line rest parts.1) refl
-  where
-    not_feed : (byte : ℕ) → is_control byte ≡ false → (byte == 10) ≡ false
-    not_feed byte printed = grind (arith, nat_tests)
 
 pieces_of_lines : (drawn : List ℕ) → pieces_of (lines_of drawn) ≡ map command_of drawn
 pieces_of_lines [] = refl
@@ -117,7 +111,7 @@ lines_short (draw ∷ drawn) =
 
 draws_many : (number count : ℕ) → length (draws number count) ≡ count
 draws_many number zero = refl
-draws_many number (suc count) = ap suc (draws_many (next_number number) count)
+draws_many number (suc count) = ap suc (draws_many (next_draw number) count)
 
 -- the file of a demo has a job
 pub job_of_demo : (seed commands : ℕ) → commands ≤ 200000 → job_of (demo_file seed commands) ≡ Ok (job_in (demo_file seed commands) (file_lines (demo_file seed commands)))

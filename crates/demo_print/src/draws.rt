@@ -1,6 +1,6 @@
 //! The numbers that a demo draws from its seed.
 ghost use Rattle.std.specs.Prelude.{◌≡◌, ◌<◌, ℕ};
-ghost use Rattle.demo_print.specs.Draws.{next_number, drawn};
+ghost use Rattle.demo_print.specs.Draws.{next_draw, upper_bits};
 
 use std::marker::Model;
 
@@ -28,10 +28,10 @@ impl Draws {
     }
 
     /// The next draw, below 32,768.
-    #[tactic(auto, unfolding(crate::specs::Draws::next_number))]
+    #[tactic(auto, unfolding(crate::specs::Draws::next_draw))]
     pub(crate) fn draw(&mut self) -> u32
-        ensures number { self.new ≡ next_number self.old }
-        ensures value { result ≡ drawn self.new }
+        ensures number { self.new ≡ next_draw self.old }
+        ensures value { result ≡ upper_bits self.new }
     {
         let number = (1_103_515_245 * u64::from(self.number) + 12_345) % 2_147_483_648;
         self.number = number as u32;

@@ -8,6 +8,9 @@ use itoa::Buffer;
 use octo_outside::Blob;
 use std::alloc::{AllocError, Global};
 
+/// How many commands the file of a demo has at most.
+pub const MOST_COMMANDS: u32 = 200_000;
+
 // Adds a command and its number.
 fn append_command(file: &mut Blob, command: &[u8], number: u32) -> Result<(), AllocError>
     ensures { OnOk result (file.new ≡ file.old ++ command.now ++ decimal number ++ codes "\n") }
@@ -30,7 +33,7 @@ fn append_line(file: &mut Blob, draw: u32) -> Result<(), AllocError>
     }
 }
 
-/// Adds a line for each draw, this number of them.
+/// Adds a line for each command.
 pub(crate) fn append_lines(
     file: &mut Blob,
     numbers: &mut Draws,

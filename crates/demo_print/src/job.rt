@@ -2,6 +2,7 @@
 ghost use Rattle.std.specs.Prelude.{◌≡◌, ◌≤◌, IfOk, Ok};
 ghost use Rattle.gcode_lines.specs.Commands.{job_of};
 ghost use Rattle.demo_print.specs.File.{demo_file};
+ghost use Rattle.demo_print.specs.declared.file.TheConstants.{MOST_COMMANDS};
 
 use crate::file::demo_file;
 use gcode_lines::{FileFault, Job, take_commands};
@@ -19,7 +20,7 @@ fn no_memory(fault: FileFault) -> AllocError
 
 /// The job of a demo's file of at most 200,000 commands; no line of such a file is refused.
 pub fn demo_job(alloc: Global, seed: u32, commands: u32) -> Result<Job, AllocError>
-    requires { commands ≤ 200000 }
+    requires { commands ≤ MOST_COMMANDS }
     ensures { IfOk result (λ job. job_of (demo_file seed commands) ≡ Ok job) }
 {
     let file = demo_file(alloc, seed, commands)?;

@@ -8,7 +8,7 @@ mod report;
 mod run;
 mod schedule;
 
-pub use file::demo_file;
+pub use file::{MOST_COMMANDS, demo_file};
 pub use job::demo_job;
 pub use report::{DemoCounts, SummaryText, summary};
 pub use run::{Demo, run_demo};

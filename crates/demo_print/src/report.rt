@@ -14,7 +14,7 @@ pub struct DemoCounts {
     pub executed: u64,
     /// The lines that were sent.
     pub sent: u64,
-    /// The lines that were lost or garbled.
+    /// The lines that were lost or corrupted.
     pub faults: u64,
 }
 

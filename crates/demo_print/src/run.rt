@@ -1,10 +1,12 @@
 //! The run of a demo.
 ghost use Rattle.std.specs.Prelude.{◌≡◌, ◌≤◌, length, false, IfOk};
+ghost use Rattle.byte_text.specs.declared.name.TheConstants.{MOST_NAME_BYTES};
 ghost use Rattle.desk_steps.specs.Data.{new_desk};
 ghost use Rattle.send_window.specs.Data.{new_sender, IsSound};
 ghost use Rattle.session_print.specs.Ends.{IsNew};
 ghost use Rattle.job_desk.specs.Scripts.{no_scripts};
 ghost use Rattle.demo_print.specs.Run.{IsDemo, counts_of, demo_limits};
+ghost use Rattle.demo_print.specs.declared.file.TheConstants.{MOST_COMMANDS};
 
 use crate::job::demo_job;
 use crate::report::DemoCounts;
@@ -42,7 +44,7 @@ pub struct Demo {
 
 // A short name.
 fn name(text: &str) -> Name
-    requires { length text.now ≤ 100 }
+    requires { length text.now ≤ MOST_NAME_BYTES }
     ensures { result ≡ text.now }
 {
     match Name::from_text(text) {
@@ -67,14 +69,14 @@ fn plain_session(alloc: Global) -> Result<Session, AllocError>
 }
 
 /// Prints the file of a demo over a link in memory of its own, for a seed of at most 2,147,483,647 and at most 200,000
-/// commands. The printer has 4 places and the last line number 4; the window is 4, and a rest takes 100 ms.
+/// commands. The printer has 4 buffer slots and the last line number 4; the window is 4, and a rest takes 100 ms.
 ///
 /// # Errors
 ///
 /// Out of memory, also if it is the link's.
 pub fn run_demo(alloc: Global, seed: u32, commands: u32) -> Result<Demo, AllocError>
     requires seed { seed ≤ 2147483647 }
-    requires commands { commands ≤ 200000 }
+    requires commands { commands ≤ MOST_COMMANDS }
     ensures { IfOk result (IsDemo seed commands) }
 {
     let job = demo_job(alloc, seed, commands)?;

@@ -1,7 +1,8 @@
 //! What a demo's link does with the lines that are sent.
 ghost use Rattle.std.specs.Prelude.{◌≡◌, ◌≤◌, ◌++◌, ◌∷◌, [], IfOk, OnOk, codes};
-ghost use Rattle.demo_print.specs.Draws.{draws, drawn, next_number, number_after};
+ghost use Rattle.demo_print.specs.Draws.{draws, upper_bits, next_draw, number_after};
 ghost use Rattle.demo_print.specs.Fates.{fate_of, fate_after, harmed_after, fates_after, demo_fates, demo_schedule};
+ghost use Rattle.demo_print.specs.declared.file.TheConstants.{MOST_COMMANDS};
 
 use crate::draws::Draws;
 use byte_text::Name;
@@ -45,10 +46,10 @@ fn harmed_after(harmed: u32, fate: Fate) -> u32
 fn append_fate(fates: &mut FateList, numbers: &mut Draws, harmed: u32) -> Result<u32, AllocError>
     requires { harmed ≤ 2 }
     ensures fate { OnOk result
-        (fates.new ≡ fates.old ++ fate_after harmed (drawn numbers.new) ∷ []) }
-    ensures number { numbers.new ≡ next_number numbers.old }
+        (fates.new ≡ fates.old ++ fate_after harmed (upper_bits numbers.new) ∷ []) }
+    ensures number { numbers.new ≡ next_draw numbers.old }
     ensures harmed { IfOk result
-        (λ now. now ≡ harmed_after harmed (fate_after harmed (drawn numbers.new))) }
+        (λ now. now ≡ harmed_after harmed (fate_after harmed (upper_bits numbers.new))) }
     ensures few { IfOk result (λ now. now ≤ 2) }
 {
     let fate = fate_after(harmed, numbers.draw());
@@ -56,7 +57,7 @@ fn append_fate(fates: &mut FateList, numbers: &mut Draws, harmed: u32) -> Result
     Ok(harmed_after(harmed, fate))
 }
 
-// Adds a fate for each draw, this number of them.
+// Adds a fate for each of `count` draws.
 fn append_fates(fates: &mut FateList, numbers: &mut Draws, count: u32) -> Result<(), AllocError>
     ensures { OnOk result (fates.new ≡ fates.old ++ fates_after 0 (draws numbers.old count)) }
 {
@@ -78,7 +79,7 @@ fn skip(numbers: &mut Draws, count: u32)
 
 // The fates of a demo.
 fn demo_fates(alloc: Global, seed: u32, commands: u32) -> Result<FateList, AllocError>
-    requires { commands ≤ 200000 }
+    requires { commands ≤ MOST_COMMANDS }
     ensures { IfOk result (λ fates. fates ≡ demo_fates seed commands) }
 {
     let mut numbers = Draws::new(seed);
@@ -100,10 +101,10 @@ fn names(alloc: Global) -> Result<NameList, AllocError>
     Ok(names)
 }
 
-/// What the link of a demo of at most 200,000 commands does: a fifth of the lines that are sent are lost or garbled,
+/// What the link of a demo of at most 200,000 commands does: a fifth of the lines that are sent are lost or corrupted,
 /// never three in a row. The first line, the hello, arrives whole.
 pub fn demo_schedule(alloc: Global, seed: u32, commands: u32) -> Result<Schedule, AllocError>
-    requires { commands ≤ 200000 }
+    requires { commands ≤ MOST_COMMANDS }
     ensures { IfOk result (λ schedule. schedule ≡ demo_schedule seed commands) }
 {
     Ok(Schedule {

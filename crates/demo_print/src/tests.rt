@@ -1,5 +1,6 @@
 //! Files, fates and summaries of demos.
 ghost use Rattle.std.specs.Prelude.{◌≤◌};
+ghost use Rattle.demo_print.specs.declared.file.TheConstants.{MOST_COMMANDS};
 
 use super::*;
 use crate::draws::Draws;
@@ -20,7 +21,7 @@ fn first_draws(rt: HostRuntime) {
     }
 }
 
-// Whether a fate has that letter: W whole, L lost, G garbled.
+// Whether a fate has that letter: W whole, L lost, G corrupted.
 fn is_letter(fate: Fate, letter: u8) -> bool {
     match fate {
         Fate::Whole => letter == b'W',
@@ -85,7 +86,7 @@ fn comes_to(
     wanted: (u64, u64, u64),
 ) -> Result<(), Fail>
     requires seed { seed ≤ 2147483647 }
-    requires commands { commands ≤ 200000 }
+    requires commands { commands ≤ MOST_COMMANDS }
 {
     let demo = run_demo(alloc, seed, commands)?;
     let counts = demo.counts()?;

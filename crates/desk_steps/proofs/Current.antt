@@ -3,7 +3,7 @@ use Rattle.std.proofs.Common.{◌≡◌, ℕ, Bool, true, false, cond, nat_eq, �
 use Rattle.std.proofs.lemmas.Bool.{false≢true}
 use Rattle.desk_steps.specs.Data.{ScriptTexts, Data, File, Line, script_lines, commands_of, with_script, moment_after}
 use Rattle.desk_steps.specs.Table.{closing, connect_at, disconnect_at, select_at, drop_file_step, is_named, pause_at, resume_at, toggle_at, cancel_at, manual_at, add_manual}
-use Rattle.desk_steps.specs.Pull.{Drawn, talk, nothing, next_number, keep_number, issue, from_scripts, from_manual, from_poll, poll_is_due, from_file, draw_at, is_issued, settle_at, pull_step}
+use Rattle.desk_steps.specs.Pull.{Drawn, draw_in_order, nothing, next_number, keep_number, issue, from_scripts, from_manual, from_poll, poll_is_due, from_file, draw_at, is_issued, settle_at, pull_step}
 use Rattle.desk_steps.specs.Course.{job_line}
 use Rattle.desk_steps.specs.Run.{lines_of}
 use Rattle.desk_steps.specs.declared.state.State.{State}
@@ -274,7 +274,7 @@ module _ (p : ℕ) (commands : List (List ℕ)) where
   })
 
   current-talk : (out : List Line) (moment : ℕ) (d : Data) (next : Drawn) → CurrentTo p commands out d → (d.waiting ≡ [] → CurrentDrawn out next) →
-      CurrentDrawn out (talk moment d next)
+      CurrentDrawn out (draw_in_order moment d next)
   current-talk out moment d next h k =
       current-scripts out d.waiting d _ refl h (λ w. current-from_manual out d.manual d _ h (current-poll out moment d next h (k w)))
 

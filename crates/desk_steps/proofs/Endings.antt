@@ -1,11 +1,11 @@
 -- How a print ends in a note, and what the note leaves.
 use Rattle.std.proofs.Common.{◌≡◌, ◌⊎◌, inl, inr, ℕ, ◌≤◌, Bool, true, false, cond, [], Option, None, Some, refl, sym, ◌∙◌, ap, arith}
 use Rattle.std.specs.Prelude.{IfSome}
-use Rattle.std.proofs.lemmas.Bool.{false≢true}
+use Rattle.std.proofs.lemmas.Bool.{false≢true, and_parts}
 use Rattle.std.proofs.lemmas.Bool.Decides.{nat_tests}
 use Rattle.desk_steps.specs.Data.{Data, with_script}
 use Rattle.desk_steps.specs.Pull.{is_issued, settle_at, settled}
-use Rattle.desk_steps.specs.Note.{Noted, ended, is_over, end_at, finish, leave, fail, ready_at, opened, note_fact, note_step}
+use Rattle.desk_steps.specs.Note.{Noted, after_ending, is_over, end_at, finish, leave, fail, ready_at, after_open, note_fact, note_step}
 use Rattle.desk_steps.specs.Endings.{has_print, IsActive, IsAcknowledged, is_failure, EndsAs, IsEnding}
 use Rattle.desk_steps.specs.declared.state.State.{State}
 use Rattle.desk_steps.specs.declared.state.State.TheVariants.{Offline, Connecting, Printing, Pausing, Paused, Cancelling, Finishing, Fault}
@@ -15,7 +15,7 @@ use Rattle.desk_steps.specs.declared.link_fact.LinkFact.TheVariants as fact
 use Rattle.print_records.specs.declared.ending.Ending.{Ending}
 use Rattle.print_records.specs.declared.ending.Outcome.{Outcome}
 use Rattle.print_records.specs.declared.ending.Outcome.TheVariants as outcome
-use Rattle.desk_steps.proofs.Noted.{no_lines, and_first}
+use Rattle.desk_steps.proofs.Noted.{no_lines}
 
 -- no print goes on, no script line waits, and the last issued line of the last print is acknowledged
 pub record IsFree (acked : ℕ) (d : Data) : Type 0 where
@@ -36,11 +36,11 @@ abbrev pub EndsIn : ℕ → LinkFact → Data → Option Ending → Data → Typ
 EndsIn acked found d None e = (e.active ≡ d.active) × (e.greatest ≡ d.greatest)
 EndsIn acked found d (Some ending) e = IsEnding acked found d ending × LeavesFree ending.outcome acked found e × (e.active ≡ false)
 
-over_line : (t : Data) → is_over t ≡ true → t.print_line ≤ t.acked
+pub over_line : (t : Data) → is_over t ≡ true → t.print_line ≤ t.acked
 over_line t over = grind (arith, nat_tests)
 
-over_waiting : (t : Data) → is_over t ≡ true → t.waiting ≡ []
-over_waiting t over = no_lines t.waiting (and_first _ _ over)
+pub over_waiting : (t : Data) → is_over t ≡ true → t.waiting ≡ []
+over_waiting t over = no_lines t.waiting (and_parts _ _ over).0
 
 -- settling starts and ends no print
 pub settle_print : (s : State) (t : Data) → ((settle_at s t).active ≡ t.active) × ((settle_at s t).greatest ≡ t.greatest)
@@ -130,8 +130,8 @@ module _ (acked : ℕ) (f : LinkFact) (d : Data) where
 
 module _ (acked moment : ℕ) (d : Data) (going : IsActive d) where
   ready_ends : (s : State) → d.state ≡ s →
-      EndsIn acked fact.Ready d (ended (ready_at s moment (record d { acked = acked; ready = true }))).0
-      (ended (ready_at s moment (record d { acked = acked; ready = true }))).1
+      EndsIn acked fact.Ready d (after_ending (ready_at s moment (record d { acked = acked; ready = true }))).0
+      (after_ending (ready_at s moment (record d { acked = acked; ready = true }))).1
   ready_ends Connecting e = (refl, refl)
   ready_ends _ e =
       end_ends acked fact.Ready d going d.state (record d { acked = acked; ready = true }) refl
@@ -142,18 +142,18 @@ module _ (acked moment : ℕ) (d : Data) (going : IsActive d) where
       end_ends acked fact.Quiet d going d.state (record d { acked = acked }) refl
       (record { active = refl; greatest = refl; waiting = refl; line = λ l. inr l; left = λ l. l })
   fact_ends fact.Opened =
-      end_ends acked fact.Opened d going d.state (opened (record d { acked = acked })) refl
+      end_ends acked fact.Opened d going d.state (after_open (record d { acked = acked })) refl
       (record { active = refl; greatest = refl; waiting = refl; line = λ l. inl refl; left = λ l. (let none : 0 ≤ acked = omega arith in none) })
   fact_ends fact.Ready = ready_ends d.state refl
   fact_ends fact.Closed = leave_ends acked fact.Closed d outcome.Cancelled Offline d.active (record d { acked = acked }) refl refl refl (inr refl)
       (λ e. inr refl)
   fact_ends fact.NoPort = leave_ends acked fact.NoPort d outcome.Failed Fault d.active (record d { acked = acked }) refl refl refl refl (λ e. tt)
   fact_ends fact.Failed =
-      fail_ends acked fact.Failed d (ended (record d { acked = acked })) refl
+      fail_ends acked fact.Failed d (after_ending (record d { acked = acked })) refl
       (end_ends acked fact.Failed d going d.state (record d { acked = acked }) refl
       (record { active = refl; greatest = refl; waiting = refl; line = λ l. inr l; left = λ l. l }))
   fact_ends (fact.Ended end) =
-      fail_ends acked (fact.Ended end) d (ended (record d { acked = acked })) refl
+      fail_ends acked (fact.Ended end) d (after_ending (record d { acked = acked })) refl
       (end_ends acked (fact.Ended end) d going d.state (record d { acked = acked }) refl
       (record { active = refl; greatest = refl; waiting = refl; line = λ l. inr l; left = λ l. l }))
 

@@ -1,10 +1,10 @@
 -- A print that is not going on: no call but its own start touches it.
 use Rattle.std.proofs.Common.{◌≡◌, ◌⊎◌, inl, inr, ℕ, Bool, true, false, cond, nat_eq, ◌+◌, codes, List, [], ◌∷◌, ◌++◌, Option, None, Some, refl, sym, ◌∙◌, ap, subst}
-use Rattle.std.proofs.lemmas.Bool.{false≢true}
+use Rattle.std.proofs.lemmas.Bool.{false≢true, cond_both}
 use Rattle.desk_steps.specs.Data.{Data, File, Line, script_lines, moment_after}
 use Rattle.desk_steps.specs.Table.{connect_at, disconnect_at, select_at, drop_file_step, is_named, printing, pause_at, resume_at, toggle_at, cancel_at, manual_at, add_manual}
-use Rattle.desk_steps.specs.Pull.{Drawn, talk, nothing, next_number, keep_number, issue, from_scripts, from_manual, from_poll, poll_is_due, from_file, draw_at, is_issued, settle_at, pull_step}
-use Rattle.desk_steps.specs.Note.{Noted, ended, is_over, end_at, finish, leave, fail, ready_at, opened, note_fact, note_step}
+use Rattle.desk_steps.specs.Pull.{Drawn, draw_in_order, nothing, next_number, keep_number, issue, from_scripts, from_manual, from_poll, poll_is_due, from_file, draw_at, is_issued, settle_at, pull_step}
+use Rattle.desk_steps.specs.Note.{Noted, after_ending, is_over, end_at, finish, leave, fail, ready_at, after_open, note_fact, note_step}
 use Rattle.desk_steps.specs.Course.{job_line}
 use Rattle.desk_steps.specs.Run.{is_of, lines_of}
 use Rattle.desk_steps.specs.declared.state.State.{State}
@@ -42,10 +42,6 @@ abbrev pub ForeignTo : ℕ → Data → Type 0
 ForeignTo p d = Foreign p d.waiting d.greatest d.active d.state
 
 module _ (p : ℕ) where
-  choose : {X : Type 0} (P : X → Type 0) (b : Bool) (x y : X) → P x → P y → P (cond b x y)
-  choose P true x y hx hy = hx
-  choose P false x y hx hy = hy
-
   choose_pair : {X : Type 0} (b : Bool) (x y : X × Data) → ForeignTo p x.1 → ForeignTo p y.1 → ForeignTo p (cond b x y).1
   choose_pair true x y hx hy = hx
   choose_pair false x y hx hy = hy
@@ -138,7 +134,7 @@ module _ (p : ℕ) where
   choose_drawn false x y hx hy = hy
 
   foreign-keep : (tag : Tag) (number : ℕ) (d : Data) → ForeignTo p d → ForeignTo p (keep_number tag number d)
-  foreign-keep (Script at print) number d f = choose (λ e. ForeignTo p e) (nat_eq print 0) d (record d { print_line = number }) f f
+  foreign-keep (Script at print) number d f = cond_both (nat_eq print 0) d (record d { print_line = number }) (λ e. ForeignTo p e) (λ _. f) (λ _. f)
   foreign-keep (Job print index) number d f = f
   foreign-keep Manual number d f = f
   foreign-keep Poll number d f = f
@@ -173,7 +169,7 @@ module _ (p : ℕ) where
   foreign-file None d e f = (f, tt)
   foreign-file (Some text) d e f = foreign-issue (job_line d.greatest d.cursor text) (record d { cursor = d.cursor + 1 }) e f
 
-  foreign-talk : (moment : ℕ) (d : Data) (next : Drawn) → ForeignTo p d → ForeignDrawn next → ForeignDrawn (talk moment d next)
+  foreign-talk : (moment : ℕ) (d : Data) (next : Drawn) → ForeignTo p d → ForeignDrawn next → ForeignDrawn (draw_in_order moment d next)
   foreign-talk moment d next f h = foreign-scripts d.waiting d _ refl f (foreign-from_manual d.manual d _ f (foreign-poll moment d next f h))
 
   foreign-draw : (s : State) (moment : ℕ) (d : Data) → d.state ≡ s → ForeignTo p d → ForeignDrawn (draw_at s moment d)
@@ -189,7 +185,7 @@ module _ (p : ℕ) where
   foreign-draw Fault moment d e f = (f, tt)
 
   pub foreign-settle : (s : State) (d : Data) → d.state ≡ s → ForeignTo p d → ForeignTo p (settle_at s d)
-  foreign-settle Printing d e f = choose (λ x. ForeignTo p x) (is_issued d) _ d (busy_script point.Done d Printing Finishing e (λ h. h) f) f
+  foreign-settle Printing d e f = cond_both (is_issued d) _ d (λ x. ForeignTo p x) (λ _. busy_script point.Done d Printing Finishing e (λ h. h) f) (λ _. f)
   foreign-settle _ d e f = f
 
   pub foreign-pull : (moment : ℕ) (d : Data) → ForeignTo p d → ForeignDrawn (pull_step moment d)
@@ -237,15 +233,15 @@ module _ (p : ℕ) where
 
   foreign-fact : nat_eq 0 p ≡ false → (f : LinkFact) (moment : ℕ) (d : Data) → ForeignTo p d → ForeignNoted (note_fact f moment d)
   foreign-fact z fact.Quiet moment d f = foreign-end d.state d refl f
-  foreign-fact z fact.Opened moment d f = foreign-end d.state (opened d) refl f
+  foreign-fact z fact.Opened moment d f = foreign-end d.state (after_open d) refl f
   foreign-fact z fact.Ready moment d f =
       let heard : Data = record d { ready = true } in
       let is : Data = ready_at heard.state moment heard in
       foreign-end is.state is refl (foreign-ready z heard.state moment heard f)
   foreign-fact z fact.Closed moment d f = foreign-leave Offline outcome.Cancelled d tt f
   foreign-fact z fact.NoPort moment d f = foreign-leave Fault outcome.Failed d tt f
-  foreign-fact z fact.Failed moment d f = foreign-fail (ended d) (foreign-end d.state d refl f)
-  foreign-fact z (fact.Ended end) moment d f = foreign-fail (ended d) (foreign-end d.state d refl f)
+  foreign-fact z fact.Failed moment d f = foreign-fail (after_ending d) (foreign-end d.state d refl f)
+  foreign-fact z (fact.Ended end) moment d f = foreign-fail (after_ending d) (foreign-end d.state d refl f)
 
   pub foreign-note : nat_eq 0 p ≡ false → (acked : ℕ) (f : LinkFact) (moment : ℕ) (d : Data) → ForeignTo p d → ForeignNoted (note_step acked f moment d)
   foreign-note z acked f moment d h =

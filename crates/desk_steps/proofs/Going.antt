@@ -2,9 +2,9 @@
 use Rattle.std.proofs.Common.{◌≡◌, ℕ, ◌+◌, ◌≤◌, Bool, true, false, cond, nat_eq, codes, List, [], ◌∷◌, Option, None, Some, refl, sym, ◌∙◌, ap, subst}
 use Rattle.std.proofs.lemmas.Bool.{false≢true}
 use Rattle.desk_steps.specs.Data.{Data, Line, with_script, moment_after}
-use Rattle.desk_steps.specs.Pull.{Drawn, talk, nothing, next_number, keep_number, issue, from_scripts, from_manual, from_poll, poll_is_due, from_file, draw_at, is_issued, settle_at, settled, pull_step}
+use Rattle.desk_steps.specs.Pull.{Drawn, draw_in_order, nothing, next_number, keep_number, issue, from_scripts, from_manual, from_poll, poll_is_due, from_file, draw_at, is_issued, settle_at, settled, pull_step}
 use Rattle.desk_steps.specs.Course.{job_line}
-use Rattle.desk_steps.specs.Note.{Noted, ended, is_over, end_at, finish, leave, fail, ready_at, opened, note_fact, note_step}
+use Rattle.desk_steps.specs.Note.{Noted, after_ending, is_over, end_at, finish, leave, fail, ready_at, after_open, note_fact, note_step}
 use Rattle.desk_steps.specs.Endings.{has_print, IsActive}
 use Rattle.desk_steps.specs.declared.state.State.{State}
 use Rattle.desk_steps.specs.declared.state.State.TheVariants.{Offline, Connecting, Operational, Printing, Pausing, Paused, Cancelling, Finishing, Closing, Fault}
@@ -15,6 +15,8 @@ use Rattle.desk_steps.specs.declared.link_fact.LinkFact.{LinkFact}
 use Rattle.desk_steps.specs.declared.link_fact.LinkFact.TheVariants as fact
 use Rattle.print_records.specs.declared.ending.Outcome.TheVariants as outcome
 use Rattle.desk_steps.proofs.Endings.{IsFree, free_settle}
+use Rattle.desk_steps.proofs.Steady.{choose_pair}
+use Rattle.print_records.specs.declared.ending.Ending.{Ending}
 
 -- from one desk to another
 pub record Goes (d e : Data) : Type 0 where
@@ -79,20 +81,16 @@ stays_manual : (m : List (List ℕ)) (d : Data) (next : Drawn) → Stays d next.
 stays_manual [] d next h = h
 stays_manual (text ∷ texts) d next h = stays_issue (record { text = text; tag = Manual }) d (record d { manual = texts }) (refl, refl)
 
-choose_drawn : (P : Data → Type 0) (b : Bool) (x y : Drawn) → P x.1 → P y.1 → P (cond b x y).1
-choose_drawn P true x y hx hy = hx
-choose_drawn P false x y hx hy = hy
-
 stays_poll : (moment : ℕ) (d : Data) (next : Drawn) → Stays d next.1 → Stays d (from_poll moment d next).1
 stays_poll moment d next h =
     let asked : Data = record d { poll_at = moment_after moment d.poll_ms } in
-    choose_drawn (λ e. Stays d e) (poll_is_due moment d) _ next (stays_issue (record { text = codes "M105"; tag = Poll }) d asked (refl, refl)) h
+    choose_pair {X = Option Line} (λ e. Stays d e) (poll_is_due moment d) _ next (stays_issue (record { text = codes "M105"; tag = Poll }) d asked (refl, refl)) h
 
 stays_file : (text : Option (List ℕ)) (d : Data) → Stays d (from_file text d).1
 stays_file None d = (refl, refl)
 stays_file (Some text) d = stays_issue (job_line d.greatest d.cursor text) d (record d { cursor = d.cursor + 1 }) (refl, refl)
 
-stays_talk : (moment : ℕ) (d : Data) (next : Drawn) → Stays d next.1 → Stays d (talk moment d next).1
+stays_talk : (moment : ℕ) (d : Data) (next : Drawn) → Stays d next.1 → Stays d (draw_in_order moment d next).1
 stays_talk moment d next h = stays_scripts d.waiting d _ (stays_manual d.manual d _ (stays_poll moment d next h))
 
 stays_draw : (s : State) (moment : ℕ) (d : Data) → Stays d (draw_at s moment d).1
@@ -118,16 +116,12 @@ goes_pull moment d =
     let drawn : Drawn = draw_at d.state moment d in
     goes_then d drawn.1 (settled drawn.1) (goes_stays d drawn.1 (stays_draw d.state moment d)) (goes_settle drawn.1.state drawn.1 refl)
 
-choose_noted : (P : Data → Type 0) (b : Bool) (x y : Noted) → P x.1 → P y.1 → P (cond b x y).1
-choose_noted P true x y hx hy = hx
-choose_noted P false x y hx hy = hy
-
 goes_end : (s : State) (d : Data) → d.state ≡ s → Goes d (end_at s d).1
-goes_end Pausing d e = choose_noted (λ t. Goes d t) (is_over d) (None, record d { state = Paused }) (None, d)
+goes_end Pausing d e = choose_pair {X = Option Ending} (λ t. Goes d t) (is_over d) (None, record d { state = Paused }) (None, d)
     (moves d (record d { state = Paused }) (ap has_print e) refl) (same d)
-goes_end Cancelling d e = choose_noted (λ t. Goes d t) (is_over d) (finish outcome.Cancelled d) (None, d)
+goes_end Cancelling d e = choose_pair {X = Option Ending} (λ t. Goes d t) (is_over d) (finish outcome.Cancelled d) (None, d)
     (stopped d (record d { state = Operational; active = false }) refl refl) (same d)
-goes_end Finishing d e = choose_noted (λ t. Goes d t) (is_over d) (finish outcome.Done d) (None, d)
+goes_end Finishing d e = choose_pair {X = Option Ending} (λ t. Goes d t) (is_over d) (finish outcome.Done d) (None, d)
     (stopped d (record d { state = Operational; active = false }) refl refl) (same d)
 goes_end _ d e = same d
 
@@ -141,15 +135,15 @@ goes_ready _ moment d e = same d
 
 goes_fact : (f : LinkFact) (moment : ℕ) (d : Data) → Goes d (note_fact f moment d).1
 goes_fact fact.Quiet moment d = goes_end d.state d refl
-goes_fact fact.Opened moment d = goes_then d (opened d) _ (goes_stays d (opened d) (refl, refl)) (goes_end d.state (opened d) refl)
+goes_fact fact.Opened moment d = goes_then d (after_open d) _ (goes_stays d (after_open d) (refl, refl)) (goes_end d.state (after_open d) refl)
 goes_fact fact.Ready moment d =
     let heard : Data = record d { ready = true } in
     let is : Data = ready_at heard.state moment heard in
     goes_then d is _ (goes_then d heard is (goes_stays d heard (refl, refl)) (goes_ready heard.state moment heard refl)) (goes_end is.state is refl)
 goes_fact fact.Closed moment d = stopped d (leave Offline outcome.Cancelled d).1 refl refl
 goes_fact fact.NoPort moment d = stopped d (leave Fault outcome.Failed d).1 refl refl
-goes_fact fact.Failed moment d = goes_fail d (ended d)
-goes_fact (fact.Ended end) moment d = goes_fail d (ended d)
+goes_fact fact.Failed moment d = goes_fail d (after_ending d)
+goes_fact (fact.Ended end) moment d = goes_fail d (after_ending d)
 
 pub goes_note : (acked : ℕ) (f : LinkFact) (moment : ℕ) (d : Data) → Goes d (note_step acked f moment d).1
 goes_note acked f moment d =
@@ -167,11 +161,11 @@ free_manual : (acked : ℕ) (m : List (List ℕ)) (d : Data) (next : Drawn) → 
 free_manual acked [] d next free rest = rest
 free_manual acked (text ∷ texts) d next free rest = record { no_print = free.no_print; no_script = free.no_script; last_line = free.last_line }
 
-free_talk : (acked moment : ℕ) (d : Data) → IsFree acked d → IsFree acked (talk moment d (nothing d)).1
+free_talk : (acked moment : ℕ) (d : Data) → IsFree acked d → IsFree acked (draw_in_order moment d (nothing d)).1
 free_talk acked moment d free =
     free_scripts acked d.waiting d _ free.no_script
     (free_manual acked d.manual d _ free
-    (choose_drawn (λ e. IsFree acked e) (poll_is_due moment d) (issue (record { text = codes "M105"; tag = Poll })
+    (choose_pair {X = Option Line} (λ e. IsFree acked e) (poll_is_due moment d) (issue (record { text = codes "M105"; tag = Poll })
     (record d { poll_at = moment_after moment d.poll_ms })) (nothing d)
     (record { no_print = free.no_print; no_script = free.no_script; last_line = free.last_line }) free))
 
@@ -195,9 +189,9 @@ free_pull acked moment d free =
 
 -- and if the link fails
 end_line : (s : State) (d : Data) → (end_at s d).1.print_line ≡ d.print_line
-end_line Pausing d = choose_noted (λ t. t.print_line ≡ d.print_line) (is_over d) (None, record d { state = Paused }) (None, d) refl refl
-end_line Cancelling d = choose_noted (λ t. t.print_line ≡ d.print_line) (is_over d) (finish outcome.Cancelled d) (None, d) refl refl
-end_line Finishing d = choose_noted (λ t. t.print_line ≡ d.print_line) (is_over d) (finish outcome.Done d) (None, d) refl refl
+end_line Pausing d = choose_pair {X = Option Ending} (λ t. t.print_line ≡ d.print_line) (is_over d) (None, record d { state = Paused }) (None, d) refl refl
+end_line Cancelling d = choose_pair {X = Option Ending} (λ t. t.print_line ≡ d.print_line) (is_over d) (finish outcome.Cancelled d) (None, d) refl refl
+end_line Finishing d = choose_pair {X = Option Ending} (λ t. t.print_line ≡ d.print_line) (is_over d) (finish outcome.Done d) (None, d) refl refl
 end_line _ d = refl
 
 free_fail : (acked : ℕ) (noted : Noted) → noted.1.print_line ≤ acked → IsFree acked (settled (fail noted).1)
@@ -208,5 +202,5 @@ pub free_failed : (acked moment : ℕ) (d : Data) → IsFree acked d → IsFree 
 free_failed acked moment d free =
     let counted : Data = record d { acked = acked } in
     let L : ℕ → Type 0 = λ n. n ≤ acked in
-    let line : (ended counted).1.print_line ≤ acked = subst L (sym (end_line d.state counted)) free.last_line in
-    free_fail acked (ended counted) line
+    let line : (after_ending counted).1.print_line ≤ acked = subst L (sym (end_line d.state counted)) free.last_line in
+    free_fail acked (after_ending counted) line

@@ -1,3 +1,4 @@
+pub mod Connecting
 pub mod Current
 pub mod Endings
 pub mod Foreign

@@ -1,9 +1,9 @@
 -- What a note makes of the print that is going on.
-use Rattle.std.proofs.Common.{◌≡◌, inr, ℕ, Bool, true, false, cond, nat_eq, ◌&&◌, List, [], ◌∷◌, ◌++◌, length, Option, None, Some, refl, sym, ◌∙◌, ap, subst}
-use Rattle.std.proofs.lemmas.Bool.{false≢true}
+use Rattle.std.proofs.Common.{◌≡◌, inr, ℕ, Bool, true, false, cond, nat_eq, List, [], ◌∷◌, ◌++◌, length, Option, None, Some, refl, sym, ◌∙◌, ap, subst}
+use Rattle.std.proofs.lemmas.Bool.{false≢true, and_parts}
 use Rattle.desk_steps.specs.Data.{ScriptTexts, Data, Line}
 use Rattle.desk_steps.specs.Pull.{settled}
-use Rattle.desk_steps.specs.Note.{Noted, ended, is_over, end_at, finish, fail, ready_at, opened, note_fact, note_step}
+use Rattle.desk_steps.specs.Note.{Noted, after_ending, is_over, end_at, finish, fail, ready_at, after_open, note_fact, note_step}
 use Rattle.desk_steps.specs.Course.{job_line}
 use Rattle.desk_steps.specs.Run.{lines_of}
 use Rattle.desk_steps.specs.declared.state.State.{State}
@@ -29,10 +29,6 @@ pub no_lines : (w : List Line) → nat_eq (length w) 0 ≡ true → w ≡ []
 no_lines [] e = refl
 no_lines (line ∷ lines) e = let z : suc (length lines) ≡ 0 = grind (arith, nat_tests) in absurd (cc z)
 
-pub and_first : (a b : Bool) → (a && b) ≡ true → a ≡ true
-and_first true b e = refl
-and_first false b e = absurd (false≢true e)
-
 module _ (p : ℕ) (commands : List (List ℕ)) (scripts : ScriptTexts) where
   -- the print goes on, or it has ended with such a story
   abbrev pub NotedAs : LinkFact → List Line → Option Ending → Data → Type 0
@@ -44,7 +40,7 @@ module _ (p : ℕ) (commands : List (List ℕ)) (scripts : ScriptTexts) where
 
   nothing_left : (out : List Line) (d : Data) → is_over d ≡ true → (d.waiting ≡ []) × (out ++ lines_of p d.waiting ≡ out)
   nothing_left out d t =
-      let w = no_lines d.waiting (and_first _ _ t) in (w, ap (λ w. out ++ lines_of p w) w ∙ append-nil out)
+      let w = no_lines d.waiting (and_parts _ _ t).0 in (w, ap (λ w. out ++ lines_of p w) w ∙ append-nil out)
 
   stage_of : (out : List Line) (d : Data) (s : State) → d.state ≡ s → d.scripts ≡ scripts → CurrentTo p commands out d →
       Stage scripts p commands s d.cursor d.waiting (out ++ lines_of p d.waiting)
@@ -108,7 +104,7 @@ module _ (p : ℕ) (commands : List (List ℕ)) (scripts : ScriptTexts) where
   current-fact : (f : LinkFact) (out : List Line) (moment : ℕ) (d : Data) → d.scripts ≡ scripts → CurrentTo p commands out d →
       IsNotedAs f out (note_fact f moment d)
   current-fact fact.Quiet out moment d k h = current-end fact.Quiet out d.state d refl refl k h
-  current-fact fact.Opened out moment d k h = current-end fact.Opened out d.state (opened d) refl refl k h
+  current-fact fact.Opened out moment d k h = current-end fact.Opened out d.state (after_open d) refl refl k h
   current-fact fact.Ready out moment d k h =
       let heard : Data = record d { ready = true } in
       let is : Data = ready_at heard.state moment heard in
@@ -117,8 +113,8 @@ module _ (p : ℕ) (commands : List (List ℕ)) (scripts : ScriptTexts) where
   current-fact fact.Closed out moment d k h = leaves fact.Closed out Offline outcome.Cancelled d.active d tt refl k h
       (unplugged commands out (begun_of out d k h))
   current-fact fact.NoPort out moment d k h = leaves fact.NoPort out Fault outcome.Failed d.active d tt refl k h (broken commands out (begun_of out d k h))
-  current-fact fact.Failed out moment d k h = current-fail fact.Failed out (ended d) refl (current-end fact.Failed out d.state d refl refl k h)
-  current-fact (fact.Ended end) out moment d k h = current-fail (fact.Ended end) out (ended d) refl (current-end (fact.Ended end) out d.state d refl refl k h)
+  current-fact fact.Failed out moment d k h = current-fail fact.Failed out (after_ending d) refl (current-end fact.Failed out d.state d refl refl k h)
+  current-fact (fact.Ended end) out moment d k h = current-fail (fact.Ended end) out (after_ending d) refl (current-end (fact.Ended end) out d.state d refl refl k h)
 
   settles : (f : LinkFact) (out : List Line) (ending : Option Ending) (d : Data) → (settled d).scripts ≡ d.scripts → NotedAs f out ending d →
       NotedAs f out ending (settled d)

@@ -4,7 +4,7 @@ use Rattle.temp_rules.specs.declared.job.HotLine.{HotLine}
 use Rattle.temp_rules.specs.Hot.{first_hot_of}
 use Rattle.desk_steps.specs.Data.{ScriptTexts, Data, File, Line}
 use Rattle.desk_steps.specs.Table.{start_at, start_checked, start_file, restart_at, printing}
-use Rattle.desk_steps.specs.Pull.{Drawn, talk, nothing, from_scripts, from_manual, poll_is_due, from_file, draw_at, pull_step}
+use Rattle.desk_steps.specs.Pull.{Drawn, draw_in_order, nothing, from_scripts, from_manual, poll_is_due, from_file, draw_at, pull_step}
 use Rattle.desk_steps.specs.Note.{note_step}
 use Rattle.desk_steps.specs.declared.state.State.{State}
 use Rattle.desk_steps.specs.declared.state.State.TheVariants.{Operational, Printing, Pausing, Paused, Cancelling, Finishing, Closing}
@@ -17,7 +17,7 @@ use Rattle.std.proofs.Common.{All}
 use Rattle.std.proofs.lemmas.List.Elements.{All-push, All-nil}
 use Rattle.desk_steps.specs.Data.{new_desk}
 use Rattle.temp_rules.specs.declared.limits.Limits.{Limits}
-use Rattle.desk_steps.specs.Story.{Story, IsBegun, never, going, IsPulledWell, TellsStories}
+use Rattle.desk_steps.specs.Story.{Story, IsBegun, never, going, IsPulledWell, HasStories}
 use Rattle.desk_steps.specs.Run.{DeskCall, Connect, Disconnect, Select, DropFile, Start, Restart, Pause, Resume, Toggle, Cancel, Manually, Pull, Note, Pulled, Run, new_run, moved, after_start, after_restart, after_pull, after_note, after, run_of, MayCallAll, pulled_of, of_print}
 use Rattle.desk_steps.proofs.Lines.{below_test}
 use Rattle.desk_steps.proofs.Steady.{joins, Steady, IsScript, AreScripts, steady-connect, steady-disconnect, steady-select, steady-drop_file, steady-pause, steady-resume, steady-toggle, steady-cancel, steady-manual, steady-pull, steady-note}
@@ -77,7 +77,7 @@ module _ (scripts : ScriptTexts) where
   well_manual s [] d next h = h
   well_manual s (text ∷ texts) d next h = tt
 
-  well_talk : (s : State) (moment : ℕ) (d : Data) (next : Drawn) → AreScripts d.waiting → IsDrawnWell s next.0 → IsDrawnWell s (talk moment d next).0
+  well_talk : (s : State) (moment : ℕ) (d : Data) (next : Drawn) → AreScripts d.waiting → IsDrawnWell s next.0 → IsDrawnWell s (draw_in_order moment d next).0
   well_talk s moment d next a h = well_scripts s d.waiting d _ a (well_manual s d.manual d _ (choose_well s (poll_is_due moment d) _ next tt h))
 
   well_file : (text : Option (List ℕ)) (d : Data) → IsDrawnWell Printing (from_file text d).0
@@ -150,7 +150,7 @@ module _ (scripts : ScriptTexts) where
   tells p positive run s (inr (inr k)) = k.story
 
 pub every_run : (scripts : ScriptTexts) (limits : Limits) (poll_ms : ℕ) (calls : List DeskCall) → MayCallAll calls (new_run (new_desk scripts limits poll_ms)) →
-    TellsStories scripts (run_of calls (new_run (new_desk scripts limits poll_ms)))
+    HasStories scripts (run_of calls (new_run (new_desk scripts limits poll_ms)))
 every_run scripts limits poll_ms calls may =
     let first = new_run (new_desk scripts limits poll_ms) in
     let sound : Sound scripts first = record { same = refl; waiting = tt; pulled = All-nil (λ (one : Pulled). IsPulledWell one.line.tag one.state) } in

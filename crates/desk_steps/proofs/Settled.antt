@@ -1,7 +1,7 @@
 -- What is left to settle after a pull or a note.
 use Rattle.std.proofs.Common.{◌≡◌, ℕ, Bool, true, false, cond, codes, List, [], ◌∷◌, Option, None, Some, refl, ◌∙◌, ap}
 use Rattle.desk_steps.specs.Data.{Data, Line, with_script, moment_after}
-use Rattle.desk_steps.specs.Pull.{Drawn, talk, nothing, issue, from_scripts, from_manual, poll_is_due, from_file, draw_at, is_issued, settle_at, settled}
+use Rattle.desk_steps.specs.Pull.{Drawn, draw_in_order, nothing, issue, from_scripts, from_manual, poll_is_due, from_file, draw_at, is_issued, settle_at, settled}
 use Rattle.desk_steps.specs.Note.{note_fact}
 use Rattle.desk_steps.specs.Course.{job_line}
 use Rattle.desk_steps.specs.declared.state.State.{State}
@@ -51,7 +51,7 @@ idle_file : (text : Option (List ℕ)) (d : Data) → Idle d (from_file text d)
 idle_file None d = λ e. refl
 idle_file (Some text) d = λ e. some_line _ (job_line d.greatest d.cursor text) e
 
-idle_talk : (moment : ℕ) (d : Data) (next : Drawn) → Idle d next → Idle d (talk moment d next)
+idle_talk : (moment : ℕ) (d : Data) (next : Drawn) → Idle d next → Idle d (draw_in_order moment d next)
 idle_talk moment d next h = idle_scripts d.waiting d _ (idle_manual d.manual d _
     (idle_choice (poll_is_due moment d) (record { text = codes "M105"; tag = Poll }) d (record d { poll_at = moment_after moment d.poll_ms }) next h))
 

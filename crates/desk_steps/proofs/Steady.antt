@@ -3,9 +3,9 @@ use Rattle.std.proofs.Common.{◌≡◌, ℕ, Bool, true, false, cond, nat_eq, L
 use Rattle.std.proofs.Common.{◌+◌, codes}
 use Rattle.desk_steps.specs.Data.{moment_after, Data, File, Line, tagged, texts_at, script_lines, with_script}
 use Rattle.desk_steps.specs.Table.{connect_at, disconnect_at, select_at, drop_file_step, is_named, pause_at, resume_at, toggle_at, cancel_at, manual_at, add_manual}
-use Rattle.desk_steps.specs.Pull.{Drawn, talk, nothing, next_number, keep_number, issue, from_scripts, from_manual, from_poll, poll_is_due, from_file, draw_at, is_issued, settle_at, settled, pull_step}
+use Rattle.desk_steps.specs.Pull.{Drawn, draw_in_order, nothing, next_number, keep_number, issue, from_scripts, from_manual, from_poll, poll_is_due, from_file, draw_at, is_issued, settle_at, settled, pull_step}
 use Rattle.desk_steps.specs.Course.{job_line}
-use Rattle.desk_steps.specs.Note.{Noted, ended, is_over, end_at, leave, fail, ready_at, opened, note_fact, note_step}
+use Rattle.desk_steps.specs.Note.{Noted, after_ending, is_over, end_at, leave, fail, ready_at, after_open, note_fact, note_step}
 use Rattle.desk_steps.specs.declared.state.State.{State}
 use Rattle.desk_steps.specs.declared.state.State.TheVariants.{Offline, Connecting, Operational, Printing, Pausing, Paused, Cancelling, Finishing, Closing, Fault}
 use Rattle.desk_steps.specs.declared.state.Point.{Point}
@@ -16,6 +16,7 @@ use Rattle.desk_steps.specs.declared.link_fact.LinkFact.{LinkFact}
 use Rattle.desk_steps.specs.declared.link_fact.LinkFact.TheVariants as fact
 use Rattle.print_records.specs.declared.ending.Outcome.{Outcome}
 use Rattle.print_records.specs.declared.ending.Outcome.TheVariants as outcome
+use Rattle.std.proofs.lemmas.Bool.{cond_both}
 
 -- the tag of a script's line
 abbrev pub IsScript : Tag → Type 0
@@ -62,11 +63,7 @@ joins point print d e a = record {
 and_then : (d e f : Data) → Steady d e → Steady e f → Steady d f
 and_then d e f a b = record { scripts = b.scripts ∙ a.scripts; greatest = b.greatest ∙ a.greatest; waiting = λ h. b.waiting (a.waiting h) }
 
--- what holds of both cases holds of a choice
-pub either : (P : Data → Type 0) (b : Bool) (x y : Data) → P x → P y → P (cond b x y)
-either P true x y hx hy = hx
-either P false x y hx hy = hy
-
+-- what holds of both cases holds of the desk of a choice
 pub choose_pair : {X : Type 0} (P : Data → Type 0) (b : Bool) (x y : X × Data) → P x.1 → P y.1 → P (cond b x y).1
 choose_pair P true x y hx hy = hx
 choose_pair P false x y hx hy = hy
@@ -136,8 +133,8 @@ steady-manual Finishing lines d = steady-adds lines d
 steady-manual _ lines d = same d
 
 steady-keep : (tag : Tag) (number : ℕ) (d : Data) → Steady d (keep_number tag number d)
-steady-keep (Script point print) number d = either (λ e. Steady d e) (nat_eq print 0) d (record d { print_line = number }) (same d)
-    (alike d _ (refl, refl, refl))
+steady-keep (Script point print) number d =
+    cond_both (nat_eq print 0) d (record d { print_line = number }) (λ e. Steady d e) (λ _. same d) (λ _. alike d _ (refl, refl, refl))
 steady-keep (Job print index) number d = alike d _ (refl, refl, refl)
 steady-keep Manual number d = same d
 steady-keep Poll number d = alike d _ (refl, refl, refl)
@@ -170,7 +167,7 @@ steady-file : (text : Option (List ℕ)) (d : Data) → Steady d (from_file text
 steady-file None d = same d
 steady-file (Some text) d = steady-issue (job_line d.greatest d.cursor text) d (record d { cursor = d.cursor + 1 }) (alike d _ (refl, refl, refl))
 
-steady-talk : (moment : ℕ) (d : Data) (next : Drawn) → Steady d next.1 → Steady d (talk moment d next).1
+steady-talk : (moment : ℕ) (d : Data) (next : Drawn) → Steady d next.1 → Steady d (draw_in_order moment d next).1
 steady-talk moment d next h = steady-scripts d.waiting d _ refl (steady-from_manual d.manual d _ (steady-poll moment d next h))
 
 steady-draw : (s : State) (moment : ℕ) (d : Data) → Steady d (draw_at s moment d).1
@@ -184,8 +181,9 @@ steady-draw Closing moment d = steady-scripts d.waiting d (nothing d) refl (same
 steady-draw _ moment d = same d
 
 pub steady-settle : (s : State) (d : Data) → Steady d (settle_at s d)
-steady-settle Printing d = either (λ e. Steady d e) (is_issued d) _ d (joins point.Done d.greatest d (record d { state = Finishing }) (refl, refl, refl))
-    (same d)
+steady-settle Printing d =
+    cond_both (is_issued d) _ d (λ e. Steady d e) (λ _. joins point.Done d.greatest d (record d { state = Finishing }) (refl, refl, refl))
+    (λ _. same d)
 steady-settle _ d = same d
 
 pub steady-pull : (moment : ℕ) (d : Data) → Steady d (pull_step moment d).1
@@ -212,15 +210,15 @@ steady-ready _ moment d = same d
 
 steady-fact : (f : LinkFact) (moment : ℕ) (d : Data) → Steady d (note_fact f moment d).1
 steady-fact fact.Quiet moment d = steady-end d.state d
-steady-fact fact.Opened moment d = and_then d (opened d) _ (alike d (opened d) (refl, refl, refl)) (steady-end d.state (opened d))
+steady-fact fact.Opened moment d = and_then d (after_open d) _ (alike d (after_open d) (refl, refl, refl)) (steady-end d.state (after_open d))
 steady-fact fact.Ready moment d =
     let heard : Data = record d { ready = true } in
     let is : Data = ready_at heard.state moment heard in
     and_then d is _ (and_then d heard is (alike d heard (refl, refl, refl)) (steady-ready heard.state moment heard)) (steady-end is.state is)
 steady-fact fact.Closed moment d = steady-leave Offline outcome.Cancelled d
 steady-fact fact.NoPort moment d = steady-leave Fault outcome.Failed d
-steady-fact fact.Failed moment d = steady-fail d (ended d) (steady-end d.state d)
-steady-fact (fact.Ended end) moment d = steady-fail d (ended d) (steady-end d.state d)
+steady-fact fact.Failed moment d = steady-fail d (after_ending d) (steady-end d.state d)
+steady-fact (fact.Ended end) moment d = steady-fail d (after_ending d) (steady-end d.state d)
 
 pub steady-note : (acked : ℕ) (f : LinkFact) (moment : ℕ) (d : Data) → Steady d (note_step acked f moment d).1
 steady-note acked f moment d =

@@ -1,5 +1,6 @@
 -- The desk as plain data.
 use Rattle.std.specs.Prelude.{ℕ, ◌+◌, Bool, false, min, List, [], ◌++◌, map, Option, None, Some}
+use Rattle.send_window.specs.Hearing.{last_moment}
 use Rattle.gcode_lines.specs.Job.{JobData, texts_of}
 use Rattle.temp_rules.specs.declared.limits.Limits.{Limits}
 use Rattle.desk_steps.specs.declared.state.State.{State}
@@ -52,6 +53,7 @@ abbrev pub commands_of : Option File → List (List ℕ)
 commands_of None = []
 commands_of (Some file) = texts_of file.job
 
+-- a desk: what it was made with, its state, its file, its print, and the lines that wait
 pub record Data : Type 0 where
   -- what the desk was made with; no step changes it
   pub scripts : ScriptTexts
@@ -60,7 +62,7 @@ pub record Data : Type 0 where
   pub state : State
   pub port : Option (List ℕ)
   pub file : Option File
-  -- the greatest print given so far, and whether it is active
+  -- the greatest print so far, and whether it is active
   pub greatest : ℕ
   pub active : Bool
   -- the index of the next file command
@@ -107,4 +109,8 @@ with_script point print d = record d { waiting = d.waiting ++ script_lines d.scr
 
 -- a moment some milliseconds later, at most the last one of a u64
 abbrev pub moment_after : ℕ → ℕ → ℕ
-moment_after moment ms = min (moment + ms) 18446744073709551615
+moment_after moment ms = min (moment + ms) last_moment
+
+-- a file of this name with this job
+abbrev pub named_file : List ℕ → JobData → File
+named_file name job = record { name = name; job = job }

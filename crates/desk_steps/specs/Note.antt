@@ -36,12 +36,13 @@ end_at Finishing d = if is_over d then finish outcome.Done d else (None, d)
 end_at Closing d = (None, d)
 end_at Fault d = (None, d)
 
-abbrev pub ended : Data → Noted
-ended d = end_at d.state d
+-- what ends by acknowledgement in the desk's own state
+abbrev pub after_ending : Data → Noted
+after_ending d = end_at d.state d
 
 -- a new session: nothing was issued in it yet
-abbrev pub opened : Data → Data
-opened d = record d { issued = 0; acked = 0; print_line = 0; poll_line = 0 }
+abbrev pub after_open : Data → Data
+after_open d = record d { issued = 0; acked = 0; print_line = 0; poll_line = 0 }
 
 -- the hello was acknowledged
 abbrev pub ready_at : State → ℕ → Data → Data
@@ -70,19 +71,19 @@ fail (Some ending, d) = (Some ending, (leave Fault outcome.Failed d).1)
 
 -- what the fact and the acknowledgements do; after Closed and NoPort no state is left that ends by them
 abbrev pub note_fact : LinkFact → ℕ → Data → Noted
-note_fact fact.Quiet moment d = ended d
-note_fact fact.Opened moment d = ended (opened d)
-note_fact fact.Ready moment d = ended (ready_at d.state moment (record d { ready = true }))
+note_fact fact.Quiet moment d = after_ending d
+note_fact fact.Opened moment d = after_ending (after_open d)
+note_fact fact.Ready moment d = after_ending (ready_at d.state moment (record d { ready = true }))
 note_fact fact.Closed moment d = leave Offline outcome.Cancelled d
 note_fact fact.NoPort moment d = leave Fault outcome.Failed d
-note_fact fact.Failed moment d = fail (ended d)
-note_fact (fact.Ended end) moment d = fail (ended d)
+note_fact fact.Failed moment d = fail (after_ending d)
+note_fact (fact.Ended end) moment d = fail (after_ending d)
 
 -- what one note returns and leaves
 abbrev pub note_step : ℕ → LinkFact → ℕ → Data → Noted
 note_step acked fact moment d = let noted = note_fact fact moment (record d { acked = acked }) in (noted.0, settled noted.1)
 
--- the fact that the desk is given before the pulls: a failure comes last, since what was acknowledged before it counts
+-- the fact that the desk notes before the pulls: a failure comes last, since what was acknowledged before it counts
 abbrev pub first_fact : LinkFact → LinkFact
 first_fact fact.Quiet = fact.Quiet
 first_fact fact.Opened = fact.Opened

@@ -73,6 +73,7 @@ HasAllWhere Paused print commands lines = Unit {0}
 HasAllWhere Cancelled print commands lines = Unit {0}
 HasAllWhere Done print commands lines = part is_job lines ≡ numbered print 0 commands
 
+-- what a course says: its file commands in order, all of them if it is done, and each script whole
 pub record ReadsPlainly (scripts : ScriptTexts) (print : ℕ) (commands : List (List ℕ)) (end : End) (lines : List Line) : Type 0 where
   pub in_order : CommandsInOrder print commands lines
   pub all : HasAllWhere end print commands lines
@@ -83,6 +84,7 @@ abbrev pub EveryCourseReadsPlainly : Type 0
 EveryCourseReadsPlainly = (scripts : ScriptTexts) (print : ℕ) (commands : List (List ℕ)) (end : End) (lines : List Line) →
     Course scripts print commands end lines → ReadsPlainly scripts print commands end lines
 
+-- the law of beginnings: their file commands are in order
 abbrev pub EveryBeginningIsInOrder : Type 0
 EveryBeginningIsInOrder = (scripts : ScriptTexts) (print : ℕ) (commands : List (List ℕ)) (lines : List Line) → IsBegun scripts print commands lines →
     CommandsInOrder print commands lines

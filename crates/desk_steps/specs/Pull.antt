@@ -1,5 +1,6 @@
 -- The next line to issue.
 use Rattle.std.specs.Prelude.{ℕ, ◌+◌, Bool, ◌&&◌, ◌==◌, nat_le, min, codes, List, [], ◌∷◌, length, slice_get, Option, None, Some, if◌then◌else◌}
+use Rattle.byte_text.specs.Number.{most_u64}
 use Rattle.desk_steps.specs.Data.{Data, Line, commands_of, with_script, moment_after}
 use Rattle.desk_steps.specs.declared.state.State.{State}
 use Rattle.desk_steps.specs.declared.state.State.TheVariants.{Offline, Connecting, Operational, Printing, Pausing, Paused, Cancelling, Finishing, Closing, Fault}
@@ -22,9 +23,13 @@ keep_number (Job print index) number d = record d { print_line = number }
 keep_number Manual number d = d
 keep_number Poll number d = record d { poll_line = number }
 
--- the number of the next line of a session; the count stays at the last u64
+-- the greatest number of a line
+abbrev pub last_number : ℕ
+last_number = most_u64
+
+-- the number of the next line of a session; the count stays at the greatest one
 abbrev pub next_number : ℕ → ℕ
-next_number issued = min (issued + 1) 18446744073709551615
+next_number issued = min (issued + 1) last_number
 
 -- a line counts as issued under the next number
 abbrev pub issue : Line → Data → Drawn
@@ -55,18 +60,19 @@ from_file None d = nothing d
 from_file (Some text) d = issue (record { text = text; tag = Job d.greatest d.cursor }) (record d { cursor = d.cursor + 1 })
 
 -- scripts, then users' lines, then a due poll, or else what is next
-abbrev pub talk : ℕ → Data → Drawn → Drawn
-talk moment d next = from_scripts d.waiting d (from_manual d.manual d (from_poll moment d next))
+abbrev pub draw_in_order : ℕ → Data → Drawn → Drawn
+draw_in_order moment d next = from_scripts d.waiting d (from_manual d.manual d (from_poll moment d next))
 
+-- the line that a desk draws in each state
 abbrev pub draw_at : State → ℕ → Data → Drawn
 draw_at Offline moment d = nothing d
 draw_at Connecting moment d = nothing d
-draw_at Operational moment d = talk moment d (nothing d)
-draw_at Printing moment d = talk moment d (from_file (slice_get (commands_of d.file) d.cursor) d)
-draw_at Pausing moment d = talk moment d (nothing d)
-draw_at Paused moment d = talk moment d (nothing d)
-draw_at Cancelling moment d = talk moment d (nothing d)
-draw_at Finishing moment d = talk moment d (nothing d)
+draw_at Operational moment d = draw_in_order moment d (nothing d)
+draw_at Printing moment d = draw_in_order moment d (from_file (slice_get (commands_of d.file) d.cursor) d)
+draw_at Pausing moment d = draw_in_order moment d (nothing d)
+draw_at Paused moment d = draw_in_order moment d (nothing d)
+draw_at Cancelling moment d = draw_in_order moment d (nothing d)
+draw_at Finishing moment d = draw_in_order moment d (nothing d)
 draw_at Closing moment d = from_scripts d.waiting d (nothing d)
 draw_at Fault moment d = nothing d
 
@@ -87,6 +93,7 @@ settle_at Finishing d = d
 settle_at Closing d = d
 settle_at Fault d = d
 
+-- the desk, whose print goes on to its last script if its commands were all issued
 abbrev pub settled : Data → Data
 settled d = settle_at d.state d
 

@@ -58,17 +58,21 @@ pub record Run : Type 0 where
 abbrev pub new_run : Data → Run
 new_run d = record { desk = d; begun = []; pulled = []; ends = [] }
 
+-- the run with another desk
 abbrev pub moved : Data → Run → Run
 moved d run = record run { desk = d }
 
+-- a run after a start, by its answer
 abbrev pub after_start : ℕ → Result (Unit {0}) Refusal × Data → Run → Run
 after_start print (Ok u, d) run = record run { desk = d; begun = run.begun ++ (print, commands_of d.file) ∷ [] }
 after_start print (Err refusal, d) run = moved d run
 
+-- a run after a restart, by its answer
 abbrev pub after_restart : ℕ → Result ℕ Refusal × Data → Run → Run
 after_restart print (Ok former, d) run = record run { desk = d; begun = run.begun ++ (print, commands_of d.file) ∷ []; ends = run.ends ++ (former, Left) ∷ [] }
 after_restart print (Err refusal, d) run = moved d run
 
+-- a run after a pull in a state, by the line that was pulled
 abbrev pub after_pull : State → Option Line × Data → Run → Run
 after_pull state (None, d) run = moved d run
 after_pull state (Some line, d) run = record run { desk = d; pulled = run.pulled ++ record { line = line; state = state } ∷ [] }
@@ -83,16 +87,19 @@ cancelled_by fact.NoPort = Stopped
 cancelled_by fact.Failed = Stopped
 cancelled_by (fact.Ended end) = Stopped
 
+-- what a print came to that ends with this outcome in a note of this fact
 abbrev pub fate_of : LinkFact → Outcome → Fate
 fate_of fact outcome.Active = Broken
 fate_of fact outcome.Done = Finished
 fate_of fact outcome.Cancelled = cancelled_by fact
 fate_of fact outcome.Failed = Broken
 
+-- a run after a note of this fact, by the print that it ended
 abbrev pub after_note : LinkFact → Option Ending × Data → Run → Run
 after_note fact (None, d) run = moved d run
 after_note fact (Some ending, d) run = record run { desk = d; ends = run.ends ++ (ending.print, fate_of fact ending.outcome) ∷ [] }
 
+-- a run after a call
 abbrev pub after : DeskCall → Run → Run
 after (Connect port) run = moved (connect_at run.desk.state port run.desk).1 run
 after Disconnect run = moved (disconnect_at run.desk.state run.desk) run
@@ -108,7 +115,7 @@ after (Manually lines) run = moved (manual_at run.desk.state lines run.desk).1 r
 after (Pull moment) run = after_pull run.desk.state (pull_step moment run.desk) run
 after (Note acked fact moment) run = after_note fact (note_step acked fact moment run.desk) run
 
--- a print's number is above all that were given before
+-- a print's number is above all earlier ones
 abbrev pub MayCall : DeskCall → Data → Type 0
 MayCall (Connect port) d = Unit {0}
 MayCall Disconnect d = Unit {0}
@@ -129,6 +136,7 @@ abbrev pub run_of : List DeskCall → Run → Run
 run_of [] run = run
 run_of (call ∷ calls) run = run_of calls (after call run)
 
+-- each call of a list may come when its turn comes
 abbrev pub MayCallAll : List DeskCall → Run → Type 0
 MayCallAll [] run = Unit {0}
 MayCallAll (call ∷ calls) run = MayCall call run.desk × MayCallAll calls (after call run)

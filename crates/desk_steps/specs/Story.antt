@@ -41,11 +41,11 @@ IsPulledWell Manual state = Unit {0}
 IsPulledWell Poll state = Unit {0}
 
 -- every run from a new desk has such a story of each print, and pulls file commands only in the state Printing
-pub record TellsStories (scripts : ScriptTexts) (run : Run) : Type 0 where
+pub record HasStories (scripts : ScriptTexts) (run : Run) : Type 0 where
   pub stories : (print : ℕ) → 0 < print → Story scripts print (of_print print run.begun) (pulled_of print run.pulled) (of_print print run.ends)
   pub only_printing : All (λ (one : Pulled). IsPulledWell one.line.tag one.state) run.pulled
 
 -- the law
-abbrev pub EveryRunTellsStories : Type 0
-EveryRunTellsStories = (scripts : ScriptTexts) (limits : Limits) (poll_ms : ℕ) (calls : List DeskCall) →
-    MayCallAll calls (new_run (new_desk scripts limits poll_ms)) → TellsStories scripts (run_of calls (new_run (new_desk scripts limits poll_ms)))
+abbrev pub EveryRunHasStories : Type 0
+EveryRunHasStories = (scripts : ScriptTexts) (limits : Limits) (poll_ms : ℕ) (calls : List DeskCall) →
+    MayCallAll calls (new_run (new_desk scripts limits poll_ms)) → HasStories scripts (run_of calls (new_run (new_desk scripts limits poll_ms)))

@@ -15,8 +15,8 @@ abbrev pub Answer : Type 0
 Answer = Result (Unit {0}) Refusal × Data
 
 -- the call was done
-abbrev pub done : Data → Answer
-done d = (Ok tt, d)
+abbrev pub ok_answer : Data → Answer
+ok_answer d = (Ok tt, d)
 
 -- the call isn't for this state
 abbrev pub wrong_state : Data → Answer
@@ -26,8 +26,9 @@ wrong_state d = (Err (refusal.WrongState d.state), d)
 abbrev pub connecting : List ℕ → Data → Data
 connecting port d = record d { state = Connecting; port = Some port; ready = false }
 
+-- a call to connect to a port
 abbrev pub connect_at : State → List ℕ → Data → Answer
-connect_at Offline port d = done (connecting port d)
+connect_at Offline port d = ok_answer (connecting port d)
 connect_at Connecting port d = wrong_state d
 connect_at Operational port d = wrong_state d
 connect_at Printing port d = wrong_state d
@@ -36,12 +37,13 @@ connect_at Paused port d = wrong_state d
 connect_at Cancelling port d = wrong_state d
 connect_at Finishing port d = wrong_state d
 connect_at Closing port d = wrong_state d
-connect_at Fault port d = done (connecting port d)
+connect_at Fault port d = ok_answer (connecting port d)
 
 -- the users' lines go, and the script for the end of a connection waits
 abbrev pub closing : Data → Data
 closing d = with_script point.Disconnect 0 (record d { state = Closing; manual = [] })
 
+-- a call to disconnect, which no state refuses
 abbrev pub disconnect_at : State → Data → Data
 disconnect_at Offline d = d
 disconnect_at Connecting d = record d { state = Closing }
@@ -54,17 +56,18 @@ disconnect_at Finishing d = closing d
 disconnect_at Closing d = d
 disconnect_at Fault d = record d { state = Offline }
 
+-- a call to select a file
 abbrev pub select_at : State → File → Data → Answer
-select_at Offline file d = done (record d { file = Some file })
-select_at Connecting file d = done (record d { file = Some file })
-select_at Operational file d = done (record d { file = Some file })
+select_at Offline file d = ok_answer (record d { file = Some file })
+select_at Connecting file d = ok_answer (record d { file = Some file })
+select_at Operational file d = ok_answer (record d { file = Some file })
 select_at Printing file d = wrong_state d
 select_at Pausing file d = wrong_state d
 select_at Paused file d = wrong_state d
 select_at Cancelling file d = wrong_state d
 select_at Finishing file d = wrong_state d
 select_at Closing file d = wrong_state d
-select_at Fault file d = done (record d { file = Some file })
+select_at Fault file d = ok_answer (record d { file = Some file })
 
 -- whether the selected file has this name
 abbrev pub is_named : List ℕ → Option File → Bool
@@ -74,7 +77,7 @@ is_named name (Some file) = pointwise nat_eq file.name name
 -- in every state alike: a file that is being printed stays
 abbrev pub drop_file_step : List ℕ → Data → Answer
 drop_file_step name d =
-    if is_named name d.file then (if d.active then (Err refusal.FileBusy, d) else done (record d { file = None })) else done d
+    if is_named name d.file then (if d.active then (Err refusal.FileBusy, d) else ok_answer (record d { file = None })) else ok_answer d
 
 -- a new print of the selected file begins
 abbrev pub printing : ℕ → Data → Data
@@ -83,13 +86,15 @@ printing print d =
 
 -- a file whose first hot command, if any, is known
 abbrev pub start_checked : Option HotLine → ℕ → Data → Answer
-start_checked None print d = done (printing print d)
+start_checked None print d = ok_answer (printing print d)
 start_checked (Some hot) print d = (Err (refusal.TooHotLine hot.line hot.asked hot.limit), d)
 
+-- a start of the selected file
 abbrev pub start_file : Option File → ℕ → Data → Answer
 start_file None print d = (Err refusal.NoFile, d)
 start_file (Some file) print d = start_checked (first_hot_of d.limits file.job.commands) print d
 
+-- a call to start the print of this number
 abbrev pub start_at : State → ℕ → Data → Answer
 start_at Offline print d = wrong_state d
 start_at Connecting print d = wrong_state d
@@ -115,30 +120,33 @@ restart_at Finishing print d = (Err (refusal.WrongState d.state), d)
 restart_at Closing print d = (Err (refusal.WrongState d.state), d)
 restart_at Fault print d = (Err (refusal.WrongState d.state), d)
 
+-- a call to pause the print
 abbrev pub pause_at : State → Data → Answer
 pause_at Offline d = wrong_state d
 pause_at Connecting d = wrong_state d
 pause_at Operational d = wrong_state d
-pause_at Printing d = done (with_script point.Paused d.greatest (record d { state = Pausing }))
-pause_at Pausing d = done d
-pause_at Paused d = done d
+pause_at Printing d = ok_answer (with_script point.Paused d.greatest (record d { state = Pausing }))
+pause_at Pausing d = ok_answer d
+pause_at Paused d = ok_answer d
 pause_at Cancelling d = wrong_state d
 pause_at Finishing d = wrong_state d
 pause_at Closing d = wrong_state d
 pause_at Fault d = wrong_state d
 
+-- a call to resume the print
 abbrev pub resume_at : State → Data → Answer
 resume_at Offline d = wrong_state d
 resume_at Connecting d = wrong_state d
 resume_at Operational d = wrong_state d
-resume_at Printing d = done d
+resume_at Printing d = ok_answer d
 resume_at Pausing d = wrong_state d
-resume_at Paused d = done (with_script point.Resumed d.greatest (record d { state = Printing }))
+resume_at Paused d = ok_answer (with_script point.Resumed d.greatest (record d { state = Printing }))
 resume_at Cancelling d = wrong_state d
 resume_at Finishing d = wrong_state d
 resume_at Closing d = wrong_state d
 resume_at Fault d = wrong_state d
 
+-- a call to pause or to resume, whichever fits
 abbrev pub toggle_at : State → Data → Answer
 toggle_at Offline d = wrong_state d
 toggle_at Connecting d = wrong_state d
@@ -155,13 +163,14 @@ toggle_at Fault d = wrong_state d
 abbrev pub cancelling : Data → Data
 cancelling d = with_script point.Cancelled d.greatest (record d { state = Cancelling })
 
+-- a call to cancel the print
 abbrev pub cancel_at : State → Data → Answer
 cancel_at Offline d = wrong_state d
 cancel_at Connecting d = wrong_state d
 cancel_at Operational d = wrong_state d
-cancel_at Printing d = done (cancelling d)
-cancel_at Pausing d = done (cancelling d)
-cancel_at Paused d = done (cancelling d)
+cancel_at Printing d = ok_answer (cancelling d)
+cancel_at Pausing d = ok_answer (cancelling d)
+cancel_at Paused d = ok_answer (cancelling d)
 cancel_at Cancelling d = wrong_state d
 cancel_at Finishing d = wrong_state d
 cancel_at Closing d = wrong_state d
@@ -170,8 +179,9 @@ cancel_at Fault d = wrong_state d
 -- all the users' lines or, if more than 256 would wait, none
 abbrev pub add_manual : List (List ℕ) → Data → Answer
 add_manual lines d =
-    if nat_lt 256 (length d.manual + length lines) then (Err (refusal.Full (length d.manual)), d) else done (record d { manual = d.manual ++ lines })
+    if nat_lt 256 (length d.manual + length lines) then (Err (refusal.Full (length d.manual)), d) else ok_answer (record d { manual = d.manual ++ lines })
 
+-- a call to issue lines of a user
 abbrev pub manual_at : State → List (List ℕ) → Data → Answer
 manual_at Offline lines d = wrong_state d
 manual_at Connecting lines d = wrong_state d

@@ -1,13 +1,13 @@
 //! The laws of whole runs of a desk.
 ghost use Rattle.desk_steps.specs.Plain.{EveryBeginningIsInOrder, EveryCourseReadsPlainly};
 ghost use Rattle.desk_steps.specs.Settled.{IsSettledBySteps};
-ghost use Rattle.desk_steps.specs.Story.{EveryRunTellsStories};
+ghost use Rattle.desk_steps.specs.Story.{EveryRunHasStories};
 
 /// For every list of calls on a new desk, the pulled lines of each print begin a course, are a whole course with the end
 /// Done if the print is done and with the end Cancelled if it was cancelled, and a file command is pulled only
 /// while Printing.
-pub fn every_run_tells_stories()
-    ensures { EveryRunTellsStories }
+pub fn every_run_has_stories()
+    ensures { EveryRunHasStories }
 {}
 
 /// The file commands of a course are the file's first ones, with the indexes 0, 1, 2 and so on without a gap, and each of

@@ -8,7 +8,7 @@ mod state;
 
 pub use issued::{Issued, Note};
 pub use laws::{
-    every_beginning_is_in_order, every_course_reads_plainly, every_run_tells_stories,
+    every_beginning_is_in_order, every_course_reads_plainly, every_run_has_stories,
     nothing_is_left_to_settle,
 };
 pub use link_fact::LinkFact;

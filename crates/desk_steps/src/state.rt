@@ -45,7 +45,7 @@ pub enum Tag {
     Script { point: Point, print: u32 },
     /// The file command at an index, counted from 0.
     Job { print: u32, index: u32 },
-    /// A line that a user gave.
+    /// A line of a user.
     #[default]
     Manual,
     /// The desk's own question for temperatures.

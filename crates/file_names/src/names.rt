@@ -1,22 +1,15 @@
 //! Names of print files.
 ghost use Rattle.std.specs.Prelude.{◌≡◌};
-ghost use Rattle.std.specs.Str.{str_eq_ignore_ascii_case};
 ghost use Rattle.octo_access.specs.Names.{is_name};
 ghost use Rattle.file_names.specs.Names.{has_ending, is_gcode, is_hidden, is_file_name, file_name_of};
 
-use byte_text::Name;
+use byte_text::{Name, same_text};
 use octo_access::read_name;
-
-fn is_in_any_case(text: &[u8], other: &[u8]) -> bool
-    ensures { result ≡ str_eq_ignore_ascii_case text.now other.now }
-{
-    text.eq_ignore_ascii_case(other)
-}
 
 fn has_ending(text: &[u8], ending: &[u8]) -> bool
     ensures { result ≡ has_ending ending.now text.now }
 {
-    ending.len() <= text.len() && is_in_any_case(&text[text.len() - ending.len()..], ending)
+    ending.len() <= text.len() && same_text(&text[text.len() - ending.len()..], ending)
 }
 
 /// Whether a text ends as the name of a print file: with `.gcode`, `.gco` or `.g` in any case.

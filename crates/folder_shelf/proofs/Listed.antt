@@ -7,8 +7,8 @@ use Rattle.std.proofs.lemmas.List.Sorted.{ranks_by}
 use Rattle.std.proofs.lemmas.List.Elements.{All-cons, All-head, All-nil, All-tail}
 use Rattle.octo_access.proofs.Inserted.{insert_here, insert_past, sorted-inserted}
 use Rattle.file_names.specs.Names.{is_file_name}
-use Rattle.octo_keeper.specs.Files.{is_before}
 use Rattle.folder_shelf.specs.Listed.{IsListing, with_listed}
+use Rattle.octo_access.specs.Rows.{is_before}
 
 -- what holds of all elements and of one more holds of all after it is inserted
 all_inserted : {X : Type 0} (P : X → Type 0) (before : X → Bool) (x : X) (xs : List X) → P x → All P xs → All P (insert xs (prefix_len before xs) x)

@@ -3,7 +3,7 @@ use Rattle.std.specs.Prelude.{◌≡◌, ℕ, true, List, insert, All}
 use Rattle.std.specs.List.{prefix_len}
 use Rattle.std.specs.List.Sorted.{IsSortedBy}
 use Rattle.file_names.specs.Names.{is_file_name}
-use Rattle.octo_keeper.specs.Files.{is_before}
+use Rattle.octo_access.specs.Rows.{is_before}
 
 -- files by their names and sizes, with one more in its place by name
 abbrev pub with_listed : List ℕ × ℕ → List (List ℕ × ℕ) → List (List ℕ × ℕ)

@@ -95,7 +95,7 @@ fn replace<R: Files>(rt: &R, part: &str, path: &str, bytes: &[u8]) -> io::Result
 }
 
 /// Sets the bytes of a file: a new one is written beside it, synced and renamed, and then the folder is synced. Until the
-/// rename the former file is there, also after a full disk.
+/// rename the former file exists, also after a full disk.
 pub fn write_file<R: Files>(
     rt: &R,
     folder: &Name,

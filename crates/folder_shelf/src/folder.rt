@@ -2,7 +2,7 @@
 ghost use Rattle.std.specs.Prelude.{◌≡◌, ◌≤◌, true, length, IfOk, IfSome, OnOk, OnErr};
 ghost use Rattle.std.specs.List.{prefix_len};
 ghost use Rattle.file_names.specs.Names.{is_file_name};
-ghost use Rattle.octo_keeper.specs.Files.{is_before};
+ghost use Rattle.octo_access.specs.Rows.{is_before};
 ghost use Rattle.folder_shelf.specs.Listed.{IsListing, with_listed};
 
 use crate::files::fault_of;

@@ -21,10 +21,10 @@ pub struct FolderShelf<R: Files + AllocGlobal + Clone + Drop> {
 
 impl<R: Files + AllocGlobal + Clone + Drop> FolderShelf<R> {
     ghost use Rattle.std.specs.Prelude.{◌≡◌, IsErrOf};
-    ghost use Rattle.octo_outside.specs.Told.{Counts};
+    ghost use Rattle.octo_outside.specs.Recorded.{Counts};
     ghost use Rattle.octo_keeper.specs.declared.shelf.ShelfFault.TheVariants as fault;
 
-    /// The files of that folder, which has to be there; no call yet.
+    /// The files of that folder, which has to exist; no call yet.
     pub fn new(rt: R, folder: &Name) -> Self
         ensures faults { result.faults ≡ 0 }
         ensures folder { result.folder ≡ folder.now }
@@ -52,7 +52,7 @@ impl<R: Files + AllocGlobal + Clone + Drop> FolderShelf<R> {
 
 impl<R: Files + AllocGlobal + Clone + Drop> Shelf for FolderShelf<R> {
     ghost use Rattle.std.specs.Prelude.{◌≡◌, false, None, Ok, Err, IfOk, IsOk, IsErrOf};
-    ghost use Rattle.octo_outside.specs.Told.{Counts};
+    ghost use Rattle.octo_outside.specs.Recorded.{Counts};
     ghost use Rattle.file_names.specs.Names.{is_file_name};
     ghost use Rattle.octo_keeper.specs.declared.shelf.ShelfFault.TheVariants as fault;
     ghost use Rattle.folder_shelf.specs.Listed.{IsListing};

@@ -5,14 +5,10 @@ use octo_keeper::{Shelf, ShelfFault};
 use std::fs;
 use std::test::Fail;
 
-fn name(text: &str) -> Result<Name, Fail> {
-    Ok(Name::from_text(text).ok_or("a long name")?)
-}
-
 fn shelf(rt: &HostRuntime, folder: &str) -> Result<FolderShelf<HostRuntime>, Fail> {
     let _ = fs::remove_dir_all(rt, folder);
     fs::create_dir(rt, folder)?;
-    Ok(FolderShelf::new(rt.clone()?, &name(folder)?))
+    Ok(FolderShelf::new(rt.clone()?, &Name::of(folder)?))
 }
 
 fn holds<S: Shelf>(
@@ -21,7 +17,7 @@ fn holds<S: Shelf>(
     text: &str,
     bytes: &[u8],
 ) -> Result<bool, Fail> {
-    match shelf.get(rt.alloc(), &name(text)?) {
+    match shelf.get(rt.alloc(), &Name::of(text)?) {
         Ok(Some(kept)) => Ok(kept.as_slice() == bytes),
         _ => Ok(false),
     }
@@ -31,10 +27,10 @@ fn holds<S: Shelf>(
 fn ample(rt: HostRuntime) -> Result<(), Fail> {
     let alloc = rt.alloc();
     let mut shelf = shelf(&rt, "folder_shelf_test")?;
-    let file = name("b.gcode")?;
+    let file = Name::of("b.gcode")?;
     assert_eq!(rt; shelf.put(alloc, &file, b"G28\n"), Ok(()));
     assert_eq!(rt; shelf.put(alloc, &file, b"G29\n"), Ok(()));
-    assert_eq!(rt; shelf.put(alloc, &name("A.GCO")?, b""), Ok(()));
+    assert_eq!(rt; shelf.put(alloc, &Name::of("A.GCO")?, b""), Ok(()));
     assert!(rt; holds(&rt, &mut shelf, "b.gcode", b"G29\n")?);
     let listed = shelf.list(alloc).ok().ok_or("no list")?;
     assert_eq!(rt; listed.as_slice().len(), 2);
@@ -60,7 +56,7 @@ fn what_is_listed(rt: HostRuntime) -> Result<(), Fail> {
     let listed = shelf.list(alloc).ok().ok_or("no list")?;
     assert_eq!(rt; listed.as_slice().len(), 1);
     assert_eq!(rt; listed.as_slice()[0].1, 4);
-    assert!(rt; matches!(shelf.get(alloc, &name("notes.txt")?), Ok(None)));
+    assert!(rt; matches!(shelf.get(alloc, &Name::of("notes.txt")?), Ok(None)));
     fs::remove_dir_all(&rt, "folder_shelf_names")?;
     Ok(())
 }
@@ -72,19 +68,19 @@ fn a_failed_put(rt: HostRuntime) -> Result<(), Fail> {
     let mut shelf = shelf(&rt, "folder_shelf_failed")?;
     fs::create_dir_all(&rt, "folder_shelf_failed/a.gcode")?;
     assert_eq!(rt;
-        shelf.put(alloc, &name("a.gcode")?, b"G28\n"),
+        shelf.put(alloc, &Name::of("a.gcode")?, b"G28\n"),
         Err(ShelfFault::Failed)
     );
     assert!(rt; !fs::exists(&rt, "folder_shelf_failed/a.gcode.part")?);
-    assert_eq!(rt; shelf.put(alloc, &name("b.gcode")?, b"G28\n"), Ok(()));
+    assert_eq!(rt; shelf.put(alloc, &Name::of("b.gcode")?, b"G28\n"), Ok(()));
     fs::create_dir_all(&rt, "folder_shelf_failed/b.gcode.part")?;
     assert_eq!(rt;
-        shelf.put(alloc, &name("b.gcode")?, b"G29\n"),
+        shelf.put(alloc, &Name::of("b.gcode")?, b"G29\n"),
         Err(ShelfFault::Failed)
     );
     assert!(rt; holds(&rt, &mut shelf, "b.gcode", b"G28\n")?);
     assert_eq!(rt;
-        shelf.put(alloc, &name("../b.gcode")?, b"G28\n"),
+        shelf.put(alloc, &Name::of("../b.gcode")?, b"G28\n"),
         Err(ShelfFault::Failed)
     );
     fs::remove_dir_all(&rt, "folder_shelf_failed")?;

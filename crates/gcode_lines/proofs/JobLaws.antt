@@ -34,11 +34,12 @@ short_line line kept sound =
     let tests = sound_by (is_too_long (text_of line.bytes)) (has_control (text_of line.bytes)) line.number (ap (λ t. fault_by t (is_too_long (text_of line.bytes)) (has_control (text_of line.bytes)) line.number) (sym kept) ∙ sound) in
     short_from_test (text_of line.bytes) tests.0
 
-both_none : (first rest : Option FileFault) → option_or first rest ≡ None → (first ≡ None) × (rest ≡ None)
+pub both_none : (first rest : Option FileFault) → option_or first rest ≡ None → (first ≡ None) × (rest ≡ None)
 both_none None rest e = (refl, e)
 both_none (Some fault) rest e = absurd cc
 
-abbrev texts_in : List FileLine → List (List ℕ)
+-- the texts of the commands among lines
+abbrev pub texts_in : List FileLine → List (List ℕ)
 texts_in lines = map (λ c. c.text) (commands_in lines)
 
 sendable_by : (line : FileLine) (lines : List FileLine) (t : Bool) → is_skipped_line line ≡ t → fault_at line ≡ None → All IsSendable (texts_in lines) → All IsSendable (texts_in (line ∷ lines))

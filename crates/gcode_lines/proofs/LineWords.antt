@@ -12,7 +12,7 @@ use Rattle.gcode_lines.proofs.Decoded.{command_by, command_in-word, ends_word}
 use Rattle.gcode_lines.proofs.JobLaws.{short_line}
 use Rattle.gcode_lines.proofs.TextCut.{IsPart, IsPart-cut, IsPart-ends, IsPart-part, IsPart-text_of}
 
--- a line of a file: it is there, between line feeds
+-- a line of a file: its bytes are at its place, between line feeds
 pub record IsLineOf (file : List ℕ) (line : FileLine) : Type 0 where
   pub there : IsPart file line.place line.bytes
   pub whole : (k : ℕ) → k < length line.bytes → (get_or file (line.place + k) 0 == 10) ≡ false

@@ -9,16 +9,17 @@ use Rattle.std.proofs.lemmas.List.{get_or-take, length-take}
 use Rattle.std.specs.Char.{is_ascii_digit}
 use Rattle.byte_text.specs.Marks.{has_byte, has_m110}
 use Rattle.byte_text.specs.Sendable.{IsSendable}
-use Rattle.gcode_lines.specs.Text.{is_mark, is_space, is_blank, is_control, without_front, without_end, trimmed, is_numbered, without_number, text_of, is_skipped, is_too_long, has_control}
+use Rattle.byte_text.specs.Chars.{is_space}
+use Rattle.gcode_lines.specs.Text.{is_mark, is_blank, is_control, without_front, without_end, trimmed, is_numbered, without_number, text_of, is_skipped, is_too_long, has_control}
 
-list_any-take : (test : ℕ → Bool) (n : ℕ) (xs : List ℕ) → list_any test xs ≡ false → list_any test (take n xs) ≡ false
+pub list_any-take : (test : ℕ → Bool) (n : ℕ) (xs : List ℕ) → list_any test xs ≡ false → list_any test (take n xs) ≡ false
 list_any-take test zero xs h = refl
 list_any-take test (suc n) [] h = refl
 list_any-take test (suc n) (x ∷ xs) h =
     let parts = or_parts (test x) (list_any test xs) h in
     or_from _ _ parts.0 (list_any-take test n xs parts.1)
 
-list_any-drop : (test : ℕ → Bool) (n : ℕ) (xs : List ℕ) → list_any test xs ≡ false → list_any test (drop n xs) ≡ false
+pub list_any-drop : (test : ℕ → Bool) (n : ℕ) (xs : List ℕ) → list_any test xs ≡ false → list_any test (drop n xs) ≡ false
 list_any-drop test zero xs h = h
 list_any-drop test (suc n) [] h = refl
 list_any-drop test (suc n) (x ∷ xs) h =
@@ -61,14 +62,14 @@ pub no_star-text_of : (line : List ℕ) → has_byte 42 (text_of line) ≡ false
 unfolding has_byte text_of
 no_star-text_of line = no_star-number _ (no_star-trimmed _ (no_star_in_front line))
 
-line_feed_is_control : (x : ℕ) → is_control x ≡ false → (x == 10) ≡ false
+pub line_feed_is_control : (x : ℕ) → is_control x ≡ false → (x == 10) ≡ false
 line_feed_is_control x h = grind (arith, nat_tests)
 
 no_line_feed : (text : List ℕ) → has_control text ≡ false → has_byte 10 text ≡ false
 unfolding has_control has_byte
 no_line_feed text h = list_any-weaker is_control (λ b. b == 10) line_feed_is_control text h
 
-some_from_kept : (text : List ℕ) → is_skipped text ≡ false → 1 ≤ length text
+pub some_from_kept : (text : List ℕ) → is_skipped text ≡ false → 1 ≤ length text
 unfolding is_skipped
 some_from_kept text h = let e = (or_parts (length text == 0) (has_m110 text) h).0 in grind (arith, nat_tests)
 

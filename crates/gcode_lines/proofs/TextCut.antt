@@ -5,7 +5,8 @@ use Rattle.std.proofs.lemmas.List.Sums.{prefix_len-le-length}
 use Rattle.std.proofs.Math.Seq.{take-append_seam, drop-append_seam}
 use Rattle.std.specs.Char.{is_ascii_digit}
 use Rattle.std.specs.List.{before_first, position_or_len, prefix_len, suffix_len}
-use Rattle.gcode_lines.specs.Text.{is_mark, is_space, is_blank, without_front, without_end, trimmed, is_numbered, without_number, number_len, text_of, begin_of}
+use Rattle.byte_text.specs.Chars.{is_space}
+use Rattle.gcode_lines.specs.Text.{is_mark, is_blank, without_front, without_end, trimmed, is_numbered, without_number, number_len, text_of, begin_of}
 
 -- a part of a list from a place on
 pub record IsPart (whole : List ℕ) (place : ℕ) (part : List ℕ) : Type 0 where

@@ -1,3 +1,4 @@
+-- The lines of a G-code file, and the commands that they hold.
 use Rattle.std.specs.Prelude.{ℕ, ◌+◌, Bool, not, ◌==◌, nat_lt, List, [], ◌∷◌, length, map, if◌then◌else◌, filter, count_by, Option, Some, None, Result, Ok, Err}
 use Rattle.std.specs.Option.{option_or}
 use Rattle.gcode_lines.specs.declared.fault.FileFault.{FileFault}
@@ -51,7 +52,9 @@ command_at line = record {
 -- why a line refuses its file, if it does
 abbrev pub fault_at : FileLine → Option FileFault
 fault_at line =
-    if is_skipped_line line then None else (if is_too_long (text_of line.bytes) then Some (TooLong line.number) else (if has_control (text_of line.bytes) then Some (ControlByte line.number) else None))
+    if is_skipped_line line then None
+    else (if is_too_long (text_of line.bytes) then Some (TooLong line.number)
+    else (if has_control (text_of line.bytes) then Some (ControlByte line.number) else None))
 
 -- the first fault of the lines
 abbrev pub first_fault : List FileLine → Option FileFault

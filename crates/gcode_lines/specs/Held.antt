@@ -1,3 +1,4 @@
+-- What the fields of a job mean.
 use Rattle.std.specs.Prelude.{All}
 use Rattle.gcode_lines.specs.declared.job.Job.TheInside.{Inside}
 use Rattle.gcode_lines.specs.Job.{JobData, IsJob}

@@ -1,3 +1,4 @@
+-- The job of a file as plain data: its commands and their places.
 use Rattle.std.specs.Prelude.{◌≡◌, ℕ, ◌+◌, ◌*◌, ◌^◌, ◌≤◌, List, length, take, drop, map, All}
 use Rattle.byte_text.specs.Sendable.{IsSendable}
 

@@ -1,3 +1,4 @@
+-- A command's place, length and line packed in one word, and what such a word names in a file.
 use Rattle.std.specs.Prelude.{ℕ, ◌+◌, ◌-◌, ◌/◌, ◌%◌, ◌^◌, ◌≤◌, not, ◌==◌, List, [], ◌∷◌, ◌++◌, length, take, drop, map}
 use Rattle.std.specs.List.{suffix_len}
 use Rattle.gcode_lines.specs.Job.{Command, JobData, word_of}

@@ -1,3 +1,4 @@
+-- A line that is read by itself, as one command.
 use Rattle.std.specs.Prelude.{ℕ, ◌==◌, List, [], ◌∷◌, length, if◌then◌else◌, Result, Ok, Err}
 use Rattle.byte_text.specs.Marks.{has_byte, has_m110}
 use Rattle.gcode_lines.specs.declared.fault.NotOne.{NotOne}
@@ -8,7 +9,9 @@ use Rattle.gcode_lines.specs.Text.{text_of, begin_of, is_too_long, has_control}
 -- a text as a command, or the first of the rules that it breaks
 abbrev pub checked : List ℕ → Result (List ℕ) NotOne
 checked text =
-    if length text == 0 then Err Empty else (if has_m110 text then Err HasM110 else (if is_too_long text then Err TooLong else (if has_control text then Err ControlByte else Ok text)))
+    if length text == 0 then Err Empty
+    else (if has_m110 text then Err HasM110
+    else (if is_too_long text then Err TooLong else (if has_control text then Err ControlByte else Ok text)))
 
 -- a line that is read by itself: its text as a command, or why it is none
 unfoldable pub single_of : List ℕ → Result (List ℕ) NotOne

@@ -1,6 +1,8 @@
+-- The text of a line: what is left without comment, checksum, blanks and line number.
 use Rattle.std.specs.Prelude.{ℕ, ◌+◌, ◌-◌, Bool, ◌||◌, ◌&&◌, not, ◌==◌, nat_lt, List, length, take, drop, slice_index, if◌then◌else◌}
 use Rattle.std.specs.List.{prefix_len, suffix_len, before_first, list_any}
 use Rattle.std.specs.Char.{is_ascii_digit}
+use Rattle.byte_text.specs.Chars.{is_space}
 use Rattle.byte_text.specs.Marks.{has_m110}
 
 -- `;` begins a comment, `*` a checksum
@@ -10,10 +12,6 @@ is_mark byte = byte == 59 || byte == 42
 -- a byte that ends what a line says: its line feed or a mark
 abbrev pub ends_said : ℕ → Bool
 ends_said byte = byte == 10 || is_mark byte
-
--- a space or a tab
-abbrev pub is_space : ℕ → Bool
-is_space byte = byte == 32 || byte == 9
 
 -- a space, a tab or a carriage return
 abbrev pub is_blank : ℕ → Bool

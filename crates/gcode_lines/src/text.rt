@@ -1,14 +1,17 @@
 //! The text of one line: what is before a `;` comment or a `*` checksum, without blanks at both ends and without
 //! the line number `N..` that hosts put in front, as in the G-code that Marlin reads. A text with `M110` is passed
 //! over, since Marlin would take a new line number from it.
+//!
+//! Source: Marlin's queue.cpp for line numbers, checksums and `M110`; `MAX_CMD_SIZE`, 96, for the longest command.
 ghost use Rattle.std.specs.Prelude.{◌≡◌, ◌+◌, ◌≤◌, ◌||◌, false, fold, length};
 ghost use Rattle.std.specs.Bool.{OnTrue};
 ghost use Rattle.std.specs.List.{before_first, position_or_len, prefix_len, suffix_len};
-ghost use Rattle.gcode_lines.specs.Text.{is_mark, is_space, is_blank, is_control, is_numbered, is_skipped, is_too_long, is_odd, has_control, trimmed, without_number, text_of, begin_of};
+ghost use Rattle.byte_text.specs.Chars.{is_space};
+ghost use Rattle.gcode_lines.specs.Text.{is_mark, is_blank, is_control, is_numbered, is_skipped, is_too_long, is_odd, has_control, trimmed, without_number, text_of, begin_of};
 ghost use Rattle.std.specs.Char.{is_ascii_digit};
 
 use crate::line::Line;
-use byte_text::{Text, has_m110};
+use byte_text::{Text, has_m110, is_space};
 
 /// The most bytes of a command, so that its frame fits a line of Marlin's buffer.
 const MOST_TEXT: usize = 79;
@@ -18,13 +21,6 @@ pub(crate) fn is_mark(byte: u8) -> bool
     ensures { result ≡ is_mark byte }
 {
     byte == b';' || byte == b'*'
-}
-
-/// A space or a tab.
-fn is_space(byte: u8) -> bool
-    ensures { result ≡ is_space byte }
-{
-    byte == b' ' || byte == b'\t'
 }
 
 /// A space, a tab or a carriage return.

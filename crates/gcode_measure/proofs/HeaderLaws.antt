@@ -10,7 +10,7 @@ use Rattle.byte_text.specs.Marks.{has_byte, has_m110}
 use Rattle.byte_text.specs.Number.{leading_digits, decimal_value, begins_with_digit}
 use Rattle.byte_text.proofs.MarkLaws.{has_m110-no_m}
 use Rattle.gcode_lines.specs.Text.{is_mark, is_blank, is_control, is_numbered, is_skipped, is_too_long, has_control}
-use Rattle.gcode_words.specs.Value.{millionths, micro_of, behind_digits, decimals_at, behind_decimals, magnitude_at, number_at}
+use Rattle.gcode_words.specs.Value.{millionths, micro_of, after_digits, decimals_at, after_decimals, magnitude_at, number_at}
 use Rattle.gcode_words.specs.Words.{value_at, words_of}
 use Rattle.gcode_words.specs.declared.word.CodeWord.{CodeWord}
 use Rattle.gcode_measure.specs.declared.head.Head.{Head}
@@ -83,7 +83,7 @@ unfolding begins_with_digit
 begins-none = refl
 
 value-92 : (rest : List ℕ) → value_at (57 ∷ 50 ∷ 32 ∷ rest) ≡ Some (pos 92000000)
-unfolding value_at number_at magnitude_at micro_of millionths leading_digits decimal_value behind_digits decimals_at behind_decimals
+unfolding value_at number_at magnitude_at micro_of millionths leading_digits decimal_value after_digits decimals_at after_decimals
 value-92 rest = refl
 
 -- the arguments of the command that sets positions
@@ -119,17 +119,17 @@ value-position head axis near =
     ∙ ap (value_by SetPosition axis) (words-position head near)
 
 axes-mode : (mode : Mode) → mode_set X (axes_command mode) ≡ Some mode
-unfolding kind_of value_at number_at magnitude_at micro_of millionths leading_digits decimal_value behind_digits decimals_at behind_decimals
+unfolding kind_of value_at number_at magnitude_at micro_of millionths leading_digits decimal_value after_digits decimals_at after_decimals
 axes-mode Absolute = refl
 axes-mode Relative = refl
 
 extruder-mode : (mode : Mode) → mode_set E (extruder_command mode) ≡ Some mode
-unfolding kind_of value_at number_at magnitude_at micro_of millionths leading_digits decimal_value behind_digits decimals_at behind_decimals
+unfolding kind_of value_at number_at magnitude_at micro_of millionths leading_digits decimal_value after_digits decimals_at after_decimals
 extruder-mode Absolute = refl
 extruder-mode Relative = refl
 
 extruder-axes : (mode : Mode) → mode_set X (extruder_command mode) ≡ None
-unfolding kind_of value_at number_at magnitude_at micro_of millionths leading_digits decimal_value behind_digits decimals_at behind_decimals
+unfolding kind_of value_at number_at magnitude_at micro_of millionths leading_digits decimal_value after_digits decimals_at after_decimals
 extruder-axes Absolute = refl
 extruder-axes Relative = refl
 

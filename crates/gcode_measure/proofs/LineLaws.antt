@@ -9,11 +9,12 @@ use Rattle.byte_text.specs.Marks.{has_m110}
 use Rattle.gcode_lines.specs.declared.fault.FileFault.{FileFault}
 use Rattle.gcode_lines.specs.declared.fault.FileFault.TheVariants.{TooLarge}
 use Rattle.gcode_lines.specs.Job.{JobData, most_bytes, texts_of}
-use Rattle.gcode_lines.specs.Commands.{FileLine, file_line, in_front, pieces_of, numbered, lines_of, is_skipped_line, fault_at, first_fault, commands_in, unless_fault, job_in as lines_job, job_of}
+use Rattle.gcode_lines.specs.Commands.{FileLine, file_line, in_front, pieces_of, numbered, lines_of, is_skipped_line, fault_at, first_fault, unless_fault, job_in as lines_job, job_of}
 use Rattle.gcode_lines.specs.Text.{text_of, is_skipped, is_too_long, is_control, has_control, is_numbered}
 use Rattle.gcode_measure.specs.Rest.{line_of, text_of_lines}
-use Rattle.gcode_measure.proofs.PlainLaws.{IsPlain, plain-text_of, text_of-plain, without_number-bare, text_of-behind, list_any-stronger}
-use Rattle.gcode_lines.proofs.JobLaws.{fault_by, sound_by}
+use Rattle.gcode_measure.proofs.PlainLaws.{IsPlain, plain-text_of, text_of-plain, without_number-bare, text_of-behind}
+use Rattle.gcode_lines.proofs.JobLaws.{fault_by, sound_by, both_none, texts_in}
+use Rattle.gcode_lines.proofs.Sendable.{list_any-weaker, line_feed_is_control, some_from_kept}
 
 -- a fact of each text of a list
 abbrev pub Each : (List ℕ → Type 0) → List (List ℕ) → Type 0
@@ -27,19 +28,11 @@ pub record IsCommand (text : List ℕ) : Type 0 where
   pub short : is_too_long text ≡ false
   pub clean : has_control text ≡ false
 
--- the texts of the commands among lines
-abbrev pub texts_in : List FileLine → List (List ℕ)
-texts_in lines = map (λ c. c.text) (commands_in lines)
-
 command-of_line : (line : FileLine) → is_skipped_line line ≡ false → fault_at line ≡ None → IsCommand (text_of line.bytes)
 command-of_line line kept sound =
     let tests = sound_by (is_too_long (text_of line.bytes)) (has_control (text_of line.bytes)) line.number
     (ap (λ t. fault_by t (is_too_long (text_of line.bytes)) (has_control (text_of line.bytes)) line.number) (sym kept) ∙ sound) in
     record { plain = plain-text_of line.bytes tests.1; kept = kept; short = tests.0; clean = tests.1 }
-
-both_none : (first rest : Option FileFault) → option_or first rest ≡ None → (first ≡ None) × (rest ≡ None)
-both_none None rest e = (refl, e)
-both_none (Some fault) rest e = absurd cc
 
 commands_by : (line : FileLine) (lines : List FileLine) (t : Bool) → is_skipped_line line ≡ t → fault_at line ≡ None → Each IsCommand (texts_in lines) →
     Each IsCommand (texts_in (line ∷ lines))
@@ -88,12 +81,9 @@ pieces_of-lines (line ∷ lines) each =
     ∙ pieces_of-line line (text_of_lines lines) each.0
     ∙ ap (λ pieces. line ∷ pieces) (pieces_of-lines lines each.1)
 
-feed_is_control : (x : ℕ) → is_control x ≡ false → (x == 10) ≡ false
-feed_is_control x h = grind (arith, nat_tests)
-
 one_line-text : (text : List ℕ) → has_control text ≡ false → IsOneLine text
 unfolding has_control
-one_line-text text clean = list_any-stronger is_control (λ b. b == 10) feed_is_control text clean
+one_line-text text clean = list_any-weaker is_control (λ b. b == 10) line_feed_is_control text clean
 
 one_line-by : (text : List ℕ) (t : Bool) → IsOneLine text → IsOneLine (cond t (codes "N0 " ++ text) text)
 one_line-by text true h = h
@@ -104,10 +94,6 @@ one_lines [] each = tt
 one_lines (text ∷ texts) each =
     let first = each.0 in
     (one_line-by text (is_numbered text) (one_line-text text first.clean), one_lines texts each.1)
-
-some_from_kept : (text : List ℕ) → is_skipped text ≡ false → 1 ≤ length text
-unfolding is_skipped
-some_from_kept text h = let e = (or_parts (length text == 0) (has_m110 text) h).0 in grind (arith, nat_tests)
 
 says_by : (text : List ℕ) (t : Bool) → is_numbered text ≡ t → IsCommand text → text_of (cond t (codes "N0 " ++ text) text) ≡ text
 says_by text true e command = text_of-behind text (some_from_kept text command.kept) e command.plain

@@ -8,19 +8,9 @@ use Rattle.std.proofs.lemmas.List.{reverse-append, length-reverse, length-drop, 
 use Rattle.std.proofs.lemmas.List.Folds.{list_any_none}
 use Rattle.std.proofs.lemmas.List.Sums.{fails_before_first, suffix_len-le-length}
 use Rattle.std.proofs.Math.Seq.{take-append_seam, drop-append_seam, take-length}
-use Rattle.gcode_lines.specs.Text.{is_mark, is_space, is_blank, is_control, without_front, without_end, trimmed, is_numbered, without_number, text_of, has_control}
-
-pub list_any-take : (test : ℕ → Bool) (n : ℕ) (xs : List ℕ) → list_any test xs ≡ false → list_any test (take n xs) ≡ false
-list_any-take test zero xs h = refl
-list_any-take test (suc n) [] h = refl
-list_any-take test (suc n) (x ∷ xs) h =
-    let parts = or_parts (test x) (list_any test xs) h in
-    or_from _ _ parts.0 (list_any-take test n xs parts.1)
-
-pub list_any-drop : (test : ℕ → Bool) (n : ℕ) (xs : List ℕ) → list_any test xs ≡ false → list_any test (drop n xs) ≡ false
-list_any-drop test zero xs h = h
-list_any-drop test (suc n) [] h = refl
-list_any-drop test (suc n) (x ∷ xs) h = list_any-drop test n xs (or_parts (test x) (list_any test xs) h).1
+use Rattle.byte_text.specs.Chars.{is_space}
+use Rattle.gcode_lines.specs.Text.{is_mark, is_blank, is_control, without_front, without_end, trimmed, is_numbered, without_number, text_of, has_control}
+use Rattle.gcode_lines.proofs.Sendable.{list_any-take, list_any-drop, list_any-weaker}
 
 -- if all pass one test, none passes another that excludes it
 pub list_any-excluded : (all any : ℕ → Bool) → ((x : ℕ) → all x ≡ true → any x ≡ false) → (xs : List ℕ) → list_all all xs ≡ true → list_any any xs ≡ false
@@ -28,14 +18,6 @@ list_any-excluded all any excludes [] h = refl
 list_any-excluded all any excludes (x ∷ xs) h =
     let parts = and_parts (all x) (list_all all xs) h in
     or_from _ _ (excludes x parts.0) (list_any-excluded all any excludes xs parts.1)
-
--- if none passes one test, none passes one that is stronger
-pub list_any-stronger : (weak strong : ℕ → Bool) → ((x : ℕ) → weak x ≡ false → strong x ≡ false) → (xs : List ℕ) → list_any weak xs ≡ false →
-    list_any strong xs ≡ false
-list_any-stronger weak strong stronger [] h = refl
-list_any-stronger weak strong stronger (x ∷ xs) h =
-    let parts = or_parts (weak x) (list_any weak xs) h in
-    or_from _ _ (stronger x parts.0) (list_any-stronger weak strong stronger xs parts.1)
 
 no_front : (t : Bool) (n : ℕ) → cond t (1 + n) 0 ≡ 0 → t ≡ false
 no_front true n h = absurd (omega arith)

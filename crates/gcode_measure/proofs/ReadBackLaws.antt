@@ -13,7 +13,7 @@ use Rattle.std.proofs.Math.Seq.{drop-append_seam}
 use native.Mathlib.Nat.{div-div-eq-div-mul}
 use Rattle.byte_text.specs.Number.{leading_digits, decimal_value, begins_with_digit}
 use Rattle.byte_text.proofs.NumberLaws.{all_digits-decimal, decimal_value-decimal}
-use Rattle.gcode_words.specs.Value.{NumberAt, MagnitudeAt, millionths, micro_of, behind_digits, decimals_at, behind_decimals, magnitude_at, with_sign, is_negative, behind_sign, number_at}
+use Rattle.gcode_words.specs.Value.{NumberAt, MagnitudeAt, millionths, micro_of, after_digits, decimals_at, after_decimals, magnitude_at, with_sign, is_negative, after_sign, number_at}
 use Rattle.gcode_words.specs.Words.{value_at, words_of}
 use Rattle.gcode_measure.specs.Decimal.{sign_text, six_digits, micro_text}
 
@@ -71,9 +71,9 @@ leading_digits-append (digit ∷ digits) rest each other =
     ∙ ap (λ t. cond t (digit ∷ take_while is_ascii_digit (digits ++ rest)) []) parts.0
     ∙ ap (λ ds. digit ∷ ds) (leading_digits-append digits rest parts.1 other)
 
-behind_digits-append : (digits rest : List ℕ) → list_all is_ascii_digit digits ≡ true → begins_with_digit rest ≡ false → behind_digits (digits ++ rest) ≡ rest
-unfolding behind_digits
-behind_digits-append digits rest each other =
+after_digits-append : (digits rest : List ℕ) → list_all is_ascii_digit digits ≡ true → begins_with_digit rest ≡ false → after_digits (digits ++ rest) ≡ rest
+unfolding after_digits
+after_digits-append digits rest each other =
     ap (λ ds. drop (length ds) (digits ++ rest)) (leading_digits-append digits rest each other) ∙ drop-append_seam digits rest
 
 millionths-six : (n : ℕ) → n < 1000000 → millionths (six_digits n) ≡ n
@@ -96,9 +96,9 @@ decimals_at-point : (rest : List ℕ) → decimals_at (46 ∷ rest) ≡ leading_
 unfolding decimals_at
 decimals_at-point rest = refl
 
-behind_decimals-point : (rest : List ℕ) → behind_decimals (46 ∷ rest) ≡ behind_digits rest
-unfolding behind_decimals
-behind_decimals-point rest = refl
+after_decimals-point : (rest : List ℕ) → after_decimals (46 ∷ rest) ≡ after_digits rest
+unfolding after_decimals
+after_decimals-point rest = refl
 
 abbrev magnitude_by : List ℕ → List ℕ → List ℕ → Option MagnitudeAt
 magnitude_by whole decimals rest =
@@ -117,14 +117,14 @@ magnitude_at-parts m n rest most small other =
     let digits = all_digits-decimal m (omega arith) in
     let behind : List ℕ = (46 ∷ six_digits n) ++ rest in
     let whole = leading_digits-append (decimal m) ((46 ∷ six_digits n) ++ rest) digits (point-not_digit (six_digits n ++ rest)) in
-    let after = behind_digits-append (decimal m) ((46 ∷ six_digits n) ++ rest) digits (point-not_digit (six_digits n ++ rest)) in
+    let after = after_digits-append (decimal m) ((46 ∷ six_digits n) ++ rest) digits (point-not_digit (six_digits n ++ rest)) in
     let decimals : decimals_at ((46 ∷ six_digits n) ++ rest) ≡ six_digits n = decimals_at-point (six_digits n ++ rest)
     ∙ leading_digits-append (six_digits n) rest (six_digits-digits n) other in
-    let left : behind_decimals ((46 ∷ six_digits n) ++ rest) ≡ rest = behind_decimals-point (six_digits n ++ rest)
-    ∙ behind_digits-append (six_digits n) rest (six_digits-digits n) other in
-    ap (λ w. magnitude_by w (decimals_at (behind_digits (decimal m ++ behind))) (behind_decimals (behind_digits (decimal m ++ behind)))) whole
-    ∙ ap (λ b. magnitude_by (decimal m) (decimals_at b) (behind_decimals b)) after
-    ∙ ap (λ d. magnitude_by (decimal m) d (behind_decimals behind)) decimals
+    let left : after_decimals ((46 ∷ six_digits n) ++ rest) ≡ rest = after_decimals-point (six_digits n ++ rest)
+    ∙ after_digits-append (six_digits n) rest (six_digits-digits n) other in
+    ap (λ w. magnitude_by w (decimals_at (after_digits (decimal m ++ behind))) (after_decimals (after_digits (decimal m ++ behind)))) whole
+    ∙ ap (λ b. magnitude_by (decimal m) (decimals_at b) (after_decimals b)) after
+    ∙ ap (λ d. magnitude_by (decimal m) d (after_decimals behind)) decimals
     ∙ ap (magnitude_by (decimal m) (six_digits n)) left
     ∙ magnitude_by-six m n rest
     ∙ ap (λ k. Some (record { micro = k; rest = rest })) (micro_of-parts m n most small)
@@ -133,7 +133,7 @@ signed_by : (digit : ℕ) → is_ascii_digit digit ≡ true → ((digit == 45) �
 signed_by digit h = (grind (arith, nat_tests), grind (arith, nat_tests))
 
 unsigned : (digits rest : List ℕ) → 0 < length digits → list_all is_ascii_digit digits ≡ true →
-    (is_negative (digits ++ rest) ≡ false) × (behind_sign (digits ++ rest) ≡ digits ++ rest)
+    (is_negative (digits ++ rest) ≡ false) × (after_sign (digits ++ rest) ≡ digits ++ rest)
 unsigned [] rest some each = absurd (omega arith)
 unsigned (digit ∷ digits) rest some each =
     let parts = and_parts (is_ascii_digit digit) (list_all is_ascii_digit digits) each in
@@ -156,7 +156,7 @@ number_at-unsigned size rest most other =
     let behind : List ℕ = (46 ∷ six_digits (size % 1000000)) ++ rest in
     let bare = unsigned (decimal (size / 1000000)) ((46 ∷ six_digits (size % 1000000)) ++ rest) (decimal_nonempty (size / 1000000) low)
     (all_digits-decimal (size / 1000000) low) in
-    ap (λ t. option_map (with_sign t) (magnitude_at (behind_sign (decimal (size / 1000000) ++ behind)))) bare.0
+    ap (λ t. option_map (with_sign t) (magnitude_at (after_sign (decimal (size / 1000000) ++ behind)))) bare.0
     ∙ ap (λ bytes. option_map (with_sign false) (magnitude_at bytes)) bare.1
     ∙ ap (option_map (with_sign false)) (magnitude_at-parts (size / 1000000) (size % 1000000) rest small (omega arith) other)
     ∙ ap (λ n. Some (record { micro = pos n; rest = rest })) (size-parts size)

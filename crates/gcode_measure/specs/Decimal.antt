@@ -1,3 +1,4 @@
+-- Millionths written in decimal, with six decimals.
 use Rattle.std.specs.Prelude.{ℕ, ◌+◌, ◌/◌, ◌%◌, ℤ, pos, negsuc, List, [], ◌∷◌, ◌++◌, codes, decimal, unsigned_abs}
 
 -- `-` before a number below 0

@@ -1,3 +1,4 @@
+-- The head: the modes and positions of the axes after commands.
 use Rattle.std.specs.Prelude.{ℕ, ℤ, ◌+ℤ◌, Bool, ◌||◌, ◌&&◌, nat_lt, unsigned_abs, if◌then◌else◌, List, Option, None, Some, unwrap_or}
 use Rattle.gcode_measure.specs.declared.head.Head.{Head}
 use Rattle.gcode_measure.specs.declared.kind.Mode.{Mode}

@@ -1,3 +1,4 @@
+-- The kinds of commands that move the head or change how it moves.
 use Rattle.std.specs.Prelude.{ℕ, ◌%◌, ◌/◌, ◌==◌, nat_le, ℤ, pos, negsuc, if◌then◌else◌, List, [], ◌∷◌, Option, None, Some}
 use Rattle.gcode_words.specs.Words.{words_of}
 use Rattle.gcode_words.specs.declared.word.CodeWord.{CodeWord}

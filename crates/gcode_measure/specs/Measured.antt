@@ -1,3 +1,4 @@
+-- What the commands of a job measure: its moves, its filament and its extent.
 use Rattle.std.specs.Prelude.{ℕ, ℤ, pos, Bool, true, false, if◌then◌else◌, List, [], ◌∷◌, ◌++◌, length, map, filter, fold, sum_by, Option, None, Some, Result, Ok, Err}
 use Rattle.std.specs.Int.{int_min, int_max, int_gap}
 use Rattle.std.specs.Option.{option_or}

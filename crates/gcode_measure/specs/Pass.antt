@@ -1,5 +1,7 @@
+-- A measure, command by command, and the bounds of its sums.
 use Rattle.std.specs.Prelude.{ℕ, ◌+◌, ◌*◌, ◌≤◌, ℤ, pos, ◌+ℤ◌, ◌≤ℤ◌, if◌then◌else◌, List, Option, None, Some}
 use Rattle.std.specs.Int.{int_min, int_max, int_gap}
+use Rattle.gcode_lines.specs.Job.{most_bytes}
 use Rattle.gcode_measure.specs.declared.head.Head.{Head}
 use Rattle.gcode_measure.specs.declared.totals.Extent.{Extent}
 use Rattle.gcode_measure.specs.declared.totals.Measure.{Measure}
@@ -35,7 +37,7 @@ measure_then measure text from next = if is_move text then with_move measure fro
 -- what holds of every measure: no sum is greater than its moves allow
 pub record IsBounded (measure : Measure) : Type 0 where
   pub moves : measure.moves ≤ measure.commands
-  pub commands : measure.commands ≤ 67108864
+  pub commands : measure.commands ≤ most_bytes
   pub fed_low : pos 0 ≤ℤ measure.fed
   pub fed_high : measure.fed ≤ℤ pos (measure.moves * 2000000000000)
   pub drawn_low : pos 0 ≤ℤ measure.drawn

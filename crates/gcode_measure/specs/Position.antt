@@ -1,3 +1,4 @@
+-- The mode and the position of an axis after commands.
 use Rattle.std.specs.Prelude.{ℕ, ℤ, pos, ◌+ℤ◌, Bool, true, false, ◌&&◌, if◌then◌else◌, List, [], ◌∷◌, ◌++◌, map, filter_map, Option, None, Some, is_some, unwrap_or}
 use Rattle.std.specs.List.{after_last}
 use Rattle.gcode_measure.specs.declared.kind.Kind.{Kind}

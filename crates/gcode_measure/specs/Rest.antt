@@ -1,3 +1,4 @@
+-- A file that goes on with a job at one of its commands.
 use Rattle.std.specs.Prelude.{◌≡◌, ℕ, ◌+◌, ◌≤◌, ℤ, false, nat_lt, if◌then◌else◌, List, [], ◌∷◌, ◌++◌, length, map, take, drop, codes, Option, None, Some, Result, Ok, Err, IsOkAnd}
 use Rattle.std.specs.List.{flat_map}
 use Rattle.gcode_lines.specs.Job.{JobData, texts_of, most_bytes}
@@ -14,6 +15,7 @@ use Rattle.gcode_measure.specs.Decimal.{micro_text}
 use Rattle.gcode_measure.specs.Head.{head_of, has_far}
 use Rattle.gcode_measure.specs.Measured.{first_fault}
 use Rattle.gcode_measure.specs.Position.{mode_of, position_of}
+use Rattle.octo_outside.specs.Lists.{with_line_feed}
 
 -- a head is where the commands before one leave it: none of them is refused, and no axis is too far
 pub record IsHeadBefore (job : JobData) (from : ℕ) (head : Head) : Type 0 where
@@ -49,13 +51,9 @@ abbrev pub rest_lines : Head → List (List ℕ) → List (List ℕ)
 rest_lines head texts =
     axes_command head.axes ∷ extruder_command head.extruder ∷ position_command head ∷ map line_of texts
 
--- a line with its line feed
-abbrev pub ended : List ℕ → List ℕ
-ended line = line ++ 10 ∷ []
-
 -- lines, each with its line feed
 abbrev pub text_of_lines : List (List ℕ) → List ℕ
-text_of_lines lines = flat_map ended lines
+text_of_lines lines = flat_map with_line_feed lines
 
 -- the file that goes on at a command
 unfoldable pub rest_text : List (List ℕ) → ℕ → List ℕ

@@ -1,3 +1,4 @@
+-- A measure as lines of text.
 use Rattle.std.specs.Prelude.{ℕ, ℤ, List, [], ◌++◌, codes, decimal, Option, None, Some}
 use Rattle.gcode_measure.specs.declared.totals.Extent.{Extent}
 use Rattle.gcode_measure.specs.declared.totals.Measure.{Measure}

@@ -1,6 +1,7 @@
 //! One pass over the commands.
 ghost use Rattle.std.specs.Prelude.{◌≡◌, ◌<◌, ◌+ℤ◌, ◌≤ℤ◌, pos, false};
 ghost use Rattle.std.specs.Int.{int_gap};
+ghost use Rattle.gcode_lines.specs.Job.{most_bytes};
 ghost use Rattle.gcode_measure.specs.Head.{is_far, has_far};
 ghost use Rattle.gcode_measure.specs.Pass.{widened, with_move, with_command, IsBounded};
 
@@ -47,7 +48,7 @@ fn added(sum: i128, gap: i128) -> i128
 /// The measure with one more move.
 fn with_move(measure: &Measure, from: &Head, next: &Head) -> Measure
     requires bounded { IsBounded measure.now }
-    requires room { measure.now.commands < 67108864 }
+    requires room { measure.now.commands < most_bytes }
     requires near { has_far from.now ≡ false }
     requires also_near { has_far next.now ≡ false }
     ensures value { result ≡ with_move measure.now from.now next.now }
@@ -67,7 +68,7 @@ fn with_move(measure: &Measure, from: &Head, next: &Head) -> Measure
 /// The measure with one more command, which is no move.
 fn with_command(measure: &Measure) -> Measure
     requires bounded { IsBounded measure.now }
-    requires room { measure.now.commands < 67108864 }
+    requires room { measure.now.commands < most_bytes }
     ensures value { result ≡ with_command measure.now }
     ensures bounded { IsBounded result }
 {
@@ -113,7 +114,7 @@ impl Pass {
 
     /// Takes in one more command of a line, unless that is refused.
     pub(crate) fn take(&mut self, text: &[u8], line: u32) -> Result<(), MeasureFault>
-        requires { self.old.measure.commands < 67108864 }
+        requires { self.old.measure.commands < most_bytes }
         ensures { MatchResult result
             (λ _. (fault_by text.now line self.new.head ≡ None)
             × (self.new.head ≡ head_then self.old.head text.now)

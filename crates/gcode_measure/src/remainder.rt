@@ -4,14 +4,15 @@ ghost use Rattle.gcode_lines.specs.Job.{texts_of};
 ghost use Rattle.gcode_lines.specs.Text.{is_numbered};
 ghost use Rattle.gcode_measure.specs.Head.{head_of};
 ghost use Rattle.gcode_measure.specs.Measured.{first_fault};
-ghost use Rattle.gcode_measure.specs.Rest.{axes_command, extruder_command, axis_text, position_command, line_of, ended, text_of_lines, rest_lines, rest_of, IsHeadBefore, IsRest};
+ghost use Rattle.octo_outside.specs.Lists.{with_line_feed};
+ghost use Rattle.gcode_measure.specs.Rest.{axes_command, extruder_command, axis_text, position_command, line_of, text_of_lines, rest_lines, rest_of, IsHeadBefore, IsRest};
 
 use crate::decimal::put_micro;
 use crate::fault::{MeasureFault, RestFault};
 use crate::head::Head;
 use crate::kind::{Mode, read_kind};
 use gcode_lines::Job;
-use octo_outside::Blob;
+use octo_outside::{Blob, append_line};
 use std::alloc::{AllocError, Global};
 
 /// Modes and positions before a command, unless one before it is refused.
@@ -57,15 +58,8 @@ fn is_numbered(text: &[u8]) -> bool
     text.len() > 1 && text[0] == b'N' && text[1].is_ascii_digit()
 }
 
-/// Adds a line; after an error the text may hold a part of it, here and below.
-fn put_line(text: &mut Blob, line: &[u8]) -> Result<(), AllocError>
-    ensures { OnOk result (text.new ≡ text.old ++ ended line.now) }
-{
-    text.append(line)?;
-    text.append(b"\n")
-}
-
-/// Adds an axis's letter with the text before it, and its position.
+/// Adds an axis's letter with the text before it, and its position; after an error the text may hold a part of it, here
+/// and below.
 fn put_axis(text: &mut Blob, name: &[u8], at: i128) -> Result<(), AllocError>
     ensures { OnOk result (text.new ≡ text.old ++ axis_text name.now at) }
 {
@@ -76,7 +70,7 @@ fn put_axis(text: &mut Blob, name: &[u8], at: i128) -> Result<(), AllocError>
 /// Adds the line that sets all positions.
 #[tactic(auto, unfolding(crate::specs::Rest::position_command))]
 fn put_positions(text: &mut Blob, head: &Head) -> Result<(), AllocError>
-    ensures { OnOk result (text.new ≡ text.old ++ ended (position_command head.now)) }
+    ensures { OnOk result (text.new ≡ text.old ++ with_line_feed (position_command head.now)) }
 {
     put_axis(text, b"G92 X", head.x)?;
     put_axis(text, b" Y", head.y)?;
@@ -87,12 +81,12 @@ fn put_positions(text: &mut Blob, head: &Head) -> Result<(), AllocError>
 
 /// Adds a command as a line.
 fn put_command(text: &mut Blob, command: &[u8]) -> Result<(), AllocError>
-    ensures { OnOk result (text.new ≡ text.old ++ ended (line_of command.now)) }
+    ensures { OnOk result (text.new ≡ text.old ++ with_line_feed (line_of command.now)) }
 {
     if is_numbered(command) {
         text.append(b"N0 ")?;
     }
-    put_line(text, command)
+    append_line(text, command)
 }
 
 /// The file that goes on at a command where a head is.
@@ -102,8 +96,8 @@ fn write_rest(alloc: Global, job: &Job, from: usize, head: &Head) -> Result<Blob
         text ≡ text_of_lines (rest_lines head.now (drop from (texts_of job.now)))) }
 {
     let mut text = Blob::new(alloc);
-    put_line(&mut text, axes_command(head.axes))?;
-    put_line(&mut text, extruder_command(head.extruder))?;
+    append_line(&mut text, axes_command(head.axes))?;
+    append_line(&mut text, extruder_command(head.extruder))?;
     put_positions(&mut text, head)?;
     for i in from..job.count() {
         put_command(&mut text, job.get(i))?;

@@ -1,3 +1,4 @@
+//! The measure of a short file, and the calls that allocate.
 use super::*;
 use gcode_lines::read_commands;
 use std::test::Fail;

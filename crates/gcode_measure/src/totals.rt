@@ -10,9 +10,9 @@ pub struct Extent {
 /// What the commands of a file do, in millionths of a millimetre.
 #[derive(Clone, Copy, Debug, PartialEq, Eq)]
 pub struct Measure {
-    /// How many commands there are.
+    /// The number of commands.
     pub commands: u32,
-    /// How many of them are moves.
+    /// The number of moves among the commands.
     pub moves: u32,
     /// How much filament all moves feed.
     pub fed: i128,

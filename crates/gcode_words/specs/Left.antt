@@ -1,3 +1,4 @@
+-- The words that are still to be read.
 use Rattle.std.specs.Prelude.{List}
 use Rattle.gcode_words.specs.Words.{words_of}
 use Rattle.gcode_words.specs.declared.word.CodeWord.{CodeWord}

@@ -1,3 +1,4 @@
+-- Numbers at the front of a text, in millionths.
 use Rattle.std.specs.Prelude.{ℕ, ◌+◌, ◌*◌, ℤ, pos, neg_ℤ, Bool, true, false, ◌||◌, if◌then◌else◌, ◌==◌, nat_lt, List, [], ◌∷◌, ◌++◌, length, take, drop, replicate, Option, None, Some}
 use Rattle.std.specs.Option.{option_map}
 use Rattle.byte_text.specs.Number.{leading_digits, decimal_value}
@@ -24,8 +25,8 @@ micro_of whole decimals =
     else decimal_value whole * 1000000 + millionths decimals
 
 -- what follows the digits at the front
-unfoldable pub behind_digits : List ℕ → List ℕ
-behind_digits bytes = drop (length (leading_digits bytes)) bytes
+unfoldable pub after_digits : List ℕ → List ℕ
+after_digits bytes = drop (length (leading_digits bytes)) bytes
 
 -- the digits after a point at the front, none without such a point
 unfoldable pub decimals_at : List ℕ → List ℕ
@@ -33,18 +34,18 @@ decimals_at [] = []
 decimals_at (byte ∷ bytes) = if byte == 46 then leading_digits bytes else []
 
 -- what follows a point at the front and its digits
-unfoldable pub behind_decimals : List ℕ → List ℕ
-behind_decimals [] = []
-behind_decimals (byte ∷ bytes) = if byte == 46 then behind_digits bytes else byte ∷ bytes
+unfoldable pub after_decimals : List ℕ → List ℕ
+after_decimals [] = []
+after_decimals (byte ∷ bytes) = if byte == 46 then after_digits bytes else byte ∷ bytes
 
 -- digits with at most one point after them or among them, in millionths; nothing without a digit
 unfoldable pub magnitude_at : List ℕ → Option MagnitudeAt
 magnitude_at bytes =
-    if length (leading_digits bytes) + length (decimals_at (behind_digits bytes)) == 0
+    if length (leading_digits bytes) + length (decimals_at (after_digits bytes)) == 0
     then None
     else Some (record {
-      micro = micro_of (leading_digits bytes) (decimals_at (behind_digits bytes));
-      rest = behind_decimals (behind_digits bytes);
+      micro = micro_of (leading_digits bytes) (decimals_at (after_digits bytes));
+      rest = after_decimals (after_digits bytes);
     })
 
 -- a magnitude below zero, or not
@@ -58,10 +59,10 @@ is_negative [] = false
 is_negative (byte ∷ bytes) = byte == 45
 
 -- what follows a sign at the front
-abbrev pub behind_sign : List ℕ → List ℕ
-behind_sign [] = []
-behind_sign (byte ∷ bytes) = if byte == 45 || byte == 43 then bytes else byte ∷ bytes
+abbrev pub after_sign : List ℕ → List ℕ
+after_sign [] = []
+after_sign (byte ∷ bytes) = if byte == 45 || byte == 43 then bytes else byte ∷ bytes
 
 -- a number at the front: a sign `+` or `-` or none, digits, and after a point digits again
 unfoldable pub number_at : List ℕ → Option NumberAt
-number_at bytes = option_map (with_sign (is_negative bytes)) (magnitude_at (behind_sign bytes))
+number_at bytes = option_map (with_sign (is_negative bytes)) (magnitude_at (after_sign bytes))

@@ -1,7 +1,7 @@
 //! Decimal numbers, in whole millionths.
 ghost use Rattle.std.specs.Prelude.{◌≡◌, ◌-◌, ◌^◌, ◌<◌, ◌≤◌, length, min, slice_index_or, IfSome, MatchOption, None, Some};
 ghost use Rattle.byte_text.specs.Number.{decimal_value, leading_digits};
-ghost use Rattle.gcode_words.specs.Value.{millionths, micro_of, behind_digits, decimals_at, behind_decimals, magnitude_at, is_negative, behind_sign, number_at};
+ghost use Rattle.gcode_words.specs.Value.{millionths, micro_of, after_digits, decimals_at, after_decimals, magnitude_at, is_negative, after_sign, number_at};
 
 use byte_text::leading_digits;
 
@@ -26,7 +26,7 @@ struct Magnitude<'a> {
 }
 
 /// Reads the number at the front: a sign or none, digits, and after a point digits again, with one digit at least.
-/// Decimals after the sixth are dropped. None if no number is there.
+/// Decimals after the sixth are dropped. `None` if the bytes begin with no number.
 #[tactic(auto, unfolding(crate::specs::Value::number_at))]
 pub fn read_number(bytes: &[u8]) -> Option<Number<'_>>
     ensures { MatchOption result
@@ -46,7 +46,7 @@ pub fn read_number(bytes: &[u8]) -> Option<Number<'_>>
 /// Whether `-` is at the front, and what follows a sign.
 fn split_sign(bytes: &[u8]) -> (bool, &[u8])
     ensures negative { result.0 ≡ is_negative bytes.now }
-    ensures rest { result.1.now ≡ behind_sign bytes.now }
+    ensures rest { result.1.now ≡ after_sign bytes.now }
 {
     match bytes {
         [b'-', unsigned @ ..] => (true, unsigned),
@@ -75,20 +75,20 @@ fn read_magnitude(bytes: &[u8]) -> Option<Magnitude<'_>>
 }
 
 /// The digits at the front, and what follows them.
-#[tactic(auto, using(crate::proofs::Digits::digits_fit), unfolding(crate::specs::Value::behind_digits))]
+#[tactic(auto, using(crate::proofs::Digits::digits_fit), unfolding(crate::specs::Value::after_digits))]
 fn split_digits(bytes: &[u8]) -> (&[u8], &[u8])
     ensures digits { result.0.now ≡ leading_digits bytes.now }
-    ensures rest { result.1.now ≡ behind_digits bytes.now }
+    ensures rest { result.1.now ≡ after_digits bytes.now }
 {
     let digits = leading_digits(bytes);
     (digits, &bytes[digits.len()..])
 }
 
 /// The digits after a point at the front, and what follows them.
-#[tactic(auto, unfolding(crate::specs::Value::decimals_at, crate::specs::Value::behind_decimals))]
+#[tactic(auto, unfolding(crate::specs::Value::decimals_at, crate::specs::Value::after_decimals))]
 fn split_decimals(bytes: &[u8]) -> (&[u8], &[u8])
     ensures digits { result.0.now ≡ decimals_at bytes.now }
-    ensures rest { result.1.now ≡ behind_decimals bytes.now }
+    ensures rest { result.1.now ≡ after_decimals bytes.now }
 {
     match bytes {
         [b'.', fraction @ ..] => split_digits(fraction),

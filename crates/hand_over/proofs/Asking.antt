@@ -15,7 +15,7 @@ use Rattle.hand_over.specs.declared.board.WorkerView.{WorkerView}
 use Rattle.hand_over.specs.declared.board.View.TheVariants.{Worker}
 use Rattle.hand_over.specs.declared.waiting.Look.TheVariants as look
 use Rattle.hand_over.specs.Views.{worker_of}
-use Rattle.hand_over.specs.Steps.{Sitter, Taken, staged, rested, found_call, letter_in, answer_in}
+use Rattle.hand_over.specs.Steps.{Sitter, Taken, at_stage, at_rest, found_call, letter_in, answer_in}
 use Rattle.hand_over.specs.Ends.{HasFound, IsWorker, IsResting, IsWaiting, with_call, AfterLook, AfterAsk}
 use Rattle.hand_over.proofs.Sitting.{is_worker}
 
@@ -45,20 +45,20 @@ pub rests : (me : Sitter) (n : ℕ) (saw : Bool) → IsResting n saw me → IsWo
 rests me n saw is = is_worker me (record (worker_of me.0) { number = n; stage = Resting; saw_close = saw }) n Resting [] is refl refl
 
 -- the ask is open
-pub waits : (old new : Sitter) (n : ℕ) (saw : Bool) (ask : Ask) → IsResting n saw old → new ≡ (staged old.0 (Waiting ask), []) → IsWaiting n saw ask new
+pub waits : (old new : Sitter) (n : ℕ) (saw : Bool) (ask : Ask) → IsResting n saw old → new ≡ (at_stage old.0 (Waiting ask), []) → IsWaiting n saw ask new
 waits old new n saw ask is e = sits new (record (worker_of old.0) { stage = Waiting ask }) [] n (Waiting ask) saw e
     (ap (λ (m : Sitter). (worker_of m.0).number) is) refl (ap (λ (m : Sitter). (worker_of m.0).saw_close) is)
 
 -- the answer is in hand
 pub finds : (old new : Sitter) (n : ℕ) (saw : Bool) (ask : Ask) (moment : ℕ) (answer : Answer) → IsWaiting n saw ask old
-    → new ≡ (staged old.0 (Found ask moment answer), ((worker_of old.0).number, Some (Answered moment answer)) ∷ [])
+    → new ≡ (at_stage old.0 (Found ask moment answer), ((worker_of old.0).number, Some (Answered moment answer)) ∷ [])
     → IsWorker n (Found ask moment answer) ((n, Some (Answered moment answer)) ∷ []) new
 finds old new n saw ask moment answer is e = let number = ap (λ (m : Sitter). (worker_of m.0).number) is in
     is_worker new (record (worker_of old.0) { stage = Found ask moment answer }) n (Found ask moment answer) ((n, Some (Answered moment answer)) ∷ [])
-    (e ∙ (λ i. (staged old.0 (Found ask moment answer), (number i, Some (Answered moment answer)) ∷ []))) number refl
+    (e ∙ (λ i. (at_stage old.0 (Found ask moment answer), (number i, Some (Answered moment answer)) ∷ []))) number refl
 
 -- the ask is withdrawn
-pub gives_up : (old new : Sitter) (n : ℕ) (saw : Bool) (ask : Ask) → IsWaiting n saw ask old → new ≡ (staged old.0 (Withdrawn ask), [])
+pub gives_up : (old new : Sitter) (n : ℕ) (saw : Bool) (ask : Ask) → IsWaiting n saw ask old → new ≡ (at_stage old.0 (Withdrawn ask), [])
     → IsWorker n (Withdrawn ask) [] new
 gives_up old new n saw ask is e = is_worker new (record (worker_of old.0) { stage = Withdrawn ask }) n (Withdrawn ask) [] e (ap (λ (m : Sitter).
     (worker_of m.0).number) is) refl
@@ -86,7 +86,7 @@ answer_of d _ = d
 -- the answer is taken, and the worker rests
 pub takes : (me mid new : Sitter) (n : ℕ) (letter : Option Letter) (result : Answer) (found : HasFound n me) → me.1 ≡ (n, letter) ∷ rest me.1
     → answer_in letter ≡ Some result
-    → mid ≡ (me.0, (n, None) ∷ rest me.1) → new ≡ (Worker (rested (worker_of mid.0)), [])
+    → mid ≡ (me.0, (n, None) ∷ rest me.1) → new ≡ (Worker (at_rest (worker_of mid.0)), [])
     → (ask : Ask) (moment : ℕ) (answer : Answer) → (worker_of me.0).stage ≡ Found ask moment answer
     → (result ≡ answer) × (new ≡ (Worker (with_call (worker_of me.0) ask moment answer), []))
 takes me mid new n letter result found hand is between idle ask moment answer stage =
@@ -94,7 +94,7 @@ takes me mid new n letter result found hand is between idle ask moment answer st
     let read : Some result ≡ Some found.2 = sym is ∙ ap answer_in (letter_found me n letter found hand) in
     let same : found.2 ≡ answer = ap (answer_of answer) (sym here ∙ stage) in (
       ap (λ (o : Option Answer). unwrap_or o result) read ∙ same,
-      idle ∙ (ap (λ (m : Sitter). (Worker (rested (worker_of m.0)), [])) between
+      idle ∙ (ap (λ (m : Sitter). (Worker (at_rest (worker_of m.0)), [])) between
           ∙ ap (λ (z : Stage). (
             Worker (record (worker_of me.0) { mine = (worker_of me.0).mine ++ found_call (worker_of me.0).number z; stage = Resting }),
             [],
@@ -103,7 +103,7 @@ takes me mid new n letter result found hand is between idle ask moment answer st
 
 -- a look that found the answer
 pub looked_answered : (old mid new : Sitter) (ask : Ask) (moment : ℕ) (answer result : Answer)
-    → mid ≡ (staged old.0 (Found ask moment answer), ((worker_of old.0).number, Some (Answered moment answer)) ∷ [])
+    → mid ≡ (at_stage old.0 (Found ask moment answer), ((worker_of old.0).number, Some (Answered moment answer)) ∷ [])
     → ((a : Ask) (m : ℕ) (r : Answer) → (worker_of mid.0).stage ≡ Found a m r → (result ≡ r) × (new ≡ (Worker (with_call (worker_of mid.0) a m r), [])))
     → AfterLook ask old (look.Answered result) new
 looked_answered old mid new ask moment answer result e taken = let t = taken ask moment answer (ap (λ (m : Sitter). (worker_of m.0).stage) e) in
@@ -111,12 +111,12 @@ looked_answered old mid new ask moment answer result e taken = let t = taken ask
     (moment, t.1 ∙ (λ i. (Worker (with_call (worker_of (e i).0) ask moment (same i)), [])))
 
 -- a look that withdrew the ask
-pub looked_withdrawn : (old mid new : Sitter) (ask : Ask) → (worker_of old.0).saw_close ≡ true → mid ≡ (staged old.0 (Withdrawn ask), [])
-    → new ≡ (Worker (rested (worker_of mid.0)), [])
+pub looked_withdrawn : (old mid new : Sitter) (ask : Ask) → (worker_of old.0).saw_close ≡ true → mid ≡ (at_stage old.0 (Withdrawn ask), [])
+    → new ≡ (Worker (at_rest (worker_of mid.0)), [])
     → AfterLook ask old look.Withdrawn new
 looked_withdrawn old mid new ask saw e idle = (
   saw,
-  idle ∙ (ap (λ (m : Sitter). (Worker (rested (worker_of m.0)), [])) e
+  idle ∙ (ap (λ (m : Sitter). (Worker (at_rest (worker_of m.0)), [])) e
       ∙ ap (λ (l : History). (Worker (record (worker_of old.0) { mine = l; stage = Resting }), [])) (append-nil (worker_of old.0).mine)),
 )
 

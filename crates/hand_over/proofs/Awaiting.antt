@@ -26,9 +26,10 @@ use Rattle.hand_over.specs.declared.board.View.{View}
 use Rattle.hand_over.specs.declared.board.View.TheVariants.{House, Worker, Spent}
 use Rattle.hand_over.specs.Views.{Known, known_of, taken_of, has_close}
 use Rattle.hand_over.specs.Rule.{Kept, AtStage, AtSeat, Slot, note_word}
-use Rattle.hand_over.specs.Steps.{Taken, looked, with_look, given, answer_put, call_with, note_put, close_put, learnt}
+use Rattle.hand_over.specs.Steps.{Taken, worker_looked_at, with_look, ask_from, answer_put, call_with, note_put, close_put, learnt}
 use Rattle.hand_over.proofs.Lists.{calls_own, calls_other, calls_note, calls_close, close_call, close_note, close_close, taken_own, taken_other}
 use Rattle.hand_over.proofs.Frames.{St, Homes, housed, house_moves}
+use Rattle.std.proofs.lemmas.Option.{none-some}
 
 -- the worker whose ask is open
 pub record Asks (known : Known) (slot : Slot) (worker : ℕ) (view : maybe.Option View) : Type 0 where
@@ -61,27 +62,20 @@ asks known word slot worker (some (Worker v)) p one running = asks_in known word
 asks known word slot worker (some Spent) p one running = absurd (true≢false (sym p.0 ∙ running))
 asks known word slot worker (some (House house)) p one running = absurd p
 
-pub none_some : (o : Option Ask) (ask : Ask) → o ≡ None → o ≡ Some ask → ⊥
-none_some o ask e f = subst is_none (sym e ∙ f) tt
-  where
-    is_none : Option Ask → Type 0
-    is_none None = Unit {0}
-    is_none (Some _) = ⊥
-
 word_in : (known : Known) (word : ℕ) (slot : Slot) (worker : ℕ) (mine : History) (stage : Stage) (ask : Ask) → AtStage known word slot worker mine stage
     → known.taken ≡ Some ask → word ≡ 1
-word_in known word slot worker mine Resting ask p t = absurd (none_some known.taken ask p.1.0 t)
-word_in known word slot worker mine Writing ask p t = absurd (none_some known.taken ask p.1.0 t)
-word_in known word slot worker mine (Waiting asked) ask p t = ⊎_elim (λ o. o.0) (λ z. ⊎_elim (λ o. o.0) (λ o. absurd (none_some known.taken ask o.3.0 t)) z) p
-word_in known word slot worker mine (Found asked moment answer) ask p t = absurd (none_some known.taken ask p.1.0 t)
+word_in known word slot worker mine Resting ask p t = absurd (none-some ask (sym p.1.0 ∙ t))
+word_in known word slot worker mine Writing ask p t = absurd (none-some ask (sym p.1.0 ∙ t))
+word_in known word slot worker mine (Waiting asked) ask p t = ⊎_elim (λ o. o.0) (λ z. ⊎_elim (λ o. o.0) (λ o. absurd (none-some ask (sym o.3.0 ∙ t))) z) p
+word_in known word slot worker mine (Found asked moment answer) ask p t = absurd (none-some ask (sym p.1.0 ∙ t))
 word_in known word slot worker mine (Withdrawn asked) ask p t = p.0
 
 -- the word of a worker whose ask the house has
 pub taken_word : (known : Known) (word : ℕ) (slot : Slot) (worker : ℕ) (view : maybe.Option View) (ask : Ask) → AtSeat known word slot worker view
     → known.taken ≡ Some ask → word ≡ 1
-taken_word known word slot worker none ask p t = absurd (none_some known.taken ask p.1 t)
+taken_word known word slot worker none ask p t = absurd (none-some ask (sym p.1 ∙ t))
 taken_word known word slot worker (some (Worker v)) ask p t = word_in known word slot worker v.mine v.stage ask p.2 t
-taken_word known word slot worker (some Spent) ask p t = absurd (none_some known.taken ask p.1 t)
+taken_word known word slot worker (some Spent) ask p t = absurd (none-some ask (sym p.1 ∙ t))
 taken_word known word slot worker (some (House house)) ask p t = absurd p
 
 closes_in : (known : Known) (word : ℕ) (slot : Slot) (worker : ℕ) (mine : History) (stage : Stage) → AtStage known word slot worker mine stage

@@ -3,7 +3,7 @@ use Rattle.std.proofs.Common.{◌≡◌, ◌≢◌, ℕ, ◌<◌, Bool, true, fa
 use Rattle.std.proofs.lemmas.Bool.{true≢false}
 use Rattle.atomic_table.specs.Table.{rest}
 use Rattle.atomic_table.specs.Seated.{TableId}
-use Rattle.octo_outside.specs.Told.{Adds}
+use Rattle.octo_outside.specs.Recorded.{Adds}
 use Rattle.octo_asks.specs.declared.request.Ask.{Ask}
 use Rattle.octo_asks.specs.declared.answer.Answer.{Answer}
 use Rattle.octo_asks.specs.declared.entry.Entry.{Entry}
@@ -15,7 +15,7 @@ use Rattle.hand_over.specs.declared.board.Letter.TheVariants.{Asked, Answered}
 use Rattle.hand_over.specs.declared.board.HouseView.{HouseView}
 use Rattle.hand_over.specs.declared.board.View.TheVariants.{House}
 use Rattle.hand_over.specs.Views.{house_of, is_of_four, all_of_four}
-use Rattle.hand_over.specs.Steps.{Sitter, Taken, letter_in, ask_in, with_look, given, call_with}
+use Rattle.hand_over.specs.Steps.{Sitter, Taken, letter_in, ask_in, with_look, ask_from, call_with}
 use Rattle.hand_over.specs.Ends.{IsHouse, IsSized, AfterHouseLook, slots_for}
 use Rattle.hand_over.proofs.Lists.{four_more, near_four}
 use Rattle.hand_over.proofs.Sitting.{is_house, house_at}
@@ -72,27 +72,27 @@ module _ (old new : Sitter) (w found : ℕ) (is : IsHouse old) (untaken : (house
 
 -- a look that showed an ask, which was taken
 module _ (old mid new : Sitter) (w found : ℕ) (ask result : Ask) (letter : Option Letter) (is : IsHouse old)
-    (e : mid ≡ (House (record (with_look (house_of old.0) w found) { taken = given w ask }), (w, Some (Asked ask)) ∷ []))
+    (e : mid ≡ (House (record (with_look (house_of old.0) w found) { taken = ask_from w ask }), (w, Some (Asked ask)) ∷ []))
     (hand : mid.1 ≡ (w, letter) ∷ rest mid.1) (x : new ≡ (mid.0, (w, None) ∷ rest mid.1)) where
   pub hit_letter : letter ≡ Some (Asked ask)
   hit_letter = ap letter_in (sym hand ∙ ap (λ (m : Sitter). m.1) e)
 
-  pub hit_at : new ≡ (House (record (with_look (house_of old.0) w found) { taken = given w ask }), (w, None) ∷ [])
+  pub hit_at : new ≡ (House (record (with_look (house_of old.0) w found) { taken = ask_from w ask }), (w, None) ∷ [])
   hit_at = x ∙ ap (λ (m : Sitter). (m.0, (w, None) ∷ rest m.1)) e
 
   pub hit_seat : IsHouse new
-  hit_seat = is_house new (record (with_look (house_of old.0) w found) { taken = given w ask }) ((
+  hit_seat = is_house new (record (with_look (house_of old.0) w found) { taken = ask_from w ask }) ((
     w,
     None,
   ) ∷ []) hit_at (made_four old is) (none_joined old is) refl
 
   pub hit_near : w < 4 → IsNear (house_of new.0).taken
-  hit_near near = near_at (given w ask) (house_of new.0).taken (ap (λ (m : Sitter). (house_of m.0).taken) hit_at) near
+  hit_near near = near_at (ask_from w ask) (house_of new.0).taken (ap (λ (m : Sitter). (house_of m.0).taken) hit_at) near
 
   pub hit_look : found ≡ 1 → ask_in letter ≡ Some result → AfterHouseLook w (house_of old.0) (Some result) (house_of new.0)
   hit_look one read = let some_same : Some ask ≡ Some result = sym (ap ask_in hit_letter) ∙ read in
       let same : ask ≡ result = ap (λ (o : Option Ask). unwrap_or o ask) some_same in
-      ap (λ (m : Sitter). house_of m.0) hit_at ∙ (λ i. record (with_look (house_of old.0) w (one i)) { taken = given w (same i) })
+      ap (λ (m : Sitter). house_of m.0) hit_at ∙ (λ i. record (with_look (house_of old.0) w (one i)) { taken = ask_from w (same i) })
 
 -- entries that are added
 pub adds_to : (old new list : History) → new ≡ old ++ list → Adds (Some old) (Some new) list
@@ -100,17 +100,17 @@ adds_to old new list e = λ now is. (old, list, refl, ap (λ (o : Option History
 
 -- the ask that is answered
 module _ (old : Sitter) (w : ℕ) (is : IsHouse old) (asked : IsGiven w (house_of old.0).taken) where
-  pub given_is : (house_of old.0).taken ≡ given w asked.0.ask
+  pub given_is : (house_of old.0).taken ≡ ask_from w asked.0.ask
   given_is = asked.1 ∙ (λ i. Some (record { worker = asked.2 i; ask = asked.0.ask }))
 
   pub given_at : old ≡ (House (seated_house old), (w, None) ∷ [])
-  given_at = house_at old (given w asked.0.ask) is given_is
+  given_at = house_at old (ask_from w asked.0.ask) is given_is
 
   pub given_hand : old.1 ≡ (w, None) ∷ rest old.1
   given_hand = let e : old.1 ≡ (w, None) ∷ [] = ap (λ (m : Sitter). m.1) given_at in e ∙ ap (λ (l : Taken). (w, None) ∷ rest l) (sym e)
 
   pub given_near : IsNear (house_of old.0).taken → w < 4
-  given_near near = near_at (house_of old.0).taken (given w asked.0.ask) (sym given_is) near
+  given_near near = near_at (house_of old.0).taken (ask_from w asked.0.ask) (sym given_is) near
 
   module _ (mid new : Sitter) (moment : ℕ) (answer : Answer) (x : mid ≡ (old.0, (w, Some (Answered moment answer)) ∷ rest old.1)) where
     pub answer_at : mid ≡ (House (seated_house old), (w, Some (Answered moment answer)) ∷ [])

@@ -34,6 +34,12 @@ housed s k zero house at = (refl, ap house_of (some-injective _ _ (sym k.seat �
 housed s k (suc w) house at = let long = within s.views (suc w) (House house) at in let made = k.made in let m₀ = made.0 in let m₁ = made.1 in
     absurd (subst (AtSeat (known_of k.house w) (get_or s.words (suc w) 0) (get_elem? s.homes w) w) at (k.each w (omega arith)))
 
+-- each worker's seat is as the house that is at the table has it
+pub seat_of : (s : St) (k : Kept s) (house : HouseView) → k.house ≡ house → (j : ℕ) → j < 4
+    → AtSeat (known_of house j) (get_or s.words (suc j) 0) (get_elem? s.homes j) j (get_elem? s.views (suc j))
+seat_of s k house here j l = subst (λ (z : HouseView). AtSeat (known_of z j) (get_or s.words (suc j) 0) (get_elem? s.homes j) j (get_elem? s.views (suc j))) here
+    (k.each j l)
+
 -- the worker's seat is its number's, after the house's
 pub seated : (s : St) (k : Kept s) (id : ℕ) (worker : WorkerView) → get_elem? s.views id ≡ some (Worker worker) → (worker.number < 4) × (id ≡ suc worker.number)
 seated s k zero worker at = absurd (subst OnlyHouse (some-injective _ _ (sym k.seat ∙ at)) tt)

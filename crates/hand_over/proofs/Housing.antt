@@ -26,13 +26,14 @@ use Rattle.hand_over.specs.declared.board.View.{View}
 use Rattle.hand_over.specs.declared.board.View.TheVariants.{House, Worker, Spent}
 use Rattle.hand_over.specs.Views.{Known, known_of, taken_of, has_close}
 use Rattle.hand_over.specs.Rule.{Kept, AtStage, AtSeat, Slot, note_word}
-use Rattle.hand_over.specs.Steps.{Taken, looked, with_look, given, answer_put, call_with, note_put, close_put, learnt}
+use Rattle.hand_over.specs.Steps.{Taken, worker_looked_at, with_look, ask_from, answer_put, call_with, note_put, close_put, learnt}
 use Rattle.hand_over.proofs.Lists.{calls_own, calls_other, calls_note, calls_close, close_call, close_note, close_close, taken_own, taken_other}
-use Rattle.hand_over.proofs.Frames.{St, Homes, housed, house_moves}
-use Rattle.hand_over.proofs.Awaiting.{Asks, asks, none_some, taken_word, closes_seat, at_other, first_seat, known}
+use Rattle.hand_over.proofs.Frames.{St, Homes, housed, house_moves, seat_of}
+use Rattle.hand_over.proofs.Awaiting.{Asks, asks, taken_word, closes_seat, at_other, first_seat, known}
+use Rattle.std.proofs.lemmas.Option.{none-some, same_Some}
 
 pub looks : (slots id : ℕ) (h : HouseView) (w : ℕ) → w < 4 → h.taken ≡ None → h.closed ≡ false
-    → Allows Kept slots id (House h, []) (suc w) (λ n. n) (looked (step slots (suc w) 0 0 none) (House h, []))
+    → Allows Kept slots id (House h, []) (suc w) (λ n. n) (worker_looked_at (step slots (suc w) 0 0 none) (House h, []))
 looks slots id h w near untaken running s k deep at fits = dite (ℕ_discrete word 1) hit miss
   where
     word : ℕ
@@ -47,17 +48,13 @@ looks slots id h w near untaken running s k deep at fits = dite (ℕ_discrete wo
     Goal : Type 0
     Goal = (new : View) × (a : Act (Option Letter)) × Rattle.atomic_table.specs.Table.Valid s.homes [] a
         × Kept (Rattle.atomic_table.specs.Table.stepped s (suc w) word id [] new a)
-        × looked (step slots (suc w) 0 0 none) (House h, []) word (new, Rattle.atomic_table.specs.Table.carried_after [] a)
+        × worker_looked_at (step slots (suc w) 0 0 none) (House h, []) word (new, Rattle.atomic_table.specs.Table.carried_after [] a)
 
     words : List ℕ
     words = set s.words (suc w) word
 
     same : words ≡ s.words
     same = set-get_or s.words (suc w) 0
-
-    old_each : (j : ℕ) → j < 4 → AtSeat (known_of h j) (get_or s.words (suc j) 0) (get_elem? s.homes j) j (get_elem? s.views (suc j))
-    old_each j l = subst (λ (z : HouseView). AtSeat (known_of z j) (get_or s.words (suc j) 0) (get_elem? s.homes j) j (get_elem? s.views (suc j))) here.1
-        (k.each j l)
 
     keep : (new : HouseView) (homes : Homes) → new.made ≡ h.made → new.closed ≡ h.closed → new.history ≡ h.history → new.joined ≡ h.joined
         → length homes ≡ length s.homes
@@ -77,16 +74,15 @@ looks slots id h w near untaken running s k deep at fits = dite (ℕ_discrete wo
       House new,
       keeps,
       tt,
-      keep new s.homes refl refl refl refl refl old_each,
+      keep new s.homes refl refl refl refl refl (seat_of s k h here.1),
       λ j e. ((λ one. absurd (other one)), λ _. ap (λ (i : ℕ). (House (with_look h i word), [])) (let z : w ≡ j = omega arith in z)),
     )
 
     hit : word ≡ 1 → Goal
-    hit one = let a = asks (known_of h w) word (get_elem? s.homes w) w (get_elem? s.views (suc w)) (old_each w near) one running in
+    hit one = let a = asks (known_of h w) word (get_elem? s.homes w) w (get_elem? s.views (suc w)) (seat_of s k h here.1 w near) one running in
         let free : taken_of w h.taken ≡ None = ap (taken_of w) untaken in
-        let there : get_elem? s.homes w ≡ some (some (Some (Asked a.ask))) = ⊎_elim (λ t. t.1) (λ t. absurd (none_some
-        (taken_of w h.taken) a.ask free t)) a.there in
-        let new : HouseView = record (with_look h w word) { taken = given w a.ask } in (
+        let there : get_elem? s.homes w ≡ some (some (Some (Asked a.ask))) = ⊎_elim (λ t. t.1) (λ t. absurd (none-some a.ask (sym free ∙ t))) a.there in
+        let new : HouseView = record (with_look h w word) { taken = ask_from w a.ask } in (
           House new,
           takes w (Some (Asked a.ask)),
           there,
@@ -106,12 +102,12 @@ looks slots id h w near untaken running s k deep at fits = dite (ℕ_discrete wo
               (λ other. at_other (known_of h j) (known_of new j) (get_or s.words (suc j) 0) (get_or s.words (suc j) 0) (get_elem? s.homes j) (get_elem?
               (set s.homes w none) j) j (get_elem? s.views (suc j))
               (λ i. known (calls_of j h.history) ((ap (taken_of j) untaken
-              ∙ sym (taken_other w j a.ask (λ e. other (sym e)))) i) h.closed) refl (sym (set_else s.homes w j none other)) (old_each j l))),
+              ∙ sym (taken_other w j a.ask (λ e. other (sym e)))) i) h.closed) refl (sym (set_else s.homes w j none other)) (seat_of s k h here.1 j l))),
           λ j e. let z : w ≡ j = omega arith in (
             (λ _. (
               a.ask,
               ap (λ (x : ℕ × ℕ). (
-                House (record (with_look h x.0 x.1) { taken = given x.0 a.ask }),
+                House (record (with_look h x.0 x.1) { taken = ask_from x.0 a.ask }),
                 (
                   x.0,
                   Some (Asked a.ask),
@@ -122,7 +118,7 @@ looks slots id h w near untaken running s k deep at fits = dite (ℕ_discrete wo
           ),
         )
 
-pub answers : (slots id : ℕ) (h : HouseView) (w : ℕ) (ask : Ask) (moment : ℕ) (answer : Answer) → w < 4 → h.taken ≡ given w ask → h.closed ≡ false
+pub answers : (slots id : ℕ) (h : HouseView) (w : ℕ) (ask : Ask) (moment : ℕ) (answer : Answer) → w < 4 → h.taken ≡ ask_from w ask → h.closed ≡ false
     → Allows Kept slots id (House h, (w, Some (Answered moment answer)) ∷ []) (suc w) (λ _. 2)
     (λ _. answer_put (step slots (suc w) 2 0 none) (House h, (w, Some (Answered moment answer)) ∷ []) 2)
 answers slots id h w ask moment answer near took running s k deep at fits = (House new, gives, tt, first_seat s id (House new) words homes here.0 kept, refl)
@@ -142,10 +138,6 @@ answers slots id h w ask moment answer near took running s k deep at fits = (Hou
     new : HouseView
     new = record h { history = h.history ++ call_with h.taken letter; taken = None }
 
-    old_each : (j : ℕ) → j < 4 → AtSeat (known_of h j) (get_or s.words (suc j) 0) (get_elem? s.homes j) j (get_elem? s.views (suc j))
-    old_each j l = subst (λ (z : HouseView). AtSeat (known_of z j) (get_or s.words (suc j) 0) (get_elem? s.homes j) j (get_elem? s.views (suc j))) here.1
-        (k.each j l)
-
     grown : h.history ++ entry.Call w ask moment answer ∷ [] ≡ new.history
     grown = ap (λ (t : Option Given). h.history ++ call_with t letter) (sym took)
 
@@ -153,16 +145,13 @@ answers slots id h w ask moment answer near took running s k deep at fits = (Hou
     taken_is = ap (taken_of w) took ∙ taken_own w ask
 
     one : get_or s.words (suc w) 0 ≡ 1
-    one = taken_word (known_of h w) (get_or s.words (suc w) 0) (get_elem? s.homes w) w (get_elem? s.views (suc w)) ask (old_each w near) taken_is
+    one = taken_word (known_of h w) (get_or s.words (suc w) 0) (get_elem? s.homes w) w (get_elem? s.views (suc w)) ask (seat_of s k h here.1 w near) taken_is
 
     a : Asks (known_of h w) (get_elem? s.homes w) w (get_elem? s.views (suc w))
-    a = asks (known_of h w) (get_or s.words (suc w) 0) (get_elem? s.homes w) w (get_elem? s.views (suc w)) (old_each w near) one running
-
-    some_is : (x y : Ask) → Some x ≡ Some y → x ≡ y
-    some_is x y e = ap (λ (o : Option Ask). Rattle.std.proofs.Common.unwrap_or o x) e
+    a = asks (known_of h w) (get_or s.words (suc w) 0) (get_elem? s.homes w) w (get_elem? s.views (suc w)) (seat_of s k h here.1 w near) one running
 
     asked : a.ask ≡ ask
-    asked = ⊎_elim (λ t. absurd (none_some (taken_of w h.taken) ask t.0 taken_is)) (λ t. some_is a.ask ask (sym t ∙ taken_is)) a.there
+    asked = ⊎_elim (λ t. absurd (none-some ask (sym t.0 ∙ taken_is))) (λ t. same_Some a.ask ask (sym t ∙ taken_is)) a.there
 
     mine : AtSeat (known_of new w) 2 (some (some letter)) w (some (Worker a.v))
     mine = (
@@ -199,7 +188,7 @@ answers slots id h w ask moment answer near took running s k deep at fits = (Hou
         (get_elem? s.views (suc j))
         (λ i. known ((sym (calls_other h.history w j ask moment answer (λ e. other (sym e))) ∙ ap (calls_of j) grown) i) ((ap (taken_of j) took
         ∙ taken_other w j ask (λ e. other (sym e))) i) h.closed)
-        (sym (get_or-set_other s.words (suc w) (suc j) 2 0 (λ e. other (omega arith)))) (sym (set_else s.homes w j (some letter) other)) (old_each j l)))
+        (sym (get_or-set_other s.words (suc w) (suc j) 2 0 (λ e. other (omega arith)))) (sym (set_else s.homes w j (some letter) other)) (seat_of s k h here.1 j l)))
 
 pub notes : (slots id : ℕ) (h : HouseView) (note : Note) (taken : Taken) → h.closed ≡ false
     → Allows Kept slots id (House h, taken) 0 (λ n. either (eqb n 0) 0 n) (note_put (step slots 0 0 0 (some (Some (Noted note)))) (House h, taken))

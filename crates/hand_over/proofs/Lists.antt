@@ -1,10 +1,10 @@
 -- Lists read by `get_elem?`, and what an entry adds to the calls of a worker.
-use Rattle.std.proofs.Common.{◌≡◌, ◌≢◌, ℕ, zero, suc, ◌+◌, ◌<◌, ◌==◌, Bool, true, false, ◌||◌, ◌&&◌, nat_lt, eqb, List, [], ◌∷◌, ◌++◌, length, filter, sym, refl, ap, ◌∙◌, arith, Option, Some, None, ne_eqb, eq-eqb}
+use Rattle.std.proofs.Common.{◌≡◌, ◌≢◌, ℕ, zero, suc, ◌+◌, ◌<◌, ◌==◌, Bool, true, ◌&&◌, nat_lt, eqb, List, [], ◌∷◌, ◌++◌, length, filter, sym, refl, ap, ◌∙◌, arith, Option, Some, None, ne_eqb, eq-eqb}
 use Rattle.std.proofs.lemmas.List.{append-nil}
 use Rattle.std.proofs.lemmas.List.Elements.{filter-append}
 use Rattle.std.proofs.lemmas.Bool.Decides.{nat_tests}
 use Rattle.std.proofs.lemmas.List.Folds.{list_any-append, list_all-append}
-use Rattle.std.proofs.Math.Bool.{or-false}
+use Rattle.std.proofs.Math.Bool.{or-false, or-true}
 use mathlib.Core.Option.{some, none, some-ne-none}
 use lib.ListN.{get_elem?}
 use Rattle.octo_asks.specs.declared.request.Ask.{Ask}
@@ -56,12 +56,8 @@ close_call history worker ask moment answer = list_any-append is_close history _
 pub close_note : (history : History) (note : Note) → has_close (history ++ entry.Note note ∷ []) ≡ has_close history
 close_note history note = list_any-append is_close history _ ∙ or-false (has_close history)
 
-or_true : (b : Bool) → (b || true) ≡ true
-or_true true = refl
-or_true false = refl
-
 pub close_close : (history : History) → has_close (history ++ entry.Close ∷ []) ≡ true
-close_close history = list_any-append is_close history _ ∙ or_true (has_close history)
+close_close history = list_any-append is_close history _ ∙ or-true (has_close history)
 
 -- an ask that is taken is its worker's, and no other's
 pub taken_own : (worker : ℕ) (ask : Ask) → taken_of worker (Some (record { worker = worker; ask = ask })) ≡ Some ask

@@ -17,7 +17,7 @@ use Rattle.hand_over.specs.Views.{known_of, new_worker, new_house}
 use Rattle.hand_over.specs.Rule.{Kept, AtStage, AtSeat, Slot}
 use Rattle.hand_over.specs.Steps.{house_left, worker_right, joined_with}
 use Rattle.hand_over.proofs.Lists.{within, beyond, at_end_else}
-use Rattle.hand_over.proofs.Frames.{housed, seated, part}
+use Rattle.hand_over.proofs.Frames.{housed, seated, part, seat_of}
 
 first_seats : (w : ℕ) → w < 4 → AtSeat (known_of new_house w) (get_or (0 ∷ 0 ∷ 0 ∷ 0 ∷ 0 ∷ []) (suc w) 0) (get_elem?
     (some None ∷ some None ∷ some None ∷ some None ∷ []) w) w (get_elem? (House new_house ∷ []) (suc w))
@@ -70,13 +70,10 @@ splits id h room s k at = let here = housed s k id h at in
     long : k.house ≡ h → length (set s.views 0 (House new)) ≡ suc h.made
     long is = length-set s.views 0 (House new) ∙ (k.made.0 ∙ ap (λ (z : HouseView). suc z.made) is)
 
-    old : (j : ℕ) → j < 4 → k.house ≡ h → AtSeat (known_of h j) (get_or s.words (suc j) 0) (get_elem? s.homes j) j (get_elem? s.views (suc j))
-    old j l is = subst (λ (z : HouseView). AtSeat (known_of z j) (get_or s.words (suc j) 0) (get_elem? s.homes j) j (get_elem? s.views (suc j))) is (k.each j l)
-
     fresh : (j : ℕ) (l : j < 4) (is : k.house ≡ h) → j ≡ h.made → AtSeat (known_of h j) (get_or s.words (suc j) 0) (get_elem? s.homes j) j (some right)
     fresh j l is e = let lone : get_elem? s.views (suc j) ≡ none = ap (get_elem? s.views) (ap suc e ∙ sym (k.made.0
         ∙ ap (λ (z : HouseView). suc z.made) is)) ∙ beyond s.views in
-        let p = subst (AtSeat (known_of h j) (get_or s.words (suc j) 0) (get_elem? s.homes j) j) lone (old j l is) in
+        let p = subst (AtSeat (known_of h j) (get_or s.words (suc j) 0) (get_elem? s.homes j) j) lone (seat_of s k h is j l) in
         (sym e, (λ f. absurd (true≢false (sym f))), (p.0, (p.1, p.2), p.3))
 
     each : k.house ≡ h → (j : ℕ) → j < 4 → AtSeat (known_of new j) (get_or s.words (suc j) 0) (get_elem? s.homes j) j (get_elem? (set s.views 0
@@ -86,7 +83,7 @@ splits id h room s k at = let here = housed s k id h at in
         (long is ∙ ap suc (sym e)))) (fresh j l is e))
         (λ other. subst (AtSeat (known_of new j) (get_or s.words (suc j) 0) (get_elem? s.homes j) j)
         (sym (at_end_else (set s.views 0 (House new)) right (suc j) (λ e. let n = long is in other (omega arith))
-        ∙ set_else s.views 0 (suc j) (House new) (λ e. omega arith))) (old j l is))
+        ∙ set_else s.views 0 (suc j) (House new) (λ e. omega arith))) (seat_of s k h is j l))
 
 pub joins : (id : ℕ) (h : HouseView) (other : ℕ) (v : WorkerView) → h.closed ≡ true → v.stage ≡ Resting → v.number ≡ length h.joined
     → Joins Kept id (House h) other (Worker v) (joined_with (House h) (Worker v)) Spent
@@ -119,7 +116,7 @@ joins id h other v closed is order s k at apart there =
           (closed, ap (Rattle.hand_over.specs.Views.taken_of j) untaken))
           (λ apart'. subst (AtSeat (known_of new j) (get_or s.words (suc j) 0) (get_elem? s.homes j) j)
           (sym (set_else (set s.views 0 (House new)) other (suc j) Spent (λ e. let z = q.1 in apart' (omega arith))
-          ∙ set_else s.views 0 (suc j) (House new) (λ e. omega arith))) (old j l));
+          ∙ set_else s.views 0 (suc j) (House new) (λ e. omega arith))) (seat_of s k h here.1 j l));
     }
   where
     here : (id ≡ 0) × (k.house ≡ h)
@@ -148,7 +145,3 @@ joins id h other v closed is order s k at apart there =
     old_joined : (worker : ℕ) (mine : History) → get_elem? h.joined worker ≡ some mine → (h.closed ≡ true) × (calls_of worker h.history ≡ mine)
     old_joined = subst (λ (z : HouseView). (worker : ℕ) (mine : History) → get_elem? z.joined worker ≡ some mine
         → (z.closed ≡ true) × (calls_of worker z.history ≡ mine)) here.1 k.joined
-
-    old : (j : ℕ) → j < 4 → AtSeat (known_of h j) (get_or s.words (suc j) 0) (get_elem? s.homes j) j (get_elem? s.views (suc j))
-    old j l = subst (λ (z : HouseView). AtSeat (known_of z j) (get_or s.words (suc j) 0) (get_elem? s.homes j) j (get_elem? s.views (suc j))) here.1
-        (k.each j l)

@@ -15,7 +15,7 @@ use Rattle.hand_over.specs.declared.board.HouseView.{HouseView}
 use Rattle.hand_over.specs.declared.board.View.TheVariants.{House, Worker}
 use Rattle.hand_over.specs.Views.{worker_of, house_of}
 use Rattle.hand_over.specs.Rule.{Kept}
-use Rattle.hand_over.specs.Steps.{Sitter, Taken, slot_taken, ask_put, answer_looked_for, idle_put, close_looked_for, looked, given, answer_put, note_put, close_put, learnt}
+use Rattle.hand_over.specs.Steps.{Sitter, Taken, slot_taken, ask_put, answer_looked_for, idle_put, close_looked_for, worker_looked_at, ask_from, answer_put, note_put, close_put, learnt}
 use Rattle.octo_asks.specs.declared.counter.Given.{Given}
 use Rattle.hand_over.specs.Ends.{IsWorker, IsWaiting, IsHouse, slots_for}
 use Rattle.hand_over.proofs.Working.{takes_slot, puts_ask, looks_for_answer, puts_idle, withdraws, looks_for_close}
@@ -67,12 +67,12 @@ looks_for_close_as slots id me saw taken is = subst (λ (m : Sitter). Allows Kep
     (looks_for_close slots id (record (worker_of me.0) { saw_close = saw }) taken)
 
 pub looks_as : (slots id : ℕ) (me : Sitter) (h : HouseView) (w : ℕ) → me ≡ (House h, []) → w < 4 → h.taken ≡ None → h.closed ≡ false
-    → Allows Kept slots id me (w + 1) (λ x. x) (looked (step slots (w + 1) 0 0 none) me)
-looks_as slots id me h w is near untaken running = subst (λ (z : Sitter × ℕ). Allows Kept slots id z.0 z.1 (λ x. x) (looked
+    → Allows Kept slots id me (w + 1) (λ x. x) (worker_looked_at (step slots (w + 1) 0 0 none) me)
+looks_as slots id me h w is near untaken running = subst (λ (z : Sitter × ℕ). Allows Kept slots id z.0 z.1 (λ x. x) (worker_looked_at
     (step slots z.1 0 0 none) z.0)) (λ i. (sym is i, sym (add-one w) i)) (looks slots id h w near untaken running)
 
 pub answers_as : (slots id : ℕ) (me : Sitter) (h : HouseView) (w : ℕ) (ask : Ask) (moment : ℕ) (answer : Answer)
-    → me ≡ (House h, (w, Some (Answered moment answer)) ∷ []) → w < 4 → h.taken ≡ given w ask → h.closed ≡ false
+    → me ≡ (House h, (w, Some (Answered moment answer)) ∷ []) → w < 4 → h.taken ≡ ask_from w ask → h.closed ≡ false
     → Allows Kept slots id me (w + 1) (λ _. 2) (λ _. answer_put (step slots (w + 1) 2 0 none) me 2)
 answers_as slots id me h w ask moment answer is near took running = subst (λ (z : Sitter
     × ℕ). Allows Kept slots id z.0 z.1 (λ _. 2) (λ _. answer_put (step slots z.1 2 0 none) z.0 2)) (λ i. (sym is i, sym (add-one w) i))

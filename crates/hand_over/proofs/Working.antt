@@ -19,7 +19,7 @@ use Rattle.hand_over.specs.declared.board.View.{View}
 use Rattle.hand_over.specs.declared.board.View.TheVariants.{Worker}
 use Rattle.hand_over.specs.Views.{Known, known_of, taken_of}
 use Rattle.hand_over.specs.Rule.{Kept, AtStage, AtSeat, IsOpen, IsTaken, IsAnswered, Slot, note_word}
-use Rattle.hand_over.specs.Steps.{Taken, slot_taken, ask_put, answer_looked_for, idle_put, close_looked_for, found_call, rested}
+use Rattle.hand_over.specs.Steps.{Taken, slot_taken, ask_put, answer_looked_for, idle_put, close_looked_for, found_call, at_rest}
 use Rattle.hand_over.proofs.Frames.{St, seated, part, moves, loads}
 
 -- what the rule says of a worker at this stage
@@ -147,10 +147,10 @@ pub puts_idle : (slots id : ℕ) (v : WorkerView) (ask : Ask) (moment : ℕ) (an
     ) 0)
 puts_idle slots id v ask moment answer letter is s k deep at fits = let p = part s k id v at in
     let q = stage_part s k id v (Found ask moment answer) at is in let near = (seated s k id v at).0 in let w : ℕ = v.number in let long = k.deep in (
-      Worker (rested v),
+      Worker (at_rest v),
       gives,
       tt,
-      moves s k id v (rested v) 0 (set s.homes w (some letter)) at (length-set s.homes w (some letter)) (λ j other. set_else s.homes w j (some letter) other)
+      moves s k id v (at_rest v) 0 (set s.homes w (some letter)) at (length-set s.homes w (some letter)) (λ j other. set_else s.homes w j (some letter) other)
           (p.0, p.1, (refl, (q.1.0, q.1.1 ∙ ap (λ (z : Stage). v.mine ++ found_call w z) (sym is)), (letter, set_here s.homes w (some letter) (omega arith)))),
       refl,
     )
@@ -158,10 +158,10 @@ puts_idle slots id v ask moment answer letter is s k deep at fits = let p = part
 pub withdraws : (slots id : ℕ) (v : WorkerView) (ask : Ask) → v.stage ≡ Withdrawn ask
     → Allows Kept slots id (Worker v, []) (suc v.number) (λ _. 0) (λ _. idle_put (step slots (suc v.number) 0 0 none) (Worker v, []) 0)
 withdraws slots id v ask is s k deep at fits = let p = part s k id v at in let q = stage_part s k id v (Withdrawn ask) at is in let w : ℕ = v.number in (
-  Worker (rested v),
+  Worker (at_rest v),
   keeps,
   tt,
-  moves s k id v (rested v) 0 s.homes at refl (λ j other. refl) (
+  moves s k id v (at_rest v) 0 s.homes at refl (λ j other. refl) (
     p.0,
     p.1,
     (

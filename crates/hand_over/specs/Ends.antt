@@ -19,7 +19,7 @@ use Rattle.hand_over.specs.declared.board.View.TheVariants.{House, Worker}
 use Rattle.hand_over.specs.declared.waiting.Look.{Look}
 use Rattle.hand_over.specs.declared.waiting.Look.TheVariants as look
 use Rattle.hand_over.specs.Views.{new_worker, new_house, worker_of, house_of}
-use Rattle.hand_over.specs.Steps.{Sitter, Taken, staged, with_look, given}
+use Rattle.hand_over.specs.Steps.{Sitter, Taken, at_stage, with_look, ask_from}
 
 -- a worker end: its table and what its seat knows
 pub record WorkerData : Type 0 where
@@ -37,9 +37,11 @@ pub record HistoryData : Type 0 where
   pub history : History
   pub mines : List History
 
+-- the end of a worker that did nothing yet
 abbrev pub new_worker_end : TableId → ℕ → WorkerData
 new_worker_end table number = record { table = table; view = new_worker number }
 
+-- the end of a house that did nothing yet and has made four workers' seats
 abbrev pub new_house_end : TableId → HouseData
 new_house_end table = record { table = table; view = record new_house { made = 4 }; first = 0 }
 
@@ -51,9 +53,11 @@ numbers_of table = table.words ∷ table.slots ∷ table.views_name ∷ table.at
 abbrev pub seat_at : TableId → ℕ → Place
 seat_at table worker = record { table = numbers_of table; seat = worker + 1 }
 
+-- a worker's seat
 abbrev pub worker_place : WorkerData → Place
 worker_place worker = seat_at worker.table worker.view.number
 
+-- the house's seat
 abbrev pub house_place : HouseData → Place
 house_place house = record { table = numbers_of house.table; seat = 0 }
 
@@ -87,7 +91,7 @@ IsWaiting number saw_close ask sitter =
 -- the house's slot in hand, while an ask is taken
 abbrev pub slots_for : Option Given → Taken
 slots_for None = []
-slots_for (Some given) = (given.worker, None) ∷ []
+slots_for (Some ask_from) = (ask_from.worker, None) ∷ []
 
 -- the house's seat, with all workers' seats made and none joined
 abbrev pub IsHouse : Sitter → Type 0
@@ -106,7 +110,7 @@ AfterTake old result new = (ask : Ask) (moment : ℕ) (answer : Answer) → (wor
 -- what a look for an answer leaves
 abbrev pub AfterLook : Ask → Sitter → Look → Sitter → Type 0
 AfterLook ask old (look.Answered answer) new = (moment : ℕ) × (new ≡ (Worker (with_call (worker_of old.0) ask moment answer), []))
-AfterLook ask old look.Withdrawn new = ((worker_of old.0).saw_close ≡ true) × (new ≡ (staged old.0 Resting, []))
+AfterLook ask old look.Withdrawn new = ((worker_of old.0).saw_close ≡ true) × (new ≡ (at_stage old.0 Resting, []))
 AfterLook ask old look.Nothing new = new ≡ old
 
 -- what an ask leaves: one finished call more, or the same calls
@@ -117,7 +121,7 @@ AfterAsk ask old (Err closed) new = new ≡ record old { stage = Resting; saw_cl
 -- the ask was found in this worker's word, or its word showed none
 abbrev pub AfterHouseLook : ℕ → HouseView → Option Ask → HouseView → Type 0
 AfterHouseLook worker old None new = (found : ℕ) × (found ≢ 1) × (new ≡ with_look old worker found)
-AfterHouseLook worker old (Some ask) new = new ≡ record (with_look old worker 1) { taken = given worker ask }
+AfterHouseLook worker old (Some ask) new = new ≡ record (with_look old worker 1) { taken = ask_from worker ask }
 
 -- that many looks in turn, at the workers from the first one on, showed no ask
 abbrev pub ShowNone : ℕ → ℕ → List (ℕ × ℕ) → Type 0
@@ -134,4 +138,4 @@ abbrev pub AfterNext : HouseData → Next → HouseData → Type 0
 AfterNext old next.Nothing new = (new ≡ record old { view = new.view }) × AfterLooks old.first 4 old.view new.view
 AfterNext old (next.Asked worker ask) new = (count : ℕ) × (between : HouseView) × (count < 4) × AfterLooks old.first count old.view between
     × (worker ≡ (old.first + count) % 4)
-    × (new ≡ record old { view = record (with_look between worker 1) { taken = given worker ask }; first = (worker + 1) % 4 })
+    × (new ≡ record old { view = record (with_look between worker 1) { taken = ask_from worker ask }; first = (worker + 1) % 4 })

@@ -55,6 +55,7 @@ pub record Known : Type 0 where
   pub taken : Option Ask
   pub closed : Bool
 
+-- what the house knows of this worker
 abbrev pub known_of : HouseView → ℕ → Known
 known_of house worker = record { calls = calls_of worker house.history; taken = taken_of worker house.taken; closed = house.closed }
 

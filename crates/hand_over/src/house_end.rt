@@ -69,9 +69,9 @@ impl HouseEnd {
 
 impl Counter for HouseEnd {
     ghost use Rattle.std.specs.Prelude.{◌≡◌, ◌++◌, true, false, [], ◌∷◌, Some, None, IfSome};
-    ghost use Rattle.octo_outside.specs.Told.{Adds};
+    ghost use Rattle.octo_outside.specs.Recorded.{Adds};
     ghost use Rattle.octo_asks.specs.declared.entry.Entry.TheVariants as entry;
-    ghost use Rattle.octo_asks.specs.History.{IsGiven, given_by};
+    ghost use Rattle.octo_asks.specs.History.{IsGiven, ask_given};
     ghost use Rattle.hand_over.specs.Ends.{AfterNext, house_place};
 
     ghost place = { house_place };
@@ -89,7 +89,7 @@ impl Counter for HouseEnd {
         requires open { self.old.view.closed ≡ false }
 
         ensures past { Some self.new.view.history ≡ Some self.old.view.history }
-        ensures given { self.new.view.taken ≡ given_by result }
+        ensures given { self.new.view.taken ≡ ask_given result }
         ensures open { self.new.view.closed ≡ false }
         ensures place { house_place self.new ≡ house_place self.old }
 

@@ -1,6 +1,6 @@
 //! What is learned by each step on the table.
 ghost use Rattle.hand_over.specs.declared.board.View.TheVariants.{Spent};
-ghost use Rattle.hand_over.specs.Steps.{slot_taken, ask_put, answer_looked_for, idle_put, close_looked_for, looked, answer_put, note_put, close_put, learnt, house_left, worker_right, joined_with};
+ghost use Rattle.hand_over.specs.Steps.{slot_taken, ask_put, answer_looked_for, idle_put, close_looked_for, worker_looked_at, answer_put, note_put, close_put, learnt, house_left, worker_right, joined_with};
 
 use crate::board::{Letter, View};
 use atomic_table::{Join, Play, Split};
@@ -44,7 +44,7 @@ impl Play<Option<Letter>, View> for LookForClose {
 pub(crate) struct Look;
 
 impl Play<Option<Letter>, View> for Look {
-    ghost then = { looked };
+    ghost then = { worker_looked_at };
 }
 
 // The house answers.

@@ -5,18 +5,9 @@ ghost use Rattle.hand_over.specs.Ends.{house_place, worker_place};
 
 use crate::*;
 use octo_asks::{Answer, Ask, Asker, Closed, Counter, Next, Request};
-use octo_outside::Blob;
-use std::alloc::Global;
 use std::sync::Wait;
 use std::test::Fail;
 use std::thread::{Threads, join_mut, yield_now};
-
-fn ask(alloc: Global, request: Request) -> Result<Ask, Fail> {
-    Ok(Ask {
-        key: Blob::from_slice(alloc, b"ana-key-0123456789")?,
-        request,
-    })
-}
 
 fn answer_to(ask: Ask) -> Answer {
     match ask.request {
@@ -114,7 +105,7 @@ fn answers_of_both<R: Threads + Wait + Send + Sync>(
 // The only call that takes memory: four ends and the house's, at which nothing has happened.
 #[test]
 fn ample(rt: HostRuntime) -> Result<(), Fail> {
-    let (mut house, mut workers) = ends(rt.alloc(), &rt)?;
+    let (mut house, mut workers) = ends(&rt, rt.alloc())?;
     assert!(&rt; matches!(house.next(), Next::Nothing));
     assert!(&rt; !workers.a.closed());
     Ok(())
@@ -122,13 +113,13 @@ fn ample(rt: HostRuntime) -> Result<(), Fail> {
 
 #[test]
 fn a_closed_host_takes_no_ask(rt: HostRuntime) -> Result<(), Fail> {
-    let (mut house, mut workers) = ends(rt.alloc(), &rt)?;
+    let (mut house, mut workers) = ends(&rt, rt.alloc())?;
     house.close();
-    let version = ask(rt.alloc(), Request::Version)?;
+    let version = Ask::of(rt.alloc(), b"ana-key-0123456789", Request::Version)?;
     assert!(&rt; matches!(workers.c.ask(version), Err(Closed)));
     assert!(&rt; workers.c.closed());
     assert!(&rt; workers.d.closed());
-    let version = ask(rt.alloc(), Request::Version)?;
+    let version = Ask::of(rt.alloc(), b"ana-key-0123456789", Request::Version)?;
     assert!(&rt; workers.c.ask(version).is_err());
     house.end(workers);
     Ok(())
@@ -136,10 +127,10 @@ fn a_closed_host_takes_no_ask(rt: HostRuntime) -> Result<(), Fail> {
 
 #[test]
 fn each_worker_gets_its_answer(rt: HostRuntime) -> Result<(), Fail> {
-    let (mut house, workers) = ends(rt.alloc(), &rt)?;
+    let (mut house, workers) = ends(&rt, rt.alloc())?;
     let Workers { mut a, b, c, mut d } = workers;
-    let version = ask(rt.alloc(), Request::Version)?;
-    let job = ask(rt.alloc(), Request::GetJob)?;
+    let version = Ask::of(rt.alloc(), b"ana-key-0123456789", Request::Version)?;
+    let job = Ask::of(rt.alloc(), b"ana-key-0123456789", Request::GetJob)?;
     let answers = answers_of_both(&rt, &mut a, &mut d, &mut house, (version, job));
     assert!(&rt; matches!(&answers, (Some(Answer::Version), Some(Answer::Accepted))));
     house.close();

@@ -4,7 +4,7 @@ ghost use Rattle.octo_asks.specs.declared.request.Ask.{Ask};
 ghost use Rattle.hand_over.specs.declared.board.Stage.TheVariants.{Resting, Waiting};
 ghost use Rattle.hand_over.specs.declared.board.View.TheVariants.{Worker};
 ghost use Rattle.hand_over.specs.Views.{worker_of};
-ghost use Rattle.hand_over.specs.Steps.{staged, answer_in};
+ghost use Rattle.hand_over.specs.Steps.{at_stage, answer_in};
 ghost use Rattle.hand_over.specs.Ends.{IsSized, SitsAt, HasFound, IsWorker, IsResting, IsWaiting, AfterTake, AfterLook, AfterAsk};
 
 use crate::board::{Letter, Place, Words};
@@ -29,7 +29,7 @@ pub(crate) fn put_ask(words: &Words, seat: &mut Place, number: usize, ask: Ask)
     requires table { SitsAt seat.old.table_id words.now.table_id number }
     requires resting { IsWorker number Resting [] seat.old.me }
     ensures table { seat.new.table_id ≡ seat.old.table_id }
-    ensures asked { seat.new.me ≡ (staged seat.old.me.0 (Waiting ask), []) }
+    ensures asked { seat.new.me ≡ (at_stage seat.old.me.0 (Waiting ask), []) }
 {
     words.load::<TakeSlot>(seat, number + 1);
     words.exchange(seat, number, Some(Letter::Asked(ask)));

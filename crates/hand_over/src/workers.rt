@@ -51,8 +51,8 @@ fn worker_end<R: Wait + Clone + Drop>(
 /// A house end and four worker ends on one table.
 /// Each worker end keeps a copy of the runtime, since its `ask` waits.
 pub fn ends<R: Wait + Clone + Drop>(
-    alloc: Global,
     rt: &R,
+    alloc: Global,
 ) -> Result<(HouseEnd, Workers<R>), AllocError>
     ensures house { IfOk result (λ made. made.0 ≡ new_house_end made.0.table) }
     ensures a { IfOk result (λ made. made.1.a ≡ new_worker_end made.0.table 0) }

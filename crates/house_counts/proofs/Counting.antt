@@ -2,7 +2,7 @@
 use Rattle.std.proofs.Common.{◌≡◌, ◌⊎◌, inl, inr, ℕ, ◌+◌, ◌≤◌, Bool, true, false, List, [], ◌∷◌, ◌++◌, Option, None, Some, refl, sym, subst, arith}
 use Rattle.std.specs.Prelude.{cond, count_by}
 use Rattle.std.proofs.lemmas.List.Sums.{sum_by-append}
-use Rattle.octo_outside.specs.Told.{Counts}
+use Rattle.octo_outside.specs.Recorded.{Counts}
 use Rattle.desk_steps.specs.declared.issued.Note.{Note}
 use Rattle.octo_asks.specs.History.{History}
 use Rattle.octo_asks.specs.declared.answer.Answer.{Answer}
@@ -13,7 +13,7 @@ use Rattle.session_steps.specs.Data.{SessionData}
 use Rattle.session_steps.specs.Turn.{fact_of}
 use Rattle.house_rows.specs.Counts.{is_keepers, is_shelfs}
 use Rattle.house_counts.specs.Faults.{HasRisen, AreCounted, is_failure, is_keepers_fault, is_shelfs_fault, is_links_fault}
-use Rattle.house_counts.specs.Rounds.{AsksAt, TurnsAt, noted}
+use Rattle.house_counts.specs.Rounds.{AsksAt, TurnsAt, history_of_note}
 
 -- how many entries pass a test, of one history and then of another
 pub count_append : (test : Entry → Bool) (es fs : History) → count_by test (es ++ fs) ≡ count_by test es + count_by test fs
@@ -51,7 +51,7 @@ counted_then k l m s t u x y z es fs first second =
       links = joined is_links_fault x y z first.links second.links;
     }
 
--- an ask that wasn't there
+-- no ask
 pub none_asks : (moment keeper shelf : ℕ) → AsksAt moment keeper keeper shelf shelf []
 none_asks moment keeper shelf = record { asks = inl refl; keepers = not_risen keeper; shelfs = not_risen shelf }
 
@@ -76,7 +76,7 @@ asks_counted moment keeper keeper' shelf shelf' link h a = record { keepers = a.
     by (inr one) = ask_links moment h link one.0 one.1 one.2 one.3
 
 note_counted : (keeper keeper' shelf link link' : ℕ) (note : Option Note) → keeper ≤ keeper' → Counts (is_failure (fact_of note) ≡ true) link link'
-    → AreCounted keeper keeper' shelf shelf link link' (noted note)
+    → AreCounted keeper keeper' shelf shelf link link' (history_of_note note)
 note_counted keeper keeper' shelf link link' None later c = record {
   keepers = not_fallen keeper keeper' later;
   shelfs = not_risen shelf;

@@ -17,12 +17,13 @@ use Rattle.session_steps.specs.Data.{SessionData, doing, is_connecting, port_of}
 use Rattle.session_steps.specs.Found.{can_find}
 use Rattle.session_steps.specs.Turn.{fact_of}
 use Rattle.session_steps.specs.declared.found.Doing.{Doing}
-use Rattle.session_steps.specs.declared.found.Doing.TheVariants.{Dialling, HangingUp, Talking, Resting}
+use Rattle.session_steps.specs.declared.found.Doing.TheVariants.{Dialling, HangingUp, UsingLink, Resting}
 use Rattle.printer_link.specs.Link.{RoseBy}
 use Rattle.house_history.specs.Legal.{Standing, after_entry, after_all, after_call}
 use Rattle.house_counts.specs.LinkUse.{is_of_dial, is_closing, is_close_note, IsUnlisted, AreUnlisted, BeginsWithDial, IsDialled, AreDialled, open_by, open_calls, UsesLink}
-use Rattle.house_counts.specs.Rounds.{AsksAt, NotesAt, TurnsAt, noted, one_if}
+use Rattle.house_counts.specs.Rounds.{AsksAt, NotesAt, TurnsAt, history_of_note, one_if}
 use Rattle.house_counts.proofs.Counting.{count_append}
+use Rattle.printer_link.proofs.Calls.{rose_then, rose_none}
 
 -- a count of calls that rose by a number, by fewer, and by more after that
 pub rose_less : (n m : ℕ) (before now : Option ℕ) → m ≤ n → RoseBy n before now → RoseBy m before now
@@ -30,18 +31,6 @@ rose_less n m None None less rose = tt
 rose_less n m None (Some now) less rose = rose
 rose_less n m (Some before) None less rose = rose
 rose_less n m (Some before) (Some now) less rose = λ shown. omega (arith, less, rose shown)
-
-pub rose_then : (n m : ℕ) (before mid now : Option ℕ) → RoseBy n before mid → RoseBy m mid now → RoseBy (n + m) before now
-rose_then n m None None None first second = tt
-rose_then n m None None (Some now) first second = second
-rose_then n m None (Some mid) now first second = absurd first
-rose_then n m (Some before) None now first second = absurd first
-rose_then n m (Some before) (Some mid) None first second = second
-rose_then n m (Some before) (Some mid) (Some now) first second = λ shown. omega (arith, first (omega (arith, second shown, shown)), second shown)
-
-pub rose_not : (calls : Option ℕ) → RoseBy 0 calls calls
-rose_not None = tt
-rose_not (Some calls) = λ shown. omega arith
 
 -- one history and then another
 unlisted_append : (listed : List ℕ → Bool) (es fs : History) (s : Standing) → AreUnlisted listed es s → AreUnlisted listed fs (after_all es s) → AreUnlisted listed (es ++ fs) s
@@ -84,16 +73,16 @@ uses_then listed before mid now es fs s first second = record {
 
 -- nothing, and the end
 pub uses_none : (listed : List ℕ → Bool) (calls : Option ℕ) (s : Standing) → UsesLink listed calls calls [] s
-uses_none listed calls s = record { ports = tt; dials = tt; calls_rose = rose_not calls }
+uses_none listed calls s = record { ports = tt; dials = tt; calls_rose = rose_none calls }
 
 pub uses_end : (listed : List ℕ → Bool) (calls : Option ℕ) (s : Standing) → UsesLink listed calls calls (entry.Close ∷ []) s
-uses_end listed calls s = record { ports = (tt, tt); dials = (tt, tt); calls_rose = rose_not calls }
+uses_end listed calls s = record { ports = (tt, tt); dials = (tt, tt); calls_rose = rose_none calls }
 
 -- a desk that connects over no open link dials at the next turn
 pub dials_next : (x : SessionData) → x.desk.state ≡ Connecting → x.up ≡ false → doing x ≡ Dialling
 dials_next x state down =
     let By : Bool → Bool → Doing = λ up connecting. if not up && connecting then Dialling else (if is_closable_at x.desk.state x.desk then HangingUp
-    else (if up then Talking else Resting)) in
+    else (if up then UsingLink else Resting)) in
     ap (λ up. By up (is_connecting x.desk.state)) down ∙ ap (λ (state : State). By false (is_connecting state)) state
 
 -- a turn that dials finds what a dial finds
@@ -106,7 +95,7 @@ finds_of_dial Dialling fact.NoPort can is = refl
 finds_of_dial Dialling fact.Failed can is = refl
 finds_of_dial Dialling (fact.Ended end) can is = cc
 finds_of_dial HangingUp found can is = cc
-finds_of_dial Talking found can is = cc
+finds_of_dial UsingLink found can is = cc
 finds_of_dial Resting found can is = cc
 
 module _ (listed : List ℕ → Bool) (x : SessionData) (calls calls' : Option ℕ) (moment link link' : ℕ) (s : Standing) (desk : s.known.desk ≡ x.desk) (up : s.up ≡ x.up) where
@@ -114,19 +103,19 @@ module _ (listed : List ℕ → Bool) (x : SessionData) (calls calls' : Option �
   note_port : (note : declared_note.Note) → (note.fact ≡ fact.NoPort → listed (port_of x.desk) ≡ false) → IsUnlisted listed (entry.Note note) s
   note_port note port is = subst (λ (d : Data). listed (port_of d) ≡ false) (sym desk) (port is)
 
-  note_ports : (note : Option declared_note.Note) → NotesAt moment listed x calls calls' link link' note → AreUnlisted listed (noted note) s
+  note_ports : (note : Option declared_note.Note) → NotesAt moment listed x calls calls' link link' note → AreUnlisted listed (history_of_note note) s
   note_ports None n = tt
   note_ports (Some note) n = (note_port note n.port, tt)
 
-  note_dials : (note : Option declared_note.Note) → AreDialled (noted note) s
+  note_dials : (note : Option declared_note.Note) → AreDialled (history_of_note note) s
   note_dials None = tt
   note_dials (Some note) = (tt, tt)
 
-  note_opens : (note : Option declared_note.Note) → open_calls (noted note) s ≡ 0
+  note_opens : (note : Option declared_note.Note) → open_calls (history_of_note note) s ≡ 0
   note_opens None = refl
   note_opens (Some note) = refl
 
-  note_closes : (note : Option declared_note.Note) → count_by is_close_note (noted note) ≡ one_if (is_closing (fact_of note))
+  note_closes : (note : Option declared_note.Note) → count_by is_close_note (history_of_note note) ≡ one_if (is_closing (fact_of note))
   note_closes None = refl
   note_closes (Some note) = by (is_closing note.fact)
     where
@@ -134,7 +123,7 @@ module _ (listed : List ℕ → Bool) (x : SessionData) (calls calls' : Option �
       by true = refl
       by false = refl
 
-  begins_so : (note : Option declared_note.Note) → is_of_dial (fact_of note) ≡ true → BeginsWithDial (noted note)
+  begins_so : (note : Option declared_note.Note) → is_of_dial (fact_of note) ≡ true → BeginsWithDial (history_of_note note)
   begins_so None is = cc
   begins_so (Some note) is = is
 
@@ -160,7 +149,7 @@ module _ (listed : List ℕ → Bool) (x : SessionData) (calls calls' : Option �
       by false = refl
 
   call_dials : (note : Option declared_note.Note) → NotesAt moment listed x calls calls' link link' note
-      → IsDialled (entry.Call worker ask at answer) (noted note) (after_call ask at answer s)
+      → IsDialled (entry.Call worker ask at answer) (history_of_note note) (after_call ask at answer s)
   call_dials note n dials =
       begins_so listed x calls calls' moment link link' (after_call ask at answer s) desk up note
       (n.dials (dials_next x (ap (λ (d : Data). d.state) (sym desk) ∙ dials.0) (sym up ∙ dials.1)))
@@ -178,7 +167,7 @@ module _ (listed : List ℕ → Bool) (x : SessionData) (calls calls' : Option �
               open_is,
               note_opens listed x calls calls' moment link link' later desk up note,
               note_closes listed x calls calls' moment link link' later desk up note,
-              count_append is_close_note (entry.Call worker ask at answer ∷ []) (noted note),
+              count_append is_close_note (entry.Call worker ask at answer ∷ []) (history_of_note note),
             ))
             t.2.calls_rose;
       })

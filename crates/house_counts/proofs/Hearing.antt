@@ -1,8 +1,8 @@
 -- What a turn notes of the temperatures that it received.
 use Rattle.std.proofs.Common.{◌≡◌, ◌≢◌, ◌⊎◌, inl, inr, ℕ, suc, zero, Bool, true, false, if◌then◌else◌, List, [], ◌∷◌, ◌++◌, replicate, Option, None, Some, refl, sym, ap, subst, ◌∙◌, append_assoc}
 use Rattle.std.specs.Prelude.{IfSome}
-use Rattle.octo_outside.specs.Told.{Became}
-use Rattle.octo_outside.proofs.Told.{became_so, became_then, became_same}
+use Rattle.octo_outside.specs.Recorded.{Became}
+use Rattle.octo_outside.proofs.Recorded.{became_so, became_then, became_same}
 use Rattle.marlin_reply.specs.Kind.{kind_of}
 use Rattle.marlin_reply.specs.declared.reply.Temps.{Temps}
 use Rattle.desk_steps.specs.declared.issued.Note.{Note}
@@ -14,10 +14,10 @@ use Rattle.octo_asks.specs.History.{History}
 use Rattle.octo_asks.specs.declared.entry.Entry.TheVariants as entry
 use Rattle.session_steps.specs.Data.{SessionData, doing}
 use Rattle.session_steps.specs.Found.{Got, unasked, lost, nothing, whole, temps_in, temps_of_reply}
-use Rattle.session_steps.specs.Steps.{Step, opens, finds_no_port, fails_to_dial, hears, listens, fails_to_receive, ticks, issues, gives, fails_to_send, hangs_up, IsDone, IsGiven, AreAdded, after_step, issuing, sends, speech, clock_steps, talk_steps, dial_steps, turn_steps}
+use Rattle.session_steps.specs.Steps.{Step, opens, finds_no_port, fails_to_dial, hears, listens, fails_to_receive, ticks, issues, gives, fails_to_send, hangs_up, IsDone, IsGiven, AreAdded, after_step, issuing, sends, issues_then_sends, clock_steps, steps_over_link, dial_steps, turn_steps}
 use Rattle.session_steps.specs.Turn.{IsTurn, texts_in}
 use Rattle.session_steps.specs.declared.found.Doing.{Doing}
-use Rattle.session_steps.specs.declared.found.Doing.TheVariants.{Dialling, HangingUp, Talking, Resting}
+use Rattle.session_steps.specs.declared.found.Doing.TheVariants.{Dialling, HangingUp, UsingLink, Resting}
 use Rattle.session_steps.specs.declared.found.Turned.{Turned}
 use Rattle.printer_link.specs.Link.{LinkKind, IsSend, IsSendOf, IsSendLoss, IsHeard, MaySendFailing, IsHangUp, world_in}
 use Rattle.link_history.specs.Exchanged.{received_by, received_from, front_line}
@@ -26,7 +26,7 @@ use Rattle.printer_model.specs.declared.event.WorldEvent.{WorldEvent}
 use Rattle.printer_model.specs.declared.event.WorldEvent.TheVariants as event
 use Rattle.printer_model.proofs.Laws.{world_of-append}
 use Rattle.link_history.proofs.Starts.{received_from-append, received_from-free, runs-free}
-use Rattle.house_counts.specs.Rounds.{IsCallAt, AsksAt, noted}
+use Rattle.house_counts.specs.Rounds.{IsCallAt, AsksAt, history_of_note}
 use Rattle.house_counts.specs.Temps.{temps_list, temps_of_entry, temps_noted, temps_reported, NotesTemps}
 
 -- the line that a step receives
@@ -55,16 +55,8 @@ none_between w first one more before at behind =
     ∙ behind (world_from (world_from w first) (one ∷ []))))
 
 send_gives_none : (line : List ℕ) (w : WorldData) (sent : WorldEvent) → IsSendOf line sent → received_by w sent ≡ []
-send_gives_none line w (event.Opened last) is = absurd is
 send_gives_none line w (event.Send bytes) is = refl
-send_gives_none line w event.Arrive is = absurd is
-send_gives_none line w (event.Lose at) is = absurd is
-send_gives_none line w (event.Garble at bytes) is = absurd is
-send_gives_none line w event.Run is = absurd is
-send_gives_none line w event.Restart is = absurd is
-send_gives_none line w (event.Chatter reply) is = absurd is
-send_gives_none line w event.Recv is = absurd is
-send_gives_none line w event.Closed is = absurd is
+send_gives_none line w _ is = absurd is
 
 sent_received : (line : List ℕ) (w : WorldData) (added : List WorldEvent) → IsSend line w added → received_from w added ≡ []
 sent_received line w added is =
@@ -122,7 +114,7 @@ heard_received bytes w added is =
     ∙ (ap (λ (lines : List (List ℕ)). lines ++ received_from (world_from mid (event.Recv ∷ [])) is.behind) got
     ∙ ap (λ (lines : List (List ℕ)). bytes ∷ lines) (received_from-free (world_from mid (event.Recv ∷ [])) is.behind is.free_behind))))
 
--- what a step receives by what it adds to the past
+-- what a step receives by what it adds to the recorded history
 step_received : (step : Step) (s : SenderData) (w : WorldData) (added : List WorldEvent) → IsDone step s w added → received_from w added ≡ heard_by step
 step_received opens s w added is =
     subst (λ (events : List WorldEvent). received_from w events ≡ []) (sym is.0.is)
@@ -164,19 +156,15 @@ sends_none : (all : Bool) (count : ℕ) → heard_all (sends all count) ≡ []
 sends_none true count = giving_none count
 sends_none false count = heard_append (replicate count gives) (fails_to_send ∷ []) ∙ ap (λ (lines : List (List ℕ)). lines ++ []) (giving_none count)
 
-speech_none : (all : Bool) (texts : List (List ℕ)) (count : ℕ) → heard_all (speech all texts count) ≡ []
+speech_none : (all : Bool) (texts : List (List ℕ)) (count : ℕ) → heard_all (issues_then_sends all texts count) ≡ []
 speech_none all texts count =
     heard_append (issuing texts) (sends all count)
     ∙ (ap (λ (lines : List (List ℕ)). lines ++ heard_all (sends all count)) (issuing_none texts) ∙ sends_none all count)
 
 clock_none : (found : LinkFact) (texts : List (List ℕ)) (count : ℕ) → heard_all (clock_steps found texts count) ≡ []
 clock_none fact.Quiet texts count = speech_none true texts count
-clock_none fact.Opened texts count = refl
-clock_none fact.Ready texts count = refl
-clock_none fact.Closed texts count = refl
-clock_none fact.NoPort texts count = refl
 clock_none fact.Failed texts count = speech_none false texts count
-clock_none (fact.Ended end) texts count = refl
+clock_none _ texts count = refl
 
 dial_none : (found : LinkFact) → heard_all (dial_steps found) ≡ []
 dial_none fact.Quiet = refl
@@ -194,17 +182,17 @@ lines_got lost = []
 lines_got nothing = []
 lines_got (whole bytes) = bytes ∷ []
 
-talk_heard : (got : Got) (found : LinkFact) (texts : List (List ℕ)) (count : ℕ) → heard_all (talk_steps got found texts count) ≡ lines_got got
+talk_heard : (got : Got) (found : LinkFact) (texts : List (List ℕ)) (count : ℕ) → heard_all (steps_over_link got found texts count) ≡ lines_got got
 talk_heard unasked found texts count = refl
 talk_heard lost found texts count = refl
 talk_heard nothing found texts count = clock_none found texts count
 talk_heard (whole bytes) found texts count = ap (λ (lines : List (List ℕ)). bytes ∷ lines) (clock_none found texts count)
 
-turn_heard : (d : Doing) (up : Bool) (got : Got) (found : LinkFact) (texts : List (List ℕ)) (count : ℕ) → (d ≢ Talking → got ≡ unasked)
+turn_heard : (d : Doing) (up : Bool) (got : Got) (found : LinkFact) (texts : List (List ℕ)) (count : ℕ) → (d ≢ UsingLink → got ≡ unasked)
     → heard_all (turn_steps d up got found texts count) ≡ lines_got got
 turn_heard Dialling up got found texts count asked = dial_none found ∙ ap lines_got (sym (asked (λ e. cc)))
 turn_heard HangingUp up got found texts count asked = ap lines_got (sym (asked (λ e. cc)))
-turn_heard Talking up got found texts count asked = talk_heard got found texts count
+turn_heard UsingLink up got found texts count asked = talk_heard got found texts count
 turn_heard Resting up got found texts count asked = ap lines_got (sym (asked (λ e. cc)))
 
 got_reported : (got : Got) → temps_reported (lines_got got) ≡ temps_list (temps_in got)
@@ -218,7 +206,7 @@ got_reported (whole bytes) = by (temps_of_reply (kind_of bytes))
     by (Some temps) = refl
 
 -- the temperatures of a note that holds these, or of none
-note_temps : (note : Option Note) (temps : Option Temps) → (note ≡ None → temps ≡ None) → IfSome note (λ n. n.temps ≡ temps) → temps_noted (noted note) ≡ temps_list temps
+note_temps : (note : Option Note) (temps : Option Temps) → (note ≡ None → temps ≡ None) → IfSome note (λ n. n.temps ≡ temps) → temps_noted (history_of_note note) ≡ temps_list temps
 note_temps None temps none some = ap temps_list (sym (none refl))
 note_temps (Some note) temps none some = by note.temps ∙ ap temps_list some
   where
@@ -229,7 +217,7 @@ note_temps (Some note) temps none some = by note.temps ∙ ap temps_list some
 -- a turn, and a note that holds the temperatures that it received
 pub turn_notes_temps : (moment : ℕ) (kind : LinkKind) (past past' : Option (List WorldEvent)) (calls calls' : Option ℕ) (x y : SessionData) (turned : Turned)
     → (t : IsTurn moment kind past past' calls calls' x y turned) → (note : Option Note) → (note ≡ None → temps_in t.got ≡ None)
-    → IfSome note (λ n. n.temps ≡ temps_in t.got) → NotesTemps kind past past' (noted note)
+    → IfSome note (λ n. n.temps ≡ temps_in t.got) → NotesTemps kind past past' (history_of_note note)
 turn_notes_temps moment kind past past' calls calls' x y turned t note none some =
     became_so past past' _ _ t.steps.takes.past.grew
     (λ old added are. note_temps note (temps_in t.got) none some ∙ (sym (got_reported t.got)

@@ -1,8 +1,8 @@
 -- What stretches of a run show, one after the other.
 use Rattle.std.proofs.Common.{◌≡◌, ℕ, Bool, List, [], ◌∷◌, ◌++◌, Option, Some, sym, ap, subst, ◌∙◌, append_assoc}
 use Rattle.std.proofs.lemmas.List.{append_cancel_left}
-use Rattle.octo_outside.specs.Told.{Became, Adds}
-use Rattle.octo_outside.proofs.Told.{became_so, became_same}
+use Rattle.octo_outside.specs.Recorded.{Became, Adds}
+use Rattle.octo_outside.proofs.Recorded.{became_so, became_same}
 use Rattle.octo_keeper.specs.declared.shelf.ShelfFile.{ShelfFile}
 use Rattle.octo_asks.specs.History.{History}
 use Rattle.octo_asks.specs.declared.entry.Entry.TheVariants as entry
@@ -13,9 +13,7 @@ use Rattle.house_counts.specs.LinkUse.{UsesLink}
 use Rattle.house_counts.specs.Rounds.{AsksAt, TurnsAt}
 use Rattle.house_counts.specs.Shows.{Shows}
 use Rattle.house_counts.proofs.Dialling.{uses_then, uses_none, uses_end, round_uses}
-
-same_some : {A : Type 0} (a b : A) → Some a ≡ Some b → a ≡ b
-same_some a b e = cc
+use Rattle.std.proofs.lemmas.Option.{same_Some}
 
 -- what is added shows this wherever it is added
 pub became_shows : (past past' : Option History) (files : Option (List ShelfFile)) (Before : List ShelfFile → Standing → Type 0)
@@ -35,7 +33,7 @@ shows_then past mid past' files between Before Mid P Q R walks first second join
     let later = second led.0 led.1 now now_is in
     let walked = led.2 later.0 later.2 in
     let sooner = first was was_is later.0 later.2 in
-    let same_old : sooner.0 ≡ walked.old = same_some sooner.0 walked.old (sym sooner.2 ∙ walked.past_is) in
+    let same_old : sooner.0 ≡ walked.old = same_Some sooner.0 walked.old (sym sooner.2 ∙ walked.past_is) in
     let same : walked.added ≡ sooner.1 =
     append_cancel_left walked.old walked.added sooner.1 (sym walked.grows ∙ sooner.3 ∙ ap (λ (old : History). old ++ sooner.1) same_old) in (
       sooner.0,

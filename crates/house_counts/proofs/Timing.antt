@@ -2,9 +2,9 @@
 use Rattle.std.proofs.Common.{◌≡◌, ◌⊎◌, inl, inr, ℕ, ◌≤◌, Bool, List, [], ◌∷◌, ◌++◌, Option, None, Some, refl, sym, subst, ◌∙◌, arith}
 use Rattle.std.specs.Prelude.{IfSome, max}
 use Rattle.std.proofs.lemmas.List.Elements.{All-nil, All-cons, All-append}
-use Rattle.octo_outside.specs.Told.{Became, Adds}
+use Rattle.octo_outside.specs.Recorded.{Became, Adds}
 use Rattle.octo_outside.specs.Traits.{NotBefore}
-use Rattle.octo_outside.proofs.Told.{became_so, became_then, became_same}
+use Rattle.octo_outside.proofs.Recorded.{became_so, became_then, became_same}
 use Rattle.desk_steps.specs.declared.issued.Note.{Note}
 use Rattle.octo_asks.specs.History.{History}
 use Rattle.octo_asks.specs.declared.answer.Answer.{Answer}
@@ -13,7 +13,8 @@ use Rattle.octo_asks.specs.declared.entry.Entry.TheVariants as entry
 use Rattle.octo_asks.specs.declared.request.Ask.{Ask}
 use Rattle.session_steps.specs.Data.{SessionData}
 use Rattle.house_counts.specs.Moments.{IsBetween, AreBetween}
-use Rattle.house_counts.specs.Rounds.{AsksAt, NotesAt, TurnsAt, noted}
+use Rattle.house_counts.specs.Rounds.{AsksAt, NotesAt, TurnsAt, history_of_note}
+use Rattle.std.proofs.lemmas.Option.{same_Some}
 
 -- what was made until one moment was made until a later one
 wider : (first last later : ℕ) (e : Entry) → last ≤ later → IsBetween first last e → IsBetween first later e
@@ -41,14 +42,14 @@ asks_between first moment keeper keeper' shelf shelf' h below a = by a.asks
     by (inl none) = subst (AreBetween first moment) (sym none) (between_none first moment)
     by (inr one) = subst (AreBetween first moment) (sym one.3) (between_one first moment (entry.Call one.0 one.1 moment one.2) (below, omega arith))
 
-note_between : (first moment : ℕ) (note : Note) → note.moment ≡ moment → first ≤ moment → AreBetween first moment (noted (Some note))
+note_between : (first moment : ℕ) (note : Note) → note.moment ≡ moment → first ≤ moment → AreBetween first moment (history_of_note (Some note))
 note_between first moment note is below = between_one first moment (entry.Note note) (omega (arith, is, below), omega (arith, is))
 
 pub turns_between : (first moment : ℕ) (listed : List ℕ → Bool) (x : SessionData) (calls calls' : Option ℕ) (link link' : ℕ) (h : History) → first ≤ moment
     → TurnsAt moment listed x calls calls' link link' h → AreBetween first moment h
 turns_between first moment listed x calls calls' link link' h below t = subst (AreBetween first moment) (sym t.1) (by t.0 t.2)
   where
-    by : (note : Option Note) → NotesAt moment listed x calls calls' link link' note → AreBetween first moment (noted note)
+    by : (note : Option Note) → NotesAt moment listed x calls calls' link link' note → AreBetween first moment (history_of_note note)
     by None n = between_none first moment
     by (Some note) n = note_between first moment note n.its_moment below
 
@@ -58,14 +59,11 @@ Timed first at moment past past' =
     (now : ℕ) → at ≡ Some now → (moment ≤ now)
     × ((before : ℕ) → first ≡ Some before → (before ≤ now) × Became past past' (λ _ added. AreBetween before now added))
 
-same_moment : (a b : ℕ) → Some a ≡ Some b → a ≡ b
-same_moment a b e = cc
-
 pub timed_begins : (first : Option ℕ) (past : Option History) → Timed first first 0 past past
 timed_begins first past now now_is = (
   omega arith,
   λ before before_is. (
-    omega (arith, same_moment before now (sym before_is ∙ now_is)),
+    omega (arith, same_Some before now (sym before_is ∙ now_is)),
     became_same past (λ _ added. AreBetween before now added) (λ old. between_none before now),
   ),
 )
@@ -101,7 +99,7 @@ pub timed_later : (first at at' : Option ℕ) (moment : ℕ) (past past' : Optio
 timed_later first at None moment past past' later timed now now_is = cc
 timed_later first None (Some now') moment past past' later timed now now_is = absurd later
 timed_later first (Some was) (Some now') moment past past' later timed now now_is =
-    let after : was ≤ now = omega (arith, later, same_moment now' now now_is) in
+    let after : was ≤ now = omega (arith, later, same_Some now' now now_is) in
     let before_it = timed was refl in (
       omega (arith, before_it.0, after),
       λ before before_is. (

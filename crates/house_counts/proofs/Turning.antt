@@ -1,7 +1,7 @@
 -- What a turn of a session says of its link.
 use Rattle.std.proofs.Common.{◌≡◌, ℕ, ◌-◌, ◌≤◌, Bool, true, false, not, ◌&&◌, if◌then◌else◌, List, Option, refl, sym, ap, subst, ◌∙◌, arith}
 use Rattle.std.specs.Prelude.{IfSome}
-use Rattle.octo_outside.specs.Told.{Counts}
+use Rattle.octo_outside.specs.Recorded.{Counts}
 use Rattle.desk_steps.specs.declared.issued.Note.{Note}
 use Rattle.desk_steps.specs.declared.link_fact.LinkFact.{LinkFact}
 use Rattle.desk_steps.specs.declared.link_fact.LinkFact.TheVariants as fact
@@ -10,25 +10,26 @@ use Rattle.session_steps.specs.Found.{Got, can_find}
 use Rattle.session_steps.specs.Steps.{turn_steps, calls_after}
 use Rattle.session_steps.specs.Turn.{fact_of, IsTurn, texts_in}
 use Rattle.session_steps.specs.declared.found.Doing.{Doing}
-use Rattle.session_steps.specs.declared.found.Doing.TheVariants.{Dialling, HangingUp, Talking, Resting}
+use Rattle.session_steps.specs.declared.found.Doing.TheVariants.{Dialling, HangingUp, UsingLink, Resting}
 use Rattle.session_steps.specs.declared.found.Turned.{Turned}
 use Rattle.printer_link.specs.Link.{LinkKind, RoseBy}
 use Rattle.printer_model.specs.declared.event.WorldEvent.{WorldEvent}
 use Rattle.house_counts.specs.Faults.{is_failure}
 use Rattle.house_counts.specs.LinkUse.{is_closing}
 use Rattle.house_counts.specs.Rounds.{NotesAt, one_if}
-use Rattle.house_counts.proofs.Dialling.{rose_less, rose_not, finds_of_dial}
+use Rattle.house_counts.proofs.Dialling.{rose_less, finds_of_dial}
+use Rattle.printer_link.proofs.Calls.{rose_none}
 
 -- a turn that neither dials nor receives makes no call
 calls_same : (d : Doing) (up : Bool) (got : Got) (found : LinkFact) (texts : List (List ℕ)) (count : ℕ) (calls calls' : Option ℕ) → is_calling d ≡ false
     → calls' ≡ calls_after (turn_steps d up got found texts count) calls → calls' ≡ calls
 calls_same Dialling up got found texts count calls calls' idle is = cc
 calls_same HangingUp up got found texts count calls calls' idle is = is
-calls_same Talking up got found texts count calls calls' idle is = cc
+calls_same UsingLink up got found texts count calls calls' idle is = cc
 calls_same Resting up got found texts count calls calls' idle is = is
 
 -- a session over an open link doesn't rest
-rests_down : (up connecting closable : Bool) → (if not up && connecting then Dialling else (if closable then HangingUp else (if up then Talking else Resting))) ≡ Resting
+rests_down : (up connecting closable : Bool) → (if not up && connecting then Dialling else (if closable then HangingUp else (if up then UsingLink else Resting))) ≡ Resting
     → up ≡ false
 rests_down true connecting true is = cc
 rests_down true connecting false is = cc
@@ -43,13 +44,8 @@ one_none true is = cc
 one_none false is = refl
 
 closes : (found : LinkFact) → can_find HangingUp found ≡ true → is_closing found ≡ true
-closes fact.Quiet can = cc
-closes fact.Opened can = cc
-closes fact.Ready can = cc
 closes fact.Closed can = refl
-closes fact.NoPort can = cc
-closes fact.Failed can = cc
-closes (fact.Ended end) can = cc
+closes _ can = cc
 
 -- over an open link a turn makes a call, unless it closes the link
 calls_rise : (d : Doing) (up : Bool) (found : LinkFact) (calls calls' : Option ℕ) → can_find d found ≡ true → (d ≡ Resting → up ≡ false)
@@ -57,19 +53,14 @@ calls_rise : (d : Doing) (up : Bool) (found : LinkFact) (calls calls' : Option �
 calls_rise Dialling up found calls calls' can rests rose same = rose_less 1 _ calls calls' (omega (arith, one_small up)) (rose refl)
 calls_rise HangingUp up found calls calls' can rests rose same =
     let none : one_if (is_closing found) ≡ 1 = ap one_if (closes found can) in
-    rose_less 0 _ calls calls' (omega (arith, none, one_small up)) (subst (λ (now : Option ℕ). RoseBy 0 calls now) (sym (same refl)) (rose_not calls))
-calls_rise Talking up found calls calls' can rests rose same = rose_less 1 _ calls calls' (omega (arith, one_small up)) (rose refl)
+    rose_less 0 _ calls calls' (omega (arith, none, one_small up)) (subst (λ (now : Option ℕ). RoseBy 0 calls now) (sym (same refl)) (rose_none calls))
+calls_rise UsingLink up found calls calls' can rests rose same = rose_less 1 _ calls calls' (omega (arith, one_small up)) (rose refl)
 calls_rise Resting up found calls calls' can rests rose same =
-    rose_less 0 _ calls calls' (omega (arith, one_none up (rests refl))) (subst (λ (now : Option ℕ). RoseBy 0 calls now) (sym (same refl)) (rose_not calls))
+    rose_less 0 _ calls calls' (omega (arith, one_none up (rests refl))) (subst (λ (now : Option ℕ). RoseBy 0 calls now) (sym (same refl)) (rose_none calls))
 
 failing : (found : LinkFact) → is_failure found ≡ true → found ≡ fact.Failed
-failing fact.Quiet is = cc
-failing fact.Opened is = cc
-failing fact.Ready is = cc
-failing fact.Closed is = cc
-failing fact.NoPort is = cc
 failing fact.Failed is = refl
-failing (fact.Ended end) is = cc
+failing _ is = cc
 
 -- what a turn promises of its link
 pub record HasCalled (kind : LinkKind) (x : SessionData) (calls calls' : Option ℕ) (link link' : ℕ) (found : LinkFact) : Type 0 where

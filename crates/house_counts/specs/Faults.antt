@@ -1,5 +1,6 @@
 -- How many faults a history says of a keeper, a shelf and a link.
 use Rattle.std.specs.Prelude.{ℕ, ◌+◌, ◌<◌, ◌≤◌, Bool, true, false, count_by}
+use Rattle.octo_outside.specs.Recorded.{last_count}
 use Rattle.desk_steps.specs.declared.link_fact.LinkFact.{LinkFact}
 use Rattle.desk_steps.specs.declared.link_fact.LinkFact.TheVariants as fact
 use Rattle.octo_asks.specs.History.{History}
@@ -30,7 +31,7 @@ is_links_fault _ = false
 -- a count of faults didn't fall, and rose by at least this number, or is at its type's last value
 pub record HasRisen (n before now : ℕ) : Type 0 where
   pub later : before ≤ now
-  pub rose : now < 18446744073709551615 → before + n ≤ now
+  pub rose : now < last_count → before + n ≤ now
 
 -- each fault that the history says was counted: of the keeper, of the shelf and of the link
 pub record AreCounted (keeper keeper' shelf shelf' link link' : ℕ) (h : History) : Type 0 where

@@ -26,12 +26,12 @@ abbrev pub is_close_note : Entry → Bool
 is_close_note (entry.Note note) = is_closing note.fact
 is_close_note _ = false
 
--- the port that isn't there is the one that the desk connects to, and it isn't listed
+-- the missing port is the one that the desk connects to, and it isn't listed
 abbrev pub IsUnlisted : (List ℕ → Bool) → Entry → Standing → Type 0
 IsUnlisted listed (entry.Note note) s = note.fact ≡ fact.NoPort → listed (port_of s.known.desk) ≡ false
 IsUnlisted listed _ s = Unit {0}
 
--- each note of a port that isn't there
+-- each note of a missing port
 abbrev pub AreUnlisted : (List ℕ → Bool) → History → Standing → Type 0
 AreUnlisted listed [] s = Unit {0}
 AreUnlisted listed (e ∷ es) s = IsUnlisted listed e s × AreUnlisted listed es (after_entry e s)
@@ -63,8 +63,8 @@ abbrev pub open_calls : History → Standing → ℕ
 open_calls [] s = 0
 open_calls (e ∷ es) s = open_by e (after_entry e s) + open_calls es (after_entry e s)
 
--- from this standing a history notes no port that is listed, dials after each call that asks for it, and calls the link after each
--- call that leaves a session open, if that link isn't closed then
+-- from this standing a history notes no port that is listed, dials after each call that asks for a connection, and
+-- calls the link after each call that leaves a session open, if that link isn't closed then
 pub record UsesLink (listed : List ℕ → Bool) (calls calls' : Option ℕ) (h : History) (s : Standing) : Type 0 where
   pub ports : AreUnlisted listed h s
   pub dials : AreDialled h s

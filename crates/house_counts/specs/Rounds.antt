@@ -9,7 +9,7 @@ use Rattle.octo_asks.specs.declared.request.Ask.{Ask}
 use Rattle.session_steps.specs.Data.{SessionData, doing, port_of}
 use Rattle.session_steps.specs.Turn.{fact_of}
 use Rattle.session_steps.specs.declared.found.Doing.TheVariants.{Dialling}
-use Rattle.octo_outside.specs.Told.{Counts}
+use Rattle.octo_outside.specs.Recorded.{Counts}
 use Rattle.printer_link.specs.Link.{RoseBy}
 use Rattle.house_counts.specs.LinkUse.{is_of_dial, is_closing}
 use Rattle.house_counts.specs.Faults.{HasRisen, is_failure, is_keepers_fault, is_shelfs_fault}
@@ -25,10 +25,11 @@ pub record AsksAt (moment keeper keeper' shelf shelf' : ℕ) (h : History) : Typ
   pub shelfs : HasRisen (count_by is_shelfs_fault h) shelf shelf'
 
 -- a note as a history, or nothing
-abbrev pub noted : Option Note → History
-noted None = []
-noted (Some note) = entry.Note note ∷ []
+abbrev pub history_of_note : Option Note → History
+history_of_note None = []
+history_of_note (Some note) = entry.Note note ∷ []
 
+-- 1 for true, 0 for false
 abbrev pub one_if : Bool → ℕ
 one_if true = 1
 one_if false = 0
@@ -44,4 +45,4 @@ pub record NotesAt (moment : ℕ) (listed : List ℕ → Bool) (x : SessionData)
 
 -- the same as a history
 abbrev pub TurnsAt : ℕ → (List ℕ → Bool) → SessionData → (calls calls' : Option ℕ) → (link link' : ℕ) → History → Type 0
-TurnsAt moment listed x calls calls' link link' h = (note : Option Note) × (h ≡ noted note) × NotesAt moment listed x calls calls' link link' note
+TurnsAt moment listed x calls calls' link link' h = (note : Option Note) × (h ≡ history_of_note note) × NotesAt moment listed x calls calls' link link' note

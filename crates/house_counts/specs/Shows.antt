@@ -1,6 +1,6 @@
 -- What a stretch of a run shows beside what it leads to.
 use Rattle.std.specs.Prelude.{◌≡◌, List, Option, Some}
-use Rattle.octo_outside.specs.Told.{Became}
+use Rattle.octo_outside.specs.Recorded.{Became}
 use Rattle.octo_keeper.specs.declared.shelf.ShelfFile.{ShelfFile}
 use Rattle.octo_asks.specs.History.{History}
 use Rattle.house_history.specs.Legal.{Standing}

@@ -1,6 +1,6 @@
 -- The temperatures that a history notes, and those that the lines of a link report.
 use Rattle.std.specs.Prelude.{◌≡◌, ℕ, List, [], ◌∷◌, ◌++◌, Option, None, Some}
-use Rattle.octo_outside.specs.Told.{Became}
+use Rattle.octo_outside.specs.Recorded.{Became}
 use Rattle.marlin_reply.specs.Kind.{kind_of}
 use Rattle.marlin_reply.specs.declared.reply.Temps.{Temps}
 use Rattle.octo_asks.specs.History.{History}

@@ -3,24 +3,24 @@ ghost use Rattle.std.specs.Prelude.{◌≡◌, All};
 ghost use Rattle.byte_text.specs.Sendable.{IsSendable};
 ghost use Rattle.job_desk.specs.Views.{bytes_of};
 ghost use Rattle.house_verdicts.specs.Prints.{connect_verdict, disconnect_verdict, heat_tool_verdict, heat_bed_verdict, lines_verdict, manual_verdict, pause_verdict, resume_verdict, toggle_verdict, cancel_verdict};
-ghost use Rattle.house_rows.specs.Counts.{IsPlain, answered};
+ghost use Rattle.house_rows.specs.Counts.{IsPlain, answer_of_call};
 ghost use Rattle.house_desk.specs.Facing.{Faces, IsApart};
 
 use crate::HostDesk;
 use byte_text::{Name, Text};
 use desk_steps::Refusal;
-use house_rows::{bed_line, first_hot_text, port_for, read_lines, refused, tool_line};
+use house_rows::{answer_of_refusal, bed_line, first_hot_text, port_for, read_lines, tool_line};
 use octo_asks::Answer;
 use octo_outside::Blob;
 use temp_rules::TooHot;
 
 // What the desk said as an answer.
-fn answered(done: Result<(), Refusal>) -> Answer
-    ensures { result ≡ answered done }
+fn answer_of_call(done: Result<(), Refusal>) -> Answer
+    ensures { result ≡ answer_of_call done }
 {
     match done {
         Ok(()) => Answer::Accepted,
-        Err(refusal) => refused(refusal),
+        Err(refusal) => answer_of_refusal(refusal),
     }
 }
 
@@ -34,7 +34,7 @@ impl HostDesk {
         let Some(port) = port_for(port, self.ports.as_slice()) else {
             return Answer::BadPort;
         };
-        answered(self.session.connect(&port))
+        answer_of_call(self.session.connect(&port))
     }
 
     /// Ends the connection.
@@ -57,7 +57,7 @@ impl HostDesk {
         if let Some(TooHot { asked, limit }) = first_hot_text(self.session.desk().limits(), lines) {
             return Answer::TooHot { asked, limit };
         }
-        answered(self.session.manual(lines))
+        answer_of_call(self.session.manual(lines))
     }
 
     /// Sets the target of the tool, in degrees Celsius.
@@ -96,7 +96,7 @@ impl HostDesk {
         ensures apart { IsApart self.old.session self.new.session }
         ensures plain { IsPlain result }
     {
-        answered(self.session.pause())
+        answer_of_call(self.session.pause())
     }
 
     /// Goes on with a paused print.
@@ -105,7 +105,7 @@ impl HostDesk {
         ensures apart { IsApart self.old.session self.new.session }
         ensures plain { IsPlain result }
     {
-        answered(self.session.resume())
+        answer_of_call(self.session.resume())
     }
 
     /// Pauses a print that goes on, and goes on with one that is paused.
@@ -114,7 +114,7 @@ impl HostDesk {
         ensures apart { IsApart self.old.session self.new.session }
         ensures plain { IsPlain result }
     {
-        answered(self.session.toggle())
+        answer_of_call(self.session.toggle())
     }
 
     /// Cancels the print.
@@ -123,6 +123,6 @@ impl HostDesk {
         ensures apart { IsApart self.old.session self.new.session }
         ensures plain { IsPlain result }
     {
-        answered(self.session.cancel())
+        answer_of_call(self.session.cancel())
     }
 }

@@ -13,7 +13,7 @@ use Rattle.octo_keeper.specs.declared.shelf.ShelfFile.{ShelfFile}
 use Rattle.print_queue.specs.declared.entry.QueueEntry.{QueueEntry}
 use Rattle.print_queue.specs.declared.refusal.Put.{Put}
 use Rattle.print_queue.specs.declared.refusal.QueueRefusal.{QueueRefusal}
-use Rattle.desk_steps.specs.Data.{File}
+use Rattle.desk_steps.specs.Data.{File, named_file}
 use Rattle.desk_steps.specs.Run.{Connect, Disconnect, Select, DropFile, Pause, Resume, Toggle, Cancel, Manually}
 use Rattle.desk_steps.specs.Table.{connect_at, restart_at, drop_file_step, select_at}
 use Rattle.desk_steps.specs.declared.state.Refusal.{Refusal}
@@ -24,13 +24,13 @@ use Rattle.octo_asks.specs.declared.answer.Answer.{Answer}
 use Rattle.octo_asks.specs.declared.answer.Answer.TheVariants as answer
 use Rattle.octo_asks.specs.declared.request.Request.{Request}
 use Rattle.octo_asks.specs.declared.request.Request.TheVariants as request
-use Rattle.house_verdicts.specs.Known.{Known, next_number}
-use Rattle.house_verdicts.specs.Refusals.{refused, user_refused, queue_refused, refused_if, granted, granted_user, granted_heat, found_or, read_as}
-use Rattle.house_verdicts.specs.Prints.{port_for, commands_in, manual_verdict, restarted}
+use Rattle.house_verdicts.specs.Known.{Known, next_print_number}
+use Rattle.house_verdicts.specs.Refusals.{answer_of_refusal, answer_of_user_refusal, answer_of_queue_refusal, refused_if, if_desk_allows, if_users_allow, unless_too_hot, found_or, read_as}
+use Rattle.house_verdicts.specs.Prints.{port_for, commands_in, manual_verdict, restart_deed}
 use Rattle.house_verdicts.specs.Rows.{with_queue, put_by}
-use Rattle.house_verdicts.specs.Uploads.{named_file, read_file, print_verdict, select_by, stored, after_storing, is_selected, is_printed, store_verdict, take_verdict}
+use Rattle.house_verdicts.specs.Uploads.{read_file, print_verdict, select_by, store_deed, after_storing, is_selected, is_printed, store_verdict, take_verdict}
 use Rattle.house_verdicts.specs.Verdict.{Verdict, Deed, at_desk, gives, writes, known_after}
-use Rattle.house_verdicts.specs.Answers.{request_verdict, allowed, permitted, lacking, verdict_by}
+use Rattle.house_verdicts.specs.Answers.{request_verdict, unless_lacking, verdict_of_caller, lacking, verdict_by}
 use Rattle.house_history.proofs.Played.{IsNumbered, Played, Plays, gives-one, makes-one, writes-one, reads-one, removes-one, stores-one, begins-one, played_none, played_start, played_select_start, played_restart, played_call, stays_numbered}
 
 module _ (k : Known) where
@@ -38,20 +38,20 @@ module _ (k : Known) where
   by-test true a v p = gives-one a k
   by-test false a v p = p
 
-  by-desk : {A : Type 0} (r : Result A Refusal) (v : Verdict) → Plays v k → Plays (granted r v) k
+  by-desk : {A : Type 0} (r : Result A Refusal) (v : Verdict) → Plays v k → Plays (if_desk_allows r v) k
   by-desk (Ok a) v p = p
-  by-desk (Err r) v p = gives-one (refused r) k
+  by-desk (Err r) v p = gives-one (answer_of_refusal r) k
 
   -- the same with what the desk answered
-  by-answer : {A : Type 0} (r : Result A Refusal) (v : Verdict) → ((a : A) → r ≡ Ok a → Plays v k) → Plays (granted r v) k
+  by-answer : {A : Type 0} (r : Result A Refusal) (v : Verdict) → ((a : A) → r ≡ Ok a → Plays v k) → Plays (if_desk_allows r v) k
   by-answer (Ok a) v p = p a refl
-  by-answer (Err r) v p = gives-one (refused r) k
+  by-answer (Err r) v p = gives-one (answer_of_refusal r) k
 
-  by-users : (o : Option UserRefusal) (v : Verdict) → Plays v k → Plays (granted_user o v) k
+  by-users : (o : Option UserRefusal) (v : Verdict) → Plays v k → Plays (if_users_allow o v) k
   by-users None v p = p
-  by-users (Some r) v p = gives-one (user_refused r) k
+  by-users (Some r) v p = gives-one (answer_of_user_refusal r) k
 
-  by-heat : (o : Option TooHot) (v : Verdict) → Plays v k → Plays (granted_heat o v) k
+  by-heat : (o : Option TooHot) (v : Verdict) → Plays v k → Plays (unless_too_hot o v) k
   by-heat None v p = p
   by-heat (Some hot) v p = gives-one (answer.TooHot hot.asked hot.limit) k
 
@@ -73,7 +73,7 @@ module _ (k : Known) where
   module _ (n : IsNumbered k) where
     by-put : (r : Result Put QueueRefusal) → Plays (put_by r k) k
     by-put (Ok put) = by-fresh put.fresh (answer.OneEntry (shown_entry put.entry)) (with_queue (insert_row put.entry k.queue) k) (played_none _ k refl refl n)
-    by-put (Err r) = gives-one (queue_refused r) k
+    by-put (Err r) = gives-one (answer_of_queue_refusal r) k
 
     by-manual : (texts : List (List ℕ)) → Plays (manual_verdict texts k) k
     by-manual texts = by-heat _ _ (by-desk _ _ (makes-one answer.Accepted _ k (played_call (Manually texts) _ k refl refl refl (λ ends. refl) (tt, tt) (steady-manual k.desk.state texts k.desk) n)))
@@ -85,7 +85,7 @@ module _ (k : Known) where
     by-select false user name files = by-test _ _ _ (by-file name files _ (λ file. makes-one answer.Accepted (at_desk (Select file ∷ []) k) k (played_call (Select file) (at_desk (Select file ∷ []) k) k refl refl refl (λ ends. refl) (tt, tt) (steady-select k.desk.state file k.desk) n)))
     by-select true user name files = by-test _ _ _ (by-file name files _ (λ file. by-print answer.Accepted user k.queue file))
 
-    stored-played : (select : Bool) (file : File) → Played (stored select file k) k
+    stored-played : (select : Bool) (file : File) → Played (store_deed select file k) k
     stored-played false file = played_call (DropFile file.name) _ k refl refl refl (λ ends. refl) (tt, tt) (steady-drop_file file.name k.desk) n
     stored-played true file = record {
       silent = refl;
@@ -105,7 +105,7 @@ module _ (user : UserRow) (files : List ShelfFile) (k : Known) (n : IsNumbered k
   by-store : (bytes : List ℕ) (select print : Bool) (file : File) → Plays (store_verdict user bytes select print k file) k
   by-store bytes select print file =
       let played = stored-played k n (is_selected user select print k) file in
-      by-desk k _ _ (by-test k _ _ _ (stores-one file.name bytes (stored (is_selected user select print k) file k) _ k played (by-storing (is_selected user select print k) (is_printed user print file k) user.name file (known_after (stored (is_selected user select print k) file k) k) played.numbered)))
+      by-desk k _ _ (by-test k _ _ _ (stores-one file.name bytes (store_deed (is_selected user select print k) file k) _ k played (by-storing (is_selected user select print k) (is_printed user print file k) user.name file (known_after (store_deed (is_selected user select print k) file k) k) played.numbered)))
 
   by-take : (entry : QueueEntry) → Plays (take_verdict files k entry) k
   by-take entry = by-test k _ _ _ (by-file k entry.file files _ (λ file. by-print k n (answer.TakenEntry (shown_entry entry)) entry.user (without_copy entry.user entry.name k.queue) file))
@@ -123,7 +123,7 @@ module _ (user : UserRow) (files : List ShelfFile) (k : Known) (n : IsNumbered k
   plays request.GetJob = gives-one _ k
   plays request.Start = by-desk k _ _ (by-test k _ _ _ (writes-one answer.Accepted _ k (played_start user.name k.desk.file k n)))
   plays request.Cancel = by-desk k _ _ (makes-one answer.Accepted _ k (played_call Cancel _ k refl refl refl (λ ends. refl) (tt, tt) (steady-cancel k.desk.state k.desk) n))
-  plays request.Restart = by-answer k (restart_at k.desk.state (next_number k) k.desk).0 _ (λ former allowed. by-test k _ _ _ (writes-one answer.Accepted (restarted user.name k) k (played_restart user.name former k n allowed)))
+  plays request.Restart = by-answer k (restart_at k.desk.state (next_print_number k) k.desk).0 _ (λ former allowed. by-test k _ _ _ (writes-one answer.Accepted (restart_deed user.name k) k (played_restart user.name former k n allowed)))
   plays request.Pause = by-desk k _ _ (makes-one answer.Accepted _ k (played_call Pause _ k refl refl refl (λ ends. refl) (tt, tt) (steady-pause k.desk.state k.desk) n))
   plays request.Resume = by-desk k _ _ (makes-one answer.Accepted _ k (played_call Resume _ k refl refl refl (λ ends. refl) (tt, tt) (steady-resume k.desk.state k.desk) n))
   plays request.Toggle = by-desk k _ _ (makes-one answer.Accepted _ k (played_call Toggle _ k refl refl refl (λ ends. refl) (tt, tt) (steady-toggle k.desk.state k.desk) n))
@@ -145,11 +145,11 @@ module _ (user : UserRow) (files : List ShelfFile) (k : Known) (n : IsNumbered k
   plays request.Shutdown = by-test k _ _ _ (gives-one _ k)
   plays request.Leave = gives-one _ k
 
-by-allowed : (o : Option Permission) (v : Verdict) (k : Known) → Plays v k → Plays (allowed o v) k
+by-allowed : (o : Option Permission) (v : Verdict) (k : Known) → Plays v k → Plays (unless_lacking o v) k
 by-allowed None v k p = p
 by-allowed (Some permission) v k p = gives-one _ k
 
-by-permitted : (o : Option UserRow) (ps : List Permission) (k : Known) (next : UserRow → Verdict) → ((user : UserRow) → Plays (next user) k) → Plays (permitted o ps k next) k
+by-permitted : (o : Option UserRow) (ps : List Permission) (k : Known) (next : UserRow → Verdict) → ((user : UserRow) → Plays (next user) k) → Plays (verdict_of_caller o ps k next) k
 by-permitted None ps k next p = gives-one _ k
 by-permitted (Some user) ps k next p = by-allowed (lacking k user ps) (next user) k (p user)
 

@@ -4,7 +4,7 @@ use Rattle.std.proofs.lemmas.Bool.Decides.{nat_tests}
 use Rattle.std.proofs.lemmas.List.{length-map}
 use Rattle.std.proofs.lemmas.List.Sums.{fold-append}
 use Rattle.desk_steps.specs.Data.{Data}
-use Rattle.desk_steps.specs.Note.{Noted, is_over, end_at, ended, opened, ready_at, leave, fail, finish, note_fact, note_step}
+use Rattle.desk_steps.specs.Note.{Noted, is_over, end_at, after_ending, after_open, ready_at, leave, fail, finish, note_fact, note_step}
 use Rattle.desk_steps.specs.Run.{DeskCall, Connect, Disconnect, Select, DropFile, Start, Restart, Pause, Resume, Toggle, Cancel, Manually, Pull, Note, Fate, Left, Run, after, after_start, after_restart, after_pull, after_note, run_of, fate_of, of_print}
 use Rattle.desk_steps.specs.Pull.{pull_step}
 use Rattle.desk_steps.specs.Table.{start_at, restart_at}
@@ -46,7 +46,7 @@ pub ends_append : (calls more : List DeskCall) (d : Data) (ends : List (ℕ × F
 ends_append [] more d ends = refl
 ends_append (call ∷ calls) more d ends = ends_append calls more (desk_after call d) (ends_after call d ends)
 
-ends_start : (print : ℕ) (r : Result (Unit {0}) Refusal) (d : Data) (run : Run) → (after_start print (r, d) run).ends ≡ run.ends
+pub ends_start : (print : ℕ) (r : Result (Unit {0}) Refusal) (d : Data) (run : Run) → (after_start print (r, d) run).ends ≡ run.ends
 ends_start print (Ok u) d run = refl
 ends_start print (Err e) d run = refl
 
@@ -189,18 +189,18 @@ named-fail : (print : ℕ) (noted : Noted) → IsNaming print noted → Named pr
 named-fail print (None, d) n = subst (λ p. Named p (leave Fault outcome.Failed d).0) n.same (named-leave d.active outcome.Failed d.greatest last-failed)
 named-fail print (Some ending, d) n = n.named
 
-named-ready : (s : State) (moment : ℕ) (d : Data) → IsNaming d.greatest (ended (ready_at s moment d))
+named-ready : (s : State) (moment : ℕ) (d : Data) → IsNaming d.greatest (after_ending (ready_at s moment d))
 named-ready Connecting moment d = naming-end Operational (ready_at Connecting moment d)
 named-ready _ moment d = naming-end d.state d
 
 named-fact : (found : LinkFact) (moment : ℕ) (d : Data) → Named d.greatest (note_fact found moment d).0
 named-fact fact.Quiet moment d = (naming-end d.state d).named
-named-fact fact.Opened moment d = (naming-end d.state (opened d)).named
+named-fact fact.Opened moment d = (naming-end d.state (after_open d)).named
 named-fact fact.Ready moment d = (named-ready d.state moment (record d { ready = true })).named
 named-fact fact.Closed moment d = named-leave d.active outcome.Cancelled d.greatest last-cancelled
 named-fact fact.NoPort moment d = named-leave d.active outcome.Failed d.greatest last-failed
-named-fact fact.Failed moment d = named-fail d.greatest (ended d) (naming-end d.state d)
-named-fact (fact.Ended end) moment d = named-fail d.greatest (ended d) (naming-end d.state d)
+named-fact fact.Failed moment d = named-fail d.greatest (after_ending d) (naming-end d.state d)
+named-fact (fact.Ended end) moment d = named-fail d.greatest (after_ending d) (naming-end d.state d)
 
 -- a note ends only the greatest print
 pub named_note : (acked : ℕ) (found : LinkFact) (moment : ℕ) (d : Data) → Named d.greatest (note_step acked found moment d).0

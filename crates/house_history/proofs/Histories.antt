@@ -5,7 +5,7 @@ use Rattle.std.proofs.lemmas.List.Elements.{All-nil, All-cons, All-head, All-tai
 use Rattle.desk_steps.specs.Data.{Data, Line, new_desk}
 use Rattle.desk_steps.specs.Note.{note_step, first_fact}
 use Rattle.desk_steps.specs.Run.{Fate, fate_of, DeskCall, Pull, Note, new_run, run_of, lines_of, pulled_of, of_print, MayCall}
-use Rattle.desk_steps.specs.Story.{Story, TellsStories}
+use Rattle.desk_steps.specs.Story.{Story, HasStories}
 use Rattle.desk_steps.specs.declared.issued.Issued.{Issued}
 use Rattle.desk_steps.specs.declared.issued.Note as declared_note
 use Rattle.desk_steps.specs.declared.link_fact.LinkFact.{LinkFact}
@@ -27,7 +27,7 @@ use Rattle.house_verdicts.specs.Verdict.{Verdict, is_fault, after, calls_after}
 use Rattle.house_history.specs.Issued.{issued_in, lines_at, trace}
 use Rattle.house_history.specs.Legal.{Standing, after_entry, after_all, IsLegal, Legal}
 use Rattle.house_history.specs.Outcomes.{HasOutcome, EveryHistoryKeepsOutcomes}
-use Rattle.house_history.specs.Noted.{calls_of, called, called_all, last_call, known_after_note, lines_in}
+use Rattle.house_history.specs.Noted.{calls_of, known_after_call, known_after_calls, last_call, known_after_note, lines_in}
 use Rattle.house_history.specs.Scripts.{calls_at, calls_of_all, run_in, EveryHistoryKeepsScripts}
 use Rattle.house_history.proofs.Asked.{asks_play}
 use Rattle.house_history.proofs.Fates.{noted_by, ends_after, ends_all, ends_append, ends_run, Each, Tells, tells_end, Named, named_note}
@@ -67,33 +67,33 @@ noting_may_all : (calls : List DeskCall) (d : Data) → AllNoting calls → MayA
 noting_may_all calls d none = tt
 noting_may_all calls d (more call rest one all) = (noting_may call d one, noting_may_all rest (desk_after call d) all)
 
-as_many : (ending : Option Ending) (rows : List PrintRow) → length (with_due_end ending rows) ≡ length rows
+pub as_many : (ending : Option Ending) (rows : List PrintRow) → length (with_due_end ending rows) ≡ length rows
 as_many None rows = refl
 as_many (Some ending) rows = length-map rows (ended_row ending)
 
-called_numbered : (call : DeskCall) (k : Known) → Noting call → IsNumbered k → IsNumbered (called call k)
+called_numbered : (call : DeskCall) (k : Known) → Noting call → IsNumbered k → IsNumbered (known_after_call call k)
 called_numbered call k one n =
     subst (λ count. (desk_after call k.desk).greatest ≤ count) (sym (as_many (ended_by call k.desk) k.prints)) (subst (λ g. g ≤ length k.prints) (sym (noting_steady call k.desk one).greatest) n)
 
-called_desk : (calls : List DeskCall) (k : Known) → (called_all calls k).desk ≡ desk_after_all calls k.desk
+pub called_desk : (calls : List DeskCall) (k : Known) → (known_after_calls calls k).desk ≡ desk_after_all calls k.desk
 called_desk [] k = refl
-called_desk (call ∷ calls) k = called_desk calls (called call k)
+called_desk (call ∷ calls) k = called_desk calls (known_after_call call k)
 
-called_all_numbered : (calls : List DeskCall) (k : Known) → AllNoting calls → IsNumbered k → IsNumbered (called_all calls k)
+called_all_numbered : (calls : List DeskCall) (k : Known) → AllNoting calls → IsNumbered k → IsNumbered (known_after_calls calls k)
 called_all_numbered calls k none n = n
-called_all_numbered calls k (more call rest one all) n = called_all_numbered rest (called call k) all (called_numbered call k one n)
+called_all_numbered calls k (more call rest one all) n = called_all_numbered rest (known_after_call call k) all (called_numbered call k one n)
 
 told_note : (found : LinkFact) (ending : Option Ending) (print before : ℕ) (ends : List (ℕ × Fate)) (rows : List PrintRow) → Named print ending → print ≤ length rows → Tells before ends rows → Tells before (noted_by found ending ends) (with_due_end ending rows)
 told_note found None print before ends rows named n t = t
 told_note found (Some ending) print before ends rows named n t = tells_end before ends ending (fate_of found ending.outcome) rows (named.1 found) (subst (λ p. p ≤ length rows) (sym named.0) n) t
 
-called_told : (call : DeskCall) (k : Known) → Noting call → IsNumbered k → (before : ℕ) (ends : List (ℕ × Fate)) → Tells before ends k.prints → Tells before (ends_after call k.desk ends) (called call k).prints
+called_told : (call : DeskCall) (k : Known) → Noting call → IsNumbered k → (before : ℕ) (ends : List (ℕ × Fate)) → Tells before ends k.prints → Tells before (ends_after call k.desk ends) (known_after_call call k).prints
 called_told call k (pull moment) n before ends t = t
 called_told call k (note acked found moment) n before ends t = told_note found (note_step acked found moment k.desk).0 k.desk.greatest before ends k.prints (named_note acked found moment k.desk) n t
 
-called_all_told : (calls : List DeskCall) (k : Known) → AllNoting calls → IsNumbered k → (before : ℕ) (ends : List (ℕ × Fate)) → Tells before ends k.prints → Tells before (ends_all calls k.desk ends) (called_all calls k).prints
+called_all_told : (calls : List DeskCall) (k : Known) → AllNoting calls → IsNumbered k → (before : ℕ) (ends : List (ℕ × Fate)) → Tells before ends k.prints → Tells before (ends_all calls k.desk ends) (known_after_calls calls k).prints
 called_all_told calls k none n before ends t = t
-called_all_told calls k (more call rest one all) n before ends t = called_all_told rest (called call k) all (called_numbered call k one n) before (ends_after call k.desk ends) (called_told call k one n before ends t)
+called_all_told calls k (more call rest one all) n before ends t = called_all_told rest (known_after_call call k) all (called_numbered call k one n) before (ends_after call k.desk ends) (called_told call k one n before ends t)
 
 pulls_noting : (moment : ℕ) (issued : List Issued) (last : List DeskCall) → AllNoting last → AllNoting (map (λ one. Pull moment) issued ++ last)
 pulls_noting moment [] last all = all
@@ -142,8 +142,8 @@ pub keeps_scripts : EveryHistoryKeepsScripts
 keeps_scripts scripts limits poll_ms h s e l =
     let n : IsNumbered s.known = subst (λ (d : Data). d.greatest ≤ length s.known.prints) (sym e) (omega arith) in
     let j : MayAll (calls_of_all h s) s.known.desk × (lines_pulled (calls_of_all h s) s.known.desk ≡ issued_in h) = joined_all h s l n in
-    let t : TellsStories scripts (run_in h s) =
-    subst (λ d. TellsStories scripts (run_of (calls_of_all h s) (new_run d))) (sym e) (every_run scripts limits poll_ms (calls_of_all h s) (may_run (calls_of_all h s) (new_run (new_desk scripts limits poll_ms)) (subst (λ d. MayAll (calls_of_all h s) d) e j.0))) in
+    let t : HasStories scripts (run_in h s) =
+    subst (λ d. HasStories scripts (run_of (calls_of_all h s) (new_run d))) (sym e) (every_run scripts limits poll_ms (calls_of_all h s) (may_run (calls_of_all h s) (new_run (new_desk scripts limits poll_ms)) (subst (λ d. MayAll (calls_of_all h s) d) e j.0))) in
     record {
       stories = λ print positive. (
           let same : pulled_of print (run_in h s).pulled ≡ trace print h = of_pulled print (run_in h s).pulled ∙ ap (λ lines. lines_of print lines) (pulled_all (calls_of_all h s) (new_run s.known.desk) ∙ j.1) in

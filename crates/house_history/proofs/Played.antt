@@ -16,8 +16,8 @@ use Rattle.print_records.specs.declared.ending.Outcome.TheVariants as outcome
 use Rattle.print_records.specs.declared.row.PrintRow.{PrintRow}
 use Rattle.octo_asks.specs.declared.answer.Answer.{Answer}
 use Rattle.house_verdicts.specs.Desk.{desk_after, desk_after_all, lines_pulled}
-use Rattle.house_verdicts.specs.Known.{Known, next_number}
-use Rattle.house_verdicts.specs.Prints.{restarted, new_row, with_print, started}
+use Rattle.house_verdicts.specs.Known.{Known, next_print_number}
+use Rattle.house_verdicts.specs.Prints.{restart_deed, new_row, with_print, start_deed}
 use Rattle.house_verdicts.specs.Verdict.{Verdict, Deed, gives, makes, writes, reads, removes, stores, begins, known_after, known_in, calls_in, is_stored}
 use Rattle.house_history.proofs.Fates.{left_by, ends_all, ends_append, Tells, tells_begin, tells_end, restart_leaves}
 use Rattle.house_history.proofs.Runs.{MayAll, may_append, desk_append, lines_append}
@@ -79,12 +79,12 @@ one_more print user file rows = length-append rows (new_row print user file ∷ 
 may_start : (m g : ℕ) → g ≤ m → g < m + 1
 may_start m g n = omega arith
 
-pub played_start : (user : List ℕ) (file : Option File) (k : Known) → IsNumbered k → Played (started user file (Start (next_number k) ∷ []) k) k
+pub played_start : (user : List ℕ) (file : Option File) (k : Known) → IsNumbered k → Played (start_deed user file (Start (next_print_number k) ∷ []) k) k
 played_start user file k n = record {
   silent = refl;
   may = (may_start (length k.prints) k.desk.greatest n, tt);
-  numbered = subst (λ (count : ℕ). (start_at k.desk.state (next_number k) k.desk).1.greatest ≤ count) (sym (one_more (next_number k) user file k.prints)) (start_grows k.desk.state (next_number k) (length k.prints) k.desk refl n);
-  told = λ before ends t. (tells_begin before ends k.prints (new_row (next_number k) user file) refl refl t);
+  numbered = subst (λ (count : ℕ). (start_at k.desk.state (next_print_number k) k.desk).1.greatest ≤ count) (sym (one_more (next_print_number k) user file k.prints)) (start_grows k.desk.state (next_print_number k) (length k.prints) k.desk refl n);
+  told = λ before ends t. (tells_begin before ends k.prints (new_row (next_print_number k) user file) refl refl t);
 }
 
 module _ (user : List ℕ) (file : File) (k : Known) (n : IsNumbered k) where
@@ -94,22 +94,22 @@ module _ (user : List ℕ) (file : File) (k : Known) (n : IsNumbered k) where
   selected_numbered : selected.greatest ≤ length k.prints
   selected_numbered = stays_numbered k.desk selected k.prints (steady-select k.desk.state file k.desk) n
 
-  pub played_select_start : (deed : Deed) → deed.calls ≡ Select file ∷ Start (next_number k) ∷ [] → deed.prints ≡ with_print (next_number k) user (Some file) k.prints → Played deed k
+  pub played_select_start : (deed : Deed) → deed.calls ≡ Select file ∷ Start (next_print_number k) ∷ [] → deed.prints ≡ with_print (next_print_number k) user (Some file) k.prints → Played deed k
   played_select_start deed calls prints = record {
     silent = ap (λ c. lines_pulled c k.desk) calls;
     may = subst (λ c. MayAll c k.desk) (sym calls) (tt, (may_start (length k.prints) selected.greatest selected_numbered, tt));
     numbered =
         subst (λ c. (desk_after_all c k.desk).greatest ≤ length deed.prints) (sym calls)
-        (subst (λ (rows : List PrintRow). (desk_after (Start (next_number k)) selected).greatest ≤ length rows) (sym prints)
-        (subst (λ (count : ℕ). (desk_after (Start (next_number k)) selected).greatest ≤ count) (sym (one_more (next_number k) user (Some file) k.prints))
-        (start_grows selected.state (next_number k) (length k.prints) selected refl selected_numbered)));
+        (subst (λ (rows : List PrintRow). (desk_after (Start (next_print_number k)) selected).greatest ≤ length rows) (sym prints)
+        (subst (λ (count : ℕ). (desk_after (Start (next_print_number k)) selected).greatest ≤ count) (sym (one_more (next_print_number k) user (Some file) k.prints))
+        (start_grows selected.state (next_print_number k) (length k.prints) selected refl selected_numbered)));
     told = λ before ends t. (
         subst (λ c. Tells before (ends_all c k.desk ends) deed.prints) (sym calls)
-        (subst (λ (rows : List PrintRow). Tells before ends rows) (sym prints) (tells_begin before ends k.prints (new_row (next_number k) user (Some file)) refl refl t))
+        (subst (λ (rows : List PrintRow). Tells before ends rows) (sym prints) (tells_begin before ends k.prints (new_row (next_print_number k) user (Some file)) refl refl t))
         );
   }
 
-pub played_restart : (user : List ℕ) (former : ℕ) (k : Known) → IsNumbered k → (restart_at k.desk.state (next_number k) k.desk).0 ≡ Ok former → Played (restarted user k) k
+pub played_restart : (user : List ℕ) (former : ℕ) (k : Known) → IsNumbered k → (restart_at k.desk.state (next_print_number k) k.desk).0 ≡ Ok former → Played (restart_deed user k) k
 played_restart user former k n allowed =
     let ending : Ending = record { print = k.desk.greatest; outcome = outcome.Cancelled } in
     let many : length (with_end ending k.prints) ≡ length k.prints = length-map k.prints (ended_row ending) in
@@ -117,13 +117,13 @@ played_restart user former k n allowed =
       silent = refl;
       may = (may_start (length k.prints) k.desk.greatest n, tt);
       numbered =
-          subst (λ (count : ℕ). (restart_at k.desk.state (next_number k) k.desk).1.greatest ≤ count) (sym (one_more (next_number k) user k.desk.file (with_end ending k.prints) ∙ ap (λ (count : ℕ). count + 1) many))
-          (restart_grows k.desk.state (next_number k) (length k.prints) k.desk refl n);
+          subst (λ (count : ℕ). (restart_at k.desk.state (next_print_number k) k.desk).1.greatest ≤ count) (sym (one_more (next_print_number k) user k.desk.file (with_end ending k.prints) ∙ ap (λ (count : ℕ). count + 1) many))
+          (restart_grows k.desk.state (next_print_number k) (length k.prints) k.desk refl n);
       told = λ before ends t. (
-          let print : former ≡ k.desk.greatest = restart_leaves k.desk.state (next_number k) former k.desk allowed in
+          let print : former ≡ k.desk.greatest = restart_leaves k.desk.state (next_print_number k) former k.desk allowed in
           let left : Tells before (ends ++ (k.desk.greatest, Left) ∷ []) (with_end ending k.prints) = tells_end before ends ending Left k.prints refl n t in
-          subst (λ r. Tells before (left_by r ends) (with_print (next_number k) user k.desk.file (with_end ending k.prints))) (sym (allowed ∙ ap (λ p. Ok p) print))
-          (tells_begin before (ends ++ (k.desk.greatest, Left) ∷ []) (with_end ending k.prints) (new_row (next_number k) user k.desk.file) (ap (λ (count : ℕ). count + 1) (sym many)) refl left)
+          subst (λ r. Tells before (left_by r ends) (with_print (next_print_number k) user k.desk.file (with_end ending k.prints))) (sym (allowed ∙ ap (λ p. Ok p) print))
+          (tells_begin before (ends ++ (k.desk.greatest, Left) ∷ []) (with_end ending k.prints) (new_row (next_print_number k) user k.desk.file) (ap (λ (count : ℕ). count + 1) (sym many)) refl left)
           );
     }
 

@@ -21,11 +21,13 @@ outcome_read outcome.Done = outcome.Done
 outcome_read outcome.Cancelled = outcome.Cancelled
 outcome_read outcome.Failed = outcome.Failed
 
+-- the record of a print as a new host reads it
 abbrev pub row_read : PrintRow → PrintRow
 row_read row = record row { outcome = outcome_read row.outcome }
 
 -- a host with a new desk knows the loaded rows, sorted, and the names of the files
-pub record Begins (scripts : ScriptTexts) (limits : Limits) (poll_ms : ℕ) (policy : Policy) (ports : List (List ℕ)) (material : List ℕ) (tables : Tables) (files : List ShelfFile) (k : Known) : Type 0 where
+pub record Begins (scripts : ScriptTexts) (limits : Limits) (poll_ms : ℕ) (policy : Policy) (ports : List (List ℕ)) (material : List ℕ)
+    (tables : Tables) (files : List ShelfFile) (k : Known) : Type 0 where
   pub policy_is : k.policy ≡ policy
   pub ports_are : k.ports ≡ ports
   pub material_is : k.material ≡ material

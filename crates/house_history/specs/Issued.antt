@@ -23,6 +23,7 @@ abbrev pub issued_in : History → List Line
 issued_in [] = []
 issued_in (e ∷ es) = lines_at e ++ issued_in es
 
+-- whether a fact says that a session began
 abbrev pub is_opening : LinkFact → Bool
 is_opening fact.Opened = true
 is_opening _ = false
@@ -42,6 +43,7 @@ after_opening (suc session) (e ∷ es) = after_opening (if is_opened e then sess
 abbrev pub issued_of : ℕ → History → List Line
 issued_of session history = issued_in (take_while (λ e. not (is_opened e)) (after_opening session history))
 
+-- whether a line with this tag is a file command of the print
 abbrev pub is_job_of : ℕ → Tag → Bool
 is_job_of print (Script point of) = false
 is_job_of print (Job of index) = of == print

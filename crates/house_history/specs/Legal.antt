@@ -41,7 +41,17 @@ pub record Standing : Type 0 where
 
 -- before any entry: what a host begins with
 abbrev pub beginning : ℕ → ℕ → Known → List ShelfFile → Standing
-beginning window limit known files = record { window = window; limit = limit; known = known; files = files; up = false; ready = false; raised_at = 0; moment = 0; closed = false }
+beginning window limit known files = record {
+  window = window;
+  limit = limit;
+  known = known;
+  files = files;
+  up = false;
+  ready = false;
+  raised_at = 0;
+  moment = 0;
+  closed = false;
+}
 
 -- whether a session is open after a note with this fact
 abbrev pub up_after : LinkFact → Bool → Bool
@@ -68,12 +78,25 @@ abbrev pub raised_after : LinkFact → ℕ → ℕ → Standing → ℕ
 raised_after fact.Opened acked moment s = moment
 raised_after _ acked moment s = if nat_lt s.known.desk.acked acked then moment else s.raised_at
 
+-- where a call leads, by its answer
 abbrev pub after_call : Ask → ℕ → Answer → Standing → Standing
-after_call ask moment x s = record s { known = after (verdict ask s.files s.known) s.known x; files = files_after (verdict ask s.files s.known) x s.files; moment = moment }
+after_call ask moment x s = record s {
+  known = after (verdict ask s.files s.known) s.known x;
+  files = files_after (verdict ask s.files s.known) x s.files;
+  moment = moment;
+}
 
+-- where a note leads
 abbrev pub after_note : Note → Standing → Standing
-after_note note s = record s { known = known_after_note note s.known; up = up_after note.fact s.up; ready = ready_after note.fact s.ready; raised_at = raised_after note.fact note.acked note.moment s; moment = note.moment }
+after_note note s = record s {
+  known = known_after_note note s.known;
+  up = up_after note.fact s.up;
+  ready = ready_after note.fact s.ready;
+  raised_at = raised_after note.fact note.acked note.moment s;
+  moment = note.moment;
+}
 
+-- where an entry leads
 abbrev pub after_entry : Entry → Standing → Standing
 after_entry (entry.Call worker ask moment x) s = after_call ask moment x s
 after_entry (entry.Note note) s = after_note note s

@@ -29,12 +29,13 @@ calls_of note =
     run.Note note.acked (first_fact note.fact) note.moment ∷ (map (λ issued. Pull note.moment) note.issued.items ++ last_call note.fact note.acked note.moment)
 
 -- what is known after one of these calls: if a print has ended, its record says so
-abbrev pub called : DeskCall → Known → Known
-called call k = record k { desk = desk_after call k.desk; prints = with_due_end (ended_by call k.desk) k.prints }
+abbrev pub known_after_call : DeskCall → Known → Known
+known_after_call call k = record k { desk = desk_after call k.desk; prints = with_due_end (ended_by call k.desk) k.prints }
 
-abbrev pub called_all : List DeskCall → Known → Known
-called_all [] k = k
-called_all (call ∷ calls) k = called_all calls (called call k)
+-- what is known after these calls, in order
+abbrev pub known_after_calls : List DeskCall → Known → Known
+known_after_calls [] k = k
+known_after_calls (call ∷ calls) k = known_after_calls calls (known_after_call call k)
 
 -- whether the temperatures are forgotten: the session began or is over
 abbrev pub forgets : LinkFact → Bool
@@ -46,6 +47,7 @@ forgets fact.NoPort = true
 forgets fact.Failed = true
 forgets (fact.Ended end) = true
 
+-- no heater has a temperature
 abbrev pub no_temps : Temps
 no_temps = record { tool = None; bed = None }
 
@@ -54,10 +56,11 @@ abbrev pub with_temps : Option Temps → Temps → Temps
 with_temps None kept = kept
 with_temps (Some told) kept = record { tool = option_or told.tool kept.tool; bed = option_or told.bed kept.bed }
 
+-- the kept temperatures, unless they are forgotten
 abbrev pub kept_unless : Bool → Temps → Temps
 kept_unless true kept = no_temps
 kept_unless false kept = kept
 
 -- what is known after a note
 abbrev pub known_after_note : Note → Known → Known
-known_after_note note k = record (called_all (calls_of note) k) { temps = kept_unless (forgets note.fact) (with_temps note.temps k.temps) }
+known_after_note note k = record (known_after_calls (calls_of note) k) { temps = kept_unless (forgets note.fact) (with_temps note.temps k.temps) }

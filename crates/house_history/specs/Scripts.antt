@@ -31,11 +31,13 @@ run_in history s = run_of (calls_of_all history s) (new_run s.known.desk)
 -- the issued lines of each print begin a course, and are a whole one if it is done or was cancelled; no file command is
 -- issued but in the state Printing
 pub record KeepsScripts (scripts : ScriptTexts) (history : History) (s : Standing) : Type 0 where
-  pub stories : (print : ℕ) → 0 < print → Story scripts print (of_print print (run_in history s).begun) (trace print history) (of_print print (run_in history s).ends)
+  pub stories : (print : ℕ) → 0 < print
+      → Story scripts print (of_print print (run_in history s).begun) (trace print history) (of_print print (run_in history s).ends)
   pub only_printing : All (λ (one : Pulled). IsPulledWell one.line.tag one.state) (run_in history s).pulled
 
 -- the law: so does every legal history of a host that begins with a new desk
 abbrev pub EveryHistoryKeepsScripts : Type 0
 EveryHistoryKeepsScripts =
-    (scripts : ScriptTexts) (limits : Limits) (poll_ms : ℕ) (history : History) (s : Standing) → s.known.desk ≡ new_desk scripts limits poll_ms → Legal history s
+    (scripts : ScriptTexts) (limits : Limits) (poll_ms : ℕ) (history : History) (s : Standing)
+    → s.known.desk ≡ new_desk scripts limits poll_ms → Legal history s
     → KeepsScripts scripts history s

@@ -16,7 +16,7 @@ use Rattle.print_queue.specs.Rows.{insert_row, without_copy}
 use Rattle.print_queue.specs.declared.entry.QueueEntry.{QueueEntry}
 use Rattle.print_queue.specs.declared.refusal.Put.{Put}
 use Rattle.print_queue.specs.declared.refusal.QueueRefusal.{QueueRefusal}
-use Rattle.desk_steps.specs.Data.{File}
+use Rattle.desk_steps.specs.Data.{File, named_file}
 use Rattle.desk_steps.specs.Run.{DeskCall, Connect, Disconnect, Select, Pause, Resume, Toggle, Cancel, Manually}
 use Rattle.desk_steps.specs.declared.state.Refusal.{Refusal}
 use Rattle.octo_asks.specs.Shown.{shown_entry}
@@ -25,12 +25,12 @@ use Rattle.octo_asks.specs.declared.answer.Answer.TheVariants as answer
 use Rattle.octo_asks.specs.declared.request.Request.{Request}
 use Rattle.octo_asks.specs.declared.request.Request.TheVariants as request
 use Rattle.house_verdicts.specs.Known.{Known}
-use Rattle.house_verdicts.specs.Refusals.{refused, user_refused, queue_refused, refused_if, granted, granted_user, granted_heat, found_or, read_as}
-use Rattle.house_verdicts.specs.Prints.{port_for, commands_in, first_hot_text, manual_verdict, restarted}
+use Rattle.house_verdicts.specs.Refusals.{answer_of_refusal, answer_of_user_refusal, answer_of_queue_refusal, refused_if, if_desk_allows, if_users_allow, unless_too_hot, found_or, read_as}
+use Rattle.house_verdicts.specs.Prints.{port_for, commands_in, first_hot_text, manual_verdict, restart_deed}
 use Rattle.house_verdicts.specs.Rows.{with_queue, put_by}
-use Rattle.house_verdicts.specs.Uploads.{named_file, read_file, print_verdict, select_by, stored, after_storing, is_selected, is_printed, store_verdict, take_verdict}
+use Rattle.house_verdicts.specs.Uploads.{read_file, print_verdict, select_by, store_deed, after_storing, is_selected, is_printed, store_verdict, take_verdict}
 use Rattle.house_verdicts.specs.Verdict.{Verdict, Deed, at_desk, gives, makes, writes, reads, removes, stores, begins, is_fault, is_stored, known_after, known_in, after}
-use Rattle.house_verdicts.specs.Answers.{request_verdict, allowed, permitted, lacking, verdict_by}
+use Rattle.house_verdicts.specs.Answers.{request_verdict, unless_lacking, verdict_of_caller, lacking, verdict_by}
 use Rattle.house_laws.specs.Limits.{IsCool}
 use Rattle.house_laws.proofs.Texts.{texts_cool}
 use Rattle.house_laws.proofs.Desk.{Cool}
@@ -74,15 +74,15 @@ module _ (limits : Limits) where
   by-test true a v p = gives-cool a
   by-test false a v p = p
 
-  by-desk : {A : Type 0} (r : Result A Refusal) (v : Verdict) → CoolVerdict v → CoolVerdict (granted r v)
+  by-desk : {A : Type 0} (r : Result A Refusal) (v : Verdict) → CoolVerdict v → CoolVerdict (if_desk_allows r v)
   by-desk (Ok a) v p = p
-  by-desk (Err r) v p = gives-cool (refused r)
+  by-desk (Err r) v p = gives-cool (answer_of_refusal r)
 
-  by-users : (o : Option UserRefusal) (v : Verdict) → CoolVerdict v → CoolVerdict (granted_user o v)
+  by-users : (o : Option UserRefusal) (v : Verdict) → CoolVerdict v → CoolVerdict (if_users_allow o v)
   by-users None v p = p
-  by-users (Some r) v p = gives-cool (user_refused r)
+  by-users (Some r) v p = gives-cool (answer_of_user_refusal r)
 
-  by-heat : (o : Option TooHot) (v : Verdict) → (o ≡ None → CoolVerdict v) → CoolVerdict (granted_heat o v)
+  by-heat : (o : Option TooHot) (v : Verdict) → (o ≡ None → CoolVerdict v) → CoolVerdict (unless_too_hot o v)
   by-heat None v p = p refl
   by-heat (Some hot) v p = gives-cool (answer.TooHot hot.asked hot.limit)
 
@@ -100,7 +100,7 @@ module _ (limits : Limits) where
 
   by-put : (r : Result Put QueueRefusal) (k : Known) → CoolVerdict (put_by r k)
   by-put (Ok put) k = by-fresh put.fresh (answer.OneEntry (shown_entry put.entry)) (with_queue (insert_row put.entry k.queue) k) tt
-  by-put (Err r) k = gives-cool (queue_refused r)
+  by-put (Err r) k = gives-cool (answer_of_queue_refusal r)
 
   by-file : (name : List ℕ) (files : List ShelfFile) (next : File → Verdict) → ((file : File) → CoolVerdict (next file))
       → CoolVerdict (read_file name files next)
@@ -122,7 +122,7 @@ module _ (limits : Limits) where
       (tt, tt)))
   by-select true user name files k = by-test _ _ _ (by-file name files _ (λ file. by-print answer.Accepted user k.queue k file))
 
-  stored_cool : (select : Bool) (file : File) (k : Known) → CoolDeed (stored select file k)
+  stored_cool : (select : Bool) (file : File) (k : Known) → CoolDeed (store_deed select file k)
   stored_cool false file k = (tt, tt)
   stored_cool true file k = (tt, (tt, tt))
 
@@ -138,9 +138,9 @@ module _ (limits : Limits) where
   module _ (user : UserRow) (files : List ShelfFile) (k : Known) (is : k.desk.limits ≡ limits) where
     by-store : (bytes : List ℕ) (select print : Bool) (file : File) → CoolVerdict (store_verdict user bytes select print k file)
     by-store bytes select print file =
-        by-desk _ _ (by-test _ _ _ (stores-cool file.name bytes (stored (is_selected user select print k) file k) _ (stored_cool
+        by-desk _ _ (by-test _ _ _ (stores-cool file.name bytes (store_deed (is_selected user select print k) file k) _ (stored_cool
         (is_selected user select print k) file k)
-        (by-storing (is_selected user select print k) (is_printed user print file k) user.name file (known_after (stored
+        (by-storing (is_selected user select print k) (is_printed user print file k) user.name file (known_after (store_deed
         (is_selected user select print k) file k) k))))
 
     by-take : (entry : QueueEntry) → CoolVerdict (take_verdict files k entry)
@@ -160,7 +160,7 @@ module _ (limits : Limits) where
     cool_request request.GetJob = gives-cool _
     cool_request request.Start = by-desk _ _ (by-test _ _ _ (writes-cool answer.Accepted _ (tt, tt)))
     cool_request request.Cancel = by-desk _ _ (by-call Cancel k tt)
-    cool_request request.Restart = by-desk _ _ (by-test _ _ _ (writes-cool answer.Accepted (restarted user.name k) (tt, tt)))
+    cool_request request.Restart = by-desk _ _ (by-test _ _ _ (writes-cool answer.Accepted (restart_deed user.name k) (tt, tt)))
     cool_request request.Pause = by-desk _ _ (by-call Pause k tt)
     cool_request request.Resume = by-desk _ _ (by-call Resume k tt)
     cool_request request.Toggle = by-desk _ _ (by-call Toggle k tt)
@@ -182,12 +182,12 @@ module _ (limits : Limits) where
     cool_request request.Shutdown = by-test _ _ _ (gives-cool _)
     cool_request request.Leave = gives-cool _
 
-  by-allowed : (o : Option Permission) (v : Verdict) → CoolVerdict v → CoolVerdict (allowed o v)
+  by-allowed : (o : Option Permission) (v : Verdict) → CoolVerdict v → CoolVerdict (unless_lacking o v)
   by-allowed None v p = p
   by-allowed (Some permission) v p = gives-cool _
 
   by-permitted : (o : Option UserRow) (ps : List Permission) (k : Known) (next : UserRow → Verdict) → ((user : UserRow) → CoolVerdict (next user))
-      → CoolVerdict (permitted o ps k next)
+      → CoolVerdict (verdict_of_caller o ps k next)
   by-permitted None ps k next p = gives-cool _
   by-permitted (Some user) ps k next p = by-allowed (lacking k user ps) (next user) (p user)
 

@@ -6,7 +6,7 @@ use Rattle.temp_rules.specs.declared.job.HotLine.{HotLine}
 use Rattle.temp_rules.specs.declared.limits.Limits.{Limits}
 use Rattle.desk_steps.specs.Data.{Data, File, Line, texts_at, tagged, script_lines, with_script, commands_of}
 use Rattle.desk_steps.specs.Endings.{has_print}
-use Rattle.desk_steps.specs.Note.{Noted, is_over, end_at, ended, opened, ready_at, leave, fail, note_fact, note_step}
+use Rattle.desk_steps.specs.Note.{Noted, is_over, end_at, after_ending, after_open, ready_at, leave, fail, note_fact, note_step}
 use Rattle.desk_steps.specs.Pull.{is_issued, settle_at, settled}
 use Rattle.desk_steps.specs.Table.{connect_at, disconnect_at, closing, select_at, is_named, drop_file_step, printing, start_checked, start_file, start_at, restart_at, pause_at, resume_at, toggle_at, cancelling, cancel_at, add_manual, manual_at}
 use Rattle.desk_steps.specs.declared.link_fact.LinkFact.{LinkFact}
@@ -21,6 +21,7 @@ use Rattle.print_records.specs.declared.ending.Outcome.{Outcome}
 use Rattle.print_records.specs.declared.ending.Outcome.TheVariants as outcome
 use Rattle.house_laws.specs.Limits.{IsCool}
 use Rattle.house_laws.proofs.Texts.{each_append, commands_cool}
+use Rattle.std.proofs.lemmas.Bool.{cond_both}
 
 -- the scripts, the lines that wait and, while there is a print, its file's commands are cool
 pub record Cool (limits : Limits) (d : Data) : Type 0 where
@@ -117,10 +118,6 @@ module _ (limits : Limits) where
   choose_cool true x y hx hy = hx
   choose_cool false x y hx hy = hy
 
-  either_cool : (b : Bool) (x y : Data) → Cool limits x → Cool limits y → Cool limits (cond b x y)
-  either_cool true x y hx hy = hx
-  either_cool false x y hx hy = hy
-
   pub cool_drop : (name : List ℕ) (d : Data) → Cool limits d → Cool limits (drop_file_step name d).1
   cool_drop name d h =
       choose_cool (is_named name d.file) _ _ (choose_cool d.active _ _ h
@@ -207,8 +204,8 @@ module _ (limits : Limits) where
 
   cool_finishing : (s : State) (d : Data) → d.state ≡ s → Cool limits d → Cool limits (settle_at s d)
   cool_finishing Printing d is h =
-      either_cool (is_issued d) _ d (joins_cool point.Done d.greatest (record d { state = Finishing }) (in_state Finishing d h (λ has.
-      (printed Printing d is refl h)))) h
+      cond_both (is_issued d) _ d (Cool limits) (λ _. joins_cool point.Done d.greatest (record d { state = Finishing }) (in_state Finishing d h (λ has.
+      (printed Printing d is refl h)))) (λ _. h)
   cool_finishing _ d is h = h
 
   pub cool_settled : (d : Data) → Cool limits d → Cool limits (settled d)
@@ -224,7 +221,7 @@ module _ (limits : Limits) where
   cool_end Finishing d is h = choose_cool (is_over d) _ _ (cool_free d h) h
   cool_end _ d is h = h
 
-  cool_ended : (d : Data) → Cool limits d → Cool limits (ended d).1
+  cool_ended : (d : Data) → Cool limits d → Cool limits (after_ending d).1
   cool_ended d h = cool_end d.state d refl h
 
   cool_leave : (s : State) (how : Outcome) (d : Data) → has_print s ≡ false → Cool limits d → Cool limits (leave s how d).1
@@ -264,14 +261,14 @@ module _ (limits : Limits) where
 
   cool_fact : (f : LinkFact) (moment : ℕ) (d : Data) → Cool limits d → Cool limits (note_fact f moment d).1
   cool_fact fact.Quiet moment d h = cool_ended d h
-  cool_fact fact.Opened moment d h = cool_ended (opened d) (alike_cool d (opened d) (refl, refl, refl, refl, refl, refl) h)
+  cool_fact fact.Opened moment d h = cool_ended (after_open d) (alike_cool d (after_open d) (refl, refl, refl, refl, refl, refl) h)
   cool_fact fact.Ready moment d h =
       let heard : Data = record d { ready = true } in
       cool_ended (ready_at heard.state moment heard) (cool_ready heard.state moment heard (alike_cool d heard (refl, refl, refl, refl, refl, refl) h))
   cool_fact fact.Closed moment d h = cool_leave Offline outcome.Cancelled d refl h
   cool_fact fact.NoPort moment d h = cool_leave Fault outcome.Failed d refl h
-  cool_fact fact.Failed moment d h = cool_fail (ended d) (cool_ended d h)
-  cool_fact (fact.Ended end) moment d h = cool_fail (ended d) (cool_ended d h)
+  cool_fact fact.Failed moment d h = cool_fail (after_ending d) (cool_ended d h)
+  cool_fact (fact.Ended end) moment d h = cool_fail (after_ending d) (cool_ended d h)
 
   pub cool_note : (acked : ℕ) (f : LinkFact) (moment : ℕ) (d : Data) → Cool limits d → Cool limits (note_step acked f moment d).1
   cool_note acked f moment d h =

@@ -7,6 +7,7 @@ use Rattle.octo_keeper.specs.Tables.{AreNumbered}
 use Rattle.print_records.specs.declared.row.PrintRow.{PrintRow}
 use Rattle.house_history.specs.Begins.{row_read}
 use Rattle.house_history.specs.Legal.{Standing, beginning}
+use Rattle.octo_keeper.proofs.Numbered.{within_count}
 use Rattle.house_history.proofs.Histories.{keeps_scripts, keeps_outcomes}
 use Rattle.house_laws.specs.Hosts.{EveryHostKeepsTheLaws}
 use Rattle.house_laws.proofs.Calls.{every_call, every_put}
@@ -17,11 +18,7 @@ each_map : {X Y : Type 0} (P : Y → Type 0) (f : X → Y) (xs : List X) → All
 each_map P f [] h = tt
 each_map P f (x ∷ xs) h = (h.0, each_map P f xs h.1)
 
--- no number is above the count
-within_count : (rows : List PrintRow) → AreNumbered rows → All (λ (row : PrintRow). row.number ≤ length rows) rows
-within_count rows numbered = λ k d lt. (let is : (slice_index_or rows k d).number ≡ k + 1 = numbered k d lt in omega arith)
-
--- nor among the records as a new host reads them
+-- no number is above the count among the records as a new host reads them
 read_within : (rows : List PrintRow) → AreNumbered rows → All (λ (row : PrintRow). row.number ≤ length (map row_read rows)) (map row_read rows)
 read_within rows numbered =
     subst (λ n. All (λ (row : PrintRow). row.number ≤ n) (map row_read rows)) (sym (length-map rows row_read))

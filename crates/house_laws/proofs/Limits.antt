@@ -17,7 +17,7 @@ use Rattle.house_verdicts.specs.Answers.{verdict}
 use Rattle.house_verdicts.specs.Known.{Known}
 use Rattle.house_history.specs.Issued.{lines_at, issued_in}
 use Rattle.house_history.specs.Legal.{Standing, after_entry, IsLegal, Legal}
-use Rattle.house_history.specs.Noted.{calls_of, called, called_all, last_call}
+use Rattle.house_history.specs.Noted.{calls_of, known_after_call, known_after_calls, last_call}
 use Rattle.house_laws.specs.Limits.{IsCool, AreCoolScripts, EveryLineIsCool, EveryLineOfSettingsIsCool}
 use Rattle.house_laws.proofs.Asked.{cool_answer, asks_cool}
 use Rattle.house_laws.proofs.Desk.{Cool}
@@ -26,9 +26,9 @@ use Rattle.house_laws.proofs.Texts.{each_append}
 
 module _ (limits : Limits) where
   cool_called : (calls : List DeskCall) (k : Known) → AllByRecursion (IsCoolCall limits) calls → Cool limits k.desk
-      → Cool limits (called_all calls k).desk
+      → Cool limits (known_after_calls calls k).desk
   cool_called [] k c h = h
-  cool_called (call ∷ calls) k c h = cool_called calls (called call k) c.1 (cool_after limits call k.desk c.0 h)
+  cool_called (call ∷ calls) k c h = cool_called calls (known_after_call call k) c.1 (cool_after limits call k.desk c.0 h)
 
   -- a note brings no texts to the desk
   pulls_only : (moment : ℕ) (issued : List Issued) (last : List DeskCall) → AllByRecursion (IsCoolCall limits) last

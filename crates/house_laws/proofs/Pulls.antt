@@ -4,7 +4,7 @@ use Rattle.std.specs.List.{AllByRecursion}
 use Rattle.temp_rules.specs.declared.limits.Limits.{Limits}
 use Rattle.desk_steps.specs.Data.{Data, Line, commands_of, moment_after}
 use Rattle.desk_steps.specs.Endings.{has_print}
-use Rattle.desk_steps.specs.Pull.{Drawn, nothing, keep_number, next_number, issue, from_scripts, from_manual, poll_is_due, from_poll, from_file, talk, draw_at}
+use Rattle.desk_steps.specs.Pull.{Drawn, nothing, keep_number, next_number, issue, from_scripts, from_manual, poll_is_due, from_poll, from_file, draw_in_order, draw_at}
 use Rattle.desk_steps.specs.Run.{DeskCall, Connect, Disconnect, Select, DropFile, Start, Restart, Pause, Resume, Toggle, Cancel, Manually, Pull, Note}
 use Rattle.desk_steps.specs.declared.state.State.{State}
 use Rattle.desk_steps.specs.declared.state.State.TheVariants.{Operational, Printing, Pausing, Paused, Cancelling, Finishing, Closing}
@@ -14,6 +14,7 @@ use Rattle.house_verdicts.specs.Desk.{desk_after, desk_after_all, line_pulled, w
 use Rattle.house_laws.specs.Limits.{IsCool}
 use Rattle.house_laws.proofs.Texts.{each_at, poll_cool}
 use Rattle.house_laws.proofs.Desk.{Cool, alike_cool, cool_connect, cool_disconnect, cool_select, cool_drop, cool_start, cool_restart, cool_pause, cool_resume, cool_toggle, cool_cancel, cool_manual, cool_settled, cool_note}
+use Rattle.std.proofs.lemmas.Bool.{cond_both}
 
 module _ (limits : Limits) where
   abbrev pub IsCoolLine : Line → Type 0
@@ -31,13 +32,9 @@ module _ (limits : Limits) where
   choose_drawn true x y hx hy = hx
   choose_drawn false x y hx hy = hy
 
-  either_desk : (b : Bool) (x y : Data) → Cool limits x → Cool limits y → Cool limits (cond b x y)
-  either_desk true x y hx hy = hx
-  either_desk false x y hx hy = hy
-
   cool_keep : (tag : Tag) (number : ℕ) (d : Data) → Cool limits d → Cool limits (keep_number tag number d)
   cool_keep (Script point print) number d h =
-      either_desk (nat_eq print 0) d (record d { print_line = number }) h (alike_cool limits d (record d { print_line = number })
+      cond_both (nat_eq print 0) d (record d { print_line = number }) (Cool limits) (λ _. h) (λ _. alike_cool limits d (record d { print_line = number })
       (refl, refl, refl, refl, refl, refl) h)
   cool_keep (Job print index) number d h = alike_cool limits d (record d { print_line = number }) (refl, refl, refl, refl, refl, refl) h
   cool_keep Manual number d h = h
@@ -88,7 +85,7 @@ module _ (limits : Limits) where
       issues (record { text = text; tag = Job d.greatest d.cursor }) moved (each_at (IsCool limits) (commands_of d.file) d.cursor text f is)
       (alike_cool limits d moved (refl, refl, refl, refl, refl, refl) h)
 
-  draws_talk : (moment : ℕ) (d : Data) (next : Drawn) → Cool limits d → DrawsCool next → DrawsCool (talk moment d next)
+  draws_talk : (moment : ℕ) (d : Data) (next : Drawn) → Cool limits d → DrawsCool next → DrawsCool (draw_in_order moment d next)
   draws_talk moment d next h n = draws_script d.waiting d _ h.waiting h (draws_manual d.manual d _ h.manual h (draws_poll moment d next h n))
 
   draws : (s : State) (moment : ℕ) (d : Data) → d.state ≡ s → Cool limits d → DrawsCool (draw_at s moment d)

@@ -13,6 +13,7 @@ use Rattle.temp_rules.specs.declared.limits.Limits.{Limits}
 use Rattle.temp_rules.specs.declared.limits.TooHot.{TooHot}
 use Rattle.house_verdicts.specs.Prints.{first_hot_text}
 use Rattle.house_laws.specs.Limits.{IsCool}
+use Rattle.byte_text.proofs.OptionLaws.{first-none, second-none}
 
 module _ {X : Type 0} (P : X → Type 0) where
   pub each_append : (xs ys : List X) → AllByRecursion P xs → AllByRecursion P ys → AllByRecursion P (xs ++ ys)
@@ -24,19 +25,10 @@ module _ {X : Type 0} (P : X → Type 0) where
   each_at (y ∷ xs) zero x h e = let same : y ≡ x = cc e in subst P same h.0
   each_at (y ∷ xs) (suc i) x h e = each_at xs i x h.1 e
 
--- of two options neither of which has one
-no_first : {A : Type 0} (first second : Option A) → option_or first second ≡ None → first ≡ None
-no_first None second h = refl
-no_first (Some a) second h = absurd (cc h)
-
-no_second : {A : Type 0} (first second : Option A) → option_or first second ≡ None → second ≡ None
-no_second None second h = h
-no_second (Some a) second h = absurd (cc h)
-
 module _ (limits : Limits) where
   -- the desk's own question
   pub poll_cool : IsCool limits (codes "M105")
-  unfolding hot_of asked_of asking_of value_at values.number_at values.magnitude_at numbers.leading_digits values.decimals_at values.behind_digits values.micro_of numbers.decimal_value values.millionths
+  unfolding hot_of asked_of asking_of value_at values.number_at values.magnitude_at numbers.leading_digits values.decimals_at values.after_digits values.micro_of numbers.decimal_value values.millionths
   poll_cool = refl
 
   not_hot : (line : ℕ) (hot : Option TooHot) → option_map (λ (h : TooHot). let made : HotLine = record {
@@ -52,14 +44,14 @@ module _ (limits : Limits) where
       → AllByRecursion (IsCool limits) (map (λ (c : Command). c.text) commands)
   commands_cool [] h = tt
   commands_cool (c ∷ commands) h = (
-    not_hot c.line (hot_of limits c.text) (no_first (hot_line limits c) (first_hot_of limits commands) h),
-    commands_cool commands (no_second (hot_line limits c) (first_hot_of limits commands) h),
+    not_hot c.line (hot_of limits c.text) (first-none (hot_line limits c) (first_hot_of limits commands) h),
+    commands_cool commands (second-none (hot_line limits c) (first_hot_of limits commands) h),
   )
 
   -- the texts of which none is hot
   pub texts_cool : (texts : List (List ℕ)) → first_hot_text limits texts ≡ None → AllByRecursion (IsCool limits) texts
   texts_cool [] h = tt
   texts_cool (text ∷ texts) h = (
-    no_first (hot_of limits text) (first_hot_text limits texts) h,
-    texts_cool texts (no_second (hot_of limits text) (first_hot_text limits texts) h),
+    first-none (hot_of limits text) (first_hot_text limits texts) h,
+    texts_cool texts (second-none (hot_of limits text) (first_hot_text limits texts) h),
   )

@@ -37,11 +37,13 @@ abbrev pub IsMadeOnce : Ask → Answer → Standing → Type 0
 IsMadeOnce ask x s =
     (user : UserRow) (kept : QueueEntry) → Repeats ask user kept s.known → IsRepeated (verdict ask s.files s.known) kept s.known x
 
+-- if an entry is a call, that is so of its ask
 abbrev pub IsEntryOnce : Entry → Standing → Type 0
 IsEntryOnce (entry.Call worker ask moment x) s = IsMadeOnce ask x s
 IsEntryOnce (entry.Note note) s = Unit {0}
 IsEntryOnce entry.Close s = Unit {0}
 
+-- that is so of each call of a history, by what is known before it
 abbrev pub AreMadeOnce : History → Standing → Type 0
 AreMadeOnce [] s = Unit {0}
 AreMadeOnce (e ∷ es) s = IsEntryOnce e s × AreMadeOnce es (after_entry e s)

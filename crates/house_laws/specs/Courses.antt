@@ -31,6 +31,7 @@ pub record FollowsCourses (scripts : ScriptTexts) (history : History) (s : Stand
   pub cancelled : (print : ℕ) → 0 < print → of_print print (run_in history s).ends ≡ Stopped ∷ []
       → HasWholeCourse Cancelled scripts history s print
 
+-- the law of courses, for a host that begins with a new desk
 abbrev pub EveryPrintFollowsACourse : Type 0
 EveryPrintFollowsACourse =
     (scripts : ScriptTexts) (limits : Limits) (poll_ms : ℕ) (history : History) (s : Standing)

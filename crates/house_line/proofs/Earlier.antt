@@ -7,15 +7,11 @@ use Rattle.printer_model.specs.World.{is_free, is_send}
 use Rattle.link_history.specs.Executed.{opens, till}
 use Rattle.printer_model.specs.declared.event.WorldEvent.{WorldEvent}
 use Rattle.printer_model.specs.declared.event.WorldEvent.TheVariants.{Opened, Send, Arrive, Lose, Garble, Run, Restart, Chatter, Recv, Closed}
-use Rattle.printer_model.proofs.Laws.{both_left, both_right}
-use Rattle.link_history.proofs.Sessions.{executed-append, till-append, till-all}
+use Rattle.link_history.proofs.Sessions.{executed-append, till-append, till-all, pred_below}
 use Rattle.printer_link.specs.Link.{LinkKind}
 use Rattle.lossy_line.specs.Tied.{IsTied}
 use Rattle.lossy_line.proofs.Former.{tied_as}
-
-pred_below : (s n : ℕ) → s < n → pred s < n
-pred_below zero n below = below
-pred_below (suc s) n below = omega arith
+use Rattle.std.proofs.lemmas.Bool.{and_parts}
 
 -- a session before the last one stays tied, whatever comes
 pub tied_before : (kind : LinkKind) (issued : List (List ℕ)) (acked : ℕ) (past added : List WorldEvent) (s : ℕ) → s < opens past →
@@ -39,23 +35,15 @@ till-none (Recv ∷ first) more none = ap (λ (es : List WorldEvent). Recv ∷ e
 till-none (Closed ∷ first) more none = ap (λ (es : List WorldEvent). Closed ∷ es) (till-none first more none)
 
 free_sends_none : (event : WorldEvent) → is_free event ≡ true → is_send event ≡ false
-free_sends_none (Opened last) free = refl
 free_sends_none (Send line) free = absurd (cc)
-free_sends_none Arrive free = refl
-free_sends_none (Lose at) free = refl
-free_sends_none (Garble at line) free = refl
-free_sends_none Run free = refl
-free_sends_none Restart free = refl
-free_sends_none (Chatter reply) free = refl
-free_sends_none Recv free = refl
-free_sends_none Closed free = refl
+free_sends_none _ free = refl
 
 -- what the line and the printer do by themselves is no sending
 pub unsent_free : (events : List WorldEvent) → list_all is_free events ≡ true → list_any is_send events ≡ false
 unsent_free [] free = refl
 unsent_free (event ∷ events) free =
-    ap (λ (b : Bool). b || list_any is_send events) (free_sends_none event (both_left (is_free event) (list_all is_free events) free))
-    ∙ unsent_free events (both_right (is_free event) (list_all is_free events) free)
+    ap (λ (b : Bool). b || list_any is_send events) (free_sends_none event (and_parts (is_free event) (list_all is_free events) free).0)
+    ∙ unsent_free events (and_parts (is_free event) (list_all is_free events) free).1
 
 -- nothing is sent before the next session in two parts
 pub unsent_more : (since added : List WorldEvent) → list_any is_send (till 0 since) ≡ false →

@@ -15,12 +15,13 @@ use Rattle.octo_asks.specs.declared.entry.Entry.TheVariants as entry
 use Rattle.lossy_line.specs.Tied.{IsTied}
 use Rattle.lossy_line.proofs.Tying.{opened_tied}
 use Rattle.house_line.specs.Sessions.{sessions, texts_of, most_in, acked_in}
+use Rattle.house_line.specs.Timeline.{Timeline, events_of}
 use Rattle.house_line.specs.Tied.{Tied, WasTied, AreTied}
 use Rattle.house_line.specs.InStep.{AreCalls, IsUnmade, IsCurrent, AreInStep}
 use Rattle.house_line.proofs.Earlier.{tied_before}
-use Rattle.house_line.proofs.Grown.{below_or, few_other, few_none, sessions-other, texts-last, acked-last, open-after, split}
+use Rattle.house_line.proofs.Grown.{below_or, few_other, few_none, sessions-other, texts-last, acked-last, open-after}
 use Rattle.house_line.proofs.Longer.{hung_tied}
-use Rattle.house_line.proofs.Standing.{longer_throughout, entry_throughout, earlier_tied, same_current, current_open, still_step}
+use Rattle.house_line.proofs.Standing.{longer_so_far, entry_tied, earlier_tied, same_current, current_open, still_step}
 
 -- a link that is hung up is down
 hung_down : (kind : LinkKind) (past added : List WorldEvent) → IsHangUp true (world_in kind past) added → (world_in kind (past ++ added)).linked ≡ false
@@ -42,7 +43,7 @@ module _ (kind : LinkKind) (front : List WorldEvent) where
     few = i.few;
     current = same_current kind (sessions h) (texts_of (sessions h) h) (acked_in (sessions h) h) past x y sender up i.current;
     open_as = i.open_as ∙ sym up;
-    throughout = i.throughout;
+    so_far = i.so_far;
   }
 
   -- calls leave the sender and the link
@@ -64,23 +65,30 @@ module _ (kind : LinkKind) (front : List WorldEvent) where
     few = λ s most. few_none s;
     current = u;
     open_as = sym u.down;
-    throughout = λ first later split. by first later split;
+    so_far = record {
+      timeline = [];
+      rest = [];
+      history_is = refl;
+      past_is = sym is ∙ sym (append-nil front) ∙ sym (append-nil (front ++ []));
+      throughout = λ first later split. by first later split;
+    };
   }
     where
-      by : (first later : History) → [] ≡ first ++ later → WasTied kind front first past
-      by [] later split = record {
-        so_far = past;
-        since = [];
-        is = sym (append-nil past);
-        tied = record {
-          counted = omega (arith, ap opens is);
-          each = λ s some most. absurd (omega (arith, some, most));
-          few = λ s most. few_none s;
-          open_as = λ some. absurd (omega (arith, some));
-        };
+      tied : Tied kind front [] front
+      tied = record {
+        counted = omega arith;
+        each = λ s some most. absurd (omega (arith, some, most));
+        few = λ s most. few_none s;
+        open_as = λ some. absurd (omega (arith, some));
+      }
+
+      by : (first later : Timeline) → [] ≡ first ++ later → WasTied kind front first (events_of later ++ [])
+      by [] [] split = record {
+        tied = subst (λ (es : List WorldEvent). Tied kind front [] es) (sym (append-nil front)) tied;
         caused = λ end ends. absurd (cc ends);
         unsent = λ shut. refl;
       }
+      by [] (e ∷ later) split = absurd (cc)
       by (e ∷ first) later split = absurd (cc)
 
   -- the link is hung up, and the host has ended
@@ -105,11 +113,8 @@ module _ (kind : LinkKind) (front : List WorldEvent) where
             open_as = λ some. down (omega (arith, some, n)) ∙ sym (open-after h entry.Close);
           }
           in
-          record {
-            now = tied;
-            throughout = entry_throughout kind front h entry.Close (past ++ added) tied (λ end ends. absurd (cc ends))
-                (longer_throughout kind front h past added i.counted (λ shut. quiet) i.throughout);
-          }
+          entry_tied kind front h entry.Close (past ++ added) tied (λ end ends. absurd (cc ends))
+          (longer_so_far kind front h past added i.counted (λ shut. quiet) i.so_far)
         where
           texts_now : texts_of (sessions h) (h ++ entry.Close ∷ []) ≡ texts_of (sessions h) h
           texts_now = texts-last h entry.Close refl ∙ append-nil (texts_of (sessions h) h)

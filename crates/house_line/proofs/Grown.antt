@@ -100,25 +100,6 @@ shut_after (e ∷ es) none = by (λ rest. shut_after es rest) (is_opened e) refl
         let same : sessions (e ∷ es) ≡ sessions es = rw is refl in
         ap (λ (b : Bool). open_after es b) (shut_at e is) ∙ rest (sym same ∙ none)
 
--- the place of a history's last entry if the history is taken in two
-pub data Split (h : History) (e : Entry) (first later : History) : Type 0 where
-  whole : first ≡ h ++ e ∷ [] → later ≡ [] → Split h e first later
-  within : (rest : History) → h ≡ first ++ rest → later ≡ rest ++ e ∷ [] → Split h e first later
-
-pub split : (h : History) (e : Entry) (first later : History) → h ++ e ∷ [] ≡ first ++ later → Split h e first later
-split h e [] later is = within h refl (sym is)
-split [] e (f ∷ first) later is = by first later (cc)
-  where
-    by : (first later : History) → e ∷ [] ≡ f ∷ (first ++ later) → Split [] e (f ∷ first) later
-    by [] [] is = (let same : f ≡ e = cc in whole (ap (λ (g : Entry). g ∷ []) same) refl)
-    by [] (g ∷ later) is = absurd (cc)
-    by (g ∷ first) later is = absurd (cc)
-split (f ∷ h) e (g ∷ first) later is = by (split h e first later (cc)) (cc)
-  where
-    by : Split h e first later → f ≡ g → Split (f ∷ h) e (g ∷ first) later
-    by (whole all none) same = whole (ap (λ (es : History). g ∷ es) all ∙ ap (λ (k : Entry). k ∷ (h ++ e ∷ [])) (sym same)) none
-    by (within rest front behind) same = within rest (ap (λ (es : History). f ∷ es) front ∙ ap (λ (k : Entry). k ∷ (first ++ rest)) same) behind
-
 -- how many lines each session issued at most, with an entry more
 pub few_other : (h : History) (e : Entry) → is_opened e ≡ false → ((s : ℕ) → s ≤ sessions h → length (texts_of s h) ≤ most_in s) →
     length (texts_of (sessions h) (h ++ e ∷ [])) ≤ most_in (sessions h) → (s : ℕ) → s ≤ sessions (h ++ e ∷ []) → length (texts_of s (h ++ e ∷ [])) ≤ most_in s

@@ -1,11 +1,11 @@
 -- What is sent in a session after its history had come so far.
-use Rattle.std.proofs.Common.{◌≡◌, inl, inr, ℕ, zero, suc, pred, ◌+◌, ◌<◌, ◌≤◌, List, [], ◌∷◌, ◌++◌, length, map, drop, refl, sym, ◌∙◌, ap, subst, append_assoc, append-nil, arith}
+use Rattle.std.proofs.Common.{◌≡◌, inl, inr, ℕ, pred, ◌+◌, ◌≤◌, List, [], ◌∷◌, ◌++◌, length, map, drop, refl, sym, ◌∙◌, ap, subst, append_assoc, append-nil, arith}
 use Rattle.std.proofs.lemmas.List.{drop-append-le, length-append, map-append}
 use Rattle.marlin_reply.specs.Kind.{kind_of}
 use Rattle.marlin_reply.specs.declared.reply.Reply.{Reply}
 use Rattle.printer_model.specs.World.{WorldData, apply, world_from}
 use Rattle.link_history.specs.Executed.{opens, till}
-use Rattle.link_history.specs.Exchanged.{session_of, received_by, received_from}
+use Rattle.link_history.specs.Exchanged.{events_of_session, received_by, received_from}
 use Rattle.printer_model.specs.declared.event.WorldEvent.{WorldEvent}
 use Rattle.printer_model.specs.declared.event.WorldEvent.TheVariants.{Opened, Send, Arrive, Lose, Garble, Run, Restart, Chatter, Recv, Closed}
 use Rattle.link_history.proofs.Sessions.{till-append, till-all, till-IsFront}
@@ -16,8 +16,9 @@ use Rattle.octo_asks.specs.History.{History}
 use Rattle.lossy_wires.specs.Traces.{replies_from, IsSendFit, AreSendsFit}
 use Rattle.lossy_line.specs.Tied.{world_before, IsTied}
 use Rattle.house_line.specs.Sessions.{sessions, texts_of, acked_in}
-use Rattle.house_line.specs.Tied.{Tied, WasTied, IsAbove, AreAbove}
+use Rattle.house_line.specs.Tied.{Tied, IsAbove, AreAbove}
 use Rattle.house_line.proofs.Entries.{sessions-append}
+use Rattle.lossy_line.proofs.Former.{pred_less}
 
 -- the last session of a history goes on until the next one
 till_past : (past more : List WorldEvent) → till (opens past) (past ++ more) ≡ past ++ till 0 more
@@ -33,12 +34,8 @@ till_past (Chatter reply ∷ past) more = ap (λ (es : List WorldEvent). Chatter
 till_past (Recv ∷ past) more = ap (λ (es : List WorldEvent). Recv ∷ es) (till_past past more)
 till_past (Closed ∷ past) more = ap (λ (es : List WorldEvent). Closed ∷ es) (till_past past more)
 
-pred_less : (n : ℕ) → 1 ≤ n → pred n < n
-pred_less zero some = absurd (omega arith)
-pred_less (suc n) some = omega arith
-
 -- the events of a session in two parts
-session_past : (past more : List WorldEvent) (s : ℕ) → s ≡ opens past → 1 ≤ s → session_of s (past ++ more) ≡ session_of s past ++ till 0 more
+session_past : (past more : List WorldEvent) (s : ℕ) → s ≡ opens past → 1 ≤ s → events_of_session s (past ++ more) ≡ events_of_session s past ++ till 0 more
 session_past past more s is some =
     let before : till (pred s) (past ++ more) ≡ till (pred s) past = till-append (pred s) past more (omega (arith, pred_less s some, is)) in
     let here : till s (past ++ more) ≡ past ++ till 0 more = ap (λ (n : ℕ). till n (past ++ more)) is ∙ till_past past more in
@@ -79,15 +76,7 @@ above_by issued acked (Send line) behind replies w below fits = by fits.0
     by (inl hello) = inl hello
     by (inr (inl l)) = inr (inl (record { place = l.place; text = l.text; above = omega (arith, below, l.above); its = l.its; framed = l.framed }))
     by (inr (inr failing)) = inr (inr failing.0)
-above_by issued acked (Opened last) behind replies w below fits = tt
-above_by issued acked Arrive behind replies w below fits = tt
-above_by issued acked (Lose at) behind replies w below fits = tt
-above_by issued acked (Garble at line) behind replies w below fits = tt
-above_by issued acked Run behind replies w below fits = tt
-above_by issued acked Restart behind replies w below fits = tt
-above_by issued acked (Chatter reply) behind replies w below fits = tt
-above_by issued acked Recv behind replies w below fits = tt
-above_by issued acked Closed behind replies w below fits = tt
+above_by issued acked _ behind replies w below fits = tt
 
 above_all : (issued : List (List ℕ)) (acked : ℕ) (events : List WorldEvent) (replies : List Reply) (w : WorldData) → acked ≤ acked_of replies →
     AreSendsFit issued replies w events → AreAbove issued acked events
@@ -98,29 +87,31 @@ above_all issued acked (event ∷ events) replies w below fits = (
       (omega (arith, below, acked_more replies (map kind_of (received_by w event)))) fits.1,
 )
 
--- what is sent in a session once this number of its lines was acknowledged is above those
-pub later_above : (kind : LinkKind) (front : List WorldEvent) (first later : History) (past : List WorldEvent) → 1 ≤ sessions first →
-    Tied kind front (first ++ later) past → (w : WasTied kind front first past) →
-    AreAbove (texts_of (sessions first) (first ++ later)) (acked_in (sessions first) first) (till 0 w.since)
-later_above kind front first later past some t w =
+-- what is sent in the last session of a history, after this number of its lines was acknowledged, is above those
+pub later_above : (kind : LinkKind) (front : List WorldEvent) (first later : History) (so_far since : List WorldEvent) → 1 ≤ sessions first →
+    Tied kind front (first ++ later) (so_far ++ since) → Tied kind front first so_far →
+    AreAbove (texts_of (sessions first) (first ++ later)) (acked_in (sessions first) first) (till 0 since)
+later_above kind front first later so_far since some t then_tied =
     let n : ℕ = sessions first in
     let s : ℕ = opens front + n in
     let issued : List (List ℕ) = texts_of n (first ++ later) in
-    let whole : IsTied kind issued (acked_in n (first ++ later)) past s = t.each n some (omega (arith, sessions-append first later)) in
-    let part : IsTied kind (texts_of n first) (acked_in n first) w.so_far s = w.tied.each n some (omega arith) in
-    let is : s ≡ opens w.so_far = sym w.tied.counted in
-    let here : IsTied kind issued (acked_in n (first ++ later)) (w.so_far ++ w.since) s =
-    subst (λ (es : List WorldEvent). IsTied kind issued (acked_in n (first ++ later)) es s) w.is whole
+    let here : IsTied kind issued (acked_in n (first ++ later)) (so_far ++ since) s = t.each n some (omega (arith, sessions-append first later)) in
+    let part : IsTied kind (texts_of n first) (acked_in n first) so_far s = then_tied.each n some (omega arith) in
+    let is : s ≡ opens so_far = sym then_tied.counted in
+    let before : till (pred s) (so_far ++ since) ≡ till (pred s) so_far =
+    till-append (pred s) so_far since (omega (arith, pred_less s (omega (arith, some)), is))
     in
-    let before : till (pred s) (w.so_far ++ w.since) ≡ till (pred s) w.so_far =
-    till-append (pred s) w.so_far w.since (omega (arith, pred_less s (omega (arith, some)), is))
-    in
-    let world : world_before kind (w.so_far ++ w.since) s ≡ world_before kind w.so_far s = ap (world_in kind) before in
-    let events : session_of s (w.so_far ++ w.since) ≡ session_of s w.so_far ++ till 0 w.since = session_past w.so_far w.since s is (omega (arith, some)) in
-    let made : WorldData = world_before kind w.so_far s in
-    let fits : AreSendsFit issued [] made (session_of s w.so_far ++ till 0 w.since) =
+    let world : world_before kind (so_far ++ since) s ≡ world_before kind so_far s = ap (world_in kind) before in
+    let events : events_of_session s (so_far ++ since) ≡ events_of_session s so_far ++ till 0 since = session_past so_far since s is (omega (arith, some)) in
+    let made : WorldData = world_before kind so_far s in
+    let fits : AreSendsFit issued [] made (events_of_session s so_far ++ till 0 since) =
     subst (λ (es : List WorldEvent). AreSendsFit issued [] made es) events
-    (subst (λ (v : WorldData). AreSendsFit issued [] v (session_of s (w.so_far ++ w.since))) world here.sends)
+    (subst (λ (v : WorldData). AreSendsFit issued [] v (events_of_session s (so_far ++ since))) world here.sends)
     in
-    above_all issued (acked_in n first) (till 0 w.since) (replies_from made (session_of s w.so_far)) (world_from made (session_of s w.so_far))
-    (omega (arith, part.acked_is)) (fits_later issued [] made (session_of s w.so_far) (till 0 w.since) fits)
+    above_all issued (acked_in n first) (till 0 since) (replies_from made (events_of_session s so_far)) (world_from made (events_of_session s so_far))
+    (omega (arith, part.acked_is)) (fits_later issued [] made (events_of_session s so_far) (till 0 since) fits)
+
+-- what is sent in a session is the hello, a line that was issued in it, or a line that failed
+pub issued_above : (kind : LinkKind) (issued : List (List ℕ)) (acked : ℕ) (past : List WorldEvent) (s : ℕ) → IsTied kind issued acked past s →
+    AreAbove issued 0 (events_of_session s past)
+issued_above kind issued acked past s t = above_all issued 0 (events_of_session s past) [] (world_before kind past s) (omega arith) t.sends

@@ -1,4 +1,5 @@
 pub mod Entries
+pub mod Timelines
 pub mod Earlier
 pub mod Longer
 pub mod Grown

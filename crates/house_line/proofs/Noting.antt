@@ -14,7 +14,7 @@ use Rattle.session_steps.specs.Found.{Got, can_find}
 use Rattle.session_steps.specs.Found as found
 use Rattle.session_steps.specs.Turn.{texts_in}
 use Rattle.session_steps.specs.declared.found.Doing.{Doing}
-use Rattle.session_steps.specs.declared.found.Doing.TheVariants.{Dialling, HangingUp, Talking, Resting}
+use Rattle.session_steps.specs.declared.found.Doing.TheVariants.{Dialling, HangingUp, UsingLink, Resting}
 use Rattle.octo_asks.specs.History.{History}
 use Rattle.octo_asks.specs.declared.entry.Entry.{Entry}
 use Rattle.octo_asks.specs.declared.entry.Entry.TheVariants as entry
@@ -23,62 +23,34 @@ use Rattle.house_history.specs.Legal.{up_after}
 use Rattle.house_history.specs.Noted.{lines_in}
 use Rattle.lossy_line.specs.Linked.{opened}
 use Rattle.lossy_line.specs.Tied.{IsTied, IsEndCaused}
-use Rattle.lossy_line.proofs.Promised.{turn_caused}
+use Rattle.lossy_line.proofs.Promised.{turn_caused, ends_talking}
 use Rattle.lossy_line.proofs.Turned.{IsTurned, talks_up}
 use Rattle.house_line.specs.Sessions.{sessions, texts_of, most_in, acked_in, is_open, end_of}
-use Rattle.house_line.specs.Tied.{TiedThroughout}
-use Rattle.house_line.specs.InStep.{IsCurrent, AreInStep}
+use Rattle.house_line.specs.InStep.{IsCurrent, TiedSoFar, AreInStep}
 use Rattle.house_line.proofs.Grown.{below_or, few_other, few_open, texts-before, acked-before, sessions-other, texts-last, acked-last, sessions-opened, texts-ended, acked-ended, texts-new, acked-new, open-after}
 use Rattle.house_line.proofs.Turns.{turn_stays, turn_opens, turn_shut}
-use Rattle.house_line.proofs.Standing.{leaves_of, longer_throughout, earlier_tied, in_step_by, current_as}
+use Rattle.house_line.proofs.Standing.{leaves_of, longer_so_far, earlier_tied, in_step_by, current_as}
 
 -- whether a session is open after a turn, as the history says it
-open_turn : (d : Doing) (f : LinkFact) (was : Bool) → can_find d f ≡ true → (d ≡ Talking → was ≡ true) → up_after f was ≡ found.up_after f was
-open_turn d fact.Quiet was can up = refl
-open_turn d fact.Opened was can up = refl
-open_turn Talking fact.Ready was can up = up refl
+open_turn : (d : Doing) (f : LinkFact) (was : Bool) → can_find d f ≡ true → (d ≡ UsingLink → was ≡ true) → up_after f was ≡ found.up_after f was
+open_turn UsingLink fact.Ready was can up = up refl
 open_turn Dialling fact.Ready was can up = absurd (cc)
 open_turn HangingUp fact.Ready was can up = absurd (cc)
 open_turn Resting fact.Ready was can up = absurd (cc)
-open_turn d fact.Closed was can up = refl
-open_turn d fact.NoPort was can up = refl
-open_turn d fact.Failed was can up = refl
-open_turn d (fact.Ended end) was can up = refl
+open_turn d _ was can up = refl
 
 is_fact : (f : LinkFact) → (is_opening f ≡ true) ⊎ (is_opening f ≡ false)
 is_fact fact.Opened = inl refl
-is_fact fact.Quiet = inr refl
-is_fact fact.Ready = inr refl
-is_fact fact.Closed = inr refl
-is_fact fact.NoPort = inr refl
-is_fact fact.Failed = inr refl
-is_fact (fact.Ended end) = inr refl
+is_fact _ = inr refl
 
 opened_fact : (f : LinkFact) → is_opening f ≡ true → f ≡ fact.Opened
 opened_fact fact.Opened is = refl
-opened_fact fact.Quiet is = absurd (cc)
-opened_fact fact.Ready is = absurd (cc)
-opened_fact fact.Closed is = absurd (cc)
-opened_fact fact.NoPort is = absurd (cc)
-opened_fact fact.Failed is = absurd (cc)
-opened_fact (fact.Ended end) is = absurd (cc)
+opened_fact _ is = absurd (cc)
 
 -- a fact that is an end
 end_is : (f : LinkFact) (end : SessionEnd) → end_of f ≡ Some end → f ≡ fact.Ended end
 end_is (fact.Ended why) end is = (let same : why ≡ end = cc in ap fact.Ended same)
-end_is fact.Quiet end is = absurd (cc is)
-end_is fact.Opened end is = absurd (cc is)
-end_is fact.Ready end is = absurd (cc is)
-end_is fact.Closed end is = absurd (cc is)
-end_is fact.NoPort end is = absurd (cc is)
-end_is fact.Failed end is = absurd (cc is)
-
--- only a turn that talks ends a session
-ends_talking : (end : SessionEnd) (d : Doing) → can_find d (fact.Ended end) ≡ true → d ≡ Talking
-ends_talking end Talking can = refl
-ends_talking end Dialling can = absurd (cc)
-ends_talking end HangingUp can = absurd (cc)
-ends_talking end Resting can = absurd (cc)
+end_is _ end is = absurd (cc is)
 
 other_fact : (f : LinkFact) → is_opening f ≡ false → f ≡ fact.Opened → ⊥
 other_fact f is same = (let no : true ≡ false = ap is_opening (sym same) ∙ is in absurd (cc))
@@ -89,8 +61,8 @@ module _ (moment : ℕ) (kind : LinkKind) (x y : SessionData) (got : Got) (f : L
   quiet_turn : is_open h ≡ false → list_any is_send (till 0 added) ≡ false
   quiet_turn shut = turn_shut moment kind x y got f texts past added (sym i.open_as ∙ shut) t
 
-  along : TiedThroughout kind front h (past ++ added)
-  along = longer_throughout kind front h past added i.counted quiet_turn i.throughout
+  along : TiedSoFar kind front h (past ++ added)
+  along = longer_so_far kind front h past added i.counted quiet_turn i.so_far
 
   -- an end has its cause
   caused_turn : (end : SessionEnd) → f ≡ fact.Ended end → IsEndCaused kind end (past ++ added)
@@ -98,7 +70,7 @@ module _ (moment : ℕ) (kind : LinkKind) (x y : SessionData) (got : Got) (f : L
     where
       by : (n : ℕ) (issued : List (List ℕ)) (acked : ℕ) → IsCurrent kind n issued acked past x → IsEndCaused kind end (past ++ added)
       by zero issued acked u =
-          let talks : doing x ≡ Talking = ends_talking end (doing x) (subst (λ (g : LinkFact). can_find (doing x) g ≡ true) is t.can) in
+          let talks : doing x ≡ UsingLink = ends_talking end (doing x) (subst (λ (g : LinkFact). can_find (doing x) g ≡ true) is t.can) in
           let no : true ≡ false = sym (talks_up x talks) ∙ u.down in
           absurd (cc no)
       by (suc n) issued acked c = turn_caused moment kind x y got f texts issued past added end is t (opened c.0)
@@ -202,7 +174,7 @@ module _ (moment : ℕ) (kind : LinkKind) (x y : SessionData) (got : Got) (f : L
             few = i.few;
             current = last (sessions h) i.current l.current;
             open_as = sym (ap (λ (g : LinkFact). up_after g (is_open h)) quiet) ∙ open_then (is_open h) i.open_as;
-            throughout = along;
+            so_far = along;
           }
         where
           last : (n : ℕ) → IsCurrent kind n (texts_of n h) (acked_in n h) past x → IsCurrent kind n (texts_of n h ++ texts) y.sender.acked (past ++ added) y →

@@ -1,6 +1,6 @@
 -- A host stays in step with its histories while both are recorded.
 use Rattle.std.proofs.Common.{◌≡◌, ℕ, false, List, [], ◌∷◌, ◌++◌, map, IfSome, Option, Some, None, refl, sym, ◌∙◌, ap, subst, append_assoc, append-nil}
-use Rattle.octo_outside.specs.Told.{Became, Adds}
+use Rattle.octo_outside.specs.Recorded.{Became, Adds}
 use Rattle.desk_steps.specs.Issued.{line_of}
 use Rattle.desk_steps.specs.declared.issued.Note.{Note}
 use Rattle.desk_steps.specs.declared.link_fact.LinkFact.{LinkFact}
@@ -14,7 +14,7 @@ use Rattle.octo_asks.specs.History.{History}
 use Rattle.octo_asks.specs.declared.entry.Entry.TheVariants as entry
 use Rattle.house_history.specs.Issued.{is_opening}
 use Rattle.house_history.specs.Legal.{up_after}
-use Rattle.lossy_line.proofs.Told.{IsKept, turned_by}
+use Rattle.lossy_line.proofs.Recorded.{IsKept, turned_by}
 use Rattle.house_line.specs.Sessions.{end_of}
 use Rattle.house_line.specs.Tied.{AreTied}
 use Rattle.house_line.specs.InStep.{AreCalls, IsUnmade, AreInStep, Grown, InStep, TiesLines}

@@ -15,12 +15,14 @@ use Rattle.octo_asks.specs.declared.entry.Entry.{Entry}
 use Rattle.house_history.specs.Issued.{is_opened, lines_at}
 use Rattle.lossy_line.specs.Tied.{IsTied, IsEndCaused}
 use Rattle.lossy_line.proofs.Tying.{opened_tied}
-use Rattle.house_line.specs.Sessions.{sessions, texts_of, most_in, acked_at, acked_in, open_at, open_after, is_open, end_at}
-use Rattle.house_line.specs.Tied.{Tied, WasTied, TiedThroughout}
-use Rattle.house_line.specs.InStep.{IsCurrent, AreInStep}
+use Rattle.house_line.specs.Sessions.{sessions, texts_of, most_in, acked_at, acked_in, open_at, open_after, is_open, end_at, end_after}
+use Rattle.house_line.specs.Timeline.{Entered, Timeline, history_of, events_of, past_after}
+use Rattle.house_line.specs.Tied.{Tied, WasTied, AreTied}
+use Rattle.house_line.specs.InStep.{IsCurrent, TiedSoFar, AreInStep}
 use Rattle.house_line.proofs.Entries.{sessions-append, open_after-append, end_after-append}
+use Rattle.house_line.proofs.Timelines.{history_of-append, events_of-append, past_after-append, past_rest, Split, whole, within, split}
 use Rattle.house_line.proofs.Earlier.{unsent_more}
-use Rattle.house_line.proofs.Grown.{below_or, few_other, texts-before, acked-before, sessions-other, texts-last, acked-last, open-after, shut_after, Split, whole, within, split}
+use Rattle.house_line.proofs.Grown.{below_or, few_other, texts-before, acked-before, sessions-other, texts-last, acked-last, open-after, shut_after}
 use Rattle.house_line.proofs.Turns.{Leaves}
 use Rattle.lossy_line.proofs.Promised.{same_opened}
 
@@ -66,43 +68,103 @@ pub tied_now : (kind : LinkKind) (front : List WorldEvent) (h : History) (past :
 tied_now kind front h past x i = tied_by kind front h past x i.counted i.former i.few i.current i.open_as
 
 -- more events, of which none is a sending if no session is open
-pub longer_throughout : (kind : LinkKind) (front : List WorldEvent) (h : History) (past added : List WorldEvent) → opens past ≡ opens front + sessions h →
-    (is_open h ≡ false → list_any is_send (till 0 added) ≡ false) → TiedThroughout kind front h past → TiedThroughout kind front h (past ++ added)
-longer_throughout kind front h past added counted quiet all first later is =
-    let w : WasTied kind front first past = all first later is in
-    record {
-      so_far = w.so_far;
-      since = w.since ++ added;
-      is = ap (λ (es : List WorldEvent). es ++ added) w.is ∙ append_assoc w.so_far w.since added;
+pub longer_so_far : (kind : LinkKind) (front : List WorldEvent) (h : History) (past added : List WorldEvent) → opens past ≡ opens front + sessions h →
+    (is_open h ≡ false → list_any is_send (till 0 added) ≡ false) → TiedSoFar kind front h past → TiedSoFar kind front h (past ++ added)
+longer_so_far kind front h past added counted quiet t = record {
+  timeline = t.timeline;
+  rest = t.rest ++ added;
+  history_is = t.history_is;
+  past_is = ap (λ (es : List WorldEvent). es ++ added) t.past_is ∙ append_assoc (past_after front t.timeline) t.rest added;
+  throughout = λ first later is. by first later is (t.throughout first later is);
+}
+  where
+    still_shut : (first later : Timeline) → t.timeline ≡ first ++ later → WasTied kind front first (events_of later ++ t.rest) →
+        is_open (history_of first) ≡ false → opens (events_of later ++ t.rest) ≡ 0 → is_open h ≡ false
+    still_shut first later is w shut none =
+        let both : h ≡ history_of first ++ history_of later = t.history_is ∙ ap history_of is ∙ history_of-append first later in
+        let all : past ≡ past_after front first ++ (events_of later ++ t.rest) =
+        t.past_is ∙ ap (λ (l : Timeline). past_after front l ++ t.rest) is ∙ past_rest front first later t.rest
+        in
+        let few : sessions (history_of later) ≡ 0 =
+        omega (
+          arith,
+          ap sessions both,
+          sessions-append (history_of first) (history_of later),
+          ap opens all,
+          opens-append (past_after front first) (events_of later ++ t.rest),
+          w.tied.counted,
+          counted,
+          none,
+        )
+        in
+        ap is_open both ∙ open_after-append (history_of first) (history_of later) false ∙ ap (λ (b : Bool). open_after (history_of later) b) shut
+        ∙ shut_after (history_of later) few
+
+    by : (first later : Timeline) → t.timeline ≡ first ++ later → WasTied kind front first (events_of later ++ t.rest) →
+        WasTied kind front first (events_of later ++ (t.rest ++ added))
+    by first later is w = record {
       tied = w.tied;
       caused = w.caused;
-      unsent = λ shut. unsent_more w.since added (w.unsent shut) (λ none. quiet (still_shut w shut none));
+      unsent = λ shut.
+          subst (λ (es : List WorldEvent). list_any is_send (till 0 es) ≡ false) (append_assoc (events_of later) t.rest added)
+          (unsent_more (events_of later ++ t.rest) added (w.unsent shut) (λ none. quiet (still_shut first later is w shut none)));
     }
-  where
-    still_shut : (w : WasTied kind front first past) → is_open first ≡ false → opens w.since ≡ 0 → is_open h ≡ false
-    still_shut w shut none =
-        let few : sessions later ≡ 0 =
-        omega (arith, ap sessions is, sessions-append first later, ap opens w.is, opens-append w.so_far w.since, w.tied.counted, counted, none)
-        in
-        ap is_open is ∙ open_after-append first later false ∙ ap (λ (b : Bool). open_after later b) shut ∙ shut_after later few
 
 -- an entry more, after which the two are tied
-pub entry_throughout : (kind : LinkKind) (front : List WorldEvent) (h : History) (e : Entry) (past : List WorldEvent) → Tied kind front (h ++ e ∷ []) past →
-    ((end : SessionEnd) → end_at e ≡ Some end → IsEndCaused kind end past) → TiedThroughout kind front h past → TiedThroughout kind front (h ++ e ∷ []) past
-entry_throughout kind front h e past tied caused all first later is = by (split h e first later is)
+pub entry_tied : (kind : LinkKind) (front : List WorldEvent) (h : History) (e : Entry) (past : List WorldEvent) → Tied kind front (h ++ e ∷ []) past →
+    ((end : SessionEnd) → end_at e ≡ Some end → IsEndCaused kind end past) → TiedSoFar kind front h past → AreTied kind front (h ++ e ∷ []) past
+entry_tied kind front h e past tied caused t = record {
+  now = tied;
+  timeline = longer;
+  history_is = entries;
+  past_is = events;
+  throughout = λ first later is. by first later (split t.timeline new first later is);
+}
   where
-    by : Split h e first later → WasTied kind front first past
-    by (whole same none) =
-        subst (λ (f : History). WasTied kind front f past) (sym same)
-        (record {
-          so_far = past;
-          since = [];
-          is = sym (append-nil past);
-          tied = tied;
-          caused = λ end ends. caused end (sym (end_after-append h e None) ∙ ends);
-          unsent = λ shut. refl;
-        })
-    by (within rest at behind) = all first rest at
+    new : Entered
+    new = record { meanwhile = t.rest; entry = e }
+
+    longer : Timeline
+    longer = t.timeline ++ new ∷ []
+
+    entries : h ++ e ∷ [] ≡ history_of longer
+    entries = ap (λ (x : History). x ++ e ∷ []) t.history_is ∙ sym (history_of-append t.timeline (new ∷ []))
+
+    events : past ≡ past_after front longer
+    events =
+        t.past_is ∙ ap (λ (es : List WorldEvent). past_after front t.timeline ++ es) (sym (append-nil t.rest))
+        ∙ sym (past_after-append front t.timeline (new ∷ []))
+
+    last : WasTied kind front longer []
+    last = record {
+      tied = subst (λ (x : History). Tied kind front x (past_after front longer)) entries
+          (subst (λ (es : List WorldEvent). Tied kind front (h ++ e ∷ []) es) events tied);
+      caused = λ end ends.
+          subst (λ (es : List WorldEvent). IsEndCaused kind end es) events
+          (caused end (sym (ap (λ (x : History). end_after x None) (sym entries) ∙ end_after-append h e None) ∙ ends));
+      unsent = λ shut. refl;
+    }
+
+    by : (first later : Timeline) → Split t.timeline new first later → WasTied kind front first (events_of later)
+    by first later (whole same none) =
+        subst (λ (l : Timeline). WasTied kind front l (events_of later)) (sym same)
+        (subst (λ (l : Timeline). WasTied kind front longer (events_of l)) (sym none) last)
+    by first later (within rest at behind) =
+        let same : events_of later ≡ events_of rest ++ t.rest =
+        ap events_of behind ∙ events_of-append rest (new ∷ []) ∙ ap (λ (es : List WorldEvent). events_of rest ++ es) (append-nil t.rest)
+        in
+        subst (λ (es : List WorldEvent). WasTied kind front first es) (sym same) (t.throughout first rest at)
+
+-- if nothing has happened on the link since the last entry
+pub so_far_of : (kind : LinkKind) (front : List WorldEvent) (h : History) (past : List WorldEvent) → AreTied kind front h past → TiedSoFar kind front h past
+so_far_of kind front h past t = record {
+  timeline = t.timeline;
+  rest = [];
+  history_is = t.history_is;
+  past_is = t.past_is ∙ sym (append-nil (past_after front t.timeline));
+  throughout = λ first later is.
+      subst (λ (es : List WorldEvent). WasTied kind front first es) (sym (append-nil (events_of later))) (t.throughout first later is);
+}
 
 -- the sessions before the last one stay tied, if an entry more is noted
 pub earlier_tied : (kind : LinkKind) (front : List WorldEvent) (h : History) (e : Entry) (past : List WorldEvent) (s : ℕ) → s < sessions h →
@@ -118,15 +180,16 @@ pub in_step_by : (kind : LinkKind) (front : List WorldEvent) (h : History) (e : 
     ((s : ℕ) → 1 ≤ s → s < sessions (h ++ e ∷ []) → IsTied kind (texts_of s (h ++ e ∷ [])) (acked_in s (h ++ e ∷ [])) past (opens front + s)) →
     ((s : ℕ) → s ≤ sessions (h ++ e ∷ []) → length (texts_of s (h ++ e ∷ [])) ≤ most_in s) →
     IsCurrent kind (sessions (h ++ e ∷ [])) (texts_of (sessions (h ++ e ∷ [])) (h ++ e ∷ [])) (acked_in (sessions (h ++ e ∷ [])) (h ++ e ∷ [])) past y →
-    is_open (h ++ e ∷ []) ≡ y.up → ((end : SessionEnd) → end_at e ≡ Some end → IsEndCaused kind end past) → TiedThroughout kind front h past →
+    is_open (h ++ e ∷ []) ≡ y.up → ((end : SessionEnd) → end_at e ≡ Some end → IsEndCaused kind end past) → TiedSoFar kind front h past →
     AreInStep kind front (h ++ e ∷ []) past y
-in_step_by kind front h e past y counted former few current open_now caused throughout = record {
+in_step_by kind front h e past y counted former few current open_now caused so_far = record {
   counted = counted;
   former = former;
   few = few;
   current = current;
   open_as = open_now;
-  throughout = entry_throughout kind front h e past (tied_by kind front (h ++ e ∷ []) past y counted former few current open_now) caused throughout;
+  so_far = so_far_of kind front (h ++ e ∷ []) past
+      (entry_tied kind front h e past (tied_by kind front (h ++ e ∷ []) past y counted former few current open_now) caused so_far);
 }
 
 -- the session with another desk
@@ -164,7 +227,7 @@ module _ (kind : LinkKind) (front : List WorldEvent) (h : History) (past : List 
       (acked-last h e other) i.current in
       let open_now : is_open (h ++ e ∷ []) ≡ y.up = open-after h e ∙ same_open (is_open h) ∙ i.open_as ∙ sym up in
       in_step_by kind front h e past y counted former few current open_now
-      (λ end ends. absurd (let no : None ≡ Some end = sym endless ∙ ends in cc no)) i.throughout
+      (λ end ends. absurd (let no : None ≡ Some end = sym endless ∙ ends in cc no)) i.so_far
     where
       acked_same : (n : ℕ) (texts : List (List ℕ)) (acked : ℕ) → IsCurrent kind n texts acked past x → 1 ≤ n → acked_at e acked ≡ acked
       acked_same zero texts acked c some = absurd (omega arith)

@@ -1,9 +1,9 @@
 -- A turn of a session, beside what was issued and acknowledged in the sessions so far.
 use Rattle.std.proofs.Common.{length, ◌≡◌, ◌⊎◌, inl, inr, ℕ, zero, suc, ◌+◌, ◌<◌, ◌≤◌, Bool, true, false, List, [], ◌∷◌, ◌++◌, refl, sym, ◌∙◌, ap, subst, append-nil, arith}
-use Rattle.std.specs.List.{list_any}
+use Rattle.std.specs.List.{list_any, list_all}
 use Rattle.desk_steps.specs.declared.link_fact.LinkFact.{LinkFact}
 use Rattle.desk_steps.specs.declared.link_fact.LinkFact.TheVariants as fact
-use Rattle.printer_model.specs.World.{WorldData, is_send}
+use Rattle.printer_model.specs.World.{WorldData, is_free, is_send}
 use Rattle.link_history.specs.Executed.{opens, till}
 use Rattle.printer_model.specs.declared.event.WorldEvent.{WorldEvent}
 use Rattle.printer_model.specs.declared.event.WorldEvent.TheVariants.{Opened, Closed}
@@ -15,10 +15,11 @@ use Rattle.session_steps.specs.Data.{SessionData, doing}
 use Rattle.session_steps.specs.Found.{Got, unasked, may_issue, can_find}
 use Rattle.session_steps.specs.Steps.{hangs_up, AreAdded, turn_steps}
 use Rattle.session_steps.specs.declared.found.Doing.{Doing}
-use Rattle.session_steps.specs.declared.found.Doing.TheVariants.{Dialling, HangingUp, Talking, Resting}
+use Rattle.session_steps.specs.declared.found.Doing.TheVariants.{Dialling, HangingUp, UsingLink, Resting}
 use Rattle.lossy_line.specs.Issuing.{issued_in}
 use Rattle.lossy_line.specs.Linked.{IsOpened}
 use Rattle.lossy_line.specs.Tied.{IsTied}
+use Rattle.lossy_line.proofs.Ends.{idle_turn}
 use Rattle.lossy_line.proofs.Turned.{IsTurned, talks_up, opens_dialling, idle_steps, down_after}
 use Rattle.lossy_line.proofs.Turning.{going_on, is_opened_fact}
 use Rattle.lossy_turns.proofs.Turns.{none_opened, dial_of, made_now}
@@ -28,56 +29,20 @@ use Rattle.house_line.specs.InStep.{IsUnmade, IsCurrent}
 use Rattle.house_line.proofs.Longer.{dialled_tied}
 use Rattle.house_line.proofs.Grown.{below_or}
 use Rattle.house_line.proofs.Earlier.{tied_before, till-none, unsent_free}
+use Rattle.lossy_line.proofs.Speech.{issued_in_other}
 
--- what a turn that neither talks nor makes a link adds
+-- what a turn that neither uses the link nor makes one adds
 pub record IsIdle (added : List WorldEvent) : Type 0 where
   pub opens_none : opens added ≡ 0
   pub sends_none : list_any is_send added ≡ false
 
-pub idle_added : (moment : ℕ) (is_prompt : Bool) (d : Doing) (was_up : Bool) (got : Got) (found : LinkFact) (texts : List (List ℕ))
-    (count : ℕ) (s : SenderData) (w : WorldData) (added : List WorldEvent) → (d ≡ Talking → ⊥) → (found ≡ fact.Opened → ⊥) →
-    AreAdded moment is_prompt (turn_steps d was_up got found texts count) s w added → IsIdle added
-idle_added moment is_prompt d was_up got found texts count s w added idle other is = by d found idle other is
-  where
-    same : (events : List WorldEvent) → added ≡ events → IsIdle events → IsIdle added
-    same events e so = subst (λ (es : List WorldEvent). IsIdle es) (sym e) so
+pub idle_added : (added : List WorldEvent) → (list_all is_free added ≡ true) ⊎ (added ≡ Closed ∷ []) → IsIdle added
+idle_added added (inl free) = record { opens_none = opens-free added free; sends_none = unsent_free added free }
+idle_added added (inr closed) =
+    (let S : List WorldEvent → Type 0 = λ es. IsIdle es in subst S (sym closed) (record { opens_none = refl; sends_none = refl }))
 
-    none : added ≡ [] → IsIdle added
-    none e = same [] e (record { opens_none = refl; sends_none = refl })
-
-    by : (e : Doing) (f : LinkFact) → (e ≡ Talking → ⊥) → (f ≡ fact.Opened → ⊥) →
-        AreAdded moment is_prompt (turn_steps e was_up got f texts count) s w added → IsIdle added
-    by Dialling fact.Quiet i o a = none a
-    by Dialling fact.Opened i o a = absurd (o refl)
-    by Dialling fact.Ready i o a = none a
-    by Dialling fact.Closed i o a = none a
-    by Dialling fact.NoPort i o a = none (a.2 ∙ ap (λ (es : List WorldEvent). es ++ a.1) a.3.0 ∙ a.4)
-    by Dialling fact.Failed i o a =
-        let all : added ≡ a.0 = a.2 ∙ ap (λ (es : List WorldEvent). a.0 ++ es) a.4 ∙ append-nil a.0 in
-        same a.0 all (record { opens_none = opens-free a.0 (runs-free a.0 a.3.0); sends_none = unsent_free a.0 (runs-free a.0 a.3.0) })
-    by Dialling (fact.Ended end) i o a = none a
-    by HangingUp f i o a = hung was_up a
-      where
-        hung : (b : Bool) → AreAdded moment is_prompt (hangs_up b ∷ []) s w added → IsIdle added
-        hung true a =
-            let all : added ≡ Closed ∷ [] = a.2 ∙ ap (λ (es : List WorldEvent). es ++ a.1) a.3.0.0 ∙ ap (λ (es : List WorldEvent). Closed ∷ es) a.4 in
-            same (Closed ∷ []) all (record { opens_none = refl; sends_none = refl })
-        hung false a = none (a.2 ∙ ap (λ (es : List WorldEvent). es ++ a.1) a.3.0 ∙ a.4)
-    by Talking f i o a = absurd (i refl)
-    by Resting f i o a = none a
-
--- a turn that makes no link adds its texts
-pub issued_other : (found : LinkFact) (texts issued : List (List ℕ)) → (found ≡ fact.Opened → ⊥) → issued_in found texts issued ≡ issued ++ texts
-issued_other fact.Quiet texts issued other = refl
-issued_other fact.Opened texts issued other = absurd (other refl)
-issued_other fact.Ready texts issued other = refl
-issued_other fact.Closed texts issued other = refl
-issued_other fact.NoPort texts issued other = refl
-issued_other fact.Failed texts issued other = refl
-issued_other (fact.Ended end) texts issued other = refl
-
--- the session is up only if it talks, or hangs up
-not_talking : (x : SessionData) → x.up ≡ false → doing x ≡ Talking → ⊥
+-- the session is up only if it uses the link, or hangs up
+not_talking : (x : SessionData) → x.up ≡ false → doing x ≡ UsingLink → ⊥
 not_talking x down talks = (let up : x.up ≡ true = talks_up x talks in absurd (cc))
 
 -- what a turn leaves of n sessions, of which these texts were issued and this number of lines acknowledged
@@ -107,7 +72,7 @@ module _ (moment : ℕ) (kind : LinkKind) (old new : SessionData) (got : Got) (f
   unmade_stays : (past added : List WorldEvent) → (found ≡ fact.Opened → ⊥) → IsTurned moment kind old new got found issued (world_in kind past) added →
       IsUnmade old → IsUnmade new
   unmade_stays past added other t u =
-      let idle : doing old ≡ Talking → ⊥ = not_talking old u.down in
+      let idle : doing old ≡ UsingLink → ⊥ = not_talking old u.down in
       let same : new.sender ≡ old.sender = t.sender ∙ idle_steps moment (doing old) old.up got found issued t.count old.sender idle other in
       record {
         down = t.up ∙ down_after (doing old) found old.up t.can idle other u.down;
@@ -119,9 +84,9 @@ module _ (moment : ℕ) (kind : LinkKind) (old new : SessionData) (got : Got) (f
       IsTurned moment kind old new got found issued (world_in kind past) added → new.sender.acked ≡ last_acked →
       Leaves kind front n texts acked (texts n) (acked n) past old → Leaves kind front n texts acked (texts n ++ issued) last_acked (past ++ added) new
   turn_stays front past added zero texts acked last_acked other t same l =
-      let idle : doing old ≡ Talking → ⊥ = not_talking old l.current.down in
+      let idle : doing old ≡ UsingLink → ⊥ = not_talking old l.current.down in
       let none : IsIdle added =
-      idle_added moment kind.prompt (doing old) old.up got found issued t.count old.sender (world_in kind past) added idle other t.steps in
+      idle_added added (idle_turn moment kind.prompt (doing old) old.up got found issued t.count old.sender (world_in kind past) added idle other t.steps) in
       record {
         counted = omega (arith, opens-append past added, l.counted, none.opens_none);
         former = former_stay front past added zero texts acked l.counted l.former;
@@ -129,7 +94,7 @@ module _ (moment : ℕ) (kind : LinkKind) (old new : SessionData) (got : Got) (f
         few = subst (λ (l : List (List ℕ)). length l ≤ 0) (sym (none_issued idle t)) l.few;
       }
     where
-      none_issued : (doing old ≡ Talking → ⊥) → IsTurned moment kind old new got found issued (world_in kind past) added → texts 0 ++ issued ≡ texts 0
+      none_issued : (doing old ≡ UsingLink → ⊥) → IsTurned moment kind old new got found issued (world_in kind past) added → texts 0 ++ issued ≡ texts 0
       none_issued idle t =
           let un : got ≡ unasked = t.asked.1 idle in
           let none : issued ≡ [] = t.none_issued (ap (λ (g : Got). may_issue g found) un) in
@@ -141,11 +106,11 @@ module _ (moment : ℕ) (kind : LinkKind) (old new : SessionData) (got : Got) (f
         counted = omega (arith, opens-append past added, l.counted, none_opened moment kind old new got found issued (texts (suc n)) past added other t o);
         former = former_stay front past added (suc n) texts acked l.counted l.former;
         current = (
-          subst O (issued_other found issued (texts (suc n)) other) (going_on moment kind old new got found issued (texts (suc n)) past added other t o),
+          subst O (issued_in_other found issued (texts (suc n)) other) (going_on moment kind old new got found issued (texts (suc n)) past added other t o),
           same,
         );
         few = few_opened kind (texts (suc n) ++ issued) new (past ++ added)
-            (subst O (issued_other found issued (texts (suc n)) other) (going_on moment kind old new got found issued (texts (suc n)) past added other t o));
+            (subst O (issued_in_other found issued (texts (suc n)) other) (going_on moment kind old new got found issued (texts (suc n)) past added other t o));
       }
 
   -- a turn that makes a link
@@ -204,6 +169,6 @@ module _ (moment : ℕ) (kind : LinkKind) (old new : SessionData) (got : Got) (f
           ∙ unsent_free dial.runs free
       by (inr other) =
           let none : IsIdle added =
-          idle_added moment kind.prompt (doing old) old.up got found issued t.count old.sender (world_in kind past) added
-          (not_talking old down) other t.steps in
+          idle_added added (idle_turn moment kind.prompt (doing old) old.up got found issued t.count old.sender (world_in kind past) added
+          (not_talking old down) other t.steps) in
           ap (λ (es : List WorldEvent). list_any is_send es) (till-all 0 added (omega (arith, none.opens_none))) ∙ none.sends_none

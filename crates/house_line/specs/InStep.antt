@@ -10,7 +10,8 @@ use Rattle.octo_asks.specs.declared.entry.Entry.TheVariants as entry
 use Rattle.lossy_line.specs.Linked.{IsOpened}
 use Rattle.lossy_line.specs.Tied.{IsTied}
 use Rattle.house_line.specs.Sessions.{sessions, texts_of, most_in, acked_in, is_open}
-use Rattle.house_line.specs.Tied.{AreTied, TiedThroughout}
+use Rattle.house_line.specs.Timeline.{Timeline, history_of, events_of, past_after}
+use Rattle.house_line.specs.Tied.{AreTied, WasTied}
 
 -- entries that are calls
 abbrev pub AreCalls : History → Type 0
@@ -29,6 +30,15 @@ abbrev pub IsCurrent : LinkKind → ℕ → List (List ℕ) → ℕ → List Wor
 IsCurrent kind zero texts acked past x = IsUnmade x
 IsCurrent kind (suc session) texts acked past x = IsOpened kind texts x past × (x.sender.acked ≡ acked)
 
+-- one order of a history and of its link's history since an earlier one, which was tied after every entry, and what the link
+-- has recorded since the last entry
+pub record TiedSoFar (kind : LinkKind) (front : List WorldEvent) (history : History) (past : List WorldEvent) : Type 0 where
+  pub timeline : Timeline
+  pub rest : List WorldEvent
+  pub history_is : history ≡ history_of timeline
+  pub past_is : past ≡ past_after front timeline ++ rest
+  pub throughout : (first later : Timeline) → timeline ≡ first ++ later → WasTied kind front first (events_of later ++ rest)
+
 -- a host's history, its link's history since an earlier one, and the host's session
 pub record AreInStep (kind : LinkKind) (front : List WorldEvent) (history : History) (past : List WorldEvent)
     (x : SessionData) : Type 0 where
@@ -42,7 +52,7 @@ pub record AreInStep (kind : LinkKind) (front : List WorldEvent) (history : Hist
   pub current : IsCurrent kind (sessions history) (texts_of (sessions history) history)
       (acked_in (sessions history) history) past x
   pub open_as : is_open history ≡ x.up
-  pub throughout : TiedThroughout kind front history past
+  pub so_far : TiedSoFar kind front history past
 
 -- a history that is recorded now grew by these entries, and a link's history is recorded and was
 pub record Grown (before now : Option History) (front past : Option (List WorldEvent))

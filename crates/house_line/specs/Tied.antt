@@ -13,6 +13,7 @@ use Rattle.octo_asks.specs.History.{History}
 use Rattle.lossy_wires.specs.Traces.{IsLineAbove}
 use Rattle.lossy_line.specs.Tied.{IsTied, IsEndCaused}
 use Rattle.house_line.specs.Sessions.{sessions, texts_of, most_in, acked_in, is_open, last_end}
+use Rattle.house_line.specs.Timeline.{Timeline, history_of, events_of, past_after}
 
 -- Session by session a history is tied to what happened on its link since an earlier history of the link: what the printer
 -- executed are the first of the lines that the history says were issued, in order and each once; the acknowledged lines
@@ -28,26 +29,26 @@ pub record Tied (kind : LinkKind) (front : List WorldEvent) (history : History) 
   -- once a link was made, it is up exactly if a session is open: after the note of an end it is down
   pub open_as : 1 ≤ sessions history → (world_in kind past).linked ≡ is_open history
 
--- the two were tied when the history had come so far
-pub record WasTied (kind : LinkKind) (front : List WorldEvent) (history : History) (past : List WorldEvent) : Type 0 where
-  -- what the link had recorded then, and what it has since
-  pub so_far : List WorldEvent
-  pub since : List WorldEvent
-  pub is : past ≡ so_far ++ since
-  pub tied : Tied kind front history so_far
+-- the two were tied when a timeline had come so far, after which the link has recorded these events
+pub record WasTied (kind : LinkKind) (front : List WorldEvent) (first : Timeline) (since : List WorldEvent) : Type 0 where
+  pub tied : Tied kind front (history_of first) (past_after front first)
   -- a session whose end the history has just noted ended with a cause that the link's history shows
-  pub caused : (end : SessionEnd) → last_end history ≡ Some end → IsEndCaused kind end so_far
+  pub caused : (end : SessionEnd) → last_end (history_of first) ≡ Some end → IsEndCaused kind end (past_after front first)
   -- once a session is closed no line is sent in it any more
-  pub unsent : is_open history ≡ false → list_any is_send (till 0 since) ≡ false
+  pub unsent : is_open (history_of first) ≡ false → list_any is_send (till 0 since) ≡ false
 
--- the two were tied after every entry
-abbrev pub TiedThroughout : LinkKind → List WorldEvent → History → List WorldEvent → Type 0
-TiedThroughout kind front history past = (first later : History) → history ≡ first ++ later → WasTied kind front first past
+-- they were tied after every entry of a timeline
+abbrev pub TiedThroughout : LinkKind → List WorldEvent → Timeline → Type 0
+TiedThroughout kind front timeline =
+    (first later : Timeline) → timeline ≡ first ++ later → WasTied kind front first (events_of later)
 
--- they are tied now, and were after every entry
+-- the two are tied now, and one order of both was tied after every entry
 pub record AreTied (kind : LinkKind) (front : List WorldEvent) (history : History) (past : List WorldEvent) : Type 0 where
   pub now : Tied kind front history past
-  pub throughout : TiedThroughout kind front history past
+  pub timeline : Timeline
+  pub history_is : history ≡ history_of timeline
+  pub past_is : past ≡ past_after front timeline
+  pub throughout : TiedThroughout kind front timeline
 
 -- a line that was sent when this number of lines was acknowledged: the hello, an issued line above those, or one that failed
 abbrev pub IsAbove : List (List ℕ) → ℕ → WorldEvent → Type 0

@@ -8,7 +8,7 @@ use Rattle.desk_steps.specs.Pull.{pull_step}
 use Rattle.desk_steps.specs.Note.{note_step}
 use Rattle.desk_steps.specs.Run.{Fate, Left, fate_of, Run, after, after_start, after_restart, after_pull, after_note, lines_of, pulled_of, of_print, DeskCall, Connect, Disconnect, Select, DropFile, Start, Restart, Pause, Resume, Toggle, Cancel, Manually, Pull, Note, MayCall}
 use Rattle.desk_steps.specs.declared.state.State.{State}
-use Rattle.desk_steps.specs.declared.state.State.TheVariants.{Offline, Connecting, Operational, Printing, Pausing, Paused, Cancelling, Finishing, Closing, Fault}
+use Rattle.desk_steps.specs.declared.state.State.TheVariants.{Operational, Paused}
 use Rattle.desk_steps.specs.declared.link_fact.LinkFact.{LinkFact}
 use Rattle.print_records.specs.declared.ending.Ending.{Ending}
 use Rattle.desk_steps.proofs.Current.{Stage}
@@ -52,27 +52,11 @@ module _ (scripts : ScriptTexts) (p : ℕ) (positive : nat_eq 0 p ≡ false) whe
 
     start_clear : (s : State) (q : ℕ) → of_print p run.begun ≡ [] → Next (after_start q (start_at s q run.desk) run)
     start_clear Operational q none f = file_clear run.desk.file q none f
-    start_clear Offline q none f = inl none
-    start_clear Connecting q none f = inl none
-    start_clear Printing q none f = inl none
-    start_clear Pausing q none f = inl none
-    start_clear Paused q none f = inl none
-    start_clear Cancelling q none f = inl none
-    start_clear Finishing q none f = inl none
-    start_clear Closing q none f = inl none
-    start_clear Fault q none f = inl none
+    start_clear _ q none f = inl none
 
     restart_clear : (s : State) (q : ℕ) → of_print p run.begun ≡ [] → Next (after_restart q (restart_at s q run.desk) run)
     restart_clear Paused q none f = clear_starts q run.desk (of_print p run.ends) run.begun (nat_eq q p) refl none f
-    restart_clear Offline q none f = inl none
-    restart_clear Connecting q none f = inl none
-    restart_clear Operational q none f = inl none
-    restart_clear Printing q none f = inl none
-    restart_clear Pausing q none f = inl none
-    restart_clear Cancelling q none f = inl none
-    restart_clear Finishing q none f = inl none
-    restart_clear Closing q none f = inl none
-    restart_clear Fault q none f = inl none
+    restart_clear _ q none f = inl none
 
     begun_pulled : (state : State) (line : Option Line) (d : Data) → (after_pull state (line, d) run).begun ≡ run.begun
     begun_pulled state None d = refl
@@ -121,27 +105,11 @@ module _ (scripts : ScriptTexts) (p : ℕ) (positive : nat_eq 0 p ≡ false) whe
 
       going_start : (s : State) (q : ℕ) → run.desk.state ≡ s → Next (after_start q (start_at s q run.desk) run)
       going_start Operational q is f = nowhere is
-      going_start Offline q is f = still run.desk refl refl f
-      going_start Connecting q is f = still run.desk refl refl f
-      going_start Printing q is f = still run.desk refl refl f
-      going_start Pausing q is f = still run.desk refl refl f
-      going_start Paused q is f = still run.desk refl refl f
-      going_start Cancelling q is f = still run.desk refl refl f
-      going_start Finishing q is f = still run.desk refl refl f
-      going_start Closing q is f = still run.desk refl refl f
-      going_start Fault q is f = still run.desk refl refl f
+      going_start _ q is f = still run.desk refl refl f
 
       going_restart : (s : State) (q : ℕ) → Next (after_restart q (restart_at s q run.desk) run)
       going_restart Paused q f = inr (inr (λ none. one_more run.desk.greatest Left going_own none))
-      going_restart Offline q f = still run.desk refl refl f
-      going_restart Connecting q f = still run.desk refl refl f
-      going_restart Operational q f = still run.desk refl refl f
-      going_restart Printing q f = still run.desk refl refl f
-      going_restart Pausing q f = still run.desk refl refl f
-      going_restart Cancelling q f = still run.desk refl refl f
-      going_restart Finishing q f = still run.desk refl refl f
-      going_restart Closing q f = still run.desk refl refl f
-      going_restart Fault q f = still run.desk refl refl f
+      going_restart _ q f = still run.desk refl refl f
 
       going_pull : (state : State) (line : Option Line) (e : Data) → e.active ≡ run.desk.active → e.greatest ≡ run.desk.greatest
           → Next (after_pull state (line, e) run)

@@ -26,7 +26,8 @@ use Rattle.house_prints.proofs.Marks.{Marked, acked_request}
 use Rattle.house_prints.proofs.Pulled.{drawn_lines}
 use Rattle.house_prints.proofs.Noted.{acked_note}
 use Rattle.house_prints.proofs.Plain.{IsPlain, open_by, failed_shut}
-use Rattle.house_prints.proofs.Others.{Held, LeftSo, Status, left_on, acked_up, shut_call, none_pulled, ends_started, ends_pulled, ends_foreign}
+use Rattle.house_prints.proofs.Others.{Held, LeftSo, Status, left_on, acked_up, shut_call, none_pulled, ends_pulled, ends_foreign}
+use Rattle.house_history.proofs.Fates.{ends_start}
 
 module _ (scripts : ScriptTexts) (p : ℕ) (positive : nat_eq 0 p ≡ false) where
   -- a call while the print is foreign
@@ -59,18 +60,13 @@ module _ (scripts : ScriptTexts) (p : ℕ) (positive : nat_eq 0 p ≡ false) whe
     cancelled_so : (f : LinkFact) (acked : ℕ) → lines_of p (drop acked lines) ≡ [] ⊎ (f ≡ fact.Closed)
         → LeftSo scripts p positive (cancelled_by f) acked lines (up_after f is_open)
     cancelled_so fact.Closed acked so = refl
-    cancelled_so fact.Quiet acked (inl so) = so
     cancelled_so fact.Quiet acked (inr is) = absurd (cc is)
-    cancelled_so fact.Opened acked (inl so) = so
     cancelled_so fact.Opened acked (inr is) = absurd (cc is)
-    cancelled_so fact.Ready acked (inl so) = so
     cancelled_so fact.Ready acked (inr is) = absurd (cc is)
-    cancelled_so fact.NoPort acked (inl so) = so
     cancelled_so fact.NoPort acked (inr is) = absurd (cc is)
-    cancelled_so fact.Failed acked (inl so) = so
     cancelled_so fact.Failed acked (inr is) = absurd (cc is)
-    cancelled_so (fact.Ended end) acked (inl so) = so
     cancelled_so (fact.Ended end) acked (inr is) = absurd (cc is)
+    cancelled_so _ acked (inl so) = so
 
     acknowledged : (acked : ℕ) (f : LinkFact) → (f ≡ fact.Opened → ⊥) → (f ≡ fact.Opened) ⊎ (run.desk.print_line ≤ acked) → lines_of p (drop acked lines) ≡ []
     acknowledged acked f other (inl is) = absurd (other is)
@@ -134,7 +130,7 @@ module _ (scripts : ScriptTexts) (p : ℕ) (positive : nat_eq 0 p ≡ false) whe
     status_going (Pull moment) plain =
         inl (ap (of_print p) (ends_pulled scripts p positive run.desk.state (pull_step moment run.desk).0 (pull_step moment run.desk).1 run) ∙ k.no_fate)
     status_going (Start q) plain =
-        inl (ap (of_print p) (ends_started scripts p positive q (start_at run.desk.state q run.desk).0 (start_at run.desk.state q run.desk).1 run) ∙ k.no_fate)
+        inl (ap (of_print p) (ends_start q (start_at run.desk.state q run.desk).0 (start_at run.desk.state q run.desk).1 run) ∙ k.no_fate)
     status_going (Connect port) plain = inl k.no_fate
     status_going Disconnect plain = inl k.no_fate
     status_going (Select file) plain = inl k.no_fate

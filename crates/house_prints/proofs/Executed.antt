@@ -9,6 +9,7 @@ use Rattle.link_history.specs.Executed.{opens}
 use Rattle.printer_model.specs.declared.event.WorldEvent.{WorldEvent}
 use Rattle.printer_link.specs.Link.{LinkKind}
 use Rattle.octo_keeper.specs.Tables.{AreNumbered}
+use Rattle.octo_keeper.proofs.Numbered.{within_count}
 use Rattle.octo_asks.specs.History.{History}
 use Rattle.print_records.specs.declared.ending.Outcome.TheVariants as outcome
 use Rattle.print_records.specs.declared.row.PrintRow.{PrintRow}
@@ -19,13 +20,16 @@ use Rattle.house_history.specs.Scripts.{run_in}
 use Rattle.house_history.proofs.Histories.{keeps_scripts, keeps_outcomes}
 use Rattle.lossy_line.specs.Tied.{IsTied}
 use Rattle.house_line.specs.Sessions.{sessions, texts_of, acked_in, most_in}
-use Rattle.house_line.specs.Tied.{Tied, WasTied, TiedThroughout}
+use Rattle.house_line.specs.Timeline.{Timeline, history_of, events_of, past_after}
+use Rattle.house_line.specs.Tied.{Tied, WasTied, AreTied}
+use Rattle.house_line.proofs.Timelines.{history_of-append, past_after-append, taken_in}
 use Rattle.house_prints.specs.Jobs.{executed_in, lines_executed}
 use Rattle.house_prints.specs.Laws.{IsRun, EachIsExecutedInOrder, EachDoneIsExecuted, IsDoneRecordTrue, EachDoneRecordIsTrue}
 use Rattle.house_prints.specs.Prints.{LivesIn, Lives, LeavesSo}
 use Rattle.house_prints.proofs.Histories.{IsShort, legal_first, lives_in}
 use Rattle.house_prints.proofs.Jobs.{jobs_own, AreFirst, first_part, story_jobs, IsWhole, story_done}
 use Rattle.house_prints.proofs.Lists.{all_before, none_later, none_past}
+use Rattle.byte_text.proofs.ListLaws.{head_same}
 
 -- in a run no session has too many lines
 most_within : (n : ℕ) → most_in n ≤ 1999999999
@@ -35,10 +39,13 @@ most_within (suc n) = omega arith
 issued_length : (k : ℕ) (h : History) → length (texts_of k h) ≡ length (issued_of k h)
 issued_length k h = length-map (issued_of k h) (λ (line : Line). line.text)
 
-pub short_of : (kind : LinkKind) (front : List WorldEvent) (h : History) (past : List WorldEvent) → TiedThroughout kind front h past → IsShort h
-short_of kind front h past all first later is =
-    let w : WasTied kind front first past = all first later is in
-    omega (arith, w.tied.few (sessions first) (omega arith), most_within (sessions first), issued_length (sessions first) first)
+pub short_of : (kind : LinkKind) (front : List WorldEvent) (h : History) (past : List WorldEvent) → AreTied kind front h past → IsShort h
+short_of kind front h past t first later is =
+    let i = taken_in t.timeline first later (sym t.history_is ∙ is) in
+    let tied : Tied kind front first (past_after front i.front) =
+    subst (λ (x : History). Tied kind front x (past_after front i.front)) i.first_is (t.throughout i.front i.behind i.is).tied
+    in
+    omega (arith, tied.few (sessions first) (omega arith), most_within (sessions first), issued_length (sessions first) first)
 
 pub short_first : (first later : History) → IsShort (first ++ later) → IsShort first
 short_first first later short one two is = short one (two ++ later) (ap (λ (x : History). x ++ later) is ∙ append_assoc one two later)
@@ -51,18 +58,47 @@ home_of : (p : ℕ) (h : History) (fates : List Fate) → Lives p h fates → (h
 home_of p h fates (inl u) = (sessions h, u.lives)
 home_of p h fates (inr o) = (o.home, o.lives)
 
-pub in_order : (kind : LinkKind) (front : List WorldEvent) (s : Standing) (h : History) (past : List WorldEvent) → IsRun kind front s h past →
-    EachIsExecutedInOrder kind front s h past
-in_order kind front s h past run p some commands began =
+-- a run when its timeline had come so far
+pub record IsThen (kind : LinkKind) (front : List WorldEvent) (s : Standing) (first later : Timeline) : Type 0 where
+  pub legal : Legal (history_of first) s
+  pub legal_all : Legal (history_of first ++ history_of later) s
+  pub short : IsShort (history_of first)
+  pub short_all : IsShort (history_of first ++ history_of later)
+  pub tied_all : Tied kind front (history_of first ++ history_of later) (past_after front first ++ events_of later)
+  pub was : WasTied kind front first (events_of later)
+
+pub run_then : (kind : LinkKind) (front : List WorldEvent) (s : Standing) (h : History) (past : List WorldEvent) (run : IsRun kind front s h past)
+    (first later : Timeline) → run.tied.timeline ≡ first ++ later → IsThen kind front s first later
+run_then kind front s h past run first later is =
+    let split : h ≡ history_of first ++ history_of later = run.tied.history_is ∙ ap history_of is ∙ history_of-append first later in
+    let events : past ≡ past_after front first ++ events_of later =
+    run.tied.past_is ∙ ap (λ (l : Timeline). past_after front l) is ∙ past_after-append front first later
+    in
+    let legal : Legal (history_of first ++ history_of later) s = subst (λ (x : History). Legal x s) split run.legal in
+    let short : IsShort (history_of first ++ history_of later) = subst (λ (x : History). IsShort x) split (short_of kind front h past run.tied) in
+    record {
+      legal = (legal_first (history_of first) (history_of later) s legal).0;
+      legal_all = legal;
+      short = short_first (history_of first) (history_of later) short;
+      short_all = short;
+      tied_all = subst (λ (es : List WorldEvent). Tied kind front (history_of first ++ history_of later) es) events
+          (subst (λ (x : History). Tied kind front x past) split run.tied.now);
+      was = run.tied.throughout first later is;
+    }
+
+pub in_order : (kind : LinkKind) (front : List WorldEvent) (s : Standing) (h : History) (past : List WorldEvent) (run : IsRun kind front s h past) →
+    EachIsExecutedInOrder kind front s run.tied.timeline
+in_order kind front s h past run first later is p some commands began =
     let scripts : ScriptTexts = s.known.desk.scripts in
-    let short : IsShort h = short_of kind front h past run.tied.throughout in
-    let at = home_of p h (of_print p (run_in h s).ends) (lives_in scripts s.known.desk.limits s.known.desk.poll_ms p some s run.begins.new h run.legal short) in
-    let story = (keeps_scripts scripts s.known.desk.limits s.known.desk.poll_ms h s run.begins.new run.legal).stories p some in
-    let count : ℕ = executed_in kind front past at.0 in
-    let whole : List Line = issued_of at.0 h in
-    let first : AreFirst p scripts commands (trace p h) = story_jobs p scripts commands _ _ _ story began in
+    let t = run_then kind front s h past run first later is in
+    let now : History = history_of first in
+    let at = home_of p now (of_print p (run_in now s).ends) (lives_in scripts s.known.desk.limits s.known.desk.poll_ms p some s run.begins.new now t.legal t.short) in
+    let story = (keeps_scripts scripts s.known.desk.limits s.known.desk.poll_ms now s run.begins.new t.legal).stories p some in
+    let count : ℕ = executed_in kind front (past_after front first) at.0 in
+    let whole : List Line = issued_of at.0 now in
+    let firsts : AreFirst p scripts commands (trace p now) = story_jobs p scripts commands _ _ _ story began in
     let all : AreFirst p scripts commands (take count whole ++ drop count whole) =
-    record { count = first.count; are = ap (λ (x : List Line). job_part p x) (take-append-drop count whole) ∙ jobs_home p at.0 h at.1 ∙ first.are }
+    record { count = firsts.count; are = ap (λ (x : List Line). job_part p x) (take-append-drop count whole) ∙ jobs_home p at.0 now at.1 ∙ firsts.are }
     in
     let part = first_part p scripts commands (take count whole) (drop count whole) all in
     record { home = at.0; lives = at.1; count = part.count; executed = part.are }
@@ -74,9 +110,6 @@ done_ended p h fates is (inl u) = absurd (let no : Finished ∷ [] ≡ [] = sym 
 done_ended p h fates is (inr o) =
     let same : o.fate ≡ Finished = head_same o.fate Finished (sym o.is ∙ is) in
     (o.home, o.within, o.lives, subst (λ (f : Fate). LeavesSo p f o.home h) same o.leaves)
-  where
-    head_same : (x y : Fate) → x ∷ [] ≡ y ∷ [] → x ≡ y
-    head_same x y is = cc
 
 -- its lines were executed: they are among those that are acknowledged
 executed_all : (kind : LinkKind) (front : List WorldEvent) (p home : ℕ) (h : History) (past : List WorldEvent) → Tied kind front h past → home ≤ sessions h →
@@ -87,34 +120,31 @@ executed_all kind front p (suc home) h past t within none =
     let tied : IsTied kind (texts_of (suc home) h) (acked_in (suc home) h) past (opens front + suc home) = t.each (suc home) (omega arith) within in
     none_later p (acked_in (suc home) h) (executed_in kind front past (suc home)) (issued_of (suc home) h) tied.acked_run none
 
-pub done_whole : (kind : LinkKind) (front : List WorldEvent) (s : Standing) (h : History) (past : List WorldEvent) → IsRun kind front s h past →
-    EachDoneIsExecuted kind front s h past
-done_whole kind front s h past run first later split p some ends =
+pub done_whole : (kind : LinkKind) (front : List WorldEvent) (s : Standing) (h : History) (past : List WorldEvent) (run : IsRun kind front s h past) →
+    EachDoneIsExecuted kind front s run.tied.timeline
+done_whole kind front s h past run first later is p some ends =
     let scripts : ScriptTexts = s.known.desk.scripts in
-    let w : WasTied kind front first past = run.tied.throughout first later split in
-    let legal : Legal first s = (legal_first first later s (subst (λ (x : History). Legal x s) split run.legal)).0 in
-    let short : IsShort first = short_first first later (subst (λ (x : History). IsShort x) split (short_of kind front h past run.tied.throughout)) in
-    let at = done_ended p first (of_print p (run_in first s).ends) ends (lives_in scripts s.known.desk.limits s.known.desk.poll_ms p some s run.begins.new first legal short) in
+    let t = run_then kind front s h past run first later is in
+    let now : History = history_of first in
+    let so_far : List WorldEvent = past_after front first in
+    let at = done_ended p now (of_print p (run_in now s).ends) ends
+    (lives_in scripts s.known.desk.limits s.known.desk.poll_ms p some s run.begins.new now t.legal t.short)
+    in
     let home : ℕ = at.0 in
-    let story = (keeps_scripts scripts s.known.desk.limits s.known.desk.poll_ms first s run.begins.new legal).stories p some in
-    let whole : IsWhole p scripts (of_print p (run_in first s).begun) (trace p first) = story_done p scripts _ _ _ story ends in
-    let executed : lines_of p (lines_executed kind front w.so_far home first) ≡ trace p first =
-    all_before p (executed_in kind front w.so_far home) (issued_of home first) (executed_all kind front p home first w.so_far w.tied at.1 at.3) ∙ sym at.2.all
+    let story = (keeps_scripts scripts s.known.desk.limits s.known.desk.poll_ms now s run.begins.new t.legal).stories p some in
+    let whole : IsWhole p scripts (of_print p (run_in now s).begun) (trace p now) = story_done p scripts _ _ _ story ends in
+    let executed : lines_of p (lines_executed kind front so_far home now) ≡ trace p now =
+    all_before p (executed_in kind front so_far home) (issued_of home now) (executed_all kind front p home now so_far t.was.tied at.1 at.3) ∙ sym at.2.all
     in
     record {
-      so_far = w.so_far;
-      since = w.since;
-      at = record { is = w.is; tied = w.tied };
-      whole = record {
-        commands = whole.commands;
-        began = whole.began;
-        home = home;
-        lives = at.2;
-        course = whole.course;
-        acknowledged = all_before p (acked_in home first) (issued_of home first) at.3 ∙ sym at.2.all;
-        executed = executed;
-        jobs = sym (jobs_own p (lines_executed kind front w.so_far home first)) ∙ ap (λ (x : List Line). job_part p x) executed ∙ whole.jobs;
-      };
+      commands = whole.commands;
+      began = whole.began;
+      home = home;
+      lives = at.2;
+      course = whole.course;
+      acknowledged = all_before p (acked_in home now) (issued_of home now) at.3 ∙ sym at.2.all;
+      executed = executed;
+      jobs = sym (jobs_own p (lines_executed kind front so_far home now)) ∙ ap (λ (x : List Line). job_part p x) executed ∙ whole.jobs;
     }
 
 -- a record says Done only of a print that the desk's run says is done
@@ -128,31 +158,20 @@ done_fates p scripts _ _ _ (left c lines b) is = absurd (cc is)
 done_fates p scripts _ _ _ (unplugged c lines b) is = absurd (cc is)
 done_fates p scripts _ _ _ (broken c lines b) is = absurd (cc is)
 
--- records that are numbered from 1 without a gap have no number above their count
-numbered_from : (from : ℕ) (rows : List PrintRow) → ((k : ℕ) (d : PrintRow) → k < length rows → (get_or rows k d).number ≡ from + k + 1) →
-    (most : ℕ) → from + length rows ≤ most → All (λ (row : PrintRow). row.number ≤ most) rows
-numbered_from from [] numbered most few = All-nil (λ (row : PrintRow). row.number ≤ most)
-numbered_from from (row ∷ rows) numbered most few =
-    let first : row.number ≡ from + 0 + 1 = numbered 0 row (omega arith) in
-    All-cons (λ (r : PrintRow). r.number ≤ most) row rows (omega arith)
-    (numbered_from (from + 1) rows
-    (λ k d below. let later : (get_or rows k d).number ≡ from + suc k + 1 = numbered (suc k) d (omega arith) in omega arith) most (omega arith))
-
-within_count : (rows : List PrintRow) → AreNumbered rows → All (λ (row : PrintRow). row.number ≤ length rows) rows
-within_count rows numbered =
-    numbered_from 0 rows (λ k d below. let at : (get_or rows k d).number ≡ k + 1 = numbered k d below in omega arith) (length rows) (omega arith)
-
-pub record_true : (kind : LinkKind) (front : List WorldEvent) (s : Standing) (h : History) (past : List WorldEvent) → IsRun kind front s h past →
-    EachDoneRecordIsTrue kind front s h past
-record_true kind front s h past run first later split =
-    let legal : Legal first s = (legal_first first later s (subst (λ (x : History). Legal x s) split run.legal)).0 in
-    All-weaker (HasOutcome (length s.known.prints) (run_in first s).ends) (IsDoneRecordTrue kind front past s first)
-    (λ row has. by legal row has) (after_all first s).known.prints
-    (keeps_outcomes s.known.desk.scripts s.known.desk.limits s.known.desk.poll_ms first s run.begins.new (within_count s.known.prints run.begins.numbered) legal)
+pub record_true : (kind : LinkKind) (front : List WorldEvent) (s : Standing) (h : History) (past : List WorldEvent) (run : IsRun kind front s h past) →
+    EachDoneRecordIsTrue kind front s run.tied.timeline
+record_true kind front s h past run first later is =
+    let legal : Legal now s = (run_then kind front s h past run first later is).legal in
+    All-weaker (HasOutcome (length s.known.prints) (run_in now s).ends) (IsDoneRecordTrue kind front s first)
+    (λ row has. by legal row has) (after_all now s).known.prints
+    (keeps_outcomes s.known.desk.scripts s.known.desk.limits s.known.desk.poll_ms now s run.begins.new (within_count s.known.prints run.begins.numbered) legal)
   where
-    by : Legal first s → (row : PrintRow) → HasOutcome (length s.known.prints) (run_in first s).ends row → IsDoneRecordTrue kind front past s first row
+    now : History
+    now = history_of first
+
+    by : Legal now s → (row : PrintRow) → HasOutcome (length s.known.prints) (run_in now s).ends row → IsDoneRecordTrue kind front s first row
     by legal row has above done =
         let some : 0 < row.number = omega (arith, above) in
-        let story = (keeps_scripts s.known.desk.scripts s.known.desk.limits s.known.desk.poll_ms first s run.begins.new legal).stories row.number some in
-        done_whole kind front s h past run first later split row.number some
+        let story = (keeps_scripts s.known.desk.scripts s.known.desk.limits s.known.desk.poll_ms now s run.begins.new legal).stories row.number some in
+        done_whole kind front s h past run first later is row.number some
         (done_fates row.number s.known.desk.scripts _ _ _ story (sym (has above) ∙ done))

@@ -6,13 +6,14 @@ use Rattle.temp_rules.specs.declared.job.HotLine.{HotLine}
 use Rattle.desk_steps.specs.Data.{Data, File}
 use Rattle.desk_steps.specs.Endings.{has_print, IsActive}
 use Rattle.desk_steps.specs.Run.{DeskCall, Connect, Disconnect, Select, DropFile, Start, Restart, Pause, Resume, Toggle, Cancel, Manually, Pull, Note}
-use Rattle.desk_steps.specs.Table.{done, connect_at, disconnect_at, select_at, is_named, drop_file_step, printing, start_checked, start_file, start_at, restart_at, pause_at, resume_at, toggle_at, cancel_at, add_manual, manual_at}
+use Rattle.desk_steps.specs.Table.{ok_answer, connect_at, disconnect_at, select_at, is_named, drop_file_step, printing, start_checked, start_file, start_at, restart_at, pause_at, resume_at, toggle_at, cancel_at, add_manual, manual_at}
 use Rattle.desk_steps.specs.declared.state.Refusal.TheVariants as refusal
 use Rattle.desk_steps.specs.declared.state.State.{State}
 use Rattle.desk_steps.specs.declared.state.State.TheVariants.{Offline, Connecting, Operational, Printing, Pausing, Paused, Cancelling, Finishing, Closing, Fault}
 use Rattle.desk_steps.proofs.Going.{Goes, goes_pull, goes_note}
 use Rattle.house_verdicts.specs.Desk.{desk_after, desk_after_all}
-use Rattle.house_prints.proofs.Files.{Same, choose_pair, file_pull, file_note}
+use Rattle.house_prints.proofs.Files.{Same, file_pull, file_note}
+use Rattle.desk_steps.proofs.Steady.{choose_pair}
 
 -- in a state with a print that is active, and an active print has a file
 abbrev pub IsFiled : Data → Type 0
@@ -43,10 +44,10 @@ filed_select _ file d f = f
 filed_drop : (name : List ℕ) (d : Data) → IsFiled d → IsFiled (drop_file_step name d).1
 filed_drop name d f = choose_pair (λ e. IsFiled e) (is_named name d.file) _ _ (by d.active refl) f
   where
-    by : (b : Bool) → d.active ≡ b → IsFiled (cond d.active (Err refusal.FileBusy, d) (done (record d { file = None }))).1
-    by true is = subst (λ c. IsFiled (cond c (Err refusal.FileBusy, d) (done (record d { file = None }))).1) (sym is) f
+    by : (b : Bool) → d.active ≡ b → IsFiled (cond d.active (Err refusal.FileBusy, d) (ok_answer (record d { file = None }))).1
+    by true is = subst (λ c. IsFiled (cond c (Err refusal.FileBusy, d) (ok_answer (record d { file = None }))).1) (sym is) f
     by false is =
-        subst (λ c. IsFiled (cond c (Err refusal.FileBusy, d) (done (record d { file = None }))).1) (sym is)
+        subst (λ c. IsFiled (cond c (Err refusal.FileBusy, d) (ok_answer (record d { file = None }))).1) (sym is)
         (f.0, λ active none. absurd (false≢true (sym is ∙ active)))
 
 filed_printing : (q : ℕ) (d : Data) → (d.file ≡ None → ⊥) → IsFiled (printing q d)

@@ -3,8 +3,8 @@ use Rattle.std.proofs.Common.{suc, ◌≡◌, ◌⊎◌, inl, inr, ℕ, ◌+◌,
 use Rattle.temp_rules.specs.Hot.{first_hot_of}
 use Rattle.temp_rules.specs.declared.job.HotLine.{HotLine}
 use Rattle.desk_steps.specs.Data.{Data, File, Line, with_script, moment_after}
-use Rattle.desk_steps.specs.Note.{Noted, ended, is_over, end_at, finish, fail, ready_at, opened, note_fact, note_step}
-use Rattle.desk_steps.specs.Pull.{Drawn, talk, nothing, next_number, keep_number, issue, from_scripts, from_manual, from_poll, poll_is_due, from_file, draw_at, is_issued, settle_at, pull_step}
+use Rattle.desk_steps.specs.Note.{Noted, after_ending, is_over, end_at, finish, fail, ready_at, after_open, note_fact, note_step}
+use Rattle.desk_steps.specs.Pull.{Drawn, draw_in_order, nothing, next_number, keep_number, issue, from_scripts, from_manual, from_poll, poll_is_due, from_file, draw_at, is_issued, settle_at, pull_step}
 use Rattle.desk_steps.specs.Course.{job_line}
 use Rattle.desk_steps.specs.Run.{DeskCall, Connect, Disconnect, Select, DropFile, Start, Restart, Pause, Resume, Toggle, Cancel, Manually, Pull, Note}
 use Rattle.desk_steps.specs.Table.{connect_at, disconnect_at, select_at, is_named, drop_file_step, start_checked, start_file, start_at, restart_at, pause_at, resume_at, toggle_at, cancel_at, add_manual, manual_at}
@@ -14,13 +14,11 @@ use Rattle.desk_steps.specs.declared.state.Point.TheVariants as point
 use Rattle.desk_steps.specs.declared.state.State.{State}
 use Rattle.desk_steps.specs.declared.state.State.TheVariants.{Offline, Connecting, Operational, Printing, Pausing, Paused, Cancelling, Finishing, Closing, Fault}
 use Rattle.desk_steps.specs.declared.state.Tag.{Tag}
-use Rattle.desk_steps.specs.declared.state.Tag.TheVariants.{Script, Job, Manual, Poll}
+use Rattle.desk_steps.specs.declared.state.Tag.TheVariants.{Script, Manual, Poll}
 use Rattle.print_records.specs.declared.ending.Outcome.TheVariants as outcome
 use Rattle.house_verdicts.specs.Desk.{desk_after, desk_after_all}
-
-pub choose_pair : {X : Type 0} (P : Data → Type 0) (b : Bool) (x y : X × Data) → P x.1 → P y.1 → P (cond b x y).1
-choose_pair P true x y hx hy = hx
-choose_pair P false x y hx hy = hy
+use Rattle.desk_steps.proofs.Steady.{choose_pair}
+use Rattle.std.proofs.lemmas.Option.{same_Some}
 
 -- a pull leaves the file
 abbrev pub Same : Data → Data → Type 0
@@ -32,9 +30,7 @@ file_keep (Script at print) number d = choose (nat_eq print 0)
     choose : (b : Bool) → Same d (cond b d (record d { print_line = number }))
     choose true = refl
     choose false = refl
-file_keep (Job print index) number d = refl
-file_keep Manual number d = refl
-file_keep Poll number d = refl
+file_keep _ number d = refl
 
 file_issue : (line : Line) (d e : Data) → Same d e → Same d (issue line e).1
 file_issue line d e same = file_keep line.tag (next_number e.issued) (record e { issued = next_number e.issued }) ∙ same
@@ -56,7 +52,7 @@ file_command : (text : Option (List ℕ)) (d : Data) → Same d (from_file text 
 file_command None d = refl
 file_command (Some text) d = file_issue (job_line d.greatest d.cursor text) d (record d { cursor = d.cursor + 1 }) refl
 
-file_talk : (moment : ℕ) (d : Data) (next : Drawn) → Same d next.1 → Same d (talk moment d next).1
+file_talk : (moment : ℕ) (d : Data) (next : Drawn) → Same d next.1 → Same d (draw_in_order moment d next).1
 file_talk moment d next h = file_scripts d.waiting d _ (file_manual d.manual d _ (file_poll moment d next h))
 
 file_draw : (s : State) (moment : ℕ) (d : Data) → Same d (draw_at s moment d).1
@@ -99,15 +95,15 @@ file_ready _ moment d = refl
 
 file_fact : (f : LinkFact) (moment : ℕ) (d : Data) → Same d (note_fact f moment d).1
 file_fact fact.Quiet moment d = file_end d.state d
-file_fact fact.Opened moment d = file_end d.state (opened d)
+file_fact fact.Opened moment d = file_end d.state (after_open d)
 file_fact fact.Ready moment d =
     let heard : Data = record d { ready = true } in
     let is : Data = ready_at heard.state moment heard in
     file_end is.state is ∙ file_ready heard.state moment heard
 file_fact fact.Closed moment d = refl
 file_fact fact.NoPort moment d = refl
-file_fact fact.Failed moment d = file_fail d (ended d) (file_end d.state d)
-file_fact (fact.Ended end) moment d = file_fail d (ended d) (file_end d.state d)
+file_fact fact.Failed moment d = file_fail d (after_ending d) (file_end d.state d)
+file_fact (fact.Ended end) moment d = file_fail d (after_ending d) (file_end d.state d)
 
 pub file_note : (acked : ℕ) (f : LinkFact) (moment : ℕ) (d : Data) → Same d (note_step acked f moment d).1
 file_note acked f moment d =
@@ -175,14 +171,11 @@ file_manually Cancelling lines d = file_adds lines d
 file_manually Finishing lines d = file_adds lines d
 file_manually _ lines d = refl
 
-same_some : {A : Type 0} (a b : A) → Some a ≡ Some b → a ≡ b
-same_some a b e = cc
-
 file_select : (s : State) (file : File) (d : Data) (f : File) → (select_at s file d).1.file ≡ Some f → (d.file ≡ Some f) ⊎ (Select file ≡ Select f)
-file_select Offline file d f is = inr (ap Select (same_some file f is))
-file_select Connecting file d f is = inr (ap Select (same_some file f is))
-file_select Operational file d f is = inr (ap Select (same_some file f is))
-file_select Fault file d f is = inr (ap Select (same_some file f is))
+file_select Offline file d f is = inr (ap Select (same_Some file f is))
+file_select Connecting file d f is = inr (ap Select (same_Some file f is))
+file_select Operational file d f is = inr (ap Select (same_Some file f is))
+file_select Fault file d f is = inr (ap Select (same_Some file f is))
 file_select _ file d f is = inl is
 
 file_drop : (name : List ℕ) (d : Data) (f : File) → (drop_file_step name d).1.file ≡ Some f → d.file ≡ Some f

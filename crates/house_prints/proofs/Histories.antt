@@ -2,7 +2,7 @@
 use Rattle.std.proofs.Common.{zero, suc, ◌≡◌, ◌⊎◌, inl, inr, ℕ, ◌<◌, ◌≤◌, Bool, true, false, nat_eq, List, [], ◌∷◌, ◌++◌, length, map, drop, refl, sym, ◌∙◌, ap, subst, append-nil, append_assoc, arith}
 use Rattle.desk_steps.specs.Data.{ScriptTexts, Data, new_desk}
 use Rattle.desk_steps.specs.Issued.{line_of}
-use Rattle.desk_steps.specs.Note.{ended, note_step, first_fact}
+use Rattle.desk_steps.specs.Note.{after_ending, note_step, first_fact}
 use Rattle.desk_steps.specs.Run.{Fate, Run, after, run_of, new_run, lines_of, of_print, DeskCall, Note, MayCallAll}
 use Rattle.desk_steps.specs.declared.issued.Note as declared_note
 use Rattle.desk_steps.specs.declared.link_fact.LinkFact.{LinkFact}
@@ -34,7 +34,8 @@ use Rattle.house_prints.proofs.Requests.{AreRequests, calls_requests}
 use Rattle.house_prints.proofs.Calls.{ArePlain, open_by_all}
 use Rattle.house_prints.proofs.Plain.{desk_calls}
 use Rattle.house_prints.proofs.Steps.{Tells, tells_step, tells_opened, stays_ended, opened_ended}
-use Rattle.house_prints.proofs.Notes.{first_other, acked_rises, may_pulls, called_desk, numbered_note, opened_silent, opened_calls, opening_or, plain_requests, acked_requests, open_requests, plain_pulls, acked_pulls, open_pulls}
+use Rattle.house_prints.proofs.Notes.{first_other, acked_rises, may_pulls, numbered_note, opened_silent, opened_calls, opening_or, plain_requests, acked_requests, open_requests, plain_pulls, acked_pulls, open_pulls}
+use Rattle.house_history.proofs.Histories.{called_desk}
 
 -- what an answer makes of the desk
 record Answered (calls : List DeskCall) (k l : Known) : Type 0 where
@@ -249,10 +250,10 @@ module _ (scripts : ScriptTexts) (limits : Limits) (poll_ms : ℕ) (p : ℕ) (so
   pub stays_in : (first later : History) → Legal (first ++ later) s → IsShort (first ++ later) → (f : Fate) (home a : ℕ) → home ≤ sessions first →
       of_print p (run_in first s).ends ≡ f ∷ [] → LivesIn p first home → lines_of p (drop a (issued_of home first)) ≡ [] →
       LivesIn p (first ++ later) home × (lines_of p (drop a (issued_of home (first ++ later))) ≡ [])
-  stays_in first later legal short f home a within ended l none =
+  stays_in first later legal short f home a within after_ending l none =
       let parts = legal_first first later s legal in
       let begun = follows_all scripts p positive_is first [] s (new_run s.known.desk) begins_so parts.0
       (λ one two is. short one (two ++ later) (ap (λ (x : History). x ++ later) is ∙ append_assoc one two later))
       in
       stays_all scripts p positive_is later first (after_all first s)
-      (run_of (calls_of_all first s) (new_run s.known.desk)) begun parts.1 short f home a within (ended, l, none)
+      (run_of (calls_of_all first s) (new_run s.known.desk)) begun parts.1 short f home a within (after_ending, l, none)

@@ -8,10 +8,12 @@ use Rattle.desk_steps.specs.Story.{IsBegun, Story, never, going, finished, stopp
 use Rattle.desk_steps.specs.declared.state.Point.{Point}
 use Rattle.desk_steps.specs.declared.state.Point.TheVariants as point
 use Rattle.desk_steps.specs.declared.state.Tag.{Tag}
-use Rattle.desk_steps.specs.declared.state.Tag.TheVariants.{Script, Job, Manual, Poll}
+use Rattle.desk_steps.specs.declared.state.Tag.TheVariants.{Script, Job}
 use Rattle.desk_steps.proofs.Lines.{same_test}
 use Rattle.house_history.specs.Issued.{is_job_of, job_part}
 use Rattle.house_prints.specs.Jobs.{jobs_from}
+use Rattle.byte_text.proofs.ListLaws.{head_same}
+use Rattle.std.proofs.Math.Seq.{take-length}
 
 module _ (p : ℕ) where
   pub jobs_append : (xs ys : List Line) → job_part p (xs ++ ys) ≡ job_part p xs ++ job_part p ys
@@ -19,10 +21,8 @@ module _ (p : ℕ) where
 
   -- a file command of the print is one of its lines
   job_of_own : (tag : Tag) → is_of p tag ≡ false → is_job_of p tag ≡ false
-  job_of_own (Script at q) other = refl
   job_of_own (Job q index) other = other
-  job_of_own Manual other = refl
-  job_of_own Poll other = refl
+  job_of_own _ other = refl
 
   -- the file commands among the lines of the print are those among all
   pub jobs_own : (lines : List Line) → job_part p (lines_of p lines) ≡ job_part p lines
@@ -117,9 +117,6 @@ module _ (p : ℕ) where
   pub begun_jobs : (scripts : ScriptTexts) (commands : List (List ℕ)) (lines : List Line) → IsBegun scripts p commands lines → AreFirst scripts commands lines
   begun_jobs scripts commands lines b = first_part scripts commands lines b.rest (course_jobs scripts commands b.end (lines ++ b.rest) b.course)
 
-  head_same : {X : Type 0} (x y : X) → x ∷ [] ≡ y ∷ [] → x ≡ y
-  head_same x y is = cc
-
   -- those of a print that has begun
   pub story_jobs : (scripts : ScriptTexts) (commands : List (List ℕ)) (begun : List (List (List ℕ))) (lines : List Line) (fates : List Fate) →
       Story scripts p begun lines fates → begun ≡ commands ∷ [] → AreFirst scripts commands lines
@@ -137,10 +134,6 @@ module _ (p : ℕ) where
   story_jobs scripts commands _ _ _ (broken c lines b) is =
       subst (λ (x : List (List ℕ)). AreFirst scripts x lines) (head_same c commands is) (begun_jobs scripts c lines b)
 
-  take_whole : {X : Type 0} (xs : List X) → take (length xs) xs ≡ xs
-  take_whole [] = refl
-  take_whole (x ∷ xs) = ap (λ (l : List _). x ∷ l) (take_whole xs)
-
   -- of a print that is done: all of the file, in a whole course
   pub record IsWhole (scripts : ScriptTexts) (begun : List (List (List ℕ))) (lines : List Line) : Type 0 where
     pub commands : List (List ℕ)
@@ -152,7 +145,7 @@ module _ (p : ℕ) where
       job_part p lines ≡ jobs_from p 0 commands
   done_jobs scripts commands _ _ is (done lines b) =
       with_scripts scripts point.Done lines ∙ body_jobs scripts commands (length commands) lines b
-      ∙ ap (λ (c : List (List ℕ)). jobs_from p 0 c) (take_whole commands)
+      ∙ ap (λ (c : List (List ℕ)). jobs_from p 0 c) (take-length commands)
   done_jobs scripts commands _ _ is (still_open index lines b) = absurd (cc is)
   done_jobs scripts commands _ _ is (paused index lines b) = absurd (cc is)
   done_jobs scripts commands _ _ is (cancelled index lines b) = absurd (cc is)

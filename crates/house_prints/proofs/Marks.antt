@@ -186,15 +186,12 @@ same_request (Connect port) d r = same-connect d.state port d
 same_request Disconnect d r = same-disconnect d.state d
 same_request (Select file) d r = same-select d.state file d
 same_request (DropFile name) d r = same-drop_file name d
-same_request (Start q) d r = absurd r
-same_request (Restart q) d r = absurd r
 same_request Pause d r = same-pause d.state d
 same_request Resume d r = same-resume d.state d
 same_request Toggle d r = same-toggle d.state d
 same_request Cancel d r = same-cancel d.state d
 same_request (Manually texts) d r = same-manual d.state texts d
-same_request (Pull moment) d r = absurd r
-same_request (Note acked found moment) d r = absurd r
+same_request _ d r = absurd r
 
 pub acked_request : (call : DeskCall) (d : Data) → IsRequest call → (desk_after call d).acked ≡ d.acked
 acked_request (Connect port) d r = (same-connect d.state port d).acked

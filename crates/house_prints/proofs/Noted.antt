@@ -3,18 +3,19 @@ use Rattle.std.proofs.Common.{◌≡◌, ◌⊎◌, inl, inr, ℕ, ◌<◌, ◌�
 use Rattle.std.proofs.lemmas.Bool.Decides.{nat_tests}
 use Rattle.desk_steps.specs.Data.{Data, Line, with_script, moment_after}
 use Rattle.desk_steps.specs.Pull.{settled}
-use Rattle.desk_steps.specs.Note.{Noted, is_over, end_at, ended, finish, leave, fail, ready_at, opened, note_fact, note_step}
+use Rattle.desk_steps.specs.Note.{Noted, is_over, end_at, after_ending, finish, leave, fail, ready_at, after_open, note_fact, note_step}
 use Rattle.desk_steps.specs.Run.{lines_of}
 use Rattle.desk_steps.specs.declared.state.State.{State}
 use Rattle.desk_steps.specs.declared.state.State.TheVariants.{Offline, Connecting, Operational, Pausing, Paused, Cancelling, Finishing, Fault}
 use Rattle.desk_steps.specs.declared.state.Point.TheVariants as point
 use Rattle.desk_steps.specs.declared.link_fact.LinkFact.{LinkFact}
 use Rattle.desk_steps.specs.declared.link_fact.LinkFact.TheVariants as fact
-use Rattle.desk_steps.proofs.Noted.{no_lines, and_first}
+use Rattle.desk_steps.proofs.Noted.{no_lines}
 use Rattle.print_records.specs.declared.ending.Outcome.TheVariants as outcome
 use Rattle.house_prints.proofs.Lists.{none_past}
 use Rattle.house_prints.proofs.Marks.{Marked, marked_same}
 use Rattle.house_prints.proofs.Pulled.{same_settle}
+use Rattle.desk_steps.proofs.Endings.{over_line, over_waiting}
 
 module _ (p : ℕ) (positive : nat_eq 0 p ≡ false) where
   -- what a note makes of a desk that heard how many lines are acknowledged
@@ -32,12 +33,6 @@ module _ (p : ℕ) (positive : nat_eq 0 p ≡ false) where
 
   after_same : (t : Data) → IsAfter t t
   after_same t = record { issued = refl; acked = refl; line = refl; greatest = refl; paused = λ is. inl (is, refl) }
-
-  over_line : (t : Data) → is_over t ≡ true → t.print_line ≤ t.acked
-  over_line t over = grind (arith, nat_tests)
-
-  over_waiting : (t : Data) → is_over t ≡ true → t.waiting ≡ []
-  over_waiting t over = no_lines t.waiting (and_first _ _ over)
 
   by_over : (t : Data) (b : Bool) (x y : Noted) → (b ≡ true → IsAfter t x.1) → IsAfter t y.1 → IsAfter t (cond b x y).1
   by_over t true x y hx hy = hx refl
@@ -92,12 +87,12 @@ module _ (p : ℕ) (positive : nat_eq 0 p ≡ false) where
   after_fact fact.Ready moment t other =
       let heard : Data = record t { ready = true } in
       let is : Data = ready_at heard.state moment heard in
-      after_then t is (ended is).1 (after_then t heard is (record { issued = refl; acked = refl; line = refl; greatest = refl; paused = λ is. inl (is, refl) })
+      after_then t is (after_ending is).1 (after_then t heard is (record { issued = refl; acked = refl; line = refl; greatest = refl; paused = λ is. inl (is, refl) })
       (after_ready heard.state moment heard)) (after_end is.state is)
   after_fact fact.Closed moment t other = after_moved t (leave Offline outcome.Cancelled t).1 refl refl refl refl (λ e. cc e)
   after_fact fact.NoPort moment t other = after_moved t (leave Fault outcome.Failed t).1 refl refl refl refl (λ e. cc e)
-  after_fact fact.Failed moment t other = after_fail t (ended t) (after_end t.state t)
-  after_fact (fact.Ended end) moment t other = after_fail t (ended t) (after_end t.state t)
+  after_fact fact.Failed moment t other = after_fail t (after_ending t) (after_end t.state t)
+  after_fact (fact.Ended end) moment t other = after_fail t (after_ending t) (after_end t.state t)
 
   marked_after : (d e : Data) (acked : ℕ) (lines : List Line) → d.acked ≤ acked → IsAfter (record d { acked = acked }) e → Marked p d lines → Marked p e lines
   marked_after d e acked lines later a m = record {
@@ -127,8 +122,8 @@ module _ (p : ℕ) (positive : nat_eq 0 p ≡ false) where
   -- one that does: the session has no line yet
   pub marked_opened : (acked moment : ℕ) (d : Data) (lines : List Line) → Marked p d lines → Marked p (note_step acked fact.Opened moment d).1 []
   marked_opened acked moment d lines m =
-      let t : Data = opened (record d { acked = acked }) in
-      let noted : Noted = ended t in
+      let t : Data = after_open (record d { acked = acked }) in
+      let noted : Noted = after_ending t in
       marked_same p noted.1 (settled noted.1) [] (same_settle p positive noted.1.state noted.1) (by t noted.1 refl refl (λ is. is) refl (after_end t.state t))
     where
       by : (t e : Data) → t.issued ≡ 0 → t.print_line ≡ 0 → (t.state ≡ Paused → d.state ≡ Paused) → t.waiting ≡ d.waiting → IsAfter t e → Marked p e []
@@ -145,6 +140,6 @@ module _ (p : ℕ) (positive : nat_eq 0 p ≡ false) where
 
   pub acked_opened : (acked moment : ℕ) (d : Data) → (note_step acked fact.Opened moment d).1.acked ≡ 0
   acked_opened acked moment d =
-      let t : Data = opened (record d { acked = acked }) in
-      let noted : Noted = ended t in
+      let t : Data = after_open (record d { acked = acked }) in
+      let noted : Noted = after_ending t in
       (same_settle p positive noted.1.state noted.1).acked ∙ (after_end t.state t).acked

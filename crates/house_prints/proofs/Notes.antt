@@ -3,7 +3,7 @@ use Rattle.std.proofs.Common.{◌≡◌, ◌⊎◌, inl, inr, ℕ, ◌≤◌, Bo
 use Rattle.std.proofs.lemmas.List.{length-map}
 use Rattle.desk_steps.specs.Data.{ScriptTexts, Data, Line}
 use Rattle.desk_steps.specs.Issued.{line_of}
-use Rattle.desk_steps.specs.Note.{opened, ended, end_at, note_step, first_fact}
+use Rattle.desk_steps.specs.Note.{after_open, after_ending, end_at, note_step, first_fact}
 use Rattle.desk_steps.specs.Pull.{pull_step, draw_at, settle_at}
 use Rattle.desk_steps.specs.Run.{DeskCall, Pull, Note}
 use Rattle.desk_steps.specs.declared.issued.Issued.{Issued}
@@ -11,8 +11,9 @@ use Rattle.desk_steps.specs.declared.issued.Note as declared_note
 use Rattle.desk_steps.specs.declared.link_fact.LinkFact.{LinkFact}
 use Rattle.desk_steps.specs.declared.link_fact.LinkFact.TheVariants as fact
 use Rattle.desk_steps.specs.declared.state.State.{State}
-use Rattle.desk_steps.specs.declared.state.State.TheVariants.{Offline, Connecting, Operational, Printing, Pausing, Paused, Cancelling, Finishing, Closing, Fault}
+use Rattle.desk_steps.specs.declared.state.State.TheVariants.{Offline, Connecting, Printing, Pausing, Cancelling, Finishing, Fault}
 use Rattle.desk_steps.proofs.Steady.{Steady, steady-pull, steady-note}
+use Rattle.desk_steps.proofs.Connecting.{note_opened}
 use Rattle.octo_keeper.specs.Tables.{with_due_end, ended_row}
 use Rattle.print_records.specs.declared.ending.Ending.{Ending}
 use Rattle.print_records.specs.declared.row.PrintRow.{PrintRow}
@@ -20,7 +21,7 @@ use Rattle.house_verdicts.specs.Desk.{desk_after, desk_after_all, lines_pulled, 
 use Rattle.house_verdicts.specs.Known.{Known}
 use Rattle.house_history.specs.Issued.{is_opening}
 use Rattle.house_history.specs.Legal.{up_after, IsAckedWell}
-use Rattle.house_history.specs.Noted.{called, called_all, last_call, known_after_note}
+use Rattle.house_history.specs.Noted.{known_after_call, known_after_calls, last_call, known_after_note}
 use Rattle.house_history.proofs.Played.{IsNumbered}
 use Rattle.house_history.proofs.Runs.{MayAll}
 use Rattle.house_prints.proofs.Marks.{IsRequest, acked_request}
@@ -29,6 +30,7 @@ use Rattle.house_prints.proofs.Noted.{acked_note}
 use Rattle.house_prints.proofs.Requests.{AreRequests}
 use Rattle.house_prints.proofs.Calls.{ArePlain, open_by_all}
 use Rattle.house_prints.proofs.Plain.{IsPlain, open_by}
+use Rattle.house_history.proofs.Histories.{as_many, called_desk}
 
 -- requests open no session and acknowledge nothing
 module _ (scripts : ScriptTexts) (p : ℕ) (positive : nat_eq 0 p ≡ false) where
@@ -89,22 +91,12 @@ module _ (scripts : ScriptTexts) (p : ℕ) (positive : nat_eq 0 p ≡ false) whe
   open_pulls f acked moment (one ∷ issued) was = open_pulls f acked moment issued was
 
 pub first_other : (f : LinkFact) → (f ≡ fact.Opened → ⊥) → first_fact f ≡ fact.Opened → ⊥
-first_other fact.Quiet other is = absurd (cc is)
 first_other fact.Opened other is = other refl
-first_other fact.Ready other is = absurd (cc is)
-first_other fact.Closed other is = absurd (cc is)
-first_other fact.NoPort other is = absurd (cc is)
-first_other fact.Failed other is = absurd (cc is)
-first_other (fact.Ended end) other is = absurd (cc is)
+first_other _ other is = absurd (cc is)
 
 pub acked_rises : (f : LinkFact) (acked : ℕ) (d : Data) → (f ≡ fact.Opened → ⊥) → IsAckedWell f acked d → d.acked ≤ acked
 acked_rises fact.Opened acked d other well = absurd (other refl)
-acked_rises fact.Quiet acked d other well = well.0
-acked_rises fact.Ready acked d other well = well.0
-acked_rises fact.Closed acked d other well = well.0
-acked_rises fact.NoPort acked d other well = well.0
-acked_rises fact.Failed acked d other well = well.0
-acked_rises (fact.Ended end) acked d other well = well.0
+acked_rises _ acked d other well = well.0
 
 pub may_pulls : (f : LinkFact) (acked moment : ℕ) (issued : List Issued) (d : Data)
     → MayAll (map (λ (one : Issued). Pull moment) issued ++ last_call f acked moment) d
@@ -117,80 +109,33 @@ may_pulls fact.NoPort acked moment [] d = tt
 may_pulls (fact.Ended end) acked moment [] d = tt
 may_pulls f acked moment (one ∷ issued) d = (tt, may_pulls f acked moment issued (pull_step moment d).1)
 
--- a note leaves the numbers of prints in order
-pub called_desk : (calls : List DeskCall) (k : Known) → (called_all calls k).desk ≡ desk_after_all calls k.desk
-called_desk [] k = refl
-called_desk (call ∷ calls) k = called_desk calls (called call k)
-
-as_many : (ending : Option Ending) (rows : List PrintRow) → length (with_due_end ending rows) ≡ length rows
-as_many None rows = refl
-as_many (Some ending) rows = length-map rows (ended_row ending)
-
-numbered_by : (call : DeskCall) (k : Known) → Steady k.desk (desk_after call k.desk) → IsNumbered k → IsNumbered (called call k)
+numbered_by : (call : DeskCall) (k : Known) → Steady k.desk (desk_after call k.desk) → IsNumbered k → IsNumbered (known_after_call call k)
 numbered_by call k s n =
     subst (λ (count : ℕ). (desk_after call k.desk).greatest ≤ count) (sym (as_many (ended_by call k.desk) k.prints))
     (subst (λ (g : ℕ). g ≤ length k.prints) (sym s.greatest) n)
 
 numbered_pulls : (f : LinkFact) (acked moment : ℕ) (issued : List Issued) (k : Known) → IsNumbered k →
-    IsNumbered (called_all (map (λ (one : Issued). Pull moment) issued ++ last_call f acked moment) k)
+    IsNumbered (known_after_calls (map (λ (one : Issued). Pull moment) issued ++ last_call f acked moment) k)
 numbered_pulls fact.Failed acked moment [] k n = numbered_by (Note acked fact.Failed moment) k (steady-note acked fact.Failed moment k.desk) n
-numbered_pulls fact.Quiet acked moment [] k n = n
-numbered_pulls fact.Opened acked moment [] k n = n
-numbered_pulls fact.Ready acked moment [] k n = n
-numbered_pulls fact.Closed acked moment [] k n = n
-numbered_pulls fact.NoPort acked moment [] k n = n
-numbered_pulls (fact.Ended end) acked moment [] k n = n
+numbered_pulls _ acked moment [] k n = n
 numbered_pulls f acked moment (one ∷ issued) k n =
-    numbered_pulls f acked moment issued (called (Pull moment) k) (numbered_by (Pull moment) k (steady-pull moment k.desk) n)
+    numbered_pulls f acked moment issued (known_after_call (Pull moment) k) (numbered_by (Pull moment) k (steady-pull moment k.desk) n)
 
 pub numbered_note : (note : declared_note.Note) (k : Known) → IsNumbered k → IsNumbered (known_after_note note k)
 numbered_note note k n =
-    numbered_pulls note.fact note.acked note.moment note.issued.items (called (Note note.acked (first_fact note.fact) note.moment) k)
+    numbered_pulls note.fact note.acked note.moment note.issued.items (known_after_call (Note note.acked (first_fact note.fact) note.moment) k)
     (numbered_by (Note note.acked (first_fact note.fact) note.moment) k (steady-note note.acked (first_fact note.fact) note.moment k.desk) n)
 
 -- while the desk connects it has no line
-connecting_end : (s : State) (d : Data) → s ≡ Connecting → (end_at s d).1.state ≡ d.state
-connecting_end Connecting d is = refl
-connecting_end Offline d is = refl
-connecting_end Operational d is = refl
-connecting_end Printing d is = refl
-connecting_end Pausing d is = absurd (cc is)
-connecting_end Paused d is = refl
-connecting_end Cancelling d is = absurd (cc is)
-connecting_end Finishing d is = absurd (cc is)
-connecting_end Closing d is = refl
-connecting_end Fault d is = refl
-
 connecting_settle : (s : State) (d : Data) → s ≡ Connecting → (settle_at s d).state ≡ d.state
 connecting_settle Printing d is = absurd (cc is)
-connecting_settle Connecting d is = refl
-connecting_settle Offline d is = refl
-connecting_settle Operational d is = refl
-connecting_settle Pausing d is = refl
-connecting_settle Paused d is = refl
-connecting_settle Cancelling d is = refl
-connecting_settle Finishing d is = refl
-connecting_settle Closing d is = refl
-connecting_settle Fault d is = refl
-
-opened_connecting : (acked moment : ℕ) (d : Data) → d.state ≡ Connecting → (note_step acked fact.Opened moment d).1.state ≡ Connecting
-opened_connecting acked moment d is =
-    let t : Data = opened (record d { acked = acked }) in
-    let e : Data = (ended t).1 in
-    let there : e.state ≡ Connecting = connecting_end t.state t is ∙ is in
-    connecting_settle e.state e there ∙ there
+connecting_settle _ d is = refl
 
 connecting_draws : (s : State) (moment : ℕ) (d : Data) → s ≡ Connecting → ((draw_at s moment d).0 ≡ None) × ((draw_at s moment d).1 ≡ d)
 connecting_draws Connecting moment d is = (refl, refl)
 connecting_draws Offline moment d is = (refl, refl)
 connecting_draws Fault moment d is = (refl, refl)
-connecting_draws Operational moment d is = absurd (cc is)
-connecting_draws Printing moment d is = absurd (cc is)
-connecting_draws Pausing moment d is = absurd (cc is)
-connecting_draws Paused moment d is = absurd (cc is)
-connecting_draws Cancelling moment d is = absurd (cc is)
-connecting_draws Finishing moment d is = absurd (cc is)
-connecting_draws Closing moment d is = absurd (cc is)
+connecting_draws _ moment d is = absurd (cc is)
 
 none_pulled : (moment : ℕ) (issued : List Issued) (d : Data) → d.state ≡ Connecting → lines_pulled (map (λ (one : Issued). Pull moment) issued) d ≡ []
 none_pulled moment [] d is = refl
@@ -213,7 +158,7 @@ opened_silent fact.Opened acked moment issued d opens is lines =
     none_of line_of issued
     (sym lines ∙ ap (λ (calls : List DeskCall). lines_pulled calls (note_step acked fact.Opened moment d).1)
     (append-nil (map (λ (one : Issued). Pull moment) issued))
-    ∙ none_pulled moment issued (note_step acked fact.Opened moment d).1 (opened_connecting acked moment d is))
+    ∙ none_pulled moment issued (note_step acked fact.Opened moment d).1 (note_opened acked moment d is))
 opened_silent fact.Quiet acked moment issued d opens is lines = absurd (cc opens)
 opened_silent fact.Ready acked moment issued d opens is lines = absurd (cc opens)
 opened_silent fact.Closed acked moment issued d opens is lines = absurd (cc opens)
@@ -225,12 +170,7 @@ pub opened_calls : (f : LinkFact) (acked moment : ℕ) (issued : List Issued) �
     Note acked fact.Opened moment ∷ [] ≡ Note acked (first_fact f) moment ∷ (map (λ (one : Issued). Pull moment) issued ++ last_call f acked moment)
 opened_calls fact.Opened acked moment [] opens none = refl
 opened_calls fact.Opened acked moment (one ∷ issued) opens none = absurd (cc none)
-opened_calls fact.Quiet acked moment issued opens none = absurd (cc opens)
-opened_calls fact.Ready acked moment issued opens none = absurd (cc opens)
-opened_calls fact.Closed acked moment issued opens none = absurd (cc opens)
-opened_calls fact.NoPort acked moment issued opens none = absurd (cc opens)
-opened_calls fact.Failed acked moment issued opens none = absurd (cc opens)
-opened_calls (fact.Ended end) acked moment issued opens none = absurd (cc opens)
+opened_calls _ acked moment issued opens none = absurd (cc opens)
 
 pub opening_or : (f : LinkFact) → (f ≡ fact.Opened) ⊎ ((f ≡ fact.Opened → ⊥) × (is_opening f ≡ false))
 opening_or fact.Opened = inl refl

@@ -4,10 +4,10 @@ use Rattle.desk_steps.specs.Data.{ScriptTexts, Data, Line}
 use Rattle.desk_steps.specs.Table.{start_at, restart_at}
 use Rattle.desk_steps.specs.Pull.{pull_step}
 use Rattle.desk_steps.specs.Note.{note_step}
-use Rattle.desk_steps.specs.Run.{Fate, Finished, Stopped, Left, Unplugged, Broken, Run, after, after_start, after_restart, after_pull, after_note, lines_of, pulled_of, of_print, DeskCall, Connect, Disconnect, Select, DropFile, Start, Restart, Pause, Resume, Toggle, Cancel, Manually, Pull, Note, MayCall}
+use Rattle.desk_steps.specs.Run.{Fate, Left, Unplugged, Broken, Run, after, after_start, after_restart, after_pull, after_note, lines_of, pulled_of, of_print, DeskCall, Connect, Disconnect, Select, DropFile, Start, Restart, Pause, Resume, Toggle, Cancel, Manually, Pull, Note, MayCall}
 use Rattle.desk_steps.specs.declared.state.Refusal.{Refusal}
 use Rattle.desk_steps.specs.declared.state.State.{State}
-use Rattle.desk_steps.specs.declared.state.State.TheVariants.{Offline, Connecting, Operational, Printing, Pausing, Paused, Cancelling, Finishing, Closing, Fault}
+use Rattle.desk_steps.specs.declared.state.State.TheVariants.{Paused}
 use Rattle.desk_steps.specs.declared.link_fact.LinkFact.{LinkFact}
 use Rattle.print_records.specs.declared.ending.Ending.{Ending}
 use Rattle.desk_steps.proofs.Foreign.{ForeignTo, IsIdle, IsNotOf, IsNoEndOf, foreign-pull, foreign-note}
@@ -20,6 +20,7 @@ use Rattle.house_prints.proofs.Marks.{Marked, marked_request, acked_request}
 use Rattle.house_prints.proofs.Pulled.{drawn_lines, marked_pull, acked_pull}
 use Rattle.house_prints.proofs.Noted.{marked_note, acked_note}
 use Rattle.house_prints.proofs.Plain.{IsPlain, open_by, shut_by}
+use Rattle.house_history.proofs.Fates.{ends_start}
 
 module _ (scripts : ScriptTexts) (p : ℕ) (positive : nat_eq 0 p ≡ false) where
   -- the print hasn't begun, is going on, or has ended
@@ -37,11 +38,9 @@ module _ (scripts : ScriptTexts) (p : ℕ) (positive : nat_eq 0 p ≡ false) whe
 
   -- what an ended print leaves: all its lines are acknowledged, or no session is open
   abbrev pub LeftSo : Fate → ℕ → List Line → Bool → Type 0
-  LeftSo Finished acked lines is_open = lines_of p (drop acked lines) ≡ []
-  LeftSo Stopped acked lines is_open = lines_of p (drop acked lines) ≡ []
-  LeftSo Left acked lines is_open = lines_of p (drop acked lines) ≡ []
   LeftSo Unplugged acked lines is_open = is_open ≡ false
   LeftSo Broken acked lines is_open = is_open ≡ false
+  LeftSo _ acked lines is_open = lines_of p (drop acked lines) ≡ []
 
   -- the print hasn't ended, or has ended so
   abbrev pub Status : List Fate → ℕ → List Line → Bool → Type 0
@@ -50,11 +49,9 @@ module _ (scripts : ScriptTexts) (p : ℕ) (positive : nat_eq 0 p ≡ false) whe
   -- it stays so
   pub left_on : (f : Fate) (acked later : ℕ) (lines more : List Line) (was now : Bool) → acked ≤ later → lines_of p more ≡ [] → (was ≡ false → now ≡ false) →
       LeftSo f acked lines was → LeftSo f later (lines ++ more) now
-  left_on Finished acked later lines more was now below none shut l = none_later p acked later (lines ++ more) below (none_more p acked lines more l none)
-  left_on Stopped acked later lines more was now below none shut l = none_later p acked later (lines ++ more) below (none_more p acked lines more l none)
-  left_on Left acked later lines more was now below none shut l = none_later p acked later (lines ++ more) below (none_more p acked lines more l none)
   left_on Unplugged acked later lines more was now below none shut l = shut l
   left_on Broken acked later lines more was now below none shut l = shut l
+  left_on _ acked later lines more was now below none shut l = none_later p acked later (lines ++ more) below (none_more p acked lines more l none)
 
   -- a print that has ended is touched by no call
   pub ended_foreign : (run : Run) (f : Fate) → of_print p run.ends ≡ f ∷ [] → KnownOf scripts p positive run → ForeignTo p run.desk
@@ -106,18 +103,7 @@ module _ (scripts : ScriptTexts) (p : ℕ) (positive : nat_eq 0 p ≡ false) whe
 
   pub shut_call : (call : DeskCall) (d : Data) → IsPlain call d → (was : Bool) → was ≡ false → open_by call was ≡ false
   shut_call (Note acked f moment) d plain was is = ap (λ (b : Bool). up_after f b) is ∙ shut_by f plain.0
-  shut_call (Pull moment) d plain was is = is
-  shut_call (Connect port) d plain was is = is
-  shut_call Disconnect d plain was is = is
-  shut_call (Select file) d plain was is = is
-  shut_call (DropFile name) d plain was is = is
-  shut_call (Start q) d plain was is = is
-  shut_call (Restart q) d plain was is = is
-  shut_call Pause d plain was is = is
-  shut_call Resume d plain was is = is
-  shut_call Toggle d plain was is = is
-  shut_call Cancel d plain was is = is
-  shut_call (Manually texts) d plain was is = is
+  shut_call _ d plain was is = is
 
   none_drawn : (line : Option Line) → IsNotOf p line → lines_of p (drawn_lines line) ≡ []
   none_drawn None other = refl
@@ -126,23 +112,7 @@ module _ (scripts : ScriptTexts) (p : ℕ) (positive : nat_eq 0 p ≡ false) whe
   -- what a foreign print sees of a call: none of its lines, and no end
   pub none_pulled : (call : DeskCall) (d : Data) → ForeignTo p d → lines_of p (drawn_lines (line_pulled call d)) ≡ []
   none_pulled (Pull moment) d f = none_drawn (pull_step moment d).0 (foreign-pull p moment d f).1
-  none_pulled (Note acked g moment) d f = refl
-  none_pulled (Connect port) d f = refl
-  none_pulled Disconnect d f = refl
-  none_pulled (Select file) d f = refl
-  none_pulled (DropFile name) d f = refl
-  none_pulled (Start q) d f = refl
-  none_pulled (Restart q) d f = refl
-  none_pulled Pause d f = refl
-  none_pulled Resume d f = refl
-  none_pulled Toggle d f = refl
-  none_pulled Cancel d f = refl
-  none_pulled (Manually texts) d f = refl
-
-  -- the ends of the print after a call
-  pub ends_started : (q : ℕ) (r : Result (Unit {0}) Refusal) (d : Data) (run : Run) → (after_start q (r, d) run).ends ≡ run.ends
-  ends_started q (Ok u) d run = refl
-  ends_started q (Err e) d run = refl
+  none_pulled _ d f = refl
 
   pub ends_pulled : (state : State) (line : Option Line) (d : Data) (run : Run) → (after_pull state (line, d) run).ends ≡ run.ends
   ends_pulled state None d run = refl
@@ -160,28 +130,12 @@ module _ (scripts : ScriptTexts) (p : ℕ) (positive : nat_eq 0 p ≡ false) whe
   ends_left : (s : State) (q : ℕ) (run : Run) → run.desk.state ≡ s → ForeignTo p run.desk
       → of_print p (after_restart q (restart_at s q run.desk) run).ends ≡ of_print p run.ends
   ends_left Paused q run is f = of_print-other p run.desk.greatest Left run.ends (other_paused run.desk is f)
-  ends_left Offline q run is f = refl
-  ends_left Connecting q run is f = refl
-  ends_left Operational q run is f = refl
-  ends_left Printing q run is f = refl
-  ends_left Pausing q run is f = refl
-  ends_left Cancelling q run is f = refl
-  ends_left Finishing q run is f = refl
-  ends_left Closing q run is f = refl
-  ends_left Fault q run is f = refl
+  ends_left _ q run is f = refl
 
   pub ends_foreign : (call : DeskCall) (run : Run) → ForeignTo p run.desk → of_print p (after call run).ends ≡ of_print p run.ends
   ends_foreign (Restart q) run f = ends_left run.desk.state q run refl f
   ends_foreign (Note acked g moment) run f =
       ends_noted g (note_step acked g moment run.desk).0 (note_step acked g moment run.desk).1 run (foreign-note p positive acked g moment run.desk f).1
   ends_foreign (Pull moment) run f = ap (of_print p) (ends_pulled run.desk.state (pull_step moment run.desk).0 (pull_step moment run.desk).1 run)
-  ends_foreign (Start q) run f = ap (of_print p) (ends_started q (start_at run.desk.state q run.desk).0 (start_at run.desk.state q run.desk).1 run)
-  ends_foreign (Connect port) run f = refl
-  ends_foreign Disconnect run f = refl
-  ends_foreign (Select file) run f = refl
-  ends_foreign (DropFile name) run f = refl
-  ends_foreign Pause run f = refl
-  ends_foreign Resume run f = refl
-  ends_foreign Toggle run f = refl
-  ends_foreign Cancel run f = refl
-  ends_foreign (Manually texts) run f = refl
+  ends_foreign (Start q) run f = ap (of_print p) (ends_start q (start_at run.desk.state q run.desk).0 (start_at run.desk.state q run.desk).1 run)
+  ends_foreign _ run f = refl

@@ -63,19 +63,11 @@ open_by (Note acked f moment) was = up_after f was
 open_by _ was = was
 
 pub shut_by : (f : LinkFact) → (f ≡ fact.Opened → ⊥) → up_after f false ≡ false
-shut_by fact.Quiet other = refl
 shut_by fact.Opened other = absurd (other refl)
-shut_by fact.Ready other = refl
-shut_by fact.Closed other = refl
-shut_by fact.NoPort other = refl
-shut_by fact.Failed other = refl
-shut_by (fact.Ended end) other = refl
+shut_by _ other = refl
 
 pub failed_shut : (f : LinkFact) (was : Bool) → is_failure f ≡ true → up_after f was ≡ false
 failed_shut fact.NoPort was is = refl
 failed_shut fact.Failed was is = refl
 failed_shut (fact.Ended end) was is = refl
-failed_shut fact.Quiet was is = absurd (cc)
-failed_shut fact.Opened was is = absurd (cc)
-failed_shut fact.Ready was is = absurd (cc)
-failed_shut fact.Closed was is = absurd (cc)
+failed_shut _ was is = absurd (cc)

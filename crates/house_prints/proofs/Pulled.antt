@@ -3,11 +3,11 @@ use Rattle.std.proofs.Common.{◌≡◌, ◌⊎◌, inl, inr, ℕ, ◌+◌, ◌<
 use Rattle.std.proofs.lemmas.List.{length-append}
 use Rattle.std.proofs.lemmas.Bool.Decides.{nat_tests}
 use Rattle.desk_steps.specs.Data.{Data, Line, with_script, moment_after}
-use Rattle.desk_steps.specs.Pull.{Drawn, talk, nothing, next_number, keep_number, issue, from_scripts, from_manual, from_poll, poll_is_due, from_file, draw_at, is_issued, settle_at, settled, pull_step}
+use Rattle.desk_steps.specs.Pull.{Drawn, draw_in_order, nothing, next_number, keep_number, issue, from_scripts, from_manual, from_poll, poll_is_due, from_file, draw_at, is_issued, settle_at, settled, pull_step}
 use Rattle.desk_steps.specs.Course.{job_line}
 use Rattle.desk_steps.specs.Run.{is_of, lines_of}
 use Rattle.desk_steps.specs.declared.state.State.{State}
-use Rattle.desk_steps.specs.declared.state.State.TheVariants.{Offline, Connecting, Operational, Printing, Pausing, Paused, Cancelling, Finishing, Closing, Fault}
+use Rattle.desk_steps.specs.declared.state.State.TheVariants.{Offline, Connecting, Printing, Paused, Finishing, Closing, Fault}
 use Rattle.desk_steps.specs.declared.state.Point.{Point}
 use Rattle.desk_steps.specs.declared.state.Point.TheVariants as point
 use Rattle.desk_steps.specs.declared.state.Tag.{Tag}
@@ -15,12 +15,8 @@ use Rattle.desk_steps.specs.declared.state.Tag.TheVariants.{Script, Job, Manual,
 use Rattle.desk_steps.proofs.Foreign.{IsNotOf}
 use Rattle.house_prints.proofs.Lists.{none_more, none_past, none_both, own_none}
 use Rattle.house_prints.proofs.Marks.{IsSame, same, moved, Marked, marked_same}
-use Rattle.desk_steps.proofs.Steady.{either}
-
--- what a drawn line makes of the numbers: a line of the print counts as its last one
-abbrev pub counted_by : Option Line → ℕ → ℕ
-counted_by None n = n
-counted_by (Some line) n = next_number n
+use Rattle.std.proofs.lemmas.Bool.{cond_both}
+use Rattle.session_steps.proofs.Counts.{counted_by}
 
 -- a drawn line, if there is one
 abbrev pub drawn_lines : Option Line → List Line
@@ -128,25 +124,21 @@ module _ (p : ℕ) (positive : nat_eq 0 p ≡ false) where
       (near d (record d { cursor = d.cursor + 1 }) refl refl refl refl refl refl)
       (λ is none. absurd (let no : Printing ≡ Paused = sym e ∙ is in cc no))
 
-  draws_talk : (moment : ℕ) (d : Data) (next : Drawn) → Draws d next → Draws d (talk moment d next)
+  draws_talk : (moment : ℕ) (d : Data) (next : Drawn) → Draws d next → Draws d (draw_in_order moment d next)
   draws_talk moment d next h = draws_scripts d.waiting d _ refl (draws_manual d.manual d _ (draws_poll moment d next h))
 
   draws_at : (s : State) (moment : ℕ) (d : Data) → d.state ≡ s → Draws d (draw_at s moment d)
   draws_at Offline moment d e = draws_none d
   draws_at Connecting moment d e = draws_none d
-  draws_at Operational moment d e = draws_talk moment d (nothing d) (draws_none d)
   draws_at Printing moment d e = draws_talk moment d _ (draws_file _ d e)
-  draws_at Pausing moment d e = draws_talk moment d (nothing d) (draws_none d)
-  draws_at Paused moment d e = draws_talk moment d (nothing d) (draws_none d)
-  draws_at Cancelling moment d e = draws_talk moment d (nothing d) (draws_none d)
-  draws_at Finishing moment d e = draws_talk moment d (nothing d) (draws_none d)
   draws_at Closing moment d e = draws_scripts d.waiting d (nothing d) refl (draws_none d)
   draws_at Fault moment d e = draws_none d
+  draws_at _ moment d e = draws_talk moment d (nothing d) (draws_none d)
 
   pub same_settle : (s : State) (d : Data) → IsSame d (settle_at s d)
   same_settle Printing d =
-      either (λ e. IsSame d e) (is_issued d) (with_script point.Done d.greatest (record d { state = Finishing })) d
-      (moved d (with_script point.Done d.greatest (record d { state = Finishing })) refl refl refl refl refl (λ e. cc e)) (same d)
+      cond_both (is_issued d) (with_script point.Done d.greatest (record d { state = Finishing })) d (λ e. IsSame d e)
+      (λ _. moved d (with_script point.Done d.greatest (record d { state = Finishing })) refl refl refl refl refl (λ e. cc e)) (λ _. same d)
   same_settle _ d = same d
 
   one_more : (n : ℕ) → n + 1 ≤ 18446744073709551615 → next_number n ≡ n + 1

@@ -14,11 +14,13 @@ use Rattle.house_prints.proofs.Executed.{in_order, done_whole, record_true}
 use Rattle.house_prints.proofs.Selected.{of_its_file}
 use Rattle.house_prints.proofs.Shown.{shown_true}
 use Rattle.house_prints.proofs.Sent.{sent_no_more, true_end}
+use Rattle.std.proofs.lemmas.Option.{same_Some}
 
 -- a run keeps its prints
 pub run_keeps : (kind : LinkKind) (front : List WorldEvent) (s : Standing) (history : History) (past : List WorldEvent)
     → IsRun kind front s history past → KeepsPrints kind front s history past
 run_keeps kind front s history past run = record {
+  tied = run.tied;
   from_file = of_its_file s history run.begins.new;
   in_order = in_order kind front s history past run;
   done_whole = done_whole kind front s history past run;
@@ -28,9 +30,6 @@ run_keeps kind front s history past run = record {
   end_true = true_end kind front s history past run;
 }
 
-same_some : {A : Type 0} (a b : A) → Some a ≡ Some b → a ≡ b
-same_some a b e = cc
-
 -- the history of a host that began so is legal and tied to its link's, so it keeps its prints
 pub recorded_keeps : (kind : LinkKind) (before after : Option History) (files files' : Option (List ShelfFile)) (link link' : Option (List WorldEvent))
     (Before After : List ShelfFile → Standing → Type 0) → Walks before after files files' Before After → TiesLines kind before after link link' →
@@ -39,7 +38,7 @@ pub recorded_keeps : (kind : LinkKind) (before after : Option History) (files fi
 recorded_keeps kind before after files files' link link' Before After walks ties held was s starts begins now recorded events there =
     let walked = (walks held was).2 now recorded in
     let grown = ties now recorded events there in
-    let old : walked.old ≡ grown.old = same_some walked.old grown.old (sym walked.past_is ∙ grown.was) in
+    let old : walked.old ≡ grown.old = same_Some walked.old grown.old (sym walked.past_is ∙ grown.was) in
     let added : walked.added ≡ grown.added =
     append_cancel_left grown.old walked.added grown.added
     (sym (ap (λ (h : History). h ++ walked.added) old) ∙ sym walked.grows ∙ grown.grew)

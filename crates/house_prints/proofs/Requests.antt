@@ -14,12 +14,12 @@ use Rattle.octo_access.specs.Rights.{caller}
 use Rattle.octo_access.specs.declared.permission.Permission.{Permission}
 use Rattle.octo_access.specs.declared.refusal.UserRefusal.{UserRefusal}
 use Rattle.octo_access.specs.declared.row.UserRow.{UserRow}
-use Rattle.octo_keeper.specs.Files.{is_file, is_before, bytes_of, without_file, with_file}
+use Rattle.octo_keeper.specs.Files.{is_file, bytes_of, without_file, with_file}
 use Rattle.octo_keeper.specs.declared.shelf.ShelfFile.{ShelfFile}
 use Rattle.print_queue.specs.declared.entry.QueueEntry.{QueueEntry}
 use Rattle.print_queue.specs.declared.refusal.Put.{Put}
 use Rattle.print_queue.specs.declared.refusal.QueueRefusal.{QueueRefusal}
-use Rattle.desk_steps.specs.Data.{File}
+use Rattle.desk_steps.specs.Data.{File, named_file}
 use Rattle.desk_steps.specs.Table.{connect_at, restart_at}
 use Rattle.desk_steps.specs.declared.state.Refusal.{Refusal}
 use Rattle.print_queue.specs.Rows.{insert_row, without_copy}
@@ -28,16 +28,18 @@ use Rattle.octo_asks.specs.declared.answer.Answer.{Answer}
 use Rattle.octo_asks.specs.declared.answer.Answer.TheVariants as answer
 use Rattle.octo_asks.specs.declared.request.Request.{Request}
 use Rattle.octo_asks.specs.declared.request.Request.TheVariants as request
-use Rattle.house_verdicts.specs.Known.{Known, next_number}
-use Rattle.house_verdicts.specs.Refusals.{refused, user_refused, queue_refused, refused_if, granted, granted_user, granted_heat, found_or, read_as}
-use Rattle.house_verdicts.specs.Prints.{port_for, commands_in, manual_verdict, restarted}
+use Rattle.house_verdicts.specs.Known.{Known, next_print_number}
+use Rattle.house_verdicts.specs.Refusals.{answer_of_refusal, answer_of_user_refusal, answer_of_queue_refusal, refused_if, if_desk_allows, if_users_allow, unless_too_hot, found_or, read_as}
+use Rattle.house_verdicts.specs.Prints.{port_for, commands_in, manual_verdict, restart_deed}
 use Rattle.house_verdicts.specs.Rows.{with_queue, put_by}
-use Rattle.house_verdicts.specs.Uploads.{named_file, read_file, print_verdict, select_by, stored, after_storing, is_selected, is_printed, store_verdict, take_verdict}
+use Rattle.house_verdicts.specs.Uploads.{read_file, print_verdict, select_by, store_deed, after_storing, is_selected, is_printed, store_verdict, take_verdict}
 use Rattle.house_verdicts.specs.Verdict.{Verdict, Deed, at_desk, gives, makes, writes, reads, removes, stores, begins, known_after, is_fault, is_stored, calls_in, calls_after, files_in, files_after}
 use Rattle.desk_steps.specs.Run.{DeskCall, Connect, Select, Start, Restart}
 use Rattle.house_prints.specs.Selected.{IsOnShelf}
 use Rattle.house_prints.proofs.Marks.{IsRequest}
-use Rattle.house_verdicts.specs.Answers.{request_verdict, allowed, permitted, lacking, verdict_by}
+use Rattle.house_verdicts.specs.Answers.{request_verdict, unless_lacking, verdict_of_caller, lacking, verdict_by}
+use Rattle.octo_access.specs.Rows.{is_before}
+use Rattle.byte_text.proofs.OptionLaws.{first-none}
 
 -- calls that are requests
 abbrev pub AreRequests : List DeskCall → Type 0
@@ -99,11 +101,6 @@ made_after : (fault : Bool) (v : Verdict) (x : Answer) (files : List ShelfFile) 
 made_after true v x files p = tt
 made_after false v x files p = made_in files v x p
 
--- a file that was stored is held
-none_or : {X : Type 0} (a b : Option X) → option_or a b ≡ None → a ≡ None
-none_or None b none = refl
-none_or (Some x) b none = none
-
 none_filtered : {X : Type 0} (p : X → Bool) (xs : List X) → find p (filter (λ x. not (p x)) xs) ≡ None
 none_filtered p [] = refl
 none_filtered p (x ∷ xs) = by (p x) refl (none_filtered p xs)
@@ -122,7 +119,7 @@ stored_bytes name bytes files =
     let split : find (is_file name) (take place others ++ drop place others) ≡ None =
     ap (λ (fs : List ShelfFile). find (is_file name) fs) (take-append-drop place others) ∙ none_filtered (is_file name) files in
     let before : find (is_file name) (take place others) ≡ None =
-    none_or _ (find (is_file name) (drop place others)) (sym (find-append (is_file name) (take place others) (drop place others)) ∙ split) in
+    first-none _ (find (is_file name) (drop place others)) (sym (find-append (is_file name) (take place others) (drop place others)) ∙ split) in
     let own : is_file name file ≡ true = (bytes_eq-Decides name name).1 refl in
     ap (λ (o : Option ShelfFile). option_map (λ (f : ShelfFile). f.bytes) o)
     (find-append (is_file name) (take place others) (file ∷ drop place others)
@@ -134,20 +131,20 @@ module _ (files : List ShelfFile) (k : Known) where
   by-test true a v p = gives-one a
   by-test false a v p = p
 
-  by-desk : {A : Type 0} (r : Result A Refusal) (v : Verdict) → Asks files v → Asks files (granted r v)
+  by-desk : {A : Type 0} (r : Result A Refusal) (v : Verdict) → Asks files v → Asks files (if_desk_allows r v)
   by-desk (Ok a) v p = p
-  by-desk (Err r) v p = gives-one (refused r)
+  by-desk (Err r) v p = gives-one (answer_of_refusal r)
 
   -- the same with what the desk answered
-  by-answer : {A : Type 0} (r : Result A Refusal) (v : Verdict) → ((a : A) → r ≡ Ok a → Asks files v) → Asks files (granted r v)
+  by-answer : {A : Type 0} (r : Result A Refusal) (v : Verdict) → ((a : A) → r ≡ Ok a → Asks files v) → Asks files (if_desk_allows r v)
   by-answer (Ok a) v p = p a refl
-  by-answer (Err r) v p = gives-one (refused r)
+  by-answer (Err r) v p = gives-one (answer_of_refusal r)
 
-  by-users : (o : Option UserRefusal) (v : Verdict) → Asks files v → Asks files (granted_user o v)
+  by-users : (o : Option UserRefusal) (v : Verdict) → Asks files v → Asks files (if_users_allow o v)
   by-users None v p = p
-  by-users (Some r) v p = gives-one (user_refused r)
+  by-users (Some r) v p = gives-one (answer_of_user_refusal r)
 
-  by-heat : (o : Option TooHot) (v : Verdict) → Asks files v → Asks files (granted_heat o v)
+  by-heat : (o : Option TooHot) (v : Verdict) → Asks files v → Asks files (unless_too_hot o v)
   by-heat None v p = p
   by-heat (Some hot) v p = gives-one (answer.TooHot hot.asked hot.limit)
 
@@ -175,7 +172,7 @@ module _ (files : List ShelfFile) (k : Known) where
 
   by-put : (r : Result Put QueueRefusal) → Asks files (put_by r k)
   by-put (Ok put) = by-fresh put.fresh (answer.OneEntry (shown_entry put.entry)) (with_queue (insert_row put.entry k.queue) k) tt
-  by-put (Err r) = gives-one (queue_refused r)
+  by-put (Err r) = gives-one (answer_of_queue_refusal r)
 
   by-manual : (texts : List (List ℕ)) → Asks files (manual_verdict texts k)
   by-manual texts = by-heat _ _ (by-desk _ _ (makes-one answer.Accepted _ ((tt, tt, inl refl), tt)))
@@ -189,12 +186,12 @@ module _ (files : List ShelfFile) (k : Known) where
   by-select true user name = by-test _ _ _ (by-file name _ (λ file on. by-print answer.Accepted user k.queue file on))
 
   -- a file was stored, and is on the shelf
-  stored-none : (select : Bool) (file : File) → AreNoStarts (stored select file k).calls
+  stored-none : (select : Bool) (file : File) → AreNoStarts (store_deed select file k).calls
   stored-none false file = (refl, tt)
   stored-none true file = (refl, (refl, tt))
 
   stored-made : (select print : Bool) (user : List ℕ) (file : File) (next : Known) → IsOnShelf files file →
-      AreMade (files_in (after_storing select print user file next) files) (stored select file k).calls
+      AreMade (files_in (after_storing select print user file next) files) (store_deed select file k).calls
   stored-made false print user file next on = ((tt, tt, inl refl), tt)
   stored-made true false user file next on = ((tt, tt, inl refl), ((tt, on, inl refl), tt))
   stored-made true true user file next on = ((tt, tt, inl refl), ((tt, on, inl refl), tt))
@@ -209,10 +206,10 @@ module _ (user : UserRow) (files : List ShelfFile) (k : Known) where
   by-store bytes select print file read =
       let selects : Bool = is_selected user select print k in
       let prints : Bool = is_printed user print file k in
-      let next : Known = known_after (stored selects file k) k in
+      let next : Known = known_after (store_deed selects file k) k in
       let held : List ShelfFile = with_file file.name bytes files in
       by-desk files k _ _ (by-test files k _ _ _
-      (stores-one file.name bytes (stored selects file k) _ (stored-none held k selects file)
+      (stores-one file.name bytes (store_deed selects file k) _ (stored-none held k selects file)
       (stored-made held k selects prints user.name file next (record { bytes = bytes; held = stored_bytes file.name bytes files; read = read }))
       (by-storing held selects prints user.name file next)))
 
@@ -237,8 +234,8 @@ module _ (user : UserRow) (files : List ShelfFile) (k : Known) where
   plays request.Start = by-desk files k _ _ (by-test files k _ _ _ (writes-one answer.Accepted _ ((tt, tt, inr refl), tt)))
   plays request.Cancel = by-desk files k _ _ (makes-one answer.Accepted _ ((tt, tt, inl refl), tt))
   plays request.Restart =
-      by-answer files k (restart_at k.desk.state (next_number k) k.desk).0 _
-      (λ former allowed. by-test files k _ _ _ (writes-one answer.Accepted (restarted user.name k) ((tt, tt, inr refl), tt)))
+      by-answer files k (restart_at k.desk.state (next_print_number k) k.desk).0 _
+      (λ former allowed. by-test files k _ _ _ (writes-one answer.Accepted (restart_deed user.name k) ((tt, tt, inr refl), tt)))
   plays request.Pause = by-desk files k _ _ (makes-one answer.Accepted _ ((tt, tt, inl refl), tt))
   plays request.Resume = by-desk files k _ _ (makes-one answer.Accepted _ ((tt, tt, inl refl), tt))
   plays request.Toggle = by-desk files k _ _ (makes-one answer.Accepted _ ((tt, tt, inl refl), tt))
@@ -248,24 +245,21 @@ module _ (user : UserRow) (files : List ShelfFile) (k : Known) where
   plays (request.SelectFile name print) = by-test files k _ _ _ (by-select files k print user.name name)
   plays (request.DeleteFile name) = by-test files k _ _ _ (by-desk files k _ _ (removes-one name answer.Accepted _ ((tt, tt, inl refl), tt)))
   plays (request.Download name) = by-test files k _ _ _ (reads-one _ (by-found files k (bytes_of name files) _ _ (λ bytes. gives-one _)))
-  plays request.ListUsers = gives-one _
   plays (request.PutUser name key groups active) = by-users files k _ _ (writes-one _ _ tt)
   plays (request.ChangeUser name key groups active) = by-users files k _ _ (writes-one _ _ tt)
-  plays request.ListQueue = gives-one _
   plays (request.PutEntry name file priority copies material) = by-test files k _ _ _ (by-put files k _)
   plays (request.DropOwn name) = by-found files k _ _ _ (λ entry. writes-one answer.Accepted _ tt)
   plays (request.DropOther owner name) = by-found files k _ _ _ (λ entry. writes-one answer.Accepted _ tt)
   plays request.NextEntry = by-test files k _ _ _ (by-found files k _ _ _ by-take)
-  plays request.ListPrints = gives-one _
   plays request.Shutdown = by-test files k _ _ _ (gives-one _)
-  plays request.Leave = gives-one _
+  plays _ = gives-one _
 
-by-allowed : (files : List ShelfFile) (o : Option Permission) (v : Verdict) → Asks files v → Asks files (allowed o v)
+by-allowed : (files : List ShelfFile) (o : Option Permission) (v : Verdict) → Asks files v → Asks files (unless_lacking o v)
 by-allowed files None v p = p
 by-allowed files (Some permission) v p = gives-one _
 
 by-permitted : (files : List ShelfFile) (o : Option UserRow) (ps : List Permission) (k : Known) (next : UserRow → Verdict) →
-    ((user : UserRow) → Asks files (next user)) → Asks files (permitted o ps k next)
+    ((user : UserRow) → Asks files (next user)) → Asks files (verdict_of_caller o ps k next)
 by-permitted files None ps k next p = gives-one _
 by-permitted files (Some user) ps k next p = by-allowed files (lacking k user ps) (next user) (p user)
 

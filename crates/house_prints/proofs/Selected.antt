@@ -6,7 +6,7 @@ use Rattle.temp_rules.specs.declared.job.HotLine.{HotLine}
 use Rattle.desk_steps.specs.Data.{Data, File, Line, commands_of}
 use Rattle.desk_steps.specs.Note.{note_step}
 use Rattle.desk_steps.specs.Pull.{pull_step}
-use Rattle.desk_steps.specs.Run.{DeskCall, Connect, Disconnect, Select, DropFile, Start, Restart, Pause, Resume, Toggle, Cancel, Manually, Pull, Note, Run, after, after_start, after_restart, after_pull, after_note, run_of, new_run, of_print}
+use Rattle.desk_steps.specs.Run.{DeskCall, Select, Start, Restart, Pull, Note, Run, after, after_start, after_restart, after_pull, after_note, run_of, new_run, of_print}
 use Rattle.desk_steps.specs.Table.{start_checked, start_file, start_at, restart_at}
 use Rattle.desk_steps.specs.declared.issued.Issued.{Issued}
 use Rattle.desk_steps.specs.declared.issued.Note as declared_note
@@ -35,9 +35,10 @@ use Rattle.house_prints.specs.Selected.{IsOnShelf, StaysSelected, WasSelected, B
 use Rattle.house_prints.proofs.Files.{file_calls}
 use Rattle.house_prints.proofs.Filed.{IsFiled, paused_file, filed_call, filed_calls}
 use Rattle.house_prints.proofs.Histories.{run_append}
-use Rattle.house_prints.proofs.Notes.{called_desk}
+use Rattle.house_history.proofs.Histories.{called_desk}
 use Rattle.house_prints.proofs.Plain.{desk_calls}
 use Rattle.house_prints.proofs.Requests.{is_start, IsOfShelf, AreMade, calls_made}
+use Rattle.house_walks.proofs.Walking.{after_append}
 
 -- calls that select only files of the shelf, and begin a print only by the last of them
 abbrev AreFit : List ShelfFile → List DeskCall → Type 0
@@ -50,12 +51,7 @@ fit_made files (call ∷ calls) m = ((m.0.1, m.0.2), fit_made files calls m.1)
 
 fit_last : (files : List ShelfFile) (f : LinkFact) (acked moment : ℕ) → AreFit files (last_call f acked moment)
 fit_last files fact.Failed acked moment = ((tt, inl refl), tt)
-fit_last files fact.Quiet acked moment = tt
-fit_last files fact.Opened acked moment = tt
-fit_last files fact.Ready acked moment = tt
-fit_last files fact.Closed acked moment = tt
-fit_last files fact.NoPort acked moment = tt
-fit_last files (fact.Ended end) acked moment = tt
+fit_last files _ acked moment = tt
 
 fit_pulls : (files : List ShelfFile) (f : LinkFact) (acked moment : ℕ) (issued : List Issued) →
     AreFit files (map (λ (one : Issued). Pull moment) issued ++ last_call f acked moment)
@@ -149,30 +145,14 @@ begun_none (Start q) run none = absurd (cc none)
 begun_none (Restart q) run none = absurd (cc none)
 begun_none (Pull moment) run none = begun_pull run.desk.state (pull_step moment run.desk).0 (pull_step moment run.desk).1 run
 begun_none (Note acked f moment) run none = begun_note f (note_step acked f moment run.desk).0 (note_step acked f moment run.desk).1 run
-begun_none (Connect port) run none = refl
-begun_none Disconnect run none = refl
-begun_none (Select file) run none = refl
-begun_none (DropFile name) run none = refl
-begun_none Pause run none = refl
-begun_none Resume run none = refl
-begun_none Toggle run none = refl
-begun_none Cancel run none = refl
-begun_none (Manually texts) run none = refl
+begun_none _ run none = refl
 
 begun_one : (call : DeskCall) (run : Run) → IsFiled run.desk → One run.begun (after call run).begun (desk_after call run.desk)
 begun_one (Start q) run f = begun_start q run run.desk.state
 begun_one (Restart q) run f = begun_restart q run run.desk.state refl f
 begun_one (Pull moment) run f = inl (begun_none (Pull moment) run refl)
 begun_one (Note acked found moment) run f = inl (begun_none (Note acked found moment) run refl)
-begun_one (Connect port) run f = inl refl
-begun_one Disconnect run f = inl refl
-begun_one (Select file) run f = inl refl
-begun_one (DropFile name) run f = inl refl
-begun_one Pause run f = inl refl
-begun_one Resume run f = inl refl
-begun_one Toggle run f = inl refl
-begun_one Cancel run f = inl refl
-begun_one (Manually texts) run f = inl refl
+begun_one _ run f = inl refl
 
 begun_all : (files : List ShelfFile) (calls : List DeskCall) (run : Run) → AreFit files calls → IsFiled run.desk →
     One run.begun (run_of calls run).begun (desk_after_all calls run.desk)
@@ -191,11 +171,6 @@ begun_all files (call ∷ calls) run fit f =
     by (inr none) rest =
         subst (λ (cs : List DeskCall). One run.begun (run_of cs (after call run)).begun (desk_after_all cs (desk_after call run.desk))) (sym none)
         (begun_one call run f)
-
--- histories with one more entry
-after_append : (es fs : History) (s : Standing) → after_all (es ++ fs) s ≡ after_all fs (after_all es s)
-after_append [] fs s = refl
-after_append (e ∷ es) fs s = after_append es fs (after_entry e s)
 
 calls_append : (es fs : History) (s : Standing) → calls_of_all (es ++ fs) s ≡ calls_of_all es s ++ calls_of_all fs (after_all es s)
 calls_append [] fs s = refl

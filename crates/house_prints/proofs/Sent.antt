@@ -1,6 +1,5 @@
 -- No line of an ended print is sent any more.
 use Rattle.std.proofs.Common.{◌≡◌, ◌⊎◌, inl, inr, ℕ, zero, suc, ◌+◌, ◌-◌, ◌<◌, ◌≤◌, Bool, true, false, cond, List, [], ◌∷◌, ◌++◌, length, drop, slice_get, Some, refl, sym, ◌∙◌, ap, subst, arith}
-use Rattle.std.specs.Prelude.{◌||◌}
 use Rattle.std.specs.List.{list_any}
 use Rattle.marlin_frame.specs.Frame.{frame_of}
 use Rattle.marlin_frame.specs.Numbering.{wire_number}
@@ -8,25 +7,30 @@ use Rattle.desk_steps.specs.Data.{ScriptTexts, Line}
 use Rattle.desk_steps.specs.Run.{Fate, Finished, Stopped, Left, Unplugged, Broken, is_of, lines_of, of_print}
 use Rattle.session_steps.specs.Turn.{texts_in}
 use Rattle.printer_model.specs.World.{is_send}
-use Rattle.link_history.specs.Executed.{till}
+use Rattle.link_history.specs.Executed.{opens, till}
+use Rattle.link_history.specs.Exchanged.{events_of_session}
 use Rattle.printer_model.specs.declared.event.WorldEvent.{WorldEvent}
-use Rattle.printer_model.specs.declared.event.WorldEvent.TheVariants.{Opened, Send, Arrive, Lose, Garble, Run, Restart, Chatter, Recv, Closed}
+use Rattle.printer_model.specs.declared.event.WorldEvent.TheVariants.{Send}
 use Rattle.printer_link.specs.Link.{LinkKind}
 use Rattle.octo_asks.specs.History.{History}
 use Rattle.house_history.specs.Issued.{issued_of}
-use Rattle.house_history.specs.Legal.{Standing, Legal}
+use Rattle.house_history.specs.Legal.{Standing}
 use Rattle.house_history.specs.Scripts.{run_in}
 use Rattle.lossy_wires.specs.Traces.{IsLineAbove}
 use Rattle.house_line.specs.Sessions.{sessions, texts_of, acked_in, is_open}
+use Rattle.house_line.specs.Timeline.{history_of, events_of, past_after}
 use Rattle.house_line.specs.Tied.{Tied, WasTied, IsAbove, AreAbove}
 use Rattle.house_line.proofs.Grown.{shut_after}
-use Rattle.house_line.proofs.Later.{later_above}
-use Rattle.house_prints.specs.Laws.{IsLineOfOther, IsSentOther, AreSentOther, IsRun, EachEndedIsSentNoMore, EachEndIsTrue}
+use Rattle.house_line.proofs.Later.{later_above, issued_above}
+use Rattle.house_line.proofs.Timelines.{history_of-append}
+use Rattle.house_prints.specs.Laws.{IsLineOfOther, IsSentOther, AreSentOther, IsRun, IsSentNoMore, EachEndedIsSentNoMore, EachEndIsTrue}
 use Rattle.house_prints.specs.Prints.{LivesIn, IsEnded, Lives, LeavesSo}
 use Rattle.house_prints.proofs.Entries.{Place, earlier, here, later, place}
-use Rattle.house_prints.proofs.Executed.{short_of, short_first}
-use Rattle.house_prints.proofs.Histories.{IsShort, legal_first, lives_in, stays_in}
-use Rattle.house_prints.proofs.Lists.{none_past}
+use Rattle.house_prints.proofs.Executed.{IsThen, run_then}
+use Rattle.house_prints.proofs.Histories.{lives_in, stays_in}
+use Rattle.house_prints.proofs.Lists.{none_dropped, none_past}
+use Rattle.byte_text.proofs.ListLaws.{head_same}
+use Rattle.std.proofs.lemmas.Bool.{or_parts}
 
 -- a line past a place after which none is the print's
 other_past : (p a : ℕ) (lines : List Line) (i : ℕ) (line : Line) → a ≤ i → slice_get lines i ≡ Some line → lines_of p (drop a lines) ≡ []
@@ -78,41 +82,21 @@ module _ (p a : ℕ) (lines : List Line) (none : lines_of p (drop a lines) ≡ [
   event_other (Send line) (inl hello) = inl hello
   event_other (Send line) (inr (inl l)) = inr (inl (line_other line.items l))
   event_other (Send line) (inr (inr failing)) = inr (inr failing)
-  event_other (Opened last) is = tt
-  event_other Arrive is = tt
-  event_other (Lose at) is = tt
-  event_other (Garble at line) is = tt
-  event_other Run is = tt
-  event_other Restart is = tt
-  event_other (Chatter reply) is = tt
-  event_other Recv is = tt
-  event_other Closed is = tt
+  event_other _ is = tt
 
   events_other : (events : List WorldEvent) → AreAbove (texts_in lines) a events → AreSentOther p lines events
   events_other [] are = tt
   events_other (event ∷ events) are = (event_other event are.0, events_other events are.1)
 
 -- if nothing is sent
-first_unsent : (a b : Bool) → (a || b) ≡ false → (a ≡ false) × (b ≡ false)
-first_unsent false b is = (refl, is)
-first_unsent true b is = absurd (cc is)
-
 event_unsent : (p : ℕ) (lines : List Line) (event : WorldEvent) → is_send event ≡ false → IsSentOther p lines event
 event_unsent p lines (Send line) none = absurd (cc none)
-event_unsent p lines (Opened last) none = tt
-event_unsent p lines Arrive none = tt
-event_unsent p lines (Lose at) none = tt
-event_unsent p lines (Garble at line) none = tt
-event_unsent p lines Run none = tt
-event_unsent p lines Restart none = tt
-event_unsent p lines (Chatter reply) none = tt
-event_unsent p lines Recv none = tt
-event_unsent p lines Closed none = tt
+event_unsent p lines _ none = tt
 
 events_unsent : (p : ℕ) (lines : List Line) (events : List WorldEvent) → list_any is_send events ≡ false → AreSentOther p lines events
 events_unsent p lines [] none = tt
 events_unsent p lines (event ∷ events) none =
-    let parts = first_unsent (is_send event) (list_any is_send events) none in
+    let parts = or_parts (is_send event) (list_any is_send events) none in
     (event_unsent p lines event parts.0, events_unsent p lines events parts.1)
 
 -- how far a print's lines go in the session that it lives in
@@ -134,68 +118,80 @@ ended_of : (p : ℕ) (h : History) (fates : List Fate) (f : Fate) → fates ≡ 
 ended_of p h fates f is (inl u) = absurd (let no : f ∷ [] ≡ [] = sym is ∙ u.no_fate in cc no)
 ended_of p h fates f is (inr o) = o
 
-same_fate : (f g : Fate) → f ∷ [] ≡ g ∷ [] → f ≡ g
-same_fate f g is = cc
-
-pub sent_no_more : (kind : LinkKind) (front : List WorldEvent) (s : Standing) (h : History) (past : List WorldEvent) → IsRun kind front s h past →
-    EachEndedIsSentNoMore kind front s h past
-sent_no_more kind front s h past run first more split p some fate ends =
+pub sent_no_more : (kind : LinkKind) (front : List WorldEvent) (s : Standing) (h : History) (past : List WorldEvent) (run : IsRun kind front s h past) →
+    EachEndedIsSentNoMore kind front s run.tied.timeline
+sent_no_more kind front s h past run first more is p some fate ends =
+    let t = run_then kind front s h past run first more is in
     let scripts : ScriptTexts = s.known.desk.scripts in
-    let w : WasTied kind front first past = run.tied.throughout first more split in
-    let whole : Legal (first ++ more) s = subst (λ (x : History). Legal x s) split run.legal in
-    let short : IsShort (first ++ more) = subst (λ (x : History). IsShort x) split (short_of kind front h past run.tied.throughout) in
-    let o : IsEnded p first (of_print p (run_in first s).ends) =
-    ended_of p first _ fate ends
-    (lives_in scripts s.known.desk.limits s.known.desk.poll_ms p some s run.begins.new first (legal_first first more s whole).0 (short_first first more short))
+    let o : IsEnded p now (of_print p (run_in now s).ends) =
+    ended_of p now _ fate ends (lives_in scripts s.known.desk.limits s.known.desk.poll_ms p some s run.begins.new now t.legal t.short)
     in
-    let so : IsPast p first o.home = past_of p first o.fate o.home o.leaves in
-    let stays = stays_in scripts s.known.desk.limits s.known.desk.poll_ms p some s run.begins.new first more whole short o.fate o.home so.reach o.within o.is o.lives so.none in
-    let tied : Tied kind front (first ++ more) past = subst (λ (x : History). Tied kind front x past) split run.tied.now in
-    record {
-      so_far = w.so_far;
-      since = w.since;
-      at = record { is = w.is; tied = w.tied };
+    let so : IsPast p now o.home = past_of p now o.fate o.home o.leaves in
+    let stays = stays_in scripts s.known.desk.limits s.known.desk.poll_ms p some s run.begins.new now (history_of more) t.legal_all t.short_all
+    o.fate o.home so.reach o.within o.is o.lives so.none
+    in
+    subst (λ (x : History). IsSentNoMore kind front p fate now x so_far since) (sym (ap history_of is ∙ history_of-append first more))
+    (record {
       home = o.home;
-      lives = subst (λ (x : History). LivesIn p x o.home) (sym split) stays.0;
-      leaves = subst (λ (f : Fate). LeavesSo p f o.home first) (same_fate o.fate fate (sym o.is ∙ ends)) o.leaves;
-      down = λ some closed. w.tied.open_as (omega (arith, some, o.within)) ∙ closed;
-      none = subst (λ (x : History). (o.home < sessions first) ⊎ AreSentOther p (issued_of o.home x) (till 0 w.since)) (sym split)
-          (by w tied o.home (place o.home (sessions first)) o.within so stays.1);
-    }
+      within = o.within;
+      lives = stays.0;
+      leaves = subst (λ (f : Fate). LeavesSo p f o.home now) (head_same o.fate fate (sym o.is ∙ ends)) o.leaves;
+      down = λ some closed. t.was.tied.open_as (omega (arith, some, o.within)) ∙ closed;
+      none = by t o.home (place o.home (sessions now)) o.within stays.0 so stays.1;
+      never = λ n over most. later_session t.tied_all n (omega (arith, over)) most (stays.0.alone n (λ same. absurd (omega (arith, over, o.within, same))));
+    })
   where
+    now : History
+    now = history_of first
+
+    whole : History
+    whole = now ++ history_of more
+
+    so_far : List WorldEvent
+    so_far = past_after front first
+
+    since : List WorldEvent
+    since = events_of more
+
     -- a session that isn't open
-    shut : (w : WasTied kind front first past) (home : ℕ) → is_open first ≡ false → AreSentOther p (issued_of home (first ++ more)) (till 0 w.since)
-    shut w home closed = events_unsent p (issued_of home (first ++ more)) (till 0 w.since) (w.unsent closed)
+    shut : WasTied kind front first since → (n : ℕ) → is_open now ≡ false → AreSentOther p (issued_of n whole) (till 0 since)
+    shut w n closed = events_unsent p (issued_of n whole) (till 0 since) (w.unsent closed)
 
-    -- the last one
-    last : (w : WasTied kind front first past) → Tied kind front (first ++ more) past → (n : ℕ) → sessions first ≡ n → (a : ℕ) → a ≡ acked_in n first →
-        lines_of p (drop a (issued_of n (first ++ more))) ≡ [] → AreSentOther p (issued_of n (first ++ more)) (till 0 w.since)
-    last w tied zero is a acked none = shut w zero (shut_after first is)
-    last w tied (suc n) is a acked none =
-        let above : AreAbove (texts_of (sessions first) (first ++ more)) (acked_in (sessions first) first) (till 0 w.since) =
-        later_above kind front first more past (omega (arith, is)) tied w
+    -- the last session, if none of its lines after those acknowledged is the print's
+    last : IsThen kind front s first more → (n : ℕ) → sessions now ≡ n → lines_of p (drop (acked_in n now) (issued_of n whole)) ≡ [] →
+        AreSentOther p (issued_of n whole) (till 0 since)
+    last t zero is none = shut t.was zero (shut_after now is)
+    last t (suc n) is none =
+        let above : AreAbove (texts_of (sessions now) whole) (acked_in (sessions now) now) (till 0 since) =
+        later_above kind front now (history_of more) so_far since (omega (arith, is)) t.tied_all t.was.tied
         in
-        let there : AreAbove (texts_in (issued_of (suc n) (first ++ more))) (acked_in (suc n) first) (till 0 w.since) =
-        subst (λ (k : ℕ). AreAbove (texts_of k (first ++ more)) (acked_in k first) (till 0 w.since)) is above
+        let there : AreAbove (texts_in (issued_of (suc n) whole)) (acked_in (suc n) now) (till 0 since) =
+        subst (λ (k : ℕ). AreAbove (texts_of k whole) (acked_in k now) (till 0 since)) is above
         in
-        events_other p (acked_in (suc n) first) (issued_of (suc n) (first ++ more))
-        (subst (λ (b : ℕ). lines_of p (drop b (issued_of (suc n) (first ++ more))) ≡ []) acked none) (till 0 w.since) there
+        events_other p (acked_in (suc n) now) (issued_of (suc n) whole) none (till 0 since) there
 
-    by : (w : WasTied kind front first past) → Tied kind front (first ++ more) past → (home : ℕ) → Place home (sessions first) → home ≤ sessions first →
-        (so : IsPast p first home) → lines_of p (drop so.reach (issued_of home (first ++ more))) ≡ [] →
-        (home < sessions first) ⊎ AreSentOther p (issued_of home (first ++ more)) (till 0 w.since)
-    by w tied home (earlier below) within so none = inl below
-    by w tied home (later above) within so none = absurd (omega (arith, above, within))
-    by w tied home (here same) within so none = inr (how so.how)
+    by : IsThen kind front s first more → (home : ℕ) → Place home (sessions now) → home ≤ sessions now → LivesIn p whole home →
+        (so : IsPast p now home) → lines_of p (drop so.reach (issued_of home whole)) ≡ [] → AreSentOther p (issued_of (sessions now) whole) (till 0 since)
+    by t home (earlier below) within l so none =
+        last t (sessions now) refl
+        (none_dropped p (acked_in (sessions now) now) (issued_of (sessions now) whole)
+        (l.alone (sessions now) (λ same. absurd (omega (arith, same, below)))))
+    by t home (later above) within l so none = absurd (omega (arith, above, within))
+    by t home (here same) within l so none = subst (λ (n : ℕ). AreSentOther p (issued_of n whole) (till 0 since)) same (how so.how)
       where
-        how : ((so.reach ≡ acked_in home first)) ⊎ ((home < sessions first) ⊎ (is_open first ≡ false))
-            → AreSentOther p (issued_of home (first ++ more)) (till 0 w.since)
-        how (inl acked) = last w tied home (sym same) so.reach acked none
+        how : ((so.reach ≡ acked_in home now)) ⊎ ((home < sessions now) ⊎ (is_open now ≡ false)) → AreSentOther p (issued_of home whole) (till 0 since)
+        how (inl acked) =
+            last t home (sym same) (subst (λ (b : ℕ). lines_of p (drop b (issued_of home whole)) ≡ []) acked none)
         how (inr (inl below)) = absurd (omega (arith, below, same))
-        how (inr (inr closed)) = shut w home closed
+        how (inr (inr closed)) = shut t.was home closed
 
-pub true_end : (kind : LinkKind) (front : List WorldEvent) (s : Standing) (h : History) (past : List WorldEvent) → IsRun kind front s h past →
-    EachEndIsTrue kind front h past
-true_end kind front s h past run first more split end ends =
-    let w : WasTied kind front first past = run.tied.throughout first more split in
-    record { so_far = w.so_far; since = w.since; at = record { is = w.is; tied = w.tied }; caused = w.caused end ends }
+    -- a session of which no line is the print's
+    later_session : Tied kind front whole (so_far ++ since) → (n : ℕ) → 1 ≤ n → n ≤ sessions whole → lines_of p (issued_of n whole) ≡ [] →
+        AreSentOther p (issued_of n whole) (events_of_session (opens front + n) (so_far ++ since))
+    later_session tied n some most none =
+        events_other p 0 (issued_of n whole) none (events_of_session (opens front + n) (so_far ++ since))
+        (issued_above kind (texts_of n whole) (acked_in n whole) (so_far ++ since) (opens front + n) (tied.each n some most))
+
+pub true_end : (kind : LinkKind) (front : List WorldEvent) (s : Standing) (h : History) (past : List WorldEvent) (run : IsRun kind front s h past) →
+    EachEndIsTrue kind front run.tied.timeline
+true_end kind front s h past run first more is end ends = (run.tied.throughout first more is).caused end ends

@@ -1,5 +1,5 @@
 -- The prints that are shown.
-use Rattle.std.proofs.Common.{◌≡◌, ◌⊎◌, inl, inr, List, ◌∷◌, map, take, reverse, filter, All, Option, None, Some, sym, subst}
+use Rattle.std.proofs.Common.{◌≡◌, ◌⊎◌, inl, inr, List, ◌∷◌, ◌++◌, map, take, reverse, filter, All, Option, None, Some, sym, subst}
 use Rattle.std.proofs.lemmas.List.Elements.{All-map, All-take, All-filter}
 use Rattle.std.proofs.lemmas.List.Sorted.{All-permutation, IsPermutation-reverse}
 use Rattle.octo_access.specs.Rights.{caller}
@@ -11,17 +11,19 @@ use Rattle.octo_asks.specs.History.{History}
 use Rattle.octo_asks.specs.Rights.{needed}
 use Rattle.octo_asks.specs.Shown.{shown_print}
 use Rattle.octo_asks.specs.declared.answer.Answer.TheVariants as answer
+use Rattle.octo_asks.specs.declared.entry.Entry.{Entry}
 use Rattle.octo_asks.specs.declared.entry.Entry.TheVariants as entry
 use Rattle.octo_asks.specs.declared.request.Request.{Request}
 use Rattle.octo_asks.specs.declared.shown.ShownPrint.{ShownPrint}
 use Rattle.print_records.specs.declared.row.PrintRow.{PrintRow}
-use Rattle.house_verdicts.specs.Answers.{allowed, lacking, permitted, verdict_by}
+use Rattle.house_verdicts.specs.Answers.{unless_lacking, lacking, verdict_of_caller, verdict_by}
 use Rattle.house_verdicts.specs.Known.{Known, whose}
 use Rattle.house_verdicts.specs.Reads.{is_print_of, list_prints_verdict}
 use Rattle.house_verdicts.specs.Verdict.{May}
 use Rattle.house_history.specs.Legal.{Standing, Legal, after_all}
 use Rattle.house_prints.specs.Laws.{IsRun, IsDoneRecordTrue, IsDoneShownTrue, EachDoneShownIsTrue}
-use Rattle.house_prints.proofs.Executed.{record_true}
+use Rattle.house_line.specs.Timeline.{history_of}
+use Rattle.house_prints.proofs.Executed.{run_then, record_true}
 use Rattle.house_prints.proofs.Histories.{legal_first}
 
 -- what holds of each record holds of each that is shown
@@ -37,28 +39,33 @@ module _ (P : ShownPrint → Type 0) (k : Known) (all : All (λ (row : PrintRow)
       (All-take Q 100 (reverse own)
       (All-permutation Q own (reverse own) (IsPermutation-reverse own) (All-filter (is_print_of (whose k user)) Q k.prints all))))
 
-  of_allowed : (o : Option Permission) (user : UserRow) → May (allowed o (list_prints_verdict user k)) (answer.Prints shown) → All P shown
+  of_allowed : (o : Option Permission) (user : UserRow) → May (unless_lacking o (list_prints_verdict user k)) (answer.Prints shown) → All P shown
   of_allowed None user may = of_list user may
   of_allowed (Some lacks) user may = absurd (cc may)
 
-  of_user : (o : Option UserRow) (ps : List Permission) → May (permitted o ps k (λ user. list_prints_verdict user k)) (answer.Prints shown) → All P shown
+  of_user : (o : Option UserRow) (ps : List Permission) → May (verdict_of_caller o ps k (λ user. list_prints_verdict user k)) (answer.Prints shown) → All P shown
   of_user None ps may = absurd (cc may)
   of_user (Some user) ps may = of_allowed (lacking k user ps) user may
 
-pub shown_true : (kind : LinkKind) (front : List WorldEvent) (s : Standing) (h : History) (past : List WorldEvent) → IsRun kind front s h past →
-    EachDoneShownIsTrue kind front s h past
-shown_true kind front s h past run first later worker ask moment shown lists split = by legal.1.0.1.may
+pub shown_true : (kind : LinkKind) (front : List WorldEvent) (s : Standing) (h : History) (past : List WorldEvent) (run : IsRun kind front s h past) →
+    EachDoneShownIsTrue kind front s run.tied.timeline
+shown_true kind front s h past run first later here is worker ask moment shown answers lists = by legal.1.0.1.may
   where
-    legal : Legal first s × Legal (entry.Call worker ask moment (answer.Prints shown) ∷ later) (after_all first s)
-    legal = legal_first first (entry.Call worker ask moment (answer.Prints shown) ∷ later) s (subst (λ (x : History). Legal x s) split run.legal)
+    now : History
+    now = history_of first
 
-    rows : All (IsDoneRecordTrue kind front past s first) (after_all first s).known.prints
-    rows = record_true kind front s h past run first (entry.Call worker ask moment (answer.Prints shown) ∷ later) split
+    legal : Legal now s × Legal (entry.Call worker ask moment (answer.Prints shown) ∷ history_of later) (after_all now s)
+    legal =
+        legal_first now (entry.Call worker ask moment (answer.Prints shown) ∷ history_of later) s
+        (subst (λ (e : Entry). Legal (now ++ e ∷ history_of later) s) answers (run_then kind front s h past run first (here ∷ later) is).legal_all)
 
-    by : (answer.Prints shown ≡ answer.NoMemory) ⊎ May (verdict_by (needed ask.request) ask.key ask.request (after_all first s).files (after_all first s).known)
-        (answer.Prints shown) → All (IsDoneShownTrue kind front past s first) shown
+    rows : All (IsDoneRecordTrue kind front s first) (after_all now s).known.prints
+    rows = record_true kind front s h past run first (here ∷ later) is
+
+    by : (answer.Prints shown ≡ answer.NoMemory) ⊎ May (verdict_by (needed ask.request) ask.key ask.request (after_all now s).files (after_all now s).known)
+        (answer.Prints shown) → All (IsDoneShownTrue kind front s first) shown
     by (inl none) = absurd (cc none)
     by (inr may) =
-        of_user (IsDoneShownTrue kind front past s first) (after_all first s).known rows shown
-        (caller (after_all first s).known.policy (after_all first s).known.users ask.key) _
-        (subst (λ (r : Request). May (verdict_by (needed r) ask.key r (after_all first s).files (after_all first s).known) (answer.Prints shown)) lists may)
+        of_user (IsDoneShownTrue kind front s first) (after_all now s).known rows shown
+        (caller (after_all now s).known.policy (after_all now s).known.users ask.key) _
+        (subst (λ (r : Request). May (verdict_by (needed r) ask.key r (after_all now s).files (after_all now s).known) (answer.Prints shown)) lists may)

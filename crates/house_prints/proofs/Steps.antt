@@ -104,11 +104,9 @@ module _ (scripts : ScriptTexts) (p : ℕ) (positive : nat_eq 0 p ≡ false) whe
         inr (open-after h e ∙ ap (λ (b : Bool). open_at e b) shut ∙ shut_after (e ∷ []) (omega (arith, sessions-append h (e ∷ []), same_count)))
 
     stays_so : (f : Fate) (home : ℕ) → home ≤ sessions h → lines_of p (lines_at e) ≡ [] → LeavesSo p f home h → LeavesSo p f home more
-    stays_so Finished home within none l = stays_settled home (place home (sessions h)) within none l
-    stays_so Stopped home within none l = stays_settled home (place home (sessions h)) within none l
-    stays_so Left home within none l = stays_settled home (place home (sessions h)) within none l
     stays_so Unplugged home within none l = stays_closed home l
     stays_so Broken home within none l = stays_closed home l
+    stays_so _ home within none l = stays_settled home (place home (sessions h)) within none l
 
     unended : IsUnended p h (of_print p run.ends) → Tells more (run_of calls run)
     unended u =
@@ -205,11 +203,9 @@ module _ (scripts : ScriptTexts) (p : ℕ) (positive : nat_eq 0 p ≡ false) whe
     settled_past home (later above) within l = absurd (omega (arith, above, within))
 
     leaves_past : (f : Fate) (home : ℕ) → home ≤ sessions h → LeavesSo p f home h → LeavesSo p f home after_it
-    leaves_past Finished home within l = settled_past home (place home (sessions h)) within l
-    leaves_past Stopped home within l = settled_past home (place home (sessions h)) within l
-    leaves_past Left home within l = settled_past home (place home (sessions h)) within l
     leaves_past Unplugged home within l = inl (omega (arith, within, one_more))
     leaves_past Broken home within l = inl (omega (arith, within, one_more))
+    leaves_past _ home within l = settled_past home (place home (sessions h)) within l
 
     opened_lives : Lives p h (of_print p run.ends) → Lives p after_it (of_print p next.ends)
     opened_lives (inl u) =

@@ -5,7 +5,8 @@ use Rattle.desk_steps.specs.Data.{ScriptTexts, Data, Line, new_desk}
 use Rattle.desk_steps.specs.Run.{Fate, Finished, is_of, lines_of, of_print}
 use Rattle.marlin_frame.specs.Frame.{frame_of, fails}
 use Rattle.marlin_frame.specs.Numbering.{wire_number, hello_frame}
-use Rattle.link_history.specs.Executed.{till}
+use Rattle.link_history.specs.Executed.{opens, till}
+use Rattle.link_history.specs.Exchanged.{events_of_session}
 use Rattle.printer_model.specs.declared.event.WorldEvent.{WorldEvent}
 use Rattle.printer_model.specs.declared.event.WorldEvent.TheVariants.{Send}
 use Rattle.printer_link.specs.Link.{LinkKind, world_in}
@@ -25,7 +26,8 @@ use Rattle.house_history.specs.Scripts.{run_in}
 use Rattle.lossy_line.specs.Tied.{IsEndCaused}
 use Rattle.send_window.specs.declared.session_end.SessionEnd.{SessionEnd}
 use Rattle.house_line.specs.Sessions.{sessions, acked_in, is_open, last_end}
-use Rattle.house_line.specs.Tied.{Tied, AreTied}
+use Rattle.house_line.specs.Timeline.{Entered, Timeline, history_of, events_of, past_after}
+use Rattle.house_line.specs.Tied.{AreTied}
 use Rattle.house_prints.specs.Jobs.{jobs_from, lines_executed, jobs_executed}
 use Rattle.house_prints.specs.Prints.{LivesIn, LeavesSo}
 
@@ -46,12 +48,6 @@ pub record IsRun (kind : LinkKind) (front : List WorldEvent) (s : Standing) (his
   pub legal : Legal history s
   pub tied : AreTied kind front history past
 
--- what the link had recorded when the history had come so far, which was tied to it, and what it has since
-pub record IsThen (kind : LinkKind) (front : List WorldEvent) (history : History) (past so_far since : List WorldEvent)
-    : Type 0 where
-  pub is : past ≡ so_far ++ since
-  pub tied : Tied kind front history so_far
-
 -- in the one session that a print lives in the printer executed the first of the file's commands, in order and each once
 pub record IsExecutedInOrder (kind : LinkKind) (front past : List WorldEvent) (print : ℕ) (commands : List (List ℕ))
     (history : History) : Type 0 where
@@ -60,11 +56,12 @@ pub record IsExecutedInOrder (kind : LinkKind) (front past : List WorldEvent) (p
   pub count : ℕ
   pub executed : jobs_executed print kind front past home history ≡ jobs_from print 0 (take count commands)
 
--- so it is of each print, with the commands of the file with which it began
-abbrev pub EachIsExecutedInOrder : LinkKind → (front : List WorldEvent) → Standing → History → (past : List WorldEvent) → Type 0
-EachIsExecutedInOrder kind front s history past =
-    (print : ℕ) → 0 < print → (commands : List (List ℕ)) → of_print print (run_in history s).begun ≡ commands ∷ []
-    → IsExecutedInOrder kind front past print commands history
+-- after each entry it was so of each print, with the commands of the file with which it began
+abbrev pub EachIsExecutedInOrder : LinkKind → List WorldEvent → Standing → Timeline → Type 0
+EachIsExecutedInOrder kind front s timeline =
+    (first later : Timeline) → timeline ≡ first ++ later → (print : ℕ) → 0 < print
+    → (commands : List (List ℕ)) → of_print print (run_in (history_of first) s).begun ≡ commands ∷ []
+    → IsExecutedInOrder kind front (past_after front first) print commands (history_of first)
 
 -- all lines of a print are acknowledged and executed; they are a whole course of the scripts and its file with the end Done, and
 -- the executed file commands are all of the file's, in order and each once
@@ -80,46 +77,42 @@ pub record IsExecutedWhole (kind : LinkKind) (scripts : ScriptTexts) (front past
   pub executed : lines_of print (lines_executed kind front past home history) ≡ trace print history
   pub jobs : jobs_executed print kind front past home history ≡ jobs_from print 0 commands
 
--- so it was when the history had come so far
-pub record WasExecutedWhole (kind : LinkKind) (scripts : ScriptTexts) (front past : List WorldEvent) (print : ℕ)
-    (begun : List (List (List ℕ))) (history : History)
-    : Type 0 where
-  pub so_far : List WorldEvent
-  pub since : List WorldEvent
-  pub at : IsThen kind front history past so_far since
-  pub whole : IsExecutedWhole kind scripts front so_far print begun history
+-- so it was when a timeline had come so far
+abbrev pub WasExecutedWhole : LinkKind → List WorldEvent → Standing → (first : Timeline) → ℕ → Type 0
+WasExecutedWhole kind front s first print =
+    IsExecutedWhole kind s.known.desk.scripts front (past_after front first) print
+    (of_print print (run_in (history_of first) s).begun) (history_of first)
 
 -- after each entry it was so of each print that is done
-abbrev pub EachDoneIsExecuted : LinkKind → (front : List WorldEvent) → Standing → History → (past : List WorldEvent) → Type 0
-EachDoneIsExecuted kind front s history past =
-    (first later : History) → history ≡ first ++ later → (print : ℕ) → 0 < print
-    → of_print print (run_in first s).ends ≡ Finished ∷ []
-    → WasExecutedWhole kind s.known.desk.scripts front past print (of_print print (run_in first s).begun) first
+abbrev pub EachDoneIsExecuted : LinkKind → List WorldEvent → Standing → Timeline → Type 0
+EachDoneIsExecuted kind front s timeline =
+    (first later : Timeline) → timeline ≡ first ++ later → (print : ℕ) → 0 < print
+    → of_print print (run_in (history_of first) s).ends ≡ Finished ∷ []
+    → WasExecutedWhole kind front s first print
 
 -- a record of a print that began in the history says Done only if that is so
-abbrev pub IsDoneRecordTrue : LinkKind → (front past : List WorldEvent) → Standing → History → PrintRow → Type 0
-IsDoneRecordTrue kind front past s history row =
-    length s.known.prints < row.number → row.outcome ≡ outcome.Done
-    → WasExecutedWhole kind s.known.desk.scripts front past row.number (of_print row.number (run_in history s).begun) history
+abbrev pub IsDoneRecordTrue : LinkKind → List WorldEvent → Standing → Timeline → PrintRow → Type 0
+IsDoneRecordTrue kind front s first row =
+    length s.known.prints < row.number → row.outcome ≡ outcome.Done → WasExecutedWhole kind front s first row.number
 
 -- after each entry so does each record
-abbrev pub EachDoneRecordIsTrue : LinkKind → (front : List WorldEvent) → Standing → History → (past : List WorldEvent) → Type 0
-EachDoneRecordIsTrue kind front s history past =
-    (first later : History) → history ≡ first ++ later
-    → All (IsDoneRecordTrue kind front past s first) (after_all first s).known.prints
+abbrev pub EachDoneRecordIsTrue : LinkKind → List WorldEvent → Standing → Timeline → Type 0
+EachDoneRecordIsTrue kind front s timeline =
+    (first later : Timeline) → timeline ≡ first ++ later
+    → All (IsDoneRecordTrue kind front s first) (after_all (history_of first) s).known.prints
 
 -- and a list that shows it
-abbrev pub IsDoneShownTrue : LinkKind → (front past : List WorldEvent) → Standing → History → ShownPrint → Type 0
-IsDoneShownTrue kind front past s history shown =
-    length s.known.prints < shown.number → shown.outcome ≡ outcome.Done
-    → WasExecutedWhole kind s.known.desk.scripts front past shown.number (of_print shown.number (run_in history s).begun) history
+abbrev pub IsDoneShownTrue : LinkKind → List WorldEvent → Standing → Timeline → ShownPrint → Type 0
+IsDoneShownTrue kind front s first shown =
+    length s.known.prints < shown.number → shown.outcome ≡ outcome.Done → WasExecutedWhole kind front s first shown.number
 
 -- so does each list of prints that was answered
-abbrev pub EachDoneShownIsTrue : LinkKind → (front : List WorldEvent) → Standing → History → (past : List WorldEvent) → Type 0
-EachDoneShownIsTrue kind front s history past =
-    (first later : History) (worker : ℕ) (ask : Ask) (moment : ℕ) (shown : List ShownPrint) → ask.request ≡ ListPrints
-    → history ≡ first ++ entry.Call worker ask moment (answer.Prints shown) ∷ later
-    → All (IsDoneShownTrue kind front past s first) shown
+abbrev pub EachDoneShownIsTrue : LinkKind → List WorldEvent → Standing → Timeline → Type 0
+EachDoneShownIsTrue kind front s timeline =
+    (first later : Timeline) (here : Entered) → timeline ≡ first ++ here ∷ later
+    → (worker : ℕ) (ask : Ask) (moment : ℕ) (shown : List ShownPrint)
+    → here.entry ≡ entry.Call worker ask moment (answer.Prints shown) → ask.request ≡ ListPrints
+    → All (IsDoneShownTrue kind front s first) shown
 
 -- a line that was sent is a line of these that isn't the print's
 pub record IsLineOfOther (print : ℕ) (lines : List Line) (bytes : List ℕ) : Type 0 where
@@ -135,42 +128,38 @@ IsSentOther print lines (Send line) = (line.items ≡ hello_frame)
     ⊎ (IsLineOfOther print lines line.items ⊎ (fails line.items ≡ true))
 IsSentOther print lines _ = Unit {0}
 
+-- each of these events is so
 abbrev pub AreSentOther : ℕ → List Line → List WorldEvent → Type 0
 AreSentOther print lines [] = Unit {0}
 AreSentOther print lines (event ∷ events) = IsSentOther print lines event × AreSentOther print lines events
 
--- no line of a print that ended so was sent since the history had come so far: all its lines belong to a session that was over,
--- or in which only others were sent
-pub record IsSentNoMore (kind : LinkKind) (front past : List WorldEvent) (print : ℕ) (fate : Fate) (first history : History)
-    : Type 0 where
-  pub so_far : List WorldEvent
-  pub since : List WorldEvent
-  pub at : IsThen kind front first past so_far since
+-- no line of a print that ended so was sent since the history had come so far, when the link had recorded this
+pub record IsSentNoMore (kind : LinkKind) (front : List WorldEvent) (print : ℕ) (fate : Fate) (first history : History)
+    (so_far since : List WorldEvent) : Type 0 where
   pub home : ℕ
+  pub within : home ≤ sessions first
   pub lives : LivesIn print history home
   -- all its lines were acknowledged; or, after a failure or a disconnect, its session was closed
   pub leaves : LeavesSo print fate home first
   -- and the link was down, if it was closed
   pub down : 1 ≤ home → is_open first ≡ false → (world_in kind so_far).linked ≡ false
-  pub none : (home < sessions first) ⊎ AreSentOther print (issued_of home history) (till 0 since)
+  -- only other lines were sent since then in the session that was the last one
+  pub none : AreSentOther print (issued_of (sessions first) history) (till 0 since)
+  -- and in each later one
+  pub never : (session : ℕ) → sessions first < session → session ≤ sessions history
+      → AreSentOther print (issued_of session history) (events_of_session (opens front + session) (so_far ++ since))
 
 -- after each entry so it is of each print that had ended then
-abbrev pub EachEndedIsSentNoMore : LinkKind → (front : List WorldEvent) → Standing → History → (past : List WorldEvent) → Type 0
-EachEndedIsSentNoMore kind front s history past =
-    (first later : History) → history ≡ first ++ later → (print : ℕ) → 0 < print
-    → (fate : Fate) → of_print print (run_in first s).ends ≡ fate ∷ [] → IsSentNoMore kind front past print fate first history
+abbrev pub EachEndedIsSentNoMore : LinkKind → List WorldEvent → Standing → Timeline → Type 0
+EachEndedIsSentNoMore kind front s timeline =
+    (first later : Timeline) → timeline ≡ first ++ later → (print : ℕ) → 0 < print
+    → (fate : Fate) → of_print print (run_in (history_of first) s).ends ≡ fate ∷ []
+    → IsSentNoMore kind front print fate (history_of first) (history_of timeline) (past_after front first) (events_of later)
 
--- a session that ended so did it with a cause that the link's history showed then: never for a Resend that asks for a line
--- acknowledged or not issued, nor for an `ok` of another line; as restarted only after a restart of the printer in that session;
--- for no answer only if the printer was silent
-pub record IsTrueEnd (kind : LinkKind) (front past : List WorldEvent) (end : SessionEnd) (history : History) : Type 0 where
-  pub so_far : List WorldEvent
-  pub since : List WorldEvent
-  pub at : IsThen kind front history past so_far since
-  pub caused : IsEndCaused kind end so_far
-
--- so it is of the end that an entry notes, for each entry
-abbrev pub EachEndIsTrue : LinkKind → (front : List WorldEvent) → History → (past : List WorldEvent) → Type 0
-EachEndIsTrue kind front history past =
-    (first later : History) → history ≡ first ++ later → (end : SessionEnd) → last_end first ≡ Some end
-    → IsTrueEnd kind front past end first
+-- the end of a session that an entry notes had a cause that the link's history showed then, for each entry: a session never ends
+-- for a Resend that asks for a line acknowledged or not issued, nor for an `ok` of another line; as restarted only after a restart
+-- of the printer in that session; for no answer only if the printer was silent
+abbrev pub EachEndIsTrue : LinkKind → List WorldEvent → Timeline → Type 0
+EachEndIsTrue kind front timeline =
+    (first later : Timeline) → timeline ≡ first ++ later → (end : SessionEnd) → last_end (history_of first) ≡ Some end
+    → IsEndCaused kind end (past_after front first)

@@ -1,7 +1,7 @@
 -- Answers that say that keeper or shelf failed.
 use Rattle.std.specs.Prelude.{◌≡◌, Bool, true, false, Result, Ok, Err}
 use Rattle.desk_steps.specs.declared.state.Refusal.{Refusal}
-use Rattle.house_verdicts.specs.Refusals.{refused}
+use Rattle.house_verdicts.specs.Refusals.{answer_of_refusal}
 use Rattle.octo_keeper.specs.declared.keeper.KeeperFault.{KeeperFault}
 use Rattle.octo_keeper.specs.declared.keeper.KeeperFault.TheVariants as keeper_fault
 use Rattle.octo_asks.specs.declared.answer.Answer.{Answer}
@@ -31,9 +31,9 @@ pub record IsPlain (x : Answer) : Type 0 where
   pub shelf : is_shelfs x ≡ false
 
 -- what the desk said as an answer
-abbrev pub answered : Result (Unit {0}) Refusal → Answer
-answered (Ok done) = answer.Accepted
-answered (Err refusal) = refused refusal
+abbrev pub answer_of_call : Result (Unit {0}) Refusal → Answer
+answer_of_call (Ok done) = answer.Accepted
+answer_of_call (Err refusal) = answer_of_refusal refusal
 
 -- whether a keeper's fault was counted
 abbrev pub is_failing : KeeperFault → Bool

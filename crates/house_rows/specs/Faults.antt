@@ -6,10 +6,12 @@ use Rattle.octo_keeper.specs.declared.shelf.ShelfFault.TheVariants as shelf_faul
 use Rattle.octo_asks.specs.declared.answer.Answer.{Answer}
 use Rattle.octo_asks.specs.declared.answer.Answer.TheVariants as answer
 
-abbrev pub keeper_refused : KeeperFault → Answer
-keeper_refused keeper_fault.Failed = answer.KeeperFault
-keeper_refused keeper_fault.NoMemory = answer.NoMemory
+-- the answer after a fault of the keeper
+abbrev pub answer_of_keeper_fault : KeeperFault → Answer
+answer_of_keeper_fault keeper_fault.Failed = answer.KeeperFault
+answer_of_keeper_fault keeper_fault.NoMemory = answer.NoMemory
 
-abbrev pub shelf_refused : ShelfFault → Answer
-shelf_refused shelf_fault.Failed = answer.ShelfFault
-shelf_refused shelf_fault.NoMemory = answer.NoMemory
+-- the answer after a fault of the shelf
+abbrev pub answer_of_shelf_fault : ShelfFault → Answer
+answer_of_shelf_fault shelf_fault.Failed = answer.ShelfFault
+answer_of_shelf_fault shelf_fault.NoMemory = answer.NoMemory

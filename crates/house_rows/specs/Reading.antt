@@ -11,10 +11,11 @@ use Rattle.octo_asks.specs.declared.answer.Answer.TheVariants as answer
 use Rattle.house_rows.specs.Counts.{is_keepers, is_shelfs}
 
 -- why a file has no job
-abbrev pub file_refused : FileFault → Answer
-file_refused file_fault.NoMemory = answer.NoMemory
-file_refused fault = answer.BadFile fault
+abbrev pub answer_of_file_fault : FileFault → Answer
+answer_of_file_fault file_fault.NoMemory = answer.NoMemory
+answer_of_file_fault fault = answer.BadFile fault
 
+-- bytes that were found, or the answer that the file is missing
 abbrev pub found_bytes : Option (List ℕ) → Result (List ℕ) Answer
 found_bytes None = Err answer.NoFile
 found_bytes (Some bytes) = Ok bytes
@@ -23,10 +24,12 @@ found_bytes (Some bytes) = Ok bytes
 abbrev pub bytes_at : List ℕ → List ShelfFile → Result (List ℕ) Answer
 bytes_at name files = found_bytes (bytes_of name files)
 
+-- a job, or the answer why a file has none
 abbrev pub job_or : Result JobData FileFault → Result JobData Answer
 job_or (Ok job) = Ok job
 job_or (Err fault) = Err (answer.BadFile fault)
 
+-- the job of bytes, if they were found
 abbrev pub job_in : Result (List ℕ) Answer → Result JobData Answer
 job_in (Ok bytes) = job_or (job_of bytes)
 job_in (Err x) = Err x
@@ -39,11 +42,12 @@ job_at name files = job_in (bytes_at name files)
 abbrev pub IsReadAs : {A : Type 0} → Result A Answer → Result A Answer → Type 0
 IsReadAs wanted got = (got ≡ wanted) ⊎ ((got ≡ Err answer.ShelfFault) ⊎ (got ≡ Err answer.NoMemory))
 
--- whether the keeper or the shelf failed
+-- whether the keeper failed
 abbrev pub is_keepers_fault : {A : Type 0} → Result A Answer → Bool
 is_keepers_fault (Ok a) = false
 is_keepers_fault (Err x) = is_keepers x
 
+-- whether the shelf failed
 abbrev pub is_shelfs_fault : {A : Type 0} → Result A Answer → Bool
 is_shelfs_fault (Ok a) = false
 is_shelfs_fault (Err x) = is_shelfs x

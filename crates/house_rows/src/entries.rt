@@ -1,12 +1,11 @@
 //! Entries of the queue as requests name them.
-ghost use Rattle.std.specs.Prelude.{◌≡◌, ◌≤◌, length, is_some};
-ghost use Rattle.std.specs.List.{position_or_len};
-ghost use Rattle.print_queue.specs.Rows.{held, is_key};
-ghost use Rattle.print_queue.specs.Lawful.{IsWhole};
+ghost use Rattle.std.specs.Prelude.{◌≡◌, ◌≤◌, is_some};
+ghost use Rattle.print_queue.specs.Rows.{users_entry};
+ghost use Rattle.print_queue.specs.Lawful.{IsWholeRow};
 ghost use Rattle.house_verdicts.specs.Rows.{asked_entry};
 
 use byte_text::Name;
-use print_queue::QueueEntry;
+use print_queue::{QueueEntry, place_of};
 
 /// The greatest priority.
 const MOST_PRIORITY: u8 = 100;
@@ -24,7 +23,7 @@ pub fn asked_entry(
     material: &Name,
 ) -> QueueEntry
     ensures entry { result ≡ asked_entry user.now name.now file.now priority copies material.now }
-    ensures whole { IsWhole result }
+    ensures whole { IsWholeRow result }
     ensures priority { result.priority ≤ 100 }
 {
     let copies = copies.min(MOST_COPIES).max(1);
@@ -40,20 +39,10 @@ pub fn asked_entry(
     }
 }
 
-// The place of this user's entry of this name, the number of rows if there is none.
-fn place_of(rows: &[QueueEntry], user: &Name, name: &Name) -> usize
-    ensures place { result ≡ position_or_len (is_key user.now name.now) rows.now }
-    ensures within { result ≤ length rows.now }
-{
-    rows.iter()
-        .take_while(|row| !row.is_key(user, name))
-        .count()
-}
-
 /// Whether this user has an entry of this name.
 #[tactic(auto, using(std::proofs::lemmas::List::Folds::find_at, std::proofs::lemmas::Option::slice_get_past, std::proofs::lemmas::Option::slice_get_read))]
 pub fn has_entry(rows: &[QueueEntry], user: &Name, name: &Name) -> bool
-    ensures { result ≡ is_some (held user.now name.now rows.now) }
+    ensures { result ≡ is_some (users_entry user.now name.now rows.now) }
 {
     let place = place_of(rows, user, name);
     if place == rows.len() {

@@ -1,10 +1,12 @@
 //! The bytes and the job of a file that a shelf holds.
-ghost use Rattle.std.specs.Prelude.{◌≡◌, true, false, List, Some};
+ghost use Rattle.std.specs.Prelude.{◌≡◌, ◌⊎◌, true, false, List, Some, IfErr};
+ghost use Rattle.gcode_lines.specs.declared.fault.FileFault.{FileFault};
+ghost use Rattle.octo_asks.specs.declared.answer.Answer.TheVariants as answer;
 ghost use Rattle.octo_keeper.specs.declared.shelf.ShelfFile.{ShelfFile};
-ghost use Rattle.octo_outside.specs.Told.{Counts};
-ghost use Rattle.house_rows.specs.Reading.{IsReadAs, bytes_at, job_at, file_refused, is_keepers_fault, is_shelfs_fault};
+ghost use Rattle.octo_outside.specs.Recorded.{Counts};
+ghost use Rattle.house_rows.specs.Reading.{IsReadAs, bytes_at, job_at, answer_of_file_fault, is_keepers_fault, is_shelfs_fault};
 
-use crate::refusals::shelf_refused;
+use crate::refusals::answer_of_shelf_fault;
 use byte_text::Name;
 use gcode_lines::{FileFault, Job, take_commands};
 use octo_asks::Answer;
@@ -14,7 +16,7 @@ use std::alloc::Global;
 
 /// A file that has no job, as an answer.
 pub fn bad_file(fault: FileFault) -> Answer
-    ensures { result ≡ file_refused fault }
+    ensures { result ≡ answer_of_file_fault fault }
 {
     match fault {
         FileFault::NoMemory => Answer::NoMemory,
@@ -26,6 +28,8 @@ pub fn bad_file(fault: FileFault) -> Answer
 pub fn read_bytes<S: Shelf>(alloc: Global, shelf: &mut S, name: &Name) -> Result<Blob, Answer>
     ensures read { (files : List ShelfFile) → S.files shelf.old ≡ Some files
         → IsReadAs (bytes_at name.now files) result }
+    ensures missed { IfErr result (λ x. (x ≡ answer.NoFile)
+        ⊎ (x ≡ answer.ShelfFault) ⊎ (x ≡ answer.NoMemory)) }
     ensures stays { S.files shelf.new ≡ S.files shelf.old }
     ensures shelf { Counts (is_shelfs_fault result ≡ true)
         (S.faults shelf.old) (S.faults shelf.new) }
@@ -34,7 +38,7 @@ pub fn read_bytes<S: Shelf>(alloc: Global, shelf: &mut S, name: &Name) -> Result
     match shelf.get(alloc, name) {
         Ok(Some(bytes)) => Ok(bytes),
         Ok(None) => Err(Answer::NoFile),
-        Err(fault) => Err(shelf_refused(fault)),
+        Err(fault) => Err(answer_of_shelf_fault(fault)),
     }
 }
 
@@ -42,6 +46,9 @@ pub fn read_bytes<S: Shelf>(alloc: Global, shelf: &mut S, name: &Name) -> Result
 pub fn read_job<S: Shelf>(alloc: Global, shelf: &mut S, name: &Name) -> Result<Job, Answer>
     ensures read { (files : List ShelfFile) → S.files shelf.old ≡ Some files
         → IsReadAs (job_at name.now files) result }
+    ensures missed { IfErr result (λ x. (x ≡ answer.NoFile)
+        ⊎ (x ≡ answer.ShelfFault) ⊎ (x ≡ answer.NoMemory)
+        ⊎ ((bad : FileFault) × (x ≡ answer.BadFile bad))) }
     ensures stays { S.files shelf.new ≡ S.files shelf.old }
     ensures shelf { Counts (is_shelfs_fault result ≡ true)
         (S.faults shelf.old) (S.faults shelf.new) }

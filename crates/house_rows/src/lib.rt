@@ -1,5 +1,5 @@
-//! What a print host reads of its rows and makes of them: names of files, records of prints, users and texts, and what
-//! answers show of them.
+//! What a print host reads and makes of its names of files, records of prints, users and texts, and what its answers
+//! show.
 #![tactic(auto)]
 
 mod entries;
@@ -20,7 +20,10 @@ pub use jobs::{check_job, progress};
 pub use lists::{copy_names, shown_entries, shown_files, shown_prints, shown_users};
 pub use names::{add_name, drop_name, is_among, names_in, port_for, reserve_name};
 pub use prints::{add_print, new_row, read_prints, reserve_print};
-pub use refusals::{keeper_refused, queue_refused, refused, shelf_refused, user_refused};
+pub use refusals::{
+    answer_of_keeper_fault, answer_of_queue_refusal, answer_of_refusal, answer_of_shelf_fault,
+    answer_of_user_refusal,
+};
 pub use states::{may_select, may_show, may_shut_down};
 pub use temps::{shown_heat, temps_after};
 pub use texts::{bed_line, first_hot_text, read_lines, tool_line};

@@ -3,7 +3,7 @@ ghost use Rattle.std.specs.Prelude.{◌≡◌, ◌<◌, ◌≤◌, length, map, 
 ghost use Rattle.std.specs.Vec.{vec_capacity};
 ghost use Rattle.std.specs.List.{list_any, prefix_len};
 ghost use Rattle.std.specs.Str.{bytes_eq};
-ghost use Rattle.octo_keeper.specs.Files.{is_before};
+ghost use Rattle.octo_access.specs.Rows.{is_before};
 ghost use Rattle.house_verdicts.specs.Known.{with_name, without_name};
 ghost use Rattle.house_verdicts.specs.Prints.{port_for};
 
@@ -58,7 +58,7 @@ pub fn reserve_name(names: &mut Vec<Name>) -> Result<(), AllocError>
     Ok(())
 }
 
-/// Takes a name out, if it is there.
+/// Takes a name out, if it is listed.
 pub fn drop_name(names: &mut Vec<Name>, name: &Name)
     ensures items { names.new.items ≡ without_name name.now names.old.items }
     ensures room { vec_len names.old < vec_capacity names.old
@@ -80,7 +80,7 @@ fn insert_name(names: &mut Vec<Name>, name: &Name) -> Result<(), AllocError>
     Ok(())
 }
 
-/// Adds a name in its place by its bytes, if it isn't there. There is room for it.
+/// Adds a name in its place by its bytes, if it isn't listed. The list has room for one more.
 pub fn add_name(names: &mut Vec<Name>, name: &Name)
     requires { vec_len names.old < vec_capacity names.old }
     ensures { names.new.items ≡ with_name name.now names.old.items }
@@ -92,7 +92,7 @@ pub fn add_name(names: &mut Vec<Name>, name: &Name)
     }
 }
 
-/// The port that is named, or else the first one; `None` if there is no such port.
+/// The port that is named, or else the first one; `None` if no such port exists.
 pub fn port_for(port: &Option<Name>, ports: &[Name]) -> Option<Name>
     ensures { result ≡ port_for port.now ports.now }
 {

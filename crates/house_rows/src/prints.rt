@@ -54,7 +54,7 @@ pub fn reserve_print(rows: &mut Vec<PrintRow>) -> Result<(), AllocError>
     Ok(())
 }
 
-/// Adds a record. There is room for it.
+/// Adds a record; there has to be room for one more.
 pub fn add_print(rows: &mut Vec<PrintRow>, row: PrintRow)
     requires { vec_len rows.old < vec_capacity rows.old }
     ensures { rows.new.items ≡ rows.old.items ++ row ∷ [] }

@@ -1,7 +1,7 @@
 //! Refusals and faults as answers.
 ghost use Rattle.std.specs.Prelude.{◌≡◌};
-ghost use Rattle.house_verdicts.specs.Refusals.{refused, user_refused, queue_refused};
-ghost use Rattle.house_rows.specs.Faults.{keeper_refused, shelf_refused};
+ghost use Rattle.house_verdicts.specs.Refusals.{answer_of_refusal, answer_of_user_refusal, answer_of_queue_refusal};
+ghost use Rattle.house_rows.specs.Faults.{answer_of_keeper_fault, answer_of_shelf_fault};
 
 use desk_steps::Refusal;
 use octo_access::UserRefusal;
@@ -10,8 +10,8 @@ use octo_keeper::{KeeperFault, ShelfFault};
 use print_queue::QueueRefusal;
 
 /// The desk's refusal as an answer.
-pub fn refused(refusal: Refusal) -> Answer
-    ensures { result ≡ refused refusal }
+pub fn answer_of_refusal(refusal: Refusal) -> Answer
+    ensures { result ≡ answer_of_refusal refusal }
 {
     match refusal {
         Refusal::WrongState { state } => Answer::WrongState { state },
@@ -23,8 +23,8 @@ pub fn refused(refusal: Refusal) -> Answer
 }
 
 /// The users' refusal as an answer.
-pub fn user_refused(refusal: &UserRefusal) -> Answer
-    ensures { result ≡ user_refused refusal.now }
+pub fn answer_of_user_refusal(refusal: &UserRefusal) -> Answer
+    ensures { result ≡ answer_of_user_refusal refusal.now }
 {
     match refusal {
         UserRefusal::BadGroup { group } => Answer::BadGroup {
@@ -39,8 +39,8 @@ pub fn user_refused(refusal: &UserRefusal) -> Answer
 }
 
 /// The queue's refusal as an answer.
-pub fn queue_refused(refusal: &QueueRefusal) -> Answer
-    ensures { result ≡ queue_refused refusal.now }
+pub fn answer_of_queue_refusal(refusal: &QueueRefusal) -> Answer
+    ensures { result ≡ answer_of_queue_refusal refusal.now }
 {
     match refusal {
         QueueRefusal::NameTaken { kept } => Answer::NameTaken {
@@ -54,8 +54,8 @@ pub fn queue_refused(refusal: &QueueRefusal) -> Answer
 }
 
 /// The keeper's fault as an answer.
-pub fn keeper_refused(fault: KeeperFault) -> Answer
-    ensures { result ≡ keeper_refused fault }
+pub fn answer_of_keeper_fault(fault: KeeperFault) -> Answer
+    ensures { result ≡ answer_of_keeper_fault fault }
 {
     match fault {
         KeeperFault::Failed => Answer::KeeperFault,
@@ -64,8 +64,8 @@ pub fn keeper_refused(fault: KeeperFault) -> Answer
 }
 
 /// The shelf's fault as an answer.
-pub fn shelf_refused(fault: ShelfFault) -> Answer
-    ensures { result ≡ shelf_refused fault }
+pub fn answer_of_shelf_fault(fault: ShelfFault) -> Answer
+    ensures { result ≡ answer_of_shelf_fault fault }
 {
     match fault {
         ShelfFault::Failed => Answer::ShelfFault,

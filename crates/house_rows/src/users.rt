@@ -1,26 +1,15 @@
 //! Users as requests name them.
 ghost use Rattle.std.specs.Prelude.{◌≡◌, ◌≤◌, true, [], length, replicate, option_map, unwrap_or};
 ghost use Rattle.std.specs.List.{position_or_len};
-ghost use Rattle.octo_access.specs.Rows.{held, is_named};
+ghost use Rattle.octo_access.specs.Rows.{row_named, is_named};
 ghost use Rattle.sha2.specs.Sha256.{sha256};
 ghost use Rattle.house_verdicts.specs.Rows.{new_user};
 ghost use Rattle.house_rows.specs.Users.{changed};
 
 use arrayvec::ArrayVec;
 use byte_text::Name;
-use octo_access::{Digest, UserRow, digest_of};
+use octo_access::{Digest, UserRow, copy_names, digest_of};
 use octo_outside::Blob;
-
-// The same names again.
-fn copy_groups(names: &ArrayVec<Name, 8>) -> ArrayVec<Name, 8>
-    ensures { result ≡ names.now }
-{
-    let mut copy = ArrayVec::new();
-    for name in names.as_slice() {
-        copy.push(name.copy());
-    }
-    copy
-}
 
 /// A new user with this key.
 pub fn new_user(name: &Name, key: &Blob, groups: &ArrayVec<Name, 8>, active: bool) -> UserRow
@@ -29,7 +18,7 @@ pub fn new_user(name: &Name, key: &Blob, groups: &ArrayVec<Name, 8>, active: boo
     UserRow {
         name: name.copy(),
         digest: digest_of(key.as_slice()),
-        groups: copy_groups(groups),
+        groups: copy_names(groups),
         active,
     }
 }
@@ -47,8 +36,8 @@ fn groups_or(groups: &Option<ArrayVec<Name, 8>>, former: &ArrayVec<Name, 8>) -> 
     ensures { result ≡ unwrap_or groups.now former.now }
 {
     match groups {
-        Some(groups) => copy_groups(groups),
-        None => copy_groups(former),
+        Some(groups) => copy_names(groups),
+        None => copy_names(former),
     }
 }
 
@@ -82,7 +71,7 @@ fn place_of(rows: &[UserRow], name: &Name) -> usize
 /// The user of that name.
 #[tactic(auto, using(std::proofs::lemmas::List::Folds::find_at, std::proofs::lemmas::Option::slice_get_past, std::proofs::lemmas::Option::slice_get_read))]
 pub fn user_named(rows: &[UserRow], name: &Name) -> Option<UserRow>
-    ensures { result ≡ held name.now rows.now }
+    ensures { result ≡ row_named name.now rows.now }
 {
     let place = place_of(rows, name);
     if place == rows.len() {

@@ -1,6 +1,6 @@
 -- An answered ask leads a host on.
 use Rattle.std.proofs.Common.{◌≡◌, ℕ, ◌≤◌, false, List, [], ◌∷◌, Option, Some, refl}
-use Rattle.octo_outside.specs.Told.{Adds}
+use Rattle.octo_outside.specs.Recorded.{Adds}
 use Rattle.octo_keeper.specs.declared.shelf.ShelfFile.{ShelfFile}
 use Rattle.octo_asks.specs.History.{History}
 use Rattle.octo_asks.specs.declared.answer.Answer.{Answer}

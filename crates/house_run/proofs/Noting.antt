@@ -1,8 +1,8 @@
 -- A turn of the link leads a host on.
 use Rattle.std.proofs.Common.{◌≡◌, ◌⊎◌, inl, inr, ℕ, ◌≤◌, true, false, List, [], ◌∷◌, Option, Some, None, refl, sym, ap, subst, ◌∙◌}
 use Rattle.std.specs.Prelude.{IfSome}
-use Rattle.octo_outside.specs.Told.{Became, Adds}
-use Rattle.octo_outside.proofs.Told.{became_so, became_same}
+use Rattle.octo_outside.specs.Recorded.{Became, Adds}
+use Rattle.octo_outside.proofs.Recorded.{became_so, became_same}
 use Rattle.desk_steps.specs.declared.state.State.{State}
 use Rattle.octo_keeper.specs.declared.shelf.ShelfFile.{ShelfFile}
 use Rattle.octo_keeper.specs.Tables.{with_due_end}

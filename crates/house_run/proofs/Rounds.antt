@@ -1,7 +1,7 @@
 -- What the rounds of a run add up to.
 use Rattle.std.proofs.Common.{◌≡◌, ℕ, ◌≤◌, Bool, List, [], ◌∷◌, Option, sym, ap, subst, ◌∙◌}
-use Rattle.octo_outside.specs.Told.{Became, Adds}
-use Rattle.octo_outside.proofs.Told.{became_then}
+use Rattle.octo_outside.specs.Recorded.{Became, Adds}
+use Rattle.octo_outside.proofs.Recorded.{became_then}
 use Rattle.octo_keeper.specs.declared.shelf.ShelfFile.{ShelfFile}
 use Rattle.octo_asks.specs.History.{History}
 use Rattle.octo_asks.specs.declared.entry.Entry.TheVariants as entry

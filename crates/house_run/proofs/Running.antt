@@ -1,8 +1,8 @@
 -- How a run begins, goes on and ends.
 use Rattle.std.proofs.Common.{◌≡◌, ℕ, ◌≤◌, true, false, List, [], ◌∷◌, Option, Some, None, refl, sym, ap, subst, ◌∙◌, arith}
 use Rattle.std.proofs.lemmas.Bool.{false≢true}
-use Rattle.octo_outside.specs.Told.{Became, Adds}
-use Rattle.octo_outside.proofs.Told.{became_then, became_same, became_so}
+use Rattle.octo_outside.specs.Recorded.{Became, Adds}
+use Rattle.octo_outside.proofs.Recorded.{became_then, became_same, became_so}
 use Rattle.octo_keeper.specs.declared.shelf.ShelfFile.{ShelfFile}
 use Rattle.print_records.specs.declared.ending.Ending.{Ending}
 use Rattle.desk_steps.specs.Data.{Data}
@@ -11,13 +11,14 @@ use Rattle.octo_asks.specs.History.{History}
 use Rattle.octo_asks.specs.declared.entry.Entry.TheVariants as entry
 use Rattle.house_history.specs.Legal.{Standing}
 use Rattle.house_walks.specs.Walks.{Walks}
+use Rattle.house_walks.proofs.Called.{stands_closed}
 use Rattle.house_walks.proofs.Walking.{walks_none, walks_one, walks_then}
 use Rattle.octo_house.specs.declared.house.House.{House}
 use Rattle.octo_house.specs.State.{known_of, session_of}
 use Rattle.octo_house.specs.Turned.{Turns}
 use Rattle.house_run.specs.declared.tally.Asked.{Asked}
 use Rattle.house_run.specs.declared.tally.Tally.{Tally}
-use Rattle.house_run.specs.Runs.{stands, begins, ended, Leads, IsFresh, IsOver}
+use Rattle.house_run.specs.Runs.{stands, begins, RunIsOver, Leads, IsFresh, IsOver}
 use Rattle.house_run.specs.Tallies.{tally_of, AreOf, tally_after, is_over}
 use Rattle.house_run.proofs.Noting.{Knows}
 use Rattle.house_run.proofs.Tallying.{tally_grows, tally_over}
@@ -52,32 +53,13 @@ walks_round first before mid after start was held host old asked new at moment b
 
 -- the end
 pub end_walks : (house : House) (past past' : Option History) (files : Option (List ShelfFile)) (moment : ℕ) → Adds past past' (entry.Close ∷ [])
-    → Walks past past' files files (stands house moment) (ended house)
+    → Walks past past' files files (stands house moment) (RunIsOver house)
 end_walks house past past' files moment adds =
-    walks_one past past' files files (stands house moment) (ended house) entry.Close adds
+    walks_one past past' files files (stands house moment) (RunIsOver house) entry.Close adds
     (λ was was_is. (
       was,
       was_is,
-      λ s at. (
-        at.closed_is,
-        (
-          moment,
-          record {
-            window = at.window;
-            limit = at.limit;
-            known_is = at.known_is;
-            desk = at.desk;
-            sound = at.sound;
-            files_are = at.files_are;
-            up = at.up;
-            ready = at.ready;
-            patient = at.patient;
-            raised = at.raised;
-            moment_is = at.moment_is;
-            closed_is = refl;
-          },
-        ),
-      ),
+      λ s at. (at.closed_is, (moment, stands_closed s (known_of house) (session_of house) was moment at)),
     ))
 
 -- what the host knows after a turn

@@ -10,11 +10,9 @@ use Rattle.octo_asks.specs.declared.request.Ask.{Ask}
 use Rattle.house_walks.specs.Counted.{is_leave, is_shutdown, calls_made, leaves_made, is_shut}
 use Rattle.house_run.specs.declared.tally.Asked.{Asked}
 use Rattle.house_run.specs.declared.tally.Tally.{Tally}
-use Rattle.house_run.specs.Tallies.{counted, tally_of, one_if, AreOf, tally_after, is_over}
-
-or_false : (b : Bool) → (b || false) ≡ b
-or_false true = refl
-or_false false = refl
+use Rattle.house_run.specs.Tallies.{counted, tally_of, AreOf, tally_after, is_over}
+use Rattle.house_counts.specs.Rounds.{one_if}
+use Rattle.std.proofs.Math.Bool.{or-false}
 
 or_assoc : (a b c : Bool) → ((a || b) || c) ≡ (a || (b || c))
 or_assoc true b c = refl
@@ -37,7 +35,7 @@ pub call_counts : (worker : ℕ) (ask : Ask) (moment : ℕ) (x : Answer) (asked 
 call_counts worker ask moment x asked leaves shuts = record {
   calls = omega (arith, calls_one worker ask moment x [] asked.is_leave leaves);
   leaves = omega (arith, leaves_one worker ask moment x [] asked.is_leave leaves);
-  shut = or_false (is_shutdown ask.request x) ∙ shuts;
+  shut = or-false (is_shutdown ask.request x) ∙ shuts;
 }
 
 -- nothing, or a note, or the end
@@ -89,7 +87,7 @@ tally_grows None h added of =
     same_tally _ _ _ _ _ _
     (ap counted (calls_append h added) ∙ counted_none (calls_made h) (calls_made added) of.calls)
     (ap counted (leaves_append h added) ∙ counted_none (leaves_made h) (leaves_made added) of.leaves)
-    (shut_append h added ∙ ap (λ b. is_shut h || b) of.shut ∙ or_false (is_shut h))
+    (shut_append h added ∙ ap (λ b. is_shut h || b) of.shut ∙ or-false (is_shut h))
 tally_grows (Some asked) h added of = by asked.is_leave refl
   where
     by : (leaves : Bool) → asked.is_leave ≡ leaves → tally_of (h ++ added) ≡ tally_after (Some asked) (tally_of h)

@@ -1,8 +1,8 @@
 -- What a turn of the link adds to a history: its note, or a quiet one in its place, or nothing.
 use Rattle.std.proofs.Common.{◌≡◌, inl, inr, ℕ, List, Option, None, Some, refl, sym, ap, subst, ◌∙◌}
 use Rattle.std.specs.Prelude.{IfSome}
-use Rattle.octo_outside.specs.Told.{Became}
-use Rattle.octo_outside.proofs.Told.{became_so, became_same}
+use Rattle.octo_outside.specs.Recorded.{Became}
+use Rattle.octo_outside.proofs.Recorded.{became_so, became_same}
 use Rattle.desk_steps.specs.declared.issued.Note.{Note}
 use Rattle.desk_steps.specs.declared.state.State.{State}
 use Rattle.octo_asks.specs.History.{History}
@@ -12,7 +12,7 @@ use Rattle.session_steps.specs.Turn.{IsTurn, IsNoteOf, fact_of}
 use Rattle.session_steps.specs.declared.found.Turned.{Turned}
 use Rattle.printer_link.specs.Link.{LinkKind}
 use Rattle.printer_model.specs.declared.event.WorldEvent.{WorldEvent}
-use Rattle.house_counts.specs.Rounds.{TurnsAt, noted}
+use Rattle.house_counts.specs.Rounds.{TurnsAt, history_of_note}
 use Rattle.house_counts.specs.Temps.{NotesTemps}
 use Rattle.house_counts.proofs.Hearing.{turn_notes_temps}
 use Rattle.house_counts.proofs.Turning.{HasCalled, turn_notes}
@@ -28,7 +28,7 @@ module _ (moment acked : ℕ) (was now : State) (kind : LinkKind) (link link' : 
     temps : IfSome n (λ one. one.temps ≡ temps_in t.got)
 
   abbrev AddsIt : History → Type 0
-  AddsIt added = (n : Option Note) × (added ≡ noted n) × SaysIt n
+  AddsIt added = (n : Option Note) × (added ≡ history_of_note n) × SaysIt n
 
   its_note : (note : Note) → turned.note ≡ Some note → SaysIt (Some note)
   its_note note is =

@@ -1,7 +1,7 @@
 -- A host's histories and its session stay in step over a round of its run.
 use Rattle.std.proofs.Common.{◌≡◌, ◌⊎◌, inl, inr, ℕ, Bool, List, [], ◌∷◌, Option, Some, None, sym, subst}
-use Rattle.octo_outside.specs.Told.{Became, Adds}
-use Rattle.octo_outside.proofs.Told.{became_so}
+use Rattle.octo_outside.specs.Recorded.{Became, Adds}
+use Rattle.octo_outside.proofs.Recorded.{became_so}
 use Rattle.desk_steps.specs.declared.issued.Note.{Note}
 use Rattle.desk_steps.specs.declared.link_fact.LinkFact.TheVariants as fact
 use Rattle.desk_steps.specs.declared.state.State.{State}
@@ -12,7 +12,7 @@ use Rattle.session_steps.specs.Turn.{IsTurn, fact_of}
 use Rattle.session_steps.specs.declared.found.Turned.{Turned}
 use Rattle.octo_asks.specs.History.{History}
 use Rattle.octo_asks.specs.declared.entry.Entry.TheVariants as entry
-use Rattle.lossy_line.proofs.Told.{IsKept}
+use Rattle.lossy_line.proofs.Recorded.{IsKept}
 use Rattle.house_counts.specs.Rounds.{AsksAt, IsCallAt}
 use Rattle.house_line.specs.InStep.{AreCalls, InStep, TiesLines}
 use Rattle.house_line.proofs.Recorded.{calls_in_step, note_in_step, turn_in_step, turn_silent, end_ties}

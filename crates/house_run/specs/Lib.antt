@@ -2,3 +2,4 @@
 pub mod Runs
 pub mod Tallies
 pub mod Turns
+pub mod Asks

@@ -1,6 +1,6 @@
 -- Where a run has led a host.
 use Rattle.std.specs.Prelude.{◌≡◌, ◌⊎◌, ℕ, ◌≤◌, Bool, true, false, List, Option, Some}
-use Rattle.octo_outside.specs.Told.{Became}
+use Rattle.octo_outside.specs.Recorded.{Became}
 use Rattle.octo_keeper.specs.declared.shelf.ShelfFile.{ShelfFile}
 use Rattle.octo_asks.specs.History.{History}
 use Rattle.printer_model.specs.declared.event.WorldEvent.{WorldEvent}
@@ -38,12 +38,12 @@ abbrev pub begins : House → List ShelfFile → Standing → Type 0
 begins house files s = s ≡ beginning (session_of house).sender.window (session_of house).sender.limit (known_of house) files
 
 -- the run is over
-abbrev pub ended : House → List ShelfFile → Standing → Type 0
-ended house files s = (moment : ℕ) × StandsAt s (known_of house) (session_of house) files moment true
+abbrev pub RunIsOver : House → List ShelfFile → Standing → Type 0
+RunIsOver house files s = (moment : ℕ) × StandsAt s (known_of house) (session_of house) files moment true
 
 -- a whole run: the history grew by a legal one, from the beginning to the end, which leads to this host
 abbrev pub HasRun : (past past' : Option History) → (files files' : Option (List ShelfFile)) → House → House → Type 0
-HasRun past past' files files' old new = Walks past past' files files' (begins old) (ended new)
+HasRun past past' files files' old new = Walks past past' files files' (begins old) (RunIsOver new)
 
 -- how a run came to its end: a shutdown was accepted, or four workers had left and no print was active; it returns the number of calls
 pub record IsOver (calls : ℕ) (active : Bool) (added : History) : Type 0 where

@@ -1,14 +1,16 @@
 -- What a run counts of its history.
 use Rattle.std.specs.Prelude.{◌≡◌, ℕ, ◌+◌, Bool, true, false, ◌||◌, ◌&&◌, not, nat_lt, min, Option, Some, None}
+use Rattle.octo_outside.specs.Recorded.{last_count}
 use Rattle.desk_steps.specs.Data.{Data}
 use Rattle.octo_asks.specs.History.{History}
 use Rattle.house_walks.specs.Counted.{calls_made, leaves_made, is_shut}
 use Rattle.house_run.specs.declared.tally.Asked.{Asked}
 use Rattle.house_run.specs.declared.tally.Tally.{Tally}
+use Rattle.house_counts.specs.Rounds.{one_if}
 
 -- a number as a run counts it
 abbrev pub counted : ℕ → ℕ
-counted n = min n 18446744073709551615
+counted n = min n last_count
 
 abbrev pub no_tally : Tally
 no_tally = record { calls = 0; leaves = 0; is_shut = false }
@@ -16,11 +18,6 @@ no_tally = record { calls = 0; leaves = 0; is_shut = false }
 -- the tally of a history
 abbrev pub tally_of : History → Tally
 tally_of h = record { calls = counted (calls_made h); leaves = counted (leaves_made h); is_shut = is_shut h }
-
--- how many of the calls that this ask made are leaves, or aren't
-abbrev pub one_if : Bool → ℕ
-one_if true = 1
-one_if false = 0
 
 abbrev pub leaves_by : Option Asked → ℕ
 leaves_by None = 0

@@ -1,12 +1,11 @@
 //! Asks of a counter, answered by a host.
-ghost use Rattle.std.specs.Prelude.{◌≡◌, ◌≤◌, ◌&&◌, Some, None, false};
-ghost use Rattle.octo_outside.specs.Told.{Became};
+ghost use Rattle.std.specs.Prelude.{◌≡◌, ◌&&◌, Some, None, false};
+ghost use Rattle.octo_outside.specs.Recorded.{Became};
 ghost use Rattle.octo_asks.specs.declared.answer.Answer.{Answer};
 ghost use Rattle.octo_asks.specs.declared.request.Request.TheVariants.{Shutdown};
 ghost use Rattle.house_walks.specs.Counted.{is_leave, is_shutdown};
 ghost use Rattle.house_counts.specs.Rounds.{AsksAt};
-ghost use Rattle.house_tables.specs.Kept.{KeepsRows};
-ghost use Rattle.octo_house.specs.State.{IsApartFrom, IsListed, tables_of};
+ghost use Rattle.house_run.specs.Asks.{AskLeaves};
 ghost use Rattle.house_run.specs.Runs.{Leads};
 ghost use Rattle.house_run.specs.Tallies.{AreOf};
 
@@ -75,19 +74,12 @@ pub(crate) fn answer_next<C: Counter, K: Keeper, S: Shelf>(
         (λ _ added. AsksAt moment (K.faults keeper.old) (K.faults keeper.new)
         (S.faults shelf.old) (S.faults shelf.new) added) }
 
-    // What stays, and what the keeper has of it.
-    ensures kept { KeepsRows (K.tables keeper.old) (K.tables keeper.new)
-        (tables_of house.old) (tables_of house.new) }
-    ensures listed { IsListed (S.files shelf.old) house.old
-        → IsListed (S.files shelf.new) house.new }
-    ensures apart { IsApartFrom house.old house.new }
+    // What stays.
+    ensures rest { AskLeaves K.tables K.faults S.files S.faults
+        keeper.old keeper.new shelf.old shelf.new house.old house.new }
     ensures given { C.given counter.new ≡ None }
     ensures closed { C.closed counter.new ≡ false }
     ensures place { C.place counter.new ≡ C.place counter.old }
-
-    // Faults, by their counts.
-    ensures keeper { K.faults keeper.old ≤ K.faults keeper.new }
-    ensures shelf { S.faults shelf.old ≤ S.faults shelf.new }
 {
     match counter.next() {
         Next::Nothing => None,
@@ -116,16 +108,11 @@ fn answer_ask<C: Counter, K: Keeper, S: Shelf>(
     ensures asks { Became (C.past counter.old) (C.past counter.new)
         (λ _ added. AsksAt moment (K.faults keeper.old) (K.faults keeper.new)
         (S.faults shelf.old) (S.faults shelf.new) added) }
-    ensures kept { KeepsRows (K.tables keeper.old) (K.tables keeper.new)
-        (tables_of house.old) (tables_of house.new) }
-    ensures listed { IsListed (S.files shelf.old) house.old
-        → IsListed (S.files shelf.new) house.new }
-    ensures apart { IsApartFrom house.old house.new }
+    ensures rest { AskLeaves K.tables K.faults S.files S.faults
+        keeper.old keeper.new shelf.old shelf.new house.old house.new }
     ensures given { C.given counter.new ≡ None }
     ensures closed { C.closed counter.new ≡ false }
     ensures place { C.place counter.new ≡ C.place counter.old }
-    ensures keeper { K.faults keeper.old ≤ K.faults keeper.new }
-    ensures shelf { S.faults shelf.old ≤ S.faults shelf.new }
 {
     let leaves = is_leave(&ask.request);
     let shuts = may_shut(&ask.request);

@@ -1,6 +1,6 @@
 //! The run of a host, from its beginning to its end.
-ghost use Rattle.std.specs.Prelude.{◌≡◌, ◌≤◌, None, true, false};
-ghost use Rattle.octo_outside.specs.Told.{Became};
+ghost use Rattle.std.specs.Prelude.{◌≡◌, ◌≤◌, None, is_some, true, false};
+ghost use Rattle.octo_outside.specs.Recorded.{Became};
 ghost use Rattle.octo_outside.specs.Traits.{NotBefore};
 ghost use Rattle.house_counts.specs.Faults.{AreCounted};
 ghost use Rattle.house_counts.specs.LinkUse.{UsesLink};
@@ -78,6 +78,7 @@ pub fn run<R: Wait, C: Counter, L: Link, T: Clock, K: Keeper, S: Shelf>(
     ensures place { C.place counter.new ≡ C.place counter.old }
     ensures down { L.up link.new ≡ false }
     ensures kind { L.kind link.new ≡ L.kind link.old }
+    ensures recorded { is_some (L.past link.new) ≡ is_some (L.past link.old) }
 
     // Faults, by their counts.
     ensures faults { Became (C.past counter.old) (C.past counter.new)

@@ -1,7 +1,7 @@
 //! Turns of a host's link, entered in the history.
-ghost use Rattle.std.specs.Prelude.{◌≡◌, ◌≤◌, List, Option, Some, None, true, false};
+ghost use Rattle.std.specs.Prelude.{◌≡◌, ◌≤◌, List, Option, Some, None, is_some, true, false};
 ghost use Rattle.octo_keeper.specs.declared.shelf.ShelfFile.{ShelfFile};
-ghost use Rattle.octo_outside.specs.Told.{Became};
+ghost use Rattle.octo_outside.specs.Recorded.{Became};
 ghost use Rattle.house_counts.specs.Rounds.{TurnsAt};
 ghost use Rattle.house_counts.specs.Temps.{NotesTemps};
 ghost use Rattle.house_tables.specs.Kept.{KeepsRows};
@@ -59,6 +59,7 @@ pub(crate) fn take_turn<C: Counter, L: Link, K: Keeper>(
         → IsListed files house.new }
     ensures up { L.up link.new ≡ (session_of house.new).up }
     ensures kind { L.kind link.new ≡ L.kind link.old }
+    ensures recorded { is_some (L.past link.new) ≡ is_some (L.past link.old) }
     ensures given { C.given counter.new ≡ None }
     ensures closed { C.closed counter.new ≡ false }
     ensures place { C.place counter.new ≡ C.place counter.old }

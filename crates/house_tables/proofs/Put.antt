@@ -6,7 +6,7 @@ use Rattle.octo_asks.specs.declared.answer.Answer.TheVariants as answer
 use Rattle.std.proofs.lemmas.Bool.{false≢true}
 use Rattle.octo_keeper.specs.declared.keeper.KeeperFault.{KeeperFault}
 use Rattle.octo_keeper.specs.declared.keeper.KeeperFault.TheVariants as keeper_fault
-use Rattle.house_rows.specs.Faults.{keeper_refused}
+use Rattle.house_rows.specs.Faults.{answer_of_keeper_fault}
 use Rattle.octo_keeper.specs.Tables.{changed}
 use Rattle.octo_keeper.specs.declared.tables.Tables.{Tables}
 use Rattle.octo_keeper.specs.declared.tables.Change.TheVariants as change
@@ -63,10 +63,10 @@ module _ (old mid new : TablesData) (asked : QueueEntry) (put : Put) (x : Answer
   pub put-keeps : KeepsRows was now old new
   put-keeps = keeps (is_fault x) refl
 
-fault-is : (fault : KeeperFault) → is_fault (keeper_refused fault) ≡ true
+fault-is : (fault : KeeperFault) → is_fault (answer_of_keeper_fault fault) ≡ true
 fault-is keeper_fault.Failed = refl
 fault-is keeper_fault.NoMemory = refl
 
 -- the keeper's fault is a fault
-pub fault-not : (fault : KeeperFault) (x : Answer) → x ≡ keeper_refused fault → is_fault x ≡ false → ⊥
+pub fault-not : (fault : KeeperFault) (x : Answer) → x ≡ answer_of_keeper_fault fault → is_fault x ≡ false → ⊥
 fault-not fault x is fine = false≢true (sym fine ∙ ap is_fault is ∙ fault-is fault)

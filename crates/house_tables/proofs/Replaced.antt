@@ -3,7 +3,7 @@ use Rattle.std.proofs.Common.{◌≡◌, ℕ, suc, ◌+◌, ◌≤◌, Bool, tru
 use Rattle.std.proofs.lemmas.List.Sums.{sum_by-cons}
 use Rattle.std.specs.Cmp.Lexicographic.{bytes_decides}
 use Rattle.std.specs.List.{find, position_or_len}
-use Rattle.octo_access.specs.Rows.{is_named, has_digest, held, replaced, IsUserTable}
+use Rattle.octo_access.specs.Rows.{is_named, has_digest, row_named, replaced, IsUserTable}
 use Rattle.octo_access.specs.declared.row.UserRow.{UserRow}
 use Rattle.octo_access.proofs.Found.{found-passes}
 use Rattle.octo_keeper.specs.Tables.{with_user}
@@ -103,19 +103,19 @@ user-set row (x ∷ xs) few = user-more row x xs (is_named row.name x) refl few 
 pub with_user-replaced : (row : UserRow) (rows : List UserRow) → IsUserTable rows → with_user row rows ≡ replaced row rows
 with_user-replaced row rows table = user-set row rows (table.list.names row.name)
 
-same-name : (name : List ℕ) (former : UserRow) (rows : List UserRow) → held name rows ≡ Some former → former.name ≡ name
+same-name : (name : List ℕ) (former : UserRow) (rows : List UserRow) → row_named name rows ≡ Some former → former.name ≡ name
 same-name name former rows at = (bytes_decides former.name name).0 (found-passes (is_named name) former rows at)
 
 named-own : (row : UserRow) → is_named row.name row ≡ true
 named-own row = (bytes_decides row.name row.name).1 refl
 
-pub replaced-back : (row former : UserRow) (rows : List UserRow) → held row.name rows ≡ Some former → replaced former (replaced row rows) ≡ rows
+pub replaced-back : (row former : UserRow) (rows : List UserRow) → row_named row.name rows ≡ Some former → replaced former (replaced row rows) ≡ rows
 replaced-back row former rows at =
     ap (λ n. over (is_named n) former (replaced row rows)) (same-name row.name former rows at) ∙ back (is_named row.name) row former (named-own row) rows at
 
-pub held-replaced : (row former : UserRow) (rows : List UserRow) → held row.name rows ≡ Some former → IsSome (held former.name (replaced row rows))
+pub held-replaced : (row former : UserRow) (rows : List UserRow) → row_named row.name rows ≡ Some former → IsSome (row_named former.name (replaced row rows))
 held-replaced row former rows at =
-    ap (λ n. is_some (held n (replaced row rows))) (same-name row.name former rows at)
+    ap (λ n. is_some (row_named n (replaced row rows))) (same-name row.name former rows at)
     ∙ ap is_some (there (is_named row.name) row former (named-own row) rows at)
 
 -- whoever has the former key then has its name
@@ -166,16 +166,16 @@ module _ (test key : UserRow → Bool) (row former : UserRow) (own : key former 
   key-left [] found few = absurd (cc)
   key-left (x ∷ xs) found few = key-more x xs (test x) (key x) refl refl found few (key-left xs)
 
-pub key-replaced : (row former : UserRow) (rows : List UserRow) → IsUserTable rows → held row.name rows ≡ Some former
+pub key-replaced : (row former : UserRow) (rows : List UserRow) → IsUserTable rows → row_named row.name rows ≡ Some former
     → IfSome (find (has_digest former.digest) (replaced row rows)) (λ other. other.name ≡ former.name)
 key-replaced row former rows table found =
     key-left (is_named row.name) (has_digest former.digest) row former ((bytes_decides former.digest former.digest).1 refl)
     (sym (same-name row.name former rows found)) rows found (table.list.keys former.digest)
 
 -- The same for users as a call has them.
-module _ (row former : UserRow) (rows new : List UserRow) (is : new ≡ replaced row rows) (at : held row.name rows ≡ Some former) where
-  pub held-after : IsSome (held former.name new)
-  held-after = subst (λ us. IsSome (held former.name us)) (sym is) (held-replaced row former rows at)
+module _ (row former : UserRow) (rows new : List UserRow) (is : new ≡ replaced row rows) (at : row_named row.name rows ≡ Some former) where
+  pub held-after : IsSome (row_named former.name new)
+  held-after = subst (λ us. IsSome (row_named former.name us)) (sym is) (held-replaced row former rows at)
 
   pub key-after : IsUserTable rows → IfSome (find (has_digest former.digest) new) (λ other. other.name ≡ former.name)
   key-after table = subst (λ us. IfSome (find (has_digest former.digest) us) (λ other. other.name ≡ former.name)) (sym is)

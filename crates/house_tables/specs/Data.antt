@@ -14,6 +14,7 @@ use Rattle.house_history.specs.Begins.{row_read}
 use Rattle.house_rows.specs.Counts.{is_failing}
 use Rattle.house_tables.specs.declared.tables.Unwritten.{Unwritten}
 
+-- the rows of the tables, and an end of a print that is still to be written
 pub record TablesData : Type 0 where
   pub users : List UserRow
   pub queue : List QueueEntry

@@ -1,6 +1,6 @@
 -- What a change of users or of the queue leaves.
 use Rattle.std.specs.Prelude.{◌≡◌, ℕ, true, false, Option}
-use Rattle.octo_outside.specs.Told.{Counts}
+use Rattle.octo_outside.specs.Recorded.{Counts}
 use Rattle.octo_keeper.specs.declared.tables.Tables.{Tables}
 use Rattle.octo_asks.specs.declared.answer.Answer.{Answer}
 use Rattle.house_rows.specs.Counts.{is_keepers, is_shelfs}

@@ -1,5 +1,5 @@
-//! Tests of a host: what it answers, records and keeps, over a keeper, a shelf and a link in memory. They stand apart from `octo_house`
-//! because their proofs are slow.
+//! Tests of a host: what it answers, records and keeps, over a keeper, a shelf and a link in memory. They have a crate
+//! of their own because their proofs are slow.
 #![tactic(auto)]
 
 #[cfg(test)]

@@ -11,7 +11,7 @@ use Rattle.gcode_lines.specs.Commands.{job_of}
 use Rattle.gcode_lines.specs.Job.{JobData}
 use Rattle.gcode_lines.specs.declared.fault.FileFault.{FileFault}
 use Rattle.temp_rules.specs.declared.limits.TooHot.{TooHot}
-use Rattle.desk_steps.specs.Data.{File}
+use Rattle.desk_steps.specs.Data.{File, named_file}
 use Rattle.desk_steps.specs.Run.{Connect, Select}
 use Rattle.desk_steps.specs.Table.{connect_at}
 use Rattle.desk_steps.specs.declared.state.Refusal.{Refusal}
@@ -29,12 +29,12 @@ use Rattle.octo_asks.specs.declared.request.Ask.{Ask}
 use Rattle.octo_asks.specs.declared.request.Request.{Request}
 use Rattle.octo_asks.specs.declared.request.Request.TheVariants as request
 use Rattle.house_verdicts.specs.Known.{Known}
-use Rattle.house_verdicts.specs.Refusals.{refused, user_refused, queue_refused, refused_if, granted, granted_user, granted_heat, found_or, read_as}
+use Rattle.house_verdicts.specs.Refusals.{answer_of_refusal, answer_of_user_refusal, answer_of_queue_refusal, refused_if, if_desk_allows, if_users_allow, unless_too_hot, found_or, read_as}
 use Rattle.house_verdicts.specs.Prints.{port_for, manual_verdict}
 use Rattle.house_verdicts.specs.Rows.{put_by}
-use Rattle.house_verdicts.specs.Uploads.{named_file, read_file, print_verdict, select_by, take_verdict, after_storing, store_verdict}
+use Rattle.house_verdicts.specs.Uploads.{read_file, print_verdict, select_by, take_verdict, after_storing, store_verdict}
 use Rattle.house_verdicts.specs.Verdict.{Verdict, Deed, at_desk, gives, makes, writes, reads, removes, stores, begins, May, after, is_fault}
-use Rattle.house_verdicts.specs.Answers.{request_verdict, permitted, allowed, lacking, verdict_by}
+use Rattle.house_verdicts.specs.Answers.{request_verdict, verdict_of_caller, unless_lacking, lacking, verdict_by}
 use Rattle.house_verdicts.specs.Access.{is_denied, IsDenied, Accessed, free, nobody, lacks, may, Access}
 
 -- A verdict that denies nothing.
@@ -77,18 +77,18 @@ by-test : (is : Bool) (a : Answer) (v : Verdict) → is_denied a ≡ false → G
 by-test true a v h g = by-gives a h
 by-test false a v h g = g
 
-by-refused : (r : Refusal) → is_denied (refused r) ≡ false
+by-refused : (r : Refusal) → is_denied (answer_of_refusal r) ≡ false
 by-refused (desk_refusal.WrongState state) = refl
 by-refused desk_refusal.NoFile = refl
 by-refused (desk_refusal.Full held) = refl
 by-refused desk_refusal.FileBusy = refl
 by-refused (desk_refusal.TooHotLine line asked limit) = refl
 
-by-desk : {A : Type 0} (r : Result A Refusal) (v : Verdict) → Grants v → Grants (granted r v)
+by-desk : {A : Type 0} (r : Result A Refusal) (v : Verdict) → Grants v → Grants (if_desk_allows r v)
 by-desk (Ok a) v g = g
-by-desk (Err r) v g = by-gives (refused r) (by-refused r)
+by-desk (Err r) v g = by-gives (answer_of_refusal r) (by-refused r)
 
-by-user-refused : (r : UserRefusal) → is_denied (user_refused r) ≡ false
+by-user-refused : (r : UserRefusal) → is_denied (answer_of_user_refusal r) ≡ false
 by-user-refused (user_refusal.BadGroup group) = refl
 by-user-refused user_refusal.NoUser = refl
 by-user-refused user_refusal.NameTaken = refl
@@ -96,11 +96,11 @@ by-user-refused (user_refusal.KeyTaken name) = refl
 by-user-refused (user_refusal.Full count) = refl
 by-user-refused user_refusal.NoMemory = refl
 
-by-users : (o : Option UserRefusal) (v : Verdict) → Grants v → Grants (granted_user o v)
+by-users : (o : Option UserRefusal) (v : Verdict) → Grants v → Grants (if_users_allow o v)
 by-users None v g = g
-by-users (Some r) v g = by-gives (user_refused r) (by-user-refused r)
+by-users (Some r) v g = by-gives (answer_of_user_refusal r) (by-user-refused r)
 
-by-heat : (o : Option TooHot) (v : Verdict) → Grants v → Grants (granted_heat o v)
+by-heat : (o : Option TooHot) (v : Verdict) → Grants v → Grants (unless_too_hot o v)
 by-heat None v g = g
 by-heat (Some hot) v g = by-gives (answer.TooHot hot.asked hot.limit) refl
 
@@ -112,7 +112,7 @@ by-job : (r : Result JobData FileFault) (next : JobData → Verdict) → ((job :
 by-job (Ok job) next g = g job
 by-job (Err fault) next g = by-gives (answer.BadFile fault) refl
 
-by-queue-refused : (r : QueueRefusal) → is_denied (queue_refused r) ≡ false
+by-queue-refused : (r : QueueRefusal) → is_denied (answer_of_queue_refusal r) ≡ false
 by-queue-refused (queue_refusal.NameTaken kept) = refl
 by-queue-refused queue_refusal.NoEntry = refl
 by-queue-refused (queue_refusal.Full count) = refl
@@ -125,7 +125,7 @@ by-fresh false a d h = by-gives a h
 
 by-put : (r : Result Put QueueRefusal) (k : Known) → Grants (put_by r k)
 by-put (Ok put) k = by-fresh put.fresh _ _ refl
-by-put (Err r) k = by-gives (queue_refused r) (by-queue-refused r)
+by-put (Err r) k = by-gives (answer_of_queue_refusal r) (by-queue-refused r)
 
 by-file : (name : List ℕ) (files : List ShelfFile) (next : File → Verdict) → ((file : File) → Grants (next file)) → Grants (read_file name files next)
 by-file name files next g = by-reads _ (by-found (bytes_of name files) answer.NoFile _ refl (λ bytes. by-job (job_of bytes) _ (λ job. g (named_file name job))))
@@ -186,7 +186,7 @@ granting request.ListPrints user files k = by-gives (answer.Prints _) refl
 granting request.Shutdown user files k = by-test _ (answer.WrongState k.desk.state) _ refl (by-gives answer.Accepted refl)
 granting request.Leave user files k = by-gives answer.Accepted refl
 
-stays-so : (fault : Bool) (k : Known) → ◌≡◌ {A = Known} (cond fault k k) k
+pub stays-so : (fault : Bool) (k : Known) → ◌≡◌ {A = Known} (cond fault k k) k
 stays-so true k = refl
 stays-so false k = refl
 
@@ -197,13 +197,13 @@ module _ (ask : Ask) (files : List ShelfFile) (k : Known) (x : Answer) (ps : Lis
   abbrev next : UserRow → Verdict
   next u = request_verdict ask.request u files k
 
-  allowed-by : (user : UserRow) (v : Verdict) (o : Option Permission) → caller k.policy k.users ask.key ≡ Some user → v ≡ allowed (lacking k user ps) (next user) → lacking k user ps ≡ o → May (allowed o (next user)) x → Accessed ask v k x
+  allowed-by : (user : UserRow) (v : Verdict) (o : Option Permission) → caller k.policy k.users ask.key ≡ Some user → v ≡ unless_lacking (lacking k user ps) (next user) → lacking k user ps ≡ o → May (unless_lacking o (next user)) x → Accessed ask v k x
   allowed-by user v None asker is lack m = may user asker (ap (λ q. lacking k user q) needs ∙ lack) (undenied _ x (granting ask.request user files k) m)
-  allowed-by user v (Some p) asker is lack m = lacks user p asker (ap (λ q. lacking k user q) needs ∙ lack) (denied-by (Some p) v k x (is ∙ ap (λ o. allowed o (next user)) lack) m)
+  allowed-by user v (Some p) asker is lack m = lacks user p asker (ap (λ q. lacking k user q) needs ∙ lack) (denied-by (Some p) v k x (is ∙ ap (λ o. unless_lacking o (next user)) lack) m)
 
-  permitted-by : (v : Verdict) (o : Option UserRow) → v ≡ permitted (caller k.policy k.users ask.key) ps k next → caller k.policy k.users ask.key ≡ o → May (permitted o ps k next) x → Accessed ask v k x
-  permitted-by v None is asker m = nobody asker (denied-by None v k x (is ∙ ap (λ c. permitted c ps k next) asker) m)
-  permitted-by v (Some user) is asker m = allowed-by user v (lacking k user ps) asker (is ∙ ap (λ c. permitted c ps k next) asker) refl m
+  permitted-by : (v : Verdict) (o : Option UserRow) → v ≡ verdict_of_caller (caller k.policy k.users ask.key) ps k next → caller k.policy k.users ask.key ≡ o → May (verdict_of_caller o ps k next) x → Accessed ask v k x
+  permitted-by v None is asker m = nobody asker (denied-by None v k x (is ∙ ap (λ c. verdict_of_caller c ps k next) asker) m)
+  permitted-by v (Some user) is asker m = allowed-by user v (lacking k user ps) asker (is ∙ ap (λ c. verdict_of_caller c ps k next) asker) refl m
 
 accessed : (ask : Ask) (files : List ShelfFile) (k : Known) (x : Answer) (ps : List Permission) → needed ask.request ≡ ps → May (verdict_by ps ask.key ask.request files k) x → Accessed ask (verdict_by ps ask.key ask.request files k) k x
 accessed ask files k x [] needs m = free needs (is-so refl m)

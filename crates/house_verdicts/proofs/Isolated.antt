@@ -8,7 +8,7 @@ use Rattle.octo_access.specs.declared.permission.Permission.TheVariants as permi
 use Rattle.octo_access.specs.declared.row.UserRow.{UserRow}
 use Rattle.octo_keeper.specs.declared.shelf.ShelfFile.{ShelfFile}
 use Rattle.print_queue.specs.Calls.{put_answer}
-use Rattle.print_queue.specs.Rows.{held, is_of, last_arrival, without}
+use Rattle.print_queue.specs.Rows.{users_entry, is_of, last_arrival, without}
 use Rattle.print_queue.specs.declared.entry.QueueEntry.{QueueEntry}
 use Rattle.print_queue.specs.declared.refusal.Put.{Put}
 use Rattle.print_queue.specs.declared.refusal.QueueRefusal.{QueueRefusal}
@@ -23,7 +23,7 @@ use Rattle.house_verdicts.specs.Reads.{is_print_of}
 use Rattle.house_verdicts.specs.Rows.{asked_entry, put_by, put_entry_verdict}
 use Rattle.house_verdicts.specs.Refusals.{refused_if, found_or}
 use Rattle.house_verdicts.specs.Verdict.{Verdict, Deed, gives, writes, answer_in}
-use Rattle.house_verdicts.specs.Answers.{request_verdict, permitted, allowed, lacking, verdict_by}
+use Rattle.house_verdicts.specs.Answers.{request_verdict, verdict_of_caller, unless_lacking, lacking, verdict_by}
 use Rattle.house_verdicts.specs.Isolation.{is_private, SameFor, IsSame, Isolation}
 use Rattle.house_verdicts.proofs.Verdicts.{put_from, put_is, found-same, count-same}
 
@@ -31,17 +31,17 @@ use Rattle.house_verdicts.proofs.Verdicts.{put_from, put_is, found-same, count-s
 same-by : {x y z w : Answer} → x ≡ z → y ≡ w → IsSame z w → IsSame x y
 same-by e f h = rw (e, f) h
 
-same-allowed : (o : Option Permission) (v w : Verdict) → IsSame (answer_in v) (answer_in w) → IsSame (answer_in (allowed o v)) (answer_in (allowed o w))
+same-allowed : (o : Option Permission) (v w : Verdict) → IsSame (answer_in v) (answer_in w) → IsSame (answer_in (unless_lacking o v)) (answer_in (unless_lacking o w))
 same-allowed None v w h = h
 same-allowed (Some p) v w h = inl refl
 
 -- a caller who lacks a permission in one state lacks it in the other
 module _ (key : List ℕ) (asked : Request) (user : UserRow) (files others : List ShelfFile) (a b : Known) (same : SameFor key user a b) where
-  same-permitted : (ps : List Permission) → IsSame (answer_in (request_verdict asked user files a)) (answer_in (request_verdict asked user others b)) → IsSame (answer_in (permitted (caller a.policy a.users key) ps a (λ u. request_verdict asked u files a))) (answer_in (permitted (caller b.policy b.users key) ps b (λ u. request_verdict asked u others b)))
+  same-permitted : (ps : List Permission) → IsSame (answer_in (request_verdict asked user files a)) (answer_in (request_verdict asked user others b)) → IsSame (answer_in (verdict_of_caller (caller a.policy a.users key) ps a (λ u. request_verdict asked u files a))) (answer_in (verdict_of_caller (caller b.policy b.users key) ps b (λ u. request_verdict asked u others b)))
   same-permitted ps h =
-      same-by (ap (λ c. answer_in (permitted c ps a (λ u. request_verdict asked u files a))) same.here)
-      (ap (λ c. answer_in (permitted c ps b (λ u. request_verdict asked u others b))) same.there
-      ∙ ap (λ p. answer_in (allowed (find (λ q. not (has p user q)) ps) (request_verdict asked user others b))) (sym same.policy))
+      same-by (ap (λ c. answer_in (verdict_of_caller c ps a (λ u. request_verdict asked u files a))) same.here)
+      (ap (λ c. answer_in (verdict_of_caller c ps b (λ u. request_verdict asked u others b))) same.there
+      ∙ ap (λ p. answer_in (unless_lacking (find (λ q. not (has p user q)) ps) (request_verdict asked user others b))) (sym same.policy))
       (same-allowed (lacking a user ps) (request_verdict asked user files a) (request_verdict asked user others b) h)
 
 -- the rows that a user without the permission ADMIN is shown are the user's own
@@ -87,16 +87,16 @@ same-refused true x v w h = inl refl
 same-refused false x v w h = h
 
 module _ (asked : QueueEntry) (a b : Known) (same : filter (is_of (Some asked.user)) a.queue ≡ filter (is_of (Some asked.user)) b.queue) where
-  put-there : put_answer b.queue asked ≡ put_from (held asked.user asked.name a.queue) (nat_le 64 (count_by (is_of (Some asked.user)) a.queue)) (last_arrival b.queue == 4294967295) (last_arrival b.queue) asked
+  put-there : put_answer b.queue asked ≡ put_from (users_entry asked.user asked.name a.queue) (nat_le 64 (count_by (is_of (Some asked.user)) a.queue)) (last_arrival b.queue == 4294967295) (last_arrival b.queue) asked
   put-there =
       put_is b.queue asked _ refl
       ∙ ap (λ o. put_from o (nat_le 64 (count_by (is_of (Some asked.user)) b.queue)) (last_arrival b.queue == 4294967295) (last_arrival b.queue) asked) (sym (found-same asked.user a.queue b.queue same asked.name))
-      ∙ ap (λ n. put_from (held asked.user asked.name a.queue) (nat_le 64 n) (last_arrival b.queue == 4294967295) (last_arrival b.queue) asked) (sym (count-same asked.user a.queue b.queue same))
+      ∙ ap (λ n. put_from (users_entry asked.user asked.name a.queue) (nat_le 64 n) (last_arrival b.queue == 4294967295) (last_arrival b.queue) asked) (sym (count-same asked.user a.queue b.queue same))
 
   same-puts : IsSame (answer_in (put_by (put_answer a.queue asked) a)) (answer_in (put_by (put_answer b.queue asked) b))
   same-puts =
       same-by (ap (λ r. answer_in (put_by r a)) (put_is a.queue asked _ refl)) (ap (λ r. answer_in (put_by r b)) put-there)
-      (same-from (held asked.user asked.name a.queue) (nat_le 64 (count_by (is_of (Some asked.user)) a.queue)) _ _ _ _ asked a b)
+      (same-from (users_entry asked.user asked.name a.queue) (nat_le 64 (count_by (is_of (Some asked.user)) a.queue)) _ _ _ _ asked a b)
 
   same-entry : a.names ≡ b.names → IsSame (answer_in (put_entry_verdict asked a)) (answer_in (put_entry_verdict asked b))
   same-entry names =

@@ -29,9 +29,11 @@ pub data Accessed (ask : Ask) (v : Verdict) (k : Known) (x : Answer) : Type 0 wh
   -- its key names nobody
   nobody : caller k.policy k.users ask.key ≡ None → IsDenied None v k x → Accessed ask v k x
   -- its caller lacks a permission, the first one that is tested
-  lacks : (user : UserRow) (permission : Permission) → caller k.policy k.users ask.key ≡ Some user → lacking k user (needed ask.request) ≡ Some permission → IsDenied (Some permission) v k x → Accessed ask v k x
+  lacks : (user : UserRow) (permission : Permission) → caller k.policy k.users ask.key ≡ Some user
+      → lacking k user (needed ask.request) ≡ Some permission → IsDenied (Some permission) v k x → Accessed ask v k x
   -- its caller has all that it needs
   may : (user : UserRow) → caller k.policy k.users ask.key ≡ Some user → lacking k user (needed ask.request) ≡ None → is_denied x ≡ false → Accessed ask v k x
 
+-- the law: an ask is answered so, by each answer that its verdict allows
 abbrev pub Access : Type 0
 Access = (ask : Ask) (files : List ShelfFile) (k : Known) (x : Answer) → May (verdict ask files k) x → Accessed ask (verdict ask files k) k x

@@ -43,7 +43,8 @@ request_verdict request.ListUsers user files k = list_users_verdict k
 request_verdict (request.PutUser name key groups active) user files k = put_user_verdict (new_user name key groups active) k
 request_verdict (request.ChangeUser name key groups active) user files k = change_user_verdict name key groups active k
 request_verdict request.ListQueue user files k = list_queue_verdict user k
-request_verdict (request.PutEntry name file priority copies material) user files k = put_entry_verdict (asked_entry user.name name file priority copies material) k
+request_verdict (request.PutEntry name file priority copies material) user files k =
+    put_entry_verdict (asked_entry user.name name file priority copies material) k
 request_verdict (request.DropOwn name) user files k = drop_verdict user.name name k
 request_verdict (request.DropOther owner name) user files k = drop_verdict owner name k
 request_verdict request.NextEntry user files k = next_verdict files k
@@ -56,20 +57,20 @@ abbrev pub lacking : Known → UserRow → List Permission → Option Permission
 lacking k user permissions = find (λ p. not (has k.policy user p)) permissions
 
 -- goes on if the user lacks nothing
-abbrev pub allowed : Option Permission → Verdict → Verdict
-allowed None v = v
-allowed (Some permission) v = gives (answer.Denied (Some permission))
+abbrev pub unless_lacking : Option Permission → Verdict → Verdict
+unless_lacking None v = v
+unless_lacking (Some permission) v = gives (answer.Denied (Some permission))
 
 -- goes on with whom the key names, if that one may
-abbrev pub permitted : Option UserRow → List Permission → Known → (UserRow → Verdict) → Verdict
-permitted None permissions k next = gives (answer.Denied None)
-permitted (Some user) permissions k next = allowed (lacking k user permissions) (next user)
+abbrev pub verdict_of_caller : Option UserRow → List Permission → Known → (UserRow → Verdict) → Verdict
+verdict_of_caller None permissions k next = gives (answer.Denied None)
+verdict_of_caller (Some user) permissions k next = unless_lacking (lacking k user permissions) (next user)
 
 -- the answer to a key's request that needs these permissions; one that needs none is a worker's own
 abbrev pub verdict_by : List Permission → List ℕ → Request → List ShelfFile → Known → Verdict
 verdict_by [] key asked files k = gives answer.Accepted
 verdict_by (permission ∷ permissions) key asked files k =
-    permitted (caller k.policy k.users key) (permission ∷ permissions) k (λ user. request_verdict asked user files k)
+    verdict_of_caller (caller k.policy k.users key) (permission ∷ permissions) k (λ user. request_verdict asked user files k)
 
 -- the answer to an ask
 abbrev pub verdict : Ask → List ShelfFile → Known → Verdict

@@ -38,6 +38,7 @@ abbrev pub line_pulled : DeskCall → Data → Option Line
 line_pulled (Pull moment) d = (pull_step moment d).0
 line_pulled _ d = None
 
+-- lines with one more in front, if it was pulled
 abbrev pub with_line : Option Line → List Line → List Line
 with_line None lines = lines
 with_line (Some line) lines = line ∷ lines

@@ -5,7 +5,7 @@ use Rattle.octo_access.specs.declared.permission.Permission.TheVariants as permi
 use Rattle.octo_access.specs.declared.row.UserRow.{UserRow}
 use Rattle.octo_keeper.specs.declared.shelf.ShelfFile.{ShelfFile}
 use Rattle.print_queue.specs.Calls.{is_same}
-use Rattle.print_queue.specs.Rows.{held, is_of}
+use Rattle.print_queue.specs.Rows.{users_entry, is_of}
 use Rattle.print_queue.specs.declared.entry.QueueEntry.{QueueEntry}
 use Rattle.octo_asks.specs.Shown.{shown_entry}
 use Rattle.octo_asks.specs.declared.answer.Answer.{Answer}
@@ -55,7 +55,7 @@ pub record Repeats (ask : Ask) (user : UserRow) (kept : QueueEntry) (k : Known) 
   pub material : List ℕ
   pub asks : ask.request ≡ request.PutEntry name file priority copies material
   pub asker : caller k.policy k.users ask.key ≡ Some user
-  pub there : held user.name name k.queue ≡ Some kept
+  pub there : users_entry user.name name k.queue ≡ Some kept
   pub same : is_same kept (asked_entry user.name name file priority copies material) ≡ true
 
 -- the answers to it: the entry as it is held, unless the caller may not ask so or the file is gone
@@ -68,6 +68,7 @@ pub record IsRepeated (v : Verdict) (kept : QueueEntry) (k : Known) (x : Answer)
   pub shows : ShowsKept kept (answer_in v)
   pub stays : after v k x ≡ k
 
+-- the law: a put that is repeated changes nothing and shows the entry as it is held
 abbrev pub Once : Type 0
 Once =
     (ask : Ask) (user : UserRow) (kept : QueueEntry) (files : List ShelfFile) (k : Known) (x : Answer) → Repeats ask user kept k

@@ -7,11 +7,11 @@ use Rattle.octo_access.specs.declared.policy.Policy.{Policy}
 use Rattle.octo_access.specs.declared.permission.Permission.TheVariants as permission
 use Rattle.octo_access.specs.declared.row.UserRow.{UserRow}
 use Rattle.octo_access.specs.Rights.{has}
-use Rattle.octo_keeper.specs.Files.{is_before}
 use Rattle.octo_keeper.specs.declared.shelf.ShelfFile.{ShelfFile}
 use Rattle.print_queue.specs.declared.entry.QueueEntry.{QueueEntry}
 use Rattle.print_records.specs.declared.row.PrintRow.{PrintRow}
 use Rattle.desk_steps.specs.Data.{Data}
+use Rattle.octo_access.specs.Rows.{is_before}
 
 -- the host's state but for the bytes of its files
 pub record Known : Type 0 where
@@ -29,8 +29,8 @@ pub record Known : Type 0 where
   pub names : List (List ℕ)
 
 -- the number of the next print
-abbrev pub next_number : Known → ℕ
-next_number k = length k.prints + 1
+abbrev pub next_print_number : Known → ℕ
+next_print_number k = length k.prints + 1
 
 -- whether there is a file of that name
 abbrev pub is_held : List ℕ → Known → Bool
@@ -52,6 +52,10 @@ names_of files = map (λ (file : ShelfFile). file.name) files
 abbrev pub whose : Known → UserRow → Option (List ℕ)
 whose k user = if has k.policy user permission.Admin then None else Some user.name
 
--- a count as an answer shows it, at most the last value of a u32
+-- the greatest count that an answer shows, the last value of a u32
+abbrev pub most_shown : ℕ
+most_shown = 4294967295
+
+-- a count as an answer shows it
 abbrev pub shown_count : ℕ → ℕ
-shown_count count = min count 4294967295
+shown_count count = min count most_shown

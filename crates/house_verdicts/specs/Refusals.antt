@@ -15,29 +15,29 @@ use Rattle.octo_asks.specs.declared.answer.Answer.TheVariants as answer
 use Rattle.house_verdicts.specs.Verdict.{Verdict, gives}
 
 -- the desk's refusal as an answer
-abbrev pub refused : Refusal → Answer
-refused (refusal.WrongState state) = answer.WrongState state
-refused refusal.NoFile = answer.NoneSelected
-refused (refusal.Full held) = answer.Full held
-refused refusal.FileBusy = answer.FileBusy
-refused (refusal.TooHotLine line asked limit) = answer.TooHotLine line asked limit
+abbrev pub answer_of_refusal : Refusal → Answer
+answer_of_refusal (refusal.WrongState state) = answer.WrongState state
+answer_of_refusal refusal.NoFile = answer.NoneSelected
+answer_of_refusal (refusal.Full held) = answer.Full held
+answer_of_refusal refusal.FileBusy = answer.FileBusy
+answer_of_refusal (refusal.TooHotLine line asked limit) = answer.TooHotLine line asked limit
 
 -- the users' refusal as an answer
-abbrev pub user_refused : UserRefusal → Answer
-user_refused (user_refusal.BadGroup group) = answer.BadGroup group
-user_refused user_refusal.NoUser = answer.NoUser
-user_refused user_refusal.NameTaken = answer.NameTaken None
-user_refused (user_refusal.KeyTaken name) = answer.KeyTaken name
-user_refused (user_refusal.Full count) = answer.Full count
-user_refused user_refusal.NoMemory = answer.NoMemory
+abbrev pub answer_of_user_refusal : UserRefusal → Answer
+answer_of_user_refusal (user_refusal.BadGroup group) = answer.BadGroup group
+answer_of_user_refusal user_refusal.NoUser = answer.NoUser
+answer_of_user_refusal user_refusal.NameTaken = answer.NameTaken None
+answer_of_user_refusal (user_refusal.KeyTaken name) = answer.KeyTaken name
+answer_of_user_refusal (user_refusal.Full count) = answer.Full count
+answer_of_user_refusal user_refusal.NoMemory = answer.NoMemory
 
 -- the queue's refusal as an answer
-abbrev pub queue_refused : QueueRefusal → Answer
-queue_refused (queue_refusal.NameTaken kept) = answer.NameTaken (Some (shown_entry kept))
-queue_refused queue_refusal.NoEntry = answer.NoEntry
-queue_refused (queue_refusal.Full count) = answer.Full count
-queue_refused queue_refusal.ArrivalsUsed = answer.ArrivalsUsed
-queue_refused queue_refusal.NoMemory = answer.NoMemory
+abbrev pub answer_of_queue_refusal : QueueRefusal → Answer
+answer_of_queue_refusal (queue_refusal.NameTaken kept) = answer.NameTaken (Some (shown_entry kept))
+answer_of_queue_refusal queue_refusal.NoEntry = answer.NoEntry
+answer_of_queue_refusal (queue_refusal.Full count) = answer.Full count
+answer_of_queue_refusal queue_refusal.ArrivalsUsed = answer.ArrivalsUsed
+answer_of_queue_refusal queue_refusal.NoMemory = answer.NoMemory
 
 -- refused if a test holds
 abbrev pub refused_if : Bool → Answer → Verdict → Verdict
@@ -45,19 +45,19 @@ refused_if true a v = gives a
 refused_if false a v = v
 
 -- goes on if the desk allows it
-abbrev pub granted : {A : Type 0} → Result A Refusal → Verdict → Verdict
-granted (Ok a) v = v
-granted (Err r) v = gives (refused r)
+abbrev pub if_desk_allows : {A : Type 0} → Result A Refusal → Verdict → Verdict
+if_desk_allows (Ok a) v = v
+if_desk_allows (Err r) v = gives (answer_of_refusal r)
 
 -- goes on if the users allow it
-abbrev pub granted_user : Option UserRefusal → Verdict → Verdict
-granted_user None v = v
-granted_user (Some r) v = gives (user_refused r)
+abbrev pub if_users_allow : Option UserRefusal → Verdict → Verdict
+if_users_allow None v = v
+if_users_allow (Some r) v = gives (answer_of_user_refusal r)
 
 -- goes on if no value is too hot
-abbrev pub granted_heat : Option TooHot → Verdict → Verdict
-granted_heat None v = v
-granted_heat (Some hot) v = gives (answer.TooHot hot.asked hot.limit)
+abbrev pub unless_too_hot : Option TooHot → Verdict → Verdict
+unless_too_hot None v = v
+unless_too_hot (Some hot) v = gives (answer.TooHot hot.asked hot.limit)
 
 -- goes on with what was found
 abbrev pub found_or : {A : Type 0} → Option A → Answer → (A → Verdict) → Verdict

@@ -8,7 +8,7 @@ use Rattle.octo_keeper.specs.declared.shelf.ShelfFile.{ShelfFile}
 use Rattle.gcode_lines.specs.Commands.{job_of}
 use Rattle.gcode_lines.specs.Job.{JobData}
 use Rattle.temp_rules.specs.Hot.{first_hot_of}
-use Rattle.desk_steps.specs.Data.{File}
+use Rattle.desk_steps.specs.Data.{File, named_file}
 use Rattle.desk_steps.specs.Run.{Select, DropFile, Start}
 use Rattle.desk_steps.specs.Table.{drop_file_step, start_file}
 use Rattle.print_queue.specs.Rows.{fits, without_copy}
@@ -16,15 +16,11 @@ use Rattle.print_queue.specs.declared.entry.QueueEntry.{QueueEntry}
 use Rattle.octo_asks.specs.Shown.{shown_entry}
 use Rattle.octo_asks.specs.declared.answer.Answer.{Answer}
 use Rattle.octo_asks.specs.declared.answer.Answer.TheVariants as answer
-use Rattle.house_verdicts.specs.Known.{Known, next_number, is_held, with_name, without_name, shown_count}
-use Rattle.house_verdicts.specs.Prints.{has_room, roomed, started}
+use Rattle.house_verdicts.specs.Known.{Known, next_print_number, is_held, with_name, without_name, shown_count}
+use Rattle.house_verdicts.specs.Prints.{has_room, unless_full, start_deed}
 use Rattle.house_verdicts.specs.States.{may_select, may_start}
 use Rattle.house_verdicts.specs.Verdict.{Verdict, Deed, gives, makes, writes, reads, removes, stores, begins, at_desk, known_after}
-use Rattle.house_verdicts.specs.Refusals.{refused_if, granted, found_or, read_as}
-
--- a file by its name and its job
-abbrev pub named_file : List ℕ → JobData → File
-named_file name job = record { name = name; job = job }
+use Rattle.house_verdicts.specs.Refusals.{refused_if, if_desk_allows, found_or, read_as}
 
 -- the file of a name that is held, as the shelf has it
 abbrev pub read_file : List ℕ → List ShelfFile → (File → Verdict) → Verdict
@@ -34,8 +30,8 @@ read_file name files next =
 -- a print of a file that isn't selected yet begins for a user; the queue is this afterwards
 abbrev pub print_verdict : Answer → List ℕ → List QueueEntry → Known → File → Verdict
 print_verdict accepted user queue k file =
-    granted (start_file (Some file) (next_number k) k.desk).0
-    (roomed k (writes accepted (record (started user (Some file) (Select file ∷ Start (next_number k) ∷ []) k) { queue = queue })))
+    if_desk_allows (start_file (Some file) (next_print_number k) k.desk).0
+    (unless_full k (writes accepted (record (start_deed user (Some file) (Select file ∷ Start (next_print_number k) ∷ []) k) { queue = queue })))
 
 -- a file is selected, and with the flag also printed
 abbrev pub select_by : Bool → List ℕ → List ℕ → List ShelfFile → Known → Verdict
@@ -46,6 +42,7 @@ select_by true user name files k =
     refused_if (not (may_start k.desk.state)) (answer.WrongState k.desk.state)
     (read_file name files (print_verdict answer.Accepted user k.queue k))
 
+-- a file that is held is selected, and with the flag also printed
 abbrev pub select_verdict : List ℕ → List ℕ → Bool → List ShelfFile → Known → Verdict
 select_verdict user name print files k = refused_if (not (is_held name k)) answer.NoFile (select_by print user name files k)
 
@@ -61,10 +58,11 @@ next_verdict files k =
     refused_if (not (may_start k.desk.state)) (answer.WrongState k.desk.state)
     (found_or (find (fits k.material) k.queue) answer.NoEntry (take_verdict files k))
 
+-- a file that is held is deleted, unless it is being printed
 abbrev pub delete_verdict : List ℕ → Known → Verdict
 delete_verdict name k =
     refused_if (not (is_held name k)) answer.NoFile
-    (granted (drop_file_step name k.desk).0
+    (if_desk_allows (drop_file_step name k.desk).0
     (removes name answer.Accepted (record (at_desk (DropFile name ∷ []) k) { names = without_name name k.names })))
 
 -- whether there is room for a file of that name
@@ -81,25 +79,26 @@ is_printed user print file k =
     (print && (has k.policy user permission.Print && may_start k.desk.state)) && (is_none (first_hot_of k.desk.limits file.job.commands) && has_room k)
 
 -- a file was stored, and is selected with the flag
-abbrev pub stored : Bool → File → Known → Deed
-stored false file k = record (at_desk (DropFile file.name ∷ []) k) { names = with_name file.name k.names }
-stored true file k = record (at_desk (DropFile file.name ∷ Select file ∷ []) k) { names = with_name file.name k.names }
+abbrev pub store_deed : Bool → File → Known → Deed
+store_deed false file k = record (at_desk (DropFile file.name ∷ []) k) { names = with_name file.name k.names }
+store_deed true file k = record (at_desk (DropFile file.name ∷ Select file ∷ []) k) { names = with_name file.name k.names }
 
 -- what follows: nothing, or with both flags a print
 abbrev pub after_storing : Bool → Bool → List ℕ → File → Known → Verdict
 after_storing false print user file k = gives (answer.Uploaded file.name false false)
 after_storing true false user file k = gives (answer.Uploaded file.name true false)
-after_storing true true user file k = begins (answer.Uploaded file.name true true) (started user (Some file) (Start (next_number k) ∷ []) k) file.name
+after_storing true true user file k = begins (answer.Uploaded file.name true true) (start_deed user (Some file) (Start (next_print_number k) ∷ []) k) file.name
 
 -- a file is stored under its name in the place of a former one, and as the flags say selected and printed
 abbrev pub store_verdict : UserRow → List ℕ → Bool → Bool → Known → File → Verdict
 store_verdict user bytes select print k file =
-    granted (drop_file_step file.name k.desk).0
+    if_desk_allows (drop_file_step file.name k.desk).0
     (refused_if (not (has_file_room file.name k)) (answer.Full (shown_count (length k.names)))
     (stores file.name bytes deed (after_storing (is_selected user select print k) (is_printed user print file k) user.name file (known_after deed k))))
   where
     deed : Deed
-    deed = stored (is_selected user select print k) file k
+    deed = store_deed (is_selected user select print k) file k
 
+-- a file is uploaded: its bytes have to be a job
 abbrev pub put_file_verdict : UserRow → List ℕ → List ℕ → Bool → Bool → Known → Verdict
 put_file_verdict user name bytes select print k = read_as (job_of bytes) (λ job. store_verdict user bytes select print k (named_file name job))

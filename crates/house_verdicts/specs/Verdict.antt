@@ -55,7 +55,7 @@ answer_in (removes name a deed) = a
 answer_in (stores name bytes deed v) = answer_in v
 answer_in (begins a deed name) = a
 
--- the answers that may be given, out of memory aside
+-- the answers that a verdict allows, out of memory aside
 abbrev pub May : Verdict → Answer → Type 0
 May (gives a) x = x ≡ a
 May (makes a deed) x = x ≡ a
@@ -101,6 +101,7 @@ calls_in (removes name a deed) x = deed.calls
 calls_in (stores name bytes deed v) x = deed.calls ++ calls_in v x
 calls_in (begins a deed name) x = if is_stored x then [] else deed.calls
 
+-- the calls at the desk of an answer; a fault has none
 abbrev pub calls_after : Verdict → Answer → List DeskCall
 calls_after v x = if is_fault x then [] else calls_in v x
 
@@ -114,6 +115,7 @@ files_in (removes name a deed) files = without_file name files
 files_in (stores name bytes deed v) files = files_in v (with_file name bytes files)
 files_in (begins a deed name) files = files
 
+-- the files after an answer; a fault leaves them as they were
 abbrev pub files_after : Verdict → Answer → List ShelfFile → List ShelfFile
 files_after v x files = if is_fault x then files else files_in v files
 

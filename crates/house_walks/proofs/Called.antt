@@ -1,5 +1,5 @@
 -- A call that is answered as its verdict says leads a host on.
-use Rattle.std.proofs.Common.{◌≡◌, ◌⊎◌, ℕ, ◌≤◌, Bool, true, false, List, sym, ap, subst, ◌∙◌, arith}
+use Rattle.std.proofs.Common.{◌≡◌, ◌⊎◌, ℕ, ◌≤◌, Bool, true, false, List, sym, ap, subst, refl, ◌∙◌, arith}
 use Rattle.octo_keeper.specs.declared.shelf.ShelfFile.{ShelfFile}
 use Rattle.octo_asks.specs.declared.answer.Answer.{Answer}
 use Rattle.octo_asks.specs.declared.answer.Answer.TheVariants as answer
@@ -60,10 +60,10 @@ call_leads s known known' session session' files files' moment later worker ask 
       },
     )
 
--- time goes on and the host stays as it is
-pub stands_later : (s : Standing) (known : Known) (session : SessionData) (files : List ShelfFile) (moment later : ℕ)
-    → StandsAt s known session files moment false → moment ≤ later → StandsAt s known session files later false
-stands_later s known session files moment later at below = record {
+-- time goes on, and the history is closed or not; the host stays as it is
+stands_on : (closed : Bool) (s : Standing) (known : Known) (session : SessionData) (files : List ShelfFile) (moment later : ℕ)
+    → StandsAt s known session files moment false → moment ≤ later → StandsAt (record s { closed = closed }) known session files later closed
+stands_on closed s known session files moment later at below = record {
   window = at.window;
   limit = at.limit;
   known_is = at.known_is;
@@ -75,5 +75,15 @@ stands_later s known session files moment later at below = record {
   patient = at.patient;
   raised = omega (arith, at.raised, below);
   moment_is = omega (arith, at.moment_is, below);
-  closed_is = at.closed_is;
+  closed_is = refl;
 }
+
+pub stands_later : (s : Standing) (known : Known) (session : SessionData) (files : List ShelfFile) (moment later : ℕ)
+    → StandsAt s known session files moment false → moment ≤ later → StandsAt s known session files later false
+stands_later s known session files moment later at below =
+    subst (λ (closed : Bool). StandsAt (record s { closed = closed }) known session files later false) (sym at.closed_is)
+    (stands_on false s known session files moment later at below)
+
+pub stands_closed : (s : Standing) (known : Known) (session : SessionData) (files : List ShelfFile) (moment : ℕ)
+    → StandsAt s known session files moment false → StandsAt (after_entry entry.Close s) known session files moment true
+stands_closed s known session files moment at = stands_on true s known session files moment moment at (omega arith)

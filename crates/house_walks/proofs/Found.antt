@@ -10,7 +10,7 @@ use Rattle.send_window.specs.declared.session_end.SessionEnd.{SessionEnd}
 use Rattle.session_steps.specs.Data.{SessionData, doing}
 use Rattle.session_steps.specs.Found.{can_find}
 use Rattle.session_steps.specs.declared.found.Doing.{Doing}
-use Rattle.session_steps.specs.declared.found.Doing.TheVariants.{Dialling, HangingUp, Talking, Resting}
+use Rattle.session_steps.specs.declared.found.Doing.TheVariants.{Dialling, HangingUp, UsingLink, Resting}
 use Rattle.session_steps.proofs.Choosing.{dials_at, hangs_up_at}
 use Rattle.lossy_line.proofs.Turned.{talks_up, dials_down}
 use Rattle.house_verdicts.specs.Known.{Known}
@@ -30,7 +30,7 @@ module _ (s : Standing) (known : Known) (x : SessionData) (files : List ShelfFil
       let Closes : Data → Type 0 = λ desk. is_closable_at desk.state desk ≡ true in
       subst Closes (sym desk_is) (hangs_up_at x d)
 
-  talking : doing x ≡ Talking → s.up ≡ true
+  talking : doing x ≡ UsingLink → s.up ≡ true
   talking d = at.up ∙ talks_up x d
 
   -- each fact comes only if it may
@@ -51,17 +51,12 @@ module _ (s : Standing) (known : Known) (x : SessionData) (files : List ShelfFil
   may_find HangingUp fact.Failed acked later d can unready ends = absurd (false≢true can)
   may_find HangingUp fact.Ready acked later d can unready ends = absurd (false≢true can)
   may_find HangingUp (fact.Ended end) acked later d can unready ends = absurd (false≢true can)
-  may_find Talking fact.Quiet acked later d can unready ends = tt
-  may_find Talking fact.Ready acked later d can unready ends = (talking d, at.ready (talks_up x d) ∙ unready refl)
-  may_find Talking fact.Failed acked later d can unready ends = inr (talking d)
-  may_find Talking (fact.Ended end) acked later d can unready ends = (talking d, ends end refl)
-  may_find Talking fact.Opened acked later d can unready ends = absurd (false≢true can)
-  may_find Talking fact.Closed acked later d can unready ends = absurd (false≢true can)
-  may_find Talking fact.NoPort acked later d can unready ends = absurd (false≢true can)
+  may_find UsingLink fact.Quiet acked later d can unready ends = tt
+  may_find UsingLink fact.Ready acked later d can unready ends = (talking d, at.ready (talks_up x d) ∙ unready refl)
+  may_find UsingLink fact.Failed acked later d can unready ends = inr (talking d)
+  may_find UsingLink (fact.Ended end) acked later d can unready ends = (talking d, ends end refl)
+  may_find UsingLink fact.Opened acked later d can unready ends = absurd (false≢true can)
+  may_find UsingLink fact.Closed acked later d can unready ends = absurd (false≢true can)
+  may_find UsingLink fact.NoPort acked later d can unready ends = absurd (false≢true can)
   may_find Resting fact.Quiet acked later d can unready ends = tt
-  may_find Resting fact.Opened acked later d can unready ends = absurd (false≢true can)
-  may_find Resting fact.NoPort acked later d can unready ends = absurd (false≢true can)
-  may_find Resting fact.Failed acked later d can unready ends = absurd (false≢true can)
-  may_find Resting fact.Ready acked later d can unready ends = absurd (false≢true can)
-  may_find Resting fact.Closed acked later d can unready ends = absurd (false≢true can)
-  may_find Resting (fact.Ended end) acked later d can unready ends = absurd (false≢true can)
+  may_find Resting _ acked later d can unready ends = absurd (false≢true can)

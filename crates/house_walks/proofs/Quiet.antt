@@ -20,11 +20,11 @@ use Rattle.session_steps.specs.DeskTurn.{IsQuietTurn, IsNoted}
 use Rattle.session_steps.specs.Found as found
 use Rattle.session_steps.specs.Turn.{IsSpent as SessionSpent}
 use Rattle.session_steps.specs.declared.found.Doing.{Doing}
-use Rattle.session_steps.specs.declared.found.Doing.TheVariants.{Dialling, HangingUp, Talking, Resting}
+use Rattle.session_steps.specs.declared.found.Doing.TheVariants.{Dialling, HangingUp, UsingLink, Resting}
 use Rattle.lossy_turns.specs.Patience.{IsPatient}
 use Rattle.house_verdicts.specs.Known.{Known}
 use Rattle.house_history.specs.Legal.{Standing, IsLegal, after_entry}
-use Rattle.house_history.specs.Noted.{known_after_note, called_all, last_call, forgets, with_temps, kept_unless}
+use Rattle.house_history.specs.Noted.{known_after_note, known_after_calls, last_call, forgets, with_temps, kept_unless}
 use Rattle.house_walks.specs.Stands.{StandsAt}
 use Rattle.house_walks.proofs.Rising.{Risen}
 use Rattle.house_walks.proofs.Still.{quiet_keeps}
@@ -61,7 +61,7 @@ known_quietly ending desk known = record known { desk = desk; prints = with_due_
 -- what is known after a note, by its parts
 abbrev known_by : ℕ → ℕ → List Issued → Option Temps → LinkFact → Known → Known
 known_by moment acked items temps f k =
-    record (called_all (Note acked (first_fact f) moment ∷ (map (λ (i : Issued). Pull moment) items ++ last_call f acked moment)) k)
+    record (known_after_calls (Note acked (first_fact f) moment ∷ (map (λ (i : Issued). Pull moment) items ++ last_call f acked moment)) k)
     { temps = kept_unless (forgets f) (with_temps temps k.temps) }
 
 -- a quiet note makes of what is known what the turn made of it
@@ -76,10 +76,10 @@ known_noted moment acked note known q =
 
 -- a desk that a turn without a note left in another state took a quiet note
 talked : (d : Doing) (moment : ℕ) (old new : Data) (ending : Option Ending) → IsQuietTurn d moment old ending new → (new.state ≡ old.state → ⊥)
-    → (d ≡ Talking) × (ending ≡ (note_step old.acked fact.Quiet moment old).0) × (new ≡ (note_step old.acked fact.Quiet moment old).1)
+    → (d ≡ UsingLink) × (ending ≡ (note_step old.acked fact.Quiet moment old).0) × (new ≡ (note_step old.acked fact.Quiet moment old).1)
 talked Dialling moment old new ending quiet moved = absurd quiet
 talked HangingUp moment old new ending quiet moved = absurd quiet
-talked Talking moment old new ending quiet moved = (refl, quiet.0, quiet.1)
+talked UsingLink moment old new ending quiet moved = (refl, quiet.0, quiet.1)
 talked Resting moment old new ending quiet moved = absurd (moved (ap (λ (d : Data). d.state) quiet.1))
 
 -- one that it left in its state is as it was
@@ -87,7 +87,7 @@ kept_still : (d : Doing) (moment : ℕ) (old new : Data) (ending : Option Ending
     → (ending ≡ None) × (new ≡ old)
 kept_still Dialling moment old new ending quiet same = absurd quiet
 kept_still HangingUp moment old new ending quiet same = absurd quiet
-kept_still Talking moment old new ending quiet same =
+kept_still UsingLink moment old new ending quiet same =
     let none = quiet_keeps moment old (sym (ap (λ (d : Data). d.state) quiet.1) ∙ same) in
     (quiet.0 ∙ ap (λ (n : Noted). n.0) none, quiet.1 ∙ ap (λ (n : Noted). n.1) none)
 kept_still Resting moment old new ending quiet same = (quiet.0, quiet.1)
@@ -128,7 +128,7 @@ module _ (s : Standing) (known known' : Known) (x y : SessionData) (files : List
     note_leads s known known' x y files moment at_moment ending note at took noted desk_then below,
   )
     where
-      tk : (doing x ≡ Talking) × (ending ≡ (note_step x.desk.acked fact.Quiet at_moment x.desk).0) × (y.desk ≡ (note_step x.desk.acked fact.Quiet at_moment x.desk).1)
+      tk : (doing x ≡ UsingLink) × (ending ≡ (note_step x.desk.acked fact.Quiet at_moment x.desk).0) × (y.desk ≡ (note_step x.desk.acked fact.Quiet at_moment x.desk).1)
       tk = talked (doing x) at_moment x.desk y.desk ending t.desk moved
 
       acked_is : x.desk.acked ≡ y.sender.acked

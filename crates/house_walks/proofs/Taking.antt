@@ -20,118 +20,33 @@ use Rattle.send_window.proofs.Soundness.{begun_sound}
 use Rattle.send_window.proofs.Waiting.{waits_five_limits}
 use Rattle.session_steps.specs.Data.{SessionData, IsSession, doing}
 use Rattle.session_steps.specs.Found.{Got, unasked, lost, nothing, whole, end_by, can_find, up_after, ready_after}
-use Rattle.session_steps.specs.Steps.{Step, opens, finds_no_port, fails_to_dial, hears, listens, fails_to_receive, ticks, issues, gives, fails_to_send, hangs_up, after_step, after_steps, talk_steps, turn_steps}
+use Rattle.session_steps.specs.Steps.{Step, opens, finds_no_port, fails_to_dial, hears, listens, fails_to_receive, ticks, issues, gives, fails_to_send, hangs_up, after_step, after_steps, steps_over_link, turn_steps}
 use Rattle.session_steps.specs.DeskTurn.{IsQuietTurn}
 use Rattle.session_steps.specs.Turn.{IsTurn, IsNoteOn, IsNoteOf, IsSpent, IsUneventful, texts_in}
 use Rattle.session_steps.specs.declared.found.Doing.{Doing}
-use Rattle.session_steps.specs.declared.found.Doing.TheVariants.{Dialling, HangingUp, Talking, Resting}
+use Rattle.session_steps.specs.declared.found.Doing.TheVariants.{Dialling, UsingLink}
 use Rattle.session_steps.specs.declared.found.Turned.{Turned}
 use Rattle.lossy_turns.specs.Patience.{IsPatient, IsUnanswered}
 use Rattle.lossy_turns.proofs.Lasting.{sound_steps}
-use Rattle.lossy_turns.proofs.Waits.{turn_patient, turn_unanswered}
-use Rattle.lossy_line.proofs.Turned.{talks_up}
+use Rattle.lossy_turns.proofs.Numbers.{turn_used}
+use Rattle.lossy_turns.proofs.Waits.{Lasts, steps_last, turn_patient, turn_unanswered}
+use Rattle.lossy_line.proofs.Turned.{talks_up, opens_dialling}
 use Rattle.house_walks.proofs.Quiet.{TookQuiet}
 use Rattle.house_walks.proofs.Rising.{Risen, risen_steps}
 use Rattle.house_walks.proofs.Turned.{TookTurn}
 use Rattle.session_steps.proofs.Keeping.{issued_heard}
-
--- what no step changes
-record Lasts (s t : SenderData) : Type 0 where
-  window : t.window ≡ s.window
-  limit : t.limit ≡ s.limit
-
-heard_lasts : (line : Reply) (moment : ℕ) (s : SenderData) → Lasts s (hear_step line moment s)
-heard_lasts (reply.Ok number _ _ _) moment s = grind (arith, common_steps)
-heard_lasts (reply.Resend number) moment s = grind (arith, common_steps)
-heard_lasts reply.Start moment s = grind (arith, common_steps)
-heard_lasts reply.Busy moment s = grind (arith, common_steps)
-heard_lasts (reply.Temps _) moment s = grind (arith, common_steps)
-heard_lasts reply.Error moment s = grind (arith, common_steps)
-heard_lasts reply.Other moment s = grind (arith, common_steps)
-
-ticked_lasts : (moment : ℕ) (s : SenderData) → Lasts s (tick_step moment s)
-ticked_lasts moment s = grind (arith, common_steps)
-
-given_lasts : (moment : ℕ) (s : SenderData) → Lasts s (frame_step moment s)
-given_lasts moment s = grind (arith, common_steps)
-
-step_lasts : (moment : ℕ) (step : Step) (s : SenderData) → Lasts s (after_step moment step s)
-step_lasts moment opens s = record { window = refl; limit = refl }
-step_lasts moment finds_no_port s = record { window = refl; limit = refl }
-step_lasts moment fails_to_dial s = record { window = refl; limit = refl }
-step_lasts moment (hears bytes) s = heard_lasts (kind_of bytes) moment s
-step_lasts moment listens s = record { window = refl; limit = refl }
-step_lasts moment fails_to_receive s = record { window = refl; limit = refl }
-step_lasts moment ticks s = ticked_lasts moment s
-step_lasts moment (issues text) s = record { window = refl; limit = refl }
-step_lasts moment gives s = given_lasts moment s
-step_lasts moment fails_to_send s = given_lasts moment s
-step_lasts moment (hangs_up was_up) s = record { window = refl; limit = refl }
-
-steps_last : (moment : ℕ) (steps : List Step) (s : SenderData) → Lasts s (after_steps moment steps s)
-steps_last moment [] s = record { window = refl; limit = refl }
-steps_last moment (step ∷ steps) s =
-    let one = step_lasts moment step s in
-    let more = steps_last moment steps (after_step moment step s) in
-    record { window = more.window ∙ one.window; limit = more.limit ∙ one.limit }
-
-opens_dialling : (d : Doing) → can_find d fact.Opened ≡ true → d ≡ Dialling
-opens_dialling Dialling can = refl
-opens_dialling HangingUp can = cc
-opens_dialling Talking can = cc
-opens_dialling Resting can = cc
-
-ends_talking : (d : Doing) (end : SessionEnd) → can_find d (fact.Ended end) ≡ true → d ≡ Talking
-ends_talking Dialling end can = cc
-ends_talking HangingUp end can = cc
-ends_talking Talking end can = refl
-ends_talking Resting end can = cc
+use Rattle.lossy_line.proofs.Promised.{ends_talking}
 
 -- a turn that ends its session issues nothing
 issued_ticked : (moment : ℕ) (s : SenderData) → (tick_step moment s).issued ≡ s.issued
 issued_ticked moment s = grind (arith, common_steps)
 
 ended_issues : (moment : ℕ) (got : Got) (end : SessionEnd) (texts : List (List ℕ)) (count : ℕ) (s : SenderData)
-    → (after_steps moment (talk_steps got (fact.Ended end) texts count) s).issued ≡ s.issued
+    → (after_steps moment (steps_over_link got (fact.Ended end) texts count) s).issued ≡ s.issued
 ended_issues moment unasked end texts count s = refl
 ended_issues moment lost end texts count s = refl
 ended_issues moment nothing end texts count s = issued_ticked moment s
 ended_issues moment (whole bytes) end texts count s = issued_ticked moment (hear_step (kind_of bytes) moment s) ∙ issued_heard (kind_of bytes) moment s
-
--- a session's numbers are used once as many lines are acknowledged as it has numbers for
-used_ticked : (moment count : ℕ) (s : SenderData) → s.ended ≡ None → (tick_step moment s).ended ≡ Some (NumbersUsed count) → ⊥
-used_ticked moment count s running used = grind (arith, common_steps)
-
-used_heard : (line : Reply) (moment count : ℕ) (s : SenderData) → s.ended ≡ None → (hear_step line moment s).ended ≡ Some (NumbersUsed count)
-    → (hear_step line moment s).acked ≡ most_lines
-used_heard (reply.Ok number _ _ _) moment count s running used = grind (arith, common_steps)
-used_heard (reply.Resend number) moment count s running used = grind (arith, common_steps)
-used_heard reply.Start moment count s running used = grind (arith, common_steps)
-used_heard reply.Busy moment count s running used = grind (arith, common_steps)
-used_heard (reply.Temps _) moment count s running used = grind (arith, common_steps)
-used_heard reply.Error moment count s running used = grind (arith, common_steps)
-used_heard reply.Other moment count s running used = grind (arith, common_steps)
-
--- whatever a tick follows
-used_after : (moment count : ℕ) (s t : SenderData) (ended : Option SessionEnd) → t.ended ≡ ended
-    → (t.ended ≡ Some (NumbersUsed count) → t.acked ≡ most_lines) → (tick_step moment t).ended ≡ Some (NumbersUsed count) → (tick_step moment t).acked ≡ most_lines
-used_after moment count s t None is known used = absurd (used_ticked moment count t is used)
-used_after moment count s t (Some why) is known used = kept why is known used
-  where
-    kept : (end : SessionEnd) → t.ended ≡ Some end → (t.ended ≡ Some (NumbersUsed count) → t.acked ≡ most_lines)
-        → (tick_step moment t).ended ≡ Some (NumbersUsed count) → (tick_step moment t).acked ≡ most_lines
-    kept end e all u =
-        let stays : (tick_step moment t).ended ≡ t.ended = grind (arith, common_steps) in
-        let acked : (tick_step moment t).acked ≡ t.acked = grind (arith, common_steps) in
-        acked ∙ all (sym stays ∙ u)
-
-used_talk : (moment count : ℕ) (got : Got) (texts : List (List ℕ)) (frames : ℕ) (s : SenderData) → s.ended ≡ None
-    → end_by got moment s ≡ Some (NumbersUsed count) → (after_steps moment (talk_steps got (fact.Ended (NumbersUsed count)) texts frames) s).acked ≡ most_lines
-used_talk moment count unasked texts frames s running ends = absurd (cc)
-used_talk moment count lost texts frames s running ends = absurd (cc)
-used_talk moment count nothing texts frames s running ends = absurd (used_ticked moment count s running ends)
-used_talk moment count (whole bytes) texts frames s running ends =
-    used_after moment count s (hear_step (kind_of bytes) moment s) (hear_step (kind_of bytes) moment s).ended refl (used_heard (kind_of bytes) moment count s running) ends
 
 module _ (moment : ℕ) (kind : LinkKind) (past past' : Option (List WorldEvent)) (calls calls' : Option ℕ) (x y : SessionData) (turned : Turned)
     (t : IsTurn moment kind past past' calls calls' x y turned) (sound : IsSound x.sender) where
@@ -179,7 +94,7 @@ module _ (moment : ℕ) (kind : LinkKind) (past past' : Option (List WorldEvent)
       let Can : LinkFact → Type 0 = λ g. can_find (doing x) g ≡ true in
       let w = turn_unanswered moment kind past past' calls calls' x y turned t start x.sender.limit since count joined p is (subst Can (sym is) can) in
       let issued : y.sender.issued ≡ x.sender.issued =
-      ap (λ (s : SenderData). s.issued) (sender_is (fact.Ended (NoAnswer count)) is can Talking (ends_talking (doing x) (NoAnswer count) can))
+      ap (λ (s : SenderData). s.issued) (sender_is (fact.Ended (NoAnswer count)) is can UsingLink (ends_talking (NoAnswer count) (doing x) can))
       ∙ ended_issues moment t.got (NoAnswer count) (texts_in t.lines) t.steps.count x.sender
       in
       (w.0, waiting issued w.1)
@@ -187,12 +102,6 @@ module _ (moment : ℕ) (kind : LinkKind) (past past' : Option (List WorldEvent)
       waiting : y.sender.issued ≡ x.sender.issued → IsUnanswered y.sender → (x.sender.ready ≡ false) ⊎ (y.sender.acked < x.sender.issued)
       waiting issued (inl unready) = inl (sym same ∙ unready)
       waiting issued (inr some) = inr (omega (arith, some, issued))
-
-  pub turn_used : (count : ℕ) → IsSession x → x.up ≡ true → t.found ≡ fact.Ended (NumbersUsed count)
-      → can_find (doing x) (fact.Ended (NumbersUsed count)) ≡ true → y.sender.acked ≡ most_lines
-  turn_used count joined up is can =
-      ap (λ (s : SenderData). s.acked) (sender_is (fact.Ended (NumbersUsed count)) is can Talking (ends_talking (doing x) (NumbersUsed count) can))
-      ∙ used_talk moment count t.got (texts_in t.lines) t.steps.count x.sender (joined.running up) ((t.ended (NumbersUsed count)).0 is)
 
   -- a turn that made a note
   pub took_turn : (ending : Option Ending) (note : declared_note.Note) → turned.note ≡ Some note → IsSession x → IsSession y
@@ -206,6 +115,7 @@ module _ (moment : ℕ) (kind : LinkKind) (past past' : Option (List WorldEvent)
       let Can : LinkFact → Type 0 = λ g. can_find (doing x) g ≡ true in
       let of : IsNoteOf moment y.sender.acked t.lines t.got t.found note = subst Noted is t.some in
       let found_is : t.found ≡ note.fact = sym of.its_fact in
+      let Found : LinkFact → Type 0 = λ g. can_find (doing x) g ≡ true in
       record {
         before = before;
         joined = joined;
@@ -225,7 +135,7 @@ module _ (moment : ℕ) (kind : LinkKind) (past past' : Option (List WorldEvent)
         patient = λ start since p. turn_patient moment kind past past' calls calls' x y turned t start x.sender.limit since p;
         risen = turn_risen;
         silent = λ count start e since p. turn_silent count start before (found_is ∙ e) (subst Can e can) (ready ∙ ap (λ g. ready_after g x.sender.ready) e) since p;
-        numbers = λ count e. turn_used count before (talks_up x (ends_talking (doing x) (NumbersUsed count) (subst Can e can))) (found_is ∙ e) (subst Can e can);
+        numbers = λ count e. (turn_used moment kind past past' calls calls' x y turned t before count sound (found_is ∙ e) (subst Found (sym found_is) can)).1;
       }
 
   -- a turn that made none

@@ -17,7 +17,7 @@ use Rattle.octo_asks.specs.declared.entry.Entry.TheVariants as entry
 use Rattle.session_steps.specs.Data.{SessionData, IsSession, doing}
 use Rattle.session_steps.specs.Found as found
 use Rattle.session_steps.specs.declared.found.Doing.{Doing}
-use Rattle.session_steps.specs.declared.found.Doing.TheVariants.{Dialling, HangingUp, Talking, Resting}
+use Rattle.session_steps.specs.declared.found.Doing.TheVariants.{UsingLink}
 use Rattle.session_steps.specs.Turn.{IsNoteOn, IsSpent as SessionSpent}
 use Rattle.lossy_line.proofs.Turned.{talks_up}
 use Rattle.lossy_turns.specs.Patience.{IsPatient}
@@ -55,36 +55,24 @@ pub record TookTurn (moment : ℕ) (x y : SessionData) (ending : Option Ending) 
 
 -- the words of sessions and of histories for the same
 same_up : (f : LinkFact) (was : Bool) → (f ≡ fact.Ready → was ≡ true) → found.up_after f was ≡ up_after f was
-same_up fact.Quiet was opened = refl
-same_up fact.Opened was opened = refl
 same_up fact.Ready was opened = sym (opened refl)
-same_up fact.Closed was opened = refl
-same_up fact.NoPort was opened = refl
-same_up fact.Failed was opened = refl
-same_up (fact.Ended end) was opened = refl
+same_up _ was opened = refl
 
 -- an open link is ready after a fact as its history says
 same_ready : (f : LinkFact) (up was now : Bool) → found.up_after f up ≡ true → (up ≡ true → now ≡ was) → ready_after f now ≡ found.ready_after f was
 same_ready fact.Quiet up was now still e = e still
 same_ready fact.Opened up was now still e = refl
 same_ready fact.Ready up was now still e = refl
-same_ready fact.Closed up was now still e = cc
-same_ready fact.NoPort up was now still e = cc
-same_ready fact.Failed up was now still e = cc
-same_ready (fact.Ended end) up was now still e = cc
+same_ready _ up was now still e = cc
 
--- only a turn that talks finds that a session is ready or ends
-ready_talks : (d : Doing) → found.can_find d fact.Ready ≡ true → d ≡ Talking
-ready_talks Dialling can = cc
-ready_talks HangingUp can = cc
-ready_talks Talking can = refl
-ready_talks Resting can = cc
+-- only a turn that uses the link finds that a session is ready or ends
+ready_talks : (d : Doing) → found.can_find d fact.Ready ≡ true → d ≡ UsingLink
+ready_talks UsingLink can = refl
+ready_talks _ can = cc
 
-ended_talks : (d : Doing) (end : SessionEnd) → found.can_find d (fact.Ended end) ≡ true → d ≡ Talking
-ended_talks Dialling end can = cc
-ended_talks HangingUp end can = cc
-ended_talks Talking end can = refl
-ended_talks Resting end can = cc
+ended_talks : (d : Doing) (end : SessionEnd) → found.can_find d (fact.Ended end) ≡ true → d ≡ UsingLink
+ended_talks UsingLink end can = refl
+ended_talks _ end can = cc
 
 -- who waits from a moment on waits from the first one on
 waits_longer : (start limit : ℕ) (sender : SenderData) → IsPatient start limit sender → IsPatient 0 limit sender
@@ -127,21 +115,13 @@ module _ (s : Standing) (known known' : Known) (x y : SessionData) (files : List
   -- each end of the session comes only if it may
   may_end : (end : SessionEnd) → note.fact ≡ fact.Ended end → x.up ≡ true → s.raised_at ≤ at_moment → MayEnd end note.acked at_moment s
   may_end (session_end.NoAnswer count) is up below = end_silent count is up below
-  may_end (session_end.AskedBack number acked) is up below = tt
-  may_end (session_end.AskedAhead number all) is up below = tt
-  may_end (session_end.Counts number wanted) is up below = tt
-  may_end session_end.Restarted is up below = tt
   may_end (session_end.NumbersUsed count) is up below = acked_is ∙ t.numbers count is
+  may_end _ is up below = tt
 
 -- when more was acknowledged last, by whether the note acknowledged more
 abbrev raised_if : LinkFact → Bool → ℕ → Standing → ℕ
 raised_if fact.Opened rose moment s = moment
-raised_if fact.Quiet rose moment s = if rose then moment else s.raised_at
-raised_if fact.Ready rose moment s = if rose then moment else s.raised_at
-raised_if fact.Closed rose moment s = if rose then moment else s.raised_at
-raised_if fact.NoPort rose moment s = if rose then moment else s.raised_at
-raised_if fact.Failed rose moment s = if rose then moment else s.raised_at
-raised_if (fact.Ended end) rose moment s = if rose then moment else s.raised_at
+raised_if _ rose moment s = if rose then moment else s.raised_at
 
 raised_is : (f : LinkFact) (acked moment : ℕ) (s : Standing) → raised_after f acked moment s ≡ raised_if f (nat_lt s.known.desk.acked acked) moment s
 raised_is fact.Opened acked moment s = refl
@@ -239,18 +219,13 @@ module _ (s : Standing) (known known' : Known) (x y : SessionData) (files : List
   -- the moment from which the sender waits five limits after the note
   raised_in_time : (f : LinkFact) (rose : Bool) → moment ≤ at_moment → note.moment ≡ at_moment → raised_if f rose note.moment s ≤ at_moment
   raised_in_time fact.Opened rose below is = omega (arith, is)
-  raised_in_time fact.Quiet true below is = omega (arith, is)
   raised_in_time fact.Quiet false below is = omega (arith, at.raised, below)
-  raised_in_time fact.Ready true below is = omega (arith, is)
   raised_in_time fact.Ready false below is = omega (arith, at.raised, below)
-  raised_in_time fact.Closed true below is = omega (arith, is)
   raised_in_time fact.Closed false below is = omega (arith, at.raised, below)
-  raised_in_time fact.NoPort true below is = omega (arith, is)
   raised_in_time fact.NoPort false below is = omega (arith, at.raised, below)
-  raised_in_time fact.Failed true below is = omega (arith, is)
   raised_in_time fact.Failed false below is = omega (arith, at.raised, below)
-  raised_in_time (fact.Ended end) true below is = omega (arith, is)
   raised_in_time (fact.Ended end) false below is = omega (arith, at.raised, below)
+  raised_in_time _ true below is = omega (arith, is)
 
   -- the note records the moment
   patient_at : (start : ℕ) → IsPatient at_moment x.sender.limit y.sender → IsPatient note.moment x.sender.limit y.sender
@@ -282,10 +257,7 @@ module _ (s : Standing) (known known' : Known) (x y : SessionData) (files : List
   patient_then fact.Opened rose is rises below up = patient_at 0 (t.opened is)
   patient_then fact.Quiet rose is rises below up = patient_more rose rises below (open_for fact.Quiet is (λ e. cc e) up)
   patient_then fact.Ready rose is rises below up = patient_more rose rises below (open_for fact.Ready is (λ e. cc e) up)
-  patient_then fact.Closed rose is rises below up = absurd (cc up)
-  patient_then fact.NoPort rose is rises below up = absurd (cc up)
-  patient_then fact.Failed rose is rises below up = absurd (cc up)
-  patient_then (fact.Ended end) rose is rises below up = absurd (cc up)
+  patient_then _ rose is rises below up = absurd (cc up)
 
   -- and leads the host on
   pub note_leads : moment ≤ at_moment → StandsAt (after_entry (entry.Note note) s) known' y files at_moment false

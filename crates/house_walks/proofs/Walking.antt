@@ -1,14 +1,12 @@
 -- Stretches of a run, one after the other.
 use Rattle.std.proofs.Common.{◌≡◌, List, [], ◌∷◌, ◌++◌, Option, Some, refl, sym, ap, subst, ◌∙◌, append_assoc, append-nil}
-use Rattle.octo_outside.specs.Told.{Adds}
+use Rattle.octo_outside.specs.Recorded.{Adds}
 use Rattle.octo_keeper.specs.declared.shelf.ShelfFile.{ShelfFile}
 use Rattle.octo_asks.specs.declared.entry.Entry.{Entry}
 use Rattle.octo_asks.specs.History.{History}
 use Rattle.house_history.specs.Legal.{Standing, Legal, IsLegal, after_entry, after_all}
 use Rattle.house_walks.specs.Walks.{Walks}
-
-same_some : {A : Type 0} (a b : A) → Some a ≡ Some b → a ≡ b
-same_some a b e = cc
+use Rattle.std.proofs.lemmas.Option.{same_Some}
 
 -- legal entries, and then others that are legal where they lead
 pub legal_append : (es fs : History) (s : Standing) → Legal es s → Legal fs (after_all es s) → Legal (es ++ fs) s

@@ -12,20 +12,16 @@ use Rattle.http_grammar.specs.Fields.{first_of}
 use Rattle.http_grammar.specs.Framing.{framing_by}
 use Rattle.http_grammar.specs.declared.framing.Framing.{Framing}
 use Rattle.http_grammar.specs.declared.framing.Framing.TheVariants.{Length}
+use Rattle.std.proofs.lemmas.Bool.{and_parts}
 
 digit_ascii : (b : ℕ) → is_ascii_digit b ≡ true → b < 128
 digit_ascii b h = grind (arith, nat_tests)
 
-both : (a b : Bool) → (a && b) ≡ true → (a ≡ true) × (b ≡ true)
-both true true h = (refl, refl)
-both true false h = cc
-both false b h = cc
-
 -- digits are ASCII
 digits_ascii : (text : List ℕ) → list_all is_ascii_digit text ≡ true → IsAscii text
 digits_ascii [] digits i = omega arith
-digits_ascii (b ∷ text) digits zero = digit_ascii b (both (is_ascii_digit b) (list_all is_ascii_digit text) digits).0
-digits_ascii (b ∷ text) digits (suc i) = digits_ascii text (both (is_ascii_digit b) (list_all is_ascii_digit text) digits).1 i
+digits_ascii (b ∷ text) digits zero = digit_ascii b (and_parts (is_ascii_digit b) (list_all is_ascii_digit text) digits).0
+digits_ascii (b ∷ text) digits (suc i) = digits_ascii text (and_parts (is_ascii_digit b) (list_all is_ascii_digit text) digits).1 i
 
 -- bytes that are no text are no number
 pub no_number : (text : List ℕ) → ¬ (IsUtf8 text) → None ≡ whole_number text 18

@@ -1,16 +1,7 @@
 //! The fields of a head.
-ghost use Rattle.std.specs.Prelude.{◌≡◌};
-ghost use Rattle.std.specs.Str.{str_eq_ignore_ascii_case};
-
+use byte_text::same_text;
 use httparse::spans::HeaderSpan;
 use std::marker::Model;
-
-/// Whether two texts are equal but for the case of their ASCII letters.
-pub fn same_text(text: &[u8], other: &[u8]) -> bool
-    ensures { result ≡ str_eq_ignore_ascii_case text.now other.now }
-{
-    text.eq_ignore_ascii_case(other)
-}
 
 /// The fields of a head, by their places in its bytes.
 #[derive(Drop)]

@@ -6,8 +6,8 @@ ghost use Rattle.byte_text.specs.Number.{whole_number};
 ghost use Rattle.http_grammar.specs.Fields.{values};
 ghost use Rattle.http_grammar.specs.Framing.{framing_of};
 
-use crate::fields::{FieldSpans, same_text};
-use byte_text::whole_number;
+use crate::fields::FieldSpans;
+use byte_text::{same_text, whole_number};
 use std::str;
 
 /// How long the body is. Source: RFC 9112, section 6.

@@ -7,8 +7,9 @@ ghost use Rattle.http_grammar.specs.Fields.{key_of, bearer_of, or_else};
 ghost use Rattle.http_grammar.specs.Head.{is_path_byte, IsHead, IsRefused, IsOpen, IsFound, head_with};
 
 use crate::MessageFault;
-use crate::fields::{FieldSpans, same_text};
+use crate::fields::FieldSpans;
 use crate::framing::{Framing, framing_of};
+use byte_text::same_text;
 use http::Method;
 use httparse::spans::{EMPTY_HEADER_SPAN, HeaderSpan, RequestSpans, parse_request};
 use httparse::{Error, Status};
@@ -128,7 +129,7 @@ fn head_of(
     })
 }
 
-// Where the first bytes hold a whole head: what it says and its length, or that its fields contradict each other.
+// What a whole head at the front says, and its length, or that its fields contradict each other.
 fn whole_head(
     alloc: Global,
     bytes: &[u8],

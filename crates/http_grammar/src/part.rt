@@ -18,7 +18,7 @@ pub enum Part {
     Trailers,
 }
 
-/// How bytes begin, where CR LF is due.
+/// How bytes begin if CR LF is due.
 #[derive(Clone, Copy, Debug, PartialEq, Eq)]
 pub enum Ending {
     Whole,
@@ -51,7 +51,7 @@ impl Part {
     }
 }
 
-// How bytes begin, where CR LF is due.
+// How bytes begin if CR LF is due.
 fn ending_of(bytes: &[u8]) -> Ending
     ensures { result ≡ ending_of bytes.now }
 {

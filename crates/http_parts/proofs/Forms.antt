@@ -11,7 +11,7 @@ use Rattle.http_parts.specs.declared.types.PartFault.{PartFault}
 use Rattle.http_parts.specs.declared.part.Field.{Field}
 use Rattle.http_parts.specs.declared.form.Seen.{Seen}
 use Rattle.http_parts.specs.Delimiters.{Reaches}
-use Rattle.http_parts.specs.Parts.{AddsField, BodySays, IsForm, IsSeen, SeenSays, field_of, is_bad, is_file, is_named, is_true, last_such, unclosed, bad, form}
+use Rattle.http_parts.specs.Parts.{AddsField, BodyReadsAs, IsForm, IsSeen, SeenReadsAs, field_of, is_bad, is_file, is_named, is_true, last_such, unclosed, bad, form}
 
 or_none : {A : Type 0} (a : Option A) → option_or a None ≡ a
 or_none None = refl
@@ -90,19 +90,19 @@ seen_bad body spans part old new is now same before =
 
 -- what all parts of a body say
 says_found : (body dashes : List ℕ) (spans : List Span) (seen : Seen) (result : Result Parts PartFault) (found : Option Span)
-    → Reaches body dashes spans None → find (is_bad body) spans ≡ found → IsSeen body spans seen → SeenSays seen result
-    → BodySays body dashes result
+    → Reaches body dashes spans None → find (is_bad body) spans ≡ found → IsSeen body spans seen → SeenReadsAs seen result
+    → BodyReadsAs body dashes result
 says_found body dashes spans seen result None reached none is says =
     let good : seen.bad ≡ None = is.bad ∙ ap (option_map (λ (p : Span). p.from)) none in
     let ok = rw good at says in
-    subst (BodySays body dashes) (sym ok) (form spans seen.parts reached none is.form)
+    subst (BodyReadsAs body dashes) (sym ok) (form spans seen.parts reached none is.form)
 says_found body dashes spans seen result (Some part) reached some is says =
     let first : seen.bad ≡ Some part.from = is.bad ∙ ap (option_map (λ (p : Span). p.from)) some in
     let err = rw first at says in
-    subst (BodySays body dashes) (sym err) (bad spans part reached some)
+    subst (BodyReadsAs body dashes) (sym err) (bad spans part reached some)
 
 pub says_all : (body dashes : List ℕ) (spans : List Span) (seen : Seen) (result : Result Parts PartFault) → Reaches body dashes spans None
-    → IsSeen body spans seen → SeenSays seen result → BodySays body dashes result
+    → IsSeen body spans seen → SeenReadsAs seen result → BodyReadsAs body dashes result
 says_all body dashes spans seen result reached is says = says_found body dashes spans seen result (find (is_bad body) spans) reached refl is says
 
 -- what holds anyhow holds of no value

@@ -1,18 +1,18 @@
 -- Where a body is cut into parts.
 use Rattle.std.specs.Prelude.{◌≡◌, ℕ, ◌+◌, nat_eq, List, [], ◌∷◌, ◌++◌, length, drop, Option, Some, None, IsSome, MatchOption, if◌then◌else◌}
 use Rattle.std.specs.List.{prefix_len, starts_with}
+use Rattle.byte_text.specs.Chars.{is_space}
 use Rattle.memchr.specs.Find.{OccursAt, Nowhere, NoneBefore}
 use Rattle.http_parts.specs.declared.types.Span.{Span}
 use Rattle.http_parts.specs.declared.delimiters.Delimiter.{Delimiter}
-use Rattle.http_parts.specs.Texts.{is_blank}
 use Rattle.http_parts.specs.Values.{span_of}
 
 -- the delimiter of a boundary that ends before these bytes: it closes by `--`; after blanks and a line end a part begins
 abbrev pub delimiter_at : ℕ → ℕ → List ℕ → Option Delimiter
 delimiter_at at end tail =
     if starts_with nat_eq tail (45 ∷ 45 ∷ []) then Some (record { at = at; part = None })
-    else if starts_with nat_eq (drop (prefix_len is_blank tail) tail) (13 ∷ 10 ∷ [])
-    then Some (record { at = at; part = Some (end + prefix_len is_blank tail + 2) })
+    else if starts_with nat_eq (drop (prefix_len is_space tail) tail) (13 ∷ 10 ∷ [])
+    then Some (record { at = at; part = Some (end + prefix_len is_space tail + 2) })
     else None
 
 -- the delimiter at a place at which a line end, `--` and the boundary are

@@ -31,7 +31,9 @@ disposition body head =
 abbrev pub named_field : List ℕ → Span → Span → Option Field
 named_field body content value =
     if has_type (codes "form-data") (text_at body value)
-    then option_map (λ name. record { name = name; filename = parameter (codes "filename=") body value; content = content }) (parameter (codes "name=") body value)
+    then option_map
+    (λ name. record { name = name; filename = parameter (codes "filename=") body value; content = content })
+    (parameter (codes "name=") body value)
     else None
 
 -- the field of a part whose empty line is at this place
@@ -52,6 +54,7 @@ abbrev pub last_such : {A : Type 0} → (A → Bool) → List A → Option A
 last_such test [] = None
 last_such test (x ∷ xs) = option_or (last_such test xs) (if test x then Some x else None)
 
+-- whether a field has this name
 abbrev pub is_named : List ℕ → List ℕ → Field → Bool
 is_named body name field = bytes_eq (text_at body field.name) name
 
@@ -78,16 +81,16 @@ pub record AddsField (body : List ℕ) (field : Field) (old new : Parts) : Type 
   pub print : new.print ≡ (if is_named body (codes "print") field then is_true body field else old.print)
 
 -- what a body of this boundary says. A missing end is returned before a bad part, and of the bad parts the first
-pub data BodySays (body dashes : List ℕ) : Result Parts PartFault → Type 0 where
-  unclosed : IsUnclosed body dashes → BodySays body dashes (Err fault.NoClose)
+pub data BodyReadsAs (body dashes : List ℕ) : Result Parts PartFault → Type 0 where
+  unclosed : IsUnclosed body dashes → BodyReadsAs body dashes (Err fault.NoClose)
   bad : (spans : List Span) (part : Span) → Reaches body dashes spans None → find (is_bad body) spans ≡ Some part
-      → BodySays body dashes (Err (fault.BadPart part.from))
+      → BodyReadsAs body dashes (Err (fault.BadPart part.from))
   form : (spans : List Span) (parts : Parts) → Reaches body dashes spans None → find (is_bad body) spans ≡ None
-      → IsForm body (filter_map (field_of body) spans) parts → BodySays body dashes (Ok parts)
+      → IsForm body (filter_map (field_of body) spans) parts → BodyReadsAs body dashes (Ok parts)
 
 -- what a body and its type say
-abbrev pub FormSays : List ℕ → List ℕ → Result Parts PartFault → Type 0
-FormSays body kind result = MatchOption (boundary_of kind) (result ≡ Err fault.NoBoundary) (λ boundary. BodySays body (45 ∷ 45 ∷ boundary) result)
+abbrev pub FormReadsAs : List ℕ → List ℕ → Result Parts PartFault → Type 0
+FormReadsAs body kind result = MatchOption (boundary_of kind) (result ≡ Err fault.NoBoundary) (λ boundary. BodyReadsAs body (45 ∷ 45 ∷ boundary) result)
 
 -- the spans of a field lie in the body
 pub record IsFieldIn (field : Field) (body : List ℕ) : Type 0 where
@@ -95,6 +98,7 @@ pub record IsFieldIn (field : Field) (body : List ℕ) : Type 0 where
   pub filename : IfSome field.filename (λ span. IsWithin span body)
   pub content : IsWithin field.content body
 
+-- the spans of what parts say lie in the body
 abbrev pub ArePartsIn : Parts → List ℕ → Type 0
 ArePartsIn parts body = IfSome parts.name (λ span. IsWithin span body) × IfSome parts.file (λ span. IsWithin span body)
 
@@ -104,5 +108,5 @@ pub record IsSeen (body : List ℕ) (spans : List Span) (seen : Seen) : Type 0 w
   pub form : IsForm body (filter_map (field_of body) spans) seen.parts
 
 -- a bad part is returned first
-abbrev pub SeenSays : Seen → Result Parts PartFault → Type 0
-SeenSays seen result = MatchOption seen.bad (result ≡ Ok seen.parts) (λ at. result ≡ Err (fault.BadPart at))
+abbrev pub SeenReadsAs : Seen → Result Parts PartFault → Type 0
+SeenReadsAs seen result = MatchOption seen.bad (result ≡ Ok seen.parts) (λ at. result ≡ Err (fault.BadPart at))

@@ -1,5 +1,5 @@
 -- Texts in front of bytes and within them, in any case of their letters.
-use Rattle.std.specs.Prelude.{ℕ, ◌+◌, ◌≤◌, Bool, ◌||◌, ◌==◌, List, [], ◌∷◌, length, take, slice_range, map, Option, Some, None, if◌then◌else◌}
+use Rattle.std.specs.Prelude.{ℕ, ◌+◌, ◌≤◌, Bool, List, [], ◌∷◌, length, take, slice_range, map, Option, Some, None, if◌then◌else◌}
 use Rattle.std.specs.Char.{to_ascii_lowercase}
 use Rattle.std.specs.Str.{bytes_eq}
 use Rattle.http_parts.specs.declared.types.Span.{Span}
@@ -8,10 +8,6 @@ use Rattle.http_parts.specs.declared.types.Span.{Span}
 pub record IsWithin (span : Span) (bytes : List ℕ) : Type 0 where
   pub ordered : span.from ≤ span.to
   pub in_range : span.to ≤ length bytes
-
--- a space or a tab
-abbrev pub is_blank : ℕ → Bool
-is_blank byte = byte == 32 || byte == 9
 
 -- whether the text is in front of the bytes, in any case of its letters
 abbrev pub begins_any_case : List ℕ → List ℕ → Bool

@@ -2,10 +2,11 @@
 use Rattle.std.specs.Prelude.{ℕ, ◌+◌, Bool, true, false, ◌&&◌, ◌||◌, not, ◌==◌, nat_eq, nat_le, List, [], ◌∷◌, length, drop, Option, Some, None, if◌then◌else◌, option_map, option_and_then, codes}
 use Rattle.std.specs.List.{prefix_len, starts_with}
 use Rattle.std.specs.Option.{option_or}
+use Rattle.byte_text.specs.Chars.{is_space}
 use Rattle.http_parts.specs.declared.types.Span.{Span}
 use Rattle.http_parts.specs.declared.quotes.Quoting.{Quoting}
 use Rattle.http_parts.specs.declared.quotes.Quoting.TheVariants.{Outside, Inside, Escaped}
-use Rattle.http_parts.specs.Texts.{is_blank, begins_any_case, text_at}
+use Rattle.http_parts.specs.Texts.{begins_any_case, text_at}
 
 -- how a byte changes whether the next one is in quotes
 abbrev pub next_quoting : Quoting → ℕ → Quoting
@@ -13,6 +14,7 @@ next_quoting Outside byte = if byte == 34 then Inside else Outside
 next_quoting Inside byte = if byte == 34 then Outside else if byte == 92 then Escaped else Inside
 next_quoting Escaped byte = Inside
 
+-- whether a byte is read outside quotes
 abbrev pub is_outside : Quoting → Bool
 is_outside Outside = true
 is_outside Inside = false
@@ -27,16 +29,16 @@ quoted_end state at (byte ∷ bytes) =
 -- whether a word has ended before these bytes
 abbrev pub ends_word : List ℕ → Bool
 ends_word [] = true
-ends_word (byte ∷ bytes) = is_blank byte || byte == 59
+ends_word (byte ∷ bytes) = is_space byte || byte == 59
 
 -- whether a value, after blanks, is of this type, in any case of its letters
 abbrev pub has_type : List ℕ → List ℕ → Bool
-has_type name value = begins_any_case name (drop (prefix_len is_blank value) value) && ends_word (drop (length name) (drop (prefix_len is_blank value) value))
+has_type name value = begins_any_case name (drop (prefix_len is_space value) value) && ends_word (drop (length name) (drop (prefix_len is_space value) value))
 
 -- how many bytes blanks and a key with its `=` take up in front, none if something else comes there
 abbrev pub key_end : List ℕ → List ℕ → Option ℕ
 key_end key bytes =
-    if begins_any_case key (drop (prefix_len is_blank bytes) bytes) then Some (prefix_len is_blank bytes + length key) else None
+    if begins_any_case key (drop (prefix_len is_space bytes) bytes) then Some (prefix_len is_space bytes + length key) else None
 
 -- where the value of a parameter of this key begins, if a byte at a place outside quotes is a semicolon and blanks, the key and its `=` come next
 abbrev pub value_here : List ℕ → Quoting → ℕ → ℕ → List ℕ → Option ℕ
@@ -49,13 +51,15 @@ value_place key state at [] = None
 value_place key state at (byte ∷ bytes) =
     option_or (value_here key state at byte bytes) (value_place key (next_quoting state byte) (at + 1) bytes)
 
+-- the bytes from one place up to another
 abbrev pub span_of : ℕ → ℕ → Span
 span_of from to = record { from = from; to = to }
 
 -- a byte of a value without quotes
 abbrev pub is_bare : ℕ → Bool
-is_bare byte = not (is_blank byte) && not (byte == 59)
+is_bare byte = not (is_space byte) && not (byte == 59)
 
+-- where a value without quotes ends that begins at a place
 abbrev pub bare_end : ℕ → List ℕ → ℕ
 bare_end at bytes = at + prefix_len is_bare bytes
 

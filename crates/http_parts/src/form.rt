@@ -2,7 +2,7 @@
 ghost use Rattle.std.specs.Prelude.{◌≡◌, ◌≤◌, ◌∷◌, ◌++◌, [], ℕ, List, length, drop, None, OnOk, IfSome, IfOk, IfNone};
 ghost use Rattle.http_parts.specs.Texts.{IsWithin};
 ghost use Rattle.http_parts.specs.Delimiters.{Reaches, IsUnclosed};
-ghost use Rattle.http_parts.specs.Parts.{AddsField, BodySays, IsFieldIn, IsSeen, ArePartsIn, FormSays, SeenSays, is_named, is_file, is_true};
+ghost use Rattle.http_parts.specs.Parts.{AddsField, BodyReadsAs, IsFieldIn, IsSeen, ArePartsIn, FormReadsAs, SeenReadsAs, is_named, is_file, is_true};
 ghost use Rattle.http_parts.specs.declared.types.Span.{Span};
 
 use crate::delimiters::{first_delimiter, next_delimiter};
@@ -93,7 +93,7 @@ impl Seen {
 
     // One more part.
     fn note(&mut self, body: &[u8], part: Span)
-        requires behind { 2 ≤ part.from }
+        requires after { 2 ≤ part.from }
         requires within { IsWithin part body.now }
         ensures seen { (parts : List Span) → IsSeen body.now parts self.old
             → IsSeen body.now (parts ++ part ∷ []) self.new }
@@ -107,7 +107,7 @@ impl Seen {
 
     // What all parts of a body say.
     fn result(self) -> Result<Parts, PartFault>
-        ensures says { SeenSays self result }
+        ensures says { SeenReadsAs self result }
         ensures ok { OnOk result (self.bad ≡ None) }
     {
         match self.bad {
@@ -160,7 +160,7 @@ fn line_of(boundary: &[u8]) -> ArrayVec<u8, LONGEST_LINE>
 // Reads the parts of a body of this boundary.
 fn read_body(body: &[u8], boundary: &[u8]) -> Result<Parts, PartFault>
     requires { length boundary.now ≤ 70 }
-    ensures says { BodySays body.now (45 ∷ 45 ∷ boundary.now) result }
+    ensures says { BodyReadsAs body.now (45 ∷ 45 ∷ boundary.now) result }
     ensures within { IfOk result (λ parts. ArePartsIn parts body.now) }
 {
     let line = line_of(boundary);
@@ -177,7 +177,7 @@ fn read_body(body: &[u8], boundary: &[u8]) -> Result<Parts, PartFault>
 ///
 /// Source: RFC 7578, and RFC 2046, section 5.1.
 pub fn multipart(body: &[u8], kind: &[u8]) -> Result<Parts, PartFault>
-    ensures says { FormSays body.now kind.now result }
+    ensures says { FormReadsAs body.now kind.now result }
     ensures within { IfOk result (λ parts. ArePartsIn parts body.now) }
 {
     match boundary(kind) {

@@ -2,10 +2,10 @@
 ghost use Rattle.std.specs.Prelude.{◌≡◌, ℕ, List, Result};
 ghost use Rattle.http_parts.specs.declared.types.Parts.{Parts};
 ghost use Rattle.http_parts.specs.declared.types.PartFault.{PartFault};
-ghost use Rattle.http_parts.specs.Parts.{FormSays};
+ghost use Rattle.http_parts.specs.Parts.{FormReadsAs};
 
 /// A body and its type say one thing: parts or one fault.
 pub fn one_meaning_law()
     ensures { (body kind : List ℕ) (a b : Result Parts PartFault)
-        → FormSays body kind a → FormSays body kind b → a ≡ b }
+        → FormReadsAs body kind a → FormReadsAs body kind b → a ≡ b }
 {}

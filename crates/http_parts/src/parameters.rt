@@ -8,7 +8,8 @@ ghost use Rattle.http_parts.specs.declared.quotes.Quoting.TheVariants as quoting
 
 use crate::Span;
 use crate::quotes::{Quoting, quoted_end};
-use crate::text::{begins_any_case, blank_count, is_blank};
+use crate::text::{begins_any_case, blank_count};
+use byte_text::is_space;
 
 const LONGEST_BOUNDARY: usize = 70;
 
@@ -18,7 +19,7 @@ fn ends_word(bytes: &[u8]) -> bool
 {
     match bytes {
         [] => true,
-        [byte, ..] => is_blank(*byte) || *byte == b';',
+        [byte, ..] => is_space(*byte) || *byte == b';',
     }
 }
 
@@ -82,7 +83,7 @@ fn value_place(bytes: &[u8], span: Span, key: &[u8]) -> Option<usize>
 fn is_bare(byte: u8) -> bool
     ensures { result ≡ is_bare byte }
 {
-    !is_blank(byte) && byte != b';'
+    !is_space(byte) && byte != b';'
 }
 
 // How many bytes of a value without quotes are in front.

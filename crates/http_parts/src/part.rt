@@ -72,7 +72,7 @@ fn named_field(body: &[u8], content: Span, value: Span) -> Option<Field>
 ///
 /// Source: RFC 7578, section 4.2.
 pub fn field_of(body: &[u8], part: Span) -> Option<Field>
-    requires behind { 2 ≤ part.from }
+    requires after { 2 ≤ part.from }
     requires within { IsWithin part body.now }
     ensures value { result ≡ field_of body.now part }
     ensures within { IfSome result (λ field. IsFieldIn field body.now) }

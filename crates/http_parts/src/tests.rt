@@ -63,16 +63,9 @@ fn types(rt: HostRuntime) {
     }
 }
 
-// Bodies without a closing delimiter, with bad parts, and with flags.
+// Bodies without a closing delimiter, and with parts of no name.
 #[test]
 fn bodies(rt: HostRuntime) {
-    let flags = |select, print| {
-        Ok(Parts {
-            select,
-            print,
-            ..NONE
-        })
-    };
     for (body, want) in [
         ("", Err(PartFault::NoClose)),
         ("--XY\r\n--XY--", Err(PartFault::NoClose)),
@@ -85,6 +78,22 @@ fn bodies(rt: HostRuntime) {
             "--XY\r\nContent-Disposition: form-data; name=print\r\n\r\n--XY--",
             Err(PartFault::BadPart { at: 6 }),
         ),
+    ] {
+        assert_eq!(rt; multipart(body.as_bytes(), FORM), want, "at {body}");
+    }
+}
+
+// Bodies with flags, and with a file that has no name.
+#[test]
+fn bodies_of_parts(rt: HostRuntime) {
+    let flags = |select, print| {
+        Ok(Parts {
+            select,
+            print,
+            ..NONE
+        })
+    };
+    for (body, want) in [
         (
             "--XY \t\r\ncontent-disposition:form-data;name=print\r\n\r\nTrue\r\n--XY--",
             flags(false, true),

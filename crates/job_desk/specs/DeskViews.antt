@@ -3,7 +3,7 @@ use Rattle.std.specs.Prelude.{◌≡◌, ℕ, ◌≤◌, true, List, All}
 use Rattle.std.specs.Option.{option_map}
 use Rattle.byte_text.specs.Sendable.{IsSendable}
 use Rattle.gcode_lines.specs.Job.{JobData}
-use Rattle.desk_steps.specs.Data.{Data, File}
+use Rattle.desk_steps.specs.Data.{Data, File, named_file}
 use Rattle.desk_steps.specs.Endings.{has_print}
 use Rattle.desk_steps.specs.declared.state.State.{State}
 use Rattle.desk_steps.specs.declared.state.State.TheVariants.{Offline, Connecting, Operational, Printing, Pausing, Paused, Cancelling, Finishing, Closing, Fault}
@@ -13,9 +13,11 @@ use Rattle.job_desk.specs.Views.{bytes_of}
 use Rattle.job_desk.specs.declared.desk.Selected.{Selected}
 use Rattle.job_desk.specs.declared.desk.Desk.TheInside.{Inside}
 
+-- a selected file as plain data
 abbrev pub file_of : Selected → File
 file_of file = record { name = file.name; job = file.job }
 
+-- the fields of a desk as plain data
 abbrev pub desk_data : Inside → Data
 desk_data desk = record {
   scripts = desk.waiting.scripts;
@@ -36,10 +38,6 @@ desk_data desk = record {
   poll_line = desk.lines.of_poll;
   ready = desk.ready;
 }
-
--- a file by its name and its job
-abbrev pub named_file : List ℕ → JobData → File
-named_file name job = record { name = name; job = job }
 
 -- the most scripts that wait in a state: what a state adds is over before the next one that adds comes, but for a print
 -- that is paused, cancelled and disconnected while the first of its scripts still waits

@@ -1,13 +1,17 @@
 -- Scripts, and the scripts that wait.
-use Rattle.std.specs.Prelude.{ℕ, ◌≤◌, List, [], ◌∷◌, ◌++◌, length, All}
+use Rattle.std.specs.Prelude.{ℕ, ◌+◌, ◌≤◌, List, [], ◌∷◌, ◌++◌, length, All}
 use Rattle.byte_text.specs.Sendable.{IsSendable}
 use Rattle.desk_steps.specs.Data.{ScriptTexts, Line, texts_at}
 use Rattle.desk_steps.specs.declared.state.Point.{Point}
 use Rattle.desk_steps.specs.declared.state.Point.TheVariants as point
 
 -- the most lines of a script
-abbrev pub most_lines : ℕ
-most_lines = 64
+abbrev pub most_script_lines : ℕ
+most_script_lines = 64
+
+-- the number of lines that the scripts of a print with its own connection have
+abbrev pub own_lines : ScriptTexts → ℕ
+own_lines scripts = length scripts.connected + length scripts.started + length scripts.done + length scripts.disconnect
 
 -- scripts without a line
 abbrev pub no_scripts : ScriptTexts
@@ -25,12 +29,8 @@ with_text point.Done text scripts = record scripts { done = scripts.done ++ text
 
 -- a script's texts may be sent, and are not too many
 pub record IsScriptList (texts : List (List ℕ)) : Type 0 where
-  pub few : length texts ≤ most_lines
+  pub few : length texts ≤ most_script_lines
   pub sendable : All IsSendable texts
-
--- all scripts are such
-abbrev pub AreScriptLists : ScriptTexts → Type 0
-AreScriptLists scripts = (point : Point) → IsScriptList (texts_at point scripts)
 
 -- the most scripts that wait
 abbrev pub most_waiting : ℕ

@@ -1,9 +1,10 @@
 //! The desk of a print host.
-ghost use Rattle.std.specs.Prelude.{◌≡◌, ◌≤◌, IfOk};
+ghost use Rattle.std.specs.Prelude.{◌≡◌, ◌≤◌, ◌*◌, IfOk};
 ghost use Rattle.std.specs.Option.{option_map, option_copied};
 ghost use Rattle.desk_steps.specs.Data.{new_desk};
 ghost use Rattle.desk_steps.specs.Endings.{IsActive};
 ghost use Rattle.desk_steps.specs.Table.{active_print, is_closable_at};
+ghost use Rattle.job_desk.specs.Scripts.{most_script_lines, own_lines};
 
 mod calls;
 mod note;
@@ -15,7 +16,7 @@ use crate::scripts::Scripts;
 use crate::waiting::Waiting;
 use byte_text::{Name, Text};
 use circular_buffer::HeapCircularBuffer;
-use desk_steps::{Limits, Refusal, State};
+use desk_steps::{Limits, Point, Refusal, State};
 use gcode_lines::Job;
 use std::alloc::{AllocError, Global};
 use std::marker::Model;
@@ -37,7 +38,7 @@ struct Selected {
     job: Job,
 }
 
-/// The prints of a desk: the greatest number given so far, whether that print is active, and the index of its next file
+/// The prints of a desk: the greatest number so far, whether that print is active, and the index of its next file
 /// command.
 #[derive(Clone, Copy)]
 struct Prints {
@@ -118,6 +119,18 @@ impl Desk {
             },
             ready: false,
         })
+    }
+
+    /// The number of lines that the scripts of a print with its own connection have, at most 256.
+    pub fn script_lines(&self) -> usize
+        ensures value { result ≡ own_lines self.now.scripts }
+        ensures few { result ≤ 4 * most_script_lines }
+    {
+        let scripts = self.waiting.scripts();
+        scripts.count(Point::Connected)
+            + scripts.count(Point::Started)
+            + scripts.count(Point::Done)
+            + scripts.count(Point::Disconnect)
     }
 
     /// The limits that it was made with.

@@ -3,7 +3,7 @@ ghost use Rattle.std.specs.Prelude.{◌≡◌, ◌<◌, ◌≤◌, ◌++◌, ◌
 ghost use Rattle.std.specs.Option.{option_map, option_copied};
 ghost use Rattle.byte_text.specs.Sendable.{IsSendable};
 ghost use Rattle.desk_steps.specs.Data.{texts_at};
-ghost use Rattle.job_desk.specs.Scripts.{most_lines, no_scripts, with_text};
+ghost use Rattle.job_desk.specs.Scripts.{most_script_lines, no_scripts, with_text};
 
 use byte_text::{Text, bounded_text};
 use desk_steps::Point;
@@ -56,7 +56,7 @@ impl Script {
         requires { IsSendable text.now.items }
         ensures ok { OnOk result (self.new ≡ self.old ++ text.now.items ∷ []) }
         ensures err { OnErr result (self.new ≡ self.old) }
-        ensures too_many { (result ≡ Err AddFault.TooMany) ↔ (length self.old ≡ most_lines) }
+        ensures too_many { (result ≡ Err AddFault.TooMany) ↔ (length self.old ≡ most_script_lines) }
     {
         if self.texts.len() >= MOST_LINES {
             return Err(AddFault::TooMany);
@@ -75,7 +75,8 @@ impl Script {
     }
 
     fn len(&self) -> usize
-        ensures { result ≡ length self.now }
+        ensures value { result ≡ length self.now }
+        ensures few { result ≤ most_script_lines }
     {
         self.texts.len()
     }
@@ -131,7 +132,7 @@ impl Scripts {
         ensures ok { OnOk result (self.new ≡ with_text point text.now.items self.old) }
         ensures err { OnErr result (self.new ≡ self.old) }
         ensures too_many { (result ≡ Err AddFault.TooMany)
-            ↔ (length (texts_at point self.old) ≡ most_lines) }
+            ↔ (length (texts_at point self.old) ≡ most_script_lines) }
     {
         match point {
             Point::Connected => self.connected.add(text),
@@ -170,7 +171,8 @@ impl Scripts {
 
     /// How many texts a script has.
     pub fn count(&self, point: Point) -> usize
-        ensures { result ≡ length (texts_at point self.now) }
+        ensures value { result ≡ length (texts_at point self.now) }
+        ensures few { result ≤ most_script_lines }
     {
         self.at(point).len()
     }

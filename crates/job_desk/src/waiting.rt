@@ -55,6 +55,13 @@ impl Waiting {
         }
     }
 
+    /// The scripts.
+    pub(crate) fn scripts(&self) -> &Scripts
+        ensures { result.now ≡ self.now.scripts }
+    {
+        &self.scripts
+    }
+
     /// A script waits after the others, for a print or, with 0, for none.
     pub(crate) fn add(&mut self, point: Point, print: u32)
         requires { self.old.count < most_waiting }

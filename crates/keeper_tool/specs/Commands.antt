@@ -1,7 +1,7 @@
 -- The command that the arguments are.
-use Rattle.std.specs.Prelude.{ℕ, nat_le, if◌then◌else◌, ◌&&◌, List, [], ◌∷◌, Option, Some, None, length, codes, option_and_then}
+use Rattle.std.specs.Prelude.{ℕ, nat_le, if◌then◌else◌, ◌&&◌, List, [], ◌∷◌, Option, Some, None, length, codes}
 use Rattle.std.specs.Str.{bytes_eq}
-use Rattle.byte_text.specs.Number.{whole_number}
+use Rattle.byte_text.specs.Number.{number_in}
 use Rattle.keeper_tool.specs.declared.command.Command.{Command}
 use Rattle.keeper_tool.specs.declared.command.Work.{Work}
 use Rattle.keeper_tool.specs.declared.command.Work.TheVariants.{Show, Add}
@@ -15,18 +15,12 @@ abbrev pub adding : List ℕ → Option ℕ → Option Command
 adding file (Some prints) = on_file file (Add prints)
 adding file None = None
 
-abbrev pub within : ℕ → Option ℕ
-within number = if nat_le number 4294967295 then Some number else None
+-- the word `prints` and a number
+abbrev pub prints_command : List ℕ → List ℕ → List ℕ → Option Command
+prints_command file word number = if bytes_eq word (codes "prints") then adding file (number_in number) else None
 
--- a number of 1 to 10 digits up to 4,294,967,295
-abbrev pub count_in : List ℕ → Option ℕ
-count_in text = option_and_then within (whole_number text 10)
-
--- the word `prints` and such a number
-abbrev pub added : List ℕ → List ℕ → List ℕ → Option Command
-added file word number = if bytes_eq word (codes "prints") then adding file (count_in number) else None
-
+-- the command that these arguments are, none for all others
 abbrev pub command_of : List (List ℕ) → Option Command
 command_of (file ∷ []) = on_file file Show
-command_of (file ∷ word ∷ number ∷ []) = added file word number
+command_of (file ∷ word ∷ number ∷ []) = prints_command file word number
 command_of _ = None

@@ -1,6 +1,6 @@
 -- The exit status and the text of each end.
 use Rattle.std.specs.Prelude.{◌≡◌, ℕ, Bool, true, false, List, [], ◌++◌, Option, codes, decimal, IfSome}
-use Rattle.octo_outside.specs.Told.{Adds, AddsPrefix}
+use Rattle.octo_outside.specs.Recorded.{Adds, AddsPrefix}
 use Rattle.octo_keeper.specs.declared.keeper.KeeperFault.{KeeperFault}
 use Rattle.octo_keeper.specs.declared.keeper.KeeperFault.TheVariants as fault
 use Rattle.octo_keeper.specs.declared.tables.Tables.{Tables}
@@ -10,6 +10,7 @@ use Rattle.keeper_tool.specs.declared.end.ToolEnd.{ToolEnd}
 use Rattle.keeper_tool.specs.declared.end.ToolEnd.TheVariants.{Shown, Added, BadWords, NumbersUsed, KeeperFailed, OutputFailed, NotOpened, NoMemory}
 use Rattle.keeper_tool.specs.Lines.{tables_text}
 
+-- the exit status of each end
 abbrev pub code_of : ToolEnd → ℕ
 code_of Shown = 0
 code_of (Added prints) = 0

@@ -15,6 +15,7 @@ word_after word = codes " " ++ word
 abbrev pub number_after : List ℕ → ℕ → List ℕ
 number_after text number = text ++ decimal number
 
+-- whether a user is active, after a blank
 abbrev pub active_text : Bool → List ℕ
 active_text active = if active then codes " active" else codes " inactive"
 
@@ -22,22 +23,28 @@ active_text active = if active then codes " active" else codes " inactive"
 abbrev pub user_line : UserRow → List ℕ
 user_line u = codes "user" ++ word_after u.name ++ active_text u.active ++ flat_map word_after u.groups.items ++ codes "\n"
 
+-- an entry's user, name and file
 abbrev pub entry_names : QueueEntry → List ℕ
 entry_names e = codes "entry" ++ word_after e.user ++ word_after e.name ++ word_after e.file
 
+-- an entry's priority, arrival, copies, and the copies that are left
 abbrev pub entry_numbers : QueueEntry → List ℕ
 entry_numbers e =
-    number_after (codes " priority ") e.priority ++ number_after (codes " arrival ") e.arrival ++ number_after (codes " copies ") e.copies ++ number_after (codes " left ") e.left
+    number_after (codes " priority ") e.priority ++ number_after (codes " arrival ") e.arrival
+    ++ number_after (codes " copies ") e.copies ++ number_after (codes " left ") e.left
 
+-- names, numbers and material of an entry
 abbrev pub entry_line : QueueEntry → List ℕ
 entry_line e = entry_names e ++ entry_numbers e ++ codes " material" ++ word_after e.material ++ codes "\n"
 
+-- the end of a print's line, with its outcome
 abbrev pub outcome_text : Outcome → List ℕ
 outcome_text Active = codes " active\n"
 outcome_text Done = codes " done\n"
 outcome_text Cancelled = codes " cancelled\n"
 outcome_text Failed = codes " failed\n"
 
+-- number, user, file, commands and outcome of a print
 abbrev pub print_line : PrintRow → List ℕ
 print_line p =
     number_after (codes "print ") p.number ++ word_after p.user ++ word_after p.file ++ number_after (codes " commands ") p.commands ++ outcome_text p.outcome

@@ -6,8 +6,8 @@ use Rattle.print_records.specs.declared.row.PrintRow.{PrintRow}
 use Rattle.octo_keeper.specs.declared.tables.Tables.{Tables}
 
 -- the record of a finished print
-abbrev pub finished : ℕ → PrintRow
-finished number = record {
+abbrev pub finished_row : ℕ → PrintRow
+finished_row number = record {
   number = number;
   user = codes "ana";
   file = codes "hollow_box.gcode";
@@ -17,7 +17,7 @@ finished number = record {
 
 -- the tables with one finished print more
 abbrev pub with_print : ℕ → Tables → Tables
-with_print number t = record t { prints = t.prints ++ finished number ∷ [] }
+with_print number t = record t { prints = t.prints ++ finished_row number ∷ [] }
 
 -- the tables with a number of records more, numbered from `first` on
 abbrev pub with_prints : ℕ → ℕ → Tables → Tables

@@ -1,11 +1,13 @@
 //! Adding print records.
 ghost use Rattle.std.specs.Prelude.{◌≡◌, ◌≢◌, ◌<◌, ◌≤◌, ◌+◌, ℕ, true, length, IfSome, OnOk, OnErr, IsErrOf, MatchOption};
 ghost use Rattle.std.specs.Option.{option_map};
-ghost use Rattle.octo_outside.specs.Told.{Counts};
+ghost use Rattle.byte_text.specs.Number.{most_u32};
+ghost use Rattle.byte_text.specs.declared.name.TheConstants.{MOST_NAME_BYTES};
+ghost use Rattle.octo_outside.specs.Recorded.{Counts};
 ghost use Rattle.octo_keeper.specs.declared.keeper.KeeperFault.TheVariants as fault;
 ghost use Rattle.keeper_tool.specs.declared.end.ToolEnd.TheVariants as end;
 ghost use Rattle.keeper_tool.specs.Ends.{is_adding};
-ghost use Rattle.keeper_tool.specs.Prints.{AddsFrom, AddsUpTo, finished, with_more, with_print, with_prints};
+ghost use Rattle.keeper_tool.specs.Prints.{AddsFrom, AddsUpTo, finished_row, with_more, with_print, with_prints};
 
 use crate::end::{ToolEnd, end_of};
 use byte_text::Name;
@@ -14,7 +16,7 @@ use print_records::{Outcome, PrintRow};
 use std::alloc::Global;
 
 fn name(text: &'static str) -> Name
-    requires { length text.now ≤ 100 }
+    requires { length text.now ≤ MOST_NAME_BYTES }
     ensures { result ≡ text.now }
 {
     match Name::from_text(text) {
@@ -24,8 +26,8 @@ fn name(text: &'static str) -> Name
 }
 
 // The record of a finished print.
-fn finished(number: u32) -> PrintRow
-    ensures { result ≡ finished number }
+fn finished_row(number: u32) -> PrintRow
+    ensures { result ≡ finished_row number }
 {
     PrintRow {
         number,
@@ -47,7 +49,7 @@ fn add_print<K: Keeper>(alloc: Global, keeper: &mut K, number: u32) -> Result<()
 {
     let change = Change::Begin {
         ended: None,
-        print: finished(number),
+        print: finished_row(number),
         taken: None,
     };
     keeper.commit(alloc, &change)
@@ -60,7 +62,7 @@ fn add_from<K: Keeper>(
     first: u32,
     prints: u32,
 ) -> Result<(), KeeperFault>
-    requires { first + prints ≤ 4294967295 }
+    requires { first + prints ≤ most_u32 }
     ensures ok { OnOk result
         (K.tables keeper.new ≡ option_map (with_prints first prints) (K.tables keeper.old)) }
     ensures err { OnErr result (AddsFrom first prints (K.tables keeper.old) (K.tables keeper.new)) }
@@ -77,8 +79,8 @@ fn add_from<K: Keeper>(
 
 // The number of the first print to be added, if there are numbers for all of them.
 fn first_number(held: usize, prints: u32) -> Option<u32>
-    ensures { MatchOption result (4294967295 < held + 1 + prints)
-        (λ first. (first ≡ held + 1) × (first + prints ≤ 4294967295)) }
+    ensures { MatchOption result (most_u32 < held + 1 + prints)
+        (λ first. (first ≡ held + 1) × (first + prints ≤ most_u32)) }
 {
     let held = u32::try_from(held).ok()?;
     let first = held.checked_add(1)?;
@@ -95,7 +97,7 @@ pub fn add_prints<K: Keeper>(alloc: Global, keeper: &mut K, prints: u32) -> Tool
     ensures only { result ≢ end.Shown }
     ensures kind { is_adding result ≡ true }
     ensures numbers { result ≡ end.NumbersUsed
-        → IfSome (K.tables keeper.old) (λ t. 4294967295 < length t.prints + 1 + prints) }
+        → IfSome (K.tables keeper.old) (λ t. most_u32 < length t.prints + 1 + prints) }
     ensures counts { Counts (result ≡ end.KeeperFailed)
         (K.faults keeper.old) (K.faults keeper.new) }
     ensures steady { result ≢ end.KeeperFailed → K.faults keeper.new ≡ K.faults keeper.old }

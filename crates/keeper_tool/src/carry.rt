@@ -1,7 +1,8 @@
 //! A command carried out on a keeper.
 ghost use Rattle.std.specs.Prelude.{◌≡◌, ◌≢◌, ◌<◌, ◌+◌, ℕ, true, length, IfSome};
 ghost use Rattle.std.specs.Option.{option_map};
-ghost use Rattle.octo_outside.specs.Told.{Adds, Counts};
+ghost use Rattle.byte_text.specs.Number.{most_u32};
+ghost use Rattle.octo_outside.specs.Recorded.{Adds, Counts};
 ghost use Rattle.keeper_tool.specs.declared.end.ToolEnd.TheVariants as end;
 ghost use Rattle.keeper_tool.specs.declared.command.Work.TheVariants as todo;
 ghost use Rattle.keeper_tool.specs.Ends.{Wrote, is_showing, may_end};
@@ -60,7 +61,7 @@ pub fn carry_out<K: Keeper, O: Sink>(
     // It ends as such a work does, and nothing else is written.
     ensures kind { may_end work result ≡ true }
     ensures numbers { (n : ℕ) → work ≡ todo.Add n → result ≡ end.NumbersUsed
-        → IfSome (K.tables keeper.old) (λ t. 4294967295 < length t.prints + 1 + n) }
+        → IfSome (K.tables keeper.old) (λ t. most_u32 < length t.prints + 1 + n) }
     ensures wrote { Wrote (K.tables keeper.old) result (O.written out.old) (O.written out.new) }
 
     // Faults, by their counts.

@@ -1,8 +1,8 @@
 //! The command that the arguments are.
 ghost use Rattle.std.specs.Prelude.{◌≡◌, length};
-ghost use Rattle.keeper_tool.specs.Commands.{added, command_of, count_in, on_file, within};
+ghost use Rattle.keeper_tool.specs.Commands.{prints_command, command_of, on_file};
 
-use byte_text::{Name, whole_number};
+use byte_text::{Name, number_in};
 use octo_outside::WordList;
 
 /// What is to be done with a database.
@@ -32,29 +32,13 @@ fn on_file(file: &str, work: Work) -> Option<Command>
     Some(Command { file, work })
 }
 
-fn within(number: u64) -> Option<u32>
-    ensures { result ≡ within number }
-{
-    u32::try_from(number).ok()
-}
-
-// A number of 1 to 10 digits up to 4,294,967,295.
-fn count_in(text: &str) -> Option<u32>
-    ensures { result ≡ count_in text.now }
-{
-    match whole_number(text, 10) {
-        Some(number) => within(number),
-        None => None,
-    }
-}
-
-fn added(file: &str, word: &str, number: &str) -> Option<Command>
-    ensures { result ≡ added file.now word.now number.now }
+fn prints_command(file: &str, word: &str, number: &str) -> Option<Command>
+    ensures { result ≡ prints_command file.now word.now number.now }
 {
     if word != "prints" {
         return None;
     }
-    match count_in(number) {
+    match number_in(number) {
         Some(prints) => on_file(file, Work::Add { prints }),
         None => None,
     }
@@ -66,7 +50,7 @@ pub fn read_command(words: &WordList) -> Option<Command>
 {
     match words.count() {
         1 => on_file(words.get(0), Work::Show),
-        3 => added(words.get(0), words.get(1), words.get(2)),
+        3 => prints_command(words.get(0), words.get(1), words.get(2)),
         _ => None,
     }
 }

@@ -7,19 +7,11 @@ use crate::end::ToolEnd;
 use crate::lines::tables_text;
 use crate::texts::write_end;
 use octo_keeper::{MemoryKeeper, Tables};
-use octo_outside::{CallList, ItemList, MemorySink};
+use octo_outside::{CallList, MemorySink};
 use std::alloc::Global;
 
 const TEXT: &[u8] =
     b"users 0\nentries 0\nprints 1\nprint 1 ana hollow_box.gcode commands 218 done\n";
-
-fn empty_tables(alloc: Global) -> Tables {
-    Tables {
-        users: ItemList::new(alloc),
-        queue: ItemList::new(alloc),
-        prints: ItemList::new(alloc),
-    }
-}
 
 fn empty_sink(alloc: Global) -> MemorySink {
     MemorySink::new(alloc, CallList::new(alloc))
@@ -28,7 +20,7 @@ fn empty_sink(alloc: Global) -> MemorySink {
 #[test]
 fn ample(rt: HostRuntime) {
     let alloc = rt.alloc();
-    let mut keeper = MemoryKeeper::new(empty_tables(alloc), CallList::new(alloc));
+    let mut keeper = MemoryKeeper::new(Tables::empty(alloc), CallList::new(alloc));
     let mut out = empty_sink(alloc);
     assert_eq!(rt;
         add_prints(alloc, &mut keeper, 1),
@@ -47,7 +39,7 @@ fn ample_texts(rt: HostRuntime) {
     let mut out = empty_sink(alloc);
     assert!(rt; write_end(&mut out, ToolEnd::Added { prints: 2 }).is_ok());
     assert!(rt; out.written() == Some(b"added 2 prints\n".as_slice()));
-    match tables_text(alloc, &empty_tables(alloc)) {
+    match tables_text(alloc, &Tables::empty(alloc)) {
         Ok(text) => assert!(rt; text.as_slice() == b"users 0\nentries 0\nprints 0\n".as_slice()),
         Err(_) => panic!(rt; "no memory"),
     }

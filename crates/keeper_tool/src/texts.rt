@@ -1,6 +1,6 @@
 //! The text of an end, and writing it.
 ghost use Rattle.std.specs.Prelude.{◌≡◌, ◌++◌, codes, decimal, OnOk, OnErr, IsErr};
-ghost use Rattle.octo_outside.specs.Told.{Adds, AddsPrefix, Counts};
+ghost use Rattle.octo_outside.specs.Recorded.{Adds, AddsPrefix, Counts};
 ghost use Rattle.keeper_tool.specs.Ends.{text_of};
 
 use crate::end::ToolEnd;

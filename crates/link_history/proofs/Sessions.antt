@@ -1,4 +1,4 @@
--- A past by its sessions: what more events leave of what was executed.
+-- A recorded history by its sessions: what more events leave of what was executed.
 use Rattle.std.proofs.Common.{◌≡◌, ℕ, zero, suc, pred, ◌+◌, ◌-◌, ◌<◌, ◌≤◌, Bool, List, [], ◌∷◌, ◌++◌, length, drop, refl, sym, append-nil, length-append, ◌∙◌, ap, arith}
 use Rattle.std.specs.Prelude.{Some, None, filter, Result, Ok, Err, IfOk}
 use Rattle.std.proofs.lemmas.List.{drop-append-le}
@@ -6,16 +6,16 @@ use Rattle.std.proofs.lemmas.List.Elements.{filter-append}
 use Rattle.printer_model.specs.Printer.{Logged}
 use Rattle.printer_model.specs.World.{WorldData, world_of, world_from, Grew, is_opened}
 use Rattle.printer_model.proofs.Laws.{world_of-append, world_from-Grew}
-use Rattle.link_history.specs.Executed.{left_behind, opens, till, is_counted, executed}
+use Rattle.link_history.specs.Executed.{sessions_left_after, opens, till, is_counted, executed}
 use Rattle.printer_model.specs.declared.event.WorldEvent.{WorldEvent}
 use Rattle.printer_model.specs.declared.event.WorldEvent.TheVariants.{Opened, Send, Arrive, Lose, Garble, Run, Restart, Chatter, Recv, Closed}
 
--- the counted lines run from one past to a longer one
+-- the counted lines run from one recorded history to a longer one
 abbrev lines_between : ℕ → Bool → List WorldEvent → List WorldEvent → List Logged
 lines_between places advanced short long =
     filter is_counted (drop (length (world_of places advanced short).log) (world_of places advanced long).log)
 
--- once the Opened after session s is there, what comes later isn't before it
+-- once the Opened after session s exists, what comes later isn't before it
 pub till-append : (s : ℕ) (past added : List WorldEvent) → s < opens past → till s (past ++ added) ≡ till s past
 till-append s [] added later = absurd (omega arith)
 till-append zero (Opened last ∷ past) added later = refl
@@ -30,7 +30,7 @@ till-append s (Chatter reply ∷ past) added later = ap (λ (es : List WorldEven
 till-append s (Recv ∷ past) added later = ap (λ (es : List WorldEvent). Recv ∷ es) (till-append s past added later)
 till-append s (Closed ∷ past) added later = ap (λ (es : List WorldEvent). Closed ∷ es) (till-append s past added later)
 
--- a past with no more sessions than s ends with session s at the latest
+-- a recorded history with no more sessions than s ends with session s at the latest
 pub till-all : (s : ℕ) (past : List WorldEvent) → opens past ≤ s → till s past ≡ past
 till-all s [] few = refl
 till-all zero (Opened last ∷ past) few = absurd (omega arith)
@@ -59,7 +59,8 @@ opens-append (Chatter reply ∷ past) added = opens-append past added
 opens-append (Recv ∷ past) added = opens-append past added
 opens-append (Closed ∷ past) added = opens-append past added
 
-pred_below : (s n : ℕ) → s < n → pred s < n
+-- the one before a number below a bound is below it too
+pub pred_below : (s n : ℕ) → s < n → pred s < n
 pred_below zero n below = below
 pred_below (suc s) n below = omega arith
 
@@ -71,7 +72,7 @@ executed-append places advanced past added s over =
     ap (λ (es : List WorldEvent). lines_between places advanced (till (pred s) (past ++ added)) es) here
     ∙ ap (λ (es : List WorldEvent). lines_between places advanced es (till s past)) before
 
--- what comes up to the end of a session is a front part of the past
+-- what comes up to the end of a session is a front part of the recorded history
 pub record IsFront (front whole : List WorldEvent) : Type 0 where
   pub behind : List WorldEvent
   pub is : whole ≡ front ++ behind
@@ -135,7 +136,7 @@ executed-same places advanced past added s counted last same_session same =
     ∙ append-nil (executed places advanced past s)
 
 -- a session ends before an Opened too many
-pub till-over : (s : ℕ) (event : WorldEvent) (past : List WorldEvent) → left_behind s (is_opened event) ≡ None → till s (event ∷ past) ≡ []
+pub till-over : (s : ℕ) (event : WorldEvent) (past : List WorldEvent) → sessions_left_after s (is_opened event) ≡ None → till s (event ∷ past) ≡ []
 till-over zero (Opened last) past over = refl
 till-over (suc s) (Opened last) past over = absurd (cc)
 till-over s (Send line) past over = absurd (cc)
@@ -149,7 +150,7 @@ till-over s Recv past over = absurd (cc)
 till-over s Closed past over = absurd (cc)
 
 -- and otherwise goes on after the event
-pub till-on : (s : ℕ) (event : WorldEvent) (past : List WorldEvent) (n : ℕ) → left_behind s (is_opened event) ≡ Some n → till s (event ∷ past) ≡ event ∷ till n past
+pub till-on : (s : ℕ) (event : WorldEvent) (past : List WorldEvent) (n : ℕ) → sessions_left_after s (is_opened event) ≡ Some n → till s (event ∷ past) ≡ event ∷ till n past
 till-on zero (Opened last) past n on = absurd (cc)
 till-on (suc s) (Opened last) past n on = let same : s ≡ n = cc in ap (λ (k : ℕ). Opened last ∷ till k past) same
 till-on s (Send line) past n on = let same : s ≡ n = cc in ap (λ (k : ℕ). Send line ∷ till k past) same

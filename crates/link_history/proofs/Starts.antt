@@ -6,11 +6,11 @@ use Rattle.std.proofs.Math.Seq.{drop-append_seam}
 use Rattle.printer_model.specs.Printer.{Logged}
 use Rattle.printer_model.specs.World.{WorldData, apply, world_from, world_of, is_free, is_run}
 use Rattle.link_history.specs.Executed.{opens, till, is_counted, executed}
-use Rattle.link_history.specs.Exchanged.{session_of, received_by, received_from, sent_by, sends_since}
+use Rattle.link_history.specs.Exchanged.{events_of_session, received_by, received_from, sent_by, sends_since}
 use Rattle.printer_model.specs.declared.event.WorldEvent.{WorldEvent}
 use Rattle.printer_model.specs.declared.event.WorldEvent.TheVariants.{Opened, Send, Arrive, Lose, Garble, Run, Restart, Chatter, Recv, Closed}
-use Rattle.printer_model.proofs.Laws.{both_left, both_right}
 use Rattle.link_history.proofs.Sessions.{till-all, opens-append}
+use Rattle.std.proofs.lemmas.Bool.{and_parts}
 
 free_opens_none : (event : WorldEvent) (past : List WorldEvent) → is_free event ≡ true → opens (event ∷ past) ≡ opens past
 free_opens_none (Opened last) past free = absurd (cc)
@@ -28,8 +28,8 @@ free_opens_none Closed past free = absurd (cc)
 pub opens-free : (events : List WorldEvent) → list_all is_free events ≡ true → opens events ≡ 0
 opens-free [] free = refl
 opens-free (event ∷ events) free =
-    free_opens_none event events (both_left (is_free event) (list_all is_free events) free)
-    ∙ opens-free events (both_right (is_free event) (list_all is_free events) free)
+    free_opens_none event events (and_parts (is_free event) (list_all is_free events) free).0
+    ∙ opens-free events (and_parts (is_free event) (list_all is_free events) free).1
 
 run_is_free : (event : WorldEvent) → is_run event ≡ true → is_free event ≡ true
 run_is_free (Opened last) run = absurd (cc)
@@ -52,8 +52,8 @@ pub runs-free : (events : List WorldEvent) → list_all is_run events ≡ true �
 runs-free [] runs = refl
 runs-free (event ∷ events) runs =
     both_hold (is_free event) (list_all is_free events)
-    (run_is_free event (both_left (is_run event) (list_all is_run events) runs))
-    (runs-free events (both_right (is_run event) (list_all is_run events) runs))
+    (run_is_free event (and_parts (is_run event) (list_all is_run events) runs).0)
+    (runs-free events (and_parts (is_run event) (list_all is_run events) runs).1)
 
 -- an Opened ends the sessions before it
 pub till-stop : (past rest : List WorldEvent) (last : ℕ) → till (opens past) (past ++ Opened last ∷ rest) ≡ past
@@ -82,7 +82,7 @@ last_session front rest last none = record {
 
 -- its events are those from that Opened on
 pub session_of-last : (front rest : List WorldEvent) (last : ℕ) → opens rest ≡ 0 →
-    session_of (suc (opens front)) (front ++ Opened last ∷ rest) ≡ Opened last ∷ rest
+    events_of_session (suc (opens front)) (front ++ Opened last ∷ rest) ≡ Opened last ∷ rest
 session_of-last front rest last none =
     let all = front ++ Opened last ∷ rest in
     let is = last_session front rest last none in
@@ -157,8 +157,8 @@ pub received_from-free : (w : WorldData) (events : List WorldEvent) → list_all
 received_from-free w [] free = refl
 received_from-free w (event ∷ events) free =
     ap (λ (lines : List (List ℕ)). lines ++ received_from (apply w event) events)
-    (free_gives_none w event (both_left (is_free event) (list_all is_free events) free))
-    ∙ received_from-free (apply w event) events (both_right (is_free event) (list_all is_free events) free)
+    (free_gives_none w event (and_parts (is_free event) (list_all is_free events) free).0)
+    ∙ received_from-free (apply w event) events (and_parts (is_free event) (list_all is_free events) free).1
 
 -- the lines sent since a reply, over events in two parts
 pub sends_since-append : (count : ℕ) (first more : List WorldEvent) →
@@ -182,5 +182,5 @@ free_sends_none count Closed free = refl
 pub sends_since-free : (count : ℕ) (events : List WorldEvent) → list_all is_free events ≡ true → sends_since count events ≡ count
 sends_since-free count [] free = refl
 sends_since-free count (event ∷ events) free =
-    ap (λ (n : ℕ). sends_since n events) (free_sends_none count event (both_left (is_free event) (list_all is_free events) free))
-    ∙ sends_since-free count events (both_right (is_free event) (list_all is_free events) free)
+    ap (λ (n : ℕ). sends_since n events) (free_sends_none count event (and_parts (is_free event) (list_all is_free events) free).0)
+    ∙ sends_since-free count events (and_parts (is_free event) (list_all is_free events) free).1

@@ -6,8 +6,8 @@ use Rattle.printer_model.specs.declared.event.WorldEvent.{WorldEvent}
 use Rattle.printer_model.specs.declared.event.WorldEvent.TheVariants.{Send, Recv, Closed}
 
 -- the events of session s, counted from 1: from its Opened to the next one
-abbrev pub session_of : ℕ → List WorldEvent → List WorldEvent
-session_of s past = drop (length (till (pred s) past)) (till s past)
+abbrev pub events_of_session : ℕ → List WorldEvent → List WorldEvent
+events_of_session s past = drop (length (till (pred s) past)) (till s past)
 
 -- the line at the front of a wire, if there is one
 abbrev pub front_line : List (List ℕ) → List (List ℕ)

@@ -1,20 +1,20 @@
--- What was executed in a session of a past.
+-- What was executed in a session of a recorded history.
 use Rattle.std.specs.Prelude.{ℕ, zero, suc, pred, Bool, true, false, not, ◌==◌, if◌then◌else◌, List, [], ◌∷◌, length, drop, filter, Option, Some, None}
 use Rattle.marlin_frame.specs.Numbering.{hello_number}
 use Rattle.printer_model.specs.Printer.{Logged}
 use Rattle.printer_model.specs.World.{world_of, is_opened}
 use Rattle.printer_model.specs.declared.event.WorldEvent.{WorldEvent}
 
--- how many sessions a past has
+-- how many sessions a recorded history has
 abbrev pub opens : List WorldEvent → ℕ
 opens [] = 0
 opens (event ∷ past) = if is_opened event then suc (opens past) else opens past
 
 -- how many sessions are still to come after an event, none if it opens one too many
-abbrev pub left_behind : ℕ → Bool → Option ℕ
-left_behind s false = Some s
-left_behind zero true = None
-left_behind (suc s) true = Some s
+abbrev pub sessions_left_after : ℕ → Bool → Option ℕ
+sessions_left_after s false = Some s
+sessions_left_after zero true = None
+sessions_left_after (suc s) true = Some s
 
 -- the events from an Opened on, if sessions are still to come
 abbrev pub open_on : ℕ → List WorldEvent → List WorldEvent

@@ -1,7 +1,7 @@
 //! What the printer ran in a session, in order.
 ghost use Rattle.std.specs.Prelude.{◌≡◌, ◌≤◌, drop, filter, IfOk};
 ghost use Rattle.printer_model.specs.World.{is_opened, world_of};
-ghost use Rattle.link_history.specs.Executed.{executed, is_counted, left_behind, till};
+ghost use Rattle.link_history.specs.Executed.{executed, is_counted, sessions_left_after, till};
 
 use byte_text::bounded_text;
 use marlin_frame::HELLO_NUMBER;
@@ -25,7 +25,7 @@ impl Model for Executed {
 }
 
 impl Executed {
-    /// What was run in a session of a past, counted from 1, over a printer of 1 to 16 places.
+    /// What was run in a session of a recorded history, counted from 1, over a printer of 1 to 16 buffer slots.
     pub fn of_session(
         alloc: Global,
         places: u8,
@@ -39,7 +39,7 @@ impl Executed {
     {
         let before = replay(alloc, places, advanced, past, session.saturating_sub(1))?;
         let whole = replay(alloc, places, advanced, past, session)?;
-        counted_lines(alloc, behind(whole.log(), before.log().len()))
+        counted_lines(alloc, after(whole.log(), before.log().len()))
     }
 
     /// The lines in the order in which they were run.
@@ -51,7 +51,7 @@ impl Executed {
 }
 
 /// What follows this number of lines.
-fn behind(lines: &[ExecutedLine], count: usize) -> &[ExecutedLine]
+fn after(lines: &[ExecutedLine], count: usize) -> &[ExecutedLine]
     ensures { result.now ≡ drop count lines.now }
 {
     if count <= lines.len() {
@@ -62,8 +62,8 @@ fn behind(lines: &[ExecutedLine], count: usize) -> &[ExecutedLine]
 }
 
 /// How many sessions are still to come after an event, none if it opens one too many.
-fn left_behind(left: u32, event: &WorldEvent) -> Option<u32>
-    ensures { result ≡ left_behind left (is_opened event.now) }
+fn sessions_left_after(left: u32, event: &WorldEvent) -> Option<u32>
+    ensures { result ≡ sessions_left_after left (is_opened event.now) }
 {
     if event.is_opened() {
         left.checked_sub(1)
@@ -87,7 +87,7 @@ fn replay(
     let mut world = World::new(alloc, places, advanced);
     let mut left = session;
     for event in past {
-        let Some(rest) = left_behind(left, event) else {
+        let Some(rest) = sessions_left_after(left, event) else {
             return Ok(world);
         };
         left = rest;

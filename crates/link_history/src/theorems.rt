@@ -2,7 +2,7 @@
 //! law.
 ghost use Rattle.std.specs.Prelude.{◌≡◌, ℕ, suc, ◌<◌, ◌≤◌, ◌+◌, ◌++◌, ◌∷◌, Bool, true, List, filter};
 ghost use Rattle.std.specs.List.{list_all};
-ghost use Rattle.link_history.specs.Exchanged.{session_of};
+ghost use Rattle.link_history.specs.Exchanged.{events_of_session};
 ghost use Rattle.link_history.specs.Executed.{executed, is_counted, opens};
 ghost use Rattle.printer_model.specs.World.{is_run};
 ghost use Rattle.printer_model.specs.Printer.{Logged};
@@ -34,7 +34,7 @@ pub fn session_law()
         → executed places advanced (front ++ event.Opened last ∷ rest) (suc (opens front))
         ≡ filter is_counted lines }
     ensures events { (front rest : List WorldEvent) (last : ℕ) → opens rest ≡ 0
-        → session_of (suc (opens front)) (front ++ event.Opened last ∷ rest)
+        → events_of_session (suc (opens front)) (front ++ event.Opened last ∷ rest)
         ≡ event.Opened last ∷ rest }
 
     // What the line and the printer do by themselves opens no session, runs among it.

@@ -1,4 +1,4 @@
--- A turn that talks ends a session with a cause.
+-- A turn that uses the link ends a session with a cause.
 use Rattle.std.proofs.Common.{◌≡◌, ℕ, Bool, true, List, [], ◌∷◌, ◌++◌, refl, sym, ◌∙◌, ap, subst, append_assoc}
 use Rattle.std.specs.Prelude.{Option, None, Some}
 use Rattle.std.specs.List.{list_any}
@@ -24,8 +24,8 @@ use Rattle.send_window.specs.Hearing.{hear_step, tick_step}
 use Rattle.send_window.proofs.Ending.{ends_by_rule}
 use Rattle.send_window.proofs.Silence.{sends_in_silence}
 use Rattle.session_steps.specs.Found.{Got, unasked, lost, nothing, whole, end_by, can_find}
-use Rattle.session_steps.specs.declared.found.Doing.TheVariants.{Talking}
-use Rattle.session_steps.specs.Steps.{ticks, hangs_up, after_steps, AreAdded, clock_steps, talk_steps}
+use Rattle.session_steps.specs.declared.found.Doing.TheVariants.{UsingLink}
+use Rattle.session_steps.specs.Steps.{ticks, hangs_up, after_steps, AreAdded, clock_steps, steps_over_link}
 use Rattle.lossy_wires.specs.Pieces.{Each, heard_in, heard_of}
 use Rattle.lossy_wires.specs.Wires.{IsFair, Meets}
 use Rattle.lossy_wires.specs.Traces.{replies_from, IsTallied, is_restart, IsStartKnown, IsTraced}
@@ -39,9 +39,9 @@ use Rattle.lossy_line.proofs.Quiet.{since_heard}
 still_closed : (w : WorldData) → IsStill w (Closed ∷ [])
 still_closed w = record { unsent = λ since. refl; unheard = refl }
 
--- the clock's steps, after a reply was heard or none was there
+-- the clock's steps, after a reply was heard or none came
 clock_caused : (moment : ℕ) (is_prompt : Bool) (found : LinkFact) (texts : List (List ℕ)) (count : ℕ) (made : WorldData)
-    (rest : List WorldEvent) (s : SenderData) (more : List WorldEvent) (ended : Option SessionEnd) → can_find Talking found ≡ true →
+    (rest : List WorldEvent) (s : SenderData) (more : List WorldEvent) (ended : Option SessionEnd) → can_find UsingLink found ≡ true →
     (tick_step moment s).ended ≡ ended → ((why : SessionEnd) → (tick_step moment s).ended ≡ Some why → found ≡ fact.Ended why) →
     IsAt made rest s → AreAdded moment is_prompt (clock_steps found texts count) s (world_from made rest) more →
     IsCaused (after_steps moment (clock_steps found texts count) s).ended made (rest ++ more)
@@ -117,7 +117,7 @@ module _ (moment : ℕ) (is_prompt : Bool) (found : LinkFact) (texts : List (Lis
       }
 
   -- what follows the first step
-  behind : (first more added : List WorldEvent) (t : SenderData) → can_find Talking found ≡ true →
+  behind : (first more added : List WorldEvent) (t : SenderData) → can_find UsingLink found ≡ true →
       ((why : SessionEnd) → (tick_step moment t).ended ≡ Some why → found ≡ fact.Ended why) → IsAt made (rest ++ first) t →
       added ≡ first ++ more → AreAdded moment is_prompt (clock_steps found texts count) t (world_from (world_from made rest) first) more →
       IsCaused (after_steps moment (clock_steps found texts count) t).ended made (rest ++ added)
@@ -127,11 +127,11 @@ module _ (moment : ℕ) (is_prompt : Bool) (found : LinkFact) (texts : List (Lis
       let all : (rest ++ first) ++ more ≡ rest ++ added = append_assoc rest first more ∙ ap (λ (es : List WorldEvent). rest ++ es) (sym is) in
       subst C all (clock_caused moment is_prompt found texts count made (rest ++ first) t more (tick_step moment t).ended can refl ends at (subst A (sym (world_from-append made rest first)) steps))
 
-  pub talk_caused : (got : Got) (added : List WorldEvent) → can_find Talking found ≡ true → (got ≡ unasked → ⊥) →
+  pub talk_caused : (got : Got) (added : List WorldEvent) → can_find UsingLink found ≡ true → (got ≡ unasked → ⊥) →
       ((why : SessionEnd) → (found ≡ fact.Ended why → end_by got moment s ≡ Some why) × (end_by got moment s ≡ Some why → found ≡ fact.Ended why)) →
       s.ended ≡ None → IsQuiet (sends_since 0 rest) s → IsTraced start made issued s rest →
-      AreAdded moment is_prompt (talk_steps got found texts count) s (world_from made rest) added →
-      IsCaused (after_steps moment (talk_steps got found texts count) s).ended made (rest ++ added)
+      AreAdded moment is_prompt (steps_over_link got found texts count) s (world_from made rest) added →
+      IsCaused (after_steps moment (steps_over_link got found texts count) s).ended made (rest ++ added)
   talk_caused unasked added can asked ends running quiet traced steps = absurd (asked refl)
   talk_caused lost added can asked ends running quiet traced steps =
       let C : Option SessionEnd → Type 0 = λ e. IsCaused e made (rest ++ added) in

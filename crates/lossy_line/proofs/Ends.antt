@@ -1,5 +1,5 @@
 -- A session ends with a cause.
-use Rattle.std.proofs.Common.{◌≡◌, inl, inr, ℕ, zero, suc, ◌≤◌, Bool, true, false, List, [], ◌∷◌, ◌++◌, map, replicate, refl, sym, ◌∙◌, ap, subst, append-nil, arith}
+use Rattle.std.proofs.Common.{◌≡◌, ◌⊎◌, inl, inr, ℕ, zero, suc, ◌≤◌, Bool, true, false, List, [], ◌∷◌, ◌++◌, map, replicate, refl, sym, ◌∙◌, ap, subst, append-nil, arith}
 use Rattle.std.specs.Prelude.{Option, None, Some}
 use Rattle.std.specs.List.{list_any, list_all}
 use Rattle.std.proofs.lemmas.Bool.{or_left}
@@ -24,12 +24,14 @@ use Rattle.send_window.specs.Sending.{frame_step, push_step}
 use Rattle.send_window.proofs.Ending.{tick_ends}
 use Rattle.session_steps.specs.Found.{Got, can_find}
 use Rattle.session_steps.specs.declared.found.Doing.{Doing}
-use Rattle.session_steps.specs.declared.found.Doing.TheVariants.{Dialling, HangingUp, Talking, Resting}
-use Rattle.session_steps.specs.Steps.{Step, gives, fails_to_send, hangs_up, after_step, after_steps, AreAdded, issuing, speech, clock_steps, turn_steps}
+use Rattle.session_steps.specs.declared.found.Doing.TheVariants.{Dialling, HangingUp, UsingLink, Resting}
+use Rattle.session_steps.specs.Steps.{Step, gives, fails_to_send, hangs_up, after_step, after_steps, AreAdded, issuing, issues_then_sends, clock_steps, turn_steps}
 use Rattle.lossy_wires.specs.Wires.{IsFair}
 use Rattle.lossy_wires.specs.Traces.{replies_from, oks_of, IsTallied, is_restart}
 use Rattle.lossy_wires.proofs.Tracing.{replies_from-append}
 use Rattle.lossy_line.specs.Linked.{IsSilentSince, IsCaused}
+use Rattle.session_steps.proofs.Stepping.{after_steps-append}
+use Rattle.lossy_wires.proofs.Sending.{give_keeps_end}
 
 -- events that neither send nor receive keep a cause
 pub record IsStill (w : WorldData) (added : List WorldEvent) : Type 0 where
@@ -60,37 +62,39 @@ still_caused (Some (NumbersUsed all)) made rest added still caused = tt
 still_free : (w : WorldData) (events : List WorldEvent) → list_all is_free events ≡ true → IsStill w events
 still_free w events free = record { unsent = λ since. sends_since-free since events free; unheard = ap (map kind_of) (received_from-free w events free) }
 
--- the events of a turn that neither talks nor makes a link
-pub still_turn : (moment : ℕ) (is_prompt : Bool) (d : Doing) (was_up : Bool) (got : Got) (found : LinkFact) (texts : List (List ℕ))
-    (count : ℕ) (s : SenderData) (w : WorldData) (added : List WorldEvent) → (d ≡ Talking → ⊥) → (found ≡ fact.Opened → ⊥) →
-    AreAdded moment is_prompt (turn_steps d was_up got found texts count) s w added → IsStill w added
-still_turn moment is_prompt d was_up got found texts count s w added idle other is = by d found idle other is
+-- the events of a turn that neither uses the link nor makes one: free ones, or the hanging up
+pub idle_turn : (moment : ℕ) (is_prompt : Bool) (d : Doing) (was_up : Bool) (got : Got) (found : LinkFact) (texts : List (List ℕ))
+    (count : ℕ) (s : SenderData) (w : WorldData) (added : List WorldEvent) → (d ≡ UsingLink → ⊥) → (found ≡ fact.Opened → ⊥) →
+    AreAdded moment is_prompt (turn_steps d was_up got found texts count) s w added →
+    (list_all is_free added ≡ true) ⊎ (added ≡ Closed ∷ [])
+idle_turn moment is_prompt d was_up got found texts count s w added idle other is = by d found idle other is
   where
-    none : added ≡ [] → IsStill w added
-    none e = (let S : List WorldEvent → Type 0 = λ es. IsStill w es in subst S (sym e) (record { unsent = λ since. refl; unheard = refl }))
+    free : (events : List WorldEvent) → added ≡ events → list_all is_free events ≡ true → (list_all is_free added ≡ true) ⊎ (added ≡ Closed ∷ [])
+    free events e is_so = inl (ap (list_all is_free) e ∙ is_so)
 
-    by : (e : Doing) (f : LinkFact) → (e ≡ Talking → ⊥) → (f ≡ fact.Opened → ⊥) →
-        AreAdded moment is_prompt (turn_steps e was_up got f texts count) s w added → IsStill w added
-    by Dialling fact.Quiet i o a = none a
+    none : added ≡ [] → (list_all is_free added ≡ true) ⊎ (added ≡ Closed ∷ [])
+    none e = free [] e refl
+
+    by : (e : Doing) (f : LinkFact) → (e ≡ UsingLink → ⊥) → (f ≡ fact.Opened → ⊥) →
+        AreAdded moment is_prompt (turn_steps e was_up got f texts count) s w added → (list_all is_free added ≡ true) ⊎ (added ≡ Closed ∷ [])
     by Dialling fact.Opened i o a = absurd (o refl)
-    by Dialling fact.Ready i o a = none a
-    by Dialling fact.Closed i o a = none a
     by Dialling fact.NoPort i o a = none (a.2 ∙ ap (λ (es : List WorldEvent). es ++ a.1) a.3.0 ∙ a.4)
     by Dialling fact.Failed i o a =
-        let S : List WorldEvent → Type 0 = λ es. IsStill w es in
-        let all : added ≡ a.0 = a.2 ∙ ap (λ (es : List WorldEvent). a.0 ++ es) a.4 ∙ append-nil a.0 in
-        subst S (sym all) (still_free w a.0 (runs-free a.0 a.3.0))
-    by Dialling (fact.Ended end) i o a = none a
+        free a.0 (a.2 ∙ ap (λ (es : List WorldEvent). a.0 ++ es) a.4 ∙ append-nil a.0) (runs-free a.0 a.3.0)
+    by Dialling _ i o a = none a
     by HangingUp f i o a = hung was_up a
       where
-        hung : (b : Bool) → AreAdded moment is_prompt (hangs_up b ∷ []) s w added → IsStill w added
-        hung true a =
-            let S : List WorldEvent → Type 0 = λ es. IsStill w es in
-            let all : added ≡ Closed ∷ [] = a.2 ∙ ap (λ (es : List WorldEvent). es ++ a.1) a.3.0.0 ∙ ap (λ (es : List WorldEvent). Closed ∷ es) a.4 in
-            subst S (sym all) (record { unsent = λ since. refl; unheard = refl })
+        hung : (b : Bool) → AreAdded moment is_prompt (hangs_up b ∷ []) s w added → (list_all is_free added ≡ true) ⊎ (added ≡ Closed ∷ [])
+        hung true a = inr (a.2 ∙ ap (λ (es : List WorldEvent). es ++ a.1) a.3.0.0 ∙ ap (λ (es : List WorldEvent). Closed ∷ es) a.4)
         hung false a = none (a.2 ∙ ap (λ (es : List WorldEvent). es ++ a.1) a.3.0 ∙ a.4)
-    by Talking f i o a = absurd (i refl)
+    by UsingLink f i o a = absurd (i refl)
     by Resting f i o a = none a
+
+-- such events keep a cause
+pub still_idle : (w : WorldData) (added : List WorldEvent) → (list_all is_free added ≡ true) ⊎ (added ≡ Closed ∷ []) → IsStill w added
+still_idle w added (inl free) = still_free w added free
+still_idle w added (inr closed) =
+    (let S : List WorldEvent → Type 0 = λ es. IsStill w es in subst S (sym closed) (record { unsent = λ since. refl; unheard = refl }))
 
 -- a session that has counted no `ok`, or is ready
 silent_by : (replies : List Reply) (s : SenderData) (since : ℕ) (made : WorldData) (rest : List WorldEvent) (ready : Bool) →
@@ -141,30 +145,23 @@ said_end : (moment : ℕ) (texts : List (List ℕ)) (s : SenderData) → (after_
 said_end moment [] s = refl
 said_end moment (text ∷ texts) s = said_end moment texts (push_step text s)
 
-given_end : (moment : ℕ) (s : SenderData) → (frame_step moment s).ended ≡ s.ended
-given_end moment s = grind (arith, common_steps)
-
 gives_end : (moment count : ℕ) (s : SenderData) → (after_steps moment (replicate count gives) s).ended ≡ s.ended
 gives_end moment zero s = refl
-gives_end moment (suc count) s = gives_end moment count (frame_step moment s) ∙ given_end moment s
-
-after_append : (moment : ℕ) (xs ys : List Step) (s : SenderData) → after_steps moment (xs ++ ys) s ≡ after_steps moment ys (after_steps moment xs s)
-after_append moment [] ys s = refl
-after_append moment (x ∷ xs) ys s = after_append moment xs ys (after_step moment x s)
+gives_end moment (suc count) s = gives_end moment count (frame_step moment s) ∙ give_keeps_end moment s
 
 speech_end : (moment : ℕ) (all : Bool) (texts : List (List ℕ)) (count : ℕ) (s : SenderData) →
-    (after_steps moment (speech all texts count) s).ended ≡ s.ended
+    (after_steps moment (issues_then_sends all texts count) s).ended ≡ s.ended
 speech_end moment true texts count s =
-    ap (λ (t : SenderData). t.ended) (after_append moment (issuing texts) (replicate count gives) s)
+    ap (λ (t : SenderData). t.ended) (after_steps-append moment (issuing texts) (replicate count gives) s)
     ∙ gives_end moment count (after_steps moment (issuing texts) s) ∙ said_end moment texts s
 speech_end moment false texts count s =
-    ap (λ (t : SenderData). t.ended) (after_append moment (issuing texts) (replicate count gives ++ fails_to_send ∷ []) s)
-    ∙ ap (λ (t : SenderData). t.ended) (after_append moment (replicate count gives) (fails_to_send ∷ []) (after_steps moment (issuing texts) s))
-    ∙ given_end moment (after_steps moment (replicate count gives) (after_steps moment (issuing texts) s))
+    ap (λ (t : SenderData). t.ended) (after_steps-append moment (issuing texts) (replicate count gives ++ fails_to_send ∷ []) s)
+    ∙ ap (λ (t : SenderData). t.ended) (after_steps-append moment (replicate count gives) (fails_to_send ∷ []) (after_steps moment (issuing texts) s))
+    ∙ give_keeps_end moment (after_steps moment (replicate count gives) (after_steps moment (issuing texts) s))
     ∙ gives_end moment count (after_steps moment (issuing texts) s) ∙ said_end moment texts s
 
 -- the end after the clock's steps is the tick's end
-pub clock_end : (moment : ℕ) (found : LinkFact) (texts : List (List ℕ)) (count : ℕ) (s : SenderData) → can_find Talking found ≡ true →
+pub clock_end : (moment : ℕ) (found : LinkFact) (texts : List (List ℕ)) (count : ℕ) (s : SenderData) → can_find UsingLink found ≡ true →
     (after_steps moment (clock_steps found texts count) s).ended ≡ (tick_step moment s).ended
 clock_end moment fact.Quiet texts count s can = speech_end moment true texts count (tick_step moment s)
 clock_end moment fact.Opened texts count s can = absurd (cc)

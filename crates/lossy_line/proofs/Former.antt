@@ -3,7 +3,7 @@ use Rattle.std.proofs.Common.{◌≡◌, ℕ, zero, suc, pred, ◌<◌, ◌≤�
 use Rattle.printer_model.specs.Printer.{Logged}
 use Rattle.printer_model.specs.World.{WorldData}
 use Rattle.link_history.specs.Executed.{opens, till, executed}
-use Rattle.link_history.specs.Exchanged.{session_of}
+use Rattle.link_history.specs.Exchanged.{events_of_session}
 use Rattle.printer_model.specs.declared.event.WorldEvent.{WorldEvent}
 use Rattle.printer_model.specs.declared.event.WorldEvent.TheVariants.{Opened}
 use Rattle.link_history.proofs.Sessions.{till-all, till-append}
@@ -13,9 +13,10 @@ use Rattle.lossy_wires.specs.Traces.{replies_from, AreSendsFit}
 use Rattle.send_window.specs.Counting.{acked_of}
 use Rattle.lossy_line.specs.Tied.{logged_from, world_before, IsTied}
 
-pred_below : (n : ℕ) → 1 ≤ n → pred n < n
-pred_below zero some = absurd (omega arith)
-pred_below (suc n) some = omega arith
+-- the one before a number from 1 on is less
+pub pred_less : (n : ℕ) → 1 ≤ n → pred n < n
+pred_less zero some = absurd (omega arith)
+pred_less (suc n) some = omega arith
 
 -- a session stays tied as a history becomes another one that ran it as before and has the same events up to it
 pub tied_as : (kind : LinkKind) (issued : List (List ℕ)) (acked s : ℕ) (past all : List WorldEvent)
@@ -23,18 +24,18 @@ pub tied_as : (kind : LinkKind) (issued : List (List ℕ)) (acked s : ℕ) (past
     → till s all ≡ till s past → till (pred s) all ≡ till (pred s) past → IsTied kind issued acked past s → IsTied kind issued acked all s
 tied_as kind issued acked s past all ran here before t =
     let world : world_before kind all s ≡ world_before kind past s = ap (world_in kind) before in
-    let events : session_of s all ≡ session_of s past =
+    let events : events_of_session s all ≡ events_of_session s past =
     ap (λ (es : List WorldEvent). drop (length es) (till s all)) before ∙ ap (drop (length (till (pred s) past))) here
     in
     let E : List Logged → Type 0 = λ l. l ≡ logged_from 1 (take (length l) issued) in
     let A : List Logged → Type 0 = λ l. acked ≤ length l in
-    let S : WorldData → Type 0 = λ w. AreSendsFit issued [] w (session_of s all) in
+    let S : WorldData → Type 0 = λ w. AreSendsFit issued [] w (events_of_session s all) in
     let V : List WorldEvent → Type 0 = λ es. AreSendsFit issued [] (world_before kind past s) es in
     record {
       executed_first = subst E (sym ran) t.executed_first;
       acked_is = t.acked_is
           ∙ ap (λ (es : List WorldEvent). acked_of (replies_from (world_before kind past s) es)) (sym events)
-          ∙ ap (λ (w : WorldData). acked_of (replies_from w (session_of s all))) (sym world);
+          ∙ ap (λ (w : WorldData). acked_of (replies_from w (events_of_session s all))) (sym world);
       acked_run = subst A (sym ran) t.acked_run;
       sends = subst S (sym world) (subst V (sym events) t.sends);
     }
@@ -47,4 +48,4 @@ former_tied kind issued acked past rest last some t =
     tied_as kind issued acked s past (past ++ Opened last ∷ rest)
     (executed-before kind.slots kind.numbered past rest last s (omega arith))
     (till-stop past rest last ∙ sym (till-all s past (omega arith)))
-    (till-append (pred s) past (Opened last ∷ rest) (pred_below s some)) t
+    (till-append (pred s) past (Opened last ∷ rest) (pred_less s some)) t

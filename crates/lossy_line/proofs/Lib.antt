@@ -9,4 +9,4 @@ pub mod Turning
 pub mod Tying
 pub mod Former
 pub mod Promised
-pub mod Told
+pub mod Recorded

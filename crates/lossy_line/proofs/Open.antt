@@ -1,4 +1,4 @@
--- Where the steps of a turn leave a link open.
+-- Which steps of a turn leave a link open.
 use Rattle.std.proofs.Common.{◌≡◌, ℕ, zero, suc, Bool, true, false, List, [], ◌∷◌, ◌++◌, replicate, refl, sym, ◌∙◌, ap, subst}
 use Rattle.std.specs.Prelude.{Option, None, Some}
 use Rattle.std.specs.List.{list_all}
@@ -15,8 +15,8 @@ use Rattle.send_window.specs.Data.{SenderData}
 use Rattle.send_window.specs.Sending.{Outgoing, next_of}
 use Rattle.session_steps.specs.Found.{Got, unasked, lost, nothing, whole, can_find, up_after}
 use Rattle.session_steps.specs.declared.found.Doing.{Doing}
-use Rattle.session_steps.specs.declared.found.Doing.TheVariants.{Dialling, HangingUp, Talking, Resting}
-use Rattle.session_steps.specs.Steps.{Step, opens, finds_no_port, fails_to_dial, hears, listens, fails_to_receive, ticks, issues, gives, fails_to_send, hangs_up, after_step, IsGiven, IsDone, AreAdded, issuing, speech, clock_steps, talk_steps, dial_steps, turn_steps}
+use Rattle.session_steps.specs.declared.found.Doing.TheVariants.{Dialling, HangingUp, UsingLink, Resting}
+use Rattle.session_steps.specs.Steps.{Step, opens, finds_no_port, fails_to_dial, hears, listens, fails_to_receive, ticks, issues, gives, fails_to_send, hangs_up, after_step, IsGiven, IsDone, AreAdded, issuing, issues_then_sends, clock_steps, steps_over_link, dial_steps, turn_steps}
 
 -- whether a link is open after a step
 abbrev pub up_by : Step → Bool → Bool
@@ -113,13 +113,13 @@ up_gives : (count : ℕ) (open_now : Bool) → up_all (replicate count gives) op
 up_gives zero open_now = refl
 up_gives (suc count) open_now = up_gives count open_now
 
-up_said : (texts : List (List ℕ)) (count : ℕ) → up_all (speech true texts count) true ≡ true
+up_said : (texts : List (List ℕ)) (count : ℕ) → up_all (issues_then_sends true texts count) true ≡ true
 up_said texts count = up_append (issuing texts) (replicate count gives) true ∙ up_gives count (up_all (issuing texts) true) ∙ up_issuing texts true
 
-up_broken : (texts : List (List ℕ)) (count : ℕ) → up_all (speech false texts count) true ≡ false
+up_broken : (texts : List (List ℕ)) (count : ℕ) → up_all (issues_then_sends false texts count) true ≡ false
 up_broken texts count = up_append (issuing texts) (replicate count gives ++ fails_to_send ∷ []) true ∙ up_append (replicate count gives) (fails_to_send ∷ []) (up_all (issuing texts) true)
 
-up_clock : (found : LinkFact) (texts : List (List ℕ)) (count : ℕ) → can_find Talking found ≡ true →
+up_clock : (found : LinkFact) (texts : List (List ℕ)) (count : ℕ) → can_find UsingLink found ≡ true →
     up_all (clock_steps found texts count) true ≡ up_after found true
 up_clock fact.Quiet texts count can = up_said texts count
 up_clock fact.Opened texts count can = absurd (cc)
@@ -129,8 +129,8 @@ up_clock fact.NoPort texts count can = absurd (cc)
 up_clock fact.Failed texts count can = up_broken texts count
 up_clock (fact.Ended end) texts count can = refl
 
-up_talk : (got : Got) (found : LinkFact) (texts : List (List ℕ)) (count : ℕ) → can_find Talking found ≡ true → (got ≡ unasked → ⊥) →
-    (got ≡ lost → found ≡ fact.Failed) → up_all (talk_steps got found texts count) true ≡ up_after found true
+up_talk : (got : Got) (found : LinkFact) (texts : List (List ℕ)) (count : ℕ) → can_find UsingLink found ≡ true → (got ≡ unasked → ⊥) →
+    (got ≡ lost → found ≡ fact.Failed) → up_all (steps_over_link got found texts count) true ≡ up_after found true
 up_talk unasked found texts count can asked broken = absurd (asked refl)
 up_talk lost found texts count can asked broken = sym (ap (λ (f : LinkFact). up_after f true) (broken refl))
 up_talk nothing found texts count can asked broken = up_clock found texts count can
@@ -168,15 +168,15 @@ up_rest was_up (fact.Ended end) can = absurd (cc)
 abbrev pub IsUpFor : Doing → Bool → Type 0
 IsUpFor Dialling was_up = was_up ≡ false
 IsUpFor HangingUp was_up = Unit {0}
-IsUpFor Talking was_up = was_up ≡ true
+IsUpFor UsingLink was_up = was_up ≡ true
 IsUpFor Resting was_up = Unit {0}
 
 pub turn_up : (doing_now : Doing) (was_up : Bool) (got : Got) (found : LinkFact) (texts : List (List ℕ)) (count : ℕ) →
-    can_find doing_now found ≡ true → IsUpFor doing_now was_up → (doing_now ≡ Talking → got ≡ unasked → ⊥) →
+    can_find doing_now found ≡ true → IsUpFor doing_now was_up → (doing_now ≡ UsingLink → got ≡ unasked → ⊥) →
     (got ≡ lost → found ≡ fact.Failed) → up_all (turn_steps doing_now was_up got found texts count) was_up ≡ up_after found was_up
 turn_up Dialling was_up got found texts count can is asked broken =
     ap (up_all (dial_steps found)) is ∙ up_dial found can ∙ sym (ap (up_after found) is)
 turn_up HangingUp was_up got found texts count can is asked broken = up_hang was_up found can
-turn_up Talking was_up got found texts count can is asked broken =
-    ap (up_all (talk_steps got found texts count)) is ∙ up_talk got found texts count can (asked refl) broken ∙ sym (ap (up_after found) is)
+turn_up UsingLink was_up got found texts count can is asked broken =
+    ap (up_all (steps_over_link got found texts count)) is ∙ up_talk got found texts count can (asked refl) broken ∙ sym (ap (up_after found) is)
 turn_up Resting was_up got found texts count can is asked broken = up_rest was_up found can

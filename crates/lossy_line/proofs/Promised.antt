@@ -21,8 +21,8 @@ use Rattle.send_window.specs.Data.{SenderData, IsSound}
 use Rattle.session_steps.specs.Data.{SessionData, doing}
 use Rattle.session_steps.specs.Found.{Got, unasked, lost, nothing, whole, end_by, can_find}
 use Rattle.session_steps.specs.declared.found.Doing.{Doing}
-use Rattle.session_steps.specs.declared.found.Doing.TheVariants.{Dialling, HangingUp, Talking, Resting}
-use Rattle.session_steps.specs.Steps.{opens as makes_link, after_steps, AreAdded, dial_steps, talk_steps, turn_steps}
+use Rattle.session_steps.specs.declared.found.Doing.TheVariants.{Dialling, HangingUp, UsingLink, Resting}
+use Rattle.session_steps.specs.Steps.{opens as makes_link, after_steps, AreAdded, dial_steps, steps_over_link, turn_steps}
 use Rattle.lossy_wires.specs.Pieces.{Each}
 use Rattle.lossy_wires.specs.Wires.{Meets}
 use Rattle.lossy_wires.specs.Traces.{replies_from, IsTallied, IsStartKnown, IsTraced}
@@ -71,6 +71,13 @@ former_by kind issued x past added runs last free is o =
     let C : ℕ → Type 0 = λ n. IsTied kind issued x.sender.acked (past ++ added) n in
     subst C count (subst W (sym whole) (former_tied kind issued x.sender.acked longer [] last (omega (arith, number)) there))
 
+-- only a turn over an open link ends the session
+pub ends_talking : (end : SessionEnd) (d : Doing) → can_find d (fact.Ended end) ≡ true → d ≡ UsingLink
+ends_talking end Dialling can = absurd (cc)
+ends_talking end HangingUp can = absurd (cc)
+ends_talking end UsingLink can = refl
+ends_talking end Resting can = absurd (cc)
+
 module _ (moment : ℕ) (kind : LinkKind) (old new : SessionData) (got : Got) (found : LinkFact) (texts issued : List (List ℕ)) (past added : List WorldEvent) where
   pub turn_former : found ≡ fact.Opened → IsTurned moment kind old new got found texts (world_in kind past) added →
       IsLinked kind issued old past →
@@ -86,16 +93,9 @@ module _ (moment : ℕ) (kind : LinkKind) (old new : SessionData) (got : Got) (f
       let all : added ≡ dial.runs ++ Opened dial.last ∷ [] = step.2 ∙ ap (λ (es : List WorldEvent). step.0 ++ es) step.4 ∙ append-nil step.0 ∙ dial.is in
       inr (former_by kind issued old past added dial.runs dial.last (runs-free dial.runs dial.only_runs) all o)
 
-  -- only a turn that talks ends the session
-  ends_talking : (end : SessionEnd) (d : Doing) → can_find d (fact.Ended end) ≡ true → d ≡ Talking
-  ends_talking end Dialling can = absurd (cc)
-  ends_talking end HangingUp can = absurd (cc)
-  ends_talking end Talking can = refl
-  ends_talking end Resting can = absurd (cc)
-
   -- the sender has ended so
   ended_by_talk : (end : SessionEnd) (g : Got) (count : ℕ) → end_by g moment old.sender ≡ Some end →
-      (after_steps moment (talk_steps g (fact.Ended end) texts count) old.sender).ended ≡ Some end
+      (after_steps moment (steps_over_link g (fact.Ended end) texts count) old.sender).ended ≡ Some end
   ended_by_talk end unasked count is = absurd (cc)
   ended_by_talk end lost count is = absurd (cc)
   ended_by_talk end nothing count is = is
@@ -105,9 +105,9 @@ module _ (moment : ℕ) (kind : LinkKind) (old new : SessionData) (got : Got) (f
       new.sender.ended ≡ Some end
   sender_ended end is t =
       let F : LinkFact → Type 0 = λ f. can_find (doing old) f ≡ true in
-      let talks : doing old ≡ Talking = ends_talking end (doing old) (subst F is t.can) in
-      let sender : new.sender ≡ after_steps moment (talk_steps got (fact.Ended end) texts t.count) old.sender =
-      t.sender ∙ ap (λ (d : Doing). after_steps moment (turn_steps d old.up got found texts t.count) old.sender) talks ∙ ap (λ (f : LinkFact). after_steps moment (talk_steps got f texts t.count) old.sender) is
+      let talks : doing old ≡ UsingLink = ends_talking end (doing old) (subst F is t.can) in
+      let sender : new.sender ≡ after_steps moment (steps_over_link got (fact.Ended end) texts t.count) old.sender =
+      t.sender ∙ ap (λ (d : Doing). after_steps moment (turn_steps d old.up got found texts t.count) old.sender) talks ∙ ap (λ (f : LinkFact). after_steps moment (steps_over_link got f texts t.count) old.sender) is
       in
       ap (λ (s : SenderData). s.ended) sender ∙ ended_by_talk end got t.count ((t.ended end).0 is)
 

@@ -16,20 +16,17 @@ use Rattle.send_window.specs.Counting.{IsQuiet, OwesLine}
 use Rattle.send_window.specs.Data.{SenderData, IsSound}
 use Rattle.send_window.specs.Hearing.{hear_step, tick_step}
 use Rattle.send_window.specs.Sending.{Outgoing, bytes_of_outgoing, next_of, frame_step, push_step}
-use Rattle.send_window.proofs.Silence.{sends_in_silence}
+use Rattle.send_window.proofs.Silence.{sends_in_silence, owes_quiet}
 use Rattle.send_window.proofs.Soundness.{hears_sound, ticks_sound, issues_sound, gives_sound}
 use Rattle.session_steps.specs.Found.{Got, unasked, lost, nothing, whole}
-use Rattle.session_steps.specs.Steps.{Step, opens, finds_no_port, fails_to_dial, hears, listens, fails_to_receive, ticks, issues, gives, fails_to_send, hangs_up, after_step, after_steps, IsAllowed, AreAllowed, IsGiven, IsDone, AreAdded, issuing, speech, clock_steps, talk_steps}
+use Rattle.session_steps.specs.Steps.{Step, opens, finds_no_port, fails_to_dial, hears, listens, fails_to_receive, ticks, issues, gives, fails_to_send, hangs_up, after_step, after_steps, IsAllowed, AreAllowed, IsGiven, IsDone, AreAdded, issuing, issues_then_sends, clock_steps, steps_over_link}
 use Rattle.lossy_wires.specs.Pieces.{Each}
 
 -- a step of issuing or sending
-abbrev pub IsSaying : Step → Type 0
-IsSaying (issues text) = Unit {0}
-IsSaying gives = Unit {0}
-IsSaying _ = ⊥
-
-owes_quiet : (since : ℕ) (s : SenderData) → IsQuiet since s → OwesLine since s
-owes_quiet since s quiet = grind (arith, common_steps)
+abbrev pub IsIssueOrSend : Step → Type 0
+IsIssueOrSend (issues text) = Unit {0}
+IsIssueOrSend gives = Unit {0}
+IsIssueOrSend _ = ⊥
 
 -- one line more was sent
 since_sent : (since : ℕ) (bytes : List ℕ) (before behind : List WorldEvent) (event : WorldEvent) → IsSendOf bytes event →
@@ -65,7 +62,7 @@ pub record Owes (since : ℕ) (s : SenderData) : Type 0 where
   pub sound : IsSound s
   pub owes : OwesLine since s
 
-said_owes : (moment since : ℕ) (step : Step) (s : SenderData) (w : WorldData) (added : List WorldEvent) → IsSaying step → IsAllowed step s →
+said_owes : (moment since : ℕ) (step : Step) (s : SenderData) (w : WorldData) (added : List WorldEvent) → IsIssueOrSend step → IsAllowed step s →
     IsDone step s w added → Owes since s → Owes (sends_since since added) (after_step moment step s)
 said_owes moment since (issues text) s w added saying allowed is o =
     let O : List WorldEvent → Type 0 = λ es. Owes (sends_since since es) (push_step text s) in
@@ -85,7 +82,7 @@ said_owes moment since fails_to_send s w added saying allowed is o = absurd sayi
 said_owes moment since (hangs_up was_up) s w added saying allowed is o = absurd saying
 
 all_owe : (moment since : ℕ) (is_prompt : Bool) (steps : List Step) (s : SenderData) (w : WorldData) (added : List WorldEvent) →
-    Each IsSaying steps → AreAllowed moment steps s → AreAdded moment is_prompt steps s w added → Owes since s →
+    Each IsIssueOrSend steps → AreAllowed moment steps s → AreAdded moment is_prompt steps s w added → Owes since s →
     Owes (sends_since since added) (after_steps moment steps s)
 all_owe moment since is_prompt [] s w added saying allowed none o =
     let O : List WorldEvent → Type 0 = λ es. Owes (sends_since since es) s in
@@ -98,15 +95,15 @@ all_owe moment since is_prompt (step ∷ steps) s w added saying allowed is o =
     let more = all_owe moment (sends_since since is.0) is_prompt steps t (world_from w is.0) is.1 saying.1 allowed.1 is.4 one in
     subst O (sym is.2) (subst N (sym (sends_since-append since is.0 is.1)) more)
 
-saying_append : (xs ys : List Step) → Each IsSaying xs → Each IsSaying ys → Each IsSaying (xs ++ ys)
+saying_append : (xs ys : List Step) → Each IsIssueOrSend xs → Each IsIssueOrSend ys → Each IsIssueOrSend (xs ++ ys)
 saying_append [] ys first second = second
 saying_append (x ∷ xs) ys first second = (first.0, saying_append xs ys first.1 second)
 
-saying_issuing : (texts : List (List ℕ)) → Each IsSaying (issuing texts)
+saying_issuing : (texts : List (List ℕ)) → Each IsIssueOrSend (issuing texts)
 saying_issuing [] = tt
 saying_issuing (text ∷ texts) = (tt, saying_issuing texts)
 
-saying_gives : (count : ℕ) → Each IsSaying (replicate count gives)
+saying_gives : (count : ℕ) → Each IsIssueOrSend (replicate count gives)
 saying_gives zero = tt
 saying_gives (suc count) = (tt, saying_gives count)
 
@@ -126,12 +123,12 @@ module _ (moment : ℕ) (is_prompt : Bool) where
       AreAdded moment is_prompt (clock_steps found texts count) s w added →
       Owes (sends_since since added) (after_steps moment (clock_steps found texts count) s)
   clock_owes since fact.Quiet texts count s w added stays sound quiet allowed is =
-      let steps : List Step = speech true texts count in
+      let steps : List Step = issues_then_sends true texts count in
       let t : SenderData = tick_step moment s in
       let O : List WorldEvent → Type 0 = λ es. Owes (sends_since since es) (after_steps moment steps t) in
       let W : List WorldEvent → Type 0 = λ es. AreAdded moment is_prompt steps t (world_from w es) is.1 in
       let F : List WorldEvent → Type 0 = λ es. Owes (sends_since since (es ++ is.1)) (after_steps moment steps t) in
-      let saying : Each IsSaying steps = saying_append (issuing texts) (replicate count gives) (saying_issuing texts) (saying_gives count) in
+      let saying : Each IsIssueOrSend steps = saying_append (issuing texts) (replicate count gives) (saying_issuing texts) (saying_gives count) in
       let more = all_owe moment since is_prompt steps t w is.1 saying allowed.1 (subst W is.3.0 is.4) (ticked_owes moment since s sound quiet) in
       subst O (sym is.2) (subst F (sym is.3.0) more)
   clock_owes since fact.Ready texts count s w added stays sound quiet allowed is =
@@ -146,8 +143,8 @@ module _ (moment : ℕ) (is_prompt : Bool) where
 
   talk_owes : (since : ℕ) (got : Got) (found : LinkFact) (texts : List (List ℕ)) (count : ℕ) (s : SenderData) (w : WorldData)
       (added : List WorldEvent) → (got ≡ unasked → ⊥) → (got ≡ lost → found ≡ fact.Failed) → StaysUp found → IsSound s → IsQuiet since s →
-      AreAllowed moment (talk_steps got found texts count) s → AreAdded moment is_prompt (talk_steps got found texts count) s w added →
-      Owes (sends_since since added) (after_steps moment (talk_steps got found texts count) s)
+      AreAllowed moment (steps_over_link got found texts count) s → AreAdded moment is_prompt (steps_over_link got found texts count) s w added →
+      Owes (sends_since since added) (after_steps moment (steps_over_link got found texts count) s)
   talk_owes since unasked found texts count s w added asked broken stays sound quiet allowed is = absurd (asked refl)
   talk_owes since lost found texts count s w added asked broken stays sound quiet allowed is = absurd (subst StaysUp (broken refl) stays)
   talk_owes since nothing found texts count s w added asked broken stays sound quiet allowed is =
@@ -167,8 +164,8 @@ module _ (moment : ℕ) (is_prompt : Bool) where
 -- after a turn that leaves the link up nothing is owed, if nothing is unsent
 pub talk_quiet : (moment since : ℕ) (is_prompt : Bool) (got : Got) (found : LinkFact) (texts : List (List ℕ)) (count : ℕ) (s t : SenderData)
     (w : WorldData) (added : List WorldEvent) → (got ≡ unasked → ⊥) → (got ≡ lost → found ≡ fact.Failed) → StaysUp found → IsSound s →
-    IsQuiet since s → AreAllowed moment (talk_steps got found texts count) s →
-    AreAdded moment is_prompt (talk_steps got found texts count) s w added → t ≡ after_steps moment (talk_steps got found texts count) s →
+    IsQuiet since s → AreAllowed moment (steps_over_link got found texts count) s →
+    AreAdded moment is_prompt (steps_over_link got found texts count) s w added → t ≡ after_steps moment (steps_over_link got found texts count) s →
     next_of t ≡ None → IsQuiet (sends_since since added) t
 talk_quiet moment since is_prompt got found texts count s t w added asked broken stays sound quiet allowed is same unsent =
     let O : SenderData → Type 0 = λ u. Owes (sends_since since added) u in

@@ -12,8 +12,8 @@ use Rattle.send_window.specs.Data.{SenderData}
 use Rattle.send_window.specs.Hearing.{hear_step}
 use Rattle.session_steps.specs.Found.{Got, unasked, lost, nothing, whole, may_issue}
 use Rattle.session_steps.specs.declared.found.Doing.{Doing}
-use Rattle.session_steps.specs.declared.found.Doing.TheVariants.{Dialling, HangingUp, Talking, Resting}
-use Rattle.session_steps.specs.Steps.{Step, listens, fails_to_receive, gives, fails_to_send, hangs_up, after_step, after_steps, AreAllowed, AreAdded, issuing, speech, clock_steps, talk_steps, dial_steps, turn_steps}
+use Rattle.session_steps.specs.declared.found.Doing.TheVariants.{Dialling, HangingUp, UsingLink, Resting}
+use Rattle.session_steps.specs.Steps.{Step, listens, fails_to_receive, gives, fails_to_send, hangs_up, after_step, after_steps, AreAllowed, AreAdded, issuing, issues_then_sends, clock_steps, steps_over_link, dial_steps, turn_steps}
 use Rattle.lossy_wires.specs.Pieces.{Each}
 use Rattle.lossy_wires.specs.Wires.{Meets}
 use Rattle.lossy_wires.specs.Traces.{replies_from, IsTallied}
@@ -54,7 +54,7 @@ plain_gives : (count : ℕ) → Each IsPlain (replicate count gives)
 plain_gives zero = tt
 plain_gives (suc count) = (tt, plain_gives count)
 
-plain_speech : (all : Bool) (texts : List (List ℕ)) (count : ℕ) → Each IsPlain (speech all texts count)
+plain_speech : (all : Bool) (texts : List (List ℕ)) (count : ℕ) → Each IsPlain (issues_then_sends all texts count)
 plain_speech true texts count = plain_append (issuing texts) (replicate count gives) (plain_issuing texts) (plain_gives count)
 plain_speech false texts count =
     plain_append (issuing texts) (replicate count gives ++ fails_to_send ∷ []) (plain_issuing texts) (plain_append (replicate count gives) (fails_to_send ∷ []) (plain_gives count) (tt, tt))
@@ -79,9 +79,9 @@ plain_dial (fact.Ended end) other = tt
 
 module _ (start : List Logged) (moment : ℕ) (is_prompt : Bool) (issued : List (List ℕ)) (s : SenderData) (w : WorldData) (replies : List Reply) (added : List WorldEvent) where
   talk_leads : (got : Got) (found : LinkFact) (texts : List (List ℕ)) (count : ℕ) → s.ended ≡ None →
-      AreAllowed moment (talk_steps got found texts count) s → AreAdded moment is_prompt (talk_steps got found texts count) s w added →
-      Meets start issued s w → IsTallied replies s → Leads start issued (issued_after (talk_steps got found texts count) issued)
-      (after_steps moment (talk_steps got found texts count) s) w replies added
+      AreAllowed moment (steps_over_link got found texts count) s → AreAdded moment is_prompt (steps_over_link got found texts count) s w added →
+      Meets start issued s w → IsTallied replies s → Leads start issued (issued_after (steps_over_link got found texts count) issued)
+      (after_steps moment (steps_over_link got found texts count) s) w replies added
   talk_leads unasked found texts count running allowed is m tallied = steps_lead start moment is_prompt [] issued s w replies added tt allowed is m tallied
   talk_leads lost found texts count running allowed is m tallied = steps_lead start moment is_prompt (fails_to_receive ∷ []) issued s w replies added (tt, tt) allowed is m tallied
   talk_leads nothing found texts count running allowed is m tallied =
@@ -102,14 +102,14 @@ module _ (start : List Logged) (moment : ℕ) (is_prompt : Bool) (issued : List 
 
   -- a turn that makes no link
   pub turn_leads : (doing_now : Doing) (was_up : Bool) (got : Got) (found : LinkFact) (texts : List (List ℕ)) (count : ℕ) →
-      (found ≡ fact.Opened → ⊥) → (doing_now ≡ Talking → s.ended ≡ None) →
+      (found ≡ fact.Opened → ⊥) → (doing_now ≡ UsingLink → s.ended ≡ None) →
       AreAllowed moment (turn_steps doing_now was_up got found texts count) s →
       AreAdded moment is_prompt (turn_steps doing_now was_up got found texts count) s w added → Meets start issued s w →
       IsTallied replies s → Leads start issued (issued_after (turn_steps doing_now was_up got found texts count) issued)
       (after_steps moment (turn_steps doing_now was_up got found texts count) s) w replies added
   turn_leads Dialling was_up got found texts count other running allowed is m tallied = steps_lead start moment is_prompt (dial_steps found) issued s w replies added (plain_dial found other) allowed is m tallied
   turn_leads HangingUp was_up got found texts count other running allowed is m tallied = steps_lead start moment is_prompt (hangs_up was_up ∷ []) issued s w replies added (tt, tt) allowed is m tallied
-  turn_leads Talking was_up got found texts count other running allowed is m tallied = talk_leads got found texts count (running refl) allowed is m tallied
+  turn_leads UsingLink was_up got found texts count other running allowed is m tallied = talk_leads got found texts count (running refl) allowed is m tallied
   turn_leads Resting was_up got found texts count other running allowed is m tallied = steps_lead start moment is_prompt [] issued s w replies added tt allowed is m tallied
 
 -- which texts the steps issue
@@ -126,7 +126,7 @@ issued_gives zero issued = refl
 issued_gives (suc count) issued = issued_gives count issued
 
 issued_speech : (all : Bool) (texts : List (List ℕ)) (count : ℕ) (issued : List (List ℕ)) →
-    issued_after (speech all texts count) issued ≡ issued ++ texts
+    issued_after (issues_then_sends all texts count) issued ≡ issued ++ texts
 issued_speech true texts count issued =
     issued_after-append (issuing texts) (replicate count gives) issued ∙ issued_gives count (issued_after (issuing texts) issued) ∙ issued_issuing texts issued
 issued_speech false texts count issued =
@@ -148,7 +148,7 @@ issued_clock fact.Failed texts count issued none = issued_speech false texts cou
 issued_clock (fact.Ended end) texts count issued none = none_added texts issued (none refl)
 
 issued_talk : (got : Got) (found : LinkFact) (texts : List (List ℕ)) (count : ℕ) (issued : List (List ℕ)) →
-    (may_issue got found ≡ false → texts ≡ []) → issued_after (talk_steps got found texts count) issued ≡ issued ++ texts
+    (may_issue got found ≡ false → texts ≡ []) → issued_after (steps_over_link got found texts count) issued ≡ issued ++ texts
 issued_talk unasked found texts count issued none = none_added texts issued (none refl)
 issued_talk lost found texts count issued none = none_added texts issued (none refl)
 issued_talk nothing found texts count issued none = issued_clock found texts count issued none
@@ -164,7 +164,7 @@ issued_dial fact.NoPort texts issued other none = none_added texts issued none
 issued_dial fact.Failed texts issued other none = none_added texts issued none
 issued_dial (fact.Ended end) texts issued other none = none_added texts issued none
 
-issued_in_other : (found : LinkFact) (texts issued : List (List ℕ)) → (found ≡ fact.Opened → ⊥) → issued_in found texts issued ≡ issued ++ texts
+pub issued_in_other : (found : LinkFact) (texts issued : List (List ℕ)) → (found ≡ fact.Opened → ⊥) → issued_in found texts issued ≡ issued ++ texts
 issued_in_other fact.Quiet texts issued other = refl
 issued_in_other fact.Opened texts issued other = absurd (other refl)
 issued_in_other fact.Ready texts issued other = refl
@@ -176,15 +176,15 @@ issued_in_other (fact.Ended end) texts issued other = refl
 -- a turn that makes no link adds the texts of its lines
 pub issued_turn : (doing_now : Doing) (was_up : Bool) (got : Got) (found : LinkFact) (texts : List (List ℕ)) (count : ℕ)
     (issued : List (List ℕ)) → (found ≡ fact.Opened → ⊥) → (may_issue got found ≡ false → texts ≡ []) →
-    ((doing_now ≡ Talking → ⊥) → got ≡ unasked) →
+    ((doing_now ≡ UsingLink → ⊥) → got ≡ unasked) →
     issued_after (turn_steps doing_now was_up got found texts count) issued ≡ issued_in found texts issued
 issued_turn Dialling was_up got found texts count issued other none asks =
-    let un : got ≡ unasked = asks (λ (is : Dialling ≡ Talking). absurd (cc)) in
+    let un : got ≡ unasked = asks (λ (is : Dialling ≡ UsingLink). absurd (cc)) in
     issued_dial found texts issued other (none (ap (λ (g : Got). may_issue g found) un)) ∙ sym (issued_in_other found texts issued other)
 issued_turn HangingUp was_up got found texts count issued other none asks =
-    let un : got ≡ unasked = asks (λ (is : HangingUp ≡ Talking). absurd (cc)) in
+    let un : got ≡ unasked = asks (λ (is : HangingUp ≡ UsingLink). absurd (cc)) in
     none_added texts issued (none (ap (λ (g : Got). may_issue g found) un)) ∙ sym (issued_in_other found texts issued other)
-issued_turn Talking was_up got found texts count issued other none asks = issued_talk got found texts count issued none ∙ sym (issued_in_other found texts issued other)
+issued_turn UsingLink was_up got found texts count issued other none asks = issued_talk got found texts count issued none ∙ sym (issued_in_other found texts issued other)
 issued_turn Resting was_up got found texts count issued other none asks =
-    let un : got ≡ unasked = asks (λ (is : Resting ≡ Talking). absurd (cc)) in
+    let un : got ≡ unasked = asks (λ (is : Resting ≡ UsingLink). absurd (cc)) in
     none_added texts issued (none (ap (λ (g : Got). may_issue g found) un)) ∙ sym (issued_in_other found texts issued other)

@@ -1,6 +1,6 @@
 -- Each step of a turn leads the session on.
 use Rattle.std.proofs.Common.{◌≡◌, ℕ, true, false, List, [], ◌∷◌, ◌++◌, refl, sym, ◌∙◌, ap, subst, append_assoc, append-nil}
-use Rattle.std.specs.Prelude.{Option, None, Some, is_some}
+use Rattle.std.specs.Prelude.{Option, None, Some}
 use Rattle.std.specs.List.{list_all}
 use Rattle.marlin_reply.specs.Kind.{kind_of}
 use Rattle.marlin_reply.specs.declared.reply.Reply.{Reply}
@@ -22,6 +22,7 @@ use Rattle.lossy_wires.proofs.Sending.{tick_flags, tick_meets, issue_meets}
 use Rattle.lossy_wires.proofs.Tracing.{extends_none, Leads, leads_then, leads_none, leads_free, leads_recv, tally_same}
 use Rattle.lossy_wires.proofs.Giving.{leads_closed, leads_loss, leads_given, leads_sent, leads_failing}
 use Rattle.lossy_line.specs.Issuing.{issued_by}
+use Rattle.byte_text.proofs.OptionLaws.{some-if-true}
 
 -- a step that neither makes a link nor hears a reply
 abbrev pub IsPlain : Step → Type 0
@@ -36,11 +37,6 @@ IsPlain (issues text) = Unit {0}
 IsPlain gives = Unit {0}
 IsPlain fails_to_send = Unit {0}
 IsPlain (hangs_up was_up) = Unit {0}
-
--- something is to be sent
-some_next : (next : Option Outgoing) → is_some next ≡ true → (o : Outgoing) × (next ≡ Some o)
-some_next None some = absurd (cc)
-some_next (Some o) some = (o, refl)
 
 module _ (start : List Logged) (issued : List (List ℕ)) (moment : ℕ) (s : SenderData) (w : WorldData) (replies : List Reply) where
   -- three parts, the middle one of which may change the sender
@@ -152,7 +148,7 @@ module _ (start : List Logged) (issued : List (List ℕ)) (moment : ℕ) (s : Se
   plain_leads gives added plain allowed is m tallied = given_leads (next_of s) added refl is m tallied
   plain_leads fails_to_send added plain allowed is m tallied =
       let L : List WorldEvent → Type 0 = λ es. Leads start issued issued (frame_step moment s) w replies es in
-      let some = some_next (next_of s) allowed in
+      let some = some-if-true (next_of s) allowed in
       subst L (sym (is.is ∙ regroup is.before is.failing is.behind))
       (lost_leads some.0 is.before is.failing is.behind some.1 is.may_send is.free_before is.free_behind is.linked m tallied)
   plain_leads (hangs_up true) added plain allowed is m tallied =

@@ -15,7 +15,7 @@ use Rattle.session_steps.specs.Data.{SessionData, IsSession, doing}
 use Rattle.session_steps.specs.Found.{Got, unasked, lost, may_issue, end_by, can_find, up_after}
 use Rattle.send_window.specs.declared.session_end.SessionEnd.{SessionEnd}
 use Rattle.session_steps.specs.declared.found.Doing.{Doing}
-use Rattle.session_steps.specs.declared.found.Doing.TheVariants.{Dialling, HangingUp, Talking, Resting}
+use Rattle.session_steps.specs.declared.found.Doing.TheVariants.{Dialling, HangingUp, UsingLink, Resting}
 use Rattle.session_steps.specs.Steps.{after_steps, AreAllowed, AreAdded, turn_steps}
 use Rattle.lossy_line.specs.Linked.{IsLinked, unopened, opened}
 use Rattle.lossy_line.proofs.Open.{IsUpFor, steps_up, up_all, turn_up}
@@ -26,7 +26,7 @@ pub record IsTurned (moment : ℕ) (kind : LinkKind) (old new : SessionData) (go
   pub count : ℕ
   pub joined : IsSession old
   pub can : can_find (doing old) found ≡ true
-  pub asked : (got ≡ unasked) ↔ (doing old ≢ Talking)
+  pub asked : (got ≡ unasked) ↔ (doing old ≢ UsingLink)
   pub ended : (end : SessionEnd) → (found ≡ fact.Ended end) ↔ (end_by got moment old.sender ≡ Some end)
   pub broken : got ≡ lost → found ≡ fact.Failed
   pub none_issued : may_issue got found ≡ false → texts ≡ []
@@ -36,8 +36,8 @@ pub record IsTurned (moment : ℕ) (kind : LinkKind) (old new : SessionData) (go
   pub allowed : AreAllowed moment (turn_steps (doing old) old.up got found texts count) old.sender
   pub steps : AreAdded moment kind.prompt (turn_steps (doing old) old.up got found texts count) old.sender w added
 
--- a turn talks only over a link that is up, and dials only if it isn't
-pub talks_up : (x : SessionData) → doing x ≡ Talking → x.up ≡ true
+-- a turn uses the link only if it is up, and dials only if it isn't
+pub talks_up : (x : SessionData) → doing x ≡ UsingLink → x.up ≡ true
 talks_up x is = grind (arith, common_steps)
 
 pub dials_down : (x : SessionData) → doing x ≡ Dialling → x.up ≡ false
@@ -49,7 +49,7 @@ rests_down x is = grind (arith, common_steps)
 pub up_for : (x : SessionData) (d : Doing) → doing x ≡ d → IsUpFor d x.up
 up_for x Dialling is = dials_down x is
 up_for x HangingUp is = tt
-up_for x Talking is = talks_up x is
+up_for x UsingLink is = talks_up x is
 up_for x Resting is = tt
 
 -- the world after the turn is open exactly if the session is up
@@ -67,7 +67,7 @@ linked_after moment kind old new got found texts w added t is =
 pub opens_dialling : (d : Doing) → can_find d fact.Opened ≡ true → d ≡ Dialling
 opens_dialling Dialling can = refl
 opens_dialling HangingUp can = absurd (cc)
-opens_dialling Talking can = absurd (cc)
+opens_dialling UsingLink can = absurd (cc)
 opens_dialling Resting can = absurd (cc)
 
 -- the world of a history from its last link on
@@ -91,7 +91,7 @@ world_then kind past added = world_of-append kind.slots kind.numbered past added
 
 -- the steps that are made in a turn that makes no link, if the session isn't up, leave the sender
 pub idle_steps : (moment : ℕ) (d : Doing) (was_up : Bool) (got : Got) (found : LinkFact) (texts : List (List ℕ)) (count : ℕ) (s : SenderData) →
-    (d ≡ Talking → ⊥) → (found ≡ fact.Opened → ⊥) → after_steps moment (turn_steps d was_up got found texts count) s ≡ s
+    (d ≡ UsingLink → ⊥) → (found ≡ fact.Opened → ⊥) → after_steps moment (turn_steps d was_up got found texts count) s ≡ s
 idle_steps moment Dialling was_up got fact.Quiet texts count s idle other = refl
 idle_steps moment Dialling was_up got fact.Opened texts count s idle other = absurd (other refl)
 idle_steps moment Dialling was_up got fact.Ready texts count s idle other = refl
@@ -100,17 +100,17 @@ idle_steps moment Dialling was_up got fact.NoPort texts count s idle other = ref
 idle_steps moment Dialling was_up got fact.Failed texts count s idle other = refl
 idle_steps moment Dialling was_up got (fact.Ended end) texts count s idle other = refl
 idle_steps moment HangingUp was_up got found texts count s idle other = refl
-idle_steps moment Talking was_up got found texts count s idle other = absurd (idle refl)
+idle_steps moment UsingLink was_up got found texts count s idle other = absurd (idle refl)
 idle_steps moment Resting was_up got found texts count s idle other = refl
 
 -- and the session down
-pub down_after : (d : Doing) (found : LinkFact) (was_up : Bool) → can_find d found ≡ true → (d ≡ Talking → ⊥) → (found ≡ fact.Opened → ⊥) →
+pub down_after : (d : Doing) (found : LinkFact) (was_up : Bool) → can_find d found ≡ true → (d ≡ UsingLink → ⊥) → (found ≡ fact.Opened → ⊥) →
     was_up ≡ false → up_after found was_up ≡ false
 down_after d fact.Quiet was_up can idle other down = down
 down_after d fact.Opened was_up can idle other down = absurd (other refl)
 down_after Dialling fact.Ready was_up can idle other down = absurd (cc)
 down_after HangingUp fact.Ready was_up can idle other down = absurd (cc)
-down_after Talking fact.Ready was_up can idle other down = absurd (idle refl)
+down_after UsingLink fact.Ready was_up can idle other down = absurd (idle refl)
 down_after Resting fact.Ready was_up can idle other down = absurd (cc)
 down_after d fact.Closed was_up can idle other down = refl
 down_after d fact.NoPort was_up can idle other down = refl

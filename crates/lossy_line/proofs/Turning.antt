@@ -14,12 +14,12 @@ use Rattle.link_history.proofs.Sessions.{opens-append}
 use Rattle.link_history.proofs.Starts.{sends_since-append}
 use Rattle.printer_link.specs.Link.{LinkKind, world_in}
 use Rattle.send_window.specs.Counting.{IsQuiet}
-use Rattle.send_window.specs.Data.{SenderData, IsSound, begun}
+use Rattle.send_window.specs.Data.{SenderData, IsSound, sender_after_dial}
 use Rattle.session_steps.specs.Data.{SessionData, doing}
 use Rattle.session_steps.specs.Found.{Got, unasked, may_issue, can_find, up_after}
 use Rattle.session_steps.specs.declared.found.Doing.{Doing}
-use Rattle.session_steps.specs.declared.found.Doing.TheVariants.{Dialling, HangingUp, Talking, Resting}
-use Rattle.session_steps.specs.Steps.{opens, after_steps, AreAllowed, AreAdded, dial_steps, talk_steps, turn_steps}
+use Rattle.session_steps.specs.declared.found.Doing.TheVariants.{Dialling, HangingUp, UsingLink, Resting}
+use Rattle.session_steps.specs.Steps.{opens, after_steps, AreAllowed, AreAdded, dial_steps, steps_over_link, turn_steps}
 use Rattle.lossy_wires.specs.Wires.{Meets}
 use Rattle.lossy_wires.specs.Traces.{replies_from, IsTallied, IsStartKnown, IsTraced}
 use Rattle.lossy_wires.specs.Pieces.{Each}
@@ -28,7 +28,7 @@ use Rattle.lossy_wires.proofs.Tracing.{Leads, fits_append, replies_from-append}
 use Rattle.lossy_line.specs.Issuing.{issued_after, issued_in}
 use Rattle.lossy_line.specs.Linked.{IsCaused, IsUnopened, IsOpened, IsLinked, unopened, opened}
 use Rattle.lossy_line.proofs.Causes.{talk_caused}
-use Rattle.lossy_line.proofs.Ends.{IsStill, still_caused, still_turn}
+use Rattle.lossy_line.proofs.Ends.{IsStill, still_caused, idle_turn, still_idle}
 use Rattle.lossy_line.proofs.Speech.{turn_leads, issued_turn}
 use Rattle.lossy_line.proofs.Quiet.{StaysUp, talk_quiet}
 use Rattle.lossy_line.proofs.Turned.{IsTurned, talks_up, dials_down, rests_down, linked_after, opens_dialling, world_since, sound_of, linked_as, world_then, idle_steps, down_after}
@@ -36,7 +36,7 @@ use Rattle.lossy_line.proofs.Turned.{IsTurned, talks_up, dials_down, rests_down,
 -- a link is made
 opened_by : (kind : LinkKind) (old new : SessionData) (past added runs : List WorldEvent) (last : ℕ) → IsSound old.sender →
     (world_in kind past).printer.places ≤ 16 → added ≡ runs ++ Opened last ∷ [] →
-    can_happen (world_from (world_in kind past) runs) (Opened last) ≡ true → new.sender ≡ begun old.sender →
+    can_happen (world_from (world_in kind past) runs) (Opened last) ≡ true → new.sender ≡ sender_after_dial old.sender →
     (world_in kind (past ++ added)).linked ≡ new.up → IsOpened kind [] new (past ++ added)
 opened_by kind old new past added runs last sound few is can sender open_as =
     let front : List WorldEvent = past ++ runs in
@@ -46,8 +46,8 @@ opened_by kind old new past added runs last sound few is can sender open_as =
     let can_here : can_happen (world_in kind front) (Opened last) ≡ true = subst Can (sym here) can in
     let few_there : (world_from (world_in kind past) runs).printer.places ≤ 16 = omega (arith, few, (world_from-IsSameKind (world_in kind past) runs).places) in
     let few_here : (world_in kind front).printer.places ≤ 16 = subst Few (sym here) few_there in
-    let M : WorldData → Type 0 = λ w. Meets (world_in kind front).log [] (begun old.sender) w in
-    let met : Meets (world_in kind front).log [] (begun old.sender) (apply (world_in kind front) (Opened last)) =
+    let M : WorldData → Type 0 = λ w. Meets (world_in kind front).log [] (sender_after_dial old.sender) w in
+    let met : Meets (world_in kind front).log [] (sender_after_dial old.sender) (apply (world_in kind front) (Opened last)) =
     subst M (sym (happens (world_in kind front) (Opened last) can_here)) (opened_meets old.sender (world_in kind front) last sound few_here can_here)
     in
     let D : WorldData → Type 0 = λ w. Each (IsStartKnown []) w.down in
@@ -91,7 +91,7 @@ module _ (moment : ℕ) (kind : LinkKind) (old new : SessionData) (got : Got) (f
       let all : added ≡ dial.runs ++ Opened dial.last ∷ [] =
       step.2 ∙ ap (λ (es : List WorldEvent). step.0 ++ es) step.4 ∙ append-nil step.0 ∙ dial.is
       in
-      let sender : new.sender ≡ begun old.sender =
+      let sender : new.sender ≡ sender_after_dial old.sender =
       t.sender ∙ ap (λ (d : Doing). after_steps moment (turn_steps d old.up got found texts t.count) old.sender) dials ∙ ap (λ (f : LinkFact). after_steps moment (dial_steps f) old.sender) is
       in
       let open_as : (world_in kind (past ++ added)).linked ≡ new.up =
@@ -104,7 +104,7 @@ module _ (moment : ℕ) (kind : LinkKind) (old new : SessionData) (got : Got) (f
   still_unopened : (found ≡ fact.Opened → ⊥) → IsTurned moment kind old new got found texts (world_in kind past) added →
       IsUnopened kind issued old past → IsUnopened kind (issued_in found texts issued) new (past ++ added)
   still_unopened other t u =
-      let idle : doing old ≡ Talking → ⊥ = λ talks. (let up : old.up ≡ true = talks_up old talks in let down : old.up ≡ false = u.down in absurd (cc)) in
+      let idle : doing old ≡ UsingLink → ⊥ = λ talks. (let up : old.up ≡ true = talks_up old talks in let down : old.up ≡ false = u.down in absurd (cc)) in
       let un : got ≡ unasked = t.asked.1 idle in
       let none : texts ≡ [] = t.none_issued (ap (λ (g : Got). may_issue g found) un) in
       let down : new.up ≡ false = t.up ∙ down_after (doing old) found old.up t.can idle other u.down in
@@ -117,7 +117,7 @@ module _ (moment : ℕ) (kind : LinkKind) (old new : SessionData) (got : Got) (f
         sound = subst S (sym same) u.sound;
       }
     where
-      issued_idle : (d : Doing) (was_up : Bool) (g : Got) (f : LinkFact) (ts : List (List ℕ)) (count : ℕ) → (d ≡ Talking → ⊥) →
+      issued_idle : (d : Doing) (was_up : Bool) (g : Got) (f : LinkFact) (ts : List (List ℕ)) (count : ℕ) → (d ≡ UsingLink → ⊥) →
           (f ≡ fact.Opened → ⊥) → issued_after (turn_steps d was_up g f ts count) issued ≡ issued
       issued_idle Dialling was_up g fact.Quiet ts count i o = refl
       issued_idle Dialling was_up g fact.Opened ts count i o = absurd (o refl)
@@ -127,7 +127,7 @@ module _ (moment : ℕ) (kind : LinkKind) (old new : SessionData) (got : Got) (f
       issued_idle Dialling was_up g fact.Failed ts count i o = refl
       issued_idle Dialling was_up g (fact.Ended end) ts count i o = refl
       issued_idle HangingUp was_up g f ts count i o = refl
-      issued_idle Talking was_up g f ts count i o = absurd (i refl)
+      issued_idle UsingLink was_up g f ts count i o = absurd (i refl)
       issued_idle Resting was_up g f ts count i o = refl
 
   -- the session of a link goes on
@@ -139,7 +139,7 @@ module _ (moment : ℕ) (kind : LinkKind) (old new : SessionData) (got : Got) (f
       let here : world_in kind past ≡ world_from base o.rest = world_since kind past o.front o.last o.rest o.is in
       let steps = turn_steps (doing old) old.up got found texts t.count in
       let W : WorldData → Type 0 = λ w. AreAdded moment kind.prompt steps old.sender w added in
-      let running : doing old ≡ Talking → old.sender.ended ≡ None = λ talks. t.joined.running (talks_up old talks) in
+      let running : doing old ≡ UsingLink → old.sender.ended ≡ None = λ talks. t.joined.running (talks_up old talks) in
       let replies : List Reply = replies_from base o.rest in
       let more : List (List ℕ) = issued_after steps issued in
       let led : Leads start issued more (after_steps moment steps old.sender) (world_from base o.rest) replies added =
@@ -170,7 +170,7 @@ module _ (moment : ℕ) (kind : LinkKind) (old new : SessionData) (got : Got) (f
         caused = caused_by (doing old) refl t o;
       }
     where
-      caused_idle : (doing old ≡ Talking → ⊥) → (t : IsTurned moment kind old new got found texts (world_in kind past) added) →
+      caused_idle : (doing old ≡ UsingLink → ⊥) → (t : IsTurned moment kind old new got found texts (world_in kind past) added) →
           (o : IsOpened kind issued old past) →
           IsCaused new.sender.ended (apply (world_in kind o.front) (Opened o.last)) (o.rest ++ added)
       caused_idle idle t o =
@@ -179,7 +179,8 @@ module _ (moment : ℕ) (kind : LinkKind) (old new : SessionData) (got : Got) (f
           let S : WorldData → Type 0 = λ w. IsStill w added in
           let C : SenderData → Type 0 = λ s. IsCaused s.ended made (o.rest ++ added) in
           let same : new.sender ≡ old.sender = t.sender ∙ idle_steps moment (doing old) old.up got found texts t.count old.sender idle other in
-          let still : IsStill (world_in kind past) added = still_turn moment kind.prompt (doing old) old.up got found texts t.count old.sender (world_in kind past) added idle other t.steps in
+          let free = idle_turn moment kind.prompt (doing old) old.up got found texts t.count old.sender (world_in kind past) added idle other t.steps in
+          let still : IsStill (world_in kind past) added = still_idle (world_in kind past) added free in
           subst C (sym same) (still_caused old.sender.ended made o.rest added (subst S here still) o.caused)
 
       stays : (f : LinkFact) (was_up : Bool) → (f ≡ fact.Opened → ⊥) → up_after f was_up ≡ true → StaysUp f
@@ -192,9 +193,9 @@ module _ (moment : ℕ) (kind : LinkKind) (old new : SessionData) (got : Got) (f
       stays (fact.Ended end) was_up o up = absurd (cc)
 
       talks : (d : Doing) → doing old ≡ d → IsTurned moment kind old new got found texts (world_in kind past) added → new.up ≡ true →
-          doing old ≡ Talking
+          doing old ≡ UsingLink
       talks Dialling is t up =
-          let idle : doing old ≡ Talking → ⊥ = λ (i : doing old ≡ Talking). (let e : Dialling ≡ Talking = sym is ∙ i in absurd (cc)) in
+          let idle : doing old ≡ UsingLink → ⊥ = λ (i : doing old ≡ UsingLink). (let e : Dialling ≡ UsingLink = sym is ∙ i in absurd (cc)) in
           let down : new.up ≡ false = t.up ∙ down_after (doing old) found old.up t.can idle other (dials_down old is) in
           absurd (cc)
       talks HangingUp is t up =
@@ -211,35 +212,35 @@ module _ (moment : ℕ) (kind : LinkKind) (old new : SessionData) (got : Got) (f
           hung fact.NoPort was_up can = refl
           hung fact.Failed was_up can = refl
           hung (fact.Ended end) was_up can = refl
-      talks Talking is t up = is
+      talks UsingLink is t up = is
       talks Resting is t up =
-          let idle : doing old ≡ Talking → ⊥ = λ (i : doing old ≡ Talking). (let e : Resting ≡ Talking = sym is ∙ i in absurd (cc)) in
+          let idle : doing old ≡ UsingLink → ⊥ = λ (i : doing old ≡ UsingLink). (let e : Resting ≡ UsingLink = sym is ∙ i in absurd (cc)) in
           let down : new.up ≡ false = t.up ∙ down_after (doing old) found old.up t.can idle other (rests_down old is) in
           absurd (cc)
 
       caused_by : (d : Doing) → doing old ≡ d → (t : IsTurned moment kind old new got found texts (world_in kind past) added) →
           (o : IsOpened kind issued old past) →
           IsCaused new.sender.ended (apply (world_in kind o.front) (Opened o.last)) (o.rest ++ added)
-      caused_by Talking is t o =
+      caused_by UsingLink is t o =
           let made : WorldData = apply (world_in kind o.front) (Opened o.last) in
           let here : world_in kind past ≡ world_from made o.rest = world_since kind past o.front o.last o.rest o.is in
           let F : Doing → Type 0 = λ d. can_find d found ≡ true in
           let B : Doing → Type 0 = λ d. AreAdded moment kind.prompt (turn_steps d old.up got found texts t.count) old.sender (world_in kind past) added in
-          let W : WorldData → Type 0 = λ w. AreAdded moment kind.prompt (talk_steps got found texts t.count) old.sender w added in
+          let W : WorldData → Type 0 = λ w. AreAdded moment kind.prompt (steps_over_link got found texts t.count) old.sender w added in
           let C : SenderData → Type 0 = λ s. IsCaused s.ended made (o.rest ++ added) in
-          let sender : new.sender ≡ after_steps moment (talk_steps got found texts t.count) old.sender =
+          let sender : new.sender ≡ after_steps moment (steps_over_link got found texts t.count) old.sender =
           t.sender ∙ ap (λ (d : Doing). after_steps moment (turn_steps d old.up got found texts t.count) old.sender) is
           in
           subst C (sym sender) (talk_caused moment kind.prompt found texts t.count (world_in kind o.front).log made issued old.sender o.rest got added (subst F is t.can) (λ un. (t.asked.0 un) is) t.ended
           (t.joined.running (talks_up old is)) (o.quiet (talks_up old is)) o.traced (subst W here (subst B is t.steps)))
-      caused_by Dialling is t o = caused_idle (λ (i : doing old ≡ Talking). (let e : Dialling ≡ Talking = sym is ∙ i in absurd (cc))) t o
-      caused_by HangingUp is t o = caused_idle (λ (i : doing old ≡ Talking). (let e : HangingUp ≡ Talking = sym is ∙ i in absurd (cc))) t o
-      caused_by Resting is t o = caused_idle (λ (i : doing old ≡ Talking). (let e : Resting ≡ Talking = sym is ∙ i in absurd (cc))) t o
+      caused_by Dialling is t o = caused_idle (λ (i : doing old ≡ UsingLink). (let e : Dialling ≡ UsingLink = sym is ∙ i in absurd (cc))) t o
+      caused_by HangingUp is t o = caused_idle (λ (i : doing old ≡ UsingLink). (let e : HangingUp ≡ UsingLink = sym is ∙ i in absurd (cc))) t o
+      caused_by Resting is t o = caused_idle (λ (i : doing old ≡ UsingLink). (let e : Resting ≡ UsingLink = sym is ∙ i in absurd (cc))) t o
 
       still_quiet : new.up ≡ true → (t : IsTurned moment kind old new got found texts (world_in kind past) added) →
           (o : IsOpened kind issued old past) → IsQuiet (sends_since 0 (o.rest ++ added)) new.sender
       still_quiet up t o =
-          let is : doing old ≡ Talking = talks (doing old) refl t up in
+          let is : doing old ≡ UsingLink = talks (doing old) refl t up in
           let so : StaysUp found = stays found old.up other (sym t.up ∙ up) in
           let A : Doing → Type 0 = λ d. AreAllowed moment (turn_steps d old.up got found texts t.count) old.sender in
           let B : Doing → Type 0 = λ d. AreAdded moment kind.prompt (turn_steps d old.up got found texts t.count) old.sender (world_in kind past) added in

@@ -1,4 +1,4 @@
--- Where session, issued texts and history are linked, they are tied.
+-- If session, issued texts and history are linked, they are tied.
 use Rattle.std.proofs.Common.{◌≡◌, ℕ, zero, suc, Bool, false, not, eqb, List, [], ◌∷◌, ◌++◌, length, map, take, drop, refl, sym, ◌∙◌, ap, subst, arith}
 use Rattle.std.specs.Prelude.{Some, filter, slice_get, if◌then◌else◌}
 use Rattle.std.proofs.lemmas.Bool.{ne_eqb}
@@ -6,7 +6,7 @@ use Rattle.marlin_frame.specs.Numbering.{hello_number, wire_number}
 use Rattle.printer_model.specs.Printer.{Logged}
 use Rattle.printer_model.specs.World.{WorldData, apply, world_from}
 use Rattle.link_history.specs.Executed.{opens, is_counted, executed}
-use Rattle.link_history.specs.Exchanged.{session_of}
+use Rattle.link_history.specs.Exchanged.{events_of_session}
 use Rattle.printer_model.specs.declared.event.WorldEvent.{WorldEvent}
 use Rattle.printer_model.specs.declared.event.WorldEvent.TheVariants.{Opened}
 use Rattle.link_history.proofs.Sessions.{opens-append}
@@ -24,7 +24,7 @@ use Rattle.lossy_line.specs.Linked.{IsOpened}
 use Rattle.lossy_line.specs.Tied.{logged_from, world_before, IsTied}
 use Rattle.lossy_line.proofs.Turned.{world_since}
 
--- a list from a place on begins with what is there
+-- a list from a place on begins with the item at that place
 drop_at : (texts : List (List ℕ)) (place : ℕ) (text : List ℕ) → slice_get texts place ≡ Some text → drop place texts ≡ text ∷ drop (suc place) texts
 drop_at [] place text found = absurd (cc)
 drop_at (first ∷ texts) zero text found = let same : first ≡ text = cc in ap (λ (t : List ℕ). t ∷ texts) same
@@ -97,13 +97,13 @@ tied_at kind issued s front last rest traced =
     let E : List Logged → Type 0 = λ l. IsExecuted issued log l in
     let so : IsExecuted issued log (executed kind.slots kind.numbered past (suc (opens front))) = subst E (sym ran) by in
     let world : world_before kind past (suc (opens front)) ≡ world_in kind front = ap (world_in kind) (till-stop front rest last) in
-    let events : session_of (suc (opens front)) past ≡ Opened last ∷ rest = session_of-last front rest last traced.same_session in
-    let S : WorldData → Type 0 = λ w. AreSendsFit issued [] w (session_of (suc (opens front)) past) in
+    let events : events_of_session (suc (opens front)) past ≡ Opened last ∷ rest = session_of-last front rest last traced.same_session in
+    let S : WorldData → Type 0 = λ w. AreSendsFit issued [] w (events_of_session (suc (opens front)) past) in
     let V : List WorldEvent → Type 0 = λ es. AreSendsFit issued [] (world_in kind front) es in
     record {
       executed_first = so.is;
       acked_is = sym (
-          ap (λ (w : WorldData). acked_of (replies_from w (session_of (suc (opens front)) past))) world
+          ap (λ (w : WorldData). acked_of (replies_from w (events_of_session (suc (opens front)) past))) world
           ∙ ap (λ (es : List WorldEvent). acked_of (replies_from (world_in kind front) es)) events
           ∙ tally_acked (replies_from base rest) s s.ready refl n.sound traced.tallied);
       acked_run = omega (arith, so.count, n.replies.acked_run);

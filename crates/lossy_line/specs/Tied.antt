@@ -4,7 +4,7 @@ use Rattle.send_window.specs.declared.session_end.SessionEnd.{SessionEnd}
 use Rattle.marlin_frame.specs.Numbering.{wire_number}
 use Rattle.printer_model.specs.Printer.{Logged}
 use Rattle.link_history.specs.Executed.{opens, till, executed}
-use Rattle.link_history.specs.Exchanged.{session_of}
+use Rattle.link_history.specs.Exchanged.{events_of_session}
 use Rattle.printer_model.specs.World.{WorldData, apply}
 use Rattle.printer_model.specs.declared.event.WorldEvent.{WorldEvent}
 use Rattle.printer_model.specs.declared.event.WorldEvent.TheVariants.{Opened}
@@ -31,10 +31,10 @@ pub record IsTied (kind : LinkKind) (issued : List (List ℕ)) (acked : ℕ) (pa
       executed kind.slots kind.numbered past s
       ≡ logged_from 1 (take (length (executed kind.slots kind.numbered past s)) issued)
   -- the acknowledged lines are counted over the received replies, and all of them were executed
-  pub acked_is : acked ≡ acked_of (replies_from (world_before kind past s) (session_of s past))
+  pub acked_is : acked ≡ acked_of (replies_from (world_before kind past s) (events_of_session s past))
   pub acked_run : acked ≤ length (executed kind.slots kind.numbered past s)
   -- each line that was sent is the hello or an issued line above acked; one that failed is the last one
-  pub sends : AreSendsFit issued [] (world_before kind past s) (session_of s past)
+  pub sends : AreSendsFit issued [] (world_before kind past s) (events_of_session s past)
 
 -- the last session of a recorded history is tied
 abbrev pub TiedAs : LinkKind → Option (List WorldEvent) → List (List ℕ) → SessionData → Type 0

@@ -1,6 +1,6 @@
 //! A turn of a session, with what holds of it whatever the line does.
 ghost use Rattle.std.specs.Prelude.{◌≡◌, ℕ, List, true, false};
-ghost use Rattle.octo_outside.specs.Told.{Counts};
+ghost use Rattle.octo_outside.specs.Recorded.{Counts};
 ghost use Rattle.desk_steps.specs.declared.link_fact.LinkFact.TheVariants as fact;
 ghost use Rattle.printer_link.specs.Link.{RoseBy};
 ghost use Rattle.session_steps.specs.Data.{doing, is_calling};

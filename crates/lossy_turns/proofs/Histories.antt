@@ -4,7 +4,7 @@ use Rattle.std.specs.Prelude.{filter, Option, Some, None}
 use Rattle.printer_model.specs.Printer.{Logged}
 use Rattle.printer_model.specs.World.{world_of}
 use Rattle.link_history.specs.Executed.{opens, till, is_counted, executed}
-use Rattle.link_history.specs.Exchanged.{session_of}
+use Rattle.link_history.specs.Exchanged.{events_of_session}
 use Rattle.printer_model.specs.declared.event.WorldEvent.{WorldEvent}
 use Rattle.link_history.proofs.Sessions.{till-all, opens-append}
 use Rattle.printer_link.specs.Link.{LinkKind, Recorded}
@@ -30,7 +30,7 @@ none_printed kind past added none =
     ∙ ap (λ (es : List WorldEvent). filter is_counted (drop (length (log all)) (log es))) upto
     ∙ ap (filter is_counted) (drop_whole (log all))
     in
-    let events : session_of (suc (opens past)) all ≡ [] =
+    let events : events_of_session (suc (opens past)) all ≡ [] =
     ap (λ (es : List WorldEvent). drop (length es) (till (suc (opens past)) all)) before
     ∙ ap (drop (length all)) upto
     ∙ drop_whole all

@@ -7,9 +7,9 @@ use Rattle.send_window.specs.declared.session_end.SessionEnd.{SessionEnd}
 use Rattle.send_window.specs.Data.{SenderData, IsSound}
 use Rattle.send_window.proofs.Soundness.{begun_sound, hears_sound, ticks_sound, issues_sound, gives_sound}
 use Rattle.session_steps.specs.Found.{Got, unasked, lost, nothing, whole, end_by, can_find}
-use Rattle.session_steps.specs.Steps.{Step, opens as makes_link, finds_no_port, fails_to_dial, hears, listens, fails_to_receive, ticks, issues, gives, fails_to_send, hangs_up, after_step, after_steps, IsAllowed, AreAllowed, talk_steps, turn_steps}
+use Rattle.session_steps.specs.Steps.{Step, opens as makes_link, finds_no_port, fails_to_dial, hears, listens, fails_to_receive, ticks, issues, gives, fails_to_send, hangs_up, after_step, after_steps, IsAllowed, AreAllowed, steps_over_link, turn_steps}
 use Rattle.session_steps.specs.declared.found.Doing.{Doing}
-use Rattle.session_steps.specs.declared.found.Doing.TheVariants.{Dialling, HangingUp, Talking, Resting}
+use Rattle.session_steps.specs.declared.found.Doing.TheVariants.{Dialling, HangingUp, UsingLink, Resting}
 
 -- a sender stays sound
 sound_step : (moment : ℕ) (step : Step) (s : SenderData) → IsAllowed step s → IsSound s → IsSound (after_step moment step s)
@@ -31,7 +31,7 @@ sound_steps moment (step ∷ steps) s can sound = sound_steps moment steps (afte
 
 -- a turn that ends the session ends its sender so
 ended_talk : (moment : ℕ) (why : SessionEnd) (got : Got) (texts : List (List ℕ)) (count : ℕ) (s : SenderData) → end_by got moment s ≡ Some why →
-    (after_steps moment (talk_steps got (fact.Ended why) texts count) s).ended ≡ Some why
+    (after_steps moment (steps_over_link got (fact.Ended why) texts count) s).ended ≡ Some why
 ended_talk moment why unasked texts count s ends = absurd (cc)
 ended_talk moment why lost texts count s ends = absurd (cc)
 ended_talk moment why nothing texts count s ends = ends
@@ -40,7 +40,7 @@ ended_talk moment why (whole bytes) texts count s ends = ends
 pub ended_turn : (moment : ℕ) (why : SessionEnd) (d : Doing) (was_up : Bool) (got : Got) (texts : List (List ℕ)) (count : ℕ) (s : SenderData) →
     can_find d (fact.Ended why) ≡ true → end_by got moment s ≡ Some why →
     (after_steps moment (turn_steps d was_up got (fact.Ended why) texts count) s).ended ≡ Some why
-ended_turn moment why Talking was_up got texts count s can ends = ended_talk moment why got texts count s ends
+ended_turn moment why UsingLink was_up got texts count s can ends = ended_talk moment why got texts count s ends
 ended_turn moment why Dialling was_up got texts count s can ends = absurd (cc)
 ended_turn moment why HangingUp was_up got texts count s can ends = absurd (cc)
 ended_turn moment why Resting was_up got texts count s can ends = absurd (cc)

@@ -2,3 +2,4 @@ pub mod Histories
 pub mod Turns
 pub mod Lasting
 pub mod Waits
+pub mod Numbers

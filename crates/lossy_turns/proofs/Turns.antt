@@ -19,7 +19,7 @@ use Rattle.session_steps.specs.Found.{Got, can_find}
 use Rattle.session_steps.specs.Steps.{opens as makes_link, finds_no_port, hangs_up, after_steps, AreAdded, dial_steps, turn_steps}
 use Rattle.session_steps.specs.Turn.{IsTurn, texts_in}
 use Rattle.session_steps.specs.declared.found.Doing.{Doing}
-use Rattle.session_steps.specs.declared.found.Doing.TheVariants.{Dialling, HangingUp, Talking, Resting}
+use Rattle.session_steps.specs.declared.found.Doing.TheVariants.{Dialling, HangingUp, UsingLink, Resting}
 use Rattle.session_steps.specs.declared.found.Turned.{Turned}
 use Rattle.lossy_wires.specs.Pieces.{Each}
 use Rattle.lossy_wires.specs.Wires.{Meets}
@@ -29,7 +29,7 @@ use Rattle.lossy_turns.specs.History.{HasIssued, IsMade}
 use Rattle.lossy_line.specs.Issuing.{issued_in}
 use Rattle.lossy_line.specs.Linked.{IsOpened, IsLinked, unopened}
 use Rattle.lossy_line.proofs.Speech.{steps_lead, turn_leads}
-use Rattle.lossy_line.proofs.Told.{IsKept, turned_by}
+use Rattle.lossy_line.proofs.Recorded.{IsKept, turned_by}
 use Rattle.lossy_line.proofs.Turned.{IsTurned, talks_up, dials_down, opens_dialling, world_since}
 use Rattle.lossy_line.proofs.Turning.{opening, going_on}
 use Rattle.lossy_line.proofs.Tying.{tied_at, opened_tied}
@@ -39,7 +39,7 @@ use Rattle.lossy_line.specs.Tied.{IsTied}
 pub ports_dialling : (d : Doing) → can_find d fact.NoPort ≡ true → d ≡ Dialling
 ports_dialling Dialling can = refl
 ports_dialling HangingUp can = absurd (cc)
-ports_dialling Talking can = absurd (cc)
+ports_dialling UsingLink can = absurd (cc)
 ports_dialling Resting can = absurd (cc)
 
 -- what a turn adds to a history, by its steps
@@ -60,7 +60,7 @@ module _ (moment : ℕ) (kind : LinkKind) (old new : SessionData) (got : Got) (f
       let base : WorldData = apply (world_in kind o.front) (Opened o.last) in
       let here : world_in kind past ≡ world_from base o.rest = world_since kind past o.front o.last o.rest o.is in
       let W : WorldData → Type 0 = λ w. AreAdded moment kind.prompt (turn_steps (doing old) old.up got found texts t.count) old.sender w added in
-      let running : doing old ≡ Talking → old.sender.ended ≡ None = λ talks. t.joined.running (talks_up old talks) in
+      let running : doing old ≡ UsingLink → old.sender.ended ≡ None = λ talks. t.joined.running (talks_up old talks) in
       (turn_leads (world_in kind o.front).log moment kind.prompt issued old.sender (world_from base o.rest) (replies_from base o.rest) added (doing old) old.up got found texts t.count other running t.allowed (subst W here t.steps) o.traced.meets o.traced.tallied).same_session
 
   -- a turn over the link

@@ -23,47 +23,73 @@ use Rattle.session_steps.specs.Data.{SessionData, IsSession, doing}
 use Rattle.session_steps.specs.Found.{Got, unasked, lost, nothing, whole, end_by, can_find}
 use Rattle.session_steps.specs.Turn.{IsTurn, texts_in}
 use Rattle.session_steps.specs.declared.found.Doing.{Doing}
-use Rattle.session_steps.specs.declared.found.Doing.TheVariants.{Dialling, HangingUp, Talking, Resting}
+use Rattle.session_steps.specs.declared.found.Doing.TheVariants.{Dialling, HangingUp, UsingLink, Resting}
 use Rattle.session_steps.specs.declared.found.Turned.{Turned}
-use Rattle.session_steps.specs.Steps.{Step, opens, finds_no_port, fails_to_dial, hears, listens, fails_to_receive, ticks, issues, gives, fails_to_send, hangs_up, after_step, after_steps, IsAllowed, AreAllowed, talk_steps, turn_steps}
+use Rattle.session_steps.specs.Steps.{Step, opens, finds_no_port, fails_to_dial, hears, listens, fails_to_receive, ticks, issues, gives, fails_to_send, hangs_up, after_step, after_steps, IsAllowed, AreAllowed, steps_over_link, turn_steps}
 use Rattle.session_steps.proofs.Keeping.{ticked_keeps}
 use Rattle.lossy_line.proofs.Turned.{talks_up}
 use Rattle.lossy_turns.specs.Patience.{IsPatient, IsUnanswered, IsOnTime}
+use Rattle.lossy_line.proofs.Promised.{ends_talking}
 
-hear_limit : (line : Reply) (moment : ℕ) (s : SenderData) → (hear_step line moment s).limit ≡ s.limit
-hear_limit (reply.Ok number _ _ _) moment s = grind (arith, common_steps)
-hear_limit (reply.Resend number) moment s = grind (arith, common_steps)
-hear_limit reply.Start moment s = grind (arith, common_steps)
-hear_limit reply.Busy moment s = grind (arith, common_steps)
-hear_limit (reply.Temps _) moment s = grind (arith, common_steps)
-hear_limit reply.Error moment s = grind (arith, common_steps)
-hear_limit reply.Other moment s = grind (arith, common_steps)
+-- what no step changes
+pub record Lasts (s t : SenderData) : Type 0 where
+  pub window : t.window ≡ s.window
+  pub limit : t.limit ≡ s.limit
 
-tick_limit : (moment : ℕ) (s : SenderData) → (tick_step moment s).limit ≡ s.limit
-tick_limit moment s = grind (arith, common_steps)
+heard_lasts : (line : Reply) (moment : ℕ) (s : SenderData) → Lasts s (hear_step line moment s)
+heard_lasts (reply.Ok number _ _ _) moment s = grind (arith, common_steps)
+heard_lasts (reply.Resend number) moment s = grind (arith, common_steps)
+heard_lasts reply.Start moment s = grind (arith, common_steps)
+heard_lasts reply.Busy moment s = grind (arith, common_steps)
+heard_lasts (reply.Temps _) moment s = grind (arith, common_steps)
+heard_lasts reply.Error moment s = grind (arith, common_steps)
+heard_lasts reply.Other moment s = grind (arith, common_steps)
 
-frame_limit : (moment : ℕ) (s : SenderData) → (frame_step moment s).limit ≡ s.limit
-frame_limit moment s = grind (arith, common_steps)
+ticked_lasts : (moment : ℕ) (s : SenderData) → Lasts s (tick_step moment s)
+ticked_lasts moment s = grind (arith, common_steps)
+
+given_lasts : (moment : ℕ) (s : SenderData) → Lasts s (frame_step moment s)
+given_lasts moment s = grind (arith, common_steps)
+
+step_lasts : (moment : ℕ) (step : Step) (s : SenderData) → Lasts s (after_step moment step s)
+step_lasts moment opens s = record { window = refl; limit = refl }
+step_lasts moment finds_no_port s = record { window = refl; limit = refl }
+step_lasts moment fails_to_dial s = record { window = refl; limit = refl }
+step_lasts moment (hears bytes) s = heard_lasts (kind_of bytes) moment s
+step_lasts moment listens s = record { window = refl; limit = refl }
+step_lasts moment fails_to_receive s = record { window = refl; limit = refl }
+step_lasts moment ticks s = ticked_lasts moment s
+step_lasts moment (issues text) s = record { window = refl; limit = refl }
+step_lasts moment gives s = given_lasts moment s
+step_lasts moment fails_to_send s = given_lasts moment s
+step_lasts moment (hangs_up was_up) s = record { window = refl; limit = refl }
+
+pub steps_last : (moment : ℕ) (steps : List Step) (s : SenderData) → Lasts s (after_steps moment steps s)
+steps_last moment [] s = record { window = refl; limit = refl }
+steps_last moment (step ∷ steps) s =
+    let one = step_lasts moment step s in
+    let more = steps_last moment steps (after_step moment step s) in
+    record { window = more.window ∙ one.window; limit = more.limit ∙ one.limit }
 
 module _ (start limit moment : ℕ) (since : start ≤ moment) where
   patient_heard : (line : Reply) (s : SenderData) → IsPatient start limit s → IsPatient start limit (hear_step line moment s)
   patient_heard line s p = record {
     sound = hears_sound line moment s p.sound;
-    its_limit = hear_limit line moment s ∙ p.its_limit;
+    its_limit = (heard_lasts line moment s).limit ∙ p.its_limit;
     waits = waits_five_limits.1 start (sender_hears line moment) s p.sound since p.waits;
   }
 
   patient_ticked : (s : SenderData) → IsPatient start limit s → IsPatient start limit (tick_step moment s)
   patient_ticked s p = record {
     sound = ticks_sound moment s p.sound;
-    its_limit = tick_limit moment s ∙ p.its_limit;
+    its_limit = (ticked_lasts moment s).limit ∙ p.its_limit;
     waits = waits_five_limits.1 start (sender_ticks moment) s p.sound since p.waits;
   }
 
   patient_given : (s : SenderData) → IsPatient start limit s → IsPatient start limit (frame_step moment s)
   patient_given s p = record {
     sound = gives_sound moment s p.sound;
-    its_limit = frame_limit moment s ∙ p.its_limit;
+    its_limit = (given_lasts moment s).limit ∙ p.its_limit;
     waits = waits_five_limits.1 start (sender_gives moment) s p.sound since p.waits;
   }
 
@@ -119,7 +145,7 @@ module _ (start limit moment : ℕ) (since : start ≤ moment) where
   -- a turn that ends the session so
   pub turn_waited : (count : ℕ) (got : Got) (texts : List (List ℕ)) (frames : ℕ) (s : SenderData) → IsPatient start limit s → s.ended ≡ None →
       end_by got moment s ≡ Some (NoAnswer count) →
-      (later start (5 * limit) ≤ moment) × IsUnanswered (after_steps moment (talk_steps got (fact.Ended (NoAnswer count)) texts frames) s)
+      (later start (5 * limit) ≤ moment) × IsUnanswered (after_steps moment (steps_over_link got (fact.Ended (NoAnswer count)) texts frames) s)
   turn_waited count unasked texts frames s p running ends = absurd (cc)
   turn_waited count lost texts frames s p running ends = absurd (cc)
   turn_waited count nothing texts frames s p running ends =
@@ -129,33 +155,35 @@ module _ (start limit moment : ℕ) (since : start ≤ moment) where
       let w = heard_waited count (kind_of bytes) s (hear_step (kind_of bytes) moment s).ended p running refl ends in
       (w.0, unanswered_ticked (hear_step (kind_of bytes) moment s) w.1)
 
--- only a turn that talks ends a session
-ends_talking : (why : SessionEnd) (d : Doing) → can_find d (fact.Ended why) ≡ true → d ≡ Talking
-ends_talking why Dialling can = absurd (cc)
-ends_talking why HangingUp can = absurd (cc)
-ends_talking why Talking can = refl
-ends_talking why Resting can = absurd (cc)
-
-module _ (moment : ℕ) (kind : LinkKind) (old_past new_past : Option (List WorldEvent)) (old_calls new_calls : Option ℕ) (old mid : SessionData) (turned : Turned) (t : IsTurn moment kind old_past new_past old_calls new_calls old mid turned) (start limit : ℕ) (since : start ≤ moment) where
-  -- the sender after a turn
-  pub turn_patient : IsPatient start limit old.sender → IsPatient start limit mid.sender
-  turn_patient p =
-      let P : SenderData → Type 0 = λ s. IsPatient start limit s in
-      subst P (sym t.steps.takes.sender) (patient_steps start limit moment since (turn_steps (doing old) old.up t.got t.found (texts_in t.lines) t.steps.count) old.sender t.steps.takes.allowed p)
-
-  pub turn_unanswered : (count : ℕ) → IsSession old → IsPatient start limit old.sender → t.found ≡ fact.Ended (NoAnswer count) →
-      can_find (doing old) t.found ≡ true → (later start (5 * limit) ≤ moment) × IsUnanswered mid.sender
-  turn_unanswered count joined p is can =
+module _ (moment : ℕ) (kind : LinkKind) (old_past new_past : Option (List WorldEvent)) (old_calls new_calls : Option ℕ) (old mid : SessionData) (turned : Turned) (t : IsTurn moment kind old_past new_past old_calls new_calls old mid turned) where
+  -- the sender after a turn that found the end of its session
+  pub ended_sender : (why : SessionEnd) → t.found ≡ fact.Ended why → can_find (doing old) t.found ≡ true →
+      mid.sender ≡ after_steps moment (steps_over_link t.got (fact.Ended why) (texts_in t.lines) t.steps.count) old.sender
+  ended_sender why is can =
       let F : LinkFact → Type 0 = λ f. can_find (doing old) f ≡ true in
-      let talks : doing old ≡ Talking = ends_talking (NoAnswer count) (doing old) (subst F is can) in
-      let w = turn_waited start limit moment since count t.got (texts_in t.lines) t.steps.count old.sender p (joined.running (talks_up old talks)) ((t.ended (NoAnswer count)).0 is) in
-      let sender : mid.sender ≡ after_steps moment (talk_steps t.got (fact.Ended (NoAnswer count)) (texts_in t.lines) t.steps.count) old.sender =
       t.steps.takes.sender
-      ∙ ap (λ (d : Doing). after_steps moment (turn_steps d old.up t.got t.found (texts_in t.lines) t.steps.count) old.sender) talks
-      ∙ ap (λ (f : LinkFact). after_steps moment (talk_steps t.got f (texts_in t.lines) t.steps.count) old.sender) is
-      in
-      let U : SenderData → Type 0 = λ s. IsUnanswered s in
-      (w.0, subst U (sym sender) w.1)
+      ∙ ap (λ (d : Doing). after_steps moment (turn_steps d old.up t.got t.found (texts_in t.lines) t.steps.count) old.sender) (ends_talking why (doing old) (subst F is can))
+      ∙ ap (λ (f : LinkFact). after_steps moment (steps_over_link t.got f (texts_in t.lines) t.steps.count) old.sender) is
+
+  -- and its end before it
+  pub running_till : (why : SessionEnd) → IsSession old → t.found ≡ fact.Ended why → can_find (doing old) t.found ≡ true → old.sender.ended ≡ None
+  running_till why joined is can =
+      let F : LinkFact → Type 0 = λ f. can_find (doing old) f ≡ true in
+      joined.running (talks_up old (ends_talking why (doing old) (subst F is can)))
+
+  module _ (start limit : ℕ) (since : start ≤ moment) where
+    -- the sender after a turn
+    pub turn_patient : IsPatient start limit old.sender → IsPatient start limit mid.sender
+    turn_patient p =
+        let P : SenderData → Type 0 = λ s. IsPatient start limit s in
+        subst P (sym t.steps.takes.sender) (patient_steps start limit moment since (turn_steps (doing old) old.up t.got t.found (texts_in t.lines) t.steps.count) old.sender t.steps.takes.allowed p)
+
+    pub turn_unanswered : (count : ℕ) → IsSession old → IsPatient start limit old.sender → t.found ≡ fact.Ended (NoAnswer count) →
+        can_find (doing old) t.found ≡ true → (later start (5 * limit) ≤ moment) × IsUnanswered mid.sender
+    turn_unanswered count joined p is can =
+        let w = turn_waited start limit moment since count t.got (texts_in t.lines) t.steps.count old.sender p (running_till (NoAnswer count) joined is can) ((t.ended (NoAnswer count)).0 is) in
+        let U : SenderData → Type 0 = λ s. IsUnanswered s in
+        (w.0, subst U (sym (ended_sender (NoAnswer count) is can)) w.1)
 
 -- the moment of a turn is one that the clock has shown
 shown_by : (a b c : Option ℕ) (at shown next moment : ℕ) → b ≡ a → NotBefore b c → c ≡ Some at → IfSome a (λ was. shown ≡ was) →

@@ -2,19 +2,19 @@
 use Rattle.std.proofs.Common.{◌≡◌, ◌≢◌, ◌⊎◌, inl, inr, ℕ, ◌+◌, ◌-◌, ◌<◌, ◌≤◌, ◌^◌, Bool, true, false, not, ◌&&◌, List, [], ◌∷◌, ◌++◌, length, map, set, refl, sym, ◌∙◌, ap, subst, append_assoc, append-nil, arith}
 use Rattle.std.specs.Prelude.{Ok, Err, Some, nat_lt, if◌then◌else◌}
 use Rattle.std.specs.List.{remove, list_all}
-use Rattle.std.proofs.lemmas.Bool.{cases_eq, and_right}
+use Rattle.std.proofs.lemmas.Bool.{cases_eq, and_right, and_parts}
 use Rattle.std.proofs.lemmas.List.{map-append, map-set, length-set}
 use Rattle.marlin_frame.specs.Frame.{fails}
 use Rattle.marlin_frame.specs.Numbering.{hello_number, wire_number}
 use Rattle.printer_model.specs.Printer.{Entry, Logged, IsRefusal, is_full, take_judged, run_queue}
 use Rattle.printer_model.specs.Replies.{asked_after, error_line, resend_line, ok_line, start_line, run_reply}
-use Rattle.printer_model.specs.World.{WorldData, is_empty, is_free, can_happen, happen, apply, world_from, fits_wire, arrived, after_run}
+use Rattle.printer_model.specs.World.{WorldData, is_empty, is_free, can_happen, happen, apply, world_from, fits_wire, after_arrival, after_run}
 use Rattle.printer_model.specs.declared.event.WorldEvent.{WorldEvent}
 use Rattle.printer_model.specs.declared.event.WorldEvent.TheVariants.{Opened, Send, Arrive, Lose, Garble, Run, Restart, Chatter, Recv, Closed}
 use Rattle.printer_model.specs.declared.printer.Reason.{Reason}
 use Rattle.printer_model.specs.declared.printer.Reason.TheVariants.{WrongNumber}
 use Rattle.printer_model.proofs.Judging.{judged-failing}
-use Rattle.printer_model.proofs.Laws.{after_event, stays, both_left, both_right, run_queue_of, arrive_accepts, arrive_refuses}
+use Rattle.printer_model.proofs.Laws.{after_event, stays, run_queue_of, arrive_accepts, arrive_refuses}
 use Rattle.printer_model.proofs.Wires.{map_remove}
 use Rattle.marlin_reply.specs.Kind.{is_chatter}
 use Rattle.send_window.specs.Data.{SenderData}
@@ -23,7 +23,7 @@ use Rattle.lossy_wires.specs.Wires.{Wires, Shows, Numbers, Meets, Printed, befor
 use Rattle.lossy_wires.proofs.Lists.{each_remove, each_set, length-remove_le, issued_fit, issued_within, lines_at}
 use Rattle.lossy_wires.proofs.Ways.{down_push}
 use Rattle.lossy_wires.proofs.Reading.{line_accepted, line_refused, greeting_accepted, heard_error, heard_resend, heard_ok, heard_start, heard_chatter, run_heard, IsRunReply}
-use Rattle.lossy_wires.proofs.Moves.{phase_up, phase_chat, replies_chat, phase_restart, replies_restart, printed_restart, answer_to, printed_run, run_open, run_shut, IsRan}
+use Rattle.lossy_wires.proofs.Moves.{phase_up, phase_chat, replies_chat, phase_restart, replies_restart, printed_restart, answer_to, printed_run, run_open, run_shut, IsAfterStep}
 use Rattle.lossy_wires.proofs.Arrivals.{phase_refused, replies_refused, greeting_taken, command_taken, IsTaken}
 
 -- a line that waits has a number that fits
@@ -174,7 +174,7 @@ module _ (start : List Logged) (issued : List (List ℕ)) (s : SenderData) (w : 
       let free = w.printer.places - length w.printer.queue in
       let reply = run_reply w.printer.advanced (Some (front_in piece)) (text_in piece) free in
       let its : IsRunReply reply (front_in piece) = run_heard w.printer.advanced (front_in piece) free (text_in piece) (front_small issued a.ran a.dropped w.printer.last piece queue a.log few n.printed) (omega (arith, sh.few)) in
-      let ran : IsRan issued s w.linked (record a { ran = true; queue = queue; log = a.log ++ piece ∷ []; way = a.way ++ answer_to piece its.named ∷ [] }) = run_open issued s w.linked w.printer.last a piece queue its.named on n.printed n.phase n.replies in
+      let ran : IsAfterStep issued s w.linked (record a { ran = true; queue = queue; log = a.log ++ piece ∷ []; way = a.way ++ answer_to piece its.named ∷ [] }) = run_open issued s w.linked w.printer.last a piece queue its.named on n.printed n.phase n.replies in
       record {
         wires = record a { ran = true; queue = queue; log = a.log ++ piece ∷ []; way = a.way ++ answer_to piece its.named ∷ [] };
         shows = record {
@@ -197,7 +197,7 @@ module _ (start : List Logged) (issued : List (List ℕ)) (s : SenderData) (w : 
   ran_meets a piece queue false off sh n =
       let free = w.printer.places - length w.printer.queue in
       let reply = run_reply w.printer.advanced (Some (front_in piece)) (text_in piece) free in
-      let ran : IsRan issued s w.linked (record a { ran = true; queue = queue; log = a.log ++ piece ∷ [] }) = run_shut issued s w.linked a piece queue off n.phase n.replies in
+      let ran : IsAfterStep issued s w.linked (record a { ran = true; queue = queue; log = a.log ++ piece ∷ [] }) = run_shut issued s w.linked a piece queue off n.phase n.replies in
       record {
         wires = record a { ran = true; queue = queue; log = a.log ++ piece ∷ [] };
         shows = record {
@@ -231,7 +231,7 @@ module _ (start : List Logged) (issued : List (List ℕ)) (s : SenderData) (w : 
   taken_meets : (a : Wires) (piece : Piece) (up : List Sent) → Shows start (record a { up = intact piece ∷ up }) w →
       Numbers issued s w.linked w.printer.last (record a { up = intact piece ∷ up }) →
       IsTaken issued s w.linked (number_in piece) (record a { up = up; queue = a.queue ++ piece ∷ [] }) →
-      Meets start issued s (arrived w (map bytes_on up) (take_judged w.printer (Ok (entry_in piece))))
+      Meets start issued s (after_arrival w (map bytes_on up) (take_judged w.printer (Ok (entry_in piece))))
   taken_meets a piece up sh n taken = record {
     wires = record a { up = up; queue = a.queue ++ piece ∷ [] };
     shows = record {
@@ -254,7 +254,7 @@ module _ (start : List Logged) (issued : List (List ℕ)) (s : SenderData) (w : 
   -- it was refused
   refused_meets : (a : Wires) (sent : Sent) (up : List Sent) (reason : Reason) → Shows start (record a { up = sent ∷ up }) w →
       Numbers issued s w.linked w.printer.last (record a { up = sent ∷ up }) →
-      Meets start issued s (arrived w (map bytes_on up) (take_judged w.printer (Err reason)))
+      Meets start issued s (after_arrival w (map bytes_on up) (take_judged w.printer (Err reason)))
   refused_meets a sent up reason sh n =
       let last = w.printer.last in
       let lines : List (List ℕ) = error_line reason last ∷ resend_line last ∷ ok_line ∷ [] in
@@ -328,12 +328,12 @@ module _ (start : List Logged) (issued : List (List ℕ)) (s : SenderData) (w : 
   free_meets (Lose at) free m = after_event (λ v. Meets start issued s v) w (Lose at) m (λ can. lose_meets at m)
   free_meets (Garble at line) free m =
       after_event (λ v. Meets start issued s v) w (Garble at line) m
-      (λ can. garble_meets at line.items (both_left (fails line.items) (fits_wire line.items) (both_right (nat_lt at (length w.up)) (fails line.items && fits_wire line.items) can)) m)
+      (λ can. garble_meets at line.items (and_parts (fails line.items) (fits_wire line.items) (and_parts (nat_lt at (length w.up)) (fails line.items && fits_wire line.items) can).1).0 m)
   free_meets Run free m = run_meets m.wires m.wires.queue m.shows m.numbers
   free_meets Restart free m = after_event (λ v. Meets start issued s v) w Restart m (λ on. restart_meets on m)
   free_meets (Chatter reply) free m =
       after_event (λ v. Meets start issued s v) w (Chatter reply) m
-      (λ can. chat_meets reply.items (both_left w.linked (is_chatter reply.items) can) (both_right w.linked (is_chatter reply.items) can) m)
+      (λ can. chat_meets reply.items (and_parts w.linked (is_chatter reply.items) can).0 (and_parts w.linked (is_chatter reply.items) can).1 m)
   free_meets Recv free m = absurd (cc)
   free_meets Closed free m = absurd (cc)
 
@@ -342,5 +342,5 @@ pub all_free_meets : (start : List Logged) (issued : List (List ℕ)) (s : Sende
     list_all is_free events ≡ true → Meets start issued s w → Meets start issued s (world_from w events)
 all_free_meets start issued s w [] free m = m
 all_free_meets start issued s w (event ∷ events) free m =
-    all_free_meets start issued s (apply w event) events (both_right (is_free event) (list_all is_free events) free)
-    (free_meets start issued s w event (both_left (is_free event) (list_all is_free events) free) m)
+    all_free_meets start issued s (apply w event) events (and_parts (is_free event) (list_all is_free events) free).1
+    (free_meets start issued s w event (and_parts (is_free event) (list_all is_free events) free).0 m)

@@ -1,9 +1,9 @@
--- What a sender gives out next, and the sending of it.
+-- What a sender returns next, and how it is sent.
 use Rattle.std.proofs.Common.{◌≡◌, inl, inr, ℕ, ◌+◌, Bool, true, false, ◌&&◌, List, [], ◌∷◌, ◌++◌, refl, sym, ◌∙◌, ap, subst, append-nil, append_assoc, arith}
 use Rattle.std.specs.Prelude.{Some}
 use Rattle.std.proofs.lemmas.Grind.{common_steps}
 use Rattle.std.proofs.lemmas.Option.{gets}
-use Rattle.std.proofs.lemmas.Bool.{and_from, or_right}
+use Rattle.std.proofs.lemmas.Bool.{and_from, or_right, and_parts}
 use Rattle.std.specs.List.{list_all}
 use Rattle.arrayvec.specs.ArrayVec.{ArrayVec}
 use Rattle.marlin_frame.specs.Frame.{fails}
@@ -13,7 +13,7 @@ use Rattle.printer_model.specs.World.{WorldData, is_free, fits_wire, can_happen,
 use Rattle.link_history.specs.Exchanged.{is_closed, closes_next}
 use Rattle.printer_model.specs.declared.event.WorldEvent.{WorldEvent}
 use Rattle.printer_model.specs.declared.event.WorldEvent.TheVariants.{Send, Closed}
-use Rattle.printer_model.proofs.Laws.{happens, after_event, both_left, both_right, world_from-linked}
+use Rattle.printer_model.proofs.Laws.{happens, after_event, world_from-linked}
 use Rattle.send_window.specs.Data.{SenderData, IsSound}
 use Rattle.send_window.specs.Counting.{acked_of}
 use Rattle.send_window.specs.Laws.{IsUnacknowledged}
@@ -26,7 +26,7 @@ use Rattle.lossy_wires.proofs.Starting.{starts_more}
 use Rattle.lossy_wires.proofs.Sending.{MaySend, give_flags, give_meets, sent_meets, closed_meets}
 use Rattle.lossy_wires.proofs.Tracing.{Leads, extends_none, leads_then, leads_none, leads_free, tally_same}
 
--- what is given out is the hello or a line above acked
+-- what is returned is the hello or a line above acked
 hello_unready : (s : SenderData) → IsSound s → next_of s ≡ Some hello → s.ready ≡ false
 hello_unready s sound is = grind (arith, common_steps)
 
@@ -34,7 +34,7 @@ line_held : (s : SenderData) (texts : List (List ℕ)) (place : ℕ) (text : Lis
     IsUnacknowledged texts s place text
 line_held s texts place text sound holds is = grind (arith, common_steps, gets)
 
--- a sender that gave something out doesn't owe the hello
+-- a sender that returned something doesn't owe the hello
 pub given_undue : (moment : ℕ) (s : SenderData) (next : Outgoing) → IsSound s → next_of s ≡ Some next → (frame_step moment s).hello_due ≡ false
 given_undue moment s hello sound is = grind (arith, common_steps)
 given_undue moment s (line place text) sound is = grind (arith, common_steps)
@@ -55,7 +55,7 @@ tally_acked replies s false is sound tallied =
     let count : oks_of s.ready s.acked ≡ 0 = ap (λ (b : Bool). oks_of b s.acked) is in
     omega (arith, count, tallied.counted, sound.hello_first is, sound.counted)
 
--- what a line that is given out is on the wire
+-- what a line that is returned is on the wire
 sent_as : Outgoing → Sent
 sent_as hello = intact greeting
 sent_as (line place text) = intact (command place text)
@@ -108,8 +108,8 @@ closes_free : (events : List WorldEvent) → list_all is_free events ≡ true �
 closes_free [] free = refl
 closes_free (event ∷ events) free =
     or_right (is_closed event) (is_free event && closes_next (events ++ Closed ∷ []))
-    (and_from (is_free event) (closes_next (events ++ Closed ∷ [])) (both_left (is_free event) (list_all is_free events) free)
-    (closes_free events (both_right (is_free event) (list_all is_free events) free)))
+    (and_from (is_free event) (closes_next (events ++ Closed ∷ [])) (and_parts (is_free event) (list_all is_free events) free).0
+    (closes_free events (and_parts (is_free event) (list_all is_free events) free).1))
 
 sent_starts : (w : WorldData) (sent : ArrayVec ℕ) (events : List WorldEvent) → Each (IsStartKnown events) w.down →
     Each (IsStartKnown (events ++ Send sent ∷ [])) (apply w (Send sent)).down
@@ -141,7 +141,7 @@ module _ (start : List Logged) (issued : List (List ℕ)) where
       leads_then start issued issued issued s s w replies events (Closed ∷ []) first
       (leads_closed s (world_from w events) (replies ++ replies_from w events) still first.meets first.tallied)
 
-  -- a line is given out, and nothing is known of it yet
+  -- a line is returned, and nothing is known of it yet
   pub leads_given : (moment : ℕ) (s : SenderData) (w : WorldData) (replies : List Reply) → Meets start issued s w → IsTallied replies s →
       Leads start issued issued (frame_step moment s) w replies []
   leads_given moment s w replies m tallied =
@@ -149,13 +149,13 @@ module _ (start : List Logged) (issued : List (List ℕ)) where
       leads_none start issued issued (frame_step moment s) w replies (extends_none issued) (give_meets start issued moment s w m)
       (tally_same start replies s (frame_step moment s) flags.swallow flags.ready flags.acked tallied)
 
-  -- what is given out is sent
+  -- what is returned is sent
   pub leads_sent : (moment : ℕ) (s : SenderData) (w : WorldData) (replies : List Reply) (next : Outgoing) (sent : ArrayVec ℕ) → next_of s ≡ Some next →
       sent.items ≡ bytes_of_outgoing next → can_happen w (Send sent) ≡ true → Meets start issued s w → IsTallied replies s →
       Leads start issued issued (frame_step moment s) w replies (Send sent ∷ [])
   leads_sent moment s w replies next sent is written can m tallied =
       let n = m.numbers in
-      let on : w.linked ≡ true = both_left w.linked (fits_wire sent.items) can in
+      let on : w.linked ≡ true = (and_parts w.linked (fits_wire sent.items) can).0 in
       let t = frame_step moment s in
       let M : WorldData → Type 0 = λ v. Meets start issued t v in
       let T : List Reply → Type 0 = λ l. IsTallied l t in
@@ -176,7 +176,7 @@ module _ (start : List Logged) (issued : List (List ℕ)) where
       IsTallied replies s → Leads start issued issued (frame_step moment s) w replies (Send sent ∷ (behind ++ Closed ∷ []))
   leads_failing moment s w replies next sent behind is failing can free m tallied =
       let n = m.numbers in
-      let on : w.linked ≡ true = both_left w.linked (fits_wire sent.items) can in
+      let on : w.linked ≡ true = (and_parts w.linked (fits_wire sent.items) can).0 in
       let t = frame_step moment s in
       let flags = give_flags moment s in
       let v : WorldData = happen w (Send sent) in

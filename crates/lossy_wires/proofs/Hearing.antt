@@ -12,7 +12,7 @@ use Rattle.printer_model.specs.Printer.{Logged}
 use Rattle.printer_model.specs.World.{WorldData, happen}
 use Rattle.printer_model.specs.declared.event.WorldEvent.TheVariants.{Recv}
 use Rattle.send_window.specs.Data.{SenderData, IsSound, most_lines}
-use Rattle.send_window.specs.Hearing.{marked, ended_by, swallowed, made_ready, acknowledged, line_ok, named_ok, heard_ok, hello_asked, line_asked, resend_asked, heard_resend, heard_start, heard_reply, unless_ended, hear_step}
+use Rattle.send_window.specs.Hearing.{after_hearing, ended_by, after_swallowed_ok, made_ready, acknowledged, line_ok, named_ok, heard_ok, hello_asked, line_asked, resend_asked, heard_resend, heard_start, heard_reply, unless_ended, hear_step}
 use Rattle.send_window.specs.Session.{HoldsIssued, hears}
 use Rattle.send_window.proofs.Issued.{step_holds}
 use Rattle.send_window.proofs.Soundness.{hears_sound}
@@ -20,13 +20,14 @@ use Rattle.lossy_wires.specs.Pieces.{Piece, Sent, Each, IsSentLate, AreLinesFrom
 use Rattle.lossy_wires.specs.Wires.{Wires, Shows, Printed, before, after, lines_run, weights, is_closing, IsAsked, Answers, IsEarly, Phase, shut, early, late, IsFair, IsRead, Replies, Numbers, Meets}
 use Rattle.lossy_wires.proofs.Lists.{none_left, lines_none, lines_within, lines_front}
 use Rattle.lossy_wires.proofs.Ways.{early_front, early_unclosing, answers_front, answers_unclosing, answers_le, answers_begin, IsFirst, first_of_way}
+use Rattle.lossy_wires.proofs.Moves.{IsAfterStep}
 
 -- a sender after a reply, by what the reply does
 abbrev pub heard_as : Heard → ℕ → SenderData → SenderData
 heard_as (ok_heard number) moment s = heard_ok s.swallow s.ready number moment s
 heard_as (resend_heard number) moment s = heard_resend s.ready number moment s
 heard_as start_heard moment s = heard_start s.ready s
-heard_as talk_heard moment s = marked s
+heard_as talk_heard moment s = after_hearing s
 
 reply_as : (r : Reply) (moment : ℕ) (s : SenderData) → heard_reply r moment s ≡ heard_as (heard_of r) moment s
 reply_as (reply.Ok number planner block temps) moment s = refl
@@ -43,11 +44,6 @@ hear_as line heard moment s running is =
     ap (λ (e : Option SessionEnd). unless_ended e (heard_reply (kind_of line) moment s) s) running
     ∙ reply_as (kind_of line) moment s
     ∙ ap (λ (h : Heard). heard_as h moment s) is
-
--- the parts after a reply was heard
-pub record IsHeardSo (issued : List (List ℕ)) (s : SenderData) (linked : Bool) (a : Wires) : Type 0 where
-  pub phase : Phase issued s linked a
-  pub replies : Replies s linked a.dropped a.log a.way
 
 pub ok_by : (swallow ready : Bool) (number : Option ℕ) (moment : ℕ) (s : SenderData) → s.swallow ≡ swallow → s.ready ≡ ready →
     heard_as (ok_heard number) moment s ≡ heard_ok swallow ready number moment s
@@ -66,7 +62,7 @@ early_stays s t linked d log way unready same acked ended r way' = record {
 module _ (issued : List (List ℕ)) (moment : ℕ) (s : SenderData) (linked : Bool) (last : ℕ) where
   hello_heard : (a : Wires) (named : Bool) (way : List Answer) → IsSound s → HoldsIssued issued s → Printed issued a.ran a.dropped last a.queue a.log →
       linked ≡ true → s.ended ≡ None → s.ready ≡ false → IsEarly s a.ran a.dropped a.queue a.up (greeting_ok named ∷ way) →
-      IsHeardSo issued (made_ready s) linked (record a { way = way })
+      IsAfterStep issued (made_ready s) linked (record a { way = way })
   hello_heard a named way sound holds printed opened running unready e = hello_by printed
     where
       none : issued ≡ []
@@ -82,7 +78,7 @@ module _ (issued : List (List ℕ)) (moment : ℕ) (s : SenderData) (linked : Bo
       ran : a.ran ≡ true
       ran = ran_by a.ran refl
 
-      hello_by : Printed issued a.ran a.dropped last a.queue a.log → IsHeardSo issued (made_ready s) linked (record a { way = way })
+      hello_by : Printed issued a.ran a.dropped last a.queue a.log → IsAfterStep issued (made_ready s) linked (record a { way = way })
       hello_by (before b) =
           let unran : a.ran ≡ false = b.unran in
           let is : a.ran ≡ true = ran in
@@ -114,9 +110,9 @@ module _ (issued : List (List ℕ)) (moment : ℕ) (s : SenderData) (linked : Bo
 
   early_heard : (a : Wires) (x : Answer) (way : List Answer) → IsSound s → HoldsIssued issued s → Printed issued a.ran a.dropped last a.queue a.log →
       linked ≡ true → s.ended ≡ None → s.ready ≡ false → IsEarly s a.ran a.dropped a.queue a.up (x ∷ way) → Replies s linked a.dropped a.log (x ∷ way) →
-      IsHeardSo issued (heard_as (reply_to x) moment s) linked (record a { way = rest_of x way })
+      IsAfterStep issued (heard_as (reply_to x) moment s) linked (record a { way = rest_of x way })
   early_heard a (greeting_ok named) way sound holds printed opened running unready e r =
-      let H : SenderData → Type 0 = λ t. IsHeardSo issued t linked (record a { way = way }) in
+      let H : SenderData → Type 0 = λ t. IsAfterStep issued t linked (record a { way = way }) in
       subst H (sym (ok_by false false (named_by named 0) moment s e.swallows unready)) (hello_heard a named way sound holds printed opened running unready e)
   early_heard a (command_ok place named) way sound holds printed opened running unready e r = absurd (e.way_so)
   early_heard a (refusal number) way sound holds printed opened running unready e r = record {
@@ -130,10 +126,10 @@ module _ (issued : List (List ℕ)) (moment : ℕ) (s : SenderData) (linked : Bo
       begun_so = e.begun_so;
       swallows = e.swallows;
     });
-    replies = early_stays s (marked s) linked a.dropped a.log (refusal number ∷ way) unready refl refl refl r (asking number ∷ way);
+    replies = early_stays s (after_hearing s) linked a.dropped a.log (refusal number ∷ way) unready refl refl refl r (asking number ∷ way);
   }
   early_heard a (asking number) way sound holds printed opened running unready e r =
-      let H : SenderData → Type 0 = λ t. IsHeardSo issued t linked (record a { way = closing ∷ way }) in
+      let H : SenderData → Type 0 = λ t. IsAfterStep issued t linked (record a { way = closing ∷ way }) in
       let same : heard_as (resend_heard number) moment s ≡ hello_asked moment s = ap (λ (b : Bool). heard_resend b number moment s) unready in
       subst H (sym same) (record {
         phase = early opened unready (record {
@@ -149,7 +145,7 @@ module _ (issued : List (List ℕ)) (moment : ℕ) (s : SenderData) (linked : Bo
         replies = early_stays s (hello_asked moment s) linked a.dropped a.log (asking number ∷ way) unready refl refl refl r (closing ∷ way);
       })
   early_heard a closing way sound holds printed opened running unready e r =
-      let H : SenderData → Type 0 = λ t. IsHeardSo issued t linked (record a { way = way }) in
+      let H : SenderData → Type 0 = λ t. IsAfterStep issued t linked (record a { way = way }) in
       subst H (sym (ok_by true false None moment s e.swallows unready)) (record {
         phase = early opened unready (record {
           ups = e.ups;
@@ -161,7 +157,7 @@ module _ (issued : List (List ℕ)) (moment : ℕ) (s : SenderData) (linked : Bo
           begun_so = e.begun_so;
           swallows = sym (early_unclosing way e.way_so.1);
         });
-        replies = early_stays s (swallowed s) linked a.dropped a.log (closing ∷ way) unready refl refl refl r way;
+        replies = early_stays s (after_swallowed_ok s) linked a.dropped a.log (closing ∷ way) unready refl refl refl r way;
       })
   early_heard a chat way sound holds printed opened running unready e r = record {
     phase = early opened unready (record {
@@ -174,11 +170,11 @@ module _ (issued : List (List ℕ)) (moment : ℕ) (s : SenderData) (linked : Bo
       begun_so = e.begun_so;
       swallows = e.swallows ∙ sym (early_unclosing way e.way_so);
     });
-    replies = early_stays s (marked s) linked a.dropped a.log (chat ∷ way) unready refl refl refl r way;
+    replies = early_stays s (after_hearing s) linked a.dropped a.log (chat ∷ way) unready refl refl refl r way;
   }
   early_heard a restart way sound holds printed opened running unready e r =
-      let H : SenderData → Type 0 = λ t. IsHeardSo issued t linked (record a { way = way }) in
-      let same : heard_as start_heard moment s ≡ marked s = ap (λ (b : Bool). heard_start b s) unready in
+      let H : SenderData → Type 0 = λ t. IsAfterStep issued t linked (record a { way = way }) in
+      let same : heard_as start_heard moment s ≡ after_hearing s = ap (λ (b : Bool). heard_start b s) unready in
       subst H (sym same) (record {
         phase = early opened unready (record {
           ups = e.ups;
@@ -190,12 +186,12 @@ module _ (issued : List (List ℕ)) (moment : ℕ) (s : SenderData) (linked : Bo
           begun_so = e.begun_so;
           swallows = e.swallows ∙ sym (early_unclosing way e.way_so);
         });
-        replies = early_stays s (marked s) linked a.dropped a.log (restart ∷ way) unready refl refl refl r way;
+        replies = early_stays s (after_hearing s) linked a.dropped a.log (restart ∷ way) unready refl refl refl r way;
       })
 
 -- an `ok` that names its line or none acknowledges the next line
 line_right : (moment : ℕ) (s : SenderData) → s.acked < s.issued → line_ok moment s ≡ acknowledged moment s
-line_right moment s more = ap (λ (b : Bool). if b then acknowledged moment s else marked s) (lt-ltb s.acked s.issued more)
+line_right moment s more = ap (λ (b : Bool). if b then acknowledged moment s else after_hearing s) (lt-ltb s.acked s.issued more)
 
 pub named_right : (named : Bool) (place moment : ℕ) (s : SenderData) → place ≡ suc s.acked → s.acked < s.issued →
     named_ok (named_by named (wire_number place)) moment s ≡ acknowledged moment s
@@ -221,7 +217,7 @@ module _ (issued : List (List ℕ)) (moment : ℕ) (s : SenderData) (linked : Bo
   late_stays : (t : SenderData) (a : Wires) (x : Answer) (way way' : List Answer) → linked ≡ true → s.ready ≡ true → a.ran ≡ true →
       Each (IsSentLate issued) a.up → t.ready ≡ s.ready → t.acked ≡ s.acked → t.issued ≡ s.issued → t.ended ≡ s.ended → t.swallow ≡ is_closing way' →
       Replies s linked a.dropped a.log (x ∷ way) → Answers true a.dropped s.issued s.acked way' (lines_run a.log) →
-      IsHeardSo issued t linked (record a { way = way' })
+      IsAfterStep issued t linked (record a { way = way' })
   late_stays t a x way way' opened ready ran ups same acked all ended swallows r answers =
       let N : ℕ → Type 0 = λ n. Answers true a.dropped n t.acked way' (lines_run a.log) in
       let A : ℕ → Type 0 = λ m. Answers true a.dropped s.issued m way' (lines_run a.log) in
@@ -236,10 +232,10 @@ module _ (issued : List (List ℕ)) (moment : ℕ) (s : SenderData) (linked : Bo
 
   late_heard : (a : Wires) (x : Answer) (way : List Answer) → lines_run a.log ≤ s.issued → linked ≡ true → s.ended ≡ None → s.ready ≡ true → a.ran ≡ true →
       Each (IsSentLate issued) a.up → IsRead s a.dropped (x ∷ way) (lines_run a.log) → Replies s linked a.dropped a.log (x ∷ way) →
-      IsHeardSo issued (heard_as (reply_to x) moment s) linked (record a { way = rest_of x way })
+      IsAfterStep issued (heard_as (reply_to x) moment s) linked (record a { way = rest_of x way })
   late_heard a (greeting_ok named) way few opened running ready ran ups read r = absurd (read.answers)
   late_heard a (command_ok place named) way few opened running ready ran ups read r =
-      let H : SenderData → Type 0 = λ t. IsHeardSo issued t linked (record a { way = way }) in
+      let H : SenderData → Type 0 = λ t. IsAfterStep issued t linked (record a { way = way }) in
       let more : suc s.acked ≤ lines_run a.log = answers_le false a.dropped s.issued (suc s.acked) way (lines_run a.log) read.answers.1 in
       let same : heard_as (ok_heard (named_by named (wire_number place))) moment s ≡ acknowledged moment s =
       ok_by false true (named_by named (wire_number place)) moment s read.swallows ready ∙ named_right named place moment s read.answers.0 (omega (arith, more, few))
@@ -258,23 +254,23 @@ module _ (issued : List (List ℕ)) (moment : ℕ) (s : SenderData) (linked : Bo
         };
       })
   late_heard a (refusal number) way few opened running ready ran ups read r =
-      late_stays (marked s) a (refusal number) way (asking number ∷ way) opened ready ran ups refl refl refl refl read.swallows r (refl, read.answers.0, read.answers.1)
+      late_stays (after_hearing s) a (refusal number) way (asking number ∷ way) opened ready ran ups refl refl refl refl read.swallows r (refl, read.answers.0, read.answers.1)
   late_heard a (asking number) way few opened running ready ran ups read r =
-      let H : SenderData → Type 0 = λ t. IsHeardSo issued t linked (record a { way = closing ∷ way }) in
+      let H : SenderData → Type 0 = λ t. IsAfterStep issued t linked (record a { way = closing ∷ way }) in
       let same : heard_as (resend_heard number) moment s ≡ line_asked (place_of number) moment s =
       ap (λ (b : Bool). heard_resend b number moment s) ready ∙ asked_right number moment s read.answers.1
       in
       subst H (sym same) (late_stays (line_asked (place_of number) moment s) a (asking number) way (closing ∷ way) opened ready ran ups refl refl refl refl refl r (refl, read.answers.2))
   late_heard a closing way few opened running ready ran ups read r =
-      let H : SenderData → Type 0 = λ t. IsHeardSo issued t linked (record a { way = way }) in
+      let H : SenderData → Type 0 = λ t. IsAfterStep issued t linked (record a { way = way }) in
       subst H (sym (ok_by true true None moment s read.swallows ready))
-      (late_stays (swallowed s) a closing way way opened ready ran ups refl refl refl refl (sym (answers_unclosing a.dropped s.issued s.acked way (lines_run a.log) read.answers.1)) r
+      (late_stays (after_swallowed_ok s) a closing way way opened ready ran ups refl refl refl refl (sym (answers_unclosing a.dropped s.issued s.acked way (lines_run a.log) read.answers.1)) r
       (answers_front a.dropped s.issued s.acked way (lines_run a.log) read.answers.1))
   late_heard a chat way few opened running ready ran ups read r =
-      late_stays (marked s) a chat way way opened ready ran ups refl refl refl refl (read.swallows ∙ sym (answers_unclosing a.dropped s.issued s.acked way (lines_run a.log) read.answers)) r
+      late_stays (after_hearing s) a chat way way opened ready ran ups refl refl refl refl (read.swallows ∙ sym (answers_unclosing a.dropped s.issued s.acked way (lines_run a.log) read.answers)) r
       (answers_front a.dropped s.issued s.acked way (lines_run a.log) read.answers)
   late_heard a restart way few opened running ready ran ups read r =
-      let H : SenderData → Type 0 = λ t. IsHeardSo issued t linked (record a { way = way }) in
+      let H : SenderData → Type 0 = λ t. IsAfterStep issued t linked (record a { way = way }) in
       let same : heard_as start_heard moment s ≡ ended_by Restarted s = ap (λ (b : Bool). heard_start b s) ready in
       subst H (sym same) (record {
         phase = late opened ready ran ups;
@@ -294,7 +290,7 @@ run_few issued ran d last queue log (after p) =
 
 heard_by : (issued : List (List ℕ)) (moment : ℕ) (s : SenderData) (linked : Bool) (last : ℕ) (a : Wires) (x : Answer) (way : List Answer) → linked ≡ true →
     s.ended ≡ None → Numbers issued s linked last (record a { way = x ∷ way }) → Phase issued s linked (record a { way = x ∷ way }) →
-    IsHeardSo issued (heard_as (reply_to x) moment s) linked (record a { way = rest_of x way })
+    IsAfterStep issued (heard_as (reply_to x) moment s) linked (record a { way = rest_of x way })
 heard_by issued moment s linked last a x way on running n (shut closed none idle) = absurd (cc)
 heard_by issued moment s linked last a x way on running n (early opened unready e) =
     early_heard issued moment s linked last a x way n.sound n.holds n.printed opened running unready e n.replies
@@ -309,10 +305,10 @@ heard_meets start issued moment s w line rest a way on running front sh n first 
     let x = first.answer in
     let N : List Answer → Type 0 = λ l. Numbers issued s w.linked w.printer.last (record a { way = l }) in
     let m : Numbers issued s w.linked w.printer.last (record a { way = x ∷ first.rest }) = subst N first.is n in
-    let so : IsHeardSo issued (heard_as (reply_to x) moment s) w.linked (record a { way = rest_of x first.rest }) = heard_by issued moment s w.linked w.printer.last a x first.rest on running m m.phase in
+    let so : IsAfterStep issued (heard_as (reply_to x) moment s) w.linked (record a { way = rest_of x first.rest }) = heard_by issued moment s w.linked w.printer.last a x first.rest on running m m.phase in
     let same : hear_step (kind_of line) moment s ≡ heard_as (reply_to x) moment s = hear_as line (reply_to x) moment s running first.heard in
-    let H : SenderData → Type 0 = λ t. IsHeardSo issued t w.linked (record a { way = rest_of x first.rest }) in
-    let heard_so : IsHeardSo issued (hear_step (kind_of line) moment s) w.linked (record a { way = rest_of x first.rest }) = subst H (sym same) so in
+    let H : SenderData → Type 0 = λ t. IsAfterStep issued t w.linked (record a { way = rest_of x first.rest }) in
+    let heard_so : IsAfterStep issued (hear_step (kind_of line) moment s) w.linked (record a { way = rest_of x first.rest }) = subst H (sym same) so in
     let Holds : List (List ℕ) → Type 0 = λ texts. HoldsIssued texts (hear_step (kind_of line) moment s) in
     record {
       wires = record a { way = rest_of x first.rest };

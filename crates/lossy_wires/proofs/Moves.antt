@@ -142,8 +142,8 @@ run_counts : (log lines : List Piece) (piece : Piece) → log ≡ greeting ∷ l
 run_counts log lines piece is =
     (ap lines_run is, ap (λ (l : List Piece). lines_run (l ++ piece ∷ [])) is ∙ (omega (arith, length-append lines (piece ∷ []))))
 
--- the phase and the replies after a run over an open link
-pub record IsRan (issued : List (List ℕ)) (s : SenderData) (linked : Bool) (a : Wires) : Type 0 where
+-- the phase and the replies after one step: a run, or a reply that was heard
+pub record IsAfterStep (issued : List (List ℕ)) (s : SenderData) (linked : Bool) (a : Wires) : Type 0 where
   pub phase : Phase issued s linked a
   pub replies : Replies s linked a.dropped a.log a.way
 
@@ -163,7 +163,7 @@ run_early s ran d queue up way named unran kept e = record {
 pub run_open : (issued : List (List ℕ)) (s : SenderData) (linked : Bool) (last : ℕ) (a : Wires) (piece : Piece) (queue : List Piece) (named : Bool) →
     linked ≡ true → Printed issued a.ran a.dropped last (piece ∷ queue) a.log → Phase issued s linked (record a { queue = piece ∷ queue }) →
     Replies s linked a.dropped a.log a.way →
-    IsRan issued s linked (record a { ran = true; queue = queue; log = a.log ++ piece ∷ []; way = a.way ++ answer_to piece named ∷ [] })
+    IsAfterStep issued s linked (record a { ran = true; queue = queue; log = a.log ++ piece ∷ []; way = a.way ++ answer_to piece named ∷ [] })
 run_open issued s linked last a piece queue named on printed (shut closed none idle) r = absurd (cc)
 run_open issued s linked last a (command place text) queue named on (before b) (early opened unready e) r = absurd (b.greetings.0)
 run_open issued s linked last a greeting queue named on (before b) (early opened unready e) r = record {
@@ -198,7 +198,7 @@ run_open issued s linked last a (command place text) queue named on (after p) (l
 -- over a closed link nothing is said
 pub run_shut : (issued : List (List ℕ)) (s : SenderData) (linked : Bool) (a : Wires) (piece : Piece) (queue : List Piece) → linked ≡ false →
     Phase issued s linked (record a { queue = piece ∷ queue }) → Replies s linked a.dropped a.log a.way →
-    IsRan issued s linked (record a { ran = true; queue = queue; log = a.log ++ piece ∷ [] })
+    IsAfterStep issued s linked (record a { ran = true; queue = queue; log = a.log ++ piece ∷ [] })
 run_shut issued s linked a piece queue off (early opened unready e) r = absurd (cc)
 run_shut issued s linked a piece queue off (late opened ready ran ups) r = absurd (cc)
 run_shut issued s linked a piece queue off (shut closed none idle) r = record {

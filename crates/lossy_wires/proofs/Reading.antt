@@ -6,7 +6,7 @@ use Rattle.marlin_frame.specs.Frame.{frame_of, line_number_of}
 use Rattle.marlin_frame.specs.Numbering.{hello_number, wire_number, hello_text, hello_frame}
 use Rattle.marlin_frame.proofs.FrameLaws.{sum_of, sum_of-lt, numbered_line, lead_of-frame, begins_with_n-frame, line_number_of-frame, has_m110-frame}
 use Rattle.marlin_frame.proofs.HelloLaws.{hello_lead, hello_line, hello_sets_number}
-use Rattle.marlin_reply.specs.Kind.{kind_of, is_talk, is_chatter}
+use Rattle.marlin_reply.specs.Kind.{kind_of, is_other_reply, is_chatter}
 use Rattle.marlin_reply.specs.declared.reply.Reply.{Reply}
 use Rattle.marlin_reply.specs.declared.reply.Reply.TheVariants as reply
 use Rattle.printer_model.specs.Printer.{Entry, judged, last_after}
@@ -17,11 +17,11 @@ use Rattle.printer_model.proofs.Judging.{judged-numbered, judged-out_of_turn, ki
 use Rattle.lossy_wires.specs.Pieces.{greeting, command, entry_in, bytes_in, IsFit, ok_heard, resend_heard, start_heard, talk_heard, heard_of, heard_in, named_by}
 
 -- a text's frame is read back
-small : (place : ℕ) → place ≤ 1999999999 → wire_number place < 2 ^ 32
-small place few = omega arith
+pub small_number : (place : ℕ) → place ≤ 1999999999 → wire_number place < 2 ^ 32
+small_number place few = omega arith
 
 frame_sum : (place : ℕ) (text : List ℕ) → place ≤ 1999999999 → IsFit text → sum_of (wire_number place) text < 2 ^ 8
-frame_sum place text few fit = sum_of-lt (wire_number place) text (small place few) fit.bytes
+frame_sum place text few fit = sum_of-lt (wire_number place) text (small_number place few) fit.bytes
 
 -- a line in turn is accepted
 pub line_accepted : (last place : ℕ) (text : List ℕ) → place ≤ 1999999999 → IsFit text → wire_number place ≡ last + 1 →
@@ -29,10 +29,10 @@ pub line_accepted : (last place : ℕ) (text : List ℕ) → place ≤ 199999999
 line_accepted last place text few fit turn =
     let n = wire_number place in
     let line = frame_of n text in
-    let its : line_number_of line ≡ n = line_number_of-frame n text (small place few) (frame_sum place text few fit) fit.sendable.no_m110 in
+    let its : line_number_of line ≡ n = line_number_of-frame n text (small_number place few) (frame_sum place text few fit) fit.sendable.no_m110 in
     let taken : Entry → Result Entry Reason = λ entry. Ok entry in
-    judged-numbered last n text line (numbered_line n text (small place few) (frame_sum place text few fit) fit.sendable.no_m110) (inl (its ∙ turn))
-    ∙ ap (λ (lead : ℕ). taken (record { number = Some n; lead = Some lead; text = text })) (lead_of-frame n text (small place few))
+    judged-numbered last n text line (numbered_line n text (small_number place few) (frame_sum place text few fit) fit.sendable.no_m110) (inl (its ∙ turn))
+    ∙ ap (λ (lead : ℕ). taken (record { number = Some n; lead = Some lead; text = text })) (lead_of-frame n text (small_number place few))
 
 -- another one is refused
 pub line_refused : (last place : ℕ) (text : List ℕ) → place ≤ 1999999999 → IsFit text → wire_number place ≢ last + 1 →
@@ -40,9 +40,9 @@ pub line_refused : (last place : ℕ) (text : List ℕ) → place ≤ 1999999999
 line_refused last place text few fit other =
     let n = wire_number place in
     let line = frame_of n text in
-    let its : line_number_of line ≡ n = line_number_of-frame n text (small place few) (frame_sum place text few fit) fit.sendable.no_m110 in
+    let its : line_number_of line ≡ n = line_number_of-frame n text (small_number place few) (frame_sum place text few fit) fit.sendable.no_m110 in
     judged-out_of_turn last line (begins_with_n-frame n text) (λ same. other (sym its ∙ same))
-    (has_m110-frame n text (small place few) (frame_sum place text few fit) fit.sendable.no_m110)
+    (has_m110-frame n text (small_number place few) (frame_sum place text few fit) fit.sendable.no_m110)
 
 -- the hello is accepted at any number
 pub greeting_accepted : (last : ℕ) → judged last (bytes_in greeting) ≡ Ok (entry_in greeting)
@@ -78,7 +78,7 @@ heard_ok = ap heard_of kind_of-ok_line
 pub heard_start : heard_in start_line ≡ start_heard
 heard_start = ap heard_of kind_of-start_line
 
-only_talk : (r : Reply) → is_talk r ≡ true → heard_of r ≡ talk_heard
+only_talk : (r : Reply) → is_other_reply r ≡ true → heard_of r ≡ talk_heard
 only_talk (reply.Ok number planner block temps) talk = absurd (cc)
 only_talk (reply.Resend number) talk = absurd (cc)
 only_talk reply.Start talk = absurd (cc)

@@ -9,8 +9,7 @@ use Rattle.send_window.specs.declared.session_end.SessionEnd.TheVariants.{NoAnsw
 use Rattle.printer_model.specs.Printer.{Logged}
 use Rattle.printer_model.specs.World.{WorldData, is_empty, can_happen, happen}
 use Rattle.printer_model.specs.declared.event.WorldEvent.TheVariants.{Opened, Closed}
-use Rattle.printer_model.proofs.Laws.{both_right}
-use Rattle.send_window.specs.Data.{SenderData, IsSound, begun}
+use Rattle.send_window.specs.Data.{SenderData, IsSound, sender_after_dial}
 use Rattle.send_window.specs.Hearing.{tick_step}
 use Rattle.send_window.specs.Sending.{room_of, frame_step, push_step}
 use Rattle.send_window.specs.Session.{HoldsIssued, ticks, issues, gives}
@@ -21,6 +20,7 @@ use Rattle.lossy_wires.specs.Pieces.{Piece, Sent, Answer, bytes_on, IsFit, IsSen
 use Rattle.lossy_wires.specs.Wires.{Wires, Printed, before, after, lines_run, weights, Answers, IsEarly, Phase, shut, early, late, IsFair, Replies, Meets}
 use Rattle.lossy_wires.proofs.Lists.{each_push, each_so, sent_more, lines_more}
 use Rattle.lossy_wires.proofs.Ways.{answers_more}
+use Rattle.std.proofs.lemmas.Bool.{and_parts}
 
 -- two senders that a printer can't distinguish by its replies
 pub record SameFlags (s t : SenderData) : Type 0 where
@@ -115,7 +115,7 @@ tick_meets start issued moment s w m =
     flags_meets start issued s (tick_step moment s) w (tick_flags moment s) (ticks_sound moment s m.numbers.sound)
     (subst Holds (append-nil issued) (step_holds (ticks moment) s issued m.numbers.holds)) m
 
-give_keeps_end : (moment : ℕ) (s : SenderData) → (frame_step moment s).ended ≡ s.ended
+pub give_keeps_end : (moment : ℕ) (s : SenderData) → (frame_step moment s).ended ≡ s.ended
 give_keeps_end moment s = grind (arith, common_steps)
 
 pub give_flags : (moment : ℕ) (s : SenderData) → SameFlags s (frame_step moment s)
@@ -129,7 +129,7 @@ give_flags moment s = record {
   fair = λ fair. subst IsFair (sym (give_keeps_end moment s)) fair;
 }
 
--- a line is given out; what becomes of it comes later
+-- a line is returned; what becomes of it comes later
 pub give_meets : (start : List Logged) (issued : List (List ℕ)) (moment : ℕ) (s : SenderData) (w : WorldData) → Meets start issued s w →
     Meets start issued (frame_step moment s) w
 give_meets start issued moment s w m =
@@ -161,7 +161,7 @@ phase_sent issued s t linked a sent on same undue may (early opened unready e) =
 phase_sent issued s t linked a sent on same undue may (late opened ready ran ups) =
     late opened (same.ready ∙ ready) ran (each_push (IsSentLate issued) a.up sent ups (may.late_so ready))
 
--- a line is given out and sent, as it is or failing
+-- a line is returned and sent, as it is or failing
 pub sent_meets : (start : List Logged) (issued : List (List ℕ)) (moment : ℕ) (s : SenderData) (w : WorldData) (sent : Sent) (bytes : List ℕ) → w.linked ≡ true →
     bytes ≡ bytes_on sent → (frame_step moment s).hello_due ≡ false → MaySend issued s sent → Meets start issued s w →
     Meets start issued (frame_step moment s) (record w { up = w.up ++ bytes ∷ [] })
@@ -246,12 +246,12 @@ none_of (x ∷ xs) is = absurd (cc)
 
 -- a link is made: a session begins
 pub opened_meets : (s : SenderData) (w : WorldData) (last : ℕ) → IsSound s → w.printer.places ≤ 16 → can_happen w (Opened last) ≡ true →
-    Meets w.log [] (begun s) (happen w (Opened last))
+    Meets w.log [] (sender_after_dial s) (happen w (Opened last))
 opened_meets s w last sound few can = record {
   wires = record { ran = false; dropped = false; queue = []; log = []; up = []; way = [] };
   shows = record {
     few = few;
-    queue = none_of w.printer.queue (both_right (not w.linked) (is_empty w.printer.queue) can);
+    queue = none_of w.printer.queue (and_parts (not w.linked) (is_empty w.printer.queue) can).1;
     log = sym (append-nil w.log);
     up = refl;
     down = refl;

@@ -2,17 +2,17 @@
 use Rattle.std.proofs.Common.{◌≡◌, ℕ, ◌-◌, ◌≤◌, Bool, true, false, not, List, [], ◌∷◌, ◌++◌, length, map, drop, refl, sym, ◌∙◌, ap, subst, append_assoc, append-nil, arith}
 use Rattle.std.specs.Prelude.{Some, Ok, Err, Result, if◌then◌else◌}
 use Rattle.std.specs.List.{list_any, list_all}
-use Rattle.std.proofs.lemmas.Bool.{or_left, or_right, cond_both}
+use Rattle.std.proofs.lemmas.Bool.{or_left, or_right, cond_both, and_parts}
 use Rattle.std.proofs.lemmas.List.Folds.{list_any-append}
 use Rattle.marlin_reply.specs.Kind.{is_chatter}
 use Rattle.printer_model.specs.Printer.{Entry, Logged, PrinterData, is_full, take_judged, take_line, judged}
 use Rattle.printer_model.specs.Replies.{error_line, resend_line, ok_line, run_reply, taken_replies}
-use Rattle.printer_model.specs.World.{WorldData, is_empty, is_free, can_happen, apply, world_from, arrive_front, replied}
+use Rattle.printer_model.specs.World.{WorldData, is_empty, is_free, can_happen, apply, world_from, arrive_front, down_with_reply}
 use Rattle.printer_model.specs.declared.event.WorldEvent.{WorldEvent}
 use Rattle.printer_model.specs.declared.event.WorldEvent.TheVariants.{Opened, Send, Arrive, Lose, Garble, Run, Restart, Chatter, Recv, Closed}
 use Rattle.printer_model.specs.declared.printer.Reason.{Reason}
 use Rattle.printer_model.specs.declared.printer.Taken.TheVariants.{Full}
-use Rattle.printer_model.proofs.Laws.{after_event, stays, both_left, both_right, run_queue_of}
+use Rattle.printer_model.proofs.Laws.{after_event, stays, run_queue_of}
 use Rattle.send_window.specs.Data.{SenderData}
 use Rattle.lossy_wires.specs.Pieces.{Piece, Each, heard_in, talk_heard, ok_heard, named_by, entry_in, front_in, text_in}
 use Rattle.lossy_wires.specs.Wires.{Wires, Shows, Numbers, Meets}
@@ -64,7 +64,7 @@ arrived_starts events w (line ∷ behind) all = each_append (IsStartKnown events
 
 module _ (start : List Logged) (issued : List (List ℕ)) (s : SenderData) (events : List WorldEvent) where
   replied_starts : (w : WorldData) (reply : List ℕ) (on : Bool) → w.linked ≡ on → IsStartKnown events reply → Each (IsStartKnown events) w.down →
-      Each (IsStartKnown events) (replied w reply)
+      Each (IsStartKnown events) (down_with_reply w reply)
   replied_starts w reply true on known all =
       let E : List (List ℕ) → Type 0 = λ l. Each (IsStartKnown events) l in
       subst E (sym (ap (λ (b : Bool). if b then w.down ++ reply ∷ [] else w.down) on)) (each_push (IsStartKnown events) w.down reply all known)
@@ -104,7 +104,7 @@ module _ (start : List Logged) (issued : List (List ℕ)) (s : SenderData) (even
       all_of (IsStartKnown (events ++ Restart ∷ [])) (λ line is. list_any-append is_restart events (Restart ∷ []) ∙ or_right (list_any is_restart events) (list_any is_restart (Restart ∷ [])) refl) (apply w Restart).down
   event_starts w (Chatter reply) free m all =
       after_event (λ v. Each (IsStartKnown (events ++ Chatter reply ∷ [])) v.down) w (Chatter reply) (starts_more events (Chatter reply ∷ []) w.down all)
-      (λ can. (let other : heard_in reply.items ≡ talk_heard = heard_chatter reply.items (both_right w.linked (is_chatter reply.items) can) in
+      (λ can. (let other : heard_in reply.items ≡ talk_heard = heard_chatter reply.items (and_parts w.linked (is_chatter reply.items) can).1 in
       each_push (IsStartKnown (events ++ Chatter reply ∷ [])) w.down reply.items (starts_more events (Chatter reply ∷ []) w.down all) (λ is. absurd (cc))))
   event_starts w Recv free m all = absurd (cc)
   event_starts w Closed free m all = absurd (cc)
@@ -116,8 +116,8 @@ free_starts start issued s w events [] free m all =
     let E : List WorldEvent → Type 0 = λ es. Each (IsStartKnown es) w.down in
     subst E (sym (append-nil events)) all
 free_starts start issued s w events (event ∷ more) free m all =
-    let first : is_free event ≡ true = both_left (is_free event) (list_all is_free more) free in
+    let first : is_free event ≡ true = (and_parts (is_free event) (list_all is_free more) free).0 in
     let E : List WorldEvent → Type 0 = λ es. Each (IsStartKnown es) (world_from (apply w event) more).down in
     subst E (append_assoc events (event ∷ []) more)
-    (free_starts start issued s (apply w event) (events ++ event ∷ []) more (both_right (is_free event) (list_all is_free more) free)
+    (free_starts start issued s (apply w event) (events ++ event ∷ []) more (and_parts (is_free event) (list_all is_free more) free).1
     (free_meets start issued s w event first m) (event_starts start issued s events w event first m all))

@@ -11,7 +11,7 @@ use Rattle.link_history.specs.Executed.{opens}
 use Rattle.link_history.specs.Exchanged.{front_line, received_by, received_from, is_closed, closes_next}
 use Rattle.printer_model.specs.declared.event.WorldEvent.{WorldEvent}
 use Rattle.printer_model.specs.declared.event.WorldEvent.TheVariants.{Send, Recv}
-use Rattle.printer_model.proofs.Laws.{happens, world_from-append, both_left, both_right}
+use Rattle.printer_model.proofs.Laws.{happens, world_from-append}
 use Rattle.link_history.proofs.Sessions.{opens-append}
 use Rattle.link_history.proofs.Starts.{opens-free, received_from-append, received_from-free}
 use Rattle.send_window.specs.Data.{SenderData}
@@ -25,6 +25,7 @@ use Rattle.lossy_wires.proofs.Free.{all_free_meets}
 use Rattle.lossy_wires.proofs.Hearing.{hear_meets}
 use Rattle.lossy_wires.proofs.Counting.{hear_counted, tally_heard}
 use Rattle.lossy_wires.proofs.Starting.{starts_more, each_behind, free_starts}
+use Rattle.std.proofs.lemmas.Bool.{and_parts}
 
 -- more texts are issued
 pub record Extends (issued more : List (List ℕ)) : Type 0 where
@@ -99,8 +100,8 @@ fits_free : (issued : List (List ℕ)) (replies : List Reply) (w : WorldData) (e
     AreSendsFit issued replies w events
 fits_free issued replies w [] free = tt
 fits_free issued replies w (event ∷ events) free = (
-  free_event_fits issued (acked_of replies) event events (both_left (is_free event) (list_all is_free events) free),
-  fits_free issued (replies ++ map kind_of (received_by w event)) (apply w event) events (both_right (is_free event) (list_all is_free events) free),
+  free_event_fits issued (acked_of replies) event events (and_parts (is_free event) (list_all is_free events) free).0,
+  fits_free issued (replies ++ map kind_of (received_by w event)) (apply w event) events (and_parts (is_free event) (list_all is_free events) free).1,
 )
 
 -- these events lead a session on
@@ -177,7 +178,7 @@ module _ (start : List Logged) where
             subst E (sym (happens w Recv can)) (starts_more events (Recv ∷ []) (drop 1 w.down) (each_behind (IsStartKnown events) w.down all)));
       }
 
-  -- a sender that gave a line out has counted as before
+  -- a sender that returned a line has counted as before
   pub tally_same : (replies : List Reply) (s t : SenderData) → t.swallow ≡ s.swallow → t.ready ≡ s.ready → t.acked ≡ s.acked → IsTallied replies s →
       IsTallied replies t
   tally_same replies s t swallow ready acked old = record {

@@ -70,6 +70,7 @@ weight_of closing = 0
 weight_of chat = 0
 weight_of restart = 0
 
+-- what all answers on the way weigh
 abbrev pub weights : List Answer → ℕ
 weights [] = 0
 weights (answer ∷ way) = weight_of answer + weights way
@@ -84,6 +85,7 @@ greeting_count closing = 0
 greeting_count chat = 0
 greeting_count restart = 0
 
+-- the same of all answers on the way
 abbrev pub greetings_on : List Answer → ℕ
 greetings_on [] = 0
 greetings_on (answer ∷ way) = greeting_count answer + greetings_on way

@@ -15,7 +15,7 @@ use Rattle.byte_text.proofs.XorLaws.{xor_of-lt}
 use Rattle.marlin_frame.specs.declared.read.Read.{Read}
 use Rattle.marlin_frame.specs.declared.read.Read.TheVariants.{Numbered, BadSum, NoSum, Plain}
 use Rattle.marlin_frame.specs.Reading.{IsReading, IsNumbered}
-use Rattle.marlin_frame.specs.Frame.{head_of, frame_of, begins_with_n, checked_part, has_checksum, checksum_matches, fails, lead_of, has_second_n, line_number_of, behind_digits, behind_space, text_of, IsNumberedLine}
+use Rattle.marlin_frame.specs.Frame.{head_of, frame_of, begins_with_n, checked_part, has_checksum, checksum_matches, fails, lead_of, has_second_n, line_number_of, after_first_digits, after_space, text_of, IsNumberedLine}
 
 -- the checksum of a command under a number
 abbrev pub sum_of : ℕ → List ℕ → ℕ
@@ -88,17 +88,17 @@ lead_of-frame n text small =
     ap (λ line. number_of (drop 1 line)) (frame_pieces n text)
     ∙ number_of-decimal n (32 ∷ (text ++ 42 ∷ decimal (sum_of n text))) small refl
 
-behind_digits-decimal : (n : ℕ) (rest : List ℕ) → n < 2 ^ 32 → begins_with_digit rest ≡ false → behind_digits (decimal n ++ rest) ≡ rest
-unfolding behind_digits
-behind_digits-decimal n rest small other =
+after_first_digits-decimal : (n : ℕ) (rest : List ℕ) → n < 2 ^ 32 → begins_with_digit rest ≡ false → after_first_digits (decimal n ++ rest) ≡ rest
+unfolding after_first_digits
+after_first_digits-decimal n rest small other =
     ap (λ digits. drop (length digits) (decimal n ++ rest)) (leading_digits-decimal n rest (omega arith) other)
     ∙ drop_at (decimal n) rest (length (decimal n)) refl
 
 pub text_of-frame : (n : ℕ) (text : List ℕ) → n < 2 ^ 32 → sum_of n text < 2 ^ 8 → text_of (frame_of n text) ≡ text
-unfolding text_of behind_space begins_with_digit
+unfolding text_of after_space begins_with_digit
 text_of-frame n text small fits =
-    ap (λ checked. behind_space (behind_digits (drop 1 checked))) (checked_part-frame n text fits ∙ head_pieces n text)
-    ∙ ap behind_space (behind_digits-decimal n (32 ∷ text) small refl)
+    ap (λ checked. after_space (after_first_digits (drop 1 checked))) (checked_part-frame n text fits ∙ head_pieces n text)
+    ∙ ap after_space (after_first_digits-decimal n (32 ∷ text) small refl)
 
 m110_in_decimal : (n : ℕ) → n < 2 ^ 32 → has_m110 (decimal n) ≡ false
 m110_in_decimal n small = has_m110-no_m (decimal n) (has_byte-decimal 77 n (omega arith) refl)

@@ -50,17 +50,17 @@ line_number_of line =
     else lead_of line
 
 -- what follows the digits at the front
-unfoldable pub behind_digits : List ℕ → List ℕ
-behind_digits bytes = drop (length (leading_digits bytes)) bytes
+unfoldable pub after_first_digits : List ℕ → List ℕ
+after_first_digits bytes = drop (length (leading_digits bytes)) bytes
 
 -- without one space at the front, if there is one
-unfoldable pub behind_space : List ℕ → List ℕ
-behind_space [] = []
-behind_space (byte ∷ bytes) = if byte == 32 then bytes else byte ∷ bytes
+unfoldable pub after_space : List ℕ → List ℕ
+after_space [] = []
+after_space (byte ∷ bytes) = if byte == 32 then bytes else byte ∷ bytes
 
 -- the command of a numbered line: after the `N`, its digits and one space, up to the last `*`
 unfoldable pub text_of : List ℕ → List ℕ
-text_of line = behind_space (behind_digits (drop 1 (checked_part line)))
+text_of line = after_space (after_first_digits (drop 1 (checked_part line)))
 
 -- a line that carries a command under a number, with a right checksum
 pub record IsNumberedLine (n : ℕ) (text line : List ℕ) : Type 0 where

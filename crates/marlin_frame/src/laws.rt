@@ -4,25 +4,27 @@ ghost use Rattle.std.specs.Prelude.{◌≡◌, ℕ, ◌<◌, ◌≤◌, ◌^◌,
 ghost use Rattle.std.specs.List.{All};
 ghost use Rattle.byte_text.specs.Marks.{has_byte, has_m110};
 ghost use Rattle.byte_text.specs.Sendable.{IsSendable};
+ghost use Rattle.byte_text.specs.declared.texts.TheConstants.{MOST_LINE_BYTES};
 ghost use Rattle.marlin_frame.specs.declared.read.Read.{Read};
+ghost use Rattle.marlin_frame.specs.declared.written.TheConstants.{LAST_NUMBER};
 ghost use Rattle.marlin_frame.specs.Frame.{frame_of, begins_with_n, fails, lead_of, text_of, IsNumberedLine};
 ghost use Rattle.marlin_frame.specs.Numbering.{hello_number, hello_text, hello_frame};
 ghost use Rattle.marlin_frame.specs.Reading.{IsReading, IsNumbered};
 
 /// What is on the line of a sendable command: the command under its number, and nothing else.
 pub fn frame_law()
-    ensures reads_back { (n : ℕ) (text : List ℕ) → n ≤ 2000000000 → IsSendable text
+    ensures reads_back { (n : ℕ) (text : List ℕ) → n ≤ LAST_NUMBER → IsSendable text
         → All (λ b. b < 2 ^ 8) text → IsNumberedLine n text (frame_of n text) }
-    ensures read_as { (n : ℕ) (text : List ℕ) (reading : Read) → n ≤ 2000000000 → IsSendable text
+    ensures read_as { (n : ℕ) (text : List ℕ) (reading : Read) → n ≤ LAST_NUMBER → IsSendable text
         → All (λ b. b < 2 ^ 8) text → IsReading reading (frame_of n text)
         → IsNumbered n text reading }
-    ensures lead { (n : ℕ) (text : List ℕ) → n ≤ 2000000000 → lead_of (frame_of n text) ≡ n }
-    ensures no_m110 { (n : ℕ) (text : List ℕ) → n ≤ 2000000000 → IsSendable text
+    ensures lead { (n : ℕ) (text : List ℕ) → n ≤ LAST_NUMBER → lead_of (frame_of n text) ≡ n }
+    ensures no_m110 { (n : ℕ) (text : List ℕ) → n ≤ LAST_NUMBER → IsSendable text
         → All (λ b. b < 2 ^ 8) text → has_m110 (frame_of n text) ≡ false }
-    ensures no_line_feed { (n : ℕ) (text : List ℕ) → n ≤ 2000000000 → IsSendable text
+    ensures no_line_feed { (n : ℕ) (text : List ℕ) → n ≤ LAST_NUMBER → IsSendable text
         → All (λ b. b < 2 ^ 8) text → has_byte 10 (frame_of n text) ≡ false }
-    ensures at_most_95 { (n : ℕ) (text : List ℕ) → n ≤ 2000000000 → IsSendable text
-        → All (λ b. b < 2 ^ 8) text → length (frame_of n text) ≤ 95 }
+    ensures at_most_95 { (n : ℕ) (text : List ℕ) → n ≤ LAST_NUMBER → IsSendable text
+        → All (λ b. b < 2 ^ 8) text → length (frame_of n text) ≤ MOST_LINE_BYTES }
 {}
 
 /// The hello, with which a session begins: a whole line with `M110`, which sets the printer's number to the hello's.

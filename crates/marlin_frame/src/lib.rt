@@ -19,4 +19,4 @@ pub use parts::{
     begins_with_n, checksum_matches, fails, has_checksum, has_second_n, lead, line_number, text,
 };
 pub use read::{Read, read_frame};
-pub use written::frame;
+pub use written::{LAST_NUMBER, frame};

@@ -4,6 +4,7 @@
 //! executed twice. So the hello sets the printer's number to 1, and the lines are numbered from 2.
 ghost use Rattle.std.specs.Prelude.{◌≡◌, ◌<◌, ◌≤◌, ◌+◌, ◌^◌, false, length};
 ghost use Rattle.byte_text.specs.Marks.{has_byte};
+ghost use Rattle.byte_text.specs.declared.texts.TheConstants.{MOST_LINE_BYTES};
 ghost use Rattle.marlin_frame.specs.Numbering.{hello_number, wire_number, hello_frame};
 
 use crate::written::frame;
@@ -26,7 +27,7 @@ pub fn wire_number(place: u32) -> u32
 #[tactic(auto, unfolding(byte_text::specs::Marks::has_byte))]
 pub fn hello_frame(into: &mut Line)
     ensures written { into.new.items ≡ hello_frame }
-    ensures at_most_95 { length into.new.items ≤ 95 }
+    ensures at_most_95 { length into.new.items ≤ MOST_LINE_BYTES }
     ensures one_line { has_byte 10 into.new.items ≡ false }
 {
     frame(0, b"M110 N1", into);

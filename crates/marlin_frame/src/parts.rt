@@ -2,7 +2,7 @@
 //! says there, so callers ask `begins_with_n` first.
 ghost use Rattle.std.specs.Prelude.{◌≡◌, ◌≤◌, ◌==◌, length, drop};
 ghost use Rattle.std.specs.List.{position_or_len, after_first, before_last, after_last};
-ghost use Rattle.marlin_frame.specs.Frame.{begins_with_n, has_checksum, checksum_matches, fails, lead_of, has_second_n, line_number_of, behind_digits, behind_space, text_of};
+ghost use Rattle.marlin_frame.specs.Frame.{begins_with_n, has_checksum, checksum_matches, fails, lead_of, has_second_n, line_number_of, after_first_digits, after_space, text_of};
 
 use byte_text::{has_byte, has_m110, leading_digits, number, split_at_last, xor};
 
@@ -24,7 +24,7 @@ pub fn has_checksum(line: &[u8]) -> bool
 // What is before and after the last `*`; if there is none, nothing before it and all after it.
 fn around_last_star(line: &[u8]) -> (&[u8], &[u8])
     ensures before { result.0.now ≡ before_last (λ byte. byte == 42) line.now }
-    ensures behind { result.1.now ≡ after_last (λ byte. byte == 42) line.now }
+    ensures after { result.1.now ≡ after_last (λ byte. byte == 42) line.now }
 {
     match split_at_last(line, b'*') {
         Some(parts) => parts,
@@ -50,7 +50,7 @@ pub fn fails(line: &[u8]) -> bool
 }
 
 // The bytes but for the first `count`, none if there are no more.
-fn behind(bytes: &[u8], count: usize) -> &[u8]
+fn after(bytes: &[u8], count: usize) -> &[u8]
     ensures { result.now ≡ drop count bytes.now }
 {
     if count <= bytes.len() {
@@ -68,10 +68,10 @@ fn length_before_n(bytes: &[u8]) -> usize
 }
 
 // What follows the first `N`, nothing if there is none.
-fn behind_first_n(bytes: &[u8]) -> &[u8]
+fn after_first_n(bytes: &[u8]) -> &[u8]
     ensures { result.now ≡ after_first (λ byte. byte == 78) bytes.now }
 {
-    behind(behind(bytes, length_before_n(bytes)), 1)
+    after(after(bytes, length_before_n(bytes)), 1)
 }
 
 /// The number after the `N` that the line begins with: 0 for no digits, 4,294,967,295 for everything above it.
@@ -79,7 +79,7 @@ fn behind_first_n(bytes: &[u8]) -> &[u8]
 pub fn lead(line: &[u8]) -> u32
     ensures { result ≡ lead_of line.now }
 {
-    number(behind(line, 1))
+    number(after(line, 1))
 }
 
 /// Whether the line holds `M110` and an `N` at its fifth byte or later, after which its number is.
@@ -87,36 +87,36 @@ pub fn lead(line: &[u8]) -> u32
 pub fn has_second_n(line: &[u8]) -> bool
     ensures { result ≡ has_second_n line.now }
 {
-    has_m110(line) && has_byte(behind(line, 4), b'N')
+    has_m110(line) && has_byte(after(line, 4), b'N')
 }
 
-/// The number that the line counts by: its lead, or in a line with `M110` the number after the first `N` at the
+/// The number that the line counts by: its N parameter, or in a line with `M110` the number after the first `N` at the
 /// fifth byte or later, if there is one.
 #[tactic(auto, unfolding(crate::specs::Frame::line_number_of))]
 pub fn line_number(line: &[u8]) -> u32
     ensures { result ≡ line_number_of line.now }
 {
     if has_second_n(line) {
-        number(behind_first_n(behind(line, 4)))
+        number(after_first_n(after(line, 4)))
     } else {
         lead(line)
     }
 }
 
 // What follows the digits at the front.
-#[tactic(auto, unfolding(crate::specs::Frame::behind_digits))]
-fn behind_digits(bytes: &[u8]) -> &[u8]
-    ensures { result.now ≡ behind_digits bytes.now }
+#[tactic(auto, unfolding(crate::specs::Frame::after_first_digits))]
+fn after_first_digits(bytes: &[u8]) -> &[u8]
+    ensures { result.now ≡ after_first_digits bytes.now }
 {
-    behind(bytes, leading_digits(bytes).len())
+    after(bytes, leading_digits(bytes).len())
 }
 
 // The bytes without one space at the front, if there is one.
-fn behind_space(bytes: &[u8]) -> &[u8]
-    ensures { result.now ≡ behind_space bytes.now }
+fn after_space(bytes: &[u8]) -> &[u8]
+    ensures { result.now ≡ after_space bytes.now }
 {
     if bytes.starts_with(b" ") {
-        behind(bytes, 1)
+        after(bytes, 1)
     } else {
         bytes
     }
@@ -129,5 +129,5 @@ pub fn text(line: &[u8]) -> &[u8]
     ensures within { length result.now ≤ length line.now }
 {
     let (checked, _) = around_last_star(line);
-    behind_space(behind_digits(behind(checked, 1)))
+    after_space(after_first_digits(after(checked, 1)))
 }

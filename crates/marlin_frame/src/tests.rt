@@ -1,3 +1,4 @@
+//! Numbered lines, written and read back.
 use super::*;
 use byte_text::{Line, has_byte};
 use std::process::Abort;
@@ -246,7 +247,7 @@ const ROWS: [(u32, &str, &str); 64] = [
     ),
 ];
 
-fn framed(rt: &impl Abort, n: u32, text: &[u8]) -> Line {
+fn line_of(rt: &impl Abort, n: u32, text: &[u8]) -> Line {
     assert!(rt; n <= 2_000_000_000);
     assert!(rt; !text.is_empty() && text.len() <= 79);
     assert!(rt; !has_byte(text, b'*') && !has_byte(text, b'\n'));
@@ -259,7 +260,7 @@ fn framed(rt: &impl Abort, n: u32, text: &[u8]) -> Line {
 fn lines_are_written_and_read_back(rt: HostRuntime) {
     for (n, text, line) in ROWS {
         let (text, line) = (text.as_bytes(), line.as_bytes());
-        let written = framed(&rt, n, text);
+        let written = line_of(&rt, n, text);
         assert!(rt; written.as_slice() == line, "at {n}");
         assert!(rt; read_frame(line) == Read::Numbered { n, text }, "at {n}");
         assert!(rt; !fails(line) && lead(line) == n, "at {n}");
@@ -272,8 +273,8 @@ fn lines_of_a_small_print(rt: HostRuntime) {
     hello_frame(&mut hello);
     assert!(rt; hello.as_slice() == b"N0 M110 N1*124".as_slice());
     assert!(rt; line_number(&hello) == HELLO_NUMBER && lead(&hello) == 0);
-    assert!(rt; framed(&rt, wire_number(1), b"G28").as_slice() == b"N2 G28*17".as_slice());
-    assert!(rt; framed(&rt, wire_number(2), b"G1 X10").as_slice() == b"N3 G1 X10*82".as_slice());
+    assert!(rt; line_of(&rt, wire_number(1), b"G28").as_slice() == b"N2 G28*17".as_slice());
+    assert!(rt; line_of(&rt, wire_number(2), b"G1 X10").as_slice() == b"N3 G1 X10*82".as_slice());
 }
 
 #[test]

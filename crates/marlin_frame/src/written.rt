@@ -1,9 +1,15 @@
 //! A numbered line, written.
+//!
+//! Source: Marlin's queue.cpp, line numbers and checksums.
 ghost use Rattle.std.specs.Prelude.{◌≡◌, ◌≤◌, ◌+◌, ◌++◌, false, true, length, decimal};
 ghost use Rattle.byte_text.specs.Marks.{has_byte, has_m110};
+ghost use Rattle.byte_text.specs.declared.texts.TheConstants.{MOST_LINE_BYTES};
 ghost use Rattle.marlin_frame.specs.Frame.{head_of, frame_of, begins_with_n, fails, lead_of, IsNumberedLine};
 
 use byte_text::{Line, append, append_decimal, xor};
+
+/// The greatest number that a line carries here.
+pub const LAST_NUMBER: u32 = 2_000_000_000;
 
 // Writes what the checksum is taken of.
 fn write_head(n: u32, text: &[u8], into: &mut Line)
@@ -23,14 +29,18 @@ fn write_head(n: u32, text: &[u8], into: &mut Line)
 /// The number is at most 2,000,000,000; the command has 1 to 79 bytes, no `*` and no line feed. The line then has
 /// at most 95 bytes, and is read back as this number and command if the command holds no `M110`.
 pub fn frame(n: u32, text: &[u8], into: &mut Line)
-    requires number { n ≤ 2000000000 }
+    requires number { n ≤ LAST_NUMBER }
     requires some { 1 ≤ length text.now }
     requires short { length text.now ≤ 79 }
     requires no_star { has_byte 42 text.now ≡ false }
     requires no_line_feed { has_byte 10 text.now ≡ false }
+
+    // What is written.
     ensures written { into.new.items ≡ frame_of n text.now }
-    ensures at_most_95 { length into.new.items ≤ 95 }
+    ensures at_most_95 { length into.new.items ≤ MOST_LINE_BYTES }
     ensures one_line { has_byte 10 into.new.items ≡ false }
+
+    // How it is read.
     ensures numbered { begins_with_n into.new.items ≡ true }
     ensures whole { fails into.new.items ≡ false }
     ensures lead { lead_of into.new.items ≡ n }

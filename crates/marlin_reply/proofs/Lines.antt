@@ -12,10 +12,11 @@ use Rattle.std.specs.List.{list_all, prefix_len, suffix_len, find}
 use Rattle.std.specs.Option.{option_or, option_and_then}
 use Rattle.byte_text.specs.Number.{leading_digits, decimal_value, begins_with_digit}
 use Rattle.byte_text.proofs.NumberLaws.{all_digits-decimal, decimal_value-decimal, leading_digits-decimal}
-use Rattle.gcode_words.specs.Value.{millionths, micro_of, behind_digits, decimals_at, behind_decimals, magnitude_at, number_at}
-use Rattle.marlin_reply.specs.Pieces.{is_blank, is_line_end, without_front, without_end, trimmed, begins, behind_spaces, starts_behind, piece_starts, front_piece, small_number, whole_number, field_at, field_of, first_some}
-use Rattle.marlin_reply.specs.Temperatures.{target_at, heat_at, heat_of, temps_of, reported}
-use Rattle.marlin_reply.specs.Kind.{ok_of, request_of, resend_of, talk_of, kind_of_text, kind_of}
+use Rattle.gcode_words.specs.Value.{millionths, micro_of, after_digits, decimals_at, after_decimals, magnitude_at, number_at}
+use Rattle.byte_text.specs.Chars.{is_space}
+use Rattle.marlin_reply.specs.Pieces.{is_line_end, without_front, without_end, trimmed, begins, after_spaces, starts_after, piece_starts, front_piece, small_number, whole_number, field_at, field_of, first_some}
+use Rattle.marlin_reply.specs.Temperatures.{target_at, heat_at, heat_of, temps_of, temps_of_heats}
+use Rattle.marlin_reply.specs.Kind.{ok_of, request_of, resend_of, other_reply_of, kind_of_text, kind_of}
 use Rattle.marlin_reply.specs.declared.reply.Reply.TheVariants as reply
 
 -- a text of digits alone, one at least
@@ -80,19 +81,19 @@ front_piece-all (byte ∷ bytes) each =
     ∙ ap (λ l. byte ∷ l) later
 
 -- no piece begins after a digit
-starts_behind-digits : (digits rest : List ℕ) → list_all is_ascii_digit digits ≡ true → starts_behind (digits ++ rest) ≡ starts_behind rest
-starts_behind-digits [] rest each = refl
-starts_behind-digits (byte ∷ bytes) rest each =
+starts_after-digits : (digits rest : List ℕ) → list_all is_ascii_digit digits ≡ true → starts_after (digits ++ rest) ≡ starts_after rest
+starts_after-digits [] rest each = refl
+starts_after-digits (byte ∷ bytes) rest each =
     let both = and_parts (is_ascii_digit byte) (list_all is_ascii_digit bytes) each in
-    ap (λ v. cond v ((bytes ++ rest) ∷ starts_behind (bytes ++ rest)) (starts_behind (bytes ++ rest))) (no_space byte both.0)
-    ∙ starts_behind-digits bytes rest both.1
+    ap (λ v. cond v ((bytes ++ rest) ∷ starts_after (bytes ++ rest)) (starts_after (bytes ++ rest))) (no_space byte both.0)
+    ∙ starts_after-digits bytes rest both.1
 
-starts_behind-all : (digits : List ℕ) → list_all is_ascii_digit digits ≡ true → starts_behind digits ≡ []
-starts_behind-all [] each = refl
-starts_behind-all (byte ∷ bytes) each =
+starts_after-all : (digits : List ℕ) → list_all is_ascii_digit digits ≡ true → starts_after digits ≡ []
+starts_after-all [] each = refl
+starts_after-all (byte ∷ bytes) each =
     let both = and_parts (is_ascii_digit byte) (list_all is_ascii_digit bytes) each in
-    ap (λ v. cond v (bytes ∷ starts_behind bytes) (starts_behind bytes)) (no_space byte both.0)
-    ∙ starts_behind-all bytes both.1
+    ap (λ v. cond v (bytes ∷ starts_after bytes) (starts_after bytes)) (no_space byte both.0)
+    ∙ starts_after-all bytes both.1
 
 small_number-decimal : (n : ℕ) → n < 2 ^ 32 → small_number (decimal n) ≡ Some n
 unfolding small_number
@@ -114,7 +115,7 @@ no_mark [] are = absurd (let h = are.some in omega arith)
 no_mark (byte ∷ bytes) are =
     ap (λ v. v && true) (no_colon byte ((and_parts (is_ascii_digit byte) (list_all is_ascii_digit bytes) are.each).0))
 
--- the free places of an `ok`, and the whole lines with them
+-- the free buffer slots of an `ok`, and the whole lines with them
 abbrev places_of : List ℕ → List ℕ
 places_of block = 80 ∷ 49 ∷ 53 ∷ 32 ∷ 66 ∷ block
 
@@ -125,15 +126,15 @@ abbrev numbered_ok : List ℕ → List ℕ → List ℕ
 numbered_ok number block = 111 ∷ 107 ∷ 32 ∷ 78 ∷ (number ++ 32 ∷ places_of block)
 
 plain_ok-starts : (block : List ℕ) → list_all is_ascii_digit block ≡ true → piece_starts (plain_ok block) ≡ plain_ok block ∷ places_of block ∷ (66 ∷ block) ∷ []
-plain_ok-starts block each = ap (λ l. plain_ok block ∷ places_of block ∷ (66 ∷ block) ∷ l) (starts_behind-all block each)
+plain_ok-starts block each = ap (λ l. plain_ok block ∷ places_of block ∷ (66 ∷ block) ∷ l) (starts_after-all block each)
 
 numbered_ok-starts : (number block : List ℕ) → list_all is_ascii_digit number ≡ true → list_all is_ascii_digit block ≡ true → piece_starts (numbered_ok number block) ≡ numbered_ok number block ∷ (78 ∷ (number ++ 32 ∷ places_of block)) ∷ places_of block ∷ (66 ∷ block) ∷ []
 numbered_ok-starts number block n_each b_each =
     ap (λ l. numbered_ok number block ∷ (78 ∷ (number ++ 32 ∷ places_of block)) ∷ l)
-    (starts_behind-digits number (32 ∷ places_of block) n_each
-    ∙ ap (λ l. places_of block ∷ (66 ∷ block) ∷ l) (starts_behind-all block b_each))
+    (starts_after-digits number (32 ∷ places_of block) n_each
+    ∙ ap (λ l. places_of block ∷ (66 ∷ block) ∷ l) (starts_after-all block b_each))
 
--- the free places of the planner are 15
+-- the free buffer slots of the planner are 15
 planner-places : (block : List ℕ) → whole_number (front_piece (49 ∷ 53 ∷ 32 ∷ 66 ∷ block)) ≡ Some 15
 unfolding whole_number small_number decimal_value front_piece
 planner-places block = refl
@@ -157,7 +158,7 @@ heat_of-starts mark text starts are none =
 
 temps_of-none : (text : List ℕ) → heat_of (codes "T:") text ≡ None → heat_of (codes "B:") text ≡ None → temps_of text ≡ None
 unfolding temps_of
-temps_of-none text tool bed = ap (λ h. reported h (heat_of (codes "B:") text)) tool ∙ ap (reported None) bed
+temps_of-none text tool bed = ap (λ h. temps_of_heats h (heat_of (codes "B:") text)) tool ∙ ap (temps_of_heats None) bed
 
 no_temps-last : (block : List ℕ) → IsDigits block → find (λ start. begins start (codes "B:")) ((66 ∷ block) ∷ []) ≡ None
 no_temps-last block are = ap (λ v. cond v (Some (66 ∷ block)) None) (no_mark block are)
@@ -201,10 +202,10 @@ plain_ok-is b b_small =
     ∙ ap (λ o. reply.Ok None (Some 15) (Some b) o) temps
 
 -- a line that begins `ok ` or `Resend:` and ends with digits has nothing to trim
-trimmed-digits : (byte : ℕ) (front digits : List ℕ) → is_blank byte ≡ false → IsDigits digits → trimmed (byte ∷ front ++ digits) ≡ byte ∷ front ++ digits
+trimmed-digits : (byte : ℕ) (front digits : List ℕ) → is_space byte ≡ false → IsDigits digits → trimmed (byte ∷ front ++ digits) ≡ byte ∷ front ++ digits
 unfolding trimmed without_front
 trimmed-digits byte front digits solid are =
-    ap (λ v. without_end (drop (cond v (1 + prefix_len is_blank (front ++ digits)) 0) (byte ∷ front ++ digits))) solid
+    ap (λ v. without_end (drop (cond v (1 + prefix_len is_space (front ++ digits)) 0) (byte ∷ front ++ digits))) solid
     ∙ without_end-digits (byte ∷ front) digits are
 
 ok_of-text : (rest : List ℕ) → kind_of_text (111 ∷ 107 ∷ 32 ∷ rest) ≡ ok_of (111 ∷ 107 ∷ 32 ∷ rest)
@@ -236,14 +237,14 @@ unfolding trimmed without_front without_end kind_of_text kind_of
 kind_of-start = refl
 
 pub kind_of-temps_ok : kind_of (codes "ok T:21.30 /0.00 B:21.22 /0.00 @:0 B@:0") ≡ reply.Ok None None None (Some (record { tool = Some (record { actual = pos 21300000; target = pos 0 }); bed = Some (record { actual = pos 21220000; target = pos 0 }) }))
-unfolding leading_digits decimal_value millionths micro_of behind_digits decimals_at behind_decimals magnitude_at number_at without_front without_end trimmed behind_spaces front_piece small_number whole_number field_at field_of target_at heat_at heat_of temps_of ok_of kind_of_text kind_of
+unfolding leading_digits decimal_value millionths micro_of after_digits decimals_at after_decimals magnitude_at number_at without_front without_end trimmed after_spaces front_piece small_number whole_number field_at field_of target_at heat_at heat_of temps_of ok_of kind_of_text kind_of
 kind_of-temps_ok = refl
 
 -- a request
-behind_spaces-digits : (digits : List ℕ) → IsDigits digits → behind_spaces (32 ∷ digits) ≡ digits
-unfolding behind_spaces
-behind_spaces-digits [] are = absurd (let h = are.some in omega arith)
-behind_spaces-digits (byte ∷ bytes) are =
+after_spaces-digits : (digits : List ℕ) → IsDigits digits → after_spaces (32 ∷ digits) ≡ digits
+unfolding after_spaces
+after_spaces-digits [] are = absurd (let h = are.some in omega arith)
+after_spaces-digits (byte ∷ bytes) are =
     ap (λ v. drop (1 + cond v (1 + prefix_len (λ b. b == 32) bytes) 0) (32 ∷ byte ∷ bytes)) (no_space byte ((and_parts (is_ascii_digit byte) (list_all is_ascii_digit bytes) are.each).0))
 
 resend_of-decimal : (n : ℕ) → n < 2 ^ 32 → resend_of (decimal n) ≡ reply.Resend n
@@ -256,7 +257,7 @@ resend_of-decimal n small =
     ∙ ap (λ v. cond v (request_of (small_number (decimal n))) reply.Other) few
     ∙ ap request_of (small_number-decimal n small)
 
-resend_of-text : (rest : List ℕ) → kind_of_text (codes "Resend:" ++ rest) ≡ resend_of (leading_digits (behind_spaces rest))
+resend_of-text : (rest : List ℕ) → kind_of_text (codes "Resend:" ++ rest) ≡ resend_of (leading_digits (after_spaces rest))
 unfolding kind_of_text
 resend_of-text rest = refl
 
@@ -273,7 +274,7 @@ kind_of-resend n small =
     let are = decimal-digits n small in
     ap kind_of_text (trimmed-digits 82 (101 ∷ 115 ∷ 101 ∷ 110 ∷ 100 ∷ 58 ∷ 32 ∷ []) (decimal n) refl are)
     ∙ resend_of-text (32 ∷ decimal n)
-    ∙ ap (λ l. resend_of (leading_digits l)) (behind_spaces-digits (decimal n) are)
+    ∙ ap (λ l. resend_of (leading_digits l)) (after_spaces-digits (decimal n) are)
     ∙ ap resend_of (leading_digits-whole n small)
     ∙ resend_of-decimal n small
 
@@ -293,7 +294,7 @@ error-ends rest =
     omega arith
 
 error-front : (kept : ℕ) (rest : List ℕ) → 6 ≤ kept → kind_of_text (take kept (codes "Error:" ++ rest)) ≡ reply.Error
-unfolding kind_of_text talk_of
+unfolding kind_of_text other_reply_of
 error-front zero rest h = absurd (omega arith)
 error-front (suc zero) rest h = absurd (omega arith)
 error-front (suc (suc zero)) rest h = absurd (omega arith)

@@ -1,26 +1,24 @@
+-- The pieces of a reply line, which spaces separate, and the numbers in them.
 use Rattle.std.specs.Prelude.{ℕ, ◌-◌, ◌==◌, ◌||◌, ◌&&◌, not, nat_eq, nat_le, Bool, if◌then◌else◌, List, [], ◌∷◌, length, take, drop, Option, None, Some}
 use Rattle.std.specs.Char.{is_ascii_digit}
 use Rattle.std.specs.List.{starts_with, take_while, prefix_len, suffix_len, list_all}
 use Rattle.std.specs.Option.{option_or}
-use Rattle.byte_text.specs.Number.{decimal_value}
+use Rattle.byte_text.specs.Chars.{is_space}
+use Rattle.byte_text.specs.Number.{decimal_value, most_u32}
 
--- a space or a tab
-abbrev pub is_blank : ℕ → Bool
-is_blank byte = byte == 32 || byte == 9
-
--- a blank or a carriage return
+-- a space, a tab or a carriage return
 abbrev pub is_line_end : ℕ → Bool
-is_line_end byte = is_blank byte || byte == 13
+is_line_end byte = is_space byte || byte == 13
 
--- without the blanks at the front
+-- without the spaces and tabs at the front
 unfoldable pub without_front : List ℕ → List ℕ
-without_front bytes = drop (prefix_len is_blank bytes) bytes
+without_front bytes = drop (prefix_len is_space bytes) bytes
 
--- without the blanks and carriage returns at the end
+-- without the spaces, tabs and carriage returns at the end
 unfoldable pub without_end : List ℕ → List ℕ
 without_end bytes = take (length bytes - suffix_len is_line_end bytes) bytes
 
--- a line without blanks at both ends and without carriage returns at its end
+-- a line without spaces and tabs at both ends and without carriage returns at its end
 unfoldable pub trimmed : List ℕ → List ℕ
 trimmed line = without_end (without_front line)
 
@@ -29,17 +27,17 @@ abbrev pub begins : List ℕ → List ℕ → Bool
 begins text mark = starts_with nat_eq text mark
 
 -- without the spaces at the front
-unfoldable pub behind_spaces : List ℕ → List ℕ
-behind_spaces bytes = drop (prefix_len (λ byte. byte == 32) bytes) bytes
+unfoldable pub after_spaces : List ℕ → List ℕ
+after_spaces bytes = drop (prefix_len (λ byte. byte == 32) bytes) bytes
 
 -- what follows each space
-abbrev pub starts_behind : List ℕ → List (List ℕ)
-starts_behind [] = []
-starts_behind (byte ∷ bytes) = if byte == 32 then bytes ∷ starts_behind bytes else starts_behind bytes
+abbrev pub starts_after : List ℕ → List (List ℕ)
+starts_after [] = []
+starts_after (byte ∷ bytes) = if byte == 32 then bytes ∷ starts_after bytes else starts_after bytes
 
 -- the text from each of its pieces on; a space is between two pieces
 abbrev pub piece_starts : List ℕ → List (List ℕ)
-piece_starts text = text ∷ starts_behind text
+piece_starts text = text ∷ starts_after text
 
 -- the same of a text or none
 abbrev pub starts_left : Option (List ℕ) → List (List ℕ)
@@ -52,7 +50,7 @@ front_piece text = take_while (λ byte. not (byte == 32)) text
 
 -- the number that digits write, if it is at most 4,294,967,295
 unfoldable pub small_number : List ℕ → Option ℕ
-small_number digits = if nat_le (decimal_value digits) 4294967295 then Some (decimal_value digits) else None
+small_number digits = if nat_le (decimal_value digits) most_u32 then Some (decimal_value digits) else None
 
 -- the number that a text writes which has digits alone
 unfoldable pub whole_number : List ℕ → Option ℕ

@@ -3,7 +3,7 @@ ghost use Rattle.std.specs.Prelude.{◌≡◌, ℕ, ◌<◌, ◌^◌, Bool, true
 ghost use Rattle.marlin_reply.specs.Kind.{kind_of, is_chatter};
 ghost use Rattle.marlin_reply.specs.declared.reply.Reply.TheVariants as reply;
 
-/// An `ok`, alone, with temperatures, with the free places, and with a line's number before them.
+/// An `ok`, alone, with temperatures, with the free buffer slots, and with a line's number before them.
 pub fn ok_law()
     ensures alone { kind_of (codes "ok") ≡ reply.Ok None None None None }
     ensures temps { kind_of (codes "ok T:21.30 /0.00 B:21.22 /0.00 @:0 B@:0")

@@ -1,4 +1,7 @@
 //! The printer's reply lines, by Marlin's serial protocol.
+//!
+//! Source: Marlin's queue.cpp for `ok` and `Resend:`; temperature.cpp for the reports of temperatures;
+//! `HOST_KEEPALIVE_FEATURE` for `echo:busy:`.
 #![tactic(auto)]
 
 mod laws;

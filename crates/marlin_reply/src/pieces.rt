@@ -1,11 +1,12 @@
 //! The pieces of a line, between its spaces, and the number fields among them.
 ghost use Rattle.std.specs.Prelude.{◌≡◌, ◌≤◌, ◌==◌, not, length};
 ghost use Rattle.std.specs.Option.{option_copied};
-ghost use Rattle.std.specs.Char.{is_ascii_digit};
-ghost use Rattle.std.specs.List.{list_all, prefix_len, suffix_len};
+ghost use Rattle.std.specs.List.{prefix_len, suffix_len};
 ghost use Rattle.std.specs.Iterator.{YieldsFirstRef, item_count};
-ghost use Rattle.marlin_reply.specs.Pieces.{is_blank, is_line_end, without_front, without_end, trimmed, behind_spaces, starts_behind, piece_starts, front_piece, small_number, whole_number, field_at, field_of, starts_left};
+ghost use Rattle.byte_text.specs.Chars.{is_space};
+ghost use Rattle.marlin_reply.specs.Pieces.{is_line_end, without_front, without_end, trimmed, after_spaces, starts_after, piece_starts, front_piece, small_number, whole_number, field_at, field_of, starts_left};
 
+use byte_text::are_digits;
 use gcode_words::decimal_up_to;
 
 /// A line without spaces and tabs at both ends, and without carriage returns at its end.
@@ -33,7 +34,7 @@ fn trim_end(bytes: &[u8]) -> &[u8]
 }
 
 fn count_blanks(bytes: &[u8]) -> usize
-    ensures value { result ≡ prefix_len is_blank bytes.now }
+    ensures value { result ≡ prefix_len is_space bytes.now }
     ensures bound { result ≤ length bytes.now }
 {
     bytes
@@ -54,9 +55,9 @@ fn count_line_ends(bytes: &[u8]) -> usize
 }
 
 /// A text without the spaces at its front.
-#[tactic(auto, unfolding(crate::specs::Pieces::behind_spaces))]
+#[tactic(auto, unfolding(crate::specs::Pieces::after_spaces))]
 pub(crate) fn skip_spaces(bytes: &[u8]) -> &[u8]
-    ensures { result.now ≡ behind_spaces bytes.now }
+    ensures { result.now ≡ after_spaces bytes.now }
 {
     let spaces = count_spaces(bytes);
     &bytes[spaces..]
@@ -99,16 +100,10 @@ pub(crate) fn read_small(digits: &[u8]) -> Option<u32>
 fn read_whole(text: &[u8]) -> Option<u32>
     ensures { result ≡ whole_number text.now }
 {
-    if text.is_empty() || !is_digits(text) {
+    if text.is_empty() || !are_digits(text) {
         return None;
     }
     read_small(text)
-}
-
-fn is_digits(text: &[u8]) -> bool
-    ensures { result ≡ list_all is_ascii_digit text.now }
-{
-    text.iter().all(|byte| byte.is_ascii_digit())
 }
 
 /// The number of the piece at the front, which is this letter and digits.
@@ -159,14 +154,14 @@ impl<'a> Iterator for PieceStarts<'a> {
 
     fn next(&mut self) -> Option<&'a [u8]> {
         let start = self.left?;
-        self.left = behind_space(start);
+        self.left = after_space(start);
         Some(start)
     }
 }
 
 /// What follows the first space.
-fn behind_space(text: &[u8]) -> Option<&[u8]>
-    ensures { starts_left (option_copied result) ≡ starts_behind text.now }
+fn after_space(text: &[u8]) -> Option<&[u8]>
+    ensures { starts_left (option_copied result) ≡ starts_after text.now }
 {
     for (place, byte) in text.iter().enumerate() {
         if *byte == b' ' {

@@ -1,7 +1,7 @@
 //! Which reply a line is.
 ghost use Rattle.std.specs.Prelude.{◌≡◌, ◌||◌, bytes_eq, codes};
 ghost use Rattle.marlin_reply.specs.Pieces.{begins};
-ghost use Rattle.marlin_reply.specs.Kind.{ok_of, resend_of, talk_of, kind_of_text, kind_of};
+ghost use Rattle.marlin_reply.specs.Kind.{ok_of, resend_of, other_reply_of, kind_of_text, kind_of};
 
 use super::Reply;
 use super::pieces::{find_field, read_small, skip_spaces, trim_line};
@@ -27,14 +27,14 @@ fn read_text(text: &[u8]) -> Reply
     } else if is_start(text) {
         Reply::Start
     } else {
-        read_talk(text)
+        read_other_reply(text)
     }
 }
 
 /// The reply that a text is which is neither `ok` nor a request nor `start`.
-#[tactic(auto, unfolding(crate::specs::Kind::talk_of))]
-fn read_talk(text: &[u8]) -> Reply
-    ensures { result ≡ talk_of text.now }
+#[tactic(auto, unfolding(crate::specs::Kind::other_reply_of))]
+fn read_other_reply(text: &[u8]) -> Reply
+    ensures { result ≡ other_reply_of text.now }
 {
     if text.starts_with(b"echo:busy:") || text.starts_with(b"busy:") {
         Reply::Busy

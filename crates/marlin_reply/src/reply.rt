@@ -17,7 +17,7 @@ pub struct Temps {
 /// A reply by its kind.
 #[derive(Clone, Copy, Debug, PartialEq, Eq)]
 pub enum Reply {
-    /// `ok`, with the line number, the free places of the planner and of the command queue, and temperatures if it has them.
+    /// `ok`, with the line number, the free buffer slots of planner and queue, and temperatures if it has them.
     Ok {
         number: Option<u32>,
         planner: Option<u32>,

@@ -108,6 +108,7 @@ fn other_lines(rt: HostRuntime) {
     expect(&rt, b"Resend: 12", Reply::Resend { number: 12 });
     expect(&rt, b"Resend:  7 ", Reply::Resend { number: 7 });
     expect(&rt, b"Resend: 12x", Reply::Resend { number: 12 });
+    expect(&rt, b"Resend:99999999999", Reply::Other);
     expect(&rt, b"Resend: 99999999999", Reply::Other);
     expect(&rt, b"Resend: 4294967296", Reply::Other);
     expect(&rt, b"Resend:", Reply::Other);

@@ -12,6 +12,7 @@ use Rattle.octo_outside.specs.Memory.{one_more, is_listed}
 use Rattle.marlin_sim.specs.declared.plan.SimPlan.{SimPlan}
 use Rattle.marlin_sim.specs.Plan.{is_place, IsPlan}
 use Rattle.marlin_sim.specs.Lines.{ends_line, but_last, whole_lines, cut, arriving, planned, behind, LinesData, to_come}
+use Rattle.byte_text.proofs.ListLaws.{take_once}
 
 -- cutting makes at least one piece
 split_some : (bytes : List ℕ) → (first : List ℕ) × (pieces : List (List ℕ)) × (slice_split ends_line bytes ≡ first ∷ pieces)
@@ -67,15 +68,9 @@ whole_begun (byte ∷ piece) more none =
     ∙ ap (behind (byte ∷ [])) (whole_begun piece more (all_others byte piece none))
     ∙ behind-behind (byte ∷ []) piece (whole_lines more)
 
--- the front of a list that was cut before more was added
-take-take : (n : ℕ) (front more : List ℕ) → take n (take n front ++ more) ≡ take n (front ++ more)
-take-take zero front more = refl
-take-take (suc n) [] more = refl
-take-take (suc n) (byte ∷ front) more = ap (λ (l : List ℕ). byte ∷ l) (take-take n front more)
-
 -- a line that was cut before more was added
 cut-cut : (begun more : List ℕ) → cut (cut begun ++ more) ≡ cut (begun ++ more)
-cut-cut begun more = take-take 95 begun more
+cut-cut begun more = take_once 95 begun more
 
 -- no more than there is
 take-within : (n : ℕ) (bytes : List ℕ) → take (min n (length bytes)) bytes ≡ take n bytes

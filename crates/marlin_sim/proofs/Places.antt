@@ -5,9 +5,9 @@ use Rattle.std.specs.List.{list_all, slice_split}
 use Rattle.std.specs.Str.{bytes_eq}
 use Rattle.std.proofs.lemmas.Bool.{and_parts, and_from, cond_both}
 use Rattle.std.proofs.lemmas.Bool.Decides.{nat_tests}
-use Rattle.byte_text.specs.Number.{whole_number}
+use Rattle.byte_text.specs.Number.{only_if, number_in, whole_number}
 use Rattle.marlin_sim.specs.declared.plan.SimPlan.{SimPlan}
-use Rattle.marlin_sim.specs.Plan.{only_if, number_in, count_in, place_in, with_place, places_above, places_in, is_comma, is_places, is_place, is_address, plan_with, plan_of, IsPlan}
+use Rattle.marlin_sim.specs.Plan.{count_in, place_in, with_place, places_above, places_in, is_comma, is_places, is_place, is_address, plan_with, plan_of, IsPlan}
 
 -- the places of a word that is cut at its commas
 pub places_cut : {E : Type 0} (word : List ℕ) (pieces : List (List ℕ)) (result : Result (Option (List ℕ)) E) → bytes_eq word (codes "-") ≡ false
@@ -60,7 +60,7 @@ unfolding bounded
 word_bounded word =
     cond_both (bytes_eq word (codes "-")) (Some []) (places_above 0 (slice_split is_comma word)) bounded (λ _. refl) (λ _. places_bounded 0 (slice_split is_comma word))
 
--- 1 to 16 places
+-- 1 to 16 buffer slots
 fits : Option ℕ → Type 0
 fits None = Unit {0}
 fits (Some n) = (1 ≤ n) × (n ≤ 16)

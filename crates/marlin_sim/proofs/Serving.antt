@@ -3,8 +3,8 @@ use Rattle.std.proofs.Common.{◌≡◌, ℕ, ◌+◌, ◌≤◌, Bool, true, fa
 use Rattle.std.specs.Prelude.{Option, Some, None, if◌then◌else◌, IfSome, drop}
 use Rattle.std.proofs.Math.Seq.{take-append_seam, take-append-add}
 use Rattle.std.proofs.lemmas.List.{take-append-drop}
-use Rattle.octo_outside.specs.Told.{Adds, AddsPrefix}
-use Rattle.octo_outside.proofs.Told.{adds_none, adds_then, became_then, became_so}
+use Rattle.octo_outside.specs.Recorded.{Adds, AddsPrefix}
+use Rattle.octo_outside.proofs.Recorded.{adds_none, adds_then, became_then, became_so}
 use Rattle.printer_model.specs.World.{WorldData}
 use Rattle.marlin_sim.specs.declared.end.SimEnd.{SimEnd}
 use Rattle.marlin_sim.specs.declared.end.SimEnd.TheVariants as end
@@ -14,7 +14,7 @@ use Rattle.marlin_sim.specs.declared.plan.SimPlan.{SimPlan}
 use Rattle.marlin_sim.specs.Lines.{to_come, planned, behind, whole_lines}
 use Rattle.marlin_sim.proofs.Coming.{behind-none}
 use Rattle.marlin_sim.specs.Run.{start_text, IsRunOf, world_at, written_text}
-use Rattle.marlin_sim.specs.Sim.{new_sim, SimData, Tells, Keeps}
+use Rattle.marlin_sim.specs.Sim.{new_sim, SimData, FollowsModel, Keeps}
 use Rattle.marlin_sim.specs.Served.{Outside, outside, IsServed, IsDone, IsLost, Serves, Going, Breaks, After, Finishes, Ending, Outcome, IsUsed}
 
 -- an addition, and then the first bytes of another
@@ -33,8 +33,8 @@ prefix_of old new front behind all grew whole =
     (λ _ added is. (length front, is ∙ sym (take-append_seam front behind) ∙ ap (take (length front)) (sym whole)))
 
 -- the world of what is recorded
-world_told : (plan : SimPlan) (input rest : List ℕ) (s : SimData) (wrote printed : List ℕ) → Tells plan input rest s wrote printed → WorldData
-world_told plan input rest s wrote printed t = world_at s.printer t.log (to_come plan s.lines rest) t.down
+world_followed : (plan : SimPlan) (input rest : List ℕ) (s : SimData) (wrote printed : List ℕ) → FollowsModel plan input rest s wrote printed → WorldData
+world_followed plan input rest s wrote printed t = world_at s.printer t.log (to_come plan s.lines rest) t.down
 
 -- the replies were written
 pub sent_going : (plan : SimPlan) (input : List ℕ) (first : Outside) (left wrote wrote' printed : Option (List ℕ)) (s : SimData) → Serves plan input first (outside left wrote printed) s → Adds wrote wrote' s.replies → Going plan input first (outside left wrote' printed) (record s { replies = [] })
@@ -47,45 +47,45 @@ sent_going plan input first left wrote wrote' printed s v added =
         wrote_is = adds_then _ _ _ _ _ v.wrote_is added;
         printed = v.printed;
         printed_is = v.printed_is;
-        tells = record {
-          events = v.tells.events;
-          steps = v.tells.steps;
-          log = v.tells.log;
-          down = v.tells.down;
-          is = v.tells.is;
-          wrote_is = v.tells.wrote_is ∙ sym (append-nil (v.wrote ++ s.replies));
-          printed_is = v.tells.printed_is;
+        follows_model = record {
+          events = v.follows_model.events;
+          steps = v.follows_model.steps;
+          log = v.follows_model.log;
+          down = v.follows_model.down;
+          is = v.follows_model.is;
+          wrote_is = v.follows_model.wrote_is ∙ sym (append-nil (v.wrote ++ s.replies));
+          printed_is = v.follows_model.printed_is;
         };
       };
       clean = refl;
     }
 
 -- the run that is recorded
-run_told : (plan : SimPlan) (input rest : List ℕ) (s : SimData) (wrote printed : List ℕ) (t : Tells plan input rest s wrote printed) → IsRunOf plan input (world_at s.printer t.log (to_come plan s.lines rest) t.down)
-run_told plan input rest s wrote printed t = record { events = t.events; steps = t.steps; is = t.is }
+run_followed : (plan : SimPlan) (input rest : List ℕ) (s : SimData) (wrote printed : List ℕ) (t : FollowsModel plan input rest s wrote printed) → IsRunOf plan input (world_at s.printer t.log (to_come plan s.lines rest) t.down)
+run_followed plan input rest s wrote printed t = record { events = t.events; steps = t.steps; is = t.is }
 
 -- the connection failed in the midst of the replies
 pub sent_breaks : (plan : SimPlan) (input : List ℕ) (first : Outside) (left left' wrote wrote' printed : Option (List ℕ)) (s : SimData) → Serves plan input first (outside left wrote printed) s → AddsPrefix wrote wrote' s.replies → Breaks plan input first (outside left' wrote' printed) s
 sent_breaks plan input first left left' wrote wrote' printed s v added =
     record {
-      w = world_at s.printer v.tells.log (to_come plan s.lines v.rest) v.tells.down;
-      run = run_told plan input v.rest s v.wrote v.printed v.tells;
-      wrote = prefix_then _ _ _ v.wrote s.replies _ v.wrote_is added (sym v.tells.wrote_is);
+      w = world_at s.printer v.follows_model.log (to_come plan s.lines v.rest) v.follows_model.down;
+      run = run_followed plan input v.rest s v.wrote v.printed v.follows_model;
+      wrote = prefix_then _ _ _ v.wrote s.replies _ v.wrote_is added (sym v.follows_model.wrote_is);
       printed = v.printed;
       printed_is = v.printed_is;
-      text = v.tells.printed_is;
+      text = v.follows_model.printed_is;
     }
 
 -- the connection failed before them
 pub cut_breaks : (plan : SimPlan) (input : List ℕ) (first : Outside) (left left' wrote printed : Option (List ℕ)) (s : SimData) → Serves plan input first (outside left wrote printed) s → Breaks plan input first (outside left' wrote printed) s
 cut_breaks plan input first left left' wrote printed s v =
     record {
-      w = world_at s.printer v.tells.log (to_come plan s.lines v.rest) v.tells.down;
-      run = run_told plan input v.rest s v.wrote v.printed v.tells;
-      wrote = prefix_of _ _ v.wrote s.replies _ v.wrote_is v.tells.wrote_is;
+      w = world_at s.printer v.follows_model.log (to_come plan s.lines v.rest) v.follows_model.down;
+      run = run_followed plan input v.rest s v.wrote v.printed v.follows_model;
+      wrote = prefix_of _ _ v.wrote s.replies _ v.wrote_is v.follows_model.wrote_is;
       printed = v.printed;
       printed_is = v.printed_is;
-      text = v.tells.printed_is;
+      text = v.follows_model.printed_is;
     }
 
 -- the text was printed
@@ -100,14 +100,14 @@ printed_going plan input first left wrote printed printed' s g added =
         wrote_is = v.wrote_is;
         printed = v.printed ++ s.text;
         printed_is = adds_then _ _ _ _ _ v.printed_is added;
-        tells = record {
-          events = v.tells.events;
-          steps = v.tells.steps;
-          log = v.tells.log;
-          down = v.tells.down;
-          is = v.tells.is;
-          wrote_is = v.tells.wrote_is;
-          printed_is = v.tells.printed_is ∙ sym (append-nil (v.printed ++ s.text));
+        follows_model = record {
+          events = v.follows_model.events;
+          steps = v.follows_model.steps;
+          log = v.follows_model.log;
+          down = v.follows_model.down;
+          is = v.follows_model.is;
+          wrote_is = v.follows_model.wrote_is;
+          printed_is = v.follows_model.printed_is ∙ sym (append-nil (v.printed ++ s.text));
         };
       };
       clean = g.clean;
@@ -117,10 +117,10 @@ printed_going plan input first left wrote printed printed' s g added =
 pub printed_lost : (plan : SimPlan) (input : List ℕ) (first : Outside) (left wrote printed printed' : Option (List ℕ)) (s : SimData) → Serves plan input first (outside left wrote printed) s → AddsPrefix printed printed' s.text → IsLost plan input first (outside left wrote printed')
 printed_lost plan input first left wrote printed printed' s v added =
     record {
-      w = world_at s.printer v.tells.log (to_come plan s.lines v.rest) v.tells.down;
-      run = run_told plan input v.rest s v.wrote v.printed v.tells;
-      wrote = prefix_of _ _ v.wrote s.replies _ v.wrote_is v.tells.wrote_is;
-      printed = prefix_then _ _ _ v.printed s.text _ v.printed_is added (sym v.tells.printed_is);
+      w = world_at s.printer v.follows_model.log (to_come plan s.lines v.rest) v.follows_model.down;
+      run = run_followed plan input v.rest s v.wrote v.printed v.follows_model;
+      wrote = prefix_of _ _ v.wrote s.replies _ v.wrote_is v.follows_model.wrote_is;
+      printed = prefix_then _ _ _ v.printed s.text _ v.printed_is added (sym v.follows_model.printed_is);
     }
 
 broken_lost : (plan : SimPlan) (input : List ℕ) (first : Outside) (left wrote printed printed' : Option (List ℕ)) (s : SimData) → Breaks plan input first (outside left wrote printed) s → AddsPrefix printed printed' s.text → IsLost plan input first (outside left wrote printed')
@@ -133,12 +133,12 @@ served_all plan input first left wrote printed printed' s g added =
     let v = g.serves in
     let Wrote : List ℕ → Type 0 = λ l. Adds first.wrote wrote l in
     let Printed : List ℕ → Type 0 = λ l. Adds first.printed printed' l in
-    let whole : v.wrote ≡ written_text (world_at s.printer v.tells.log (to_come plan s.lines v.rest) v.tells.down) = sym (v.tells.wrote_is ∙ ap (λ (l : List ℕ). v.wrote ++ l) g.clean ∙ append-nil v.wrote) in
+    let whole : v.wrote ≡ written_text (world_at s.printer v.follows_model.log (to_come plan s.lines v.rest) v.follows_model.down) = sym (v.follows_model.wrote_is ∙ ap (λ (l : List ℕ). v.wrote ++ l) g.clean ∙ append-nil v.wrote) in
     record {
-      w = world_at s.printer v.tells.log (to_come plan s.lines v.rest) v.tells.down;
-      run = run_told plan input v.rest s v.wrote v.printed v.tells;
+      w = world_at s.printer v.follows_model.log (to_come plan s.lines v.rest) v.follows_model.down;
+      run = run_followed plan input v.rest s v.wrote v.printed v.follows_model;
       wrote = subst Wrote whole v.wrote_is;
-      printed = subst Printed (sym v.tells.printed_is) (adds_then _ _ _ _ _ v.printed_is added);
+      printed = subst Printed (sym v.follows_model.printed_is) (adds_then _ _ _ _ _ v.printed_is added);
     }
 
 done_all : (plan : SimPlan) (input : List ℕ) (first : Outside) (left wrote printed printed' : Option (List ℕ)) (s : SimData) → Finishes plan input first (outside left wrote printed) s → Adds printed printed' s.text → IsDone plan input first (outside left wrote printed')
@@ -208,13 +208,13 @@ serves_kept plan input first now s s' keeps v =
       wrote_is = v.wrote_is;
       printed = v.printed;
       printed_is = v.printed_is;
-      tells = keeps plan input v.rest v.wrote v.printed v.tells;
+      follows_model = keeps plan input v.rest v.wrote v.printed v.follows_model;
     }
 
 -- the next bytes were read
-pub read_tells : (plan : SimPlan) (input rest bytes : List ℕ) (n : ℕ) (s : SimData) (wrote printed : List ℕ) → Tells plan input rest s wrote printed → bytes ≡ take n rest → Tells plan input (bytes ++ drop n rest) s wrote printed
-read_tells plan input rest bytes n s wrote printed t is =
-    let Rest : List ℕ → Type 0 = λ l. Tells plan input l s wrote printed in
+pub read_follows : (plan : SimPlan) (input rest bytes : List ℕ) (n : ℕ) (s : SimData) (wrote printed : List ℕ) → FollowsModel plan input rest s wrote printed → bytes ≡ take n rest → FollowsModel plan input (bytes ++ drop n rest) s wrote printed
+read_follows plan input rest bytes n s wrote printed t is =
+    let Rest : List ℕ → Type 0 = λ l. FollowsModel plan input l s wrote printed in
     subst Rest (sym (take-append-drop n rest) ∙ ap (λ (l : List ℕ). l ++ drop n rest) (sym is)) t
 
 -- a read failed
@@ -228,24 +228,24 @@ pub used_more : (turns : ℕ) (first mid last : Option (List ℕ)) (q q' q'' : �
 used_more turns None mid last q q' q'' counted used more = tt
 used_more turns (Some before) mid last q q' q'' counted used more =
     let More : Option (List ℕ) → Type 0 = λ o. IfSome o (λ l. IsUsed 1 l last q' q'') in
-    let one : IsUsed 1 used.after last q' q'' = subst More used.told more in
+    let one : IsUsed 1 used.after last q' q'' = subst More used.follows more in
     record {
       after = one.after;
-      told = one.told;
+      follows = one.follows;
       many = λ below. (let a = used.many (omega arith) in let b = one.many below in omega (arith, a, b));
     }
 
 -- before anything was received
 pub new_serves : (plan : SimPlan) (input : List ℕ) (left wrote printed : Option (List ℕ)) → left ≡ Some input → Serves plan input (outside left wrote printed) (outside left wrote printed) (new_sim plan)
-new_serves plan input left wrote printed told =
+new_serves plan input left wrote printed follows =
     record {
       rest = input;
-      left = told;
+      left = follows;
       wrote = [];
       wrote_is = adds_none wrote;
       printed = [];
       printed_is = adds_none printed;
-      tells = record {
+      follows_model = record {
         events = [];
         steps = refl;
         log = [];
@@ -257,6 +257,6 @@ new_serves plan input left wrote printed told =
     }
 
 -- if something is recorded
-pub if_told : {A : Type 0} (told : Option A) (P : A → Type 0) → ((x : A) → told ≡ Some x → P x) → IfSome told P
-if_told None P all = tt
-if_told (Some x) P all = all x refl
+pub if_some : {A : Type 0} (follows : Option A) (P : A → Type 0) → ((x : A) → follows ≡ Some x → P x) → IfSome follows P
+if_some None P all = tt
+if_some (Some x) P all = all x refl

@@ -4,7 +4,7 @@ use Rattle.std.specs.Prelude.{◌&&◌, Some, Result, Ok, Err, IfOk, OnOk}
 use Rattle.std.specs.List.{list_all, flat_map}
 use Rattle.std.proofs.lemmas.List.Concat.{flat_map-append}
 use Rattle.std.proofs.lemmas.Bool.{and_parts, and_from, cond_both}
-use Rattle.printer_model.specs.Printer.{PrinterData, Entry, RanLine, Logged, is_full, judged, take_judged, take_line, run_queue, run_front, logged, ran_line}
+use Rattle.printer_model.specs.Printer.{PrinterData, Entry, RanLine, Logged, is_full, judged, take_judged, take_line, run_queue, run_front, log_line_of, ran_line}
 use Rattle.printer_model.specs.Replies.{taken_replies}
 use Rattle.printer_model.specs.World.{WorldData, apply}
 use Rattle.printer_model.specs.declared.event.WorldEvent.{WorldEvent}
@@ -15,8 +15,9 @@ use Rattle.printer_model.specs.declared.printer.Taken.TheVariants.{Full}
 use Rattle.printer_model.proofs.Laws.{happens, world_from-push}
 use Rattle.marlin_sim.specs.declared.plan.SimPlan.{SimPlan}
 use Rattle.marlin_sim.specs.Lines.{LinesData, to_come, planned, behind, whole_lines}
-use Rattle.marlin_sim.specs.Run.{is_step, first_world, world_at, ended, start_text, printed_line}
-use Rattle.marlin_sim.specs.Sim.{SimData, Tells, Keeps, Arrived, HasRun, AfterRunning, work}
+use Rattle.marlin_sim.specs.Run.{is_step, first_world, world_at, start_text, printed_line}
+use Rattle.marlin_sim.specs.Sim.{SimData, FollowsModel, Keeps, Arrived, HasRun, AfterRunning, work}
+use Rattle.octo_outside.specs.Lists.{with_line_feed}
 
 -- one more step
 steps_push : (events : List WorldEvent) (event : WorldEvent) → list_all is_step events ≡ true → is_step event ≡ true → list_all is_step (events ++ event ∷ []) ≡ true
@@ -30,15 +31,15 @@ pub arrive_world : (p : PrinterData) (log : List Logged) (line : List ℕ) (line
 arrive_world p log line lines down room = happens (world_at p log (line ∷ lines) down) Arrive (ap not room)
 
 -- the front of a queue is run
-run_entry : (last places : ℕ) (advanced : Bool) (queue : List Entry) (log : List Logged) (up down : List (List ℕ)) (ran : RanLine) → (run_queue (record { last = last; places = places; advanced = advanced; queue = queue }) queue).0 ≡ Some ran → apply (world_at (record { last = last; places = places; advanced = advanced; queue = queue }) log up down) Run ≡ world_at (run_queue (record { last = last; places = places; advanced = advanced; queue = queue }) queue).1 (log ++ logged ran ∷ []) up (down ++ ran.reply ∷ [])
+run_entry : (last places : ℕ) (advanced : Bool) (queue : List Entry) (log : List Logged) (up down : List (List ℕ)) (ran : RanLine) → (run_queue (record { last = last; places = places; advanced = advanced; queue = queue }) queue).0 ≡ Some ran → apply (world_at (record { last = last; places = places; advanced = advanced; queue = queue }) log up down) Run ≡ world_at (run_queue (record { last = last; places = places; advanced = advanced; queue = queue }) queue).1 (log ++ log_line_of ran ∷ []) up (down ++ ran.reply ∷ [])
 run_entry last places advanced [] log up down ran is = absurd (cc)
 run_entry last places advanced (entry ∷ queue) log up down ran is =
     let p : PrinterData = record { last = last; places = places; advanced = advanced; queue = entry ∷ queue } in
     let same : ran_line p entry ≡ ran = cc in
     happens (world_at p log up down) Run refl
-    ∙ ap (λ (r : RanLine). world_at (run_queue p (entry ∷ queue)).1 (log ++ logged r ∷ []) up (down ++ r.reply ∷ [])) same
+    ∙ ap (λ (r : RanLine). world_at (run_queue p (entry ∷ queue)).1 (log ++ log_line_of r ∷ []) up (down ++ r.reply ∷ [])) same
 
-pub run_world : (p : PrinterData) (log : List Logged) (up down : List (List ℕ)) (ran : RanLine) → (run_front p).0 ≡ Some ran → apply (world_at p log up down) Run ≡ world_at (run_front p).1 (log ++ logged ran ∷ []) up (down ++ ran.reply ∷ [])
+pub run_world : (p : PrinterData) (log : List Logged) (up down : List (List ℕ)) (ran : RanLine) → (run_front p).0 ≡ Some ran → apply (world_at p log up down) Run ≡ world_at (run_front p).1 (log ++ log_line_of ran ∷ []) up (down ++ ran.reply ∷ [])
 run_world p log up down ran is = run_entry p.last p.places p.advanced p.queue log up down ran is
 
 -- what is written and printed after a step
@@ -51,13 +52,13 @@ added_text f start xs more out rest added is same =
     ∙ append_assoc out rest added
 
 -- the next line arrived
-pub arrived_tells : (plan : SimPlan) (input rest wrote printed : List ℕ) (old new : SimData) → Arrived old new → Tells plan input rest old wrote printed → Tells plan input rest new wrote printed
-arrived_tells plan input rest wrote printed old new a t =
-    let Told : SimData → Type 0 = λ s. Tells plan input rest s wrote printed in
+pub arrived_follows : (plan : SimPlan) (input rest wrote printed : List ℕ) (old new : SimData) → Arrived old new → FollowsModel plan input rest old wrote printed → FollowsModel plan input rest new wrote printed
+arrived_follows plan input rest wrote printed old new a t =
+    let Follows : SimData → Type 0 = λ s. FollowsModel plan input rest s wrote printed in
     let taken = take_line old.printer a.line in
     let later = planned plan (suc old.lines.received) (behind old.lines.begun (whole_lines rest)) in
     let up : to_come plan old.lines rest ≡ a.line ∷ (drop 1 old.lines.waiting ++ later) = ap (λ (l : List (List ℕ)). l ++ later) a.first in
-    subst Told (sym a.is)
+    subst Follows (sym a.is)
     (record {
       events = t.events ++ Arrive ∷ [];
       steps = steps_push t.events Arrive t.steps refl;
@@ -66,28 +67,28 @@ arrived_tells plan input rest wrote printed old new a t =
       is = world_from-push (first_world plan input) t.events Arrive
           ∙ ap (λ (w : WorldData). apply w Arrive) (t.is ∙ ap (λ (u : List (List ℕ)). world_at old.printer t.log u t.down) up)
           ∙ arrive_world old.printer t.log a.line (drop 1 old.lines.waiting ++ later) t.down a.room;
-      wrote_is = added_text ended start_text t.down (taken_replies taken.0) wrote old.replies (flat_map ended (taken_replies taken.0)) t.wrote_is refl;
+      wrote_is = added_text with_line_feed start_text t.down (taken_replies taken.0) wrote old.replies (flat_map with_line_feed (taken_replies taken.0)) t.wrote_is refl;
       printed_is = t.printed_is;
     })
 
 -- a line was run
-pub ran_tells : (plan : SimPlan) (input rest wrote printed : List ℕ) (old new : SimData) → HasRun old new → Tells plan input rest old wrote printed → Tells plan input rest new wrote printed
-ran_tells plan input rest wrote printed old new r t =
-    let Told : SimData → Type 0 = λ s. Tells plan input rest s wrote printed in
-    subst Told (sym r.is)
+pub ran_follows : (plan : SimPlan) (input rest wrote printed : List ℕ) (old new : SimData) → HasRun old new → FollowsModel plan input rest old wrote printed → FollowsModel plan input rest new wrote printed
+ran_follows plan input rest wrote printed old new r t =
+    let Follows : SimData → Type 0 = λ s. FollowsModel plan input rest s wrote printed in
+    subst Follows (sym r.is)
     (record {
       events = t.events ++ Run ∷ [];
       steps = steps_push t.events Run t.steps refl;
-      log = t.log ++ logged r.ran ∷ [];
+      log = t.log ++ log_line_of r.ran ∷ [];
       down = t.down ++ r.ran.reply ∷ [];
       is = world_from-push (first_world plan input) t.events Run
           ∙ ap (λ (w : WorldData). apply w Run) t.is
           ∙ run_world old.printer t.log (to_come plan old.lines rest) t.down r.ran r.front;
-      wrote_is = added_text ended start_text t.down (r.ran.reply ∷ []) wrote old.replies (ended r.ran.reply) t.wrote_is (sym (append-nil (ended r.ran.reply)));
-      printed_is = added_text printed_line [] t.log (logged r.ran ∷ []) printed old.text (printed_line (logged r.ran)) t.printed_is (sym (append-nil (printed_line (logged r.ran))));
+      wrote_is = added_text with_line_feed start_text t.down (r.ran.reply ∷ []) wrote old.replies (with_line_feed r.ran.reply) t.wrote_is (sym (append-nil (with_line_feed r.ran.reply)));
+      printed_is = added_text printed_line [] t.log (log_line_of r.ran ∷ []) printed old.text (printed_line (log_line_of r.ran)) t.printed_is (sym (append-nil (printed_line (log_line_of r.ran))));
     })
 
--- what a taken line leaves of the queue and the places
+-- what a taken line leaves of the queue and the buffer slots
 judged_queue : (p : PrinterData) (result : Result Entry Reason) → (length (take_judged p result).1.queue ≤ length p.queue + 1) × ((take_judged p result).1.places ≡ p.places)
 judged_queue p (Ok entry) = (simp length-append (omega arith), refl)
 judged_queue p (Err reason) = (omega arith, refl)
@@ -127,7 +128,7 @@ keeps_then first mid last one two plan input rest wrote printed t = two plan inp
 
 -- what is recorded after an attempt to run a line
 pub run_keeps : {E : Type 0} (first old new : SimData) (result : Result Bool E) → Keeps first old → IfOk result (λ did. AfterRunning did old new) → OnOk result (Keeps first new)
-run_keeps first old new (Ok true) before r = keeps_then first old new before (λ plan input rest wrote printed t. ran_tells plan input rest wrote printed old new r t)
+run_keeps first old new (Ok true) before r = keeps_then first old new before (λ plan input rest wrote printed t. ran_follows plan input rest wrote printed old new r t)
 run_keeps first old new (Ok false) before r = let Kept : SimData → Type 0 = λ s. Keeps first s in subst Kept (sym r.0) before
 run_keeps first old new (Err error) before r = tt
 
@@ -136,10 +137,10 @@ abbrev pub sim_of : PrinterData → LinesData → List ℕ → List ℕ → SimD
 sim_of printer lines replies text = record { printer = printer; lines = lines; replies = replies; text = text }
 
 -- the parts of an arrival
-pub arrived_of : (p q : PrinterData) (l l' : LinesData) (replies replies' text line : List ℕ) (taken : Taken) → l.waiting ≡ line ∷ drop 1 l.waiting → taken ≡ (take_line p line).0 → q ≡ (take_line p line).1 → (taken ≡ Full → ⊥) → l' ≡ record l { waiting = drop 1 l.waiting } → replies' ≡ replies ++ flat_map ended (taken_replies taken) → Arrived (sim_of p l replies text) (sim_of q l' replies' text)
+pub arrived_of : (p q : PrinterData) (l l' : LinesData) (replies replies' text line : List ℕ) (taken : Taken) → l.waiting ≡ line ∷ drop 1 l.waiting → taken ≡ (take_line p line).0 → q ≡ (take_line p line).1 → (taken ≡ Full → ⊥) → l' ≡ record l { waiting = drop 1 l.waiting } → replies' ≡ replies ++ flat_map with_line_feed (taken_replies taken) → Arrived (sim_of p l replies text) (sim_of q l' replies' text)
 arrived_of p q l l' replies replies' text line taken first is after other dropped wrote =
-    let same : sim_of q l' replies' text ≡ sim_of (take_line p line).1 (record l { waiting = drop 1 l.waiting }) (replies ++ flat_map ended (taken_replies (take_line p line).0)) text =
+    let same : sim_of q l' replies' text ≡ sim_of (take_line p line).1 (record l { waiting = drop 1 l.waiting }) (replies ++ flat_map with_line_feed (taken_replies (take_line p line).0)) text =
     ap (λ (x : PrinterData). sim_of x l' replies' text) after
     ∙ ap (λ (x : LinesData). sim_of (take_line p line).1 x replies' text) dropped
-    ∙ ap (λ (x : List ℕ). sim_of (take_line p line).1 (record l { waiting = drop 1 l.waiting }) x text) (wrote ∙ ap (λ (t : Taken). replies ++ flat_map ended (taken_replies t)) is) in
+    ∙ ap (λ (x : List ℕ). sim_of (take_line p line).1 (record l { waiting = drop 1 l.waiting }) x text) (wrote ∙ ap (λ (t : Taken). replies ++ flat_map with_line_feed (taken_replies t)) is) in
     record { line = line; first = first; room = room_else p line (λ full. other (is ∙ full)); is = same }

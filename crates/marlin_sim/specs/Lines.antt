@@ -28,7 +28,7 @@ cut line = take 95 line
 abbrev pub ends_with_digit : List ℕ → Bool
 ends_with_digit line = is_ascii_digit (slice_index line (length line - 1))
 
--- what arrives of a line that is to be garbled: the line with another last digit, if it has one
+-- what arrives of a line that is to be corrupted: the line with another last digit, if it has one
 abbrev pub if_garbled : List ℕ → List (List ℕ)
 if_garbled line = if ends_with_digit line then garbled line ∷ [] else []
 

@@ -2,17 +2,8 @@
 use Rattle.std.specs.Prelude.{◌≡◌, ℕ, ◌≤◌, Bool, true, ◌==◌, ◌&&◌, nat_le, nat_lt, if◌then◌else◌, List, [], ◌∷◌, length, codes, Option, Some, None, option_map}
 use Rattle.std.specs.List.{list_all, slice_split}
 use Rattle.std.specs.Str.{bytes_eq}
-use Rattle.byte_text.specs.Number.{whole_number}
+use Rattle.byte_text.specs.Number.{only_if, number_in, most_u32}
 use Rattle.marlin_sim.specs.declared.plan.SimPlan.{SimPlan}
-
--- a number, if it passes a test
-abbrev pub only_if : (ℕ → Bool) → Option ℕ → Option ℕ
-only_if test None = None
-only_if test (Some n) = if test n then Some n else None
-
--- the number that a word is: 1 to 10 digits, at most 4,294,967,295
-abbrev pub number_in : List ℕ → Option ℕ
-number_in word = only_if (λ n. nat_le n 4294967295) (whole_number word 10)
 
 -- the place that a text is, if it is above this one
 abbrev pub place_in : ℕ → List ℕ → Option ℕ
@@ -36,7 +27,7 @@ is_comma byte = byte == 44
 abbrev pub places_in : List ℕ → Option (List ℕ)
 places_in word = if bytes_eq word (codes "-") then Some [] else places_above 0 (slice_split is_comma word)
 
--- whether a number may be the number of the printer's places
+-- whether a number may be the number of the printer's buffer slots
 abbrev pub is_places : ℕ → Bool
 is_places n = nat_le 1 n && nat_le n 16
 
@@ -44,7 +35,7 @@ is_places n = nat_le 1 n && nat_le n 16
 abbrev pub count_in : List ℕ → Option ℕ
 count_in word = only_if is_places (number_in word)
 
--- a plan of these parts, if all are there; a connection is served for 4,000,000,000,000 turns
+-- a plan of these parts, if none is missing; a connection is served for 4,000,000,000,000 turns
 abbrev pub plan_with : Option ℕ → Option ℕ → Option (List ℕ) → Option (List ℕ) → Option SimPlan
 plan_with (Some last) (Some places) (Some dropped) (Some garbled) =
     Some (record { last = last; places = places; drop = dropped; garble = garbled; turns = 4000000000000 })
@@ -54,7 +45,7 @@ plan_with _ _ _ _ = None
 abbrev pub is_address : List ℕ → Bool
 is_address word = nat_le 1 (length word) && nat_le (length word) 100
 
--- the plan that the arguments are: the address, the last number, the places, and the lines to drop and to garble
+-- the plan that the arguments are: the address, the last number, the buffer slots, and the lines to drop and to corrupt
 abbrev pub plan_of : List (List ℕ) → Option SimPlan
 plan_of (address ∷ last ∷ places ∷ dropped ∷ garbled ∷ []) =
     if is_address address then plan_with (number_in last) (count_in places) (places_in dropped) (places_in garbled) else None
@@ -62,7 +53,7 @@ plan_of _ = None
 
 -- whether a number may be the number of a received line
 abbrev pub is_place : ℕ → Bool
-is_place n = nat_le n 4294967295
+is_place n = nat_le n most_u32
 
 -- a plan as arguments can name it
 pub record IsPlan (plan : SimPlan) : Type 0 where

@@ -7,6 +7,7 @@ use Rattle.printer_model.specs.declared.event.WorldEvent.{WorldEvent}
 use Rattle.printer_model.specs.declared.event.WorldEvent.TheVariants.{Arrive, Run}
 use Rattle.marlin_sim.specs.Lines.{whole_lines, planned}
 use Rattle.marlin_sim.specs.declared.plan.SimPlan.{SimPlan}
+use Rattle.octo_outside.specs.Lists.{with_line_feed}
 
 -- whether an event is a step of the printer: it takes the next line, or runs the front of its queue
 abbrev pub is_step : WorldEvent → Bool
@@ -40,10 +41,6 @@ pub record IsOver (w : WorldData) : Type 0 where
   pub up : w.up ≡ []
   pub queue : w.printer.queue ≡ []
 
--- a line with its line feed
-abbrev pub ended : List ℕ → List ℕ
-ended line = line ++ 10 ∷ []
-
 -- the number of an executed line as it is printed before it, if there is one
 abbrev pub number_text : Option ℕ → List ℕ
 number_text None = []
@@ -51,7 +48,7 @@ number_text (Some n) = codes "N" ++ decimal n ++ codes " "
 
 -- an executed line as it is printed
 abbrev pub printed_line : Logged → List ℕ
-printed_line line = number_text line.number ++ ended line.text
+printed_line line = number_text line.number ++ with_line_feed line.text
 
 -- what is written first
 abbrev pub start_text : List ℕ
@@ -59,7 +56,7 @@ start_text = codes "start\n"
 
 -- what is written in a run: `start`, and then the replies
 abbrev pub written_text : WorldData → List ℕ
-written_text w = start_text ++ flat_map ended w.down
+written_text w = start_text ++ flat_map with_line_feed w.down
 
 -- what is printed of it: the executed lines
 abbrev pub printed_text : WorldData → List ℕ

@@ -1,6 +1,6 @@
 -- What a connection and a sink record of a simulation.
 use Rattle.std.specs.Prelude.{◌≡◌, ℕ, ◌+◌, ◌<◌, ◌≤◌, List, [], ◌++◌, length, Option, Some}
-use Rattle.octo_outside.specs.Told.{Adds, AddsPrefix}
+use Rattle.octo_outside.specs.Recorded.{Adds, AddsPrefix, last_count}
 use Rattle.printer_model.specs.World.{WorldData}
 use Rattle.marlin_sim.specs.declared.end.SimEnd.{SimEnd}
 use Rattle.marlin_sim.specs.declared.end.SimEnd.TheVariants as end
@@ -8,7 +8,7 @@ use Rattle.marlin_sim.specs.declared.plan.SimPlan.{SimPlan}
 use Rattle.marlin_sim.specs.declared.serve.Next.{Next}
 use Rattle.marlin_sim.specs.declared.serve.Next.TheVariants as next
 use Rattle.marlin_sim.specs.Run.{IsRunOf, IsOver, written_text, printed_text}
-use Rattle.marlin_sim.specs.Sim.{SimData, Tells, IsIdle}
+use Rattle.marlin_sim.specs.Sim.{SimData, FollowsModel, IsIdle}
 
 -- what is left to read of a connection, what was written to it, and what was printed, if recorded
 pub record Outside : Type 0 where
@@ -66,7 +66,7 @@ pub record Serves (plan : SimPlan) (input : List ℕ) (first now : Outside) (s :
   pub wrote_is : Adds first.wrote now.wrote wrote
   pub printed : List ℕ
   pub printed_is : Adds first.printed now.printed printed
-  pub tells : Tells plan input rest s wrote printed
+  pub follows_model : FollowsModel plan input rest s wrote printed
 
 -- and all replies are written
 pub record Going (plan : SimPlan) (input : List ℕ) (first now : Outside) (s : SimData) : Type 0 where
@@ -108,8 +108,8 @@ Ending end.NoMemory plan input first now s = Unit {0}
 -- the bytes that were read and the reads that found nothing yet are together at least this number, unless the count of these is at its last value
 pub record IsUsed (turns : ℕ) (before : List ℕ) (left : Option (List ℕ)) (quiets quiets' : ℕ) : Type 0 where
   pub after : List ℕ
-  pub told : left ≡ Some after
-  pub many : quiets' < 18446744073709551615 → turns + length after + quiets ≤ length before + quiets'
+  pub follows : left ≡ Some after
+  pub many : quiets' < last_count → turns + length after + quiets ≤ length before + quiets'
 
 -- the exit status
 abbrev pub code_of : SimEnd → ℕ

@@ -1,13 +1,14 @@
 -- The simulator between two steps, and what a step leaves.
 use Rattle.std.specs.Prelude.{◌≡◌, ◌⊎◌, ℕ, ◌+◌, ◌*◌, Bool, true, false, List, [], ◌∷◌, ◌++◌, length, drop, Some}
 use Rattle.std.specs.List.{list_all, flat_map}
-use Rattle.printer_model.specs.Printer.{PrinterData, RanLine, Logged, is_full, take_line, run_front, logged}
+use Rattle.printer_model.specs.Printer.{PrinterData, RanLine, Logged, is_full, take_line, run_front, log_line_of}
 use Rattle.printer_model.specs.Replies.{taken_replies}
 use Rattle.printer_model.specs.World.{world_from}
 use Rattle.printer_model.specs.declared.event.WorldEvent.{WorldEvent}
 use Rattle.marlin_sim.specs.declared.plan.SimPlan.{SimPlan}
 use Rattle.marlin_sim.specs.Lines.{LinesData, to_come}
-use Rattle.marlin_sim.specs.Run.{first_world, world_at, is_step, ended, start_text, printed_line}
+use Rattle.marlin_sim.specs.Run.{first_world, world_at, is_step, start_text, printed_line}
+use Rattle.octo_outside.specs.Lists.{with_line_feed}
 
 -- the printer, the lines on their way to it, and what is still to be written and printed
 pub record SimData : Type 0 where
@@ -27,25 +28,32 @@ new_sim plan =
     }
 
 -- the simulator is in a run over an input whose rest is still to be received, with these texts written and printed
-pub record Tells (plan : SimPlan) (input rest : List ℕ) (s : SimData) (wrote printed : List ℕ) : Type 0 where
+pub record FollowsModel (plan : SimPlan) (input rest : List ℕ) (s : SimData) (wrote printed : List ℕ) : Type 0 where
   pub events : List WorldEvent
   pub steps : list_all is_step events ≡ true
   pub log : List Logged
   pub down : List (List ℕ)
   pub is : world_from (first_world plan input) events ≡ world_at s.printer log (to_come plan s.lines rest) down
-  pub wrote_is : start_text ++ flat_map ended down ≡ wrote ++ s.replies
+  pub wrote_is : start_text ++ flat_map with_line_feed down ≡ wrote ++ s.replies
   pub printed_is : flat_map printed_line log ≡ printed ++ s.text
 
 -- what a simulator records of a run it records after this
 abbrev pub Keeps : SimData → SimData → Type 0
-Keeps old new = (plan : SimPlan) (input rest wrote printed : List ℕ) → Tells plan input rest old wrote printed → Tells plan input rest new wrote printed
+Keeps old new =
+    (plan : SimPlan) (input rest wrote printed : List ℕ)
+    → FollowsModel plan input rest old wrote printed → FollowsModel plan input rest new wrote printed
 
 -- the next line arrived
 pub record Arrived (old new : SimData) : Type 0 where
   pub line : List ℕ
   pub first : old.lines.waiting ≡ line ∷ drop 1 old.lines.waiting
   pub room : is_full old.printer ≡ false
-  pub is : new ≡ record { printer = (take_line old.printer line).1; lines = record old.lines { waiting = drop 1 old.lines.waiting }; replies = old.replies ++ flat_map ended (taken_replies (take_line old.printer line).0); text = old.text }
+  pub is : new ≡ record {
+    printer = (take_line old.printer line).1;
+    lines = record old.lines { waiting = drop 1 old.lines.waiting };
+    replies = old.replies ++ flat_map with_line_feed (taken_replies (take_line old.printer line).0);
+    text = old.text;
+  }
 
 -- no line can arrive: none waits, or the queue is full
 abbrev pub IsStuck : SimData → Type 0
@@ -60,7 +68,12 @@ AfterArrival false old new = (new ≡ old) × IsStuck old
 pub record HasRun (old new : SimData) : Type 0 where
   pub ran : RanLine
   pub front : (run_front old.printer).0 ≡ Some ran
-  pub is : new ≡ record { printer = (run_front old.printer).1; lines = old.lines; replies = old.replies ++ ended ran.reply; text = old.text ++ printed_line (logged ran) }
+  pub is : new ≡ record {
+    printer = (run_front old.printer).1;
+    lines = old.lines;
+    replies = old.replies ++ with_line_feed ran.reply;
+    text = old.text ++ printed_line (log_line_of ran);
+  }
 
 -- an attempt to run a line, by whether one was
 abbrev pub AfterRunning : Bool → SimData → SimData → Type 0
@@ -80,7 +93,7 @@ pub record Steps (ran : Bool) (old new : SimData) : Type 0 where
   pub runs : AfterRunning ran mid new
 
 -- such a step, whose replies were written
-pub record Acts (old new : SimData) : Type 0 where
+pub record StepsAndReplies (old new : SimData) : Type 0 where
   pub ran : Bool
   pub stepped : SimData
   pub steps : Steps ran old stepped
@@ -89,10 +102,10 @@ pub record Acts (old new : SimData) : Type 0 where
   pub written : new.replies ≡ []
 
 -- a turn that goes on acts on what it received, whose printer is the former one
-pub record ActsOn (printer : PrinterData) (new : SimData) : Type 0 where
+pub record StepsAndRepliesOn (printer : PrinterData) (new : SimData) : Type 0 where
   pub received : SimData
   pub same : received.printer ≡ printer
-  pub acts : Acts received new
+  pub acts : StepsAndReplies received new
 
 -- how much there is to do: a line that waits is taken and run
 abbrev pub work : SimData → ℕ

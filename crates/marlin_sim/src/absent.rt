@@ -1,6 +1,6 @@
-//! A connection that isn't there: it fails at every call.
+//! A connection that doesn't exist: it fails at every call.
 ghost use Rattle.std.specs.Prelude.{◌≡◌, None, ⊤};
-ghost use Rattle.octo_outside.specs.Told.{Counts};
+ghost use Rattle.octo_outside.specs.Recorded.{Counts};
 
 use octo_outside::{Conn, Failed, Got};
 
@@ -28,7 +28,7 @@ impl AbsentConn {
 
 impl Conn for AbsentConn {
     ghost use Rattle.std.specs.Prelude.{◌≡◌, ◌<◌, [], None, length, take, IfOk, IsErr};
-    ghost use Rattle.octo_outside.specs.Told.{Adds, Counts};
+    ghost use Rattle.octo_outside.specs.Recorded.{Adds, Counts};
     ghost use Rattle.octo_outside.specs.Traits.{IsWithin};
 
     ghost left = { λ _. None };

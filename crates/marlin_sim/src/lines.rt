@@ -114,7 +114,7 @@ impl Lines {
     pub fn next(&self) -> Option<&[u8]>
         ensures { MatchOption result (self.now.waiting ≡ [])
             (λ line. (self.now.waiting ≡ line.now ∷ drop 1 self.now.waiting)
-            × (length line.now ≤ 95)) }
+            × (length line.now ≤ MOST_BYTES)) }
     {
         match self.waiting.front() {
             Some(line) => Some(line.as_slice()),

@@ -1,9 +1,9 @@
 //! The plan of a simulation, as the arguments name it.
 ghost use Rattle.std.specs.Prelude.{◌≡◌, map, IfOk, IfSome};
 ghost use Rattle.std.specs.List.{slice_split};
-ghost use Rattle.marlin_sim.specs.Plan.{number_in, place_in, count_in, is_comma, places_above, places_in, is_address, plan_of, IsPlan};
+ghost use Rattle.marlin_sim.specs.Plan.{place_in, count_in, is_comma, places_above, places_in, is_address, plan_of, IsPlan};
 
-use byte_text::whole_number;
+use byte_text::number_in;
 use octo_outside::{CallList, WordList};
 use std::alloc::{AllocError, Global};
 
@@ -24,16 +24,6 @@ pub struct SimPlan {
 
 // For how many reads the program serves a connection.
 const TURNS: u64 = 4_000_000_000_000;
-
-// The number that a word is: 1 to 10 digits, at most 4,294,967,295.
-fn number_in(word: &str) -> Option<u32>
-    ensures { result ≡ number_in word.now }
-{
-    match whole_number(word, 10) {
-        Some(number) if number <= 4_294_967_295 => Some(number as u32),
-        _ => None,
-    }
-}
 
 // The place that a text is, if it is above this one.
 fn place_in(least: u32, word: &str) -> Option<u32>

@@ -1,11 +1,11 @@
 //! Serves a connection: turns of reading, taking and running, and what they write and print.
 ghost use Rattle.std.specs.Prelude.{◌≡◌, ◌≢◌, ◌⊎◌, ◌<◌, ◌≤◌, ◌++◌, ℕ, List, [], Option, true, false, length, IfOk, OnOk, OnErr, IsErr, IfSome, Some, if◌then◌else◌};
-ghost use Rattle.octo_outside.specs.Told.{Adds, AddsPrefix, Counts};
+ghost use Rattle.octo_outside.specs.Recorded.{Adds, AddsPrefix, Counts};
 ghost use Rattle.marlin_sim.specs.declared.end.SimEnd.TheVariants as end;
 ghost use Rattle.marlin_sim.specs.declared.plan.SimPlan.{SimPlan};
 ghost use Rattle.marlin_sim.specs.declared.serve.Next.TheVariants as next;
 ghost use Rattle.marlin_sim.specs.Plan.{IsPlan};
-ghost use Rattle.marlin_sim.specs.Sim.{Tells, Acts, ActsOn, work, IsIdle};
+ghost use Rattle.marlin_sim.specs.Sim.{FollowsModel, StepsAndReplies, StepsAndRepliesOn, work, IsIdle};
 ghost use Rattle.marlin_sim.specs.Served.{Outside, outside, Serves, Going, After, Ending, Outcome, IsUsed};
 
 use crate::end::SimEnd;
@@ -72,7 +72,7 @@ fn next_of(ran: bool) -> Next
 
 // Writes the replies of a step that ran a line or didn't, and prints the text if it is long.
 fn deliver<C: Conn, O: Sink>(conn: &mut C, out: &mut O, sim: &mut Sim, ran: bool) -> Next
-    ensures told { (plan : SimPlan) (input : List ℕ) (first : Outside)
+    ensures follows { (plan : SimPlan) (input : List ℕ) (first : Outside)
         → Serves plan input first
         (outside (C.left conn.old) (C.written conn.old) (O.written out.old)) sim.old
         → After result plan input first
@@ -100,13 +100,13 @@ fn deliver<C: Conn, O: Sink>(conn: &mut C, out: &mut O, sim: &mut Sim, ran: bool
 }
 
 // Takes lines while there is room, runs one, and writes the replies.
-fn act<C: Conn, O: Sink>(conn: &mut C, out: &mut O, sim: &mut Sim) -> Next
-    ensures told { (plan : SimPlan) (input : List ℕ) (first : Outside)
+fn step_and_reply<C: Conn, O: Sink>(conn: &mut C, out: &mut O, sim: &mut Sim) -> Next
+    ensures follows { (plan : SimPlan) (input : List ℕ) (first : Outside)
         → Serves plan input first
         (outside (C.left conn.old) (C.written conn.old) (O.written out.old)) sim.old
         → After result plan input first
         (outside (C.left conn.new) (C.written conn.new) (O.written out.new)) sim.new }
-    ensures acts { (result ≡ next.On) ⊎ (result ≡ next.Over) → Acts sim.old sim.new }
+    ensures acts { (result ≡ next.On) ⊎ (result ≡ next.Over) → StepsAndReplies sim.old sim.new }
     ensures idle { result ≡ next.Over → 1 ≤ sim.old.printer.places → IsIdle sim.new }
     ensures work { result ≡ next.On → work sim.new < work sim.old }
     ensures places { (result ≡ next.On) ⊎ (result ≡ next.Over)
@@ -125,7 +125,7 @@ fn act<C: Conn, O: Sink>(conn: &mut C, out: &mut O, sim: &mut Sim) -> Next
 // Does what is left to do once the peer has closed.
 fn drain<C: Conn, O: Sink>(conn: &mut C, out: &mut O, sim: &mut Sim) -> SimEnd
     requires { 1 ≤ sim.old.printer.places }
-    ensures told { (plan : SimPlan) (input : List ℕ) (first : Outside)
+    ensures follows { (plan : SimPlan) (input : List ℕ) (first : Outside)
         → Serves plan input first
         (outside (C.left conn.old) (C.written conn.old) (O.written out.old)) sim.old
         → C.left conn.old ≡ Some []
@@ -138,7 +138,7 @@ fn drain<C: Conn, O: Sink>(conn: &mut C, out: &mut O, sim: &mut Sim) -> SimEnd
     ensures sink { Counts (result ≡ end.SinkFailed) (O.faults out.old) (O.faults out.new) }
 {
     loop {
-        match act(conn, out, sim) {
+        match step_and_reply(conn, out, sim) {
             Next::On => {}
             Next::Over => return SimEnd::Done,
             Next::ConnFailed => return SimEnd::ConnFailed,
@@ -150,12 +150,12 @@ fn drain<C: Conn, O: Sink>(conn: &mut C, out: &mut O, sim: &mut Sim) -> SimEnd
 
 // Goes on after a read that didn't find the end.
 fn go_on<C: Conn, O: Sink>(conn: &mut C, out: &mut O, sim: &mut Sim) -> Next
-    ensures told { (plan : SimPlan) (input : List ℕ) (first : Outside)
+    ensures follows { (plan : SimPlan) (input : List ℕ) (first : Outside)
         → Serves plan input first
         (outside (C.left conn.old) (C.written conn.old) (O.written out.old)) sim.old
         → After result plan input first
         (outside (C.left conn.new) (C.written conn.new) (O.written out.new)) sim.new }
-    ensures acts { result ≡ next.On → Acts sim.old sim.new }
+    ensures acts { result ≡ next.On → StepsAndReplies sim.old sim.new }
     ensures open { result ≢ next.Over }
     ensures places { result ≡ next.On → sim.new.printer.places ≡ sim.old.printer.places }
     ensures left { C.left conn.new ≡ C.left conn.old }
@@ -163,7 +163,7 @@ fn go_on<C: Conn, O: Sink>(conn: &mut C, out: &mut O, sim: &mut Sim) -> Next
     ensures conn { Counts (result ≡ next.ConnFailed) (C.faults conn.old) (C.faults conn.new) }
     ensures sink { Counts (result ≡ next.SinkFailed) (O.faults out.old) (O.faults out.new) }
 {
-    match act(conn, out, sim) {
+    match step_and_reply(conn, out, sim) {
         Next::On => Next::On,
         Next::Over => Next::On,
         Next::ConnFailed => Next::ConnFailed,
@@ -181,14 +181,14 @@ fn receive<C: Conn, O: Sink>(
     bytes: &[u8],
 ) -> Next
     requires { IsPlan plan.now }
-    ensures told { (input rest wrote printed : List ℕ) (first : Outside)
+    ensures follows { (input rest wrote printed : List ℕ) (first : Outside)
         → Adds first.wrote (C.written conn.old) wrote
         → Adds first.printed (O.written out.old) printed
         → C.left conn.old ≡ Some rest
-        → Tells plan.now input (bytes.now ++ rest) sim.old wrote printed
+        → FollowsModel plan.now input (bytes.now ++ rest) sim.old wrote printed
         → After result plan.now input first
         (outside (C.left conn.new) (C.written conn.new) (O.written out.new)) sim.new }
-    ensures acts { result ≡ next.On → ActsOn sim.old.printer sim.new }
+    ensures acts { result ≡ next.On → StepsAndRepliesOn sim.old.printer sim.new }
     ensures open { result ≢ next.Over }
     ensures places { result ≡ next.On → sim.new.printer.places ≡ sim.old.printer.places }
     ensures left { C.left conn.new ≡ C.left conn.old }
@@ -202,17 +202,18 @@ fn receive<C: Conn, O: Sink>(
     }
 }
 
-// Reads once, and does what can be done then.
-fn take_turn<C: Conn, O: Sink>(conn: &mut C, out: &mut O, sim: &mut Sim, plan: &SimPlan) -> Next
+/// Makes one turn: reads once, lets lines arrive until none waits or the queue is full, runs one if one waits, and
+/// writes its reply.
+pub fn take_turn<C: Conn, O: Sink>(conn: &mut C, out: &mut O, sim: &mut Sim, plan: &SimPlan) -> Next
     requires { IsPlan plan.now }
-    ensures told { (input : List ℕ) (first : Outside)
+    ensures follows { (input : List ℕ) (first : Outside)
         → Going plan.now input first
         (outside (C.left conn.old) (C.written conn.old) (O.written out.old)) sim.old
         → After result plan.now input first
         (outside (C.left conn.new) (C.written conn.new) (O.written out.new)) sim.new }
-    ensures acts { result ≡ next.On → ActsOn sim.old.printer sim.new }
+    ensures acts { result ≡ next.On → StepsAndRepliesOn sim.old.printer sim.new }
     ensures quiet { result ≡ next.On
-        → C.quiets conn.new ≢ C.quiets conn.old → Acts sim.old sim.new }
+        → C.quiets conn.new ≢ C.quiets conn.old → StepsAndReplies sim.old sim.new }
     ensures closed { result ≡ next.Over
         → IfSome (C.left conn.old) (λ _. C.left conn.new ≡ Some []) }
     ensures used { result ≡ next.On → IfSome (C.left conn.old)
@@ -241,7 +242,7 @@ pub fn take_turns<C: Conn, O: Sink>(
 ) -> SimEnd
     requires plan { IsPlan plan.now }
     requires places { sim.old.printer.places ≡ plan.now.places }
-    ensures told { (input : List ℕ) (first : Outside)
+    ensures follows { (input : List ℕ) (first : Outside)
         → Going plan.now input first
         (outside (C.left conn.old) (C.written conn.old) (O.written out.old)) sim.old
         → Ending result plan.now input first

@@ -1,14 +1,15 @@
 //! The simulator without its outside: bytes come in, replies and printed lines gather.
 ghost use Rattle.std.specs.Prelude.{◌≡◌, ◌++◌, codes, decimal, OnOk};
 ghost use Rattle.std.specs.List.{flat_map};
-ghost use Rattle.printer_model.specs.Printer.{logged};
+ghost use Rattle.printer_model.specs.Printer.{log_line_of};
 ghost use Rattle.printer_model.specs.Replies.{taken_replies};
-ghost use Rattle.marlin_sim.specs.Run.{ended, number_text, printed_line};
+ghost use Rattle.octo_outside.specs.Lists.{with_line_feed};
+ghost use Rattle.marlin_sim.specs.Run.{number_text, printed_line};
 
 use crate::lines::Lines;
 use crate::plan::SimPlan;
 use itoa::Buffer;
-use octo_outside::Blob;
+use octo_outside::{Blob, append_line};
 use printer_model::{Printer, Ran, Taken, error_line, ok_line, resend_line};
 use std::alloc::{AllocError, Global};
 use std::marker::Model;
@@ -35,14 +36,6 @@ impl Model for Sim {
     } };
 }
 
-// Adds a line with its line feed.
-fn put_line(text: &mut Blob, line: &[u8]) -> Result<(), AllocError>
-    ensures { OnOk result (text.new ≡ text.old ++ ended line.now) }
-{
-    text.append(line)?;
-    text.append(b"\n")
-}
-
 // Adds the number of a line, if it has one, as it is printed before the line.
 fn put_number(text: &mut Blob, number: Option<u32>) -> Result<(), AllocError>
     ensures { OnOk result (text.new ≡ text.old ++ number_text number) }
@@ -60,22 +53,23 @@ fn put_number(text: &mut Blob, number: Option<u32>) -> Result<(), AllocError>
 
 // Adds a line that was run.
 fn put_ran(text: &mut Blob, ran: &Ran) -> Result<(), AllocError>
-    ensures { OnOk result (text.new ≡ text.old ++ printed_line (logged ran.now)) }
+    ensures { OnOk result (text.new ≡ text.old ++ printed_line (log_line_of ran.now)) }
 {
     put_number(text, ran.number)?;
-    put_line(text, ran.text.as_slice())
+    append_line(text, ran.text.as_slice())
 }
 
 // Adds the replies to a line that was taken.
 fn put_taken(replies: &mut Blob, taken: &Taken) -> Result<(), AllocError>
-    ensures { OnOk result (replies.new ≡ replies.old ++ flat_map ended (taken_replies taken.now)) }
+    ensures { OnOk result
+        (replies.new ≡ replies.old ++ flat_map with_line_feed (taken_replies taken.now)) }
 {
     match taken {
         Taken::Accepted | Taken::Full => Ok(()),
         Taken::Refused { reason, last } => {
-            put_line(replies, error_line(*reason, *last).as_slice())?;
-            put_line(replies, resend_line(*last).as_slice())?;
-            put_line(replies, ok_line().as_slice())
+            append_line(replies, error_line(*reason, *last).as_slice())?;
+            append_line(replies, resend_line(*last).as_slice())?;
+            append_line(replies, ok_line().as_slice())
         }
     }
 }
@@ -83,7 +77,7 @@ fn put_taken(replies: &mut Blob, taken: &Taken) -> Result<(), AllocError>
 impl Sim {
     ghost use Rattle.std.specs.Prelude.{◌≡◌, ◌≤◌, ◌<◌, ◌++◌, ℕ, List, [], true, false, length, IfOk, OnOk};
     ghost use Rattle.marlin_sim.specs.Plan.{IsPlan};
-    ghost use Rattle.marlin_sim.specs.Sim.{SimData, new_sim, Tells, Keeps, IsStuck, Arrives, Steps, AfterArrival, AfterRunning, work, IsIdle};
+    ghost use Rattle.marlin_sim.specs.Sim.{SimData, new_sim, FollowsModel, Keeps, IsStuck, Arrives, Steps, AfterArrival, AfterRunning, work, IsIdle};
 
     /// A new printer before anything was received; `start` is to be written.
     pub fn new(alloc: Global, plan: &SimPlan) -> Result<Self, AllocError>
@@ -129,10 +123,10 @@ impl Sim {
     /// Receives bytes.
     pub fn receive(&mut self, plan: &SimPlan, bytes: &[u8]) -> Result<(), AllocError>
         requires { IsPlan plan.now }
-        ensures told { OnOk result
+        ensures follows { OnOk result
             ((input rest wrote printed : List ℕ)
-            → Tells plan.now input (bytes.now ++ rest) self.old wrote printed
-            → Tells plan.now input rest self.new wrote printed) }
+            → FollowsModel plan.now input (bytes.now ++ rest) self.old wrote printed
+            → FollowsModel plan.now input rest self.new wrote printed) }
         ensures printer { self.new.printer ≡ self.old.printer }
     {
         self.lines.receive(plan, bytes)
@@ -175,7 +169,7 @@ impl Sim {
         match self.printer.run_one() {
             None => Ok(false),
             Some(ran) => {
-                put_line(&mut self.replies, ran.reply.as_slice())?;
+                append_line(&mut self.replies, ran.reply.as_slice())?;
                 put_ran(&mut self.text, &ran)?;
                 Ok(true)
             }

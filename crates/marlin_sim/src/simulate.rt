@@ -1,6 +1,6 @@
 //! A whole simulation, by a plan or by the arguments that name one.
 ghost use Rattle.std.specs.Prelude.{◌≡◌, ◌≢◌, ◌⊎◌, ◌≤◌, ℕ, List, Option, None, Some, IfSome};
-ghost use Rattle.octo_outside.specs.Told.{Rose, Counts};
+ghost use Rattle.octo_outside.specs.Recorded.{Rose, Counts};
 ghost use Rattle.marlin_sim.specs.declared.end.SimEnd.TheVariants as end;
 ghost use Rattle.marlin_sim.specs.declared.plan.SimPlan.{SimPlan};
 ghost use Rattle.marlin_sim.specs.Plan.{IsPlan, plan_of};
@@ -17,7 +17,7 @@ use std::alloc::Global;
 fn begin<C: Conn, O: Sink>(conn: &mut C, out: &mut O, sim: &mut Sim, plan: &SimPlan) -> SimEnd
     requires plan { IsPlan plan.now }
     requires places { sim.old.printer.places ≡ plan.now.places }
-    ensures told { (input : List ℕ) (first : Outside)
+    ensures follows { (input : List ℕ) (first : Outside)
         → Serves plan.now input first
         (outside (C.left conn.old) (C.written conn.old) (O.written out.old)) sim.old
         → Ending result plan.now input first
@@ -37,7 +37,7 @@ fn begin<C: Conn, O: Sink>(conn: &mut C, out: &mut O, sim: &mut Sim, plan: &SimP
 
 // Prints what is still to be printed at an end.
 fn finish<O: Sink>(out: &mut O, sim: &mut Sim, ending: SimEnd) -> SimEnd
-    ensures told { (plan : SimPlan) (input : List ℕ) (first : Outside)
+    ensures follows { (plan : SimPlan) (input : List ℕ) (first : Outside)
         (left wrote : Option (List ℕ))
         → Ending ending plan input first (outside left wrote (O.written out.old)) sim.old
         → Outcome result plan input first (outside left wrote (O.written out.new)) }

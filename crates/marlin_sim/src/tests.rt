@@ -4,12 +4,12 @@ ghost use Rattle.std.specs.Prelude.{◌≤◌};
 use crate::end::SimEnd;
 use crate::plan::SimPlan;
 use crate::simulate::{sim, simulate};
-use octo_outside::{CallList, MemoryConn, MemorySink, WordList};
+use octo_outside::{CallList, MemoryConn, MemorySink, WordList, calls_of};
 use std::alloc::{AllocError, Global};
 use std::process::Abort;
 use std::test::Fail;
 
-// What a simulation gave: its end, what it wrote, and what it printed.
+// What a simulation returned: its end, what it wrote, and what it printed.
 #[derive(Drop)]
 struct Outcome {
     end: SimEnd,
@@ -30,14 +30,6 @@ struct Row {
     printed: &'static [u8],
 }
 
-fn calls(alloc: Global, numbers: &[u64]) -> Result<CallList, AllocError> {
-    let mut list = CallList::new(alloc);
-    for number in numbers {
-        list.push(*number)?;
-    }
-    Ok(list)
-}
-
 fn word_list(alloc: Global, words: &[&str]) -> Result<WordList, AllocError> {
     let mut list = WordList::new(alloc);
     for word in words {
@@ -51,10 +43,10 @@ fn simulation(alloc: Global, row: &Row) -> Result<Outcome, AllocError> {
     let mut conn = MemoryConn::new(
         alloc,
         row.input,
-        calls(alloc, row.quiet_at)?,
-        calls(alloc, row.conn_fails)?,
+        calls_of(alloc, row.quiet_at)?,
+        calls_of(alloc, row.conn_fails)?,
     )?;
-    let mut out = MemorySink::new(alloc, calls(alloc, row.sink_fails)?);
+    let mut out = MemorySink::new(alloc, calls_of(alloc, row.sink_fails)?);
     let end = sim(alloc, &words, &mut conn, &mut out);
     Ok(Outcome {
         end,
@@ -71,7 +63,7 @@ fn assert_row(rt: &(impl Abort + Alloc<A = Global>), row: &Row) -> Result<(), Fa
     Ok(())
 }
 
-// A print of G28 whose first sending is garbled, so that the printer asks for it again.
+// A print of G28 whose first sending is corrupted, so that the printer asks for it again.
 const GARBLED: Row = Row {
     words: &["127.0.0.1:7100", "4", "4", "-", "2"],
     input: b"N0 M110 N1*124\nN2 G28*17\nN2 G28*17\n",
@@ -111,6 +103,16 @@ fn planned_lines(rt: HostRuntime) -> Result<(), Fail> {
             printed: b"G29\nG1 X0\n",
             ..GARBLED
         },
+    ];
+    for row in &rows {
+        assert_row(&rt, row)?;
+    }
+    Ok(())
+}
+
+#[test]
+fn short_inputs(rt: HostRuntime) -> Result<(), Fail> {
+    let rows = [
         Row {
             words: &["p", "0", "4", "1,3", "4294967295"],
             input: b"G28\n\nM84\n",
@@ -185,7 +187,7 @@ fn turns_used(rt: HostRuntime) -> Result<(), Fail> {
             garble: CallList::new(alloc),
             turns,
         };
-        let quiet_at = calls(alloc, &[2, 3])?;
+        let quiet_at = calls_of(alloc, &[2, 3])?;
         let mut conn = MemoryConn::new(alloc, GARBLED.input, quiet_at, CallList::new(alloc))?;
         let mut out = MemorySink::new(alloc, CallList::new(alloc));
         let end = simulate(alloc, &mut conn, &mut out, &plan);

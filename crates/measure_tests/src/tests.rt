@@ -6,7 +6,7 @@ use std::process::Abort;
 use std::test::Fail;
 
 // How much the commands feed, or the text of their fault.
-fn fed(alloc: Global, file: &str) -> Result<String, Fail> {
+fn feed_of(alloc: Global, file: &str) -> Result<String, Fail> {
     let job = read_commands(alloc, file.as_bytes())?;
     match measure(&job) {
         Ok(found) => {
@@ -18,7 +18,7 @@ fn fed(alloc: Global, file: &str) -> Result<String, Fail> {
 }
 
 fn feeds(rt: &(impl Abort + Alloc<A = Global>), file: &str, want: &str) -> Result<(), Fail> {
-    assert_eq!(rt; fed(rt.alloc(), file)?.as_str(), want, "of {file}");
+    assert_eq!(rt; feed_of(rt.alloc(), file)?.as_str(), want, "of {file}");
     Ok(())
 }
 

@@ -2,7 +2,7 @@
 #![tactic(auto)]
 
 ghost use Rattle.std.specs.Prelude.{◌≡◌};
-ghost use Rattle.octo_commands.specs.Commands.{refused};
+ghost use Rattle.octo_commands.specs.Commands.{arguments_fault_report};
 
 mod objects;
 
@@ -16,8 +16,8 @@ use std::alloc::AllocError;
 use std::process::ExitCode;
 
 // The report on arguments that can't be used.
-fn refused(fault: ArgumentsFault) -> HostReport
-    ensures { result ≡ refused fault }
+fn arguments_fault_report(fault: ArgumentsFault) -> HostReport
+    ensures { result ≡ arguments_fault_report fault }
 {
     HostReport::Command(match fault {
         ArgumentsFault::NotText => Report::BadWords,
@@ -37,7 +37,7 @@ fn main(rt: HostRuntime) -> ExitCode {
     let mut out = StdSink::new(rt);
     let words = match arguments(&rt) {
         Ok(words) => words,
-        Err(fault) => return end_with(&mut out, &refused(fault)),
+        Err(fault) => return end_with(&mut out, &arguments_fault_report(fault)),
     };
     let mut objects = match objects_of(&rt, &words) {
         Ok(objects) => objects,

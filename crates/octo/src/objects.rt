@@ -25,7 +25,7 @@ fn host_objects(
     folder: &Name,
     database: &Name,
 ) -> Result<Objects, AllocError> {
-    let doors = TcpDoor::four(rt.alloc(), rt, address.as_str())?;
+    let doors = TcpDoor::four(rt, rt.alloc(), address.as_str())?;
     Ok(Objects {
         keeper: Opened::new(open_keeper(rt, database)),
         shelf: FolderShelf::new(*rt, folder),
@@ -60,7 +60,7 @@ fn objects_by(rt: &HostRuntime, command: &Command) -> Result<Objects, AllocError
     }
 }
 
-/// The objects that the arguments name. A database that can't be opened, a folder that isn't there and an address that can't be
+/// The objects that the arguments name. A database that can't be opened, a missing folder and an address that can't be
 /// bound fail at each call.
 pub(crate) fn objects_of(rt: &HostRuntime, words: &WordList) -> Result<Objects, AllocError> {
     match read_words(rt.alloc(), words) {

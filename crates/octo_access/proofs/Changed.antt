@@ -11,13 +11,14 @@ use Rattle.std.specs.List.{find, count_by, position_or_len, filter}
 use Rattle.std.specs.Option.{IfSome}
 use Rattle.std.specs.Str.{bytes_eq}
 use Rattle.octo_access.specs.Changes.{change_refusal, refusal_after}
-use Rattle.octo_access.specs.Rows.{is_before, is_named, has_digest, held, without, replaced, most_users, IsUserTable}
+use Rattle.octo_access.specs.Rows.{is_before, is_named, has_digest, row_named, without, replaced, most_users, IsUserTable}
 use Rattle.octo_access.specs.declared.policy.Policy.{Policy}
 use Rattle.octo_access.specs.declared.row.UserRow.{UserRow}
-use Rattle.octo_access.proofs.Found.{found-place, found-there, found-passes, only-one, count-filter}
+use Rattle.octo_access.proofs.Found.{found-place, found-there, found-passes, only-one}
 use Rattle.octo_access.proofs.Inserted.{count-none}
 use Rattle.octo_access.proofs.Refused.{held-if-changed, key-if-changed}
 use Rattle.octo_access.proofs.Tables.{by_name}
+use Rattle.byte_text.proofs.ListLaws.{count-filter}
 
 -- the names by place stay, if a row is put over one of its name
 name-kept : (row former : UserRow) (rows : List UserRow) (i : ℕ) → i < length rows → get_or rows i former ≡ former → former.name ≡ row.name → (j : ℕ) (d : UserRow) → j < length rows → (get_or (set rows i row) j d).name ≡ (get_or rows j d).name
@@ -56,7 +57,7 @@ keys-replaced row former rows i within at own digest few =
     (λ same. let e : row.digest ≡ digest = (bytes_decides row.digest digest).0 same in rw e at own)
 
 -- a row in the place of one with its name
-pub table-replaced : (row former : UserRow) (rows : List UserRow) → IsUserTable rows → held row.name rows ≡ Some former → count_by (has_digest row.digest) rows ≤ cond (has_digest row.digest former) 1 0 → IsUserTable (replaced row rows)
+pub table-replaced : (row former : UserRow) (rows : List UserRow) → IsUserTable rows → row_named row.name rows ≡ Some former → count_by (has_digest row.digest) rows ≤ cond (has_digest row.digest former) 1 0 → IsUserTable (replaced row rows)
 table-replaced row former rows table there own =
     let i : ℕ = position_or_len (is_named row.name) rows in
     let within : position_or_len (is_named row.name) rows < length rows = found-place (is_named row.name) former rows there in
@@ -78,14 +79,14 @@ table-replaced row former rows table there own =
 -- a change that isn't refused
 pub table-changed : (policy : Policy) (row : UserRow) (rows : List UserRow) → IsUserTable rows → change_refusal policy row rows ≡ None → IsUserTable (replaced row rows)
 table-changed policy row rows table h =
-    let (former, there) = held-if-changed policy (held row.name rows) row rows h in
+    let (former, there) = held-if-changed policy (row_named row.name rows) row rows h in
     table-replaced row former rows table there (key-if-changed policy former row rows table (rw there at h))
 
-own-key : (row former : UserRow) (rows : List UserRow) (o : Option UserRow) → IsUserTable rows → find (has_digest row.digest) rows ≡ o → held row.name rows ≡ Some former → IfSome o (λ other. other.name ≡ row.name) → count_by (has_digest row.digest) rows ≤ cond (has_digest row.digest former) 1 0
+own-key : (row former : UserRow) (rows : List UserRow) (o : Option UserRow) → IsUserTable rows → find (has_digest row.digest) rows ≡ o → row_named row.name rows ≡ Some former → IfSome o (λ other. other.name ≡ row.name) → count_by (has_digest row.digest) rows ≤ cond (has_digest row.digest former) 1 0
 own-key row former rows None table is there own = let none : count_by (has_digest row.digest) rows ≡ 0 = count-none (has_digest row.digest) rows is in omega arith
 own-key row former rows (Some other) table is there own =
     let named : is_named row.name other ≡ true = (bytes_decides other.name row.name).1 own in
-    let same : held row.name rows ≡ Some other = only-one (has_digest row.digest) (is_named row.name) other rows named is (table.list.names row.name) in
+    let same : row_named row.name rows ≡ Some other = only-one (has_digest row.digest) (is_named row.name) other rows named is (table.list.names row.name) in
     let e : other ≡ former = cc in
     let passes : has_digest row.digest former ≡ true = rw e at (found-passes (has_digest row.digest) other rows is) in
     rw passes (table.list.keys row.digest)
@@ -95,18 +96,18 @@ some-held None h = absurd (cc)
 some-held (Some row) h = (row, refl)
 
 -- a row that is put back
-pub table-restored : (row : UserRow) (rows : List UserRow) → IsUserTable rows → IsSome (held row.name rows) → IfSome (find (has_digest row.digest) rows) (λ other. other.name ≡ row.name) → IsUserTable (replaced row rows)
+pub table-restored : (row : UserRow) (rows : List UserRow) → IsUserTable rows → IsSome (row_named row.name rows) → IfSome (find (has_digest row.digest) rows) (λ other. other.name ≡ row.name) → IsUserTable (replaced row rows)
 table-restored row rows table there own =
-    let (former, is) = some-held (held row.name rows) there in
+    let (former, is) = some-held (row_named row.name rows) there in
     table-replaced row former rows table is (own-key row former rows (find (has_digest row.digest) rows) table refl is own)
 
--- the place of a row that is there
-pub place-held : (name : List ℕ) (rows : List UserRow) → IsSome (held name rows) → position_or_len (is_named name) rows < length rows
-place-held name rows there = let (former, is) = some-held (held name rows) there in found-place (is_named name) former rows is
+-- the place of a row that exists
+pub place-held : (name : List ℕ) (rows : List UserRow) → IsSome (row_named name rows) → position_or_len (is_named name) rows < length rows
+place-held name rows there = let (former, is) = some-held (row_named name rows) there in found-place (is_named name) former rows is
 
 pub place-changed : (policy : Policy) (row : UserRow) (rows : List UserRow) → change_refusal policy row rows ≡ None → position_or_len (is_named row.name) rows < length rows
 place-changed policy row rows h =
-    let (former, there) = held-if-changed policy (held row.name rows) row rows h in found-place (is_named row.name) former rows there
+    let (former, there) = held-if-changed policy (row_named row.name rows) row rows h in found-place (is_named row.name) former rows there
 
 -- the rows but one
 pub table-without : (name : List ℕ) (rows : List UserRow) → IsUserTable rows → IsUserTable (without name rows)
@@ -130,15 +131,15 @@ index-changed policy row rows inside place is at h = rw (is, at) (place-changed 
 pub set-changed : (policy : Policy) (row copy : UserRow) (rows inside : List UserRow) (place : ℕ) → IsUserTable inside → inside ≡ rows → place ≡ position_or_len (is_named row.name) rows → copy ≡ row → change_refusal policy row rows ≡ None → IsUserTable (set inside place copy)
 set-changed policy row copy rows inside place table is at same h = rw (is, at, same) (table-changed policy row rows (rw is at table) h)
 
-pub held-changed : (policy : Policy) (row found : UserRow) (rows inside : List UserRow) (place : ℕ) → inside ≡ rows → place ≡ position_or_len (is_named row.name) rows → found ≡ get_or inside place found → change_refusal policy row rows ≡ None → held row.name rows ≡ Some found
+pub held-changed : (policy : Policy) (row found : UserRow) (rows inside : List UserRow) (place : ℕ) → inside ≡ rows → place ≡ position_or_len (is_named row.name) rows → found ≡ get_or inside place found → change_refusal policy row rows ≡ None → row_named row.name rows ≡ Some found
 held-changed policy row found rows inside place is at there h =
-    let (former, held_is) = held-if-changed policy (held row.name rows) row rows h in
+    let (former, held_is) = held-if-changed policy (row_named row.name rows) row rows h in
     held_is ∙ ap (λ (r : UserRow). Some r) (sym (there ∙ ap (λ (rs : List UserRow). get_or rs place found) is ∙ ap (λ k. get_or rows k found) at ∙ found-there (is_named row.name) former found rows held_is))
 
-pub index-restored : (name : List ℕ) (rows inside : List UserRow) (place : ℕ) → inside ≡ rows → place ≡ position_or_len (is_named name) rows → IsSome (held name rows) → place < length inside
+pub index-restored : (name : List ℕ) (rows inside : List UserRow) (place : ℕ) → inside ≡ rows → place ≡ position_or_len (is_named name) rows → IsSome (row_named name rows) → place < length inside
 index-restored name rows inside place is at there = rw (is, at) (place-held name rows there)
 
-pub set-restored : (row copy : UserRow) (rows inside : List UserRow) (place : ℕ) → IsUserTable inside → inside ≡ rows → place ≡ position_or_len (is_named row.name) rows → copy ≡ row → IsSome (held row.name rows) → IfSome (find (has_digest row.digest) rows) (λ other. other.name ≡ row.name) → IsUserTable (set inside place copy)
+pub set-restored : (row copy : UserRow) (rows inside : List UserRow) (place : ℕ) → IsUserTable inside → inside ≡ rows → place ≡ position_or_len (is_named row.name) rows → copy ≡ row → IsSome (row_named row.name rows) → IfSome (find (has_digest row.digest) rows) (λ other. other.name ≡ row.name) → IsUserTable (set inside place copy)
 set-restored row copy rows inside place table is at same there own = rw (is, at, same) (table-restored row rows (rw is at table) there own)
 
 pub table-left : (name : List ℕ) (rows left : List UserRow) → IsUserTable rows → left ≡ without name rows → IsUserTable left

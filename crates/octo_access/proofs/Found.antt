@@ -1,7 +1,7 @@
 -- What is found in a list, and how often.
 use Rattle.std.proofs.Common.{◌≡◌, ℕ, ◌+◌, ◌<◌, ◌≤◌, suc, zero, Bool, true, false, cond, List, [], ◌∷◌, length, get_or, Option, Some, None, IsSome, is_some, refl, arith, ◌∙◌, ap, sym}
 use Rattle.std.proofs.lemmas.List.Sums.{sum_by-cons}
-use Rattle.std.specs.List.{find, count_by, filter, position_or_len}
+use Rattle.std.specs.List.{find, count_by, position_or_len}
 use Rattle.octo_access.proofs.Inserted.{count-some}
 
 module _ {X : Type 0} where
@@ -56,12 +56,3 @@ module _ {X : Type 0} where
   only-one p q y [] passes h few = absurd (cc)
   only-one p q y (x ∷ xs) passes h few =
       only-one-here p q x y xs (p x) (q x) refl refl passes h (rw (sum_by-cons (λ z. cond (q z) 1 0) x xs) at few) (found-counts p q y xs passes) (only-one p q y xs passes)
-
-  count-filter-more : (p q : X → Bool) (x : X) (xs : List X) (b : Bool) → q x ≡ b → count_by p (filter q xs) ≤ count_by p xs → count_by p (filter q (x ∷ xs)) ≤ count_by p (x ∷ xs)
-  count-filter-more p q x xs true is rest = rw (is, sum_by-cons (λ z. cond (p z) 1 0) x xs, sum_by-cons (λ z. cond (p z) 1 0) x (filter q xs)) (omega arith)
-  count-filter-more p q x xs false is rest = rw (is, sum_by-cons (λ z. cond (p z) 1 0) x xs) (omega arith)
-
-  -- a filter leaves no more
-  pub count-filter : (p q : X → Bool) (xs : List X) → count_by p (filter q xs) ≤ count_by p xs
-  count-filter p q [] = omega arith
-  count-filter p q (x ∷ xs) = count-filter-more p q x xs (q x) refl (count-filter p q xs)

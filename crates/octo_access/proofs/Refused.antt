@@ -5,21 +5,14 @@ use Rattle.std.specs.List.{find, count_by, prefix_len, insert}
 use Rattle.std.specs.Option.{option_or, option_map}
 use Rattle.octo_access.specs.Changes.{bad_group, name_taken, holder, key_taken, full, put_refusal, new_key_taken, refusal_after, change_refusal}
 use Rattle.octo_access.specs.Rights.{admin_if, admin_with_key}
-use Rattle.octo_access.specs.Rows.{is_before, is_named, has_digest, held, with_row, replaced, most_users, IsUserTable}
+use Rattle.octo_access.specs.Rows.{is_before, is_named, has_digest, row_named, with_row, replaced, most_users, IsUserTable}
 use Rattle.octo_access.specs.declared.policy.Policy.{Policy}
 use Rattle.octo_access.specs.declared.refusal.UserRefusal.{UserRefusal}
 use Rattle.octo_access.specs.declared.refusal.UserRefusal.TheVariants.{Full}
 use Rattle.octo_access.specs.declared.row.UserRow.{UserRow}
 use Rattle.octo_access.proofs.Inserted.{count-none}
 use Rattle.octo_access.proofs.Tables.{table-with_row}
-
-pub first-none : {X : Type 0} (first second : Option X) → option_or first second ≡ None → first ≡ None
-first-none None second h = refl
-first-none (Some x) second h = absurd (cc)
-
-pub second-none : {X : Type 0} (first second : Option X) → option_or first second ≡ None → second ≡ None
-second-none None second h = h
-second-none (Some x) second h = absurd (cc)
+use Rattle.byte_text.proofs.OptionLaws.{first-none, second-none, none-if-false}
 
 map-none : {X Y : Type 0} (f : X → Y) (o : Option X) → option_map f o ≡ None → o ≡ None
 map-none f None h = refl
@@ -30,12 +23,8 @@ second-false x true b h = absurd (cc)
 second-false x false true h = absurd (cc)
 second-false x false false h = refl
 
-pub none-if-false : {X : Type 0} (o : Option X) → is_some o ≡ false → o ≡ None
-none-if-false None h = refl
-none-if-false (Some x) h = absurd (cc)
-
-name-free : (policy : Policy) (name : List ℕ) (rows : List UserRow) → name_taken policy name rows ≡ None → held name rows ≡ None
-name-free policy name rows h = none-if-false (held name rows) (second-false _ _ (is_some (held name rows)) h)
+name-free : (policy : Policy) (name : List ℕ) (rows : List UserRow) → name_taken policy name rows ≡ None → row_named name rows ≡ None
+name-free policy name rows h = none-if-false (row_named name rows) (second-false _ _ (is_some (row_named name rows)) h)
 
 pub key-free : (policy : Policy) (digest : List ℕ) (rows : List UserRow) → key_taken policy digest rows ≡ None → find (has_digest digest) rows ≡ None
 key-free policy digest rows h =
@@ -59,7 +48,7 @@ pub rows-put : (policy : Policy) (row copy : UserRow) (rows inside new : List Us
 rows-put policy row copy rows inside new place true table is at same h made = rw (made, is, at, same) (table-put policy row rows (rw is at table) h)
 rows-put policy row copy rows inside new place false table is at same h made = rw made table
 
--- a user who may be changed is there
+-- a user who may be changed exists
 pub held-if-changed : (policy : Policy) (o : Option UserRow) (row : UserRow) (rows : List UserRow) → refusal_after policy o row rows ≡ None → (former : UserRow) × (o ≡ Some former)
 held-if-changed policy None row rows h = absurd (let no = second-none (bad_group policy [] row) _ h in cc)
 held-if-changed policy (Some former) row rows h = (former, refl)

@@ -12,7 +12,7 @@ use Rattle.std.specs.List.{find, count_by, prefix_len, insert}
 use Rattle.std.specs.List.Sorted.{IsPermutation}
 use Rattle.std.specs.Ordering.{nat_cmp}
 use Rattle.std.specs.Str.{bytes_eq}
-use Rattle.octo_access.specs.Rows.{is_before, is_named, has_digest, held, with_row, most_users, IsByName, IsUserList, IsUserTable}
+use Rattle.octo_access.specs.Rows.{is_before, is_named, has_digest, row_named, with_row, most_users, IsByName, IsUserList, IsUserTable}
 use Rattle.octo_access.specs.declared.row.UserRow.{UserRow}
 use Rattle.octo_access.proofs.Inserted.{count-none, sorted-inserted}
 
@@ -25,7 +25,7 @@ counted : (test : UserRow → Bool) (row : UserRow) (rows : List UserRow) (i : �
 counted test row rows i true is none few = rw (sum_by-insert (λ r. cond (test r) 1 0) rows i row, is, none refl) (omega arith)
 counted test row rows i false is none few = rw (sum_by-insert (λ r. cond (test r) 1 0) rows i row, is) (omega arith)
 
-names-inserted : (row : UserRow) (rows : List UserRow) (i : ℕ) → held row.name rows ≡ None → (name : List ℕ) → count_by (is_named name) rows ≤ 1 → count_by (is_named name) (insert rows i row) ≤ 1
+names-inserted : (row : UserRow) (rows : List UserRow) (i : ℕ) → row_named row.name rows ≡ None → (name : List ℕ) → count_by (is_named name) rows ≤ 1 → count_by (is_named name) (insert rows i row) ≤ 1
 names-inserted row rows i new name few =
     counted (is_named name) row rows i (is_named name row) refl
     (λ same. ap (λ n. count_by (is_named n) rows) (sym ((bytes_decides row.name name).0 same)) ∙ count-none (is_named row.name) rows new) few
@@ -36,7 +36,7 @@ keys-inserted row rows i new digest few =
     (λ same. ap (λ k. count_by (has_digest k) rows) (sym ((bytes_decides row.digest digest).0 same)) ∙ count-none (has_digest row.digest) rows new) few
 
 -- a table with one row more, whose name and key are new
-pub table-with_row : (row : UserRow) (rows : List UserRow) → IsUserTable rows → held row.name rows ≡ None → find (has_digest row.digest) rows ≡ None → length rows ≢ most_users → IsUserTable (with_row row rows)
+pub table-with_row : (row : UserRow) (rows : List UserRow) → IsUserTable rows → row_named row.name rows ≡ None → find (has_digest row.digest) rows ≡ None → length rows ≢ most_users → IsUserTable (with_row row rows)
 table-with_row row rows table name key room =
     let place : ℕ = prefix_len (λ (r : UserRow). is_before r.name row.name) rows in
     let within : prefix_len (λ (r : UserRow). is_before r.name row.name) rows ≤ length rows = prefix_len-le-length (λ (r : UserRow). is_before r.name row.name) rows in

@@ -5,7 +5,7 @@ use Rattle.std.specs.Option.{option_or}
 use Rattle.std.specs.Str.{bytes_eq}
 use Rattle.octo_access.specs.Groups.{is_known}
 use Rattle.octo_access.specs.Rights.{admin_if, admin_with_key}
-use Rattle.octo_access.specs.Rows.{has_digest, held, most_users}
+use Rattle.octo_access.specs.Rows.{has_digest, row_named, most_users}
 use Rattle.octo_access.specs.declared.policy.Policy.{Policy}
 use Rattle.octo_access.specs.declared.refusal.UserRefusal.{UserRefusal}
 use Rattle.octo_access.specs.declared.refusal.UserRefusal.TheVariants as refusal
@@ -26,7 +26,7 @@ bad_group policy former row = option_map (λ g. refusal.BadGroup g) (find (is_ba
 -- a name that the admin or a row has
 abbrev pub name_taken : Policy → List ℕ → List UserRow → Option UserRefusal
 name_taken policy name rows =
-    if is_some (admin_if (λ a. bytes_eq a.name name) policy.admin) || is_some (held name rows) then Some refusal.NameTaken else None
+    if is_some (admin_if (λ a. bytes_eq a.name name) policy.admin) || is_some (row_named name rows) then Some refusal.NameTaken else None
 
 -- the name of whoever has a key, the admin first
 abbrev pub holder : Policy → List ℕ → List UserRow → Option (List ℕ)
@@ -58,4 +58,4 @@ refusal_after policy (Some former) row rows =
 
 -- why a user isn't changed
 abbrev pub change_refusal : Policy → UserRow → List UserRow → Option UserRefusal
-change_refusal policy row rows = refusal_after policy (held row.name rows) row rows
+change_refusal policy row rows = refusal_after policy (row_named row.name rows) row rows

@@ -15,15 +15,17 @@ most_users = 1000
 abbrev pub is_before : List ℕ → List ℕ → Bool
 is_before name other = is_lt (slice_cmp nat_cmp name other)
 
+-- whether a row has this name
 abbrev pub is_named : List ℕ → UserRow → Bool
 is_named name row = bytes_eq row.name name
 
+-- whether a row has a key of this digest
 abbrev pub has_digest : List ℕ → UserRow → Bool
 has_digest digest row = bytes_eq row.digest digest
 
 -- the row of that name
-abbrev pub held : List ℕ → List UserRow → Option UserRow
-held name rows = find (is_named name) rows
+abbrev pub row_named : List ℕ → List UserRow → Option UserRow
+row_named name rows = find (is_named name) rows
 
 -- one row more, in its place by name
 abbrev pub with_row : UserRow → List UserRow → List UserRow

@@ -3,7 +3,7 @@ ghost use Rattle.std.specs.Prelude.{◌≡◌, ◌≤◌, ◌<◌, ◌⊎◌, le
 ghost use Rattle.std.specs.List.{find, position_or_len};
 ghost use Rattle.std.specs.Option.{option_copied, option_map};
 ghost use Rattle.octo_access.specs.Changes.{name_taken, holder, key_taken, full, put_refusal, change_refusal, new_key_taken};
-ghost use Rattle.octo_access.specs.Rows.{has_digest, is_named, held, with_row, without, replaced};
+ghost use Rattle.octo_access.specs.Rows.{has_digest, is_named, row_named, with_row, without, replaced};
 
 use crate::policy::Policy;
 use crate::refusal::UserRefusal;
@@ -17,8 +17,8 @@ const MOST_USERS: usize = 1_000;
 impl Users {
     /// The user of that name.
     #[tactic(auto, using(std::proofs::lemmas::List::Folds::find_at, std::proofs::lemmas::Option::slice_get_past, std::proofs::lemmas::Option::slice_get_read))]
-    fn held(&self, name: &Name) -> Option<&UserRow>
-        ensures { option_copied result ≡ held name.now self.now }
+    fn row_named(&self, name: &Name) -> Option<&UserRow>
+        ensures { option_copied result ≡ row_named name.now self.now }
     {
         let place = self.place_of(name);
         if place == self.rows().len() {
@@ -41,9 +41,9 @@ impl Users {
 
     /// Whether there is a user of that name.
     fn is_held(&self, name: &Name) -> bool
-        ensures { result ≡ is_some (held name.now self.now) }
+        ensures { result ≡ is_some (row_named name.now self.now) }
     {
-        self.held(name).is_some()
+        self.row_named(name).is_some()
     }
 
     /// Refuses a name that the admin or a user has.
@@ -129,7 +129,7 @@ impl Users {
             (λ _. change_refusal policy.now row.now self.now ≡ None)
             (λ refused. change_refusal policy.now row.now self.now ≡ Some refused) }
     {
-        let Some(former) = self.held(&row.name) else {
+        let Some(former) = self.row_named(&row.name) else {
             policy.check_groups(&[], row)?;
             return Err(UserRefusal::NoUser);
         };

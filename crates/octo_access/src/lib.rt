@@ -12,11 +12,11 @@ mod row;
 mod users;
 
 pub use groups::{GroupFault, Groups, is_built_in};
-pub use names::read_name;
+pub use names::{is_name_byte, read_name};
 pub use permission::Permission;
 pub use policy::Policy;
 pub use refusal::UserRefusal;
-pub use row::{Admin, Digest, UserList, UserRow, digest_of};
+pub use row::{Admin, Digest, UserList, UserRow, copy_names, digest_of};
 pub use users::Users;
 
 #[cfg(test)]

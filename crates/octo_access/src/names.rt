@@ -10,7 +10,8 @@ use byte_text::Name;
 /// The most bytes of a name.
 const MOST_BYTES: usize = 100;
 
-fn is_name_byte(byte: u8) -> bool
+/// Whether a name may have the byte: a letter, a digit or one of `.`, `_`, `-`, `(`, `)`, `+`.
+pub fn is_name_byte(byte: u8) -> bool
     ensures { result ≡ is_name_byte byte }
 {
     byte.is_ascii_alphanumeric() || b"._-()+".contains(&byte)

@@ -39,8 +39,8 @@ pub fn digest_of(key: &[u8]) -> Digest
     Sha256::digest(key)
 }
 
-/// The same names again.
-fn copy_of(names: &ArrayVec<Name, 8>) -> ArrayVec<Name, 8>
+/// The same names again; takes no memory.
+pub fn copy_names(names: &ArrayVec<Name, 8>) -> ArrayVec<Name, 8>
     ensures { result ≡ names.now }
 {
     let mut copy = ArrayVec::new();
@@ -58,7 +58,7 @@ impl UserRow {
         UserRow {
             name: self.name.copy(),
             digest: self.digest,
-            groups: copy_of(&self.groups),
+            groups: copy_names(&self.groups),
             active: self.active,
         }
     }

@@ -5,15 +5,11 @@ use std::alloc::Global;
 use std::process::Abort;
 use std::test::Fail;
 
-fn name(text: &str) -> Result<Name, Fail> {
-    Ok(Name::from_text(text).ok_or("a long name")?)
-}
-
 fn user(text: &str, key: &[u8], group: &str) -> Result<UserRow, Fail> {
     let mut groups = arrayvec::ArrayVec::new();
-    groups.push(name(group)?);
+    groups.push(Name::of(group)?);
     Ok(UserRow {
-        name: name(text)?,
+        name: Name::of(text)?,
         digest: digest_of(key),
         groups,
         active: true,
@@ -22,9 +18,9 @@ fn user(text: &str, key: &[u8], group: &str) -> Result<UserRow, Fail> {
 
 fn policy(alloc: Global) -> Result<Policy, Fail> {
     let mut groups = Groups::new(alloc);
-    groups.add(&name("makers")?, &[Permission::Print])?;
+    groups.add(&Name::of("makers")?, &[Permission::Print])?;
     let admin = Admin {
-        name: name("root")?,
+        name: Name::of("root")?,
         digest: digest_of(b"root-key-0123456789"),
     };
     Ok(Policy::new(groups, Some(admin)))

@@ -5,7 +5,7 @@ ghost use Rattle.std.specs.Option.{option_copied};
 ghost use Rattle.octo_access.specs.Changes.{put_refusal, change_refusal};
 ghost use Rattle.octo_access.specs.Rights.{is_caller, caller_of, caller};
 ghost use Rattle.octo_access.specs.declared.refusal.UserRefusal.TheVariants as refusal;
-ghost use Rattle.octo_access.specs.Rows.{is_before, is_named, has_digest, held, with_row, without, replaced, IsUserList, IsUserTable};
+ghost use Rattle.octo_access.specs.Rows.{is_before, is_named, has_digest, row_named, with_row, without, replaced, IsUserList, IsUserTable};
 
 use crate::order::{is_before, put_in_order};
 use crate::policy::Policy;
@@ -160,7 +160,7 @@ impl Users {
     pub fn change(&mut self, row: &UserRow, policy: &Policy) -> Result<UserRow, UserRefusal>
         ensures exact { MatchResult result
             (λ former. (change_refusal policy.now row.now self.old ≡ None)
-            × (held row.now.name self.old ≡ Some former))
+            × (row_named row.now.name self.old ≡ Some former))
             (λ refused. change_refusal policy.now row.now self.old ≡ Some refused) }
         ensures rows { self.new ≡ (if is_ok result then replaced row.now self.old else self.old) }
     {
@@ -178,7 +178,7 @@ impl Users {
 
     /// Puts a row in the place of the one that has its name. Whoever has its key has that name.
     pub fn restore(&mut self, row: &UserRow)
-        requires held { IsSome (held row.now.name self.old) }
+        requires held { IsSome (row_named row.now.name self.old) }
         requires key { IfSome (find (has_digest row.now.digest) self.old)
             (λ other. other.name ≡ row.now.name) }
         ensures { self.new ≡ replaced row.now self.old }

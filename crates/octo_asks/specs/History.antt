@@ -1,6 +1,6 @@
 -- The history of a print host, and what a counter and an asker add to it.
 use Rattle.std.specs.Prelude.{◌≡◌, ℕ, Bool, false, ◌==◌, List, [], ◌∷◌, filter, Option, Some, None}
-use Rattle.octo_outside.specs.Told.{Became}
+use Rattle.octo_outside.specs.Recorded.{Became}
 use Rattle.octo_asks.specs.declared.answer.Answer.{Answer}
 use Rattle.octo_asks.specs.declared.request.Ask.{Ask}
 use Rattle.octo_asks.specs.declared.entry.Entry.{Entry}
@@ -24,9 +24,9 @@ abbrev pub calls_of : ℕ → History → History
 calls_of worker history = filter (is_call_of worker) history
 
 -- the ask that is given out, if there is one
-abbrev pub given_by : Next → Option Given
-given_by next.Nothing = None
-given_by (next.Asked worker ask) = Some (record { worker = worker; ask = ask })
+abbrev pub ask_given : Next → Option Given
+ask_given next.Nothing = None
+ask_given (next.Asked worker ask) = Some (record { worker = worker; ask = ask })
 
 -- this worker's ask is given out and isn't answered
 abbrev pub IsGiven : ℕ → Option Given → Type 0

@@ -23,7 +23,15 @@ shown_user row = record { name = row.name; groups = row.groups; active = row.act
 
 -- an entry of the queue without its arrival
 abbrev pub shown_entry : QueueEntry → ShownEntry
-shown_entry row = record { user = row.user; name = row.name; file = row.file; priority = row.priority; copies = row.copies; left = row.left; material = row.material }
+shown_entry row = record {
+  user = row.user;
+  name = row.name;
+  file = row.file;
+  priority = row.priority;
+  copies = row.copies;
+  left = row.left;
+  material = row.material;
+}
 
 -- the record of a print
 abbrev pub shown_print : PrintRow → ShownPrint

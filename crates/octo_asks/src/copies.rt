@@ -1,10 +1,11 @@
-//! Copies of requests.
+//! Asks by their parts, and copies of requests.
 ghost use Rattle.std.specs.Prelude.{◌≡◌, false, Some, None, IfOk};
 ghost use Rattle.octo_asks.specs.Copies.{has_fields, has_blobs};
 
 use crate::{Ask, BlobList, Request};
 use arrayvec::ArrayVec;
 use byte_text::Name;
+use octo_access::copy_names;
 use octo_outside::Blob;
 use std::alloc::{AllocError, Global};
 
@@ -40,16 +41,6 @@ fn copy_port(port: &Option<Name>) -> Option<Name>
         Some(port) => Some(port.copy()),
         None => None,
     }
-}
-
-fn copy_names(names: &ArrayVec<Name, 8>) -> ArrayVec<Name, 8>
-    ensures { result ≡ names.now }
-{
-    let mut copy = ArrayVec::new();
-    for name in names.as_slice() {
-        copy.push(name.copy());
-    }
-    copy
 }
 
 fn copy_groups(groups: &Option<ArrayVec<Name, 8>>) -> Option<ArrayVec<Name, 8>>
@@ -177,6 +168,16 @@ impl Request {
 }
 
 impl Ask {
+    /// The ask of a caller with this key.
+    pub fn of(alloc: Global, key: &[u8], request: Request) -> Result<Ask, AllocError>
+        ensures { IfOk result (λ ask. ask ≡ record { key = key.now; request = request }) }
+    {
+        Ok(Ask {
+            key: Blob::from_slice(alloc, key)?,
+            request,
+        })
+    }
+
     /// The same ask again.
     pub fn copy(&self, alloc: Global) -> Result<Ask, AllocError>
         ensures { IfOk result (λ copy. copy ≡ self.now) }

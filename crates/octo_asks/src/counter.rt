@@ -21,10 +21,10 @@ pub enum Next {
 /// Where asks come from and answers go to. It keeps the history of a host.
 pub trait Counter {
     ghost use Rattle.std.specs.Prelude.{◌≡◌, Bool, true, false, [], ◌∷◌, Option, None, IfSome};
-    ghost use Rattle.octo_outside.specs.Told.{Adds};
+    ghost use Rattle.octo_outside.specs.Recorded.{Adds};
     ghost use Rattle.octo_asks.specs.declared.counter.Given.{Given};
     ghost use Rattle.octo_asks.specs.declared.entry.Entry.TheVariants as entry;
-    ghost use Rattle.octo_asks.specs.History.{History, IsGiven, given_by};
+    ghost use Rattle.octo_asks.specs.History.{History, IsGiven, ask_given};
     ghost use Rattle.octo_asks.specs.Place.{Place};
 
     /// Its table and seat, which stay.
@@ -45,7 +45,7 @@ pub trait Counter {
         requires open { closed self.old ≡ false }
 
         ensures past { past self.new ≡ past self.old }
-        ensures given { given self.new ≡ given_by result }
+        ensures given { given self.new ≡ ask_given result }
         ensures open { closed self.new ≡ false }
         ensures place { place self.new ≡ place self.old };
 

@@ -1,7 +1,7 @@
 //! A counter in memory, whose asks are a list.
 ghost use Rattle.std.specs.Prelude.{◌≡◌, [], ◌∷◌, map, IfOk};
 ghost use Rattle.std.specs.Option.{option_copied};
-ghost use Rattle.octo_outside.specs.Told.{Adds};
+ghost use Rattle.octo_outside.specs.Recorded.{Adds};
 ghost use Rattle.octo_asks.specs.Memory.{new_counter};
 ghost use Rattle.octo_asks.specs.Waiting.{ask_of};
 
@@ -91,9 +91,9 @@ impl MemoryCounter {
 
 impl Counter for MemoryCounter {
     ghost use Rattle.std.specs.Prelude.{◌≡◌, true, false, [], ◌∷◌, Some, None, IfSome};
-    ghost use Rattle.octo_outside.specs.Told.{Adds};
+    ghost use Rattle.octo_outside.specs.Recorded.{Adds};
     ghost use Rattle.octo_asks.specs.declared.entry.Entry.TheVariants as entry;
-    ghost use Rattle.octo_asks.specs.History.{IsGiven, given_by};
+    ghost use Rattle.octo_asks.specs.History.{IsGiven, ask_given};
     ghost use Rattle.octo_asks.specs.Memory.{next_of};
     ghost use Rattle.octo_asks.specs.Place.{no_place};
 
@@ -111,7 +111,7 @@ impl Counter for MemoryCounter {
 
         ensures order { next_of self.old.asks ≡ (result, self.new.asks) }
         ensures past { self.new.past ≡ self.old.past }
-        ensures given { self.new.given ≡ given_by result }
+        ensures given { self.new.given ≡ ask_given result }
         ensures open { self.new.closed ≡ false }
     {
         match self.asks.pop_front() {

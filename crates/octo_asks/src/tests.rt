@@ -12,21 +12,10 @@ use std::alloc::Global;
 use std::process::Abort;
 use std::test::Fail;
 
-fn name(text: &str) -> Result<Name, Fail> {
-    Ok(Name::from_text(text).ok_or("a long name")?)
-}
-
 fn names(text: &str) -> Result<ArrayVec<Name, 8>, Fail> {
     let mut list = ArrayVec::new();
-    list.push(name(text)?);
+    list.push(Name::of(text)?);
     Ok(list)
-}
-
-fn ask(alloc: Global, request: Request) -> Result<Ask, Fail> {
-    Ok(Ask {
-        key: Blob::from_slice(alloc, b"ana-key-0123456789")?,
-        request,
-    })
 }
 
 fn needs(rt: &impl Abort, request: &Request, wanted: &[Permission]) {
@@ -48,7 +37,7 @@ fn reads_need(rt: HostRuntime) -> Result<(), Fail> {
 
 #[test]
 fn files_need(rt: HostRuntime) -> Result<(), Fail> {
-    let file = name("a.gcode")?;
+    let file = Name::of("a.gcode")?;
     needs(
         &rt,
         &Request::GetFile { name: file.copy() },
@@ -109,7 +98,7 @@ fn work_needs(rt: HostRuntime) -> Result<(), Fail> {
 
 fn put_file(alloc: Global) -> Result<Request, Fail> {
     Ok(Request::PutFile {
-        name: name("a.gcode")?,
+        name: Name::of("a.gcode")?,
         bytes: Blob::from_slice(alloc, b"G28\n")?,
         select: false,
         print: true,
@@ -125,7 +114,7 @@ fn lines(alloc: Global) -> Result<Request, Fail> {
 
 fn change_user(alloc: Global) -> Result<Request, Fail> {
     Ok(Request::ChangeUser {
-        name: name("ana")?,
+        name: Name::of("ana")?,
         key: Some(Blob::from_slice(alloc, b"a-new-key-0123456")?),
         groups: Some(names("users")?),
         active: Some(false),
@@ -140,7 +129,7 @@ fn ample_copies(rt: HostRuntime) -> Result<(), Fail> {
         return Err("another request")?;
     };
     assert!(rt; bytes.as_slice() == b"G28\n".as_slice() && *print);
-    let copy = ask(alloc, Request::Pause)?.copy(alloc)?;
+    let copy = Ask::of(alloc, b"ana-key-0123456789", Request::Pause)?.copy(alloc)?;
     assert!(rt; copy.key.as_slice() == b"ana-key-0123456789".as_slice());
     assert!(rt; matches!(&copy.request, Request::Pause));
     Ok(())
@@ -177,27 +166,27 @@ fn heaters(rt: HostRuntime) -> Result<(), Fail> {
 #[test]
 fn rows(rt: HostRuntime) -> Result<(), Fail> {
     let user = ShownUser::of(&UserRow {
-        name: name("ana")?,
+        name: Name::of("ana")?,
         digest: [7; 32],
         groups: names("users")?,
         active: true,
     });
     assert!(rt; user.name.as_str() == "ana" && user.groups.len() == 1 && user.active);
     let entry = ShownEntry::of(&QueueEntry {
-        user: name("ana")?,
-        name: name("job-1")?,
-        file: name("a.gcode")?,
+        user: Name::of("ana")?,
+        name: Name::of("job-1")?,
+        file: Name::of("a.gcode")?,
         priority: 5,
         copies: 2,
         left: 1,
-        material: name("any")?,
+        material: Name::of("any")?,
         arrival: 9,
     });
     assert!(rt; entry.name.as_str() == "job-1" && entry.copies == 2 && entry.left == 1);
     let print = ShownPrint::of(&PrintRow {
         number: 3,
-        user: name("ana")?,
-        file: name("a.gcode")?,
+        user: Name::of("ana")?,
+        file: Name::of("a.gcode")?,
         commands: 2,
         outcome: Outcome::Done,
     });
@@ -207,8 +196,8 @@ fn rows(rt: HostRuntime) -> Result<(), Fail> {
 
 fn two_asks(alloc: Global) -> Result<AskList, Fail> {
     let mut asks = AskList::new(alloc);
-    asks.push((2, ask(alloc, Request::GetJob)?))?;
-    asks.push((0, ask(alloc, Request::Leave)?))?;
+    asks.push((2, Ask::of(alloc, b"ana-key-0123456789", Request::GetJob)?))?;
+    asks.push((0, Ask::of(alloc, b"ana-key-0123456789", Request::Leave)?))?;
     Ok(asks)
 }
 
@@ -241,7 +230,7 @@ fn note() -> Note {
 fn history(rt: HostRuntime) -> Result<(), Fail> {
     let alloc = rt.alloc();
     let mut asks = AskList::new(alloc);
-    asks.push((3, ask(alloc, Request::Leave)?))?;
+    asks.push((3, Ask::of(alloc, b"ana-key-0123456789", Request::Leave)?))?;
     let mut counter = MemoryCounter::new(alloc, asks)?;
     counter.note(note());
     let first = counter.next();

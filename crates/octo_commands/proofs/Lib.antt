@@ -1,2 +1,3 @@
 mod Printed
+mod Recorded
 mod Refusals

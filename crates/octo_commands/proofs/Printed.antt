@@ -17,7 +17,7 @@ use Rattle.octo_report.specs.declared.report.Report.TheVariants as report
 use Rattle.octo_files.specs.Jobs.{job_in}
 use Rattle.octo_files.specs.Reading.{IsHeld, IsTrouble}
 use Rattle.octo_files.specs.Settings.{HaveSettings, settings_or}
-use Rattle.octo_print.specs.Printing.{Seen, HaveJob, Reads, no_settings, no_job, both, Follows, IsRun, reported, over_port}
+use Rattle.octo_print.specs.Printing.{Seen, HaveJob, Reads, no_settings, no_job, both, Follows, IsRun, print_end_report, over_port}
 use Rattle.octo_commands.specs.Commands.{Comes, out_of_memory, no_command, carried_out, hosted, hosted_by, Reports, seen_in}
 use Rattle.hand_over.specs.Ends.{HistoryData}
 use Rattle.octo_host.specs.Hosting.{Around}
@@ -80,7 +80,7 @@ module _ (words : List (List ℕ)) (kind : LinkKind) (files : Option Files) (h :
   troubled refusal (inr failed) is = absurd (sure (is ∙ failed))
 
   ran_done : (x : IsRun kind e.by e.job (over_port e.port e.turns) h r) → IsPrinted e.job r
-  ran_done x = inl (x.is ∙ ap (λ (how : PrintEnd). reported how e.port e.job) (x.run.prompt e.smooth e.enough))
+  ran_done x = inl (x.is ∙ ap (λ (how : PrintEnd). print_end_report how e.port e.job) (x.run.prompt e.smooth e.enough))
 
   by_job : (s : Settings) (job : JobData) → s ≡ e.by → job ≡ e.job → Follows kind (over_port e.port e.turns) h r (Ok (s, job)) → IsPrinted e.job r
   by_job s job their its (inl none) = inr none.is

@@ -1,6 +1,6 @@
 -- What a command comes to, by its arguments, its files and the history of its link.
 use Rattle.std.specs.Prelude.{◌≡◌, ◌≢◌, ◌⊎◌, ℕ, List, Option, None, Some, Ok, Err}
-use Rattle.octo_outside.specs.Told.{Adds, AddsPrefix, Rose}
+use Rattle.octo_outside.specs.Recorded.{Adds, AddsPrefix, Rose}
 use Rattle.octo_outside.specs.Traits.{Files}
 use Rattle.printer_link.specs.Link.{LinkKind, RoseBy}
 use Rattle.send_window.specs.declared.session_end.SessionEnd.TheVariants.{NoAnswer}
@@ -127,11 +127,11 @@ IsWritten r code old new =
     ((code ≡ host_code r) × Adds old new (host_text r)) ⊎ ((code ≡ 8) × AddsPrefix old new (host_text r))
 
 -- the report on arguments of the program that can't be used
-abbrev pub refused : ArgumentsFault → HostReport
-refused arguments.NotText = host.Command report.BadWords
-refused arguments.NoMemory = host.Command report.NoMemory
+abbrev pub arguments_fault_report : ArgumentsFault → HostReport
+arguments_fault_report arguments.NotText = host.Command report.BadWords
+arguments_fault_report arguments.NoMemory = host.Command report.NoMemory
 
 -- and on arguments that are no command
-abbrev pub unread : WordsFault → HostReport
-unread words.BadWords = host.Command report.BadWords
-unread words.NoMemory = host.Command report.NoMemory
+abbrev pub words_fault_report : WordsFault → HostReport
+words_fault_report words.BadWords = host.Command report.BadWords
+words_fault_report words.NoMemory = host.Command report.NoMemory

@@ -19,7 +19,7 @@ Holds None file bytes = ⊥
 Holds (Some all) file bytes = all file ≡ Some bytes
 
 -- a file of settings says these
-pub record Says (files : Option Files) (name : List ℕ) (s : Settings) : Type 0 where
+pub record IsSettingsFile (files : Option Files) (name : List ℕ) (s : Settings) : Type 0 where
   pub bytes : List ℕ
   pub held : Holds files name bytes
   pub text : IsUtf8 bytes
@@ -28,7 +28,7 @@ pub record Says (files : Option Files) (name : List ℕ) (s : Settings) : Type 0
 -- the settings of the named file are these, or the defaults if none is named
 abbrev pub GiveSettings : Option Files → Option (List ℕ) → Settings → Type 0
 GiveSettings files None s = s ≡ plain_settings
-GiveSettings files (Some name) s = Says files name s
+GiveSettings files (Some name) s = IsSettingsFile files name s
 
 -- the arguments ask for a print of a file within the limits of its settings, over a prompt link without a fault, in at
 -- least 32 turns more than its plan has lines
@@ -44,7 +44,7 @@ pub record HasEnough (words : List (List ℕ)) (kind : LinkKind) (files : Option
   pub held : Holds files file bytes
   pub job : JobData
   pub its_job : job_in by.limits bytes ≡ Ok job
-  pub smooth : IsSmooth kind h.first port h.faults h.faults_now h.moment by.limit_ms by.poll_ms (lines_planned by job)
+  pub smooth : IsSmooth kind h.first port h.faults h.faults_now h.moment by.limit_ms by.poll_ms
   pub enough : lines_planned by job + 32 ≤ turns
 
 -- it was printed, or memory ran out

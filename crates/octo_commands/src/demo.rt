@@ -1,5 +1,6 @@
 //! The command `demo`.
 ghost use Rattle.std.specs.Prelude.{◌≡◌, ◌≤◌, ◌⊎◌, IfOk};
+ghost use Rattle.demo_print.specs.declared.file.TheConstants.{MOST_COMMANDS};
 ghost use Rattle.octo_report.specs.declared.report.Report.TheVariants as report;
 ghost use Rattle.octo_commands.specs.Commands.{IsOther, IsSummary, status_of};
 
@@ -25,7 +26,7 @@ fn status_of(end: PrintEnd) -> u8
 // Runs a demo and sums it up.
 fn summarize(alloc: Global, seed: u32, commands: u32) -> Result<Report, AllocError>
     requires seed { seed ≤ 2147483647 }
-    requires commands { commands ≤ 200000 }
+    requires commands { commands ≤ MOST_COMMANDS }
     ensures summary { IfOk result (IsSummary seed commands) }
     ensures other { IfOk result IsOther }
 {
@@ -39,7 +40,7 @@ fn summarize(alloc: Global, seed: u32, commands: u32) -> Result<Report, AllocErr
 /// Prints a made-up file over a link in memory that loses and corrupts lines, and sums up what happened.
 pub fn demo(alloc: Global, seed: u32, commands: u32) -> Report
     requires seed { seed ≤ 2147483647 }
-    requires commands { commands ≤ 200000 }
+    requires commands { commands ≤ MOST_COMMANDS }
     ensures summary { (result ≡ report.NoMemory) ⊎ IsSummary seed commands result }
     ensures other { IsOther result }
 {

@@ -1,7 +1,7 @@
 //! The commands of the print host.
-ghost use Rattle.std.specs.Prelude.{◌≡◌, ◌≢◌, ◌⊎◌, ◌≤◌, false, None};
+ghost use Rattle.std.specs.Prelude.{◌≡◌, ◌≢◌, ◌⊎◌, ◌≤◌, false, None, is_some};
 ghost use Rattle.std.specs.Option.{option_map};
-ghost use Rattle.octo_outside.specs.Told.{Counts, Steady};
+ghost use Rattle.octo_outside.specs.Recorded.{Counts, Steady};
 ghost use Rattle.octo_words.specs.Words.{IsInRange};
 ghost use Rattle.octo_report.specs.Status.{code_of};
 ghost use Rattle.octo_report.specs.declared.report.Report.TheVariants as report;
@@ -10,7 +10,7 @@ ghost use Rattle.octo_serve.specs.Around.{link_state, keeper_state, shelf_state,
 ghost use Rattle.octo_host.specs.Hosting.{around};
 ghost use Rattle.octo_host.specs.Reports.{host_code};
 ghost use Rattle.octo_host.specs.declared.report.HostReport.{HostReport};
-ghost use Rattle.octo_commands.specs.Commands.{Comes, HasCauses, HasPlainCauses, HasWaitedFor, IsCheck, IsWritten, Reports, hosted_by, unread};
+ghost use Rattle.octo_commands.specs.Commands.{Comes, HasCauses, HasPlainCauses, HasWaitedFor, IsCheck, IsWritten, Reports, hosted_by, words_fault_report};
 ghost use Rattle.octo_commands.specs.Enough.{HasEnough};
 
 use crate::demo::demo;
@@ -38,7 +38,7 @@ pub struct Status {
 }
 
 // The name of the settings' file, if one is named.
-fn named(settings: &Option<FilePath>) -> Option<&str>
+fn name_of_settings(settings: &Option<FilePath>) -> Option<&str>
     ensures { option_map (λ s. s.now) result ≡ settings.now }
 {
     match settings {
@@ -55,10 +55,11 @@ fn check<F: Source>(
     settings: &Option<FilePath>,
 ) -> Report
     ensures check { IsCheck (F.files files.old) settings.now file.now result }
+    ensures files { F.files files.new ≡ F.files files.old }
     ensures counts { Counts (result ≡ report.SourceFailed)
         (F.faults files.old) (F.faults files.new) }
 {
-    match read_settings_of(alloc, files, named(settings)) {
+    match read_settings_of(alloc, files, name_of_settings(settings)) {
         Ok(settings) => check_file(alloc, files, file.as_str(), &settings.limits),
         Err(report) => report,
     }
@@ -94,6 +95,8 @@ fn carry_out<F: Source, L: Link, T: Clock>(
         command.now result }
     ensures output { code_of result ≢ 8 }
     ensures kind { L.kind link.new ≡ L.kind link.old }
+    ensures recorded { is_some (L.past link.new) ≡ is_some (L.past link.old) }
+    ensures files { F.files files.new ≡ F.files files.old }
     ensures counted { F.faults files.old ≤ F.faults files.new }
     ensures link_counted { L.faults link.old ≤ L.faults link.new }
 {
@@ -111,7 +114,7 @@ fn carry_out<F: Source, L: Link, T: Clock>(
             port,
             file.as_str(),
             *turns,
-            named(settings),
+            name_of_settings(settings),
         ),
         Command::Check { file, settings } => check(alloc, files, file, settings),
         Command::Demo { seed, commands } => demo(alloc, *seed, *commands),
@@ -124,8 +127,8 @@ fn carry_out<F: Source, L: Link, T: Clock>(
 }
 
 // Why the arguments are no command.
-fn unread(fault: WordsFault) -> HostEnd
-    ensures { result ≡ record { report = unread fault; history = None } }
+fn words_fault_end(fault: WordsFault) -> HostEnd
+    ensures { result ≡ record { report = words_fault_report fault; history = None } }
 {
     HostEnd::unserved(HostReport::Command(match fault {
         WordsFault::BadWords => Report::BadWords,
@@ -169,11 +172,13 @@ fn run<
         (at link.new clock.new keeper.new shelf.new doors.new) result.report }
     ensures output { host_code result.report ≢ 8 }
     ensures kind { L.kind link.new ≡ L.kind link.old }
+    ensures recorded { is_some (L.past link.new) ≡ is_some (L.past link.old) }
+    ensures files { F.files files.new ≡ F.files files.old }
     ensures counted { F.faults files.old ≤ F.faults files.new }
 {
     let command = match read_words(alloc, words) {
         Ok(command) => command,
-        Err(fault) => return unread(fault),
+        Err(fault) => return words_fault_end(fault),
     };
     match hosted_by(&command) {
         Some(settings) => host(
@@ -236,6 +241,8 @@ pub fn octo<
 
     // What stays, and counts.
     ensures kind { L.kind link.new ≡ L.kind link.old }
+    ensures recorded { is_some (L.past link.new) ≡ is_some (L.past link.old) }
+    ensures files { F.files files.new ≡ F.files files.old }
     ensures source_counted { F.faults files.old ≤ F.faults files.new }
     ensures link_counted { L.faults link.old ≤ L.faults link.new }
     ensures sink { Counts (result.code ≡ 8) (O.faults out.old) (O.faults out.new) }

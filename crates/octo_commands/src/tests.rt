@@ -1,39 +1,19 @@
 //! Whole commands over files, a link, doors and an output in memory. Out of memory, a test stops.
-ghost use Rattle.std.specs.Prelude.{◌≡◌, false, All};
-ghost use Rattle.octo_doors.specs.Memory.{IsUntouched};
+ghost use Rattle.std.specs.Prelude.{◌≡◌, false};
 ghost use Rattle.printer_link.specs.Memory.{link_world};
 
 mod rows;
 
 use crate::run::{Status, octo};
-use byte_text::Name;
-use octo_doors::{ConnList, Doors, MemoryDoor};
-use octo_keeper::{MemoryKeeper, MemoryShelf, Tables};
-use octo_outside::{
-    CallList, ItemList, MemoryClock, MemoryConn, MemorySink, MemorySource, NameList, WordList,
-};
+use host_makers::{calls, door_of, keeper_of, no_rows, ports, shelf_of};
+use octo_doors::{Doors, MemoryDoor};
+use octo_keeper::{MemoryKeeper, MemoryShelf};
+use octo_outside::{MemoryClock, MemorySink, MemorySource, WordList};
 use printer_link::{Fate, FateList, MemoryLink, Schedule};
 use std::alloc::Global;
 use std::process::Abort;
 use std::sync::Wait;
 use std::thread::Threads;
-
-fn calls(rt: &impl Abort, alloc: Global, numbers: &[u64]) -> CallList {
-    let mut list = CallList::new(alloc);
-    for number in numbers {
-        assert!(rt; list.push(*number).is_ok());
-    }
-    list
-}
-
-fn ports(rt: &impl Abort, alloc: Global) -> NameList {
-    let mut ports = NameList::new(alloc);
-    match Name::from_text("p") {
-        Some(name) => assert!(rt; ports.push(name).is_ok()),
-        None => panic!(rt; "a long name"),
-    }
-    ports
-}
 
 fn fates(rt: &impl Abort, alloc: Global, row: &Row) -> FateList {
     let mut list = FateList::new(alloc);
@@ -48,14 +28,14 @@ fn link(rt: &impl Abort, alloc: Global, row: &Row) -> MemoryLink
     ensures { (link_world result).linked ≡ false }
 {
     let schedule = Schedule {
-        names: ports(rt, alloc),
+        names: ports(alloc, "p").expect(rt, "no memory"),
         last: 4,
         places: 4,
         advanced: false,
         fates: fates(rt, alloc, row),
         slow: 0,
-        fail_at: calls(rt, alloc, row.link_fails),
-        restart_at: calls(rt, alloc, row.restarts),
+        fail_at: calls(alloc, row.link_fails).expect(rt, "no memory"),
+        restart_at: calls(alloc, row.restarts).expect(rt, "no memory"),
     };
     match MemoryLink::new(alloc, schedule) {
         Ok(link) => link,
@@ -73,50 +53,13 @@ fn word_list(rt: &impl Abort, alloc: Global, words: &[&str]) -> WordList {
 
 // A source with the row's file and the settings.
 fn files(rt: &impl Abort, alloc: Global, row: &Row) -> MemorySource {
-    let mut files = MemorySource::new(alloc, calls(rt, alloc, row.source_fails));
+    let mut files = MemorySource::new(
+        alloc,
+        calls(alloc, row.source_fails).expect(rt, "no memory"),
+    );
     assert!(rt; files.put("a.gcode", row.file).is_ok());
     assert!(rt; files.put("s", SETTINGS).is_ok());
     files
-}
-
-// A keeper of empty tables.
-fn keeper(alloc: Global) -> MemoryKeeper {
-    let tables = Tables {
-        users: ItemList::new(alloc),
-        queue: ItemList::new(alloc),
-        prints: ItemList::new(alloc),
-    };
-    MemoryKeeper::new(tables, CallList::new(alloc))
-}
-
-fn conn(rt: &impl Abort, alloc: Global, input: &[u8]) -> MemoryConn
-    ensures { IsUntouched result }
-{
-    match MemoryConn::new(alloc, input, CallList::new(alloc), CallList::new(alloc)) {
-        Ok(conn) => conn,
-        Err(_) => panic!(rt; "no memory"),
-    }
-}
-
-// One more connection with this input.
-fn with_conn(rt: &impl Abort, alloc: Global, conns: ConnList, input: &[u8]) -> ConnList
-    requires { All IsUntouched conns }
-    ensures { All IsUntouched result }
-{
-    let mut conns = conns;
-    match conns.push(conn(rt, alloc, input)) {
-        Ok(()) => conns,
-        Err(_) => panic!(rt; "no memory"),
-    }
-}
-
-// A door at which these connections come.
-fn door(rt: &impl Abort, alloc: Global, inputs: &[&[u8]]) -> MemoryDoor {
-    let mut conns = ConnList::new(alloc);
-    for input in inputs {
-        conns = with_conn(rt, alloc, conns, input);
-    }
-    MemoryDoor::new(alloc, conns, CallList::new(alloc), CallList::new(alloc))
 }
 
 /// What a command works with.
@@ -139,15 +82,15 @@ impl Bench {
         Bench {
             files: files(rt, alloc, row),
             link: link(rt, alloc, row),
-            out: MemorySink::new(alloc, calls(rt, alloc, row.sink_fails)),
+            out: MemorySink::new(alloc, calls(alloc, row.sink_fails).expect(rt, "no memory")),
             clock: MemoryClock::new(0, 1),
-            keeper: keeper(alloc),
-            shelf: MemoryShelf::new(alloc, CallList::new(alloc)),
+            keeper: keeper_of(alloc, no_rows(alloc), &[]).expect(rt, "no memory"),
+            shelf: shelf_of(alloc, &[]).expect(rt, "no memory"),
             doors: Doors {
-                a: door(rt, alloc, row.inputs),
-                b: door(rt, alloc, &[]),
-                c: door(rt, alloc, &[]),
-                d: door(rt, alloc, &[]),
+                a: door_of(alloc, row.inputs, &[]).expect(rt, "no memory"),
+                b: door_of(alloc, &[], &[]).expect(rt, "no memory"),
+                c: door_of(alloc, &[], &[]).expect(rt, "no memory"),
+                d: door_of(alloc, &[], &[]).expect(rt, "no memory"),
             },
         }
     }

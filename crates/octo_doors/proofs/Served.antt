@@ -1,17 +1,11 @@
 -- A connection that is given back joins those that are kept, if all are.
-use Rattle.std.proofs.Common.{◌≡◌, Bool, true, false, List, [], ◌∷◌, ◌++◌, map, Some, None, refl, sym, ◌∙◌}
+use Rattle.std.proofs.Common.{Bool, true, false, List, [], ◌∷◌, ◌++◌, map, Some, None, refl, sym, ◌∙◌}
 use Rattle.std.specs.Prelude.{option_map, if◌then◌else◌}
 use Rattle.std.proofs.lemmas.List.{map-append}
 use Rattle.octo_outside.specs.Memory.{ConnData}
-use Rattle.octo_outside.specs.Told.{Adds}
-use Rattle.octo_doors.specs.Doors.{ConnState}
+use Rattle.octo_outside.specs.Recorded.{Adds}
 use Rattle.octo_doors.specs.Memory.{conn_state}
-
-same_list : (xs ys : List ConnState) → Some xs ≡ Some ys → xs ≡ ys
-same_list xs ys e = cc
-
-no_list : (ys : List ConnState) → None ≡ Some ys → ⊥
-no_list ys e = cc
+use Rattle.std.proofs.lemmas.Option.{none-some, same_Some}
 
 pub adds_conn : (keeps : Bool) (old : List ConnData) (conn : ConnData)
     → Adds (option_map (map conn_state) (if keeps then Some old else None))
@@ -20,8 +14,8 @@ adds_conn true old conn now e = (
   map conn_state old,
   conn_state conn ∷ [],
   refl,
-  sym (same_list (map conn_state (old ++ conn ∷ [])) now e)
+  sym (same_Some (map conn_state (old ++ conn ∷ [])) now e)
       ∙ map-append conn_state old (conn ∷ []),
   refl,
 )
-adds_conn false old conn now e = absurd (no_list now e)
+adds_conn false old conn now e = absurd (none-some now e)

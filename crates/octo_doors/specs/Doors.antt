@@ -16,15 +16,15 @@ abbrev pub state_of : {C : Type 0} → (C → Option (List ℕ)) → (C → Opti
 state_of left written faults quiets conn = record { left = left conn; written = written conn; faults = faults conn; quiets = quiets conn }
 
 -- a connection with this input at which nothing has happened
-abbrev pub untouched : List ℕ → ConnState
-untouched input = record { left = Some input; written = Some []; faults = 0; quiets = 0 }
+abbrev pub fresh_conn : List ℕ → ConnState
+fresh_conn input = record { left = Some input; written = Some []; faults = 0; quiets = 0 }
 
 -- a knock, by the inputs that were to come: the first of them, untouched; nothing yet; or no more
 abbrev pub Comes : {C : Type 0} → (C → ConnState) → List (List ℕ) → Knock C → Option (List (List ℕ)) → Type 0
 Comes state [] (Conn conn) after = ⊥
 Comes state [] Quiet after = ⊥
 Comes state [] Ended after = after ≡ Some []
-Comes state (input ∷ inputs) (Conn conn) after = (state conn ≡ untouched input) × (after ≡ Some inputs)
+Comes state (input ∷ inputs) (Conn conn) after = (state conn ≡ fresh_conn input) × (after ≡ Some inputs)
 Comes state (input ∷ inputs) Quiet after = after ≡ Some (input ∷ inputs)
 Comes state (input ∷ inputs) Ended after = ⊥
 

@@ -25,6 +25,7 @@ pub record IsUntouched (conn : ConnData) : Type 0 where
 abbrev pub conn_state : ConnData → ConnState
 conn_state conn = record { left = Some conn.left; written = Some conn.written; faults = conn.faults; quiets = conn.quiets }
 
+-- the inputs of connections, each as it is left
 abbrev pub inputs_of : List ConnData → List (List ℕ)
 inputs_of conns = map (λ (conn : ConnData). conn.left) conns
 
@@ -41,10 +42,11 @@ abbrev pub knock_of : Bool → List ConnData → Knock ConnData
 knock_of quiet [] = Ended
 knock_of quiet (conn ∷ conns) = if quiet then Quiet else Conn conn
 
+-- what the next call finds, if it doesn't fail
 abbrev pub next_knock : DoorData → Knock ConnData
 next_knock door = knock_of (is_listed door.quiet_at (one_more door.calls)) door.coming
 
--- the door after a call that gave this
+-- the door after a call that returned this
 abbrev pub after_knock : DoorData → Knock ConnData → DoorData
 after_knock door (Conn conn) = record door { coming = drop 1 door.coming; calls = one_more door.calls }
 after_knock door Quiet = record door { calls = one_more door.calls }

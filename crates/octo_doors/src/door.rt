@@ -1,11 +1,11 @@
 //! A place at which connections come in.
 ghost use Rattle.std.specs.Prelude.{◌≡◌, ℕ, List, [], ◌∷◌, Bool, true, ◌||◌, Option, Some, is_err, IfOk, OnOk, OnErr, IsErr, IfSome, IsOkAnd};
-ghost use Rattle.octo_outside.specs.Told.{Adds, Counts};
+ghost use Rattle.octo_outside.specs.Recorded.{Adds, Counts};
 ghost use Rattle.octo_doors.specs.Doors.{ConnState, Comes, IsNew, IsEnded, state_of};
 
 use octo_outside::{Conn, Failed};
 
-/// What a door's call gave.
+/// What a door's call returned.
 #[derive(Drop)]
 pub enum Knock<C: Drop> {
     /// The next connection.

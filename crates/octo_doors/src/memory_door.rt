@@ -43,7 +43,7 @@ impl Model for MemoryDoor {
 impl MemoryDoor {
     ghost use Rattle.std.specs.Prelude.{◌≡◌, [], false, true, Some, All, ⊤};
     ghost use Rattle.std.specs.Option.{option_copied};
-    ghost use Rattle.octo_outside.specs.Told.{Counts};
+    ghost use Rattle.octo_outside.specs.Recorded.{Counts};
     ghost use Rattle.octo_outside.specs.Memory.{is_listed, one_more};
     ghost use Rattle.octo_doors.specs.Memory.{DoorData, IsUntouched};
 
@@ -107,7 +107,7 @@ impl MemoryDoor {
 
 impl Door for MemoryDoor {
     ghost use Rattle.std.specs.Prelude.{◌≡◌, ◌↔◌, ◌⊎◌, [], ◌∷◌, ◌++◌, true, ◌||◌, Some, None, map, option_map, is_err, IfOk, OnOk, OnErr, IsErr, IsOkAnd};
-    ghost use Rattle.octo_outside.specs.Told.{Adds, Counts};
+    ghost use Rattle.octo_outside.specs.Recorded.{Adds, Counts};
     ghost use Rattle.octo_outside.specs.Memory.{ConnData};
     ghost use Rattle.octo_doors.specs.Doors.{Comes, IsNew, IsEnded};
     ghost use Rattle.octo_doors.specs.Memory.{DoorData, conn_state, inputs_of, fails_next, after_failure, next_knock, after_knock};

@@ -1,7 +1,7 @@
 //! Doors over TCP.
 ghost use Rattle.std.specs.Prelude.{◌≡◌, ◌↔◌, ◌⊎◌, Some, None, false, true, ◌||◌, is_err, IfOk, OnOk, IsErr, IsOkAnd, IsTrue, pos, ⊤};
 ghost use Rattle.std.specs.IoError.{error_kind, raw_os_error};
-ghost use Rattle.octo_outside.specs.Told.{Counts};
+ghost use Rattle.octo_outside.specs.Recorded.{Counts};
 ghost use Rattle.octo_doors.specs.Doors.{Each, IsNew, IsEnded};
 
 use crate::{Door, Doors, Knock};
@@ -50,7 +50,7 @@ fn listen<R: Net<Listener = TcpListener, Stream = TcpStream>>(
     Ok(listener)
 }
 
-// Whether no connection came, and a later call may bring one: the peer gave up, or the system has no room now.
+// Whether no connection came, and a later call may bring one: the peer left, or the system has no room now.
 fn may_pass(error: &io::Error) -> bool
     ensures { IsTrue result
         ↔ (error_kind error.now ≡ ErrorKind.ConnectionAborted)
@@ -91,7 +91,7 @@ impl<R: Net<Listener = TcpListener, Stream = TcpStream> + Copy> TcpDoor<R> {
 
     /// Four doors at the address `HOST:PORT`. They share one listener, so that the system wakes one worker for each
     /// connection. If the address can't be bound, the first call of each door fails.
-    pub fn four(alloc: Global, rt: &R, address: &str) -> Result<Doors<TcpDoor<R>>, AllocError>
+    pub fn four(rt: &R, alloc: Global, address: &str) -> Result<Doors<TcpDoor<R>>, AllocError>
         // No call of any of them has failed yet.
         ensures { IfOk result (λ doors.
             Each doors (λ door. (door.faults ≡ 0) × (door.has_failed ≡ false))) }
@@ -195,7 +195,7 @@ mod tests {
     use std::net::{OpenListener, SocketAddr};
 
     impl<R: Net + Drop> TcpDoor<R> {
-        // Where the door's listener is bound.
+        /// The address at which the door's listener is bound.
         pub fn address(&self) -> Option<SocketAddr> {
             self.listener.as_ref()?.local_addr().ok()
         }

@@ -3,25 +3,17 @@ ghost use Rattle.std.specs.Prelude.{IfOk};
 ghost use Rattle.octo_doors.specs.Memory.{IsUntouched};
 
 use crate::{ConnList, Door, Knock, MemoryDoor, TcpDoor};
-use octo_outside::{CallList, Conn, Failed, MemoryConn, send_all};
+use octo_outside::{CallList, Conn, Failed, MemoryConn, calls_of, send_all};
 use std::alloc::{AllocError, Global};
 use std::io::{Read, Write};
 use std::net::TcpStream;
 use std::test::Fail;
 use std::time::Duration;
 
-fn untouched(alloc: Global, input: &[u8]) -> Result<MemoryConn, AllocError>
+fn new_conn(alloc: Global, input: &[u8]) -> Result<MemoryConn, AllocError>
     ensures { IfOk result IsUntouched }
 {
     MemoryConn::new(alloc, input, CallList::new(alloc), CallList::new(alloc))
-}
-
-fn calls(alloc: Global, listed: &[u64]) -> Result<CallList, AllocError> {
-    let mut calls = CallList::new(alloc);
-    for call in listed {
-        calls.push(*call)?;
-    }
-    Ok(calls)
 }
 
 // Accepts once, answers a connection and gives it back: `c` for one, `q` for Quiet, `e` for Ended, `f` for Failed.
@@ -41,7 +33,7 @@ fn serve_once<D: Door>(door: &mut D) -> char {
 }
 
 // What was written to the connections that were given back, in order.
-fn written(alloc: Global, door: &MemoryDoor) -> Result<Vec<u8>, AllocError> {
+fn bytes_written(alloc: Global, door: &MemoryDoor) -> Result<Vec<u8>, AllocError> {
     let mut texts = Vec::new(alloc);
     for conn in door.served().unwrap_or(&[]) {
         texts.extend_from_slice(conn.written().unwrap_or(b""))?;
@@ -54,14 +46,22 @@ fn written(alloc: Global, door: &MemoryDoor) -> Result<Vec<u8>, AllocError> {
 fn scheduled_accepts(rt: HostRuntime) -> Result<(), Fail> {
     let alloc = rt.alloc();
     let mut conns = ConnList::new(alloc);
-    conns.push(untouched(alloc, b"one.")?)?;
-    conns.push(untouched(alloc, b"two.")?)?;
-    conns.push(untouched(alloc, b"lost")?)?;
-    let mut door = MemoryDoor::new(alloc, conns, calls(alloc, &[2, 5])?, calls(alloc, &[4, 5])?);
+    conns.push(new_conn(alloc, b"one.")?)?;
+    conns.push(new_conn(alloc, b"two.")?)?;
+    conns.push(new_conn(alloc, b"lost")?)?;
+    let mut door = MemoryDoor::new(
+        alloc,
+        conns,
+        calls_of(alloc, &[2, 5])?,
+        calls_of(alloc, &[4, 5])?,
+    );
     for want in ['c', 'q', 'c', 'f', 'e', 'e'] {
         assert_eq!(rt; serve_once(&mut door), want);
     }
-    assert_eq!(rt; written(alloc, &door)?.as_slice(), b"one.two.".as_slice());
+    assert_eq!(rt;
+        bytes_written(alloc, &door)?.as_slice(),
+        b"one.two.".as_slice()
+    );
     Ok(())
 }
 
@@ -69,8 +69,8 @@ fn scheduled_accepts(rt: HostRuntime) -> Result<(), Fail> {
 #[test]
 fn no_connections(rt: HostRuntime) -> Result<(), Fail> {
     let alloc = rt.alloc();
-    let quiet_at = calls(alloc, &[1, 2])?;
-    let fail_at = calls(alloc, &[2])?;
+    let quiet_at = calls_of(alloc, &[1, 2])?;
+    let fail_at = calls_of(alloc, &[2])?;
     let mut door = MemoryDoor::new(alloc, ConnList::new(alloc), quiet_at, fail_at);
     for want in ['e', 'f', 'e'] {
         assert_eq!(rt; serve_once(&mut door), want);
@@ -84,12 +84,12 @@ fn no_connections(rt: HostRuntime) -> Result<(), Fail> {
 fn ample(rt: HostRuntime) -> Result<(), Fail> {
     let alloc = rt.alloc();
     let mut conns = ConnList::new(alloc);
-    conns.push(untouched(alloc, b"one.")?)?;
+    conns.push(new_conn(alloc, b"one.")?)?;
     let mut door = MemoryDoor::new(alloc, conns, CallList::new(alloc), CallList::new(alloc));
     assert_eq!(rt; serve_once(&mut door), 'c');
     assert!(rt; door.served().is_some());
-    assert_eq!(rt; written(alloc, &door)?.as_slice(), b"one.".as_slice());
-    let doors = TcpDoor::four(alloc, &rt, "127.0.0.1:0")?;
+    assert_eq!(rt; bytes_written(alloc, &door)?.as_slice(), b"one.".as_slice());
+    let doors = TcpDoor::four(&rt, alloc, "127.0.0.1:0")?;
     let address = doors.a.address();
     assert!(rt; address.is_some());
     assert!(rt; doors.b.address() == address && doors.c.address() == address);
@@ -101,7 +101,7 @@ fn ample(rt: HostRuntime) -> Result<(), Fail> {
 // although its own input wasn't read.
 #[test]
 fn tcp_doors(rt: HostRuntime) -> Result<(), Fail> {
-    let mut doors = TcpDoor::four(rt.alloc(), &rt, "127.0.0.1:0")?;
+    let mut doors = TcpDoor::four(&rt, rt.alloc(), "127.0.0.1:0")?;
     let address = doors.c.address().ok_or("not bound")?;
     assert_eq!(rt; serve_once(&mut doors.a), 'q');
     let mut peer = TcpStream::connect(&rt, address)?;
@@ -119,7 +119,7 @@ fn tcp_doors(rt: HostRuntime) -> Result<(), Fail> {
 // What isn't an address: the first call fails, and the door has ended then.
 #[test]
 fn absent_doors(rt: HostRuntime) -> Result<(), Fail> {
-    let mut doors = TcpDoor::four(rt.alloc(), &rt, "7100")?;
+    let mut doors = TcpDoor::four(&rt, rt.alloc(), "7100")?;
     for want in ['f', 'e', 'e'] {
         assert_eq!(rt; serve_once(&mut doors.a), want);
         assert_eq!(rt; serve_once(&mut doors.d), want);

@@ -1,5 +1,5 @@
 -- Commands whose greatest temperatures are within the limits aren't too hot.
-use Rattle.std.proofs.Common.{◌≡◌, ℕ, ◌+◌, ◌*◌, ◌/◌, ◌≤◌, ℤ, pos, negsuc, Bool, true, false, List, [], ◌∷◌, map, fold, max, Option, Some, None, nat_lt, refl, ap, ◌∙◌, arith, if◌then◌else◌}
+use Rattle.std.proofs.Common.{◌≡◌, ℕ, ◌+◌, ◌*◌, ◌/◌, ◌≤◌, ℤ, pos, negsuc, Bool, true, false, List, [], ◌∷◌, map, fold, max, Some, None, nat_lt, refl, ap, ◌∙◌, arith, if◌then◌else◌}
 use Rattle.std.proofs.lemmas.Bool.Decides.{nat_tests}
 use Rattle.std.specs.List.{find}
 use Rattle.std.specs.Option.{option_map, option_or}
@@ -8,9 +8,10 @@ use Rattle.temp_rules.specs.Asked.{asked_of, degrees_up}
 use Rattle.temp_rules.specs.Hot.{is_above, too_hot, hot_of, first_hot_of}
 use Rattle.temp_rules.specs.Most.{most_degrees, hottest}
 use Rattle.temp_rules.specs.declared.heater.Heater.TheVariants.{Tool, Bed}
-use Rattle.temp_rules.specs.declared.job.HotLine.{HotLine}
 use Rattle.temp_rules.specs.declared.limits.Limits.{Limits}
 use Rattle.temp_rules.specs.declared.limits.TooHot.{TooHot}
+use Rattle.temp_rules.proofs.Commands.{hot_at}
+use Rattle.gcode_measure.proofs.RestLaws.{texts_in}
 
 -- a value that isn't above the limit in whole degrees isn't above it
 cool_value : (limit : ℕ) (micro : ℤ) → degrees_up micro ≤ limit → is_above limit micro ≡ false
@@ -43,12 +44,6 @@ unfolding hot_of
 cool_text limits text tool bed =
     ap (λ found. option_or found (too_hot limits.bed (asked_of Bed text))) (cool_values limits.tool (asked_of Tool text) tool)
     ∙ cool_values limits.bed (asked_of Bed text) bed
-
-abbrev hot_at : ℕ → Option TooHot → Option HotLine
-hot_at line hot = option_map (λ h. record { line = line; asked = h.asked; limit = h.limit }) hot
-
-abbrev texts_in : List Command → List (List ℕ)
-texts_in commands = map (λ c. c.text) commands
 
 -- no command is too hot
 pub cool_commands : (limits : Limits) (commands : List Command) → hottest Tool (texts_in commands) ≤ limits.tool → hottest Bed (texts_in commands) ≤ limits.bed → first_hot_of limits commands ≡ None

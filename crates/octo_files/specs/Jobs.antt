@@ -35,9 +35,9 @@ abbrev pub job_in : Limits → List ℕ → Result JobData Report
 job_in limits bytes = within limits (any_job_in bytes)
 
 -- a report of a job, or the one that refuses its file
-abbrev pub reported : (JobData → Report) → Result JobData Report → Report
-reported of (Ok job) = of job
-reported of (Err refusal) = refusal
+abbrev pub report_or_refusal : (JobData → Report) → Result JobData Report → Report
+report_or_refusal of (Ok job) = of job
+report_or_refusal of (Err refusal) = refusal
 
 -- the reports that a file isn't read or isn't one
 abbrev pub is_file_refusal : Report → Bool

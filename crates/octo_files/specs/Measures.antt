@@ -7,7 +7,7 @@ use Rattle.gcode_measure.specs.declared.fault.MeasureFault.{MeasureFault}
 use Rattle.gcode_measure.specs.declared.fault.RestFault.{RestFault}
 use Rattle.gcode_measure.specs.declared.fault.RestFault.TheVariants as fault
 use Rattle.gcode_measure.specs.declared.totals.Measure.{Measure}
-use Rattle.octo_files.specs.Jobs.{any_job_in, reported, is_file_refusal}
+use Rattle.octo_files.specs.Jobs.{any_job_in, report_or_refusal, is_file_refusal}
 use Rattle.octo_report.specs.declared.report.Report.{Report}
 use Rattle.octo_report.specs.declared.report.Report.TheVariants as report
 
@@ -17,12 +17,12 @@ measure_or (Ok measure) = report.Measured measure
 measure_or (Err refused) = report.BadMeasure refused
 
 -- the measure of a job
-abbrev pub measured : JobData → Report
-measured job = measure_or (measure_of job)
+abbrev pub job_measure_report : JobData → Report
+job_measure_report job = measure_or (measure_of job)
 
 -- the measure of a file
 abbrev pub measure_report : List ℕ → Report
-measure_report bytes = reported measured (any_job_in bytes)
+measure_report bytes = report_or_refusal job_measure_report (any_job_in bytes)
 
 -- the reports of measures
 abbrev pub is_measure : Report → Bool
@@ -38,12 +38,12 @@ rest_or (Err (fault.Past count)) = report.Past count
 rest_or (Err fault.NoMemory) = report.NoMemory
 
 -- the file that goes on with a job at a command
-abbrev pub rested : ℕ → JobData → Report
-rested from job = rest_or (rest_of job from)
+abbrev pub job_rest_report : ℕ → JobData → Report
+job_rest_report from job = rest_or (rest_of job from)
 
 -- the file that goes on with a file at a command
 abbrev pub rest_report : ℕ → List ℕ → Report
-rest_report from bytes = reported (rested from) (any_job_in bytes)
+rest_report from bytes = report_or_refusal (job_rest_report from) (any_job_in bytes)
 
 -- a file that is reported goes on with a job at a command
 abbrev pub GoesOnFrom : JobData → ℕ → Report → Type 0

@@ -1,11 +1,11 @@
 //! A check of a file.
 ghost use Rattle.std.specs.Prelude.{◌≡◌, ◌≢◌, ◌⊎◌, ◌↔◌, ◌≤◌, true, IsTrue};
-ghost use Rattle.octo_outside.specs.Told.{Counts};
+ghost use Rattle.octo_outside.specs.Recorded.{Counts};
 ghost use Rattle.octo_report.specs.declared.report.Report.TheVariants as report;
 ghost use Rattle.gcode_lines.specs.Job.{texts_of};
 ghost use Rattle.temp_rules.specs.Hot.{first_hot_of};
-ghost use Rattle.octo_files.specs.Checks.{targets_in, checked, check_report, is_check};
-ghost use Rattle.octo_files.specs.Jobs.{unless_hot, reported};
+ghost use Rattle.octo_files.specs.Checks.{targets_in, job_check_report, check_report, is_check};
+ghost use Rattle.octo_files.specs.Jobs.{unless_hot, report_or_refusal};
 ghost use Rattle.octo_files.specs.Reading.{FileGives, IsTrouble};
 
 use crate::jobs::read_any_job;
@@ -29,7 +29,7 @@ fn targets_of(job: &Job) -> Targets
 /// What a check finds of a job that asks for these temperatures at most.
 fn counts_of(job: &Job, targets: &Targets) -> Report
     requires { targets.now ≡ targets_in (texts_of job.now) }
-    ensures { result ≡ checked job.now }
+    ensures { result ≡ job_check_report job.now }
 {
     Report::Checked {
         commands: job.count() as u32,
@@ -51,7 +51,8 @@ fn are_within(targets: &Targets, limits: &Limits) -> bool
 #[tactic(auto, using(crate::proofs::Cool::cool_commands))]
 fn check_job(job: &Job, limits: &Limits) -> Report
     ensures exact { result
-        ≡ reported checked (unless_hot job.now (first_hot_of limits.now job.now.commands)) }
+        ≡ report_or_refusal job_check_report
+        (unless_hot job.now (first_hot_of limits.now job.now.commands)) }
     ensures kind { is_check result ≡ true }
     ensures source { result ≢ report.SourceFailed }
 {

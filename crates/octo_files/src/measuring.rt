@@ -1,9 +1,9 @@
 //! The measure of a file, and its rest.
 ghost use Rattle.std.specs.Prelude.{◌≡◌, ◌≢◌, ◌⊎◌, Ok, true};
-ghost use Rattle.octo_outside.specs.Told.{Counts};
+ghost use Rattle.octo_outside.specs.Recorded.{Counts};
 ghost use Rattle.gcode_lines.specs.Commands.{job_of};
 ghost use Rattle.octo_report.specs.declared.report.Report.TheVariants as report;
-ghost use Rattle.octo_files.specs.Measures.{measured, measure_report, is_measure, rested, is_rest, GoesOnFrom, IsRestReport};
+ghost use Rattle.octo_files.specs.Measures.{job_measure_report, measure_report, is_measure, job_rest_report, is_rest, GoesOnFrom, IsRestReport};
 ghost use Rattle.octo_files.specs.Reading.{FileGives, IsTrouble};
 
 use crate::jobs::read_any_job;
@@ -15,7 +15,7 @@ use std::alloc::Global;
 
 /// What a job measures.
 fn measure_job(job: &Job) -> Report
-    ensures exact { result ≡ measured job.now }
+    ensures exact { result ≡ job_measure_report job.now }
     ensures kind { is_measure result ≡ true }
     ensures source { result ≢ report.SourceFailed }
 {
@@ -47,7 +47,7 @@ pub fn measure_file<F: Source>(alloc: Global, files: &mut F, file: &str) -> Repo
 
 /// The file that goes on with a job at a command.
 fn rest_of_job(alloc: Global, job: &Job, from: usize) -> Report
-    ensures exact { (result ≡ report.NoMemory) ⊎ (result ≡ rested from job.now) }
+    ensures exact { (result ≡ report.NoMemory) ⊎ (result ≡ job_rest_report from job.now) }
     ensures goes_on { GoesOnFrom job.now from result }
     ensures kind { is_rest result ≡ true }
     ensures source { result ≢ report.SourceFailed }

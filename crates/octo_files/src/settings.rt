@@ -1,6 +1,6 @@
 //! The settings of a command.
 ghost use Rattle.std.specs.Prelude.{◌≡◌, ◌≢◌, ◌⊎◌, Err, IfErr, IfOk, Ok, true, IsUtf8};
-ghost use Rattle.octo_outside.specs.Told.{Counts};
+ghost use Rattle.octo_outside.specs.Recorded.{Counts};
 ghost use Rattle.octo_report.specs.declared.report.Report.TheVariants as report;
 ghost use Rattle.octo_settings.specs.Config.{plain_settings};
 ghost use Rattle.octo_settings.specs.Sound.{IsSettings};

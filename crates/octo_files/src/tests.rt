@@ -1,3 +1,4 @@
+//! Files and settings in memory, each with the report that reading it ends in.
 use super::*;
 use octo_outside::{CallList, MemorySink, MemorySource};
 use octo_report::{Report, write_report};
@@ -44,7 +45,7 @@ const MEASURED: &[u8] =
 const REST: &[u8] =
     b"G90\nM83\nG92 X20.000000 Y5.000000 Z0.000000 E1.500000\nG92 E0\nG91\nG1 Z0.2 E1\n";
 
-/// Settings that name all that has to be there, and a limit.
+/// Settings that name all that is required, and a limit.
 const SETTINGS: &[u8] =
     b"printer.ports = [\"p\"]\nlimits.tool = 250\nadmin.name = \"a\"\nadmin.key_sha256 = \"0123456789abcdef0123456789abcdef0123456789abcdef0123456789abcdef\"\n";
 

@@ -13,9 +13,7 @@ use Rattle.octo_serve.specs.Hosted.{HasHosted}
 use Rattle.octo_settings.specs.declared.settings.Settings.{Settings}
 use Rattle.octo_host.specs.Beginning.{session_by, policy_by}
 use Rattle.octo_host.specs.Hosting.{Around, host_in, HasPrints}
-
-same_some : {A : Type 0} (a b : A) → Some a ≡ Some b → a ≡ b
-same_some a b e = cc
+use Rattle.std.proofs.lemmas.Option.{same_Some}
 
 -- a host that began with a new desk and served
 pub host_prints : (s : Settings) (between new : Around) (first last : House) (calls : ℕ) (held : Bool) (known : HistoryData) →
@@ -28,7 +26,7 @@ host_prints s between new first last calls held known made hosted files files_ar
     } in
     let x : SessionData = session_of first in
     let got = hosted.ran.prints begun files files_are (beginning x.sender.window x.sender.limit (known_of first) files) refl known.history refl events there in
-    let none : got.old ≡ [] = sym (same_some [] got.old got.was) in
+    let none : got.old ≡ [] = sym (same_Some [] got.old got.was) in
     let all : got.added ≡ known.history = sym (got.grew ∙ ap (λ (h : History). h ++ got.added) none) in (
       got.old_events,
       got.was_link,

@@ -1,6 +1,6 @@
 -- What serving by settings comes to, from how the host begins and how it ends.
 use Rattle.std.proofs.Common.{◌≡◌, ◌∙◌, ◌≤◌, ℕ, Bool, true, false, ◌&&◌, List, Option, None, Some, Err, refl, sym, ap, subst, arith}
-use Rattle.octo_outside.specs.Told.{Rose}
+use Rattle.octo_outside.specs.Recorded.{Rose}
 use Rattle.octo_outside.specs.Traits.{Files}
 use Rattle.octo_asks.specs.History.{History, calls_of}
 use Rattle.octo_doors.specs.declared.door.Doors.{Doors}
@@ -14,12 +14,12 @@ use Rattle.octo_serve.specs.Around.{DoorState}
 use Rattle.octo_serve.specs.Doors.{AreServed}
 use Rattle.octo_settings.specs.declared.settings.Settings.{Settings}
 use Rattle.octo_host.specs.Hosting.{Around, AreLater, IsUnserved, HasServed, ServesBy, not_begun, served, Hosts, no_settings, OneRose, at_a, at_b, at_c, at_d, AllHeld, HasHostCauses}
-use Rattle.octo_host.specs.Reports.{refused, reported}
+use Rattle.octo_host.specs.Reports.{begin_fault_report, served_report}
 use Rattle.octo_host.specs.declared.report.HostReport.{HostReport}
 use Rattle.octo_host.specs.declared.report.HostReport.TheVariants as host
 
 -- a host that doesn't begin, as it is reported
-pub not_served : (s : Settings) (old new : Around) (fault : BeginFault) (r : HostReport) (known : Option HistoryData) → r ≡ refused fault → known ≡ None →
+pub not_served : (s : Settings) (old new : Around) (fault : BeginFault) (r : HostReport) (known : Option HistoryData) → r ≡ begin_fault_report fault → known ≡ None →
     IsUnserved old new → ServesBy s old new r known
 not_served s old new fault r known is none u =
     subst (λ k. ServesBy s old new r k) (sym none) (subst (λ x. ServesBy s old new x None) (sym is) (not_begun fault u))
@@ -58,7 +58,7 @@ module _ (patience : ℕ) (old new : Doors DoorState) (history : History) where
 
 -- the causes of what is reported of a host that has served
 caused : (patience calls : ℕ) (old new : Around) (history : History) (held : Bool) → AreServed patience old.doors new.doors history held → AreLater old new →
-    HasHostCauses old new (reported calls held)
+    HasHostCauses old new (served_report calls held)
 caused patience calls old new history true x later = record {
   keeper = λ is. absurd (cc);
   shelf = λ is. absurd (cc);

@@ -1,6 +1,6 @@
 -- What serving by settings comes to.
 use Rattle.std.specs.Prelude.{◌≡◌, ℕ, ◌≤◌, Bool, length, List, Option, None, Some, Result, Ok, Err}
-use Rattle.octo_outside.specs.Told.{Rose}
+use Rattle.octo_outside.specs.Recorded.{Rose}
 use Rattle.octo_outside.specs.Traits.{Files}
 use Rattle.octo_doors.specs.declared.door.Doors.{Doors}
 use Rattle.hand_over.specs.Ends.{HistoryData}
@@ -24,7 +24,7 @@ use Rattle.octo_report.specs.declared.report.Report.{Report}
 use Rattle.octo_report.specs.declared.report.Report.TheVariants as report
 use Rattle.octo_settings.specs.declared.settings.Settings.{Settings}
 use Rattle.octo_host.specs.Beginning.{session_by, policy_by}
-use Rattle.octo_host.specs.Reports.{refused, reported}
+use Rattle.octo_host.specs.Reports.{begin_fault_report, served_report}
 use Rattle.octo_host.specs.declared.report.HostReport.{HostReport}
 use Rattle.octo_host.specs.declared.report.HostReport.TheVariants as host
 
@@ -37,7 +37,8 @@ pub record Around : Type 0 where
   pub doors : Doors DoorState
 
 -- the same by the meanings of each kind
-abbrev pub around : {L T K S D : Type 0} → (L → LinkState) → (T → Option ℕ) → (K → KeeperState) → (S → ShelfState) → (D → DoorState) → L → T → K → S → Doors D → Around
+abbrev pub around : {L T K S D : Type 0} → (L → LinkState) → (T → Option ℕ) → (K → KeeperState) → (S → ShelfState) → (D → DoorState)
+    → L → T → K → S → Doors D → Around
 around link_state moment keeper_state shelf_state door_state link clock keeper shelf doors = record {
   link = link_state link;
   moment = moment clock;
@@ -93,11 +94,11 @@ pub record HasServed (s : Settings) (old new : Around) (r : HostReport) (known :
   pub hosted : HasHosted s.patience (host_in between first) (host_in new last) between.doors new.doors calls held known
   -- what became of the prints
   pub prints : HasPrints s between new first known.history
-  pub is : r ≡ reported calls held
+  pub is : r ≡ served_report calls held
 
 -- what serving by these settings comes to: the host doesn't begin, or there is no memory for its workers; or it serves
 pub data ServesBy (s : Settings) (old new : Around) : HostReport → Option HistoryData → Type 0 where
-  not_begun : (fault : BeginFault) → IsUnserved old new → ServesBy s old new (refused fault) None
+  not_begun : (fault : BeginFault) → IsUnserved old new → ServesBy s old new (begin_fault_report fault) None
   served : (r : HostReport) (known : HistoryData) → HasServed s old new r known → ServesBy s old new r (Some known)
 
 -- and by the settings of a file

@@ -29,12 +29,12 @@ host_text host.ShelfFailed = codes "shelf failed\n"
 host_text (host.Command report) = text_of report
 
 -- why a host didn't begin
-abbrev pub refused : BeginFault → HostReport
-refused begin.KeeperFailed = host.KeeperFailed
-refused begin.ShelfFailed = host.ShelfFailed
-refused begin.NoMemory = host.Command report.NoMemory
+abbrev pub begin_fault_report : BeginFault → HostReport
+begin_fault_report begin.KeeperFailed = host.KeeperFailed
+begin_fault_report begin.ShelfFailed = host.ShelfFailed
+begin_fault_report begin.NoMemory = host.Command report.NoMemory
 
 -- what is reported of a host that has served
-abbrev pub reported : ℕ → Bool → HostReport
-reported calls true = host.Served calls
-reported calls false = host.DoorFailed calls
+abbrev pub served_report : ℕ → Bool → HostReport
+served_report calls true = host.Served calls
+served_report calls false = host.DoorFailed calls

@@ -4,7 +4,7 @@ ghost use Rattle.octo_access.specs.Rows.{IsUserTable};
 ghost use Rattle.octo_house.specs.Beginning.{IsMadeOf, BeginsOn};
 ghost use Rattle.octo_house.specs.State.{IsListed, session_of};
 ghost use Rattle.octo_keeper.specs.declared.tables.Tables.{Tables};
-ghost use Rattle.octo_outside.specs.Told.{Counts};
+ghost use Rattle.octo_outside.specs.Recorded.{Counts};
 ghost use Rattle.octo_settings.specs.Sound.{IsSettings};
 ghost use Rattle.print_queue.specs.Lawful.{IsLawful};
 ghost use Rattle.house_tables.specs.Kept.{IsKept};
@@ -32,7 +32,7 @@ pub(crate) struct Pace {
 }
 
 /// A new session with these scripts and limits.
-fn session_of(
+fn new_session(
     alloc: Global,
     scripts: Scripts,
     limits: Limits,
@@ -98,7 +98,7 @@ pub(crate) fn begin_by<K: Keeper, S: Shelf>(
         limit_ms,
         poll_ms,
     };
-    let Ok(session) = session_of(alloc, scripts, limits, pace) else {
+    let Ok(session) = new_session(alloc, scripts, limits, pace) else {
         return Err(BeginFault::NoMemory);
     };
     let policy = Policy::new(groups, admin);

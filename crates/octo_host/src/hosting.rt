@@ -1,14 +1,14 @@
 //! The command `serve`: settings read, a host begun, and its doors served.
-ghost use Rattle.std.specs.Prelude.{◌≡◌, None, Some, false, true};
+ghost use Rattle.std.specs.Prelude.{◌≡◌, None, Some, is_some, false, true};
 ghost use Rattle.octo_files.specs.Settings.{HaveSettings, is_settings_refusal};
 ghost use Rattle.octo_house.specs.declared.faults.BeginFault.TheVariants as fault;
-ghost use Rattle.octo_outside.specs.Told.{Counts};
+ghost use Rattle.octo_outside.specs.Recorded.{Counts};
 ghost use Rattle.octo_report.specs.declared.report.Report.{Report};
 ghost use Rattle.octo_report.specs.declared.report.Report.TheVariants as report;
 ghost use Rattle.octo_serve.specs.Around.{link_state, keeper_state, shelf_state, door_state};
 ghost use Rattle.octo_settings.specs.Sound.{IsSettings};
 ghost use Rattle.octo_host.specs.Hosting.{around, ServesBy, Hosts, HasHostCauses};
-ghost use Rattle.octo_host.specs.Reports.{refused, reported};
+ghost use Rattle.octo_host.specs.Reports.{begin_fault_report, served_report};
 ghost use Rattle.octo_host.specs.declared.report.HostReport.TheVariants as host;
 
 use crate::beginning::begin_by;
@@ -49,8 +49,8 @@ impl HostEnd {
 }
 
 // Why a host didn't begin.
-fn refused(fault: BeginFault) -> HostReport
-    ensures { result ≡ refused fault }
+fn begin_fault_report(fault: BeginFault) -> HostReport
+    ensures { result ≡ begin_fault_report fault }
 {
     match fault {
         BeginFault::KeeperFailed => HostReport::KeeperFailed,
@@ -60,8 +60,8 @@ fn refused(fault: BeginFault) -> HostReport
 }
 
 // What is reported of a host that has served.
-fn reported(calls: u64, doors_held: bool) -> HostReport
-    ensures { result ≡ reported calls doors_held }
+fn served_report(calls: u64, doors_held: bool) -> HostReport
+    ensures { result ≡ served_report calls doors_held }
 {
     if doors_held {
         return HostReport::Served { calls };
@@ -71,7 +71,7 @@ fn reported(calls: u64, doors_held: bool) -> HostReport
 
 // The host has served.
 fn has_served(served: Served) -> HostEnd
-    ensures report { result.report ≡ reported served.calls served.doors_held }
+    ensures report { result.report ≡ served_report served.calls served.doors_held }
     ensures history { result.history ≡ Some served.history }
 {
     let Served {
@@ -80,7 +80,7 @@ fn has_served(served: Served) -> HostEnd
         history,
     } = served;
     HostEnd {
-        report: reported(calls, doors_held),
+        report: served_report(calls, doors_held),
         history: Some(history),
     }
 }
@@ -120,11 +120,12 @@ fn serve_by<
         result.report }
     ensures refusal { (why : Report) → result.report ≡ host.Command why → why ≡ report.NoMemory }
     ensures kind { L.kind link.new ≡ L.kind link.old }
+    ensures recorded { is_some (L.past link.new) ≡ is_some (L.past link.old) }
 {
     let patience = settings.patience;
     let mut house = match begin_by(alloc, settings, keeper, shelf) {
         Ok(house) => house,
-        Err(fault) => return HostEnd::unserved(refused(fault)),
+        Err(fault) => return HostEnd::unserved(begin_fault_report(fault)),
     };
     match serve(
         rt, alloc, &mut house, link, clock, keeper, shelf, doors, patience,
@@ -177,7 +178,10 @@ pub fn host<
 
     ensures refusal { (why : Report) → result.report ≡ host.Command why
         → is_settings_refusal why ≡ true }
+
+    // The link: what no call changes, and whether its history is recorded.
     ensures kind { L.kind link.new ≡ L.kind link.old }
+    ensures recorded { is_some (L.past link.new) ≡ is_some (L.past link.old) }
 
     // The source, which is read before.
     ensures files { F.files files.new ≡ F.files files.old }

@@ -1,6 +1,6 @@
 //! A keeper that was opened, or couldn't be.
 ghost use Rattle.std.specs.Prelude.{◌≡◌};
-ghost use Rattle.octo_outside.specs.Told.{Counts};
+ghost use Rattle.octo_outside.specs.Recorded.{Counts};
 
 use octo_keeper::{Change, Keeper, KeeperFault, Tables};
 use std::alloc::Global;

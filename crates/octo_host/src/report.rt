@@ -1,7 +1,7 @@
 //! How a command of the program ended, serving among them: its exit status and its text.
 ghost use Rattle.std.specs.Prelude.{◌≡◌, ◌≤◌, ◌++◌, [], codes, OnOk, OnErr, IsErr};
 ghost use Rattle.arrayvec.specs.ArrayVec.{array_vec_len};
-ghost use Rattle.octo_outside.specs.Told.{Adds, AddsPrefix, Counts};
+ghost use Rattle.octo_outside.specs.Recorded.{Adds, AddsPrefix, Counts};
 ghost use Rattle.octo_host.specs.Reports.{host_code, host_text, calls_text};
 
 use arrayvec::ArrayVec;

@@ -1,16 +1,13 @@
 //! Hosts over settings, tables, files, doors and a link in memory. Out of memory, a test stops.
-ghost use Rattle.std.specs.Prelude.{◌≡◌, All, false};
-ghost use Rattle.octo_doors.specs.Memory.{IsUntouched};
+ghost use Rattle.std.specs.Prelude.{◌≡◌, false};
 ghost use Rattle.printer_link.specs.Memory.{link_world};
 
 use crate::*;
-use byte_text::Name;
-use octo_doors::{ConnList, Doors, MemoryDoor};
-use octo_keeper::{KeeperFault, MemoryKeeper, MemoryShelf, Tables};
-use octo_outside::{
-    CallList, ItemList, MemoryClock, MemoryConn, MemorySink, MemorySource, NameList,
-};
-use printer_link::{FateList, MemoryLink, Schedule};
+use host_makers::{calls, door_of, keeper_of, link_at, no_rows, shelf_of};
+use octo_doors::{Doors, MemoryDoor};
+use octo_keeper::{KeeperFault, MemoryKeeper, MemoryShelf};
+use octo_outside::{CallList, MemoryClock, MemorySink, MemorySource};
+use printer_link::{FateList, MemoryLink};
 use std::alloc::Global;
 use std::process::Abort;
 use std::sync::Wait;
@@ -58,93 +55,14 @@ const UNSERVED: Row = Row {
     ..SHUT
 };
 
-fn calls(rt: &impl Abort, alloc: Global, numbers: &[u64]) -> CallList {
-    let mut list = CallList::new(alloc);
-    for number in numbers {
-        assert!(rt; list.push(*number).is_ok());
-    }
-    list
-}
-
-fn ports(rt: &impl Abort, alloc: Global) -> NameList {
-    let mut ports = NameList::new(alloc);
-    match Name::from_text("p") {
-        Some(name) => assert!(rt; ports.push(name).is_ok()),
-        None => panic!(rt; "a long name"),
-    }
-    ports
-}
-
-// A link that loses nothing.
-fn link(rt: &impl Abort, alloc: Global) -> MemoryLink
-    ensures { (link_world result).linked ≡ false }
-{
-    let schedule = Schedule {
-        names: ports(rt, alloc),
-        last: 0,
-        places: 4,
-        advanced: false,
-        fates: FateList::new(alloc),
-        slow: 0,
-        fail_at: CallList::new(alloc),
-        restart_at: CallList::new(alloc),
-    };
-    match MemoryLink::new(alloc, schedule) {
-        Ok(link) => link,
-        Err(_) => panic!(rt; "no memory"),
-    }
-}
-
 // A source whose file s has the settings.
 fn files(rt: &impl Abort, alloc: Global, row: &Row) -> MemorySource {
-    let mut files = MemorySource::new(alloc, calls(rt, alloc, row.source_fails));
+    let mut files = MemorySource::new(
+        alloc,
+        calls(alloc, row.source_fails).expect(rt, "no memory"),
+    );
     assert!(rt; files.put("s", row.settings).is_ok());
     files
-}
-
-// A keeper of empty tables.
-fn keeper(rt: &impl Abort, alloc: Global, fail_at: &[u64]) -> MemoryKeeper {
-    let tables = Tables {
-        users: ItemList::new(alloc),
-        queue: ItemList::new(alloc),
-        prints: ItemList::new(alloc),
-    };
-    MemoryKeeper::new(tables, calls(rt, alloc, fail_at))
-}
-
-fn conn(rt: &impl Abort, alloc: Global, input: &[u8]) -> MemoryConn
-    ensures { IsUntouched result }
-{
-    match MemoryConn::new(alloc, input, CallList::new(alloc), CallList::new(alloc)) {
-        Ok(conn) => conn,
-        Err(_) => panic!(rt; "no memory"),
-    }
-}
-
-// One more connection with this input.
-fn with_conn(rt: &impl Abort, alloc: Global, conns: ConnList, input: &[u8]) -> ConnList
-    requires { All IsUntouched conns }
-    ensures { All IsUntouched result }
-{
-    let mut conns = conns;
-    match conns.push(conn(rt, alloc, input)) {
-        Ok(()) => conns,
-        Err(_) => panic!(rt; "no memory"),
-    }
-}
-
-// A door with these inputs.
-fn door(rt: &impl Abort, alloc: Global, inputs: &[&[u8]], fail_at: &[u64]) -> MemoryDoor {
-    let mut conns = ConnList::new(alloc);
-    for input in inputs {
-        conns = with_conn(rt, alloc, conns, input);
-    }
-    MemoryDoor::new(
-        alloc,
-        conns,
-        CallList::new(alloc),
-        calls(rt, alloc, fail_at),
-    )
 }
 
 /// What a host works with.
@@ -165,15 +83,15 @@ impl Bench {
     {
         Bench {
             files: files(rt, alloc, row),
-            link: link(rt, alloc),
+            link: link_at(alloc, "p", FateList::new(alloc)).expect(rt, "no memory"),
             clock: MemoryClock::new(0, 1),
-            keeper: keeper(rt, alloc, row.keeper_fails),
-            shelf: MemoryShelf::new(alloc, calls(rt, alloc, row.shelf_fails)),
+            keeper: keeper_of(alloc, no_rows(alloc), row.keeper_fails).expect(rt, "no memory"),
+            shelf: shelf_of(alloc, row.shelf_fails).expect(rt, "no memory"),
             doors: Doors {
-                a: door(rt, alloc, row.inputs, row.door_fails),
-                b: door(rt, alloc, &[], &[]),
-                c: door(rt, alloc, &[], &[]),
-                d: door(rt, alloc, &[], &[]),
+                a: door_of(alloc, row.inputs, row.door_fails).expect(rt, "no memory"),
+                b: door_of(alloc, &[], &[]).expect(rt, "no memory"),
+                c: door_of(alloc, &[], &[]).expect(rt, "no memory"),
+                d: door_of(alloc, &[], &[]).expect(rt, "no memory"),
             },
         }
     }
@@ -308,7 +226,10 @@ fn opened_keepers(rt: HostRuntime) {
         assert!(rt; octo_keeper::Keeper::load(&mut unopened, alloc).is_err_and(|f| f == fault));
         assert!(rt; unopened.into_keeper().is_err());
     }
-    let mut opened = Opened::new(Ok(keeper(&rt, alloc, &[])));
+    let mut opened = Opened::new(Ok(keeper_of(alloc, no_rows(alloc), &[]).expect(
+        &rt,
+        "no memory",
+    )));
     assert!(rt; octo_keeper::Keeper::load(&mut opened, alloc).is_ok());
     assert!(rt; opened.into_keeper().is_ok());
 }

@@ -3,7 +3,7 @@ use Rattle.std.proofs.Common.{◌≡◌, ℕ, Bool, true, false, ◌&&◌, ◌||
 use Rattle.temp_rules.specs.Hot.{first_hot_of}
 use Rattle.temp_rules.specs.declared.limits.Limits.{Limits}
 use Rattle.desk_steps.specs.Data.{Data, File}
-use Rattle.desk_steps.specs.Table.{done, is_named, drop_file_step}
+use Rattle.desk_steps.specs.Table.{ok_answer, is_named, drop_file_step}
 use Rattle.desk_steps.specs.Table as table
 use Rattle.desk_steps.specs.declared.state.State.{State}
 use Rattle.desk_steps.specs.declared.state.Refusal.TheVariants as refusal
@@ -17,7 +17,7 @@ use Rattle.house_verdicts.specs.Uploads.{is_selected, is_printed}
 use Rattle.octo_house.specs.Storing.{with_stored}
 
 abbrev dropped : Bool → Bool → Data → table.Answer
-dropped named active d = cond named (cond active (Err refusal.FileBusy, d) (done (record d { file = None }))) (done d)
+dropped named active d = cond named (cond active (Err refusal.FileBusy, d) (ok_answer (record d { file = None }))) (ok_answer d)
 
 state-if : (named active : Bool) (d : Data) → (dropped named active d).1.state ≡ d.state
 state-if true true d = refl

@@ -5,6 +5,7 @@ pub mod Begun
 pub mod Rested
 pub mod Fileless
 pub mod Permitted
+pub mod Denying
 pub mod TurnKnown
 pub mod ReadDone
 pub mod Listed

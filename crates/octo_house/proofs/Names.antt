@@ -2,9 +2,10 @@
 use Rattle.std.proofs.Common.{◌≡◌, ℕ, ◌+◌, Bool, true, false, not, bytes_eq, List, [], ◌∷◌, ◌++◌, take, drop, map, filter, insert, refl, sym, ap, ◌∙◌}
 use Rattle.std.specs.List.{prefix_len}
 use Rattle.std.proofs.lemmas.List.{map-append, take-map, drop-map}
-use Rattle.octo_keeper.specs.Files.{is_before, sizes_of, with_file, without_file}
+use Rattle.octo_keeper.specs.Files.{sizes_of, with_file, without_file}
 use Rattle.octo_keeper.specs.declared.shelf.ShelfFile.{ShelfFile}
 use Rattle.house_verdicts.specs.Known.{names_of, with_name, without_name}
+use Rattle.octo_access.specs.Rows.{is_before}
 
 module _ {X Y : Type 0} (f : X → Y) (p : Y → Bool) where
   filter-more : (x : X) (xs : List X) (b : Bool) → p (f x) ≡ b → map f (filter (λ y. p (f y)) xs) ≡ filter p (map f xs)

@@ -1,5 +1,6 @@
 -- Requests that read a file first: what was read leads to the answer, or why nothing was.
 use Rattle.std.proofs.Common.{◌≡◌, ◌⊎◌, inl, inr, ℕ, Bool, true, false, not, cond, List, Option, None, Some, Result, Ok, Err, refl, sym, ap, ◌∙◌, subst}
+use Rattle.std.proofs.lemmas.Bool.{false≢true}
 use Rattle.gcode_lines.specs.Commands.{job_of}
 use Rattle.gcode_lines.specs.Job.{JobData}
 use Rattle.gcode_lines.specs.declared.fault.FileFault.{FileFault}
@@ -12,14 +13,12 @@ use Rattle.house_verdicts.specs.Refusals.{refused_if, found_or, read_as}
 use Rattle.house_verdicts.specs.States.{may_start}
 use Rattle.house_verdicts.specs.Verdict.{Verdict, Deed, May, IsDone, gives, makes, reads, is_fault, known_after}
 use Rattle.house_rows.specs.Reading.{IsReadAs, found_bytes, job_in, job_or}
-
-same-if : (b : Bool) (k : Known) → k ≡ cond b k k
-same-if true k = refl
-same-if false k = refl
+use Rattle.octo_house.specs.Answered.{asks_files}
+use Rattle.byte_text.proofs.BoolLaws.{same_if}
 
 -- a refusal, or an answer that changes nothing
 pub given : (a x : Answer) (k : Known) → x ≡ a → IsDone (gives a) x k k
-given a x k is = record { may = inr is; leaves = same-if (is_fault x) k }
+given a x k is = record { may = inr is; leaves = sym (same_if (is_fault x) k) }
 
 -- this is done at the desk
 pub made : (a : Answer) (deed : Deed) (old new : Known) → is_fault a ≡ false → new ≡ known_after deed old → IsDone (makes a deed) a old new
@@ -32,6 +31,19 @@ passed refuses a v x old new is done = rw is done
 
 pub refused : (refuses : Bool) (a : Answer) (v : Verdict) (k : Known) → refuses ≡ true → IsDone (refused_if refuses a v) a k k
 refused refuses a v k is = rw is (given a a k refl)
+
+-- this is done if a premise holds, and also if the verdict doesn't ask the shelf
+abbrev DoneOn : Type 0 → Verdict → Answer → Known → Known → Type 0
+DoneOn recorded v x old new = recorded ⊎ (asks_files v ≡ false) → IsDone v x old new
+
+pub passed-on : {recorded : Type 0} (refuses : Bool) (a : Answer) (v : Verdict) (x : Answer) (old new : Known) → refuses ≡ false
+    → DoneOn recorded v x old new → DoneOn recorded (refused_if refuses a v) x old new
+passed-on refuses a v x old new is done = rw is done
+
+pub read-on : {recorded : Type 0} (v : Verdict) (x : Answer) (old new : Known) → (recorded → IsDone (reads v) x old new)
+    → DoneOn recorded (reads v) x old new
+read-on v x old new done (inl at) = done at
+read-on v x old new done (inr unasked) = absurd (false≢true (sym unasked))
 
 may-read : (v : Verdict) (x : Answer) → (x ≡ answer.NoMemory) ⊎ May v x → (x ≡ answer.NoMemory) ⊎ May (reads v) x
 may-read v x (inl none) = inl none

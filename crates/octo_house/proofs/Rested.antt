@@ -8,6 +8,7 @@ use Rattle.octo_keeper.specs.Tables.{ended_row, with_due_end}
 use Rattle.print_records.specs.declared.row.PrintRow.{PrintRow}
 use Rattle.house_tables.specs.Data.{TablesData, IsRested, due_of}
 use Rattle.house_tables.specs.declared.tables.Unwritten.{Unwritten}
+use Rattle.house_history.proofs.Histories.{as_many}
 
 abbrev due : Option Unwritten → Option Ending
 due unwritten = option_map (λ (u : Unwritten). u.ending) unwritten
@@ -53,13 +54,9 @@ pub ends-active : {P : Ending → Type 0} (ended : Option Ending) (active : Bool
 ends-active None active ends on some = absurd (some refl)
 ends-active (Some e) active ends on some = on e ends
 
-due-length : (ended : Option Ending) (rows : List PrintRow) → length (with_due_end ended rows) ≡ length rows
-due-length None rows = refl
-due-length (Some e) rows = length-map rows (ended_row e)
-
 -- the numbers of prints after a turn
 pub numbered-after : (old new : TablesData) (ended : Option Ending) (before after : ℕ) → before ≤ length old.prints → after ≡ before
     → new ≡ record old { prints = with_due_end ended old.prints; unwritten = new.unwritten } → after ≤ length new.prints
 numbered-after old new ended before after few same is =
-    let long : length new.prints ≡ length old.prints = ap (λ (t : TablesData). length t.prints) is ∙ due-length ended old.prints in
+    let long : length new.prints ≡ length old.prints = ap (λ (t : TablesData). length t.prints) is ∙ as_many ended old.prints in
     omega arith

@@ -12,9 +12,10 @@ use Rattle.octo_access.specs.declared.row.UserRow.{UserRow}
 use Rattle.house_verdicts.specs.Known.{Known}
 use Rattle.house_verdicts.specs.Prints.{has_room}
 use Rattle.house_verdicts.specs.States.{may_start}
-use Rattle.house_verdicts.specs.Uploads.{named_file, is_printed}
+use Rattle.house_verdicts.specs.Uploads.{is_printed}
 use Rattle.octo_house.specs.Storing.{IsStartable}
 use Rattle.octo_house.proofs.ReadDone.{start-state}
+use Rattle.desk_steps.specs.Data.{named_file}
 
 none-if : {A : Type 0} (o : Option A) → is_none o ≡ true → o ≡ None
 none-if None is = refl

@@ -4,7 +4,7 @@ use Rattle.gcode_lines.specs.Commands.{job_of}
 use Rattle.gcode_lines.specs.Job.{JobData}
 use Rattle.gcode_lines.specs.declared.fault.FileFault.{FileFault}
 use Rattle.gcode_lines.specs.declared.fault.FileFault.TheVariants as file_fault
-use Rattle.desk_steps.specs.Data.{File}
+use Rattle.desk_steps.specs.Data.{File, named_file}
 use Rattle.desk_steps.specs.Run.{Start}
 use Rattle.desk_steps.specs.Table.{drop_file_step, select_at}
 use Rattle.desk_steps.specs.declared.state.Refusal.{Refusal}
@@ -14,10 +14,10 @@ use Rattle.octo_keeper.specs.declared.shelf.ShelfFile.{ShelfFile}
 use Rattle.octo_keeper.specs.declared.tables.Tables.{Tables}
 use Rattle.octo_asks.specs.declared.answer.Answer.{Answer}
 use Rattle.octo_asks.specs.declared.answer.Answer.TheVariants as answer
-use Rattle.house_verdicts.specs.Known.{Known, next_number, shown_count}
-use Rattle.house_verdicts.specs.Prints.{started}
-use Rattle.house_verdicts.specs.Refusals.{refused_if, granted, read_as, refused}
-use Rattle.house_verdicts.specs.Uploads.{named_file, has_file_room, is_selected, is_printed, stored, after_storing, store_verdict, put_file_verdict}
+use Rattle.house_verdicts.specs.Known.{Known, next_print_number, shown_count}
+use Rattle.house_verdicts.specs.Prints.{start_deed}
+use Rattle.house_verdicts.specs.Refusals.{refused_if, if_desk_allows, read_as, answer_of_refusal}
+use Rattle.house_verdicts.specs.Uploads.{has_file_room, is_selected, is_printed, store_deed, after_storing, store_verdict, put_file_verdict}
 use Rattle.house_verdicts.specs.Verdict.{Verdict, Deed, May, IsDone, gives, stores, begins, is_fault, is_stored, known_after, files_in, files_after}
 use Rattle.house_tables.specs.Data.{TablesData}
 use Rattle.house_tables.specs.Kept.{KeepsRows}
@@ -25,15 +25,16 @@ use Rattle.octo_house.specs.Answered.{Shelves}
 use Rattle.octo_house.specs.Storing.{refused_or, full_unless, store_refusal, with_stored}
 use Rattle.octo_house.proofs.ReadDone.{given}
 use Rattle.octo_house.proofs.Dropping.{same-selected, same-printed}
+use Rattle.byte_text.proofs.BoolLaws.{same_if}
 
 -- a file is stored unless the desk or the number of files refuses it
 abbrev pub store_if : Result (Unit {0}) Refusal → Bool → List ℕ → List ℕ → Deed → Verdict → Known → Verdict
-store_if allowed room name bytes deed v k = granted allowed (refused_if (not room) (answer.Full (shown_count (length k.names))) (stores name bytes deed v))
+store_if allowed room name bytes deed v k = if_desk_allows allowed (refused_if (not room) (answer.Full (shown_count (length k.names))) (stores name bytes deed v))
 
 -- what is answered once it is stored
 abbrev pub stored_then : Bool → Bool → UserRow → List ℕ → Known → File → Verdict
 stored_then select print user bytes k file =
-    stores file.name bytes (stored select file k) (after_storing select print user.name file (known_after (stored select file k) k))
+    stores file.name bytes (store_deed select file k) (after_storing select print user.name file (known_after (store_deed select file k) k))
 
 -- why it isn't stored: the refusal is the verdict's, or a fault came
 abbrev pub NotStored : Result (Unit {0}) Refusal → Bool → Known → Answer → Type 0
@@ -49,10 +50,6 @@ job-is held job (inr is) = sym is
 pub keeps-over : (was now : Option Tables) (old mid new : TablesData) → mid ≡ old → KeepsRows was now mid new → KeepsRows was now old new
 keeps-over was now old mid new is kept = subst (λ (t : TablesData). KeepsRows was now t new) is kept
 
-same-if : {A : Type 0} (b : Bool) (a : A) → cond b a a ≡ a
-same-if true a = refl
-same-if false a = refl
-
 no-memory : (v : Verdict) (x : Answer) (k : Known) → x ≡ answer.NoMemory → IsDone v x k k
 no-memory v x k is = rw is (record { may = inl refl; leaves = refl })
 
@@ -61,8 +58,8 @@ stores-failed name bytes deed v x k is = rw is (record { may = inr (inl refl); l
 
 unstored : (allowed : Result (Unit {0}) Refusal) (room : Bool) (name bytes : List ℕ) (deed : Deed) (v : Verdict) (k : Known) (x : Answer)
     → NotStored allowed room k x → IsDone (store_if allowed room name bytes deed v k) x k k
-unstored (Err refusal) room name bytes deed v k x (inl is) = given (refused refusal) x k (cc)
-unstored (Err refusal) room name bytes deed v k x (inr (inl is)) = no-memory (gives (refused refusal)) x k is
+unstored (Err refusal) room name bytes deed v k x (inl is) = given (answer_of_refusal refusal) x k (cc)
+unstored (Err refusal) room name bytes deed v k x (inr (inl is)) = no-memory (gives (answer_of_refusal refusal)) x k is
 unstored (Err refusal) room name bytes deed v k x (inr (inr is)) = absurd (cc is.1)
 unstored (Ok done) true name bytes deed v k x (inl is) = absurd (cc is)
 unstored (Ok done) true name bytes deed v k x (inr (inl is)) = no-memory (stores name bytes deed v) x k is
@@ -76,11 +73,11 @@ fault-files v x files is = ap (λ b. cond b files (files_in v files)) is
 
 unstored-files : (allowed : Result (Unit {0}) Refusal) (room : Bool) (name bytes : List ℕ) (deed : Deed) (v : Verdict) (k : Known) (x : Answer)
     (files : List ShelfFile) → NotStored allowed room k x → files_after (store_if allowed room name bytes deed v k) x files ≡ files
-unstored-files (Err refusal) room name bytes deed v k x files why = same-if (is_fault x) files
+unstored-files (Err refusal) room name bytes deed v k x files why = same_if (is_fault x) files
 unstored-files (Ok done) true name bytes deed v k x files (inl is) = absurd (cc is)
 unstored-files (Ok done) true name bytes deed v k x files (inr (inl is)) = fault-files (stores name bytes deed v) x files (ap is_fault is)
 unstored-files (Ok done) true name bytes deed v k x files (inr (inr is)) = fault-files (stores name bytes deed v) x files (ap is_fault is.0)
-unstored-files (Ok done) false name bytes deed v k x files why = same-if (is_fault x) files
+unstored-files (Ok done) false name bytes deed v k x files why = same_if (is_fault x) files
 
 module _ (user : UserRow) (name bytes : List ℕ) (select print : Bool) (k : Known) (job : JobData) (read : job_of bytes ≡ Ok job) where
   abbrev file : File
@@ -103,19 +100,19 @@ module _ (user : UserRow) (name bytes : List ℕ) (select print : Bool) (k : Kno
   not-stored x new why same =
       subst (λ (v : Verdict). IsDone v x k new) (sym read-verdict)
       (subst (λ (n : Known). IsDone (store_verdict user bytes select print k file) x k n) (sym same)
-      (unstored (drop_file_step name k.desk).0 (has_file_room name k) name bytes (stored selects file k)
-      (after_storing selects starts user.name file (known_after (stored selects file k) k)) k x why))
+      (unstored (drop_file_step name k.desk).0 (has_file_room name k) name bytes (store_deed selects file k)
+      (after_storing selects starts user.name file (known_after (store_deed selects file k) k)) k x why))
 
   pub not-shelved : (x : Answer) (was now : Option (List ShelfFile)) → NotStored (drop_file_step name k.desk).0 (has_file_room name k) k x → now ≡ was
       → Shelves was now (λ files. whole) x
   not-shelved x was now why same = λ files at.
       same ∙ at ∙ ap (λ (fs : List ShelfFile). Some fs)
       (sym (ap (λ (v : Verdict). files_after v x files) read-verdict
-      ∙ unstored-files (drop_file_step name k.desk).0 (has_file_room name k) name bytes (stored selects file k)
-      (after_storing selects starts user.name file (known_after (stored selects file k) k)) k x files why))
+      ∙ unstored-files (drop_file_step name k.desk).0 (has_file_room name k) name bytes (store_deed selects file k)
+      (after_storing selects starts user.name file (known_after (store_deed selects file k) k)) k x files why))
 
   allowed-by : (allowed : Result (Unit {0}) Refusal) (room : Bool) (v : Verdict) → refused_or allowed (full_unless room k) ≡ None
-      → granted allowed (refused_if (not room) (answer.Full (shown_count (length k.names))) v) ≡ v
+      → if_desk_allows allowed (refused_if (not room) (answer.Full (shown_count (length k.names))) v) ≡ v
   allowed-by (Ok done) true v none = refl
   allowed-by (Ok done) false v none = absurd (cc none)
   allowed-by (Err refusal) room v none = absurd (cc none)
@@ -133,7 +130,7 @@ module _ (user : UserRow) (name bytes : List ℕ) (select print : Bool) (k : Kno
 
   -- what is known once the file is also selected
   with-selected : (m new : Known) → m ≡ with_stored name k → new ≡ record m { desk = (select_at m.desk.state file m.desk).1 }
-      → new ≡ known_after (stored true file k) k
+      → new ≡ known_after (store_deed true file k) k
   with-selected m new is after = after ∙ ap (λ (n : Known). record n { desk = (select_at n.desk.state file n.desk).1 }) is
 
   -- stored alone
@@ -165,17 +162,17 @@ module _ (user : UserRow) (name bytes : List ℕ) (select print : Bool) (k : Kno
   pub done-printed : (m mid new : Known) (x : Answer) → store_refusal name k ≡ None → m ≡ with_stored name k → is_selected user select print m ≡ true
       → is_printed user print file m ≡ true → mid ≡ record m { desk = (select_at m.desk.state file m.desk).1 } → mid.desk.file ≡ Some file
       → is_fault x ≡ false
-      → IsDone (begins (answer.Uploaded name true true) (started user.name mid.desk.file (Start (next_number mid) ∷ []) mid) name) x mid new
+      → IsDone (begins (answer.Uploaded name true true) (start_deed user.name mid.desk.file (Start (next_print_number mid) ∷ []) mid) name) x mid new
       → IsDone whole x k new
   done-printed m mid new x none is on starting after there plain done =
-      let deed : Option File → Known → Deed = λ one n. started user.name one (Start (next_number n) ∷ []) n in
-      let last : Known = known_after (stored true file k) k in
+      let deed : Option File → Known → Deed = λ one n. start_deed user.name one (Start (next_print_number n) ∷ []) n in
+      let last : Known = known_after (store_deed true file k) k in
       let left : Option File → Known → Known = λ one n. cond (is_stored x) n (known_after (deed one n) n) in
       subst (λ (v : Verdict). IsDone v x k new)
       (sym (stored-verdict none ∙ ap (λ b. stored_then b starts user bytes k file) (selected-by m true is on)
       ∙ ap (λ b. stored_then true b user bytes k file) (printed-by m true is starting)))
       (record {
-        may = may-begin (answer.Uploaded name true true) (deed (Some file) last) (stored true file k) x done.may;
+        may = may-begin (answer.Uploaded name true true) (deed (Some file) last) (store_deed true file k) x done.may;
         leaves = done.leaves ∙ ap (λ b. cond b mid (left mid.desk.file mid)) plain ∙ ap (λ one. left one mid) there
             ∙ ap (left (Some file)) (with-selected m mid is after) ∙ ap (λ b. cond b k (left (Some file) last)) (sym plain);
       })
@@ -189,8 +186,8 @@ module _ (user : UserRow) (name bytes : List ℕ) (select print : Bool) (k : Kno
   pub shelved : (x : Answer) (was now : Option (List ShelfFile)) → store_refusal name k ≡ None → is_fault x ≡ false
       → now ≡ option_map (with_file name bytes) was → Shelves was now (λ files. whole) x
   shelved x was now none plain is = λ files at.
-      let last : Verdict = after_storing selects starts user.name file (known_after (stored selects file k) k) in
+      let last : Verdict = after_storing selects starts user.name file (known_after (store_deed selects file k) k) in
       is ∙ ap (option_map (with_file name bytes)) at ∙ ap (λ (fs : List ShelfFile). Some fs)
       (sym (ap (λ (v : Verdict). files_after v x files) (stored-verdict none)
       ∙ ap (λ b. cond b files (files_in last (with_file name bytes files))) plain
-      ∙ left-after selects starts user.name (known_after (stored selects file k) k) (with_file name bytes files)))
+      ∙ left-after selects starts user.name (known_after (store_deed selects file k) k) (with_file name bytes files)))

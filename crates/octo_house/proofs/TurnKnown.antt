@@ -17,7 +17,7 @@ use Rattle.house_tables.specs.Data.{TablesData}
 use Rattle.house_verdicts.specs.Known.{Known}
 use Rattle.octo_house.specs.declared.house.House.{House}
 use Rattle.octo_house.specs.State.{known_of}
-use Rattle.octo_house.specs.Turned.{Turns, temps_told}
+use Rattle.octo_house.specs.Turned.{Turns, known_temps}
 use Rattle.octo_house.proofs.Turning.{turned-noted, goes-noted, goes-quiet}
 
 -- a note with its own moment and count
@@ -31,7 +31,7 @@ module _ (moment acked : ℕ) (ending : Option Ending) (old new : House) (going 
   pub turned-knows : (note : Option Note)
       → known_of new ≡ record (known_of old) {
         desk = new.desk.session.desk;
-        temps = temps_told note old.desk.temps;
+        temps = known_temps note old.desk.temps;
         prints = with_due_end ending
             old.tables.prints;
       }

@@ -1,7 +1,6 @@
 -- What a turn's note makes of what a host knows.
 use Rattle.std.proofs.Common.{◌≡◌, ℕ, Bool, true, false, List, [], ◌∷◌, ◌++◌, map, IfSome, Option, None, Some, refl, sym, ap, ◌∙◌, subst}
 use Rattle.std.specs.Option.{option_or}
-use Rattle.std.proofs.lemmas.Bool.{false≢true}
 use Rattle.desk_steps.specs.Data.{Data, Line}
 use Rattle.desk_steps.specs.Endings.{IsActive, IsEnding}
 use Rattle.desk_steps.specs.Issued.{line_of}
@@ -19,10 +18,12 @@ use Rattle.print_records.specs.declared.ending.Ending.{Ending}
 use Rattle.print_records.specs.declared.row.PrintRow.{PrintRow}
 use Rattle.octo_keeper.specs.Tables.{with_due_end}
 use Rattle.session_steps.specs.declared.found.Doing.{Doing}
-use Rattle.session_steps.specs.declared.found.Doing.TheVariants.{Dialling, HangingUp, Talking, Resting}
+use Rattle.session_steps.specs.declared.found.Doing.TheVariants.{Dialling, HangingUp, UsingLink, Resting}
 use Rattle.session_steps.specs.DeskTurn.{Pulls, IsNoted, IsQuietTurn}
 use Rattle.house_verdicts.specs.Known.{Known}
-use Rattle.house_history.specs.Noted.{last_call, called_all, known_after_note, kept_unless, forgets, with_temps}
+use Rattle.house_history.specs.Noted.{last_call, known_after_calls, known_after_note, kept_unless, forgets, with_temps}
+use Rattle.session_steps.proofs.Endings.{pulls_go}
+use Rattle.byte_text.proofs.BoolLaws.{off_on}
 
 -- a desk with the prints and the desk of a turn
 abbrev pub turned_to : Data → Option Ending → Known → Known
@@ -30,28 +31,18 @@ turned_to desk ending k = record k { desk = desk; prints = with_due_end ending k
 
 -- the pulls of issued lines
 pulls-called : (moment : ℕ) (issued : List Issued) (k : Known) (pulled : Data) (more : List DeskCall) → Pulls moment (map line_of issued) k.desk pulled
-    → called_all (map (λ one. Pull moment) issued ++ more) k ≡ called_all more (record k { desk = pulled })
-pulls-called moment [] k pulled more same = ap (λ d. called_all more (record k { desk = d })) (sym same)
+    → known_after_calls (map (λ one. Pull moment) issued ++ more) k ≡ known_after_calls more (record k { desk = pulled })
+pulls-called moment [] k pulled more same = ap (λ d. known_after_calls more (record k { desk = d })) (sym same)
 pulls-called moment (one ∷ issued) k pulled more pulls = pulls-called moment issued (record k { desk = (pull_step moment k.desk).1 }) pulled more pulls.1
 
-pulls-go : (moment : ℕ) (lines : List Line) (old new : Data) → Pulls moment lines old new → Goes old new
-pulls-go moment [] old new same =
-    let P : Data → Type 0 = λ d. Goes old d in
-    subst P (sym same) (record { going = λ g. g; before = λ h. h })
-pulls-go moment (line ∷ lines) old new pulls =
-    goes_then old (pull_step moment old).1 new (goes_pull moment old) (pulls-go moment lines (pull_step moment old).1 new pulls.1)
-
 -- of two endings the second is none, since no print is active after the first
-off-on : (b : Bool) → b ≡ false → b ≡ true → ⊥
-off-on b off on = false≢true (sym off ∙ on)
-
 none-of : (acked : ℕ) (pulled : Data) (last : Option Ending) → pulled.active ≡ false → IfSome last (λ e. IsEnding acked fact.Failed pulled e) → last ≡ None
 none-of acked pulled None off ends = refl
-none-of acked pulled (Some ending) off ends = absurd (off-on pulled.active off ends.active)
+none-of acked pulled (Some ending) off ends = absurd (off_on pulled.active off ends.active)
 
 still-off : (old new : Data) → Goes old new → old.active ≡ false → (b : Bool) → new.active ≡ b → new.active ≡ false
 still-off old new goes off false is = is
-still-off old new goes off true is = absurd (off-on old.active off (goes.before is))
+still-off old new goes off true is = absurd (off_on old.active off (goes.before is))
 
 -- the records after two endings
 both-ends : (first last : Option Ending) (rows : List PrintRow) → ((e : Ending) → first ≡ Some e → last ≡ None)
@@ -67,7 +58,7 @@ module _ (moment acked : ℕ) (issued : List Issued) (k : Known) (ending : Optio
   -- after the first note and the pulls
   noted-plain : (found : LinkFact) (pulled : Data) → Pulls moment (map line_of issued) (note_step acked found moment k.desk).1 pulled
       → ◌≡◌ {A = Noted} (ending, new) ((note_step acked found moment k.desk).0, pulled)
-      → called_all (run.Note acked found moment ∷ (map (λ one. Pull moment) issued ++ [])) k ≡ turned_to new ending k
+      → known_after_calls (run.Note acked found moment ∷ (map (λ one. Pull moment) issued ++ [])) k ≡ turned_to new ending k
   noted-plain found pulled pulls both =
       let first : Noted = note_step acked found moment k.desk in
       pulls-called moment issued (record k { desk = first.1; prints = with_due_end first.0 k.prints }) pulled [] pulls
@@ -77,11 +68,11 @@ module _ (moment acked : ℕ) (issued : List Issued) (k : Known) (ending : Optio
   noted-failed : IsActive k.desk → (pulled : Data) → Pulls moment (map line_of issued) (note_step acked fact.Quiet moment k.desk).1 pulled
       → ◌≡◌ {A = Noted} (ending, new)
       (option_or (note_step acked fact.Quiet moment k.desk).0 (note_step acked fact.Failed moment pulled).0, (note_step acked fact.Failed moment pulled).1)
-      → called_all (run.Note acked fact.Quiet moment ∷ (map (λ one. Pull moment) issued ++ run.Note acked fact.Failed moment ∷ [])) k ≡ turned_to new ending k
+      → known_after_calls (run.Note acked fact.Quiet moment ∷ (map (λ one. Pull moment) issued ++ run.Note acked fact.Failed moment ∷ [])) k ≡ turned_to new ending k
   noted-failed going pulled pulls both =
       let first : Noted = note_step acked fact.Quiet moment k.desk in
       let last : Noted = note_step acked fact.Failed moment pulled in
-      let went : Goes first.1 pulled = pulls-go moment (map line_of issued) first.1 pulled pulls in
+      let went : Goes first.1 pulled = pulls_go moment (map line_of issued) first.1 pulled pulls in
       let on : IsActive pulled = went.going ((goes_note acked fact.Quiet moment k.desk).going going) in
       let alone : (e : Ending) → first.0 ≡ Some e → last.0 ≡ None = λ e is.
       none-of acked pulled last.0
@@ -93,7 +84,7 @@ module _ (moment acked : ℕ) (issued : List Issued) (k : Known) (ending : Optio
 
   -- what is known after a note but for the temperatures
   noted-known : IsActive k.desk → (found : LinkFact) → IsNoted moment acked found (map line_of issued) k.desk ending new
-      → called_all (run.Note acked (first_fact found) moment ∷ (map (λ one. Pull moment) issued ++ last_call found acked moment)) k ≡ turned_to new ending k
+      → known_after_calls (run.Note acked (first_fact found) moment ∷ (map (λ one. Pull moment) issued ++ last_call found acked moment)) k ≡ turned_to new ending k
   noted-known going fact.Quiet n = noted-plain fact.Quiet n.pulled n.pulls n.is
   noted-known going fact.Opened n = noted-plain fact.Opened n.pulled n.pulls n.is
   noted-known going fact.Ready n = noted-plain fact.Ready n.pulled n.pulls n.is
@@ -117,7 +108,7 @@ module _ (moment acked : ℕ) (lines : List Line) (old : Data) (ending : Option 
   goes-plain found pulled pulls both =
       let P : Noted → Type 0 = λ n. Goes old n.1 in
       subst P (sym both) (goes_then old (note_step acked found moment old).1 pulled (goes_note acked found moment old)
-      (pulls-go moment lines (note_step acked found moment old).1 pulled pulls))
+      (pulls_go moment lines (note_step acked found moment old).1 pulled pulls))
 
   pub goes-noted : (found : LinkFact) → IsNoted moment acked found lines old ending new → Goes old new
   goes-noted fact.Quiet n = goes-plain fact.Quiet n.pulled n.pulls n.is
@@ -131,12 +122,12 @@ module _ (moment acked : ℕ) (lines : List Line) (old : Data) (ending : Option 
       let first : Data = (note_step acked fact.Quiet moment old).1 in
       let last : Data = (note_step acked fact.Failed moment n.pulled).1 in
       subst P (sym n.is) (goes_then old first last (goes_note acked fact.Quiet moment old)
-      (goes_then first n.pulled last (pulls-go moment lines first n.pulled n.pulls) (goes_note acked fact.Failed moment n.pulled)))
+      (goes_then first n.pulled last (pulls_go moment lines first n.pulled n.pulls) (goes_note acked fact.Failed moment n.pulled)))
 
 pub goes-quiet : (doing : Doing) (moment : ℕ) (old : Data) (ending : Option Ending) (new : Data) → IsQuietTurn doing moment old ending new → Goes old new
 goes-quiet Dialling moment old ending new quiet = absurd quiet
 goes-quiet HangingUp moment old ending new quiet = absurd quiet
-goes-quiet Talking moment old ending new quiet =
+goes-quiet UsingLink moment old ending new quiet =
     let P : Data → Type 0 = λ d. Goes old d in
     subst P (sym quiet.1) (goes_note old.acked fact.Quiet moment old)
 goes-quiet Resting moment old ending new quiet =

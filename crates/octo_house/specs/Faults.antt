@@ -6,10 +6,12 @@ use Rattle.octo_keeper.specs.declared.shelf.ShelfFault.TheVariants as shelf_faul
 use Rattle.octo_house.specs.declared.faults.BeginFault.{BeginFault}
 use Rattle.octo_house.specs.declared.faults.BeginFault.TheVariants as begin_fault
 
+-- why a host doesn't begin after a fault of the keeper
 abbrev pub by_keeper : KeeperFault → BeginFault
 by_keeper keeper_fault.Failed = begin_fault.KeeperFailed
 by_keeper keeper_fault.NoMemory = begin_fault.NoMemory
 
+-- why a host doesn't begin after a fault of the shelf
 abbrev pub by_shelf : ShelfFault → BeginFault
 by_shelf shelf_fault.Failed = begin_fault.ShelfFailed
 by_shelf shelf_fault.NoMemory = begin_fault.NoMemory

@@ -1,4 +1,4 @@
--- Requests by what they change.
+-- Requests by what they change, or ask the shelf for.
 use Rattle.std.specs.Prelude.{Bool, true, false}
 use Rattle.octo_asks.specs.declared.request.Request.{Request}
 use Rattle.octo_asks.specs.declared.request.Request.TheVariants as request
@@ -22,3 +22,12 @@ is_row (request.PutUser name key groups active) = true
 is_row (request.ChangeUser name key groups active) = true
 is_row (request.PutEntry name file priority copies material) = true
 is_row _ = false
+
+-- the shelf is asked what it holds, if nothing is refused before
+abbrev pub is_reading : Request → Bool
+is_reading request.ListFiles = true
+is_reading (request.GetFile name) = true
+is_reading (request.SelectFile name print) = true
+is_reading (request.Download name) = true
+is_reading request.NextEntry = true
+is_reading _ = false

@@ -14,19 +14,21 @@ use Rattle.octo_asks.specs.declared.answer.StoredCause.{StoredCause}
 use Rattle.octo_asks.specs.declared.answer.StoredCause.TheVariants as cause
 use Rattle.house_verdicts.specs.Known.{Known, with_name, shown_count}
 use Rattle.house_verdicts.specs.Prints.{has_room}
-use Rattle.house_verdicts.specs.Refusals.{refused}
+use Rattle.house_verdicts.specs.Refusals.{answer_of_refusal}
 use Rattle.house_verdicts.specs.Uploads.{has_file_room}
 use Rattle.house_verdicts.specs.Verdict.{at_desk, known_after}
 use Rattle.octo_house.specs.declared.house.House.{House}
 use Rattle.octo_house.specs.State.{known_of}
 
+-- the answer that no more file has room, unless one has
 abbrev pub full_unless : Bool → Known → Option Answer
 full_unless true k = None
 full_unless false k = Some (answer.Full (shown_count (length k.names)))
 
+-- the desk's refusal as an answer, or else another answer
 abbrev pub refused_or : Result (Unit {0}) Refusal → Option Answer → Option Answer
 refused_or (Ok done) other = other
-refused_or (Err refusal) other = Some (refused refusal)
+refused_or (Err refusal) other = Some (answer_of_refusal refusal)
 
 -- why a file isn't stored, faults aside
 abbrev pub store_refusal : List ℕ → Known → Option Answer

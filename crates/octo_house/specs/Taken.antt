@@ -5,6 +5,7 @@ use Rattle.octo_asks.specs.Shown.{shown_entry}
 use Rattle.octo_asks.specs.declared.answer.Answer.{Answer}
 use Rattle.octo_asks.specs.declared.answer.Answer.TheVariants as answer
 
+-- accepted for a file; for an entry of the queue, the entry as it was before
 abbrev pub taken_answer : Option QueueEntry → Answer
 taken_answer None = answer.Accepted
 taken_answer (Some entry) = answer.TakenEntry (shown_entry entry)

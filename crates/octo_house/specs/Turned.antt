@@ -11,9 +11,9 @@ use Rattle.octo_house.specs.declared.house.House.{House}
 use Rattle.octo_house.specs.State.{known_of}
 
 -- the temperatures that are known after a turn with this note, or without one
-abbrev pub temps_told : Option Note → Temps → Temps
-temps_told None kept = kept
-temps_told (Some note) kept = kept_unless (forgets note.fact) (with_temps note.temps kept)
+abbrev pub known_temps : Option Note → Temps → Temps
+known_temps None kept = kept
+known_temps (Some note) kept = kept_unless (forgets note.fact) (with_temps note.temps kept)
 
 -- a turn without a note: the desk took a quiet note or nothing, and a print that ended has that outcome
 pub record IsQuiet (moment : ℕ) (ending : Option Ending) (old new : House) : Type 0 where

@@ -2,13 +2,13 @@
 use Rattle.std.proofs.Common.{◌≡◌, ℕ, zero, suc, ◌≤◌, Bool, true, false, ◌&&◌, List, [], ◌++◌, length, take, Option, Some, Result, Ok, Err, refl, sym, ap, ◌∙◌, subst, append_assoc, arith, inl, inr}
 use Rattle.std.specs.Prelude.{if◌then◌else◌}
 use Rattle.std.specs.Result.{IsErrAnd}
-use Rattle.octo_outside.specs.Told.{Adds, AddsPrefix, Rose}
-use Rattle.octo_outside.proofs.Told.{became_so, adds_none}
+use Rattle.octo_outside.specs.Recorded.{Adds, AddsPrefix, Rose}
+use Rattle.octo_outside.proofs.Recorded.{became_so, adds_none}
 use Rattle.octo_http.specs.Input.{IntakeData, Holds, Took, Waits}
 use Rattle.octo_http.specs.Stops.{Unfinished, IsFaultOf, Stops, IsShort, HasCause}
 use Rattle.http_grammar.specs.Head.{IsHead, HeadFault}
 use Rattle.http_grammar.specs.Chunks as chunks
-use Rattle.octo_http.specs.Message.{has_body, leave, asked, message_of, BodySays, no_body, whole, short, in_chunks, IsBodyFault, message, no_head, bad_body, IsUnfinished, Answers, Writes, IsSlow, IsPatient}
+use Rattle.octo_http.specs.Message.{has_body, leave, leave_due, message_of, ReadsBody, no_body, whole, short, in_chunks, IsBodyFault, message, no_head, bad_body, IsUnfinished, Answers, Writes, IsSlow, IsPatient}
 use Rattle.http_grammar.specs.declared.fault.MessageFault.{MessageFault}
 use Rattle.http_grammar.specs.declared.fault.MessageFault.TheVariants.{BadHead, HeadTooLarge, BodyTooLarge, BadChunk, Ended, ReadFault, NoMemory, Slow}
 use Rattle.http_grammar.specs.declared.framing.Framing.{Framing}
@@ -28,29 +28,29 @@ pub stops_length : (n : ℕ) (b0 : List ℕ) (l0 l : Option (List ℕ)) (f : Mes
     → Stops (IsBodyFault (Length n)) b0 l0 l f
 stops_length n b0 l0 l f few stops =
     stops_after (IsShort n) (IsBodyFault (Length n)) b0 l0 b0 l0 l [] f (took_none b0 l0) stops (λ input g p.
-    let Says : MessageFault → Type 0 = λ h. BodySays (Length n) input (Err h) in
+    let Says : MessageFault → Type 0 = λ h. ReadsBody (Length n) input (Err h) in
     subst Says (sym p.0) (short n input few p.1))
 
 -- a body of a length
 pub says_length : (n : ℕ) (body old taken more : List ℕ) → n ≤ 68157440 → old ≡ [] → length taken ≡ n → body ≡ old ++ taken
-    → BodySays (Length n) (taken ++ more) (Ok body)
+    → ReadsBody (Length n) (taken ++ more) (Ok body)
 says_length n body old taken more few none long is =
-    let Says : List ℕ → Type 0 = λ text. BodySays (Length n) (taken ++ more) (Ok text) in
+    let Says : List ℕ → Type 0 = λ text. ReadsBody (Length n) (taken ++ more) (Ok text) in
     let same : body ≡ taken = is ∙ ap (λ text. text ++ taken) none in
     subst Says (sym same) (whole n taken more few long)
 
 -- no body
-pub says_none : (framing : Framing) (body : List ℕ) → framing ≡ NoBody → body ≡ [] → (more : List ℕ) → BodySays framing more (Ok body)
+pub says_none : (framing : Framing) (body : List ℕ) → framing ≡ NoBody → body ≡ [] → (more : List ℕ) → ReadsBody framing more (Ok body)
 says_none framing body is none more =
-    let Says : List ℕ → Type 0 = λ text. BodySays NoBody more (Ok text) in
-    let At : Framing → Type 0 = λ f. BodySays f more (Ok body) in
+    let Says : List ℕ → Type 0 = λ text. ReadsBody NoBody more (Ok text) in
+    let At : Framing → Type 0 = λ f. ReadsBody f more (Ok body) in
     subst At (sym is) (subst Says (sym none) (no_body more))
 
 -- a body in chunks
 pub says_chunked : (framing : Framing) (body taken : List ℕ) → framing ≡ Chunked → ((more : List ℕ) → chunks.Chunked [] (taken ++ more) (Ok body))
-    → (more : List ℕ) → BodySays framing (taken ++ more) (Ok body)
+    → (more : List ℕ) → ReadsBody framing (taken ++ more) (Ok body)
 says_chunked framing body taken is says more =
-    let At : Framing → Type 0 = λ f. BodySays f (taken ++ more) (Ok body) in
+    let At : Framing → Type 0 = λ f. ReadsBody f (taken ++ more) (Ok body) in
     subst At (sym is) (in_chunks (taken ++ more) (Ok body) (says more))
 
 -- a fault in chunks
@@ -62,7 +62,7 @@ stops_chunked framing b0 l0 l f is stops =
     (stops_after (chunks.IsChunkFault []) (IsBodyFault Chunked) b0 l0 b0 l0 l [] f (took_none b0 l0) stops (λ input g p. in_chunks input (Err g) p))
 
 -- what a client is given leave by is a prefix of the leave
-pub asked_prefix : (head : Head) → (n : ℕ) × (asked head ≡ take n leave)
+pub asked_prefix : (head : Head) → (n : ℕ) × (leave_due head ≡ take n leave)
 asked_prefix head = by (head.expects && has_body head.framing)
   where
     by : (b : Bool) → (n : ℕ) × ((if b then leave else []) ≡ take n leave)
@@ -70,7 +70,7 @@ asked_prefix head = by (head.expects && has_body head.framing)
     by false = (0, refl)
 
 -- and so is a prefix of it
-pub prefix_prefix : (head : Head) (n : ℕ) → (m : ℕ) × (take n (asked head) ≡ take m leave)
+pub prefix_prefix : (head : Head) (n : ℕ) → (m : ℕ) × (take n (leave_due head) ≡ take m leave)
 prefix_prefix head n = by (head.expects && has_body head.framing) n
   where
     none : (k : ℕ) → take {A = ℕ} k [] ≡ []
@@ -93,34 +93,34 @@ head_answer input left BodyTooLarge h = no_head input BodyTooLarge h
 head_answer input left BadChunk h = no_head input BadChunk h
 head_answer input left Ended h = no_head input Ended h
 head_answer input left ReadFault h = inl (h.0, h.1, h.2, h.3, no_head h.0 Ended h.4)
-head_answer input left NoMemory h = (0, refl)
+head_answer input left NoMemory h = inl refl
 head_answer input left (Slow n) h = (h.0, h.1, h.2, h.3, no_head h.0 Ended h.4)
 
 -- a fault of the body is the answer
 pub body_answer : (bytes rest input : List ℕ) (left : Option (List ℕ)) (head : Head) (f : MessageFault) → IsHead bytes head → input ≡ bytes ++ rest
-    → IsFaultOf (IsBodyFault head.framing) rest left f → Answers input left (Err f) (asked head)
+    → IsFaultOf (IsBodyFault head.framing) rest left f → Answers input left (Err f) (leave_due head)
 body_answer bytes rest input left head f is split fault =
-    let Answer : List ℕ → Type 0 = λ text. Answers text left (Err f) (asked head) in
+    let Answer : List ℕ → Type 0 = λ text. Answers text left (Err f) (leave_due head) in
     subst Answer (sym split) (by f fault)
   where
-    cut : Unfinished (IsBodyFault head.framing) rest left → IsUnfinished (bytes ++ rest) left (asked head)
+    cut : Unfinished (IsBodyFault head.framing) rest left → IsUnfinished (bytes ++ rest) left (leave_due head)
     cut u = (bytes ++ u.0, u.1, ap (λ text. bytes ++ text) u.2 ∙ sym (append_assoc bytes u.0 u.1), u.3, bad_body bytes u.0 head Ended is u.4)
 
-    by : (g : MessageFault) → IsFaultOf (IsBodyFault head.framing) rest left g → Answers (bytes ++ rest) left (Err g) (asked head)
+    by : (g : MessageFault) → IsFaultOf (IsBodyFault head.framing) rest left g → Answers (bytes ++ rest) left (Err g) (leave_due head)
     by BadHead h = bad_body bytes rest head BadHead is h
     by HeadTooLarge h = bad_body bytes rest head HeadTooLarge is h
     by BodyTooLarge h = bad_body bytes rest head BodyTooLarge is h
     by BadChunk h = bad_body bytes rest head BadChunk is h
     by Ended h = bad_body bytes rest head Ended is h
     by ReadFault h = inl (cut h)
-    by NoMemory h = asked_prefix head
+    by NoMemory h = inr (bytes, rest, head, refl, is, refl)
     by (Slow n) h = cut h
 
 -- a message is the answer
 pub message_answer : (bytes taken more input : List ℕ) (left : Option (List ℕ)) (head : Head) (body : List ℕ) → IsHead bytes head
-    → input ≡ bytes ++ (taken ++ more) → BodySays head.framing (taken ++ more) (Ok body) → Answers input left (Ok (message_of head body)) (asked head)
+    → input ≡ bytes ++ (taken ++ more) → ReadsBody head.framing (taken ++ more) (Ok body) → Answers input left (Ok (message_of head body)) (leave_due head)
 message_answer bytes taken more input left head body is split says =
-    let Answer : List ℕ → Type 0 = λ text. Answers text left (Ok (message_of head body)) (asked head) in
+    let Answer : List ℕ → Type 0 = λ text. Answers text left (Ok (message_of head body)) (leave_due head) in
     subst Answer (sym split) (message bytes (taken ++ more) head body is says)
 
 -- what was written is known
@@ -135,14 +135,14 @@ writes_part old new list Says adds says =
     ((take 0 list, says 0), became_so old new (λ _ added. (n : ℕ) × (added ≡ take n list)) (λ _ added. Says added) adds (λ past added is. subst Says (sym is.1) (says is.0)))
 
 -- the leave, or part of it
-pub bounded_all : (old new : Option (List ℕ)) (head : Head) → Adds old new (asked head) → AddsPrefix old new leave
+pub bounded_all : (old new : Option (List ℕ)) (head : Head) → Adds old new (leave_due head) → AddsPrefix old new leave
 bounded_all old new head adds =
-    became_so old new (λ _ added. added ≡ asked head) (λ _ added. (n : ℕ) × (added ≡ take n leave)) adds
+    became_so old new (λ _ added. added ≡ leave_due head) (λ _ added. (n : ℕ) × (added ≡ take n leave)) adds
     (λ past added is. let p = asked_prefix head in (p.0, is ∙ p.1))
 
-pub bounded_part : (old new : Option (List ℕ)) (head : Head) → AddsPrefix old new (asked head) → AddsPrefix old new leave
+pub bounded_part : (old new : Option (List ℕ)) (head : Head) → AddsPrefix old new (leave_due head) → AddsPrefix old new leave
 bounded_part old new head adds =
-    became_so old new (λ _ added. (n : ℕ) × (added ≡ take n (asked head))) (λ _ added. (n : ℕ) × (added ≡ take n leave)) adds
+    became_so old new (λ _ added. (n : ℕ) × (added ≡ take n (leave_due head))) (λ _ added. (n : ℕ) × (added ≡ take n leave)) adds
     (λ past added is. let p = prefix_prefix head is.0 in (p.0, is.1 ∙ p.1))
 
 pub bounded_none : (old new : Option (List ℕ)) → Adds old new [] → AddsPrefix old new leave
@@ -225,42 +225,42 @@ after_head p i left b1 left1 left2 bytes begun took same input told =
 -- the answer if the leave can't be written
 pub leave_fault : (p : ℕ) (i : IntakeData) (left : Option (List ℕ)) (b1 : List ℕ) (left1 left2 old mid new : Option (List ℕ)) (head : Head)
     → i ≡ record { bytes = []; patience = p; allowed = p } → ((bytes : List ℕ) × IsHead bytes head × Took i.bytes left b1 left1 bytes) → left2 ≡ left1
-    → mid ≡ old → AddsPrefix mid new (asked head) → (input : List ℕ) → left ≡ Some input → Writes old new (Answers input left2 (Err ReadFault))
+    → mid ≡ old → AddsPrefix mid new (leave_due head) → (input : List ℕ) → left ≡ Some input → Writes old new (Answers input left2 (Err ReadFault))
 leave_fault p i left b1 left1 left2 old mid new head begun taken same kept adds input told =
     let after = after_head p i left b1 left1 left2 taken.0 begun taken.2 same input told in
-    let Added : Option (List ℕ) → Type 0 = λ w. AddsPrefix w new (asked head) in
-    writes_part old new (asked head) (Answers input left2 (Err ReadFault)) (subst Added kept adds)
+    let Added : Option (List ℕ) → Type 0 = λ w. AddsPrefix w new (leave_due head) in
+    writes_part old new (leave_due head) (Answers input left2 (Err ReadFault)) (subst Added kept adds)
     (λ n. inr (taken.0, after.0, head, n, after.1, taken.1, refl))
 
 -- the leave was written, and nothing else
-pub asked_only : (old mid next new : Option (List ℕ)) (head : Head) → mid ≡ old → Adds mid next (asked head) → new ≡ next → Adds old new (asked head)
+pub asked_only : (old mid next new : Option (List ℕ)) (head : Head) → mid ≡ old → Adds mid next (leave_due head) → new ≡ next → Adds old new (leave_due head)
 asked_only old mid next new head first adds last =
-    let From : Option (List ℕ) → Type 0 = λ w. Adds w next (asked head) in
-    let To : Option (List ℕ) → Type 0 = λ w. Adds old w (asked head) in
+    let From : Option (List ℕ) → Type 0 = λ w. Adds w next (leave_due head) in
+    let To : Option (List ℕ) → Type 0 = λ w. Adds old w (leave_due head) in
     subst To (sym last) (subst From first adds)
 
 -- the answer at a fault of the body
 pub body_fault : (p : ℕ) (i : IntakeData) (left : Option (List ℕ)) (b1 : List ℕ) (left1 left2 left3 old mid next new : Option (List ℕ)) (head : Head)
     (r : Result Message MessageFault) (f : MessageFault) → i ≡ record { bytes = []; patience = p; allowed = p } →
-    ((bytes : List ℕ) × IsHead bytes head × Took i.bytes left b1 left1 bytes) → left2 ≡ left1 → mid ≡ old → Adds mid next (asked head) → new ≡ next → Stops
+    ((bytes : List ℕ) × IsHead bytes head × Took i.bytes left b1 left1 bytes) → left2 ≡ left1 → mid ≡ old → Adds mid next (leave_due head) → new ≡ next → Stops
     (IsBodyFault head.framing) b1 left2 left3 f → IsErrAnd r (λ g. g ≡ f) → (input : List ℕ) → left ≡ Some input → Writes old new (Answers input left3 r)
 body_fault p i left b1 left1 left2 left3 old mid next new head r f begun taken same first adds last stops is input told =
     let after = after_head p i left b1 left1 left2 taken.0 begun taken.2 same input told in
     let Says : Result Message MessageFault → Type 0 = λ q. Writes old new (Answers input left3 q) in
-    subst Says (sym (is_err r f is)) (writes_all old new (asked head) (Answers input left3 (Err f)) (asked_only old mid next new head first adds last)
+    subst Says (sym (is_err r f is)) (writes_all old new (leave_due head) (Answers input left3 (Err f)) (asked_only old mid next new head first adds last)
     (body_answer taken.0 after.0 input left3 head f taken.1 after.1 (stops after.0 after.2)))
 
 -- the answer if all is read
 pub message_read : (p : ℕ) (i : IntakeData) (left : Option (List ℕ)) (b1 b2 : List ℕ) (left1 left2 left3 old mid next new : Option (List ℕ)) (head : Head)
     (body : List ℕ) (m : Message) → i ≡ record { bytes = []; patience = p; allowed = p } →
-    ((bytes : List ℕ) × IsHead bytes head × Took i.bytes left b1 left1 bytes) → left2 ≡ left1 → mid ≡ old → Adds mid next (asked head) → new ≡ next →
-    ((taken : List ℕ) × ((more : List ℕ) → BodySays head.framing (taken ++ more) (Ok body)) × Took b1 left2 b2 left3 taken) → m ≡ message_of head body →
+    ((bytes : List ℕ) × IsHead bytes head × Took i.bytes left b1 left1 bytes) → left2 ≡ left1 → mid ≡ old → Adds mid next (leave_due head) → new ≡ next →
+    ((taken : List ℕ) × ((more : List ℕ) → ReadsBody head.framing (taken ++ more) (Ok body)) × Took b1 left2 b2 left3 taken) → m ≡ message_of head body →
     (input : List ℕ) → left ≡ Some input → Writes old new (Answers input left3 (Ok m))
 message_read p i left b1 b2 left1 left2 left3 old mid next new head body m begun taken same first adds last read is input told =
     let after = after_head p i left b1 left1 left2 taken.0 begun taken.2 same input told in
     let later = read.2 after.0 after.2 in
     let Says : Message → Type 0 = λ n. Writes old new (Answers input left3 (Ok n)) in
-    subst Says (sym is) (writes_all old new (asked head) (Answers input left3 (Ok (message_of head body))) (asked_only old mid next new head first adds last)
+    subst Says (sym is) (writes_all old new (leave_due head) (Answers input left3 (Ok (message_of head body))) (asked_only old mid next new head first adds last)
     (message_answer taken.0 read.0 later.0 input left3 head body taken.1 (after.1 ∙ ap (λ text. taken.0 ++ text) later.1) (read.1 later.0)))
 
 -- nothing was written, which is no more than the leave
@@ -268,9 +268,9 @@ pub bounded_same : (old new : Option (List ℕ)) → new ≡ old → AddsPrefix 
 bounded_same old new same = bounded_none old new (adds_same old new same)
 
 -- part of the leave after nothing
-pub bounded_cut : (old mid new : Option (List ℕ)) (head : Head) → mid ≡ old → AddsPrefix mid new (asked head) → AddsPrefix old new leave
+pub bounded_cut : (old mid new : Option (List ℕ)) (head : Head) → mid ≡ old → AddsPrefix mid new (leave_due head) → AddsPrefix old new leave
 bounded_cut old mid new head kept adds =
-    let Added : Option (List ℕ) → Type 0 = λ w. AddsPrefix w new (asked head) in
+    let Added : Option (List ℕ) → Type 0 = λ w. AddsPrefix w new (leave_due head) in
     bounded_part old new head (subst Added kept adds)
 
 -- the patience at a fault

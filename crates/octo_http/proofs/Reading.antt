@@ -1,6 +1,6 @@
 -- How the steps of a reader join.
 use Rattle.std.proofs.Common.{◌≡◌, ◌≢◌, ℕ, zero, suc, ◌≤◌, List, [], ◌∷◌, ◌++◌, take, Option, refl, sym, ap, ◌∙◌, subst, append_assoc, arith}
-use Rattle.octo_outside.proofs.Told.{rose_after}
+use Rattle.octo_outside.proofs.Recorded.{rose_after}
 use Rattle.octo_http.specs.Input.{IntakeData, Took, Knows, Waits, IsPause}
 use Rattle.octo_http.specs.Stops.{Grammar, Unfinished, IsFaultOf, Stops, Refuses, HasCause, Lacks}
 use Rattle.http_grammar.specs.declared.fault.MessageFault.{MessageFault}

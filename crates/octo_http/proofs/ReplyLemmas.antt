@@ -8,8 +8,8 @@ use Rattle.http.specs.StatusCode.{reason_phrase, IsStatusCode}
 use Rattle.std.proofs.lemmas.Fmt.{length-decimal-le}
 use Rattle.octo_http.specs.Reply.{reason_of, phrase_of, head_bytes, sent_body, reply_bytes}
 use Rattle.octo_http.specs.declared.reply.HttpReply.{HttpReply}
-use Rattle.octo_outside.specs.Told.{Adds, AddsPrefix}
-use Rattle.octo_outside.proofs.Told.{became_so, became_then, adds_then}
+use Rattle.octo_outside.specs.Recorded.{Adds, AddsPrefix}
+use Rattle.octo_outside.proofs.Recorded.{became_so, became_then, adds_then}
 
 -- a phrase of at most 31 bytes, or none
 abbrev IsShort : Option (List ℕ) → Type 0

@@ -1,6 +1,6 @@
 -- What was read of an input, what was taken of it, and how long a reader waits.
 use Rattle.std.specs.Prelude.{◌≡◌, ℕ, ◌+◌, ◌<◌, ◌≤◌, List, ◌++◌, length, Option, Some}
-use Rattle.octo_outside.specs.Told.{Rose}
+use Rattle.octo_outside.specs.Recorded.{Rose, last_count}
 use Rattle.http_grammar.specs.declared.fault.MessageFault.{MessageFault}
 use Rattle.http_grammar.specs.declared.fault.MessageFault.TheVariants.{Ended, ReadFault, Slow}
 use Rattle.octo_http.specs.declared.intake.Came.{Came}
@@ -43,7 +43,7 @@ pub record Waits (old new : IntakeData) (faults faults' quiets quiets' : ℕ) : 
   pub same : new.patience ≡ old.patience
   pub fewer : new.allowed ≤ old.allowed
   pub quiet : quiets ≤ quiets'
-  pub counted : quiets' < 18446744073709551615 → quiets' + new.allowed ≡ quiets + old.allowed
+  pub counted : quiets' < last_count → quiets' + new.allowed ≡ quiets + old.allowed
   pub kept : faults ≤ faults'
 
 -- why a reader reads no more after a read that brought this

@@ -1,6 +1,6 @@
 -- What it says of an input that a reader stops.
 use Rattle.std.specs.Prelude.{◌≡◌, ◌≢◌, ℕ, ◌<◌, List, ◌++◌, length, Option, Some}
-use Rattle.octo_outside.specs.Told.{Rose}
+use Rattle.octo_outside.specs.Recorded.{Rose}
 use Rattle.octo_http.specs.Input.{IntakeData, Holds}
 use Rattle.http_grammar.specs.declared.fault.MessageFault.{MessageFault}
 use Rattle.octo_http.specs.declared.intake.Came.{Came}

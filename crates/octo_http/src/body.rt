@@ -2,7 +2,7 @@
 ghost use Rattle.std.specs.Prelude.{◌≡◌, ◌++◌, ℕ, List, Ok, IfOk, IfErr};
 ghost use Rattle.octo_http.specs.Input.{Took, Waits};
 ghost use Rattle.octo_http.specs.Stops.{Stops, HasCause};
-ghost use Rattle.octo_http.specs.Message.{BodySays, IsBodyFault};
+ghost use Rattle.octo_http.specs.Message.{ReadsBody, IsBodyFault};
 
 use crate::chunks::{MOST_BODY, read_chunks};
 use crate::fill::fill;
@@ -20,7 +20,7 @@ fn read_length<C: Conn>(
 ) -> Result<Blob, MessageFault>
     ensures body { IfOk result
         (λ body. (taken : List ℕ)
-        × ((more : List ℕ) → BodySays (Framing.Length length) (taken ++ more) (Ok body))
+        × ((more : List ℕ) → ReadsBody (Framing.Length length) (taken ++ more) (Ok body))
         × Took intake.old.bytes (C.left conn.old) intake.new.bytes (C.left conn.new) taken) }
     ensures stops { IfErr result
         (Stops (IsBodyFault (Framing.Length length)) intake.old.bytes (C.left conn.old)
@@ -48,7 +48,7 @@ pub fn read_body<C: Conn>(
     framing: Framing,
 ) -> Result<Blob, MessageFault>
     ensures body { IfOk result
-        (λ body. (taken : List ℕ) × ((more : List ℕ) → BodySays framing (taken ++ more) (Ok body))
+        (λ body. (taken : List ℕ) × ((more : List ℕ) → ReadsBody framing (taken ++ more) (Ok body))
         × Took intake.old.bytes (C.left conn.old) intake.new.bytes (C.left conn.new) taken) }
     ensures stops { IfErr result
         (Stops (IsBodyFault framing) intake.old.bytes (C.left conn.old) (C.left conn.new)) }

@@ -16,7 +16,7 @@ const TAKEN: usize = 16384;
 #[derive(Clone, Copy, Debug, PartialEq, Eq)]
 pub enum Came {
     Bytes,
-    /// Nothing is there yet.
+    /// Nothing has come yet.
     Quiet,
     /// Nothing is left and the peer has closed.
     Ended,
@@ -52,7 +52,7 @@ impl Model for Intake {
 
 impl Intake {
     ghost use Rattle.std.specs.Prelude.{◌≡◌, ◌<◌, ◌≤◌, ◌+◌, ◌-◌, ◌++◌, [], length, drop, take, IfOk, OnOk, IfErr, OnErr, IsOk, Err, Ok};
-    ghost use Rattle.octo_outside.specs.Told.{Rose};
+    ghost use Rattle.octo_outside.specs.Recorded.{Rose};
     ghost use Rattle.octo_http.specs.Input.{IntakeData, Took, Brings, Waits, IsPause, Knows, Goes};
     ghost use Rattle.octo_http.specs.declared.intake.Came.{Came};
     ghost use Rattle.octo_http.specs.declared.intake.Came.TheVariants as came;

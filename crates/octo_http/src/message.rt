@@ -1,7 +1,7 @@
 //! One message of a connection.
 ghost use Rattle.std.specs.Prelude.{◌≡◌, ◌<◌, ℕ, List, Some, Ok, Err, OnOk, OnErr, IsErr, IfErr, IsErrOf};
-ghost use Rattle.octo_outside.specs.Told.{Adds, AddsPrefix, Counts};
-ghost use Rattle.octo_http.specs.Message.{has_body, leave, asked, message_of, Answers, Writes, IsPatient};
+ghost use Rattle.octo_outside.specs.Recorded.{Adds, AddsPrefix, Counts};
+ghost use Rattle.octo_http.specs.Message.{has_body, leave, leave_due, message_of, Answers, Writes, IsPatient};
 
 use crate::body::read_body;
 use crate::chunks::MOST_BODY;
@@ -42,7 +42,7 @@ fn has_body(framing: Framing) -> bool
 
 // What is written before the body is read. Source: RFC 9110, section 10.1.1.
 fn leave_for(head: &Head) -> &'static [u8]
-    ensures { result.now ≡ asked head.now }
+    ensures { result.now ≡ leave_due head.now }
 {
     if head.expects && has_body(head.framing) {
         b"HTTP/1.1 100 Continue\r\n\r\n"
@@ -51,11 +51,11 @@ fn leave_for(head: &Head) -> &'static [u8]
     }
 }
 
-// Gives the client leave to send the body, if it waits for that.
+// Lets the client send the body, if it waits for that.
 fn give_leave<C: Conn>(conn: &mut C, head: &Head) -> Result<(), Failed>
-    ensures ok { OnOk result (Adds (C.written conn.old) (C.written conn.new) (asked head.now)) }
+    ensures ok { OnOk result (Adds (C.written conn.old) (C.written conn.new) (leave_due head.now)) }
     ensures err { OnErr result
-        (AddsPrefix (C.written conn.old) (C.written conn.new) (asked head.now)) }
+        (AddsPrefix (C.written conn.old) (C.written conn.new) (leave_due head.now)) }
     ensures left { C.left conn.new ≡ C.left conn.old }
     ensures quiets { C.quiets conn.new ≡ C.quiets conn.old }
     ensures counts { Counts (IsErr result) (C.faults conn.old) (C.faults conn.new) }

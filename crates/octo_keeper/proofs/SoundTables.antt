@@ -11,7 +11,7 @@ use Rattle.octo_access.specs.declared.row.UserRow.{UserRow}
 use Rattle.octo_access.specs.Rows.{is_named, has_digest, IsUserList}
 use Rattle.print_queue.specs.declared.entry.QueueEntry.{QueueEntry}
 use Rattle.print_queue.specs.Rows.{is_key, is_of}
-use Rattle.print_queue.specs.Lawful.{IsApart, IsWhole, IsSound}
+use Rattle.print_queue.specs.Lawful.{IsApart, IsWholeRow, IsSound}
 use Rattle.print_records.specs.declared.row.PrintRow.{PrintRow}
 use Rattle.octo_keeper.specs.declared.tables.Tables.{Tables}
 use Rattle.octo_keeper.specs.Tables.{AreNumbered, AreSound}
@@ -35,7 +35,7 @@ pairs_apart (row ∷ rows) passes =
     let parts = and_parts _ _ passes in
     AllPairs-cons IsApart row rows (All-from_recursion (IsApart row) rows (each_passes (is_apart row) (IsApart row) (apart_tells row) rows parts.0)) (pairs_apart rows parts.1)
 
-whole_tells : (row : QueueEntry) → is_whole row ≡ true → IsWhole row
+whole_tells : (row : QueueEntry) → is_whole row ≡ true → IsWholeRow row
 whole_tells row passes =
     let parts = and_parts _ _ passes in
     let most = and_parts _ _ parts.1 in
@@ -69,7 +69,7 @@ queue_tells rows passes =
     let most = and_parts _ _ parts.1 in
     record {
       apart = pairs_apart rows parts.0;
-      whole = All-from_recursion IsWhole rows (each_passes is_whole IsWhole whole_tells rows most.0);
+      whole = All-from_recursion IsWholeRow rows (each_passes is_whole IsWholeRow whole_tells rows most.0);
       few =
           within_all (λ (row : QueueEntry). row.user) 64 rows
           (each_passes (is_within rows) (λ row. count_by (is_of (Some row.user)) rows ≤ 64) (λ row within. leb-true _ 64 within) rows most.1);

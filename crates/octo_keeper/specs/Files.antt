@@ -5,14 +5,11 @@ use Rattle.std.specs.Cmp.Lexicographic.{slice_cmp}
 use Rattle.std.specs.Ordering.{nat_cmp, is_lt}
 use Rattle.std.specs.Str.{bytes_eq}
 use Rattle.octo_keeper.specs.declared.shelf.ShelfFile.{ShelfFile}
+use Rattle.octo_access.specs.Rows.{is_before}
 
 -- the file has this name
 abbrev pub is_file : List ℕ → ShelfFile → Bool
 is_file name file = bytes_eq file.name name
-
--- a name comes before another in the order of bytes
-abbrev pub is_before : List ℕ → List ℕ → Bool
-is_before name other = is_lt (slice_cmp nat_cmp name other)
 
 -- the bytes of a name, if there is such a file
 abbrev pub bytes_of : List ℕ → List ShelfFile → Option (List ℕ)

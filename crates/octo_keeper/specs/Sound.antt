@@ -25,6 +25,7 @@ is_whole row = nat_le 1 row.left && (nat_le row.left row.copies && nat_le row.co
 abbrev pub is_within : List QueueEntry → QueueEntry → Bool
 is_within rows row = nat_le (count_by (is_of (Some row.user)) rows) 64
 
+-- whether entries may be the queue of a host
 abbrev pub is_queue : List QueueEntry → Bool
 is_queue rows = are_apart rows && (list_all is_whole rows && list_all (is_within rows) rows)
 
@@ -32,6 +33,7 @@ is_queue rows = are_apart rows && (list_all is_whole rows && list_all (is_within
 abbrev pub is_alone : List UserRow → UserRow → Bool
 is_alone rows row = nat_le (count_by (is_named row.name) rows) 1 && nat_le (count_by (has_digest row.digest) rows) 1
 
+-- whether rows may be the users of a host
 abbrev pub is_user_list : List UserRow → Bool
 is_user_list rows = nat_le (length rows) 1000 && list_all (is_alone rows) rows
 

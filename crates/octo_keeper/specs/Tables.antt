@@ -23,6 +23,7 @@ with_user row rows = map (user_set row) rows
 abbrev pub ended_row : Ending → PrintRow → PrintRow
 ended_row ending row = if row.number == ending.print then record row { outcome = ending.outcome } else row
 
+-- prints, with the outcome of the one that has ended
 abbrev pub with_end : Ending → List PrintRow → List PrintRow
 with_end ending rows = map (ended_row ending) rows
 

@@ -2,7 +2,8 @@
 ghost use Rattle.std.specs.Prelude.{◌≡◌, ◌<◌, ◌≤◌, length, vec_len, IfOk, IsOk, OnOk, OnErr};
 ghost use Rattle.std.specs.Vec.{vec_capacity};
 ghost use Rattle.std.specs.List.{prefix_len, position_or_len};
-ghost use Rattle.octo_keeper.specs.Files.{added, bytes_of, is_before, is_file, sizes_of, with_file, without_file};
+ghost use Rattle.octo_access.specs.Rows.{is_before};
+ghost use Rattle.octo_keeper.specs.Files.{added, bytes_of, is_file, sizes_of, with_file, without_file};
 
 use crate::{FileList, ShelfFile};
 use byte_text::Name;

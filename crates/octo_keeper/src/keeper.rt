@@ -1,13 +1,16 @@
 //! What keeps the tables.
 use crate::{Change, Tables};
 use std::alloc::{AllocError, AllocFailed, Global};
+use thiserror::Error;
 
 /// Why a keeper didn't do a call.
-#[derive(Clone, Copy, Debug, PartialEq, Eq)]
+#[derive(Clone, Copy, Debug, PartialEq, Eq, Error)]
 pub enum KeeperFault {
     /// It failed, and its count of faults rose.
+    #[error("the tables failed")]
     Failed,
     /// Out of memory.
+    #[error("out of memory")]
     NoMemory,
 }
 
@@ -36,7 +39,7 @@ impl<T: Drop> From<AllocFailed<T>> for KeeperFault {
 /// What keeps the tables of a host.
 pub trait Keeper {
     ghost use Rattle.std.specs.Prelude.{◌≡◌, ℕ, Option, option_map, IfOk, IfSome, OnOk, OnErr, IsErrOf};
-    ghost use Rattle.octo_outside.specs.Told.{Counts};
+    ghost use Rattle.octo_outside.specs.Recorded.{Counts};
     ghost use Rattle.octo_keeper.specs.declared.tables.Tables.{Tables};
     ghost use Rattle.octo_keeper.specs.declared.keeper.KeeperFault.TheVariants as fault;
     ghost use Rattle.octo_keeper.specs.Tables.{changed, AreSound};

@@ -47,7 +47,7 @@ impl MemoryKeeper {
 
 impl Keeper for MemoryKeeper {
     ghost use Rattle.std.specs.Prelude.{◌≡◌, ◌↔◌, ◌⊎◌, ◌||◌, true, false, not, Some, IfOk, OnOk, OnErr, IsErrOf};
-    ghost use Rattle.octo_outside.specs.Told.{Counts};
+    ghost use Rattle.octo_outside.specs.Recorded.{Counts};
     ghost use Rattle.octo_outside.specs.Memory.{one_more, is_listed};
     ghost use Rattle.octo_keeper.specs.declared.keeper.KeeperFault.TheVariants as fault;
     ghost use Rattle.octo_keeper.specs.Tables.{changed, AreSound};

@@ -38,7 +38,7 @@ impl MemoryShelf {
 
 impl Shelf for MemoryShelf {
     ghost use Rattle.std.specs.Prelude.{◌≡◌, ◌↔◌, true, Some, IfOk, OnOk, OnErr, IsErrOf};
-    ghost use Rattle.octo_outside.specs.Told.{Counts};
+    ghost use Rattle.octo_outside.specs.Recorded.{Counts};
     ghost use Rattle.octo_outside.specs.Memory.{one_more, is_listed};
     ghost use Rattle.octo_keeper.specs.declared.shelf.ShelfFault.TheVariants as fault;
     ghost use Rattle.octo_keeper.specs.Files.{bytes_of, sizes_of, with_file, without_file};

@@ -2,13 +2,16 @@
 use byte_text::Name;
 use octo_outside::{Blob, ItemList};
 use std::alloc::{AllocError, AllocFailed, Global};
+use thiserror::Error;
 
 /// Why a shelf didn't do a call.
-#[derive(Clone, Copy, Debug, PartialEq, Eq)]
+#[derive(Clone, Copy, Debug, PartialEq, Eq, Error)]
 pub enum ShelfFault {
     /// It failed, and its count of faults rose.
+    #[error("the files failed")]
     Failed,
     /// Out of memory.
+    #[error("out of memory")]
     NoMemory,
 }
 
@@ -47,7 +50,7 @@ pub type FileList = ItemList<(Name, u64)>;
 /// What keeps the files of a host: a map from names to bytes.
 pub trait Shelf {
     ghost use Rattle.std.specs.Prelude.{◌≡◌, ℕ, List, Option, option_map, IfOk, IfSome, OnOk, OnErr, IsErrOf};
-    ghost use Rattle.octo_outside.specs.Told.{Counts};
+    ghost use Rattle.octo_outside.specs.Recorded.{Counts};
     ghost use Rattle.octo_keeper.specs.declared.shelf.ShelfFile.{ShelfFile};
     ghost use Rattle.octo_keeper.specs.declared.shelf.ShelfFault.TheVariants as fault;
     ghost use Rattle.octo_keeper.specs.Files.{bytes_of, sizes_of, with_file, without_file};

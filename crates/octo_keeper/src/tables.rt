@@ -3,6 +3,7 @@ use crate::copies::{copy_entries, copy_prints, copy_users};
 use crate::lists::{add_entry, add_print, add_user, remove_entry, set_end, set_user, start_copy};
 use byte_text::Name;
 use octo_access::{UserList, UserRow};
+use octo_outside::ItemList;
 use print_queue::{EntryList, QueueEntry};
 use print_records::{Ending, PrintList, PrintRow};
 use std::alloc::{AllocError, Global};
@@ -48,6 +49,17 @@ impl Tables {
     ghost use Rattle.octo_access.specs.Rows.{with_row};
     ghost use Rattle.print_queue.specs.Rows.{insert_row, without, without_copy};
     ghost use Rattle.octo_keeper.specs.Tables.{changed, with_user, with_taken, with_due_end, with_end};
+
+    /// Tables without rows; takes no memory.
+    pub fn empty(alloc: Global) -> Tables
+        ensures { result ≡ record { users = []; queue = []; prints = [] } }
+    {
+        Tables {
+            users: ItemList::new(alloc),
+            queue: ItemList::new(alloc),
+            prints: ItemList::new(alloc),
+        }
+    }
 
     /// The same tables again.
     pub fn copy(&self, alloc: Global) -> Result<Tables, AllocError>

@@ -2,36 +2,29 @@
 use crate::{Change, Keeper, KeeperFault, MemoryKeeper, MemoryShelf, Shelf, ShelfFault, Tables};
 use byte_text::Name;
 use octo_access::{Admin, UserRow, digest_of};
-use octo_outside::{CallList, ItemList};
+use octo_outside::CallList;
 use print_queue::QueueEntry;
 use print_records::{Ending, Outcome, PrintRow};
 use std::alloc::Global;
 use std::process::Abort;
 
-fn name(rt: &impl Abort, text: &str) -> Name {
-    match Name::from_text(text) {
-        Some(name) => name,
-        None => panic!(rt; "a long name"),
-    }
-}
-
 // ana's entry of two copies.
 fn entry(rt: &impl Abort) -> QueueEntry {
     QueueEntry {
-        user: name(rt, "ana"),
-        name: name(rt, "job-1"),
-        file: name(rt, "a.gcode"),
+        user: Name::from_text("ana").expect(rt, "a long name"),
+        name: Name::from_text("job-1").expect(rt, "a long name"),
+        file: Name::from_text("a.gcode").expect(rt, "a long name"),
         priority: 5,
         copies: 2,
         left: 2,
-        material: name(rt, "any"),
+        material: Name::from_text("any").expect(rt, "a long name"),
         arrival: 1,
     }
 }
 
 fn user(rt: &impl Abort, active: bool) -> UserRow {
     let admin = Admin {
-        name: name(rt, "ana"),
+        name: Name::from_text("ana").expect(rt, "a long name"),
         digest: digest_of(b"ana-key-0123456789"),
     };
     let mut row = admin.row();
@@ -42,8 +35,8 @@ fn user(rt: &impl Abort, active: bool) -> UserRow {
 fn print(rt: &impl Abort, number: u32) -> PrintRow {
     PrintRow {
         number,
-        user: name(rt, "ana"),
-        file: name(rt, "a.gcode"),
+        user: Name::from_text("ana").expect(rt, "a long name"),
+        file: Name::from_text("a.gcode").expect(rt, "a long name"),
         commands: 3,
         outcome: Outcome::Active,
     }
@@ -55,12 +48,7 @@ fn end_of(print: u32, outcome: Outcome) -> Ending {
 
 // No tables' rows; the calls with these numbers fail.
 fn keeper(alloc: Global, fail_at: CallList) -> MemoryKeeper {
-    let empty = Tables {
-        users: ItemList::new(alloc),
-        queue: ItemList::new(alloc),
-        prints: ItemList::new(alloc),
-    };
-    MemoryKeeper::new(empty, fail_at)
+    MemoryKeeper::new(Tables::empty(alloc), fail_at)
 }
 
 // The list of one call.
@@ -107,8 +95,8 @@ fn ample(rt: HostRuntime) {
     assert_eq!(rt; put, Ok(()));
     assert!(rt; counts(alloc, &mut keeper) == Some((0, 1, 0)));
     let drop = Change::DropEntry {
-        user: name(&rt, "ana"),
-        name: name(&rt, "job-1"),
+        user: Name::from_text("ana").expect(&rt, "a long name"),
+        name: Name::from_text("job-1").expect(&rt, "a long name"),
     };
     assert_eq!(rt; commits(alloc, &mut keeper, drop), Ok(()));
     assert!(rt; counts(alloc, &mut keeper) == Some((0, 0, 0)));
@@ -171,7 +159,7 @@ fn size_listed(alloc: Global, shelf: &mut MemoryShelf) -> Option<u64> {
 fn ample_shelf(rt: HostRuntime) {
     let alloc = rt.alloc();
     let mut shelf = MemoryShelf::new(alloc, only(&rt, alloc, 2));
-    let file = name(&rt, "a.gcode");
+    let file = Name::from_text("a.gcode").expect(&rt, "a long name");
     assert_eq!(rt; shelf.put(alloc, &file, b"G28\n"), Ok(()));
     assert_eq!(rt; shelf.remove(alloc, &file), Err(ShelfFault::Failed));
     assert!(rt; holds(alloc, &mut shelf, &file));

@@ -1,4 +1,4 @@
 pub mod Lists
 pub mod Memory
-pub mod Told
+pub mod Recorded
 pub mod Traits

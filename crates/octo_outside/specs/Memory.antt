@@ -5,11 +5,12 @@ use Rattle.std.specs.Str.{bytes_eq}
 use Rattle.octo_outside.specs.declared.conn.Got.{Got}
 use Rattle.octo_outside.specs.declared.conn.Got.TheVariants.{Bytes, Quiet, Ended}
 use Rattle.octo_outside.specs.declared.memory_source.MemoryFile.{MemoryFile}
+use Rattle.octo_outside.specs.Recorded.{last_count}
 
 -- the bytes of the first file of that name
-abbrev pub held : List MemoryFile → List ℕ → Option (List ℕ)
-held [] name = None
-held (file ∷ files) name = if bytes_eq file.name name then Some file.bytes else held files name
+abbrev pub bytes_named : List MemoryFile → List ℕ → Option (List ℕ)
+bytes_named [] name = None
+bytes_named (file ∷ files) name = if bytes_eq file.name name then Some file.bytes else bytes_named files name
 
 -- the bytes of the file at this place, none past the end
 abbrev pub bytes_at : List MemoryFile → ℕ → List ℕ
@@ -57,7 +58,7 @@ pub record ClockData : Type 0 where
 
 -- one more, up to the type's last value
 abbrev pub one_more : ℕ → ℕ
-one_more count = min (count + 1) 18446744073709551615
+one_more count = min (count + 1) last_count
 
 -- whether a call is in a list of those that fail
 abbrev pub is_listed : List ℕ → ℕ → Bool

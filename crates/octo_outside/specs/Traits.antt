@@ -4,11 +4,11 @@ use Rattle.octo_outside.specs.Memory.{one_more}
 use Rattle.octo_outside.specs.declared.conn.Got.{Got}
 use Rattle.octo_outside.specs.declared.conn.Got.TheVariants.{Bytes, Quiet, Ended}
 
--- what a source holds: the bytes of each name that is there
+-- what a source holds: the bytes of each name that exists
 abbrev pub Files : Type 0
 Files = List ℕ → Option (List ℕ)
 
--- a choice in a source of these files: the name is there, and all its bytes are left
+-- a choice in a source of these files: the name exists, and all its bytes are left
 pub record Begins (files : Files) (name : List ℕ) (left : Option (List ℕ)) : Type 0 where
   pub there : IsSome (files name)
   pub all_left : left ≡ files name

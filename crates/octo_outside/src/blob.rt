@@ -1,5 +1,6 @@
 //! A list of bytes that grows.
 ghost use Rattle.std.specs.Prelude.{◌≡◌, ℕ, ◌+◌, List, [], ◌++◌, ◌↔◌, length, IfOk, OnOk, OnErr, IsTrue};
+ghost use Rattle.octo_outside.specs.Lists.{with_line_feed};
 
 use std::alloc::{AllocError, Global};
 use std::marker::Model;
@@ -70,4 +71,12 @@ impl Blob {
     {
         self.bytes.is_empty()
     }
+}
+
+/// Adds a line with its line feed; after an error a part of it may have been added.
+pub fn append_line(text: &mut Blob, line: &[u8]) -> Result<(), AllocError>
+    ensures { OnOk result (text.new ≡ text.old ++ with_line_feed line.now) }
+{
+    text.append(line)?;
+    text.append(b"\n")
 }

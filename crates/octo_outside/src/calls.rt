@@ -20,7 +20,7 @@ impl Model for Calls {
 
 impl Calls {
     ghost use Rattle.std.specs.Prelude.{◌≡◌, ⊤};
-    ghost use Rattle.octo_outside.specs.Told.{Counts};
+    ghost use Rattle.octo_outside.specs.Recorded.{Counts};
     ghost use Rattle.octo_outside.specs.Memory.{CallsData, one_more, is_listed};
 
     /// No call yet; those with these numbers, counted from 1, are to fail. Takes no memory.

@@ -1,5 +1,6 @@
 //! Moments in milliseconds.
 ghost use Rattle.std.specs.Prelude.{◌≡◌, ℕ, ◌+◌, ◌≤◌, min, Option, Some, IfSome};
+ghost use Rattle.byte_text.specs.Number.{most_u64};
 ghost use Rattle.octo_outside.specs.Memory.{ClockData};
 ghost use Rattle.octo_outside.specs.Traits.{NotBefore};
 
@@ -54,7 +55,7 @@ impl Clock for MemoryClock {
 
     fn rest(&mut self)
         ensures stepped { self.new ≡ record self.old {
-          moment = min (self.old.moment + self.old.step) 18446744073709551615;
+          moment = min (self.old.moment + self.old.step) most_u64;
         } }
         ensures later { self.old.moment ≤ self.new.moment }
     {

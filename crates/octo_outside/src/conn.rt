@@ -1,16 +1,16 @@
 //! A connection to a peer.
 ghost use Rattle.std.specs.Prelude.{◌≡◌, ℕ, ◌<◌, ◌≤◌, List, [], ◌++◌, ◌-◌, Option, Some, length, take, IfOk, OnOk, OnErr, IsErr, IfSome};
-ghost use Rattle.octo_outside.specs.Told.{Adds, AddsPrefix, Counts};
+ghost use Rattle.octo_outside.specs.Recorded.{Adds, AddsPrefix, Counts};
 ghost use Rattle.octo_outside.specs.Traits.{Receives, IsWithin, quiets_after};
 
 use crate::Failed;
 
-/// What a read of a connection gave.
+/// What a read of a connection returned.
 #[derive(Clone, Copy, Debug, PartialEq, Eq)]
 pub enum Got {
-    /// So many bytes, at least 1.
+    /// The number of bytes that were read, at least 1.
     Bytes(usize),
-    /// Nothing is there yet.
+    /// Nothing has come yet.
     Quiet,
     /// Nothing is left and the peer has closed.
     Ended,

@@ -17,13 +17,13 @@ mod system_clock;
 mod tests;
 mod types;
 
-pub use blob::Blob;
+pub use blob::{Blob, append_line};
 pub use calls::Calls;
 pub use clock::{Clock, MemoryClock};
 pub use command_line::{ArgumentsFault, arguments};
 pub use conn::{Conn, Got, send_all};
 pub use files::FileSource;
-pub use lists::{CallList, ItemList, NameList, WordList};
+pub use lists::{CallList, ItemList, NameList, WordList, calls_of};
 pub use memory_conn::MemoryConn;
 pub use memory_source::{MemoryFile, MemorySource};
 pub use sink::{MemorySink, Sink, StdSink, write_all};

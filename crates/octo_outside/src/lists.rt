@@ -1,5 +1,5 @@
 //! Lists of names, of calls and of arguments.
-ghost use Rattle.std.specs.Prelude.{◌≡◌, ℕ, ◌<◌, List, [], ◌∷◌, ◌++◌, length, slice_get, Some, OnOk, OnErr};
+ghost use Rattle.std.specs.Prelude.{◌≡◌, ℕ, ◌<◌, List, [], ◌∷◌, ◌++◌, length, slice_get, Some, IfOk, OnOk, OnErr};
 
 use byte_text::Name;
 use std::alloc::{AllocError, Global};
@@ -62,6 +62,13 @@ impl<T: Drop> ItemList<T> {
     {
         self.items.as_slice()
     }
+}
+
+/// A list of these calls.
+pub fn calls_of(alloc: Global, numbers: &[u64]) -> Result<CallList, AllocError>
+    ensures { IfOk result (λ calls. calls ≡ numbers.now) }
+{
+    Ok(CallList::from_items(Vec::from_slice(alloc, numbers)?))
 }
 
 /// The arguments of a command line, without the program's name.

@@ -84,7 +84,7 @@ impl MemoryConn {
         &bytes[bytes.len() - self.unread..]
     }
 
-    // So many bytes were read.
+    // Counts n bytes as read.
     fn advance(&mut self, n: usize)
         requires { n ≤ length self.old.left }
         ensures { self.new ≡ record self.old { left = drop n self.old.left } }
@@ -107,7 +107,7 @@ impl MemoryConn {
         self.calls.is_latest_in(&self.quiet_at)
     }
 
-    // Gives the next bytes, at least one.
+    // Copies the next bytes, at least one.
     fn give(&mut self, into: &mut [u8]) -> usize
         requires room { 0 < length into.old }
         requires some { 0 < length self.old.left }
@@ -125,7 +125,7 @@ impl MemoryConn {
 
 impl Conn for MemoryConn {
     ghost use Rattle.std.specs.Prelude.{◌≡◌, ◌<◌, ◌≤◌, ◌↔◌, ◌++◌, [], Some, true, false, length, min, take, IfOk, OnOk, OnErr, IsErr, IsTrue};
-    ghost use Rattle.octo_outside.specs.Told.{Adds, Counts};
+    ghost use Rattle.octo_outside.specs.Recorded.{Adds, Counts};
     ghost use Rattle.octo_outside.specs.Traits.{Receives, IsWithin, quiets_after};
     ghost use Rattle.octo_outside.specs.Memory.{ConnData, next_got, after_got, one_more, is_listed};
 
@@ -139,6 +139,8 @@ impl Conn for MemoryConn {
 
     fn read(&mut self, into: &mut [u8]) -> Result<Got, Failed>
         requires { 0 < length into.old }
+
+        // What it returns, and the connection after it.
         ensures fails { IsErr result
             ↔ (is_listed self.old.fail_at (one_more self.old.calls) ≡ true) }
         ensures got { IfOk result (λ got. got ≡ next_got self.old (length into.old)) }
@@ -147,10 +149,14 @@ impl Conn for MemoryConn {
           faults = one_more self.old.faults;
         }) }
         ensures after { IfOk result (λ got. self.new ≡ after_got self.old got) }
+
+        // What is left to read and what was written.
         ensures ok { IfOk result (λ got. Receives self.old.left got into.new (Some self.new.left)) }
         ensures bound { IfOk result (λ got. IsWithin got (length into.new)) }
         ensures err { OnErr result (self.new.left ≡ self.old.left) }
         ensures written { self.new.written ≡ self.old.written }
+
+        // Counts.
         ensures quiet { IfOk result (λ got. self.new.quiets ≡ quiets_after self.old.quiets got) }
         ensures quiet_err { OnErr result (self.new.quiets ≡ self.old.quiets) }
         ensures quiets_counted { self.old.quiets ≤ self.new.quiets }

@@ -1,6 +1,6 @@
 //! Files in memory, some of whose calls fail.
 ghost use Rattle.std.specs.Prelude.{◌≡◌, Some, None, MatchOption};
-ghost use Rattle.octo_outside.specs.Memory.{held, bytes_at};
+ghost use Rattle.octo_outside.specs.Memory.{bytes_named, bytes_at};
 
 use crate::{Blob, CallList, Calls, Failed, Source};
 use std::alloc::{AllocError, Global};
@@ -43,8 +43,8 @@ impl Model for MemorySource {
 
 // The place of the first file of that name.
 fn place_of(files: &[MemoryFile], name: &str) -> Option<usize>
-    ensures { MatchOption result (held files.now name.now ≡ None)
-        (λ place. held files.now name.now ≡ Some (bytes_at files.now place)) }
+    ensures { MatchOption result (bytes_named files.now name.now ≡ None)
+        (λ place. bytes_named files.now name.now ≡ Some (bytes_at files.now place)) }
 {
     for (place, file) in files.iter().enumerate() {
         if file.name.as_slice() == name.as_bytes() {
@@ -121,7 +121,7 @@ impl MemorySource {
         }
     }
 
-    // So many bytes were read.
+    // Counts n bytes as read.
     fn advance(&mut self, n: usize)
         requires { n ≤ length self.old.left }
         ensures { self.new ≡ record self.old { left = drop n self.old.left } }
@@ -132,11 +132,11 @@ impl MemorySource {
 
 impl Source for MemorySource {
     ghost use Rattle.std.specs.Prelude.{◌≡◌, ◌<◌, ◌≤◌, ◌⊎◌, ◌↔◌, [], Some, None, true, length, min, IfOk, OnOk, OnErr, IsErr, unwrap_or};
-    ghost use Rattle.octo_outside.specs.Told.{Counts};
+    ghost use Rattle.octo_outside.specs.Recorded.{Counts};
     ghost use Rattle.octo_outside.specs.Traits.{Begins, Reads};
-    ghost use Rattle.octo_outside.specs.Memory.{SourceData, held, one_more, is_listed};
+    ghost use Rattle.octo_outside.specs.Memory.{SourceData, bytes_named, one_more, is_listed};
 
-    ghost files = { λ s. Some (held s.files) };
+    ghost files = { λ s. Some (bytes_named s.files) };
 
     ghost left = { λ s. Some s.left };
 
@@ -144,7 +144,7 @@ impl Source for MemorySource {
 
     fn choose(&mut self, name: &str) -> Result<(), Failed>
         ensures chosen { OnOk result (self.new ≡ record self.old {
-          left = unwrap_or (held self.old.files name.now) [];
+          left = unwrap_or (bytes_named self.old.files name.now) [];
           calls = one_more self.old.calls;
         }) }
         ensures refused { OnErr result (self.new ≡ record self.old {
@@ -154,8 +154,9 @@ impl Source for MemorySource {
         }) }
         ensures fails { IsErr result
             ↔ ((is_listed self.old.fail_at (one_more self.old.calls) ≡ true)
-            ⊎ (held self.old.files name.now ≡ None)) }
-        ensures ok { OnOk result (Begins (held self.old.files) name.now (Some self.new.left)) }
+            ⊎ (bytes_named self.old.files name.now ≡ None)) }
+        ensures ok { OnOk result
+            (Begins (bytes_named self.old.files) name.now (Some self.new.left)) }
         ensures err { OnErr result (self.new.left ≡ []) }
         ensures files { self.new.files ≡ self.old.files }
         ensures counts { Counts (IsErr result) self.old.faults self.new.faults }

@@ -1,6 +1,6 @@
 //! Where bytes are written.
 ghost use Rattle.std.specs.Prelude.{◌≡◌, ℕ, ◌+◌, ◌<◌, ◌≤◌, List, [], ◌∷◌, ◌++◌, Option, Some, None, true, length, take, IfOk, OnOk, OnErr, IsErr, IsTrue, MatchResult, ◌↔◌};
-ghost use Rattle.octo_outside.specs.Told.{Became, Adds, AddsPrefix, Counts};
+ghost use Rattle.octo_outside.specs.Recorded.{Became, Adds, AddsPrefix, Counts};
 ghost use Rattle.octo_outside.specs.Memory.{SinkData, one_more, is_listed};
 
 use crate::{Blob, CallList, Calls, Failed};

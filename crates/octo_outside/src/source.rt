@@ -1,12 +1,13 @@
 //! Where files are read from.
 ghost use Rattle.std.specs.Prelude.{◌≡◌, ℕ, ◌+◌, ◌<◌, ◌≤◌, ◌↔◌, List, [], ◌∷◌, ◌++◌, Option, Some, None, true, length, take, drop, IfOk, OnOk, OnErr, IfSome, IsOk, IsErr, IsErrOf, IsTrue};
-ghost use Rattle.octo_outside.specs.Told.{Counts};
+ghost use Rattle.octo_outside.specs.Recorded.{Counts};
 ghost use Rattle.octo_outside.specs.Traits.{Files, Begins, Reads, HoldsOver};
 ghost use Rattle.octo_outside.specs.declared.source.ReadAll.TheVariants as fault;
 
 use crate::{Blob, CallList, Failed};
 use std::alloc::{AllocError, Global};
 use std::marker::Model;
+use thiserror::Error;
 
 /// Files by their names.
 pub trait Source {
@@ -19,7 +20,7 @@ pub trait Source {
     /// How many calls failed.
     ghost faults: { Self → ℕ };
 
-    /// Begins at the start of that name. A name that isn't there is a fault; then nothing is left.
+    /// Begins at the start of that name. A missing name is a fault; then nothing is left.
     fn choose(&mut self, name: &str) -> Result<(), Failed>
         ensures ok { OnOk result
             (IfSome (files self.old) (λ all. Begins all name.now (left self.new))) }
@@ -39,13 +40,16 @@ pub trait Source {
 }
 
 /// Why a file could not be read whole.
-#[derive(Clone, Copy, Debug, PartialEq, Eq)]
+#[derive(Clone, Copy, Debug, PartialEq, Eq, Error)]
 pub enum ReadAll {
     /// A call of the source failed.
+    #[error("it can't be read")]
     Failed,
     /// The name holds more bytes than were allowed.
+    #[error("it is too long")]
     TooLong,
     /// There is no memory for the bytes.
+    #[error("out of memory")]
     NoMemory,
 }
 

@@ -27,7 +27,7 @@ impl<R: Drop> SystemClock<R> {
 impl<R: time::Clock + Drop> Clock for SystemClock<R> {
     ghost moment = { λ _. None };
 
-    /// The moment, never before one that was given; the last one if the system's clock fails.
+    /// The moment, never before one that was returned; the last one if the system's clock fails.
     fn now(&mut self) -> u64
         ensures kept { self.new.last ≡ result }
         ensures forward { self.old.last ≤ result }

@@ -5,8 +5,9 @@ use Rattle.gcode_lines.specs.Job.{JobData, texts_of}
 use Rattle.temp_rules.specs.declared.limits.Limits.{Limits}
 use Rattle.printer_model.specs.declared.event.WorldEvent.{WorldEvent}
 use Rattle.printer_link.specs.Link.{LinkKind, Recorded}
+use Rattle.send_window.specs.Data.{most_lines}
 use Rattle.send_window.specs.declared.session_end.SessionEnd.{SessionEnd}
-use Rattle.send_window.specs.declared.session_end.SessionEnd.TheVariants.{NoAnswer}
+use Rattle.send_window.specs.declared.session_end.SessionEnd.TheVariants.{NoAnswer, NumbersUsed}
 use Rattle.lossy_line.specs.Tied.{EndCausedAs}
 use Rattle.print_course.specs.Plan.{plan}
 use Rattle.session_print.specs.Ends.{IsUnsent}
@@ -34,20 +35,21 @@ pub data Reads (files : Option Files) (settings : Option (List ℕ)) (file : Lis
   both : (s : Settings) (job : JobData) → HaveSettings files settings (Ok s) → HaveJob files file s.limits (Ok job) → Reads files settings file (Ok (s, job))
 
 -- how the end of a print of a job over a port is reported
-abbrev pub reported : PrintEnd → List ℕ → JobData → Report
-reported end.Done port job = report.Printed (length job.commands) job.skipped
-reported (end.TooHot line asked limit) port job =
+abbrev pub print_end_report : PrintEnd → List ℕ → JobData → Report
+print_end_report end.Done port job = report.Printed (length job.commands) job.skipped
+print_end_report (end.TooHot line asked limit) port job =
     report.TooHot (record { line = line; asked = asked; limit = limit })
-reported end.NoPort port job = report.NoPort port
-reported end.LinkFailed port job = report.LinkFailed
-reported (end.Ended why) port job = report.Ended why
-reported (end.TurnsUsed turns) port job = report.TurnsUsed turns
+print_end_report end.NoPort port job = report.NoPort port
+print_end_report end.LinkFailed port job = report.LinkFailed
+print_end_report (end.Ended why) port job = report.Ended why
+print_end_report (end.TurnsUsed turns) port job = report.TurnsUsed turns
 
 -- what a print is asked: over which port, and in how many turns at most
 pub record Asked : Type 0 where
   pub port : List ℕ
   pub turns : ℕ
 
+-- a print over this port, in this number of turns at most
 abbrev pub over_port : List ℕ → ℕ → Asked
 over_port port turns = record { port = port; turns = turns }
 
@@ -59,6 +61,7 @@ pub record Seen : Type 0 where
   pub faults_now : ℕ
   pub moment : Option ℕ
 
+-- what is seen of a print, by its parts
 abbrev pub seen_of : Option (List WorldEvent) → Option (List WorldEvent) → ℕ → ℕ → Option ℕ → Seen
 seen_of first now faults faults_now moment =
     record { first = first; now = now; faults = faults; faults_now = faults_now; moment = moment }
@@ -76,16 +79,19 @@ pub record HasRun (kind : LinkKind) (s : Settings) (job : JobData) (asked : Aske
   pub cool : (line hot limit : ℕ) → how ≢ end.TooHot line hot limit
   pub no_port : (how ≡ end.NoPort) ↔ ((1 ≤ asked.turns) × (kind.listed asked.port ≡ false))
   pub ended : (why : SessionEnd) → how ≡ end.Ended why → EndCausedAs kind h.now why
+  -- which names five limits, or how many lines a session may have
+  pub limits : (count : ℕ) → how ≡ end.Ended (NoAnswer count) → count ≡ 5
+  pub numbers : (all : ℕ) → how ≡ end.Ended (NumbersUsed all) → all ≡ most_lines
   pub used : (made : ℕ) → how ≡ end.TurnsUsed made → made ≡ asked.turns
   pub unsent : IsUnsent how → h.now ≡ h.first
   -- over a prompt link it's done, if 32 turns more are allowed than its plan has lines
-  pub prompt : IsSmooth kind h.first asked.port h.faults h.faults_now h.moment s.limit_ms s.poll_ms (lines_planned s job)
+  pub prompt : IsSmooth kind h.first asked.port h.faults h.faults_now h.moment s.limit_ms s.poll_ms
       → lines_planned s job + 32 ≤ asked.turns → how ≡ end.Done
 
 -- a job was printed and its end reported
 pub record IsRun (kind : LinkKind) (s : Settings) (job : JobData) (asked : Asked) (h : Seen) (r : Report) : Type 0 where
   pub how : PrintEnd
-  pub is : r ≡ reported how asked.port job
+  pub is : r ≡ print_end_report how asked.port job
   pub run : HasRun kind s job asked h how
 
 -- a report, and nothing was added to the history
@@ -99,7 +105,8 @@ Follows kind asked h r (Err refusal) = IsRefused h r refusal
 Follows kind asked h r (Ok (s, job)) = IsRefused h r report.NoMemory ⊎ IsRun kind s job asked h r
 
 -- a file was printed by settings, or not, and this is reported
-pub record IsFilePrint (kind : LinkKind) (files : Option Files) (settings : Option (List ℕ)) (file : List ℕ) (asked : Asked) (h : Seen) (r : Report) : Type 0 where
+pub record IsFilePrint (kind : LinkKind) (files : Option Files) (settings : Option (List ℕ)) (file : List ℕ) (asked : Asked)
+    (h : Seen) (r : Report) : Type 0 where
   pub found : Result (Settings × JobData) Report
   pub reads : Reads files settings file found
   pub follows : Follows kind asked h r found

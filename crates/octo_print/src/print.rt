@@ -1,7 +1,7 @@
 //! A file read, and printed over a link.
 ghost use Rattle.std.specs.Prelude.{◌≡◌, ◌≢◌, ◌↔◌, ◌⊎◌, ℕ, List, length, codes, false, None, Ok, Err, IfOk, IfErr};
 ghost use Rattle.std.specs.Option.{option_map};
-ghost use Rattle.octo_outside.specs.Told.{Counts};
+ghost use Rattle.octo_outside.specs.Recorded.{Counts};
 ghost use Rattle.gcode_lines.specs.Job.{JobData};
 ghost use Rattle.temp_rules.specs.Hot.{first_hot_of};
 ghost use Rattle.desk_steps.specs.Data.{new_desk};
@@ -13,7 +13,7 @@ ghost use Rattle.session_print.specs.Waiting.{HasWaited};
 ghost use Rattle.session_print.specs.declared.end.PrintEnd.TheVariants as end;
 ghost use Rattle.octo_settings.specs.Sound.{IsSettings};
 ghost use Rattle.octo_report.specs.declared.report.Report.TheVariants as report;
-ghost use Rattle.octo_print.specs.Printing.{IsFilePrint, IsRefused, IsRun, WaitedBySettings, seen_of, over_port, reported};
+ghost use Rattle.octo_print.specs.Printing.{IsFilePrint, IsRefused, IsRun, WaitedBySettings, seen_of, over_port, print_end_report};
 
 use byte_text::Name;
 use gcode_lines::Job;
@@ -55,7 +55,7 @@ fn file_name() -> Name
 /// How an end of a print over this port is reported, of a job with these numbers of commands and skipped lines.
 fn report_of(end: PrintEnd, port: &Name, commands: u32, skipped: u32) -> Report
     ensures { (job : JobData) → commands ≡ length job.commands → skipped ≡ job.skipped
-        → result ≡ reported end port.now job }
+        → result ≡ print_end_report end port.now job }
 {
     match end {
         PrintEnd::Done => Report::Printed { commands, skipped },

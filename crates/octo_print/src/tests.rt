@@ -15,7 +15,7 @@ fn link_of(alloc: Global) -> Result<MemoryLink, Fail>
     ensures { IfOk result (λ l. (link_world l).linked ≡ false) }
 {
     let mut names = NameList::new(alloc);
-    names.push(name("p")?)?;
+    names.push(Name::of("p")?)?;
     Ok(MemoryLink::new(
         alloc,
         Schedule {
@@ -31,13 +31,6 @@ fn link_of(alloc: Global) -> Result<MemoryLink, Fail>
     )?)
 }
 
-fn name(text: &str) -> Result<Name, Fail> {
-    match Name::from_text(text) {
-        Some(name) => Ok(name),
-        None => Err(Fail::from("name")),
-    }
-}
-
 #[test]
 fn ample(rt: HostRuntime) -> Result<(), Fail> {
     let alloc = rt.alloc();
@@ -50,7 +43,7 @@ fn ample(rt: HostRuntime) -> Result<(), Fail> {
         &mut files,
         &mut link,
         &mut clock,
-        &name("p")?,
+        &Name::of("p")?,
         "a",
         100,
         None,

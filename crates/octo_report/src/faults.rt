@@ -1,5 +1,6 @@
 //! Refusals as printed.
 ghost use Rattle.std.specs.Prelude.{◌≡◌, ◌≤◌, ◌++◌, [], length, codes, decimal};
+ghost use Rattle.byte_text.specs.declared.name.TheConstants.{MOST_NAME_BYTES};
 ghost use Rattle.arrayvec.specs.ArrayVec.{array_vec_len};
 ghost use Rattle.octo_report.specs.Faults.{settings_line, script_fault, settings_text, file_line, file_text, over_text, hot_text, measure_fault_text, end_line, end_text};
 
@@ -14,7 +15,7 @@ use temp_rules::HotLine;
 /// Puts what is wrong with a key of the settings.
 fn put_key(page: &mut Page, key: &[u8], what: &[u8])
     requires empty { page.old.items ≡ [] }
-    requires short_key { length key.now ≤ 100 }
+    requires short_key { length key.now ≤ MOST_NAME_BYTES }
     requires short { length what.now ≤ 100 }
     ensures { page.new.items ≡ settings_line key.now what.now }
 {
@@ -26,7 +27,7 @@ fn put_key(page: &mut Page, key: &[u8], what: &[u8])
 /// Puts that a script's command is too hot.
 fn put_hot_script(page: &mut Page, key: &[u8], line: u32)
     requires empty { page.old.items ≡ [] }
-    requires short { length key.now ≤ 100 }
+    requires short { length key.now ≤ MOST_NAME_BYTES }
     ensures { page.new.items ≡ settings_line key.now (script_fault line) }
 {
     append(page, b"settings: ");

@@ -1,3 +1,4 @@
+//! Reports, each with its text.
 use super::*;
 use byte_text::{Name, bounded_text};
 use desk_steps::Point;

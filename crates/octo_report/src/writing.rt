@@ -1,6 +1,6 @@
 //! Writing a report.
 ghost use Rattle.std.specs.Prelude.{◌≡◌, [], false, OnOk, OnErr, IsErr};
-ghost use Rattle.octo_outside.specs.Told.{Adds, AddsPrefix, Counts};
+ghost use Rattle.octo_outside.specs.Recorded.{Adds, AddsPrefix, Counts};
 ghost use Rattle.octo_report.specs.Texts.{is_rest, text_of};
 
 use crate::page::Page;
@@ -25,7 +25,7 @@ fn write_page<O: Sink>(out: &mut O, report: &Report) -> Result<(), Failed>
     write_all(out, page.as_slice())
 }
 
-/// Writes the text of a report, and takes no memory for it; after a failed call a prefix of it was written.
+/// Writes the text of a report without taking memory; after a failed call a prefix of it was written.
 pub fn write_report<O: Sink>(out: &mut O, report: &Report) -> Result<(), Failed>
     // what is written
     ensures ok { OnOk result (Adds (O.written out.old) (O.written out.new) (text_of report.now)) }

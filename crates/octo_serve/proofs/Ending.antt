@@ -3,7 +3,7 @@ use Rattle.std.proofs.Common.{◌≡◌, ℕ, Bool, true, List, [], ◌∷◌, O
 use Rattle.octo_doors.specs.Doors.{ConnState}
 use Rattle.octo_doors.specs.declared.door.Doors.{Doors}
 use Rattle.octo_asks.specs.History.{History, calls_of}
-use Rattle.octo_outside.proofs.Told.{became_so}
+use Rattle.octo_outside.proofs.Recorded.{became_so}
 use Rattle.api_worker.specs.Worked.{AreOfReturned, HasReturned, HasWorked}
 use Rattle.hand_over.specs.declared.workers.Workers.{Workers}
 use Rattle.hand_over.specs.Views.{AreCalls}

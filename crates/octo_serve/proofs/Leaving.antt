@@ -3,7 +3,7 @@ use Rattle.std.proofs.Common.{◌≡◌, ◌≢◌, ◌⊎◌, inl, inr, ℕ, ze
 use Rattle.std.specs.Prelude.{All}
 use Rattle.std.proofs.lemmas.Bool.Decides.{nat_tests}
 use Rattle.std.proofs.lemmas.List.Elements.{All-head, All-tail}
-use Rattle.octo_outside.specs.Told.{Became}
+use Rattle.octo_outside.specs.Recorded.{Became}
 use Rattle.octo_doors.specs.Doors.{ConnState}
 use Rattle.octo_doors.specs.declared.door.Doors.{Doors}
 use Rattle.octo_asks.specs.declared.answer.Answer.{Answer}
@@ -23,9 +23,7 @@ use Rattle.house_run.proofs.Tallying.{leaves_append}
 use Rattle.octo_serve.specs.Around.{DoorState}
 use Rattle.octo_serve.specs.Doors.{IsServedBy, AreServed, HasNoMore, AllHaveNoMore}
 use Rattle.octo_serve.specs.Hosted.{Setting, Ran, HasHosted}
-
-some_is : {A : Type 0} (a b : A) → Some a ≡ Some b → a ≡ b
-some_is a b e = cc
+use Rattle.std.proofs.lemmas.Option.{same_Some}
 
 not_leave : (r : Request) → r ≢ Leave → is_leave r ≡ false
 not_leave Leave callers = absurd (callers refl)
@@ -61,7 +59,7 @@ returned_once : (calls : History) (saw : Bool) → HasReturned (Some []) (Some c
 returned_once calls saw returned =
     let got = returned calls refl in
     let r = got.4 in
-    let all : calls ≡ r.calls ++ r.last = got.3 ∙ (ap (λ (p : History). p ++ got.1) (sym (some_is [] got.0 got.2)) ∙ r.split) in
+    let all : calls ≡ r.calls ++ r.last = got.3 ∙ (ap (λ (p : History). p ++ got.1) (sym (same_Some [] got.0 got.2)) ∙ r.split) in
     let count : leaves_made calls ≡ leaves_made r.calls + leaves_made r.last = ap leaves_made all ∙ leaves_append r.calls r.last in
     omega (arith, count, asks_leave_none r.calls r.asks, leaves_once r.last r.leave)
 
@@ -75,7 +73,7 @@ work_is_done patience inputs coming served served' calls true w once = elim (w.o
 ]
   where
     made : calls ≡ w.calls ++ w.last
-    made = let got = w.made calls refl in got.3 ∙ (λ i. sym (some_is [] got.0 got.2) i ++ got.4 i)
+    made = let got = w.made calls refl in got.3 ∙ (λ i. sym (same_Some [] got.0 got.2) i ++ got.4 i)
 
     count : leaves_made calls ≡ leaves_made w.calls + leaves_made w.last
     count = ap leaves_made made ∙ leaves_append w.calls w.last
@@ -147,7 +145,7 @@ ends_by : (patience : ℕ) (old new : Doors DoorState) (history : History) (held
     → (is_shut history ≡ true) ⊎ AllHaveNoMore old new
 ends_by patience old new history held calls active by four over =
     let got = over history refl in
-    let same : got.1 ≡ history = sym (got.3 ∙ ap (λ (p : History). p ++ got.1) (sym (some_is [] got.0 got.2))) in
+    let same : got.1 ≡ history = sym (got.3 ∙ ap (λ (p : History). p ++ got.1) (sym (same_Some [] got.0 got.2))) in
     elim got.4.why [
       | inl shut ↦ inl (subst (λ (h : History). is_shut h ≡ true) same shut)
       | inr left ↦ inr (all_are_done patience old new history held by four (subst (λ (h : History). 4 ≤ leaves_made h) same left.0))

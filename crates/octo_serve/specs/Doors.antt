@@ -1,6 +1,6 @@
 -- What four workers did at their doors.
 use Rattle.std.specs.Prelude.{◌≡◌, ℕ, Bool, true, false, ◌&&◌, List, [], Option, Some, IfSome}
-use Rattle.octo_outside.specs.Told.{Rose}
+use Rattle.octo_outside.specs.Recorded.{Rose}
 use Rattle.octo_doors.specs.declared.door.Doors.{Doors}
 use Rattle.octo_asks.specs.History.{History, calls_of}
 use Rattle.octo_asks.specs.Place.{Place}

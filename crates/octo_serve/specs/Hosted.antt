@@ -1,6 +1,6 @@
 -- What a host did from its first connection to its end.
-use Rattle.std.specs.Prelude.{◌≡◌, ◌⊎◌, ℕ, ◌≤◌, Bool, true, false, [], Option, Some}
-use Rattle.octo_outside.specs.Told.{Became}
+use Rattle.std.specs.Prelude.{◌≡◌, ◌⊎◌, ℕ, ◌≤◌, Bool, true, false, [], Option, Some, is_some}
+use Rattle.octo_outside.specs.Recorded.{Became}
 use Rattle.octo_doors.specs.declared.door.Doors.{Doors}
 use Rattle.octo_asks.specs.History.{History}
 use Rattle.hand_over.specs.Ends.{HistoryData}
@@ -45,9 +45,10 @@ pub record Ran (old new : Setting) (past past' : Option History) (calls : ℕ) :
   pub tied : TiesLines old.link.kind past past' old.link.past new.link.past
   -- what became of the prints
   pub prints : RunKeepsPrints old.link.kind past past' old.shelf.files old.link.past new.link.past old.house
-  -- the link is down, and of the same kind
+  -- the link is down, of the same kind, and its history is recorded exactly if it was
   pub down : new.link.up ≡ false
   pub kind : new.link.kind ≡ old.link.kind
+  pub recorded : is_some new.link.past ≡ is_some old.link.past
   -- faults, by their counts
   pub faults : Became past past' (λ _ added. AreCounted old.keeper.faults new.keeper.faults old.shelf.faults new.shelf.faults
       old.link.faults new.link.faults added)

@@ -25,7 +25,7 @@ fn work_at<R: Wait, D: Door, A: Asker>(
         (asker_state A.mine A.saw_close A.place asker.old)
         (asker_state A.mine A.saw_close A.place asker.new) result }
 {
-    worker(alloc, rt, door, asker, patience)
+    worker(rt, alloc, door, asker, patience)
 }
 
 // A worker at its door in a thread of its own, and other work in this one. Returns whether the

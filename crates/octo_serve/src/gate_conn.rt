@@ -1,7 +1,7 @@
 //! A connection in memory whose input comes only once a gate is open.
 ghost use Rattle.std.specs.Prelude.{◌≡◌, ◌≤◌, None, ⊤};
 ghost use Rattle.octo_outside.specs.Memory.{one_more};
-ghost use Rattle.octo_outside.specs.Told.{Counts};
+ghost use Rattle.octo_outside.specs.Recorded.{Counts};
 
 use arrayvec::ArrayVec;
 use octo_outside::{Conn, Failed, Got, MemoryConn};

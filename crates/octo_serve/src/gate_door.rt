@@ -26,8 +26,8 @@ pub struct GateDoor<R: Drop> {
 
 // A connection with this input and, perhaps, a gate.
 fn conn<R: Copy + Drop>(
-    alloc: Global,
     rt: &R,
+    alloc: Global,
     input: &[u8],
     gate: Option<Arc<AtomicBool>>,
 ) -> Result<GateConn<R>, AllocError>
@@ -65,8 +65,8 @@ impl<R: Copy + Drop> GateDoor<R> {
     ) -> Result<Doors<GateDoor<R>>, AllocError> {
         let gate = Arc::new(alloc, AtomicBool::new(false))?;
         let opens = Some(Arc::try_clone(&gate)?);
-        let first = conn(alloc, rt, one, Some(gate))?;
-        let second = conn(alloc, rt, two, None)?;
+        let first = conn(rt, alloc, one, Some(gate))?;
+        let second = conn(rt, alloc, two, None)?;
         Ok(Doors {
             a: GateDoor {
                 coming: Some(first),

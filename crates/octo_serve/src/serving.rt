@@ -102,7 +102,7 @@ pub fn serve<
     ensures shelf { OnErr result (shelf.new ≡ shelf.old) }
     ensures doors { OnErr result (doors.new ≡ doors.old) }
 {
-    let (mut counter, mut workers) = ends(alloc, rt)?;
+    let (mut counter, mut workers) = ends(rt, alloc)?;
     let (doors_held, calls) = four_beside(
         rt,
         alloc,

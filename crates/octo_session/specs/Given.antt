@@ -5,10 +5,10 @@ use Rattle.octo_session.specs.declared.open_turn.Gave.{Gave}
 use Rattle.octo_session.specs.declared.open_turn.Gave.TheVariants as gave
 
 -- the step of a sending
-abbrev pub given_by : Gave → List Step
-given_by gave.Sent = gives ∷ []
-given_by gave.Nothing = []
-given_by gave.Failed = fails_to_send ∷ []
+abbrev pub steps_of_sending : Gave → List Step
+steps_of_sending gave.Sent = gives ∷ []
+steps_of_sending gave.Nothing = []
+steps_of_sending gave.Failed = fails_to_send ∷ []
 
 -- whether the link is up after a sending
 abbrev pub is_up_by : Gave → Bool

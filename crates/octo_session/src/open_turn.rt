@@ -1,6 +1,6 @@
 //! A turn over an open link, part by part: each part is a call on the sender, on the link, or both.
 ghost use Rattle.std.specs.Prelude.{◌≡◌, ◌≢◌, ◌↔◌, ◌⊎◌, ◌<◌, ◌≤◌, ◌+◌, ◌++◌, [], map, length, true, false, None, is_some};
-ghost use Rattle.octo_outside.specs.Told.{Counts};
+ghost use Rattle.octo_outside.specs.Recorded.{Counts};
 ghost use Rattle.desk_steps.specs.Pull.{pull_step, settled};
 ghost use Rattle.desk_steps.specs.Issued.{line_of};
 ghost use Rattle.desk_steps.specs.declared.link_fact.LinkFact.TheVariants as fact;
@@ -10,11 +10,11 @@ ghost use Rattle.send_window.specs.Hearing.{tick_step};
 ghost use Rattle.send_window.specs.Sending.{next_of, room_of};
 ghost use Rattle.session_steps.specs.Data.{IsJoined};
 ghost use Rattle.session_steps.specs.DeskTurn.{IsNoted, Pulls};
-ghost use Rattle.session_steps.specs.Found.{got_of, temps_kept, temps_in, temps_of_reply, is_got, is_said, up_after, can_find, unasked};
-ghost use Rattle.session_steps.specs.Steps.{AreBytes, Takes, TakesSome, Issues, received_by, sends, speech, clock_steps, talk_steps};
+ghost use Rattle.session_steps.specs.Found.{got_of, temps_kept, temps_in, temps_of_reply, is_got, may_have_issued, up_after, can_find, unasked};
+ghost use Rattle.session_steps.specs.Steps.{AreBytes, Takes, TakesSome, Issues, received_by, sends, issues_then_sends, clock_steps, steps_over_link};
 ghost use Rattle.octo_session.specs.FoundBy.{IsFoundBy};
-ghost use Rattle.session_steps.specs.Turn.{drawn, texts_in, is_unbroken, IsSpent};
-ghost use Rattle.octo_session.specs.Given.{given_by, is_up_by};
+ghost use Rattle.session_steps.specs.Turn.{lines_drawn, texts_in, is_unbroken, IsSpent};
+ghost use Rattle.octo_session.specs.Given.{steps_of_sending, is_up_by};
 ghost use Rattle.octo_session.specs.declared.open_turn.Gave.TheVariants as gave;
 ghost use Rattle.session_steps.specs.declared.found.Doing.TheVariants as doing_now;
 
@@ -96,9 +96,9 @@ fn pull_one(
     ensures answer { result ≡ is_some (pull_step moment desk.old).0 }
     ensures after { desk.new ≡ (pull_step moment desk.old).1 }
     ensures lines { map line_of lines.new.items
-        ≡ map line_of lines.old.items ++ drawn (pull_step moment desk.old).0 }
+        ≡ map line_of lines.old.items ++ lines_drawn (pull_step moment desk.old).0 }
     ensures count { result ≡ true → length lines.new.items ≡ length lines.old.items + 1 }
-    ensures steps { Issues moment (texts_in (drawn (pull_step moment desk.old).0)) sender.old
+    ensures steps { Issues moment (texts_in (lines_drawn (pull_step moment desk.old).0)) sender.old
         sender.new }
     ensures sound { IsSound sender.new }
 {
@@ -137,7 +137,7 @@ fn pull_all(desk: &mut Desk, sender: &mut Sender, moment: u64) -> ArrayVec<Issue
 fn send_one<L: Link>(sender: &mut Sender, link: &mut L, moment: u64) -> Gave
     requires { L.up link.old ≡ true }
     ensures steps { Takes moment (L.kind link.old) (L.past link.old) (L.past link.new)
-        (L.calls link.old) (L.calls link.new) (given_by result) sender.old sender.new }
+        (L.calls link.old) (L.calls link.new) (steps_of_sending result) sender.old sender.new }
     ensures nothing { (result ≡ gave.Nothing) ↔ (next_of sender.old ≡ None) }
     ensures up { L.up link.new ≡ is_up_by result }
     ensures kind { L.kind link.new ≡ L.kind link.old }
@@ -197,16 +197,23 @@ fn issue_and_send<L: Link>(
     requires running { sender.old.ended ≡ None }
     requires counted { desk.old.issued ≡ sender.old.issued }
     requires not_fallen { desk.old.acked ≤ sender.old.acked }
+
+    // What it found, which the desk noted.
     ensures finds { (result.fact ≡ fact.Quiet) ⊎ (result.fact ≡ fact.Failed) }
     ensures noted { IsNoted moment sender.new.acked result.fact (map line_of result.issued.items)
         desk.old result.ending desk.new }
     ensures received { result.received ≡ received }
+
+    // The desk and the sender after it.
     ensures spent { result.fact ≡ fact.Quiet → IsSpent moment desk.new sender.new }
     ensures joined { IsJoined desk.new sender.new (up_after result.fact true) }
     ensures ready { sender.new.ready ≡ sender.old.ready }
+
+    // The steps that it took, and the link after them.
     ensures steps { TakesSome moment (L.kind link.old) (L.past link.old) (L.past link.new)
         (L.calls link.old) (L.calls link.new)
-        (speech (is_unbroken result.fact) (texts_in (map line_of result.issued.items))) sender.old
+        (issues_then_sends (is_unbroken result.fact)
+        (texts_in (map line_of result.issued.items))) sender.old
         sender.new }
     ensures up { L.up link.new ≡ up_after result.fact true }
     ensures kind { L.kind link.new ≡ L.kind link.old }
@@ -248,18 +255,26 @@ fn after_receiving<L: Link>(
     requires goes_on { was_ready ≡ false → sender.old.ready ≡ true
         → (tick_step moment sender.old).ended ≡ None }
     requires fresh { was_ready ≡ false → sender.old.issued ≡ 0 }
-    ensures finds { can_find doing_now.Talking result.fact ≡ true }
+
+    // What it found, which the desk noted.
+    ensures finds { can_find doing_now.UsingLink result.fact ≡ true }
     ensures noted { IsNoted moment sender.new.acked result.fact (map line_of result.issued.items)
         desk.old result.ending desk.new }
     ensures received { result.received ≡ received }
     ensures ended { (end : SessionEnd)
         → (result.fact ≡ fact.Ended end) ↔ ((tick_step moment sender.old).ended ≡ Some end) }
     ensures ready { (result.fact ≡ fact.Ready) ↔ ((was_ready ≡ false) × (sender.new.ready ≡ true)) }
-    ensures none_issued { is_said result.fact ≡ false → result.issued.items ≡ [] }
+
+    // What it issued and sent.
+    ensures none_issued { may_have_issued result.fact ≡ false → result.issued.items ≡ [] }
     ensures silent { result.fact ≡ fact.Ready → result.issued.items ≡ [] }
     ensures sent { result.fact ≡ fact.Ready → next_of sender.new ≡ None }
+
+    // The desk and the sender after it.
     ensures spent { result.fact ≡ fact.Quiet → IsSpent moment desk.new sender.new }
     ensures joined { IsJoined desk.new sender.new (up_after result.fact true) }
+
+    // The steps that it took, and the link after them.
     ensures steps { TakesSome moment (L.kind link.old) (L.past link.old) (L.past link.new)
         (L.calls link.old) (L.calls link.new)
         (clock_steps result.fact (texts_in (map line_of result.issued.items))) sender.old
@@ -291,17 +306,23 @@ pub fn receive_then_send<L: Link>(
 ) -> Found
     requires open { L.up link.old ≡ true }
     requires joined { IsJoined desk.old sender.old true }
-    ensures finds { can_find doing_now.Talking result.fact ≡ true }
+
+    // What it found, which the desk noted.
+    ensures finds { can_find doing_now.UsingLink result.fact ≡ true }
     ensures asked { got_of result.received line.new.items ≢ unasked }
     ensures found_by { IsFoundBy moment (got_of result.received line.new.items) result
         sender.old sender.new }
     ensures noted { IsNoted moment sender.new.acked result.fact (map line_of result.issued.items)
         desk.old result.ending desk.new }
+
+    // The desk and the sender after it.
     ensures spent { result.fact ≡ fact.Quiet → IsSpent moment desk.new sender.new }
     ensures joined { IsJoined desk.new sender.new (up_after result.fact true) }
+
+    // The steps that it took, and the link after them.
     ensures steps { TakesSome moment (L.kind link.old) (L.past link.old) (L.past link.new)
         (L.calls link.old) (L.calls link.new)
-        (talk_steps (got_of result.received line.new.items) result.fact
+        (steps_over_link (got_of result.received line.new.items) result.fact
         (texts_in (map line_of result.issued.items))) sender.old sender.new }
     ensures up { L.up link.new ≡ up_after result.fact true }
     ensures kind { L.kind link.new ≡ L.kind link.old }

@@ -1,6 +1,6 @@
 //! The session: a desk and a sender, and the turns that join them with a link.
 ghost use Rattle.std.specs.Prelude.{◌≡◌, true, false};
-ghost use Rattle.octo_outside.specs.Told.{Counts};
+ghost use Rattle.octo_outside.specs.Recorded.{Counts};
 ghost use Rattle.desk_steps.specs.Data.{new_desk};
 ghost use Rattle.desk_steps.specs.Endings.{IsActive};
 ghost use Rattle.desk_steps.specs.declared.link_fact.LinkFact.TheVariants as fact;

@@ -121,20 +121,6 @@ impl Gives {
     }
 }
 
-fn name(rt: &impl Abort, text: &str) -> Name {
-    match Name::from_text(text) {
-        Some(name) => name,
-        None => panic!(rt; "a name of over 100 bytes"),
-    }
-}
-
-fn add(rt: &impl Abort, scripts: &mut Scripts, point: Point, text: &str) {
-    match one_command(text.as_bytes()) {
-        Ok(text) => assert!(rt; scripts.add(point, &text).is_ok()),
-        Err(_) => panic!(rt; "no command"),
-    }
-}
-
 fn scripts(rt: &impl Abort, alloc: Global) -> Scripts {
     let mut scripts = Scripts::new(alloc);
     for (point, text) in [
@@ -143,7 +129,10 @@ fn scripts(rt: &impl Abort, alloc: Global) -> Scripts {
         (Point::Paused, "G91"),
         (Point::Resumed, "G90"),
     ] {
-        add(rt, &mut scripts, point, text);
+        match one_command(text.as_bytes()) {
+            Ok(text) => assert!(rt; scripts.add(point, &text).is_ok()),
+            Err(_) => panic!(rt; "no command"),
+        }
     }
     scripts
 }
@@ -164,7 +153,7 @@ fn new_session(rt: &impl Abort, alloc: Global) -> Result<Session, Fail>
 /// A link to the port p that fails at one call, or at none.
 fn link_failing(rt: &impl Abort, alloc: Global, call: Option<u64>) -> Result<MemoryLink, Fail> {
     let mut names = NameList::new(alloc);
-    names.push(name(rt, "p"))?;
+    names.push(Name::from_text("p").expect(rt, "a long name"))?;
     let mut fail_at = CallList::new(alloc);
     if let Some(call) = call {
         fail_at.push(call)?;
@@ -190,8 +179,16 @@ fn prepare(rt: &impl Abort, alloc: Global, session: &mut Session, port: &str) ->
     ensures { session.new.desk.greatest ≡ session.old.desk.greatest }
 {
     let job = read_commands(alloc, b"G28\n")?;
-    assert!(rt; session.connect(&name(rt, port)).is_ok());
-    assert!(rt; session.select(&name(rt, "a.gcode"), job).is_ok());
+    assert!(rt;
+        session
+            .connect(&Name::from_text(port).expect(rt, "a long name"))
+            .is_ok()
+    );
+    assert!(rt;
+        session
+            .select(&Name::from_text("a.gcode").expect(rt, "a long name"), job)
+            .is_ok()
+    );
     Ok(())
 }
 
@@ -247,7 +244,7 @@ fn take_all(rt: &impl Abort, session: &mut Session, link: &mut MemoryLink, rows:
 }
 
 /// A session that is ready over this link, and whose first print was started.
-fn started(rt: &impl Abort, alloc: Global, link: &mut MemoryLink) -> Result<Session, Fail> {
+fn start_session(rt: &impl Abort, alloc: Global, link: &mut MemoryLink) -> Result<Session, Fail> {
     let mut session = new_session(rt, alloc)?;
     prepare(rt, alloc, &mut session, "p")?;
     take_all(rt, &mut session, link, &OPENING);
@@ -275,7 +272,7 @@ fn check_ran(rt: &impl Abort, link: &MemoryLink) -> Result<(), Fail> {
 #[test]
 fn pause_and_resume(rt: HostRuntime) -> Result<(), Fail> {
     let mut link = link_failing(&rt, rt.alloc(), None)?;
-    let mut session = started(&rt, rt.alloc(), &mut link)?;
+    let mut session = start_session(&rt, rt.alloc(), &mut link)?;
     take_all(&rt, &mut session, &mut link, &PAUSED);
     assert_eq!(rt; session.desk().state(), State::Paused);
     take_all(&rt, &mut session, &mut link, &RESUMED);
@@ -299,7 +296,7 @@ fn failing_calls(rt: HostRuntime) -> Result<(), Fail> {
 fn failing_calls_in_a_print(rt: HostRuntime) -> Result<(), Fail> {
     for (call, row) in FAILING_IN_PRINT {
         let mut link = link_failing(&rt, rt.alloc(), Some(call))?;
-        let mut session = started(&rt, rt.alloc(), &mut link)?;
+        let mut session = start_session(&rt, rt.alloc(), &mut link)?;
         take(&rt, &mut session, &mut link, row);
         check_failed(&rt, &mut session, &mut link);
     }

@@ -12,12 +12,12 @@ use Rattle.octo_settings.specs.declared.settings.Settings.{Settings}
 use Rattle.job_desk.specs.Scripts.{no_scripts}
 
 -- the most bytes of settings
-abbrev pub most_bytes : ℕ
-most_bytes = 1048576
+abbrev pub most_config_bytes : ℕ
+most_config_bytes = 1048576
 
 -- the table that a text is, none if it isn't TOML or is too long
 abbrev pub document_of : List ℕ → Option Members
-document_of text = if nat_le (length text) most_bytes then parse_document text else None
+document_of text = if nat_le (length text) most_config_bytes then parse_document text else None
 
 -- the settings of a table
 abbrev pub settings_in : Members → Result Settings SettingsFault
@@ -41,6 +41,7 @@ settings_in members =
       scripts = scripts;
     })))))))
 
+-- the settings of a table, or the fault `NotToml` without one
 abbrev pub settings_or : Option Members → Result Settings SettingsFault
 settings_or None = Err NotToml
 settings_or (Some members) = settings_in members

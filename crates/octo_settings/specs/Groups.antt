@@ -41,5 +41,6 @@ with_groups (m ∷ members) groups = and_then (with_group m.0 m.1 groups) (with_
 abbrev pub groups_in : List (List ℕ × Data) → Result (List GroupData) SettingsFault
 groups_in members = if nat_le (length members) most_groups then with_groups members [] else Err (OutOfRange (codes "groups"))
 
+-- the groups of the section `groups`, none if it is missing
 abbrev pub groups_of : Option Data → Result (List GroupData) SettingsFault
 groups_of value = and_then (section (codes "groups") value) (λ members. groups_in (members_list members))

@@ -7,7 +7,7 @@ use Rattle.desk_steps.specs.declared.state.Point.{Point}
 use Rattle.desk_steps.specs.declared.state.Point.TheVariants as point
 use Rattle.gcode_lines.specs.Single.{single_of}
 use Rattle.gcode_lines.specs.declared.fault.NotOne.{NotOne}
-use Rattle.job_desk.specs.Scripts.{most_lines, no_scripts, with_text}
+use Rattle.job_desk.specs.Scripts.{most_script_lines, no_scripts, with_text}
 use Rattle.temp_rules.specs.Hot.{hot_of}
 use Rattle.temp_rules.specs.declared.limits.Limits.{Limits}
 use Rattle.temp_rules.specs.declared.limits.TooHot.{TooHot as HotFault}
@@ -25,6 +25,7 @@ script_name point.Resumed = codes "beforePrintResumed"
 script_name point.Cancelled = codes "afterPrintCancelled"
 script_name point.Done = codes "afterPrintDone"
 
+-- the key of a script, as faults name it
 abbrev pub script_key : Point → List ℕ
 script_key p = codes "scripts." ++ script_name p
 
@@ -60,9 +61,9 @@ with_lines limits p n (line ∷ lines) scripts =
 -- the scripts with lines at the end of one of them, which has at most 64 then
 abbrev pub with_texts : Limits → Point → List (List ℕ) → ScriptTexts → Result ScriptTexts SettingsFault
 with_texts limits p lines scripts =
-    if nat_le (length (texts_at p scripts) + length lines) most_lines then with_lines limits p 1 lines scripts else Err (OutOfRange (script_key p))
+    if nat_le (length (texts_at p scripts) + length lines) most_script_lines then with_lines limits p 1 lines scripts else Err (OutOfRange (script_key p))
 
--- the scripts with one of the settings, if it is there
+-- the scripts with one of the settings, if it isn't missing
 abbrev pub with_script : Limits → Point → Option Data → ScriptTexts → Result ScriptTexts SettingsFault
 with_script limits p None scripts = Ok scripts
 with_script limits p (Some value) scripts = and_then (texts_of (script_key p) value) (λ lines. with_texts limits p lines scripts)
@@ -73,5 +74,6 @@ scripts_at limits entries [] scripts = Ok scripts
 scripts_at limits entries (p ∷ points) scripts =
     and_then (with_script limits p (get_member (script_name p) entries) scripts) (scripts_at limits entries points)
 
+-- the scripts of the section `scripts`, all empty if it is missing
 abbrev pub scripts_of : Limits → Option Data → Result ScriptTexts SettingsFault
 scripts_of limits value = and_then (section (codes "scripts") value) (λ members. scripts_at limits members all_points no_scripts)

@@ -19,6 +19,7 @@ port_of key text = if nat_le 1 (length text) && nat_le (length text) 100 then Ok
 abbrev pub ports_in : List ℕ → List (List ℕ) → Result (List (List ℕ)) SettingsFault
 ports_in key texts = if nat_le 1 (length texts) && nat_le (length texts) 16 then each (port_of key) texts else Err (OutOfRange key)
 
+-- the ports, which may not be missing
 abbrev pub ports_of : List ℕ → Option Data → Result (List (List ℕ)) SettingsFault
 ports_of key None = Err (Missing key)
 ports_of key (Some value) = and_then (texts_of key value) (ports_in key)
@@ -28,6 +29,7 @@ abbrev pub material_of : List ℕ → Option Data → Result (List ℕ) Settings
 material_of key None = Ok (codes "any")
 material_of key (Some value) = and_then (text_of key value) (λ text. in_range key (name_of text))
 
+-- the printer of a table
 abbrev pub printer_in : Members → Result Printer SettingsFault
 printer_in members =
     and_then (ports_of (codes "printer.ports") (get_member (codes "ports") members)) (λ ports.
@@ -37,15 +39,18 @@ printer_in members =
     and_then (material_of (codes "printer.material") (get_member (codes "material") members)) (λ material.
     Ok (record { ports = ports; window = window; limit_ms = limit_ms; poll_ms = poll_ms; material = material }))))))
 
+-- the printer of the section `printer`
 abbrev pub printer_of : Option Data → Result Printer SettingsFault
 printer_of value = and_then (section (codes "printer") value) printer_in
 
+-- the limits of a table, in degrees Celsius
 abbrev pub limits_in : Members → Result Limits SettingsFault
 limits_in members =
     and_then (whole (codes "limits.tool") 0 500 300 (get_member (codes "tool") members)) (λ tool.
     and_then (whole (codes "limits.bed") 0 200 120 (get_member (codes "bed") members)) (λ bed.
     Ok (record { tool = tool; bed = bed })))
 
+-- the limits of the section `limits`, the defaults if it is missing
 abbrev pub limits_of : Option Data → Result Limits SettingsFault
 limits_of value = and_then (section (codes "limits") value) limits_in
 
@@ -54,23 +59,29 @@ abbrev pub digest_in : List ℕ → Result (List ℕ) FromHexError → Result (L
 digest_in key (Ok digest) = Ok digest
 digest_in key (Err fault) = Err (OutOfRange key)
 
+-- the digest of a key, which may not be missing
 abbrev pub digest_of : List ℕ → Option Data → Result (List ℕ) SettingsFault
 digest_of key value = and_then (required_text key value) (λ text. digest_in key (decode_sized text 32))
 
+-- the admin's name, which may not be missing
 abbrev pub admin_name_of : List ℕ → Option Data → Result (List ℕ) SettingsFault
 admin_name_of key value = and_then (required_text key value) (λ text. in_range key (name_of text))
 
+-- the admin of a table
 abbrev pub admin_in : Members → Result Admin SettingsFault
 admin_in members =
     and_then (admin_name_of (codes "admin.name") (get_member (codes "name") members)) (λ name.
     and_then (digest_of (codes "admin.key_sha256") (get_member (codes "key_sha256") members)) (λ digest.
     Ok (record { name = name; digest = digest })))
 
+-- the admin of the section `admin`
 abbrev pub admin_of : Option Data → Result Admin SettingsFault
 admin_of value = and_then (section (codes "admin") value) admin_in
 
+-- how many turns serving waits for a message, by a table
 abbrev pub patience_in : Members → Result ℕ SettingsFault
 patience_in members = whole (codes "serve.patience") 1 4000000000 6000 (get_member (codes "patience") members)
 
+-- the same by the section `serve`, the default if it is missing
 abbrev pub patience_of : Option Data → Result ℕ SettingsFault
 patience_of value = and_then (section (codes "serve") value) patience_in

@@ -8,8 +8,8 @@ use Rattle.toml.specs.View.{view, table_view}
 use Rattle.toml.specs.declared.value.Value.{Value}
 
 -- the data of a value, none if it is missing
-abbrev pub seen : Option (Bor Value) → Option Data
-seen value = option_map (λ v. view v.now) value
+abbrev pub data_of_value : Option (Bor Value) → Option Data
+data_of_value value = option_map (λ v. view v.now) value
 
 -- the members of a table, none if it is missing
 abbrev pub members_or : Option (Bor (BTreeMap (String Global) Value)) → Members

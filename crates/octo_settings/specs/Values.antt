@@ -18,6 +18,7 @@ abbrev pub each_from : {A B : Type 0} → (ℕ → A → Result B SettingsFault)
 each_from read n [] = Ok []
 each_from read n (x ∷ xs) = and_then (read n x) (λ y. and_then (each_from read (n + 1) xs) (λ ys. Ok (y ∷ ys)))
 
+-- the same without the items' numbers
 abbrev pub each : {A B : Type 0} → (A → Result B SettingsFault) → List A → Result (List B) SettingsFault
 each read xs = each_from (λ n x. read x) 0 xs
 
@@ -26,6 +27,7 @@ abbrev pub items_list : Items → List Data
 items_list no_items = []
 items_list (item value items) = value ∷ items_list items
 
+-- the members of a table, with their names
 abbrev pub members_list : Members → List (List ℕ × Data)
 members_list no_members = []
 members_list (member name value members) = (name, value) ∷ members_list members
@@ -48,7 +50,7 @@ abbrev pub text_of : List ℕ → Data → Result (List ℕ) SettingsFault
 text_of key (string text) = Ok text
 text_of key _ = Err (WrongKind key)
 
--- a text that has to be there
+-- a text that may not be missing
 abbrev pub required_text : List ℕ → Option Data → Result (List ℕ) SettingsFault
 required_text key None = Err (Missing key)
 required_text key (Some value) = text_of key value

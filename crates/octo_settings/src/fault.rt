@@ -1,5 +1,6 @@
 //! Why settings are refused.
 ghost use Rattle.std.specs.Prelude.{◌≡◌, ◌≤◌, length};
+ghost use Rattle.byte_text.specs.declared.name.TheConstants.{MOST_NAME_BYTES};
 ghost use Rattle.octo_settings.specs.declared.fault.SettingsFault.TheVariants as fault;
 
 use crate::names::text_name;
@@ -13,7 +14,7 @@ pub enum SettingsFault {
     /// They are over 1,048,576 bytes, or aren't TOML.
     #[error("not TOML")]
     NotToml,
-    /// A key that has to be there is missing.
+    /// A required key is missing.
     #[error("missing")]
     Missing { key: Name },
     /// A key's value is of the wrong kind.
@@ -34,7 +35,7 @@ pub enum SettingsFault {
 }
 
 pub(crate) fn missing(key: &str) -> SettingsFault
-    requires { length key.now ≤ 100 }
+    requires { length key.now ≤ MOST_NAME_BYTES }
     ensures { result ≡ fault.Missing key.now }
 {
     SettingsFault::Missing {
@@ -43,7 +44,7 @@ pub(crate) fn missing(key: &str) -> SettingsFault
 }
 
 pub(crate) fn wrong_kind(key: &str) -> SettingsFault
-    requires { length key.now ≤ 100 }
+    requires { length key.now ≤ MOST_NAME_BYTES }
     ensures { result ≡ fault.WrongKind key.now }
 {
     SettingsFault::WrongKind {
@@ -52,7 +53,7 @@ pub(crate) fn wrong_kind(key: &str) -> SettingsFault
 }
 
 pub(crate) fn out_of_range(key: &str) -> SettingsFault
-    requires { length key.now ≤ 100 }
+    requires { length key.now ≤ MOST_NAME_BYTES }
     ensures { result ≡ fault.OutOfRange key.now }
 {
     SettingsFault::OutOfRange {

@@ -1,11 +1,12 @@
 //! The groups of settings.
 ghost use Rattle.std.specs.Prelude.{◌≡◌, ◌≤◌, ◌<◌, ◌⊎◌, [], length, true, codes, if◌then◌else◌, MatchResult, Ok, Err};
 ghost use Rattle.std.specs.List.{list_all};
+ghost use Rattle.byte_text.specs.declared.name.TheConstants.{MOST_NAME_BYTES};
 ghost use Rattle.toml.specs.View.{view, table_view};
 ghost use Rattle.octo_access.specs.Groups.{most_groups};
 ghost use Rattle.octo_access.specs.Names.{is_name_byte};
 ghost use Rattle.octo_settings.specs.Groups.{group_key, permission_of, permissions_of, is_new_name, with_group, with_groups, groups_in, groups_of};
-ghost use Rattle.octo_settings.specs.Seen.{seen};
+ghost use Rattle.octo_settings.specs.Seen.{data_of_value};
 ghost use Rattle.octo_settings.specs.Values.{Reads, each, members_list};
 ghost use Rattle.octo_settings.specs.declared.fault.SettingsFault.TheVariants.{NoMemory, OutOfRange};
 
@@ -39,7 +40,7 @@ fn group_key(name: &Name) -> Name
 }
 
 fn read_permission(key: &str, text: &str) -> Result<Permission, SettingsFault>
-    requires { length key.now ≤ 100 }
+    requires { length key.now ≤ MOST_NAME_BYTES }
     ensures { result ≡ permission_of key.now text.now }
 {
     match Permission::from_name(text) {
@@ -53,7 +54,7 @@ fn read_permission_list(
     key: &str,
     texts: &WordList,
 ) -> Result<ItemList<Permission>, SettingsFault>
-    requires { length key.now ≤ 100 }
+    requires { length key.now ≤ MOST_NAME_BYTES }
     ensures { Reads result (each (permission_of key.now) texts.now) }
 {
     let mut permissions = ItemList::new(alloc);
@@ -71,7 +72,7 @@ fn read_permissions(
     key: &str,
     value: &Value,
 ) -> Result<ItemList<Permission>, SettingsFault>
-    requires { length key.now ≤ 100 }
+    requires { length key.now ≤ MOST_NAME_BYTES }
     ensures { Reads result (permissions_of key.now (view value.now)) }
 {
     let texts = read_texts(alloc, key, value)?;
@@ -131,7 +132,7 @@ fn read_groups_in(alloc: Global, table: &Table) -> Result<Groups, SettingsFault>
 }
 
 pub(crate) fn read_groups(alloc: Global, value: Option<&Value>) -> Result<Groups, SettingsFault>
-    ensures { Reads result (groups_of (seen value.entry)) }
+    ensures { Reads result (groups_of (data_of_value value.entry)) }
 {
     match read_section("groups", value) {
         Ok(Some(table)) => read_groups_in(alloc, table),

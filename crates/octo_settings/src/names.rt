@@ -1,13 +1,14 @@
 //! Names that are made here: of keys, and of bytes that are ASCII.
 ghost use Rattle.std.specs.Prelude.{◌≡◌, ◌≤◌, length};
 ghost use Rattle.std.specs.Str.{IsAscii};
+ghost use Rattle.byte_text.specs.declared.name.TheConstants.{MOST_NAME_BYTES};
 
 use byte_text::Name;
 use std::str;
 
 /// A name of bytes below 128.
 pub(crate) fn ascii_name(bytes: &[u8]) -> Name
-    requires short { length bytes.now ≤ 100 }
+    requires short { length bytes.now ≤ MOST_NAME_BYTES }
     requires ascii { IsAscii bytes.now }
     ensures { result ≡ bytes.now }
 {
@@ -19,7 +20,7 @@ pub(crate) fn ascii_name(bytes: &[u8]) -> Name
 
 /// A short text as a name.
 pub(crate) fn text_name(text: &str) -> Name
-    requires { length text.now ≤ 100 }
+    requires { length text.now ≤ MOST_NAME_BYTES }
     ensures { result ≡ text.now }
 {
     match Name::from_text(text) {

@@ -2,10 +2,11 @@
 ghost use Rattle.std.specs.Prelude.{◌≡◌, ◌≤◌, ◌+◌, ◌⊎◌, ◌<◌, length, IfOk, MatchResult, Ok, Err};
 ghost use Rattle.byte_text.specs.Marks.{contains_text};
 ghost use Rattle.byte_text.specs.Sendable.{IsSendable};
+ghost use Rattle.byte_text.specs.declared.name.TheConstants.{MOST_NAME_BYTES};
 ghost use Rattle.desk_steps.specs.Data.{texts_at};
-ghost use Rattle.job_desk.specs.Scripts.{most_lines, no_scripts};
+ghost use Rattle.job_desk.specs.Scripts.{most_script_lines, no_scripts};
 ghost use Rattle.octo_settings.specs.Scripts.{script_name, script_key, all_points, is_template, command_of, with_lines, with_texts, with_script, scripts_at, scripts_of};
-ghost use Rattle.octo_settings.specs.Seen.{members_or, seen};
+ghost use Rattle.octo_settings.specs.Seen.{members_or, data_of_value};
 ghost use Rattle.octo_settings.specs.Values.{Reads};
 ghost use Rattle.octo_settings.specs.declared.fault.SettingsFault.TheVariants.{NoMemory};
 
@@ -26,7 +27,7 @@ const MOST_LINES: usize = 64;
 /// The key of a script, with OctoPrint's name.
 pub fn script_key(point: Point) -> &'static str
     ensures key { result.now ≡ script_key point }
-    ensures short { length result.now ≤ 100 }
+    ensures short { length result.now ≤ MOST_NAME_BYTES }
 {
     match point {
         Point::Connected => "scripts.afterPrinterConnected",
@@ -122,7 +123,7 @@ fn add_lines(
     lines: &WordList,
     scripts: &mut Scripts,
 ) -> Result<(), SettingsFault>
-    requires { length (texts_at point scripts.old) + length lines.now ≤ most_lines }
+    requires { length (texts_at point scripts.old) + length lines.now ≤ most_script_lines }
     ensures { MatchResult result
         (λ _. with_lines limits.now point 1 lines.now scripts.old ≡ Ok scripts.new)
         (λ fault. (fault ≡ NoMemory)
@@ -162,9 +163,9 @@ fn read_script(
     scripts: &mut Scripts,
 ) -> Result<(), SettingsFault>
     ensures { MatchResult result
-        (λ _. with_script limits.now point (seen value.entry) scripts.old ≡ Ok scripts.new)
+        (λ _. with_script limits.now point (data_of_value value.entry) scripts.old ≡ Ok scripts.new)
         (λ fault. (fault ≡ NoMemory)
-        ⊎ (with_script limits.now point (seen value.entry) scripts.old ≡ Err fault)) }
+        ⊎ (with_script limits.now point (data_of_value value.entry) scripts.old ≡ Err fault)) }
 {
     let Some(value) = value else {
         return Ok(());
@@ -194,7 +195,7 @@ pub(crate) fn read_scripts(
     limits: &Limits,
     value: Option<&Value>,
 ) -> Result<Scripts, SettingsFault>
-    ensures { Reads result (scripts_of limits.now (seen value.entry)) }
+    ensures { Reads result (scripts_of limits.now (data_of_value value.entry)) }
 {
     match read_section("scripts", value) {
         Ok(table) => read_scripts_at(alloc, limits, table, &all_points()),

@@ -1,9 +1,10 @@
 //! The sections of settings: the printer, its limits, the admin, and how long serving is patient.
 ghost use Rattle.std.specs.Prelude.{◌≡◌, ◌≤◌, length, codes};
+ghost use Rattle.byte_text.specs.declared.name.TheConstants.{MOST_NAME_BYTES};
 ghost use Rattle.hex.specs.Hex.{decode_sized};
 ghost use Rattle.octo_access.specs.Names.{name_of};
 ghost use Rattle.octo_settings.specs.Sections.{port_of, ports_in, ports_of, material_of, printer_in, printer_of, limits_in, limits_of, admin_name_of, digest_in, digest_of, admin_in, admin_of, patience_in, patience_of};
-ghost use Rattle.octo_settings.specs.Seen.{members_or, seen};
+ghost use Rattle.octo_settings.specs.Seen.{members_or, data_of_value};
 ghost use Rattle.octo_settings.specs.Values.{Reads, each, in_range};
 
 use crate::fault::{SettingsFault, missing, out_of_range, wrong_kind};
@@ -29,7 +30,7 @@ pub(crate) struct Printer {
 }
 
 fn read_port(key: &str, text: &str) -> Result<Name, SettingsFault>
-    requires { length key.now ≤ 100 }
+    requires { length key.now ≤ MOST_NAME_BYTES }
     ensures { result ≡ port_of key.now text.now }
 {
     if text.is_empty() {
@@ -42,7 +43,7 @@ fn read_port(key: &str, text: &str) -> Result<Name, SettingsFault>
 }
 
 fn read_port_list(alloc: Global, key: &str, texts: &WordList) -> Result<NameList, SettingsFault>
-    requires { length key.now ≤ 100 }
+    requires { length key.now ≤ MOST_NAME_BYTES }
     ensures { Reads result (each (port_of key.now) texts.now) }
 {
     let mut ports = NameList::new(alloc);
@@ -56,7 +57,7 @@ fn read_port_list(alloc: Global, key: &str, texts: &WordList) -> Result<NameList
 }
 
 fn read_ports_in(alloc: Global, key: &str, texts: &WordList) -> Result<NameList, SettingsFault>
-    requires { length key.now ≤ 100 }
+    requires { length key.now ≤ MOST_NAME_BYTES }
     ensures { Reads result (ports_in key.now texts.now) }
 {
     let count = texts.count();
@@ -67,8 +68,8 @@ fn read_ports_in(alloc: Global, key: &str, texts: &WordList) -> Result<NameList,
 }
 
 fn read_ports(alloc: Global, key: &str, value: Option<&Value>) -> Result<NameList, SettingsFault>
-    requires { length key.now ≤ 100 }
-    ensures { Reads result (ports_of key.now (seen value.entry)) }
+    requires { length key.now ≤ MOST_NAME_BYTES }
+    ensures { Reads result (ports_of key.now (data_of_value value.entry)) }
 {
     let Some(value) = value else {
         return Err(missing(key));
@@ -79,7 +80,7 @@ fn read_ports(alloc: Global, key: &str, value: Option<&Value>) -> Result<NameLis
 
 /// A text as a name.
 fn read_named(key: &str, text: &str) -> Result<Name, SettingsFault>
-    requires { length key.now ≤ 100 }
+    requires { length key.now ≤ MOST_NAME_BYTES }
     ensures { result ≡ in_range key.now (name_of text.now) }
 {
     match read_name(text) {
@@ -89,8 +90,8 @@ fn read_named(key: &str, text: &str) -> Result<Name, SettingsFault>
 }
 
 fn read_material(key: &str, value: Option<&Value>) -> Result<Name, SettingsFault>
-    requires { length key.now ≤ 100 }
-    ensures { result ≡ material_of key.now (seen value.entry) }
+    requires { length key.now ≤ MOST_NAME_BYTES }
+    ensures { result ≡ material_of key.now (data_of_value value.entry) }
 {
     match value {
         None => Ok(any_material()),
@@ -136,7 +137,7 @@ fn read_printer_in(alloc: Global, table: Option<&Table>) -> Result<Printer, Sett
 }
 
 pub(crate) fn read_printer(alloc: Global, value: Option<&Value>) -> Result<Printer, SettingsFault>
-    ensures { Reads result (printer_of (seen value.entry)) }
+    ensures { Reads result (printer_of (data_of_value value.entry)) }
 {
     match read_section("printer", value) {
         Ok(table) => read_printer_in(alloc, table),
@@ -156,7 +157,7 @@ fn read_limits_in(table: Option<&Table>) -> Result<Limits, SettingsFault>
 }
 
 pub(crate) fn read_limits(value: Option<&Value>) -> Result<Limits, SettingsFault>
-    ensures { result ≡ limits_of (seen value.entry) }
+    ensures { result ≡ limits_of (data_of_value value.entry) }
 {
     match read_section("limits", value) {
         Ok(table) => read_limits_in(table),
@@ -165,8 +166,8 @@ pub(crate) fn read_limits(value: Option<&Value>) -> Result<Limits, SettingsFault
 }
 
 fn read_digest(key: &str, value: Option<&Value>) -> Result<Digest, SettingsFault>
-    requires { length key.now ≤ 100 }
-    ensures { result ≡ digest_of key.now (seen value.entry) }
+    requires { length key.now ≤ MOST_NAME_BYTES }
+    ensures { result ≡ digest_of key.now (data_of_value value.entry) }
 {
     match value {
         None => Err(missing(key)),
@@ -176,7 +177,7 @@ fn read_digest(key: &str, value: Option<&Value>) -> Result<Digest, SettingsFault
 }
 
 fn digest_in(key: &str, text: &str) -> Result<Digest, SettingsFault>
-    requires { length key.now ≤ 100 }
+    requires { length key.now ≤ MOST_NAME_BYTES }
     ensures { result ≡ digest_in key.now (decode_sized text.now 32) }
 {
     match <[u8; 32] as FromHex>::from_hex(text) {
@@ -186,8 +187,8 @@ fn digest_in(key: &str, text: &str) -> Result<Digest, SettingsFault>
 }
 
 fn read_admin_name(key: &str, value: Option<&Value>) -> Result<Name, SettingsFault>
-    requires { length key.now ≤ 100 }
-    ensures { result ≡ admin_name_of key.now (seen value.entry) }
+    requires { length key.now ≤ MOST_NAME_BYTES }
+    ensures { result ≡ admin_name_of key.now (data_of_value value.entry) }
 {
     match value {
         None => Err(missing(key)),
@@ -205,7 +206,7 @@ fn read_admin_in(table: Option<&Table>) -> Result<Admin, SettingsFault>
 }
 
 pub(crate) fn read_admin(value: Option<&Value>) -> Result<Admin, SettingsFault>
-    ensures { result ≡ admin_of (seen value.entry) }
+    ensures { result ≡ admin_of (data_of_value value.entry) }
 {
     match read_section("admin", value) {
         Ok(table) => read_admin_in(table),
@@ -227,7 +228,7 @@ fn read_patience_in(table: Option<&Table>) -> Result<u32, SettingsFault>
 }
 
 pub(crate) fn read_patience(value: Option<&Value>) -> Result<u32, SettingsFault>
-    ensures { result ≡ patience_of (seen value.entry) }
+    ensures { result ≡ patience_of (data_of_value value.entry) }
 {
     match read_section("serve", value) {
         Ok(table) => read_patience_in(table),

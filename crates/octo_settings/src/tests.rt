@@ -1,4 +1,4 @@
-//! Each call that allocates, with ample memory. The other tests are in `settings_tests`.
+//! Each call that allocates; allocation succeeds. The other tests are in `settings_tests`.
 use super::*;
 use job_desk::Point;
 use std::test::Fail;

@@ -1,7 +1,7 @@
 //! Connections over TCP, and over a Unix socket.
 ghost use Rattle.std.specs.Prelude.{◌≡◌, ◌≤◌, None, IfOk, ⊤};
 ghost use Rattle.octo_outside.specs.Memory.{one_more};
-ghost use Rattle.octo_outside.specs.Told.{Counts};
+ghost use Rattle.octo_outside.specs.Recorded.{Counts};
 
 use crate::socket_stream::{SocketStream, unix_path};
 use crate::streams::{linger, may_come_later, prepare, write_some};
@@ -26,7 +26,7 @@ impl<R: Net + Files + Drop> TcpConn<R> {
     /// Listens at `HOST:PORT` or `unix:PATH`, waits for the first peer, and listens no longer. The socket's file is
     /// removed then.
     ///
-    /// Fails if the address can't be bound, as one that is in use or isn't this machine's, or a path that is there.
+    /// Fails if the address can't be bound, as one that is in use or isn't this machine's, or a path that exists.
     pub fn accept_one(rt: R, address: &str) -> Result<Self, Failed>
         ensures { IfOk result (λ c. (c.faults ≡ 0) × (c.quiets ≡ 0)) }
     {

@@ -41,7 +41,9 @@ rest_app = command_app (codes "rest") (operand (codes "file") ∷ operand (codes
 
 -- `serve ADDRESS FOLDER DATABASE --settings FILE`
 abbrev pub serve_app : App
-serve_app = command_app (codes "serve") (operand (codes "address") ∷ operand (codes "folder") ∷ operand (codes "database") ∷ needed_option (codes "settings") ∷ [])
+serve_app =
+    command_app (codes "serve")
+    (operand (codes "address") ∷ operand (codes "folder") ∷ operand (codes "database") ∷ needed_option (codes "settings") ∷ [])
 
 -- the program without its commands: the arguments come without its name, one command is wanted, and none shows help
 abbrev pub bare_app : App

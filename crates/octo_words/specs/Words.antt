@@ -3,14 +3,14 @@ use Rattle.std.specs.Prelude.{ℕ, Bool, ◌&&◌, ◌≡◌, ◌≤◌, nat_le,
 use Rattle.std.specs.Str.{bytes_eq}
 use Rattle.clap.specs.Words.{Kinds, Row, Text, fault_of, first_of, subcommand_of, subcommand_rows_of}
 use Rattle.clap.specs.declared.parser.matches.ArgMatches.{ArgMatches}
-use Rattle.byte_text.specs.Number.{whole_number}
+use Rattle.byte_text.specs.Number.{whole_number, in_range}
 use Rattle.octo_words.specs.Apps.{octo_app}
 use Rattle.octo_words.specs.declared.command.Command.{Command}
 use Rattle.octo_words.specs.declared.command.Command.TheVariants.{Print, Check, Demo, Measure, Rest, Serve}
 use Rattle.octo_words.specs.declared.command.WordsFault.{WordsFault}
 use Rattle.octo_words.specs.declared.command.WordsFault.TheVariants.{BadWords}
 
--- what is there unless the arguments are faulty
+-- what arguments say, unless they are faulty
 abbrev pub unless : Kinds → Option (Text × List Row) → Option (Text × List Row)
 unless [] rows = rows
 unless (fault ∷ faults) rows = None
@@ -26,10 +26,6 @@ is_name text = nat_le 1 (length text) && nat_le (length text) 100
 -- a text as a name
 abbrev pub name_of : Text → Option Text
 name_of text = if is_name text then Some text else None
-
--- a number from least to most
-abbrev pub in_range : (least most : ℕ) → ℕ → Option ℕ
-in_range least most number = if nat_le least number && nat_le number most then Some number else None
 
 -- a text of 1 to 13 digits as a number from least to most
 abbrev pub number_of : (least most : ℕ) → Text → Option ℕ

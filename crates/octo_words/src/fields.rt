@@ -1,7 +1,8 @@
 //! The operands and options of a command.
 ghost use Rattle.std.specs.Prelude.{◌≡◌, ◌≤◌, option_map, option_and_then, codes, IfOk};
 ghost use Rattle.clap.specs.Words.{first_of, found_of, rows_of};
-ghost use Rattle.octo_words.specs.Words.{Reads, is_name, name_of, in_range, number_of, turns_of};
+ghost use Rattle.byte_text.specs.Number.{in_range};
+ghost use Rattle.octo_words.specs.Words.{Reads, is_name, name_of, number_of, turns_of};
 
 use crate::command::{FilePath, WordsFault};
 use byte_text::{Name, whole_number};

@@ -17,7 +17,7 @@ fn read(alloc: Global, line: &str) -> Result<Result<Command, WordsFault>, Fail> 
 }
 
 // A command with its operands and options in the order of its row.
-fn shown(alloc: Global, command: &Command) -> Result<String, Fail> {
+fn text_of(alloc: Global, command: &Command) -> Result<String, Fail> {
     Ok(match command {
         Command::Print {
             port,
@@ -61,7 +61,7 @@ fn reads(rt: &impl Abort, alloc: Global, rows: &[(&str, &str)]) -> Result<(), Fa
     for (line, wanted) in rows {
         match read(alloc, line)? {
             Ok(command) => {
-                let text = shown(alloc, &command)?;
+                let text = text_of(alloc, &command)?;
                 assert!(rt; text.as_str() == *wanted, "{line}: {text}");
             }
             Err(fault) => assert!(rt; false, "{line}: {fault}"),

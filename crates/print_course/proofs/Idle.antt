@@ -1,10 +1,9 @@
 -- When a desk returns no line, and what then ends.
 use Rattle.std.proofs.Common.{◌≡◌, ℕ, zero, suc, ◌≤◌, ◌<◌, Bool, true, false, cond, nat_le, ◌&&◌, ◌||◌, not, ◌==◌, codes, List, [], ◌∷◌, length, slice_get, Option, None, Some, refl, sym, ◌∙◌, ap, arith}
-use Rattle.std.proofs.lemmas.Bool.{false≢true}
-use Rattle.std.proofs.lemmas.Bool.Decides.{nat_tests}
+use Rattle.std.proofs.lemmas.Bool.{false≢true, le-leb, eq-eqb}
 use Rattle.desk_steps.specs.Data.{Data, Line, commands_of, with_script, moment_after}
 use Rattle.desk_steps.specs.Table.{is_closable_at}
-use Rattle.desk_steps.specs.Pull.{Drawn, talk, nothing, issue, from_scripts, from_manual, from_poll, poll_is_due, from_file, draw_at, is_issued, settle_at, settled, pull_step}
+use Rattle.desk_steps.specs.Pull.{Drawn, draw_in_order, nothing, issue, from_scripts, from_manual, from_poll, poll_is_due, from_file, draw_at, is_issued, settle_at, settled, pull_step}
 use Rattle.desk_steps.specs.Note.{end_at, is_over, finish, note_step}
 use Rattle.desk_steps.specs.declared.state.State.{State}
 use Rattle.desk_steps.specs.declared.state.State.TheVariants.{Offline, Connecting, Operational, Printing, Pausing, Paused, Cancelling, Finishing, Closing, Fault}
@@ -17,12 +16,6 @@ use Rattle.print_course.specs.Underway.{standing, IsUnderway}
 use Rattle.print_course.specs.Remaining.{is_giving}
 use Rattle.print_course.proofs.Phases.{printing_of, finishing_of}
 use Rattle.print_course.proofs.Pulling.{file_commands}
-
-at_most_test : (a b : ℕ) → a ≤ b → nat_le a b ≡ true
-at_most_test a b h = grind (arith, nat_tests)
-
-equal_test : (a b : ℕ) → a ≡ b → (a == b) ≡ true
-equal_test a b e = grind (arith, nat_tests)
 
 module _ (p : PrintData) where
   no_script_left : (w : List Line) (d : Data) (next : Drawn) → (from_scripts w d next).0 ≡ None → (w ≡ []) × (next.0 ≡ None)
@@ -37,7 +30,7 @@ module _ (p : PrintData) where
   no_manual_left [] d next e = e
   no_manual_left (text ∷ texts) d next e = absurd (cc e)
 
-  talk_left : (moment : ℕ) (d : Data) (next : Drawn) → (talk moment d next).0 ≡ None → (d.waiting ≡ []) × (next.0 ≡ None)
+  talk_left : (moment : ℕ) (d : Data) (next : Drawn) → (draw_in_order moment d next).0 ≡ None → (d.waiting ≡ []) × (next.0 ≡ None)
   talk_left moment d next e =
       let asked : Data = record d { poll_at = moment_after moment d.poll_ms } in
       let a = no_script_left d.waiting d (from_manual d.manual d (from_poll moment d next)) e in
@@ -54,7 +47,7 @@ module _ (p : PrintData) where
 
   is_all : (d : Data) → d.waiting ≡ [] → d.cursor ≡ length (commands_of d.file) → is_issued d ≡ true
   is_all d none last =
-      ap (λ (w : List Line). (length w == 0) && (d.cursor == length (commands_of d.file))) none ∙ equal_test d.cursor (length (commands_of d.file)) last
+      ap (λ (w : List Line). (length w == 0) && (d.cursor == length (commands_of d.file))) none ∙ eq-eqb d.cursor (length (commands_of d.file)) last
 
   -- a settled desk that prints returns a line
   prints_on : (moment : ℕ) (d : Data) (issued : List (List ℕ)) → settled d ≡ d → d.state ≡ Printing → (draw_at Printing moment d).0 ≡ None
@@ -91,7 +84,7 @@ module _ (p : PrintData) where
   idle-remaining moment d issued gives quiet e h = idle_in d.state moment d issued refl gives quiet e h
 
   over_test : (d : Data) (acked : ℕ) → d.waiting ≡ [] → d.print_line ≤ acked → is_over (record d { acked = acked }) ≡ true
-  over_test d acked none below = ap (λ (w : List Line). (length w == 0) && nat_le d.print_line acked) none ∙ at_most_test d.print_line acked below
+  over_test d acked none below = ap (λ (w : List Line). (length w == 0) && nat_le d.print_line acked) none ∙ le-leb d.print_line acked below
 
   -- with all lines acknowledged, the next note ends a print that has none left
   pub done-next : (acked moment : ℕ) (d : Data) (issued : List (List ℕ)) → d.state ≡ Finishing → d.waiting ≡ [] → d.issued ≤ acked
@@ -109,5 +102,5 @@ module _ (p : PrintData) where
   pub closes-next : (d : Data) → d.state ≡ Closing → d.waiting ≡ [] → d.issued ≤ d.acked → is_closable_at d.state d ≡ true
   closes-next d at none all =
       let tests : ((length d.waiting == 0) && nat_le d.issued d.acked) ≡ true =
-      ap (λ (w : List Line). (length w == 0) && nat_le d.issued d.acked) none ∙ at_most_test d.issued d.acked all in
+      ap (λ (w : List Line). (length w == 0) && nat_le d.issued d.acked) none ∙ le-leb d.issued d.acked all in
       ap (λ s. is_closable_at s d) at ∙ ap (λ (b : Bool). b || not d.ready) tests

@@ -1,12 +1,11 @@
 -- A note leads from phase to phase, and an ending says what the print came to.
 use Rattle.std.proofs.Common.{◌≡◌, ℕ, ◌≤◌, Bool, true, false, cond, nat_le, not, ◌||◌, ◌&&◌, ◌==◌, List, [], ◌∷◌, ◌++◌, length, Option, None, Some, refl, sym, ◌∙◌, ap, subst, arith}
 use Rattle.std.proofs.lemmas.List.{append-nil}
-use Rattle.std.proofs.lemmas.Bool.{false≢true}
-use Rattle.std.proofs.lemmas.Bool.Decides.{nat_tests}
+use Rattle.std.proofs.lemmas.Bool.{false≢true, and_parts, leb-true}
 use Rattle.desk_steps.specs.Data.{Data, Line, with_script, script_lines, moment_after}
 use Rattle.desk_steps.specs.Pull.{settle_at, settled}
 use Rattle.desk_steps.specs.Table.{is_closable_at}
-use Rattle.desk_steps.specs.Note.{Noted, ended, is_over, end_at, finish, leave, fail, ready_at, opened, note_fact, note_step}
+use Rattle.desk_steps.specs.Note.{Noted, after_ending, is_over, end_at, finish, leave, fail, ready_at, after_open, note_fact, note_step}
 use Rattle.desk_steps.specs.declared.state.State.{State}
 use Rattle.desk_steps.specs.declared.state.State.TheVariants.{Offline, Connecting, Operational, Printing, Pausing, Paused, Cancelling, Finishing, Closing, Fault}
 use Rattle.desk_steps.specs.declared.state.Point.TheVariants as point
@@ -15,14 +14,15 @@ use Rattle.desk_steps.specs.declared.link_fact.LinkFact.TheVariants as fact
 use Rattle.print_records.specs.declared.ending.Ending.{Ending}
 use Rattle.print_records.specs.declared.ending.Outcome.{Outcome}
 use Rattle.print_records.specs.declared.ending.Outcome.TheVariants as outcome
-use Rattle.desk_steps.proofs.Noted.{no_lines, and_first}
-use Rattle.print_course.specs.Plan.{PrintData, Weave, empty, IsPart, connected_lines, done_lines, plan_lines, line_texts}
+use Rattle.desk_steps.proofs.Noted.{no_lines}
+use Rattle.print_course.specs.Plan.{PrintData, Weave, empty, IsPart, connected_lines, done_lines, plan_lines}
 use Rattle.print_course.specs.Underway.{Standing, standing, IsOpen, IsFree, IsPrinting, Phase, IsCounted, IsUnderway, Suits, IsPrinted, ComesTo, EndsAs}
 use Rattle.print_course.specs.Underway as phase
 use Rattle.print_course.specs.Progress.{after_fact}
-use Rattle.print_course.proofs.Weaves.{part_self, part_of, part_behind}
+use Rattle.print_course.proofs.Weaves.{part_self, part_of, part_after}
 use Rattle.print_course.proofs.Phases.{in_plan, print_of, connecting_of, finishing_of, closing_of, impossible}
 use Rattle.print_course.proofs.Pulling.{settle-underway}
+use Rattle.session_steps.specs.Turn.{texts_in}
 
 module _ (p : PrintData) where
   -- the print after a note
@@ -35,7 +35,7 @@ module _ (p : PrintData) where
   finishes false d issued t at h = (h, tt)
   finishes true d issued t at h =
       let on = finishing_of p (standing d) h.lines h.phase at in
-      let none : d.waiting ≡ [] = no_lines d.waiting (and_first (length d.waiting == 0) (nat_le d.print_line d.acked) t) in
+      let none : d.waiting ≡ [] = no_lines d.waiting (and_parts (length d.waiting == 0) (nat_le d.print_line d.acked) t).0 in
       let all : h.sent ≡ done_lines p = sym (append-nil h.sent) ∙ ap (λ (w : List Line). h.sent ++ w) (sym none) ∙ h.parted ∙ on.are in (
         record {
           scripts_are = h.scripts_are;
@@ -50,7 +50,7 @@ module _ (p : PrintData) where
           counted = λ below. (let c = h.counted below in record { all = c.all; print = c.print });
           acknowledged = λ off. (let clash : Operational ≡ Offline = off in absurd (cc clash));
         },
-        (on.on.print_is, record { first = issued; is_part = part_self issued; woven = subst (λ (l : List Line). Weave issued (line_texts l)) all h.woven }),
+        (on.on.print_is, record { first = issued; is_part = part_self issued; woven = subst (λ (l : List Line). Weave issued (texts_in l)) all h.woven }),
       )
 
   pub ends : (s : State) (d : Data) (issued : List (List ℕ)) → d.state ≡ s → IsUnderway p d issued → NotedSo issued (end_at s d)
@@ -76,7 +76,7 @@ module _ (p : PrintData) where
       let both : h.sent ++ d.waiting ≡ [] = h.parted ∙ on.are in
       both_empty h.sent d.waiting both
 
-  pub opens : (d : Data) (issued : List (List ℕ)) → d.state ≡ Connecting → IsUnderway p d issued → IsUnderway p (opened d) []
+  pub opens : (d : Data) (issued : List (List ℕ)) → d.state ≡ Connecting → IsUnderway p d issued → IsUnderway p (after_open d) []
   opens d issued at h =
       let on = connecting_of p (standing d) h.lines h.phase at in
       let n = nothing_sent d issued h at in
@@ -178,7 +178,7 @@ module _ (p : PrintData) where
       file_is = h.file_is;
       no_manual = refl;
       lines = h.sent;
-      phase = phase.failed refl refl h.sent (part_of h.sent (h.sent ++ d.waiting) (plan_lines p) (part_behind h.sent d.waiting)
+      phase = phase.failed refl refl h.sent (part_of h.sent (h.sent ++ d.waiting) (plan_lines p) (part_after h.sent d.waiting)
           (subst (λ (l : List Line). IsPart l (plan_lines p)) (sym h.parted) (in_plan p (standing d) h.lines h.phase)));
       sent = h.sent;
       parted = append-nil h.sent;
@@ -212,18 +212,11 @@ module _ (p : PrintData) where
   or_first true e = refl
   or_first false e = absurd (false≢true e)
 
-  and_second : (a b : Bool) → (a && b) ≡ true → b ≡ true
-  and_second true b e = e
-  and_second false b e = absurd (false≢true e)
-
-  at_most : (a b : ℕ) → nat_le a b ≡ true → a ≤ b
-  at_most a b e = grind (arith, nat_tests)
-
   waits_none : (d : Data) → (((length d.waiting == 0) && nat_le d.issued d.acked) || not true) ≡ true → (d.waiting ≡ []) × (d.issued ≤ d.acked)
   waits_none d t =
       let both : ((length d.waiting == 0) && nat_le d.issued d.acked) ≡ true = or_first ((length d.waiting == 0) && nat_le d.issued d.acked) t in (
-        no_lines d.waiting (and_first (length d.waiting == 0) (nat_le d.issued d.acked) both),
-        at_most d.issued d.acked (and_second (length d.waiting == 0) (nat_le d.issued d.acked) both),
+        no_lines d.waiting (and_parts (length d.waiting == 0) (nat_le d.issued d.acked) both).0,
+        leb-true d.issued d.acked (and_parts (length d.waiting == 0) (nat_le d.issued d.acked) both).1,
       )
 
   may_close : (s : State) (d : Data) (issued : List (List ℕ)) → d.state ≡ s → is_closable_at s d ≡ true → (h : IsUnderway p d issued) → MayClose d h.lines
@@ -291,7 +284,7 @@ module _ (p : PrintData) where
   facts fact.Quiet acked moment d issued s h = ends d.state (record d { acked = acked }) issued refl (acked_more acked d issued (λ off. s) h)
   facts fact.Opened acked moment d issued s h =
       let told : Data = record d { acked = acked } in
-      ends d.state (opened told) [] refl (opens told issued s (acked_more acked d issued (not_offline d acked s) h))
+      ends d.state (after_open told) [] refl (opens told issued s (acked_more acked d issued (not_offline d acked s) h))
   facts fact.Ready acked moment d issued s h =
       let heard : Data = record d { acked = acked; ready = true } in
       let is : Data = ready_at heard.state moment heard in
@@ -300,10 +293,10 @@ module _ (p : PrintData) where
   facts fact.Closed acked moment d issued s h = closes acked d issued s.0 s.1 h
   facts fact.NoPort acked moment d issued s h = fails d.active (record d { acked = acked }) issued refl (acked_more acked d issued (λ off. s) h)
   facts fact.Failed acked moment d issued s h =
-      let told : Data = record d { acked = acked } in fails_after (ended told) issued
+      let told : Data = record d { acked = acked } in fails_after (after_ending told) issued
       (ends told.state told issued refl (acked_more acked d issued (λ off. s) h))
   facts (fact.Ended end) acked moment d issued s h =
-      let told : Data = record d { acked = acked } in fails_after (ended told) issued
+      let told : Data = record d { acked = acked } in fails_after (after_ending told) issued
       (ends told.state told issued refl (acked_more acked d issued (λ off. s) h))
 
   settled_so : (how : Outcome) (d : Data) (issued : List (List ℕ)) → ComesTo p how d.state issued → ComesTo p how (settled d).state issued

@@ -8,11 +8,11 @@ use Rattle.desk_steps.specs.declared.state.State.TheVariants.{Offline, Connectin
 use Rattle.print_course.specs.Plan.{PrintData, print_commands, IsPart, connected_lines, printed_lines, done_lines, plan_lines}
 use Rattle.print_course.specs.Underway.{Standing, IsOpen, IsFree, IsPrinting, IsLast, Phase}
 use Rattle.print_course.specs.Underway as phase
-use Rattle.print_course.proofs.Weaves.{part_self, part_behind, part_of, printed_in_done, done_in_plan, connected_in_plan}
+use Rattle.print_course.proofs.Weaves.{part_self, part_after, part_of, printed_in_done, done_in_plan, connected_in_plan}
 
 -- the lines of a phase begin the plan
 pub in_plan : (p : PrintData) (s : Standing) (lines : List Line) → Phase p s lines → IsPart lines (plan_lines p)
-in_plan p s _ (phase.connecting e f) = part_behind [] (plan_lines p)
+in_plan p s _ (phase.connecting e f) = part_after [] (plan_lines p)
 in_plan p s _ (phase.connected o f) = connected_in_plan p
 in_plan p s _ (phase.printing o f below) = part_of (printed_lines p s.cursor) (done_lines p) (plan_lines p) (printed_in_done p s.cursor) (done_in_plan p)
 in_plan p s _ (phase.finishing o f) = done_in_plan p

@@ -1,11 +1,10 @@
 -- A poll needs its moment, and puts off the next one.
-use Rattle.std.proofs.Common.{◌≡◌, ◌⊎◌, inl, inr, ℕ, ◌+◌, ◌<◌, ◌≤◌, Bool, true, false, cond, nat_le, ◌&&◌, codes, List, [], ◌∷◌, slice_get, Option, None, Some, refl, sym, ◌∙◌, ap, subst, arith}
-use Rattle.std.proofs.lemmas.Bool.{false≢true}
-use Rattle.std.proofs.lemmas.Bool.Decides.{nat_tests}
+use Rattle.std.proofs.Common.{◌≡◌, ◌⊎◌, inl, inr, ℕ, ◌+◌, ◌<◌, ◌≤◌, Bool, true, false, cond, nat_le, codes, List, [], ◌∷◌, slice_get, Option, None, Some, refl, sym, ◌∙◌, ap, subst, arith}
+use Rattle.std.proofs.lemmas.Bool.{and_parts, leb-true}
 use Rattle.desk_steps.specs.Data.{Data, Line, commands_of, with_script, moment_after}
 use Rattle.desk_steps.specs.declared.state.Point.TheVariants as point
 use Rattle.desk_steps.specs.Course.{job_line}
-use Rattle.desk_steps.specs.Pull.{Drawn, talk, nothing, issue, from_scripts, from_manual, from_poll, poll_is_due, from_file, draw_at, is_issued, settle_at, settled, pull_step}
+use Rattle.desk_steps.specs.Pull.{Drawn, draw_in_order, nothing, issue, from_scripts, from_manual, from_poll, poll_is_due, from_file, draw_at, is_issued, settle_at, settled, pull_step}
 use Rattle.desk_steps.specs.declared.state.State.{State}
 use Rattle.desk_steps.specs.declared.state.State.TheVariants.{Offline, Connecting, Operational, Printing, Pausing, Paused, Cancelling, Finishing, Closing, Fault}
 use Rattle.desk_steps.specs.declared.state.Tag.TheVariants.{Poll}
@@ -16,13 +15,6 @@ use Rattle.print_course.specs.Progress.{after_pull}
 use Rattle.print_course.specs.Remaining.{planned_tag, IsPaced, ArePaced}
 use Rattle.print_course.proofs.Pulling.{IsIssue, issue_tag, pull-underway}
 use Rattle.print_course.proofs.Remaining.{waiting_planned}
-
-first_at_most : (a b : ℕ) → nat_le a b ≡ true → a ≤ b
-first_at_most a b e = grind (arith, nat_tests)
-
-and_left : (a b : Bool) → (a && b) ≡ true → a ≡ true
-and_left true b e = refl
-and_left false b e = absurd (false≢true e)
 
 settled_at : (s : State) (d : Data) → (settle_at s d).poll_at ≡ d.poll_at
 settled_at Printing d = either_at (is_issued d)
@@ -70,7 +62,7 @@ both_paced moment line lines old next new later ms (inr first) (inr rest) =
 
 -- the moment of a poll that is due has come
 due : (moment : ℕ) (d : Data) → poll_is_due moment d ≡ true → d.poll_at ≤ moment
-due moment d e = first_at_most d.poll_at moment (and_left (nat_le d.poll_at moment) (nat_le d.poll_line d.acked) e)
+due moment d e = leb-true d.poll_at moment (and_parts (nat_le d.poll_at moment) (nat_le d.poll_line d.acked) e).0
 
 poll_tag : (got : Line) → ◌≡◌ {A = Option Line} (Some (record { text = codes "M105"; tag = Poll })) (Some got) → planned_tag got.tag ≡ 0
 poll_tag got is =
@@ -102,7 +94,7 @@ module _ (p : PrintData) (moment : ℕ) where
   poll_paced false d next t h = h
   poll_paced true d next t h = λ got is. record { same_ms = refl; by_tag = inr (poll_tag got is, due moment d t, refl) }
 
-  talk_paced : (d : Data) (issued : List (List ℕ)) (next : Drawn) → IsUnderway p d issued → IsPaced moment d next → IsPaced moment d (talk moment d next)
+  talk_paced : (d : Data) (issued : List (List ℕ)) (next : Drawn) → IsUnderway p d issued → IsPaced moment d next → IsPaced moment d (draw_in_order moment d next)
   talk_paced d issued next h other =
       scripts_paced d.waiting d issued (from_manual d.manual d (from_poll moment d next)) refl h
       (manual_paced d.manual d (from_poll moment d next) h.no_manual (poll_paced (poll_is_due moment d) d next refl other))

@@ -1,9 +1,8 @@
 -- A pull issues the plan's next text, or a poll, or nothing.
-use Rattle.std.proofs.Common.{◌≡◌, ◌⊎◌, inl, inr, ℕ, ◌+◌, ◌<◌, min, Bool, true, false, cond, nat_eq, ◌&&◌, ◌==◌, codes, List, [], ◌∷◌, ◌++◌, length, slice_get, Option, None, Some, refl, sym, ◌∙◌, ap, subst, arith, append_assoc, length-append}
+use Rattle.std.proofs.Common.{◌≡◌, ◌⊎◌, inl, inr, ℕ, ◌+◌, ◌<◌, min, Bool, true, false, cond, nat_eq, ◌==◌, codes, List, [], ◌∷◌, ◌++◌, length, slice_get, Option, None, Some, refl, sym, ◌∙◌, ap, subst, arith, append_assoc, length-append}
 use Rattle.std.proofs.lemmas.List.{append-nil}
-use Rattle.std.proofs.lemmas.Bool.Decides.{nat_tests}
 use Rattle.desk_steps.specs.Data.{Data, Line, with_script, script_lines, commands_of, moment_after}
-use Rattle.desk_steps.specs.Pull.{Drawn, talk, nothing, next_number, keep_number, issue, from_scripts, from_manual, poll_is_due, from_file, draw_at, is_issued, settle_at, settled, pull_step}
+use Rattle.desk_steps.specs.Pull.{Drawn, draw_in_order, nothing, next_number, keep_number, issue, from_scripts, from_manual, poll_is_due, from_file, draw_at, is_issued, settle_at, settled, pull_step}
 use Rattle.desk_steps.specs.Course.{job_line}
 use Rattle.desk_steps.specs.Plain.{numbered}
 use Rattle.desk_steps.specs.declared.state.State.{State}
@@ -11,13 +10,15 @@ use Rattle.desk_steps.specs.declared.state.State.TheVariants.{Offline, Connectin
 use Rattle.desk_steps.specs.declared.state.Point.TheVariants as point
 use Rattle.desk_steps.specs.declared.state.Tag.{Tag}
 use Rattle.desk_steps.specs.declared.state.Tag.TheVariants.{Script, Job, Manual, Poll}
-use Rattle.desk_steps.proofs.Noted.{no_lines, and_first}
-use Rattle.print_course.specs.Plan.{PrintData, print_commands, Weave, started_lines, printed_lines, done_lines, line_texts}
+use Rattle.desk_steps.proofs.Noted.{no_lines}
+use Rattle.print_course.specs.Plan.{PrintData, print_commands, Weave, started_lines, printed_lines, done_lines}
 use Rattle.print_course.specs.Underway.{Standing, standing, IsOpen, IsPrinting, Phase, IsCounted, IsUnderway}
 use Rattle.print_course.specs.Underway as phase
 pub use Rattle.print_course.specs.Progress.{after_pull}
 use Rattle.print_course.proofs.Weaves.{weave_planned, weave_polled, texts_append, printed_more, printed_all, get_below}
 use Rattle.print_course.proofs.Phases.{next_waits, printing_of}
+use Rattle.session_steps.specs.Turn.{texts_in}
+use Rattle.std.proofs.lemmas.Bool.{and_parts, eqb-true}
 
 -- an issued line changes the desk's numbers alone
 pub record IsIssue (d e : Data) : Type 0 where
@@ -117,19 +118,12 @@ counts_on d e issued text i before below =
 pub file_commands : (p : PrintData) (d : Data) → d.file ≡ Some p.file → commands_of d.file ≡ print_commands p
 file_commands p d e = ap commands_of e
 
-and_second : (a b : Bool) → (a && b) ≡ true → b ≡ true
-and_second true b e = e
-and_second false b e = absurd (cc e)
-
-same_number : (a b : ℕ) → nat_eq a b ≡ true → a ≡ b
-same_number a b e = grind (arith, nat_tests)
-
 -- all lines but those of the Done script were issued
 pub issued_all : (p : PrintData) (d : Data) → d.file ≡ Some p.file → is_issued d ≡ true → (d.waiting ≡ []) × (d.cursor ≡ length (print_commands p))
 issued_all p d e t =
-    let none : d.waiting ≡ [] = no_lines d.waiting (and_first (length d.waiting == 0) (d.cursor == length (commands_of d.file)) t) in
-    let last : d.cursor ≡ length (commands_of d.file) = same_number d.cursor (length (commands_of d.file))
-    (and_second (length d.waiting == 0) (d.cursor == length (commands_of d.file)) t) in
+    let none : d.waiting ≡ [] = no_lines d.waiting (and_parts (length d.waiting == 0) (d.cursor == length (commands_of d.file)) t).0 in
+    let last : d.cursor ≡ length (commands_of d.file) = eqb-true d.cursor (length (commands_of d.file))
+    (and_parts (length d.waiting == 0) (d.cursor == length (commands_of d.file)) t).1 in
     (none, last ∙ ap (λ (l : List (List ℕ)). length l) (file_commands p d e))
 
 module _ (p : PrintData) where
@@ -140,7 +134,7 @@ module _ (p : PrintData) where
   -- a line is issued at such a desk, and the sent lines are then these
   issues : (line : Line) (d : Data) (issued : List (List ℕ)) (sent lines : List Line) → d.scripts ≡ p.scripts → d.limits ≡ p.limits
       → d.file ≡ Some p.file → d.manual ≡ [] → Phase p (standing d) lines → sent ++ d.waiting ≡ lines
-      → Weave (issued ++ line.text ∷ []) (line_texts sent) → (d.issued < 18446744073709551615 → IsCounted d issued) → (d.state ≡ Offline → ⊥)
+      → Weave (issued ++ line.text ∷ []) (texts_in sent) → (d.issued < 18446744073709551615 → IsCounted d issued) → (d.state ≡ Offline → ⊥)
       → Kept issued (issue line d)
   issues line d issued sent lines scripts limits file manual h parted woven counted online =
       let i : IsIssue d (issue line d).1 = issue_tag line.tag d in
@@ -163,10 +157,10 @@ module _ (p : PrintData) where
   scripts_first [] d next issued e online h others = others e
   scripts_first (line ∷ rest) d next issued e online h others =
       let split : (h.sent ++ line ∷ []) ++ rest ≡ h.lines = append_assoc h.sent (line ∷ []) rest ∙ ap (λ (w : List Line). h.sent ++ w) (sym e) ∙ h.parted in
-      let more : line_texts (h.sent ++ line ∷ []) ≡ line_texts h.sent ++ line.text ∷ [] = texts_append h.sent (line ∷ []) in
+      let more : texts_in (h.sent ++ line ∷ []) ≡ texts_in h.sent ++ line.text ∷ [] = texts_append h.sent (line ∷ []) in
       issues line (record d { waiting = rest }) issued (h.sent ++ line ∷ []) h.lines h.scripts_are h.limits_are h.file_is h.no_manual
       (next_waits p (standing d) h.lines line rest e h.phase) split
-      (subst (λ part. Weave (issued ++ line.text ∷ []) part) (sym more) (weave_planned issued (line_texts h.sent) line.text h.woven))
+      (subst (λ part. Weave (issued ++ line.text ∷ []) part) (sym more) (weave_planned issued (texts_in h.sent) line.text h.woven))
       (λ below. (let c = h.counted below in record { all = c.all; print = c.print })) online
 
   no_manual_line : (m : List (List ℕ)) (d : Data) (next : Drawn) (issued : List (List ℕ)) → m ≡ [] → Kept issued next → Kept issued (from_manual m d next)
@@ -179,11 +173,11 @@ module _ (p : PrintData) where
   polls true at d next issued online h other =
       issues (record { text = codes "M105"; tag = Poll })
       (record d { poll_at = at }) issued h.sent h.lines h.scripts_are h.limits_are h.file_is h.no_manual h.phase h.parted
-      (weave_polled issued (line_texts h.sent) h.woven)
+      (weave_polled issued (texts_in h.sent) h.woven)
       (λ below. (let c = h.counted below in record { all = c.all; print = c.print })) online
 
   talks : (moment : ℕ) (d : Data) (next : Drawn) (issued : List (List ℕ)) → (d.state ≡ Offline → ⊥) → IsUnderway p d issued
-      → (d.waiting ≡ [] → Kept issued next) → Kept issued (talk moment d next)
+      → (d.waiting ≡ [] → Kept issued next) → Kept issued (draw_in_order moment d next)
   talks moment d next issued online h other =
       scripts_first d.waiting d _ issued refl online h (λ none. no_manual_line d.manual d _ issued h.no_manual
       (polls (poll_is_due moment d) (moment_after moment d.poll_ms) d next issued online h (other none)))
@@ -202,12 +196,12 @@ module _ (p : PrintData) where
       let after : (h.sent ++ line ∷ []) ++ d.waiting ≡ printed_lines p (d.cursor + 1) =
       ap (λ (w : List Line). (h.sent ++ line ∷ []) ++ w) none ∙ append-nil (h.sent ++ line ∷ []) ∙ ap (λ (l : List Line). l ++ line ∷ []) before
       ∙ ap (λ (l : Line). printed_lines p d.cursor ++ l ∷ []) one ∙ sym (printed_more p d.cursor text there) in
-      let more : line_texts (h.sent ++ line ∷ []) ≡ line_texts h.sent ++ text ∷ [] = texts_append h.sent (line ∷ []) in
+      let more : texts_in (h.sent ++ line ∷ []) ≡ texts_in h.sent ++ text ∷ [] = texts_append h.sent (line ∷ []) in
       issues line (record d { cursor = d.cursor + 1 }) issued (h.sent ++ line ∷ [])
       (printed_lines p (d.cursor + 1)) h.scripts_are h.limits_are h.file_is h.no_manual
       (phase.printing (record { its_state = on.opened.its_state; ready_is = on.opened.ready_is })
       (record { print_is = on.on.print_is; active_is = on.on.active_is }) (get_below (print_commands p) d.cursor text there))
-      after (subst (λ part. Weave (issued ++ text ∷ []) part) (sym more) (weave_planned issued (line_texts h.sent) text h.woven))
+      after (subst (λ part. Weave (issued ++ text ∷ []) part) (sym more) (weave_planned issued (texts_in h.sent) text h.woven))
       (λ below. (let c = h.counted below in record { all = c.all; print = c.print }))
       (λ off. (let clash : Printing ≡ Offline = sym at ∙ off in absurd (cc clash)))
 

@@ -7,8 +7,8 @@ use Rattle.desk_steps.specs.Data.{Data, Line, ScriptTexts, tagged, script_lines,
 use Rattle.desk_steps.specs.Course.{job_line}
 use Rattle.desk_steps.specs.Plain.{numbered}
 use Rattle.desk_steps.specs.Table.{printing, disconnect_at}
-use Rattle.desk_steps.specs.Pull.{Drawn, talk, nothing, issue, from_scripts, from_manual, from_poll, poll_is_due, from_file, draw_at, is_issued, settle_at, settled, pull_step}
-use Rattle.desk_steps.specs.Note.{end_at, is_over, finish, opened, ready_at, note_step}
+use Rattle.desk_steps.specs.Pull.{Drawn, draw_in_order, nothing, issue, from_scripts, from_manual, from_poll, poll_is_due, from_file, draw_at, is_issued, settle_at, settled, pull_step}
+use Rattle.desk_steps.specs.Note.{end_at, is_over, finish, after_open, ready_at, note_step}
 use Rattle.desk_steps.specs.declared.state.State.{State}
 use Rattle.desk_steps.specs.declared.state.State.TheVariants.{Offline, Connecting, Operational, Printing, Pausing, Paused, Cancelling, Finishing, Closing, Fault}
 use Rattle.desk_steps.specs.declared.state.Point.{Point}
@@ -112,7 +112,7 @@ module _ (p : PrintData) where
   none_falls d = omega arith
 
   talk_falls : (moment : ℕ) (d : Data) (issued : List (List ℕ)) (next : Drawn) → is_giving d.state ≡ true → IsUnderway p d issued
-      → (d.waiting ≡ [] → Falls p d next) → Falls p d (talk moment d next)
+      → (d.waiting ≡ [] → Falls p d next) → Falls p d (draw_in_order moment d next)
   talk_falls moment d issued next gives h others =
       scripts_fall d.waiting d issued (from_manual d.manual d (from_poll moment d next)) refl gives h
       (λ none. manual_falls d.manual d (from_poll moment d next) h.no_manual
@@ -261,7 +261,7 @@ module _ (p : PrintData) where
       → remaining p (standing (note_step acked fact.Opened moment d).1) ≡ remaining p (standing d)
   opened-remaining acked moment d issued s h =
       let told : Data = record d { acked = acked } in
-      ended_same (opened told) [] (opens p told issued s (acked_more p acked d issued (not_offline p d acked s) h))
+      ended_same (after_open told) [] (opens p told issued s (acked_more p acked d issued (not_offline p d acked s) h))
 
   pub ready-remaining : (acked moment : ℕ) (d : Data) (issued : List (List ℕ)) → Suits fact.Ready acked d → IsUnderway p d issued
       → remaining p (standing (note_step acked fact.Ready moment d).1) ≡ remaining p (standing d)

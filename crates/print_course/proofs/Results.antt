@@ -4,25 +4,26 @@ use Rattle.std.proofs.lemmas.List.{append-nil}
 use Rattle.std.proofs.lemmas.Bool.{false≢true}
 use Rattle.std.proofs.lemmas.List.Elements.{All-head}
 use Rattle.desk_steps.specs.Data.{Data, Line, moment_after}
-use Rattle.desk_steps.specs.Pull.{Drawn, talk, nothing, issue, from_scripts, from_manual, poll_is_due, draw_at, pull_step}
+use Rattle.desk_steps.specs.Pull.{Drawn, draw_in_order, nothing, issue, from_scripts, from_manual, poll_is_due, draw_at, pull_step}
 use Rattle.desk_steps.specs.declared.state.State.TheVariants.{Offline}
 use Rattle.desk_steps.specs.declared.state.Tag.TheVariants.{Poll}
-use Rattle.print_course.specs.Plan.{PrintData, print_commands, plan, Weave, IsPart, WeavesPart, plan_lines, line_texts}
+use Rattle.print_course.specs.Plan.{PrintData, print_commands, plan, Weave, IsPart, WeavesPart, plan_lines}
 use Rattle.print_course.specs.Underway.{Standing, standing, IsLast, Phase, IsUnderway, IsWhole}
 use Rattle.print_course.specs.Underway as phase
 use Rattle.print_course.specs.Progress.{IsLate}
-use Rattle.print_course.proofs.Weaves.{part_of, part_behind, texts_part, plan_is}
+use Rattle.print_course.proofs.Weaves.{part_of, part_after, texts_part, plan_is}
 use Rattle.print_course.proofs.Phases.{zero≢one, in_plan, whole_offline, none_offline}
+use Rattle.session_steps.specs.Turn.{texts_in}
 
 module _ (p : PrintData) where
   -- what was issued is a weave of a first part of the plan
   pub underway-part : (d : Data) (issued : List (List ℕ)) → IsUnderway p d issued → WeavesPart issued (plan p.scripts (print_commands p))
   underway-part d issued h =
-      let part : IsPart h.sent (plan_lines p) = part_of h.sent (h.sent ++ d.waiting) (plan_lines p) (part_behind h.sent d.waiting)
+      let part : IsPart h.sent (plan_lines p) = part_of h.sent (h.sent ++ d.waiting) (plan_lines p) (part_after h.sent d.waiting)
       (subst (λ (l : List Line). IsPart l (plan_lines p)) (sym h.parted) (in_plan p (standing d) h.lines h.phase)) in
       record {
-        part = line_texts h.sent;
-        is_part = subst (λ (l : List (List ℕ)). IsPart (line_texts h.sent) l) (plan_is p) (texts_part h.sent (plan_lines p) part);
+        part = texts_in h.sent;
+        is_part = subst (λ (l : List (List ℕ)). IsPart (texts_in h.sent) l) (plan_is p) (texts_part h.sent (plan_lines p) part);
         woven = h.woven;
       }
 
@@ -33,7 +34,7 @@ module _ (p : PrintData) where
       let all : h.sent ≡ plan_lines p = sym (append-nil h.sent) ∙ ap (λ (w : List Line). h.sent ++ w) (sym none) ∙ h.parted
       ∙ whole_offline p (standing d) h.lines h.phase off in
       record {
-        woven = subst (λ (l : List (List ℕ)). Weave issued l) (ap line_texts all ∙ plan_is p) h.woven;
+        woven = subst (λ (l : List (List ℕ)). Weave issued l) (ap texts_in all ∙ plan_is p) h.woven;
         acknowledged = h.acknowledged off;
         all = λ below. ((h.counted below).all);
       }
@@ -49,7 +50,7 @@ module _ (p : PrintData) where
   scripts_late [] d last line e = absurd (cc e)
   scripts_late (first ∷ rest) d last line e = let same : line ≡ first = cc e in inr (subst IsLast (sym same) (All-head IsLast first rest last))
 
-  talk_late : (moment : ℕ) (d : Data) → d.waiting ≡ [] → d.manual ≡ [] → IsLate (talk moment d (nothing d))
+  talk_late : (moment : ℕ) (d : Data) → d.waiting ≡ [] → d.manual ≡ [] → IsLate (draw_in_order moment d (nothing d))
   talk_late moment d none no_manual =
       let asked : Data = record d { poll_at = moment_after moment d.poll_ms } in
       let next : Drawn = cond (poll_is_due moment d) (issue (record { text = codes "M105"; tag = Poll }) asked) (nothing d) in

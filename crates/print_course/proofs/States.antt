@@ -3,10 +3,11 @@ use Rattle.std.proofs.Common.{◌≡◌, ℕ, Bool, true, false, cond, codes, Li
 use Rattle.desk_steps.specs.declared.link_fact.LinkFact.TheVariants as fact
 use Rattle.desk_steps.specs.Data.{Data, Line, moment_after}
 use Rattle.desk_steps.specs.Pull.{Drawn, nothing, draw_at, settle_at, settled, pull_step, issue, from_scripts, from_manual, poll_is_due}
-use Rattle.desk_steps.specs.Note.{Noted, end_at, opened, ready_at, fail, note_step}
+use Rattle.desk_steps.specs.Note.{Noted, end_at, after_open, ready_at, fail, note_step}
 use Rattle.desk_steps.specs.declared.state.State.{State}
 use Rattle.desk_steps.specs.declared.state.State.TheVariants.{Connecting, Operational, Fault}
 use Rattle.desk_steps.specs.declared.state.Tag.TheVariants.{Manual, Poll}
+use Rattle.desk_steps.proofs.Connecting.{none_ends}
 use Rattle.session_steps.specs.DeskTurn.{Pulls}
 use Rattle.session_steps.proofs.Counts.{counted_pull}
 use Rattle.print_course.proofs.Pulling.{issue_state}
@@ -26,15 +27,15 @@ pub acked_pulls : (moment : ℕ) (lines : List Line) (old new : Data) → Pulls 
 acked_pulls moment [] old new pulls = ap (λ (d : Data). d.acked) pulls
 acked_pulls moment (line ∷ lines) old new pulls = acked_pulls moment lines (pull_step moment old).1 new pulls.1 ∙ (counted_pull moment old).acked
 
-kept_scripts : (w : List Line) (d : Data) (next : Drawn) → next.1.state ≡ d.state → (from_scripts w d next).1.state ≡ d.state
+pub kept_scripts : (w : List Line) (d : Data) (next : Drawn) → next.1.state ≡ d.state → (from_scripts w d next).1.state ≡ d.state
 kept_scripts [] d next same = same
 kept_scripts (line ∷ lines) d next same = issue_state line (record d { waiting = lines })
 
-kept_manual : (m : List (List ℕ)) (d : Data) (next : Drawn) → next.1.state ≡ d.state → (from_manual m d next).1.state ≡ d.state
+pub kept_manual : (m : List (List ℕ)) (d : Data) (next : Drawn) → next.1.state ≡ d.state → (from_manual m d next).1.state ≡ d.state
 kept_manual [] d next same = same
 kept_manual (text ∷ texts) d next same = issue_state (record { text = text; tag = Manual }) (record d { manual = texts })
 
-kept_poll : (b : Bool) (at : ℕ) (d : Data) (next : Drawn) → next.1.state ≡ d.state
+pub kept_poll : (b : Bool) (at : ℕ) (d : Data) (next : Drawn) → next.1.state ≡ d.state
     → (cond b (issue (record { text = codes "M105"; tag = Poll }) (record d { poll_at = at })) next).1.state ≡ d.state
 kept_poll true at d next same = issue_state (record { text = codes "M105"; tag = Poll }) (record d { poll_at = at })
 kept_poll false at d next same = same
@@ -50,21 +51,19 @@ pull_open moment d at =
     let drawn : Drawn = draw_at d.state moment d in
     settled_open drawn.1 (ap (λ s. (draw_at s moment d).1.state) at ∙ draw_open moment d ∙ at)
 
+-- pulls keep a state that each pull keeps
+pub pulls_keep : (s : State) → ((moment : ℕ) (d : Data) → d.state ≡ s → (pull_step moment d).1.state ≡ s)
+    → (moment : ℕ) (lines : List Line) (old new : Data) → old.state ≡ s → Pulls moment lines old new → new.state ≡ s
+pulls_keep s keeps moment [] old new at pulls = ap (λ (d : Data). d.state) pulls ∙ at
+pulls_keep s keeps moment (line ∷ lines) old new at pulls = pulls_keep s keeps moment lines (pull_step moment old).1 new (keeps moment old at) pulls.1
+
 pub pulls_open : (moment : ℕ) (lines : List Line) (old new : Data) → old.state ≡ Operational → Pulls moment lines old new → new.state ≡ Operational
-pulls_open moment [] old new at pulls = ap (λ (d : Data). d.state) pulls ∙ at
-pulls_open moment (line ∷ lines) old new at pulls = pulls_open moment lines (pull_step moment old).1 new (pull_open moment old at) pulls.1
+pulls_open moment lines old new at pulls = pulls_keep Operational pull_open moment lines old new at pulls
 
 -- What notes make of the state.
 
--- nothing ends while it connects
-none_ends : (d : Data) → d.state ≡ Connecting → (settled (end_at d.state d).1).state ≡ Connecting
-none_ends d at = ap (λ s. (settled (end_at s d).1).state) at ∙ ap (λ s. (settle_at s d).state) at ∙ at
-
 pub note_connecting : (acked moment : ℕ) (d : Data) → d.state ≡ Connecting → (note_step acked fact.Quiet moment d).1.state ≡ Connecting
 note_connecting acked moment d at = none_ends (record d { acked = acked }) at
-
-pub note_opened : (acked moment : ℕ) (d : Data) → d.state ≡ Connecting → (note_step acked fact.Opened moment d).1.state ≡ Connecting
-note_opened acked moment d at = none_ends (opened (record d { acked = acked })) at
 
 pub note_ready : (acked moment : ℕ) (d : Data) → d.state ≡ Connecting → (note_step acked fact.Ready moment d).1.state ≡ Operational
 note_ready acked moment d at =

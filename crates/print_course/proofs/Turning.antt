@@ -11,31 +11,32 @@ use Rattle.print_records.specs.declared.ending.Outcome.TheVariants as outcome
 use Rattle.desk_steps.specs.Data.{Data, Line}
 use Rattle.desk_steps.specs.Table.{is_closable_at}
 use Rattle.desk_steps.specs.Pull.{pull_step}
-use Rattle.desk_steps.specs.Note.{Noted, ended, end_at, is_over, finish, note_step, first_fact}
+use Rattle.desk_steps.specs.Note.{Noted, after_ending, end_at, is_over, finish, note_step, first_fact}
 use Rattle.desk_steps.specs.declared.state.State.{State}
 use Rattle.desk_steps.specs.declared.state.State.TheVariants.{Offline, Connecting, Operational, Printing, Pausing, Paused, Cancelling, Finishing, Closing, Fault}
+use Rattle.desk_steps.proofs.Connecting.{note_opened}
 use Rattle.printer_link.specs.Link.{LinkKind}
 use Rattle.printer_model.specs.declared.event.WorldEvent.{WorldEvent}
 use Rattle.session_steps.specs.Data.{SessionData, IsSession, is_connecting, doing}
 use Rattle.session_steps.specs.DeskTurn.{Pulls, last_noted, IsNoted}
 use Rattle.session_steps.specs.Found.{Got, unasked, lost, nothing as silence, whole, can_find, may_issue}
-use Rattle.session_steps.specs.Turn.{fact_of, lines_of, IsTurn, IsDeskTurn}
+use Rattle.session_steps.specs.Turn.{fact_of, lines_of, IsTurn, IsDeskTurn, texts_in}
 use Rattle.session_steps.specs.declared.found.Doing.{Doing}
-use Rattle.session_steps.specs.declared.found.Doing.TheVariants.{Dialling, HangingUp, Talking, Resting}
+use Rattle.session_steps.specs.declared.found.Doing.TheVariants.{Dialling, HangingUp, UsingLink, Resting}
 use Rattle.session_steps.proofs.Desk.{noted_greatest}
 use Rattle.session_steps.proofs.Counts.{begins, counts_note}
 use Rattle.session_steps.proofs.Choosing.{dials_at, hangs_up_at}
 use Rattle.lossy_line.specs.Issuing.{issued_in}
 use Rattle.session_steps.proofs.Noting.{noted_fact, noted_lines}
 use Rattle.session_steps.specs.declared.found.Turned.{Turned}
-use Rattle.print_course.specs.Plan.{PrintData, line_texts}
+use Rattle.print_course.specs.Plan.{PrintData}
 use Rattle.print_course.specs.Underway.{standing, IsUnderway, Suits, ComesTo, EndsAs}
 use Rattle.print_course.specs.Progress.{after_pull, after_fact}
 use Rattle.print_course.specs.Turned.{IsTurnOf}
-use Rattle.print_course.proofs.Weaves.{part_of, part_behind}
+use Rattle.print_course.proofs.Weaves.{part_of, part_after}
 use Rattle.print_course.proofs.Phases.{finishing_of, impossible}
 use Rattle.print_course.proofs.Pulling.{pull-underway}
-use Rattle.print_course.proofs.States.{stays_silent, acked_pulls, pulls_open, settled_open, note_connecting, note_opened, note_ready, failed_state}
+use Rattle.print_course.proofs.States.{stays_silent, acked_pulls, pulls_open, settled_open, note_connecting, note_ready, failed_state}
 use Rattle.print_course.proofs.Noting.{NotedSo, still_so, acked_more, note-underway}
 
 -- What a turn does, by the desk.
@@ -56,13 +57,13 @@ suits HangingUp fact.Failed x acked at can more = more refl
 suits HangingUp fact.Quiet x acked at can more = more refl
 suits HangingUp fact.Ready x acked at can more = more refl
 suits HangingUp (fact.Ended end) x acked at can more = more refl
-suits Talking fact.Opened x acked at can more = absurd (false≢true can)
-suits Talking fact.Closed x acked at can more = absurd (false≢true can)
-suits Talking fact.NoPort x acked at can more = more refl
-suits Talking fact.Failed x acked at can more = more refl
-suits Talking fact.Quiet x acked at can more = more refl
-suits Talking fact.Ready x acked at can more = more refl
-suits Talking (fact.Ended end) x acked at can more = more refl
+suits UsingLink fact.Opened x acked at can more = absurd (false≢true can)
+suits UsingLink fact.Closed x acked at can more = absurd (false≢true can)
+suits UsingLink fact.NoPort x acked at can more = more refl
+suits UsingLink fact.Failed x acked at can more = more refl
+suits UsingLink fact.Quiet x acked at can more = more refl
+suits UsingLink fact.Ready x acked at can more = more refl
+suits UsingLink (fact.Ended end) x acked at can more = more refl
 suits Resting fact.Opened x acked at can more = absurd (false≢true can)
 suits Resting fact.Closed x acked at can more = absurd (false≢true can)
 suits Resting fact.NoPort x acked at can more = more refl
@@ -82,8 +83,8 @@ opened_last (fact.Ended end) e = absurd (false≢true e)
 
 -- the texts of a turn
 texts_after : (found : LinkFact) (lines : List Line) (issued : List (List ℕ)) → (begins found ≡ true → lines ≡ [])
-    → after_fact (first_fact found) issued ++ line_texts lines ≡ issued_in found (line_texts lines) issued
-texts_after fact.Opened lines issued none = ap line_texts (none refl)
+    → after_fact (first_fact found) issued ++ texts_in lines ≡ issued_in found (texts_in lines) issued
+texts_after fact.Opened lines issued none = ap texts_in (none refl)
 texts_after fact.Quiet lines issued none = refl
 texts_after fact.Ready lines issued none = refl
 texts_after fact.Closed lines issued none = refl
@@ -109,31 +110,31 @@ quiet_may_not (whole bytes) = refl
 module _ (p : PrintData) where
   -- successive pulls issue their texts
   pub pulls-underway : (moment : ℕ) (lines : List Line) (old new : Data) (issued : List (List ℕ)) → Pulls moment lines old new
-      → IsUnderway p old issued → IsUnderway p new (issued ++ line_texts lines)
+      → IsUnderway p old issued → IsUnderway p new (issued ++ texts_in lines)
   pulls-underway moment [] old new issued pulls h = subst (λ l. IsUnderway p new l) (sym (append-nil issued))
       (subst (λ (d : Data). IsUnderway p d issued) (sym pulls) h)
   pulls-underway moment (line ∷ lines) old new issued pulls h =
       let next : Data = (pull_step moment old).1 in
       let one : IsUnderway p next (issued ++ line.text ∷ []) =
       subst (λ (got : Option Line). IsUnderway p next (after_pull got issued)) pulls.0 (pull-underway p moment old issued h) in
-      subst (λ l. IsUnderway p new l) (append_assoc issued (line.text ∷ []) (line_texts lines))
+      subst (λ l. IsUnderway p new l) (append_assoc issued (line.text ∷ []) (texts_in lines))
       (pulls-underway moment lines next new (issued ++ line.text ∷ []) pulls.1 one)
 
   comes_more : (how : Outcome) (moment : ℕ) (lines : List Line) (old new : Data) (issued : List (List ℕ)) → Pulls moment lines old new
-      → ComesTo p how old.state issued → ComesTo p how new.state (issued ++ line_texts lines)
+      → ComesTo p how old.state issued → ComesTo p how new.state (issued ++ texts_in lines)
   comes_more outcome.Active moment lines old new issued pulls h = h
   comes_more outcome.Cancelled moment lines old new issued pulls h = h
   comes_more outcome.Done moment lines old new issued pulls h =
       record {
         first = h.first;
-        is_part = part_of h.first issued (issued ++ line_texts lines) h.is_part (part_behind issued (line_texts lines));
+        is_part = part_of h.first issued (issued ++ texts_in lines) h.is_part (part_after issued (texts_in lines));
         woven = h.woven;
       }
   comes_more outcome.Failed moment lines old new issued pulls h = ap (λ (d : Data). d.state) (stays_silent Fault moment lines old new (λ d. refl) h pulls) ∙ h
 
   -- an ending stays what it was while lines are pulled
   ends_more : (ending : Option Ending) (moment : ℕ) (lines : List Line) (old new : Data) (issued : List (List ℕ)) → Pulls moment lines old new
-      → EndsAs p ending old.state issued → EndsAs p ending new.state (issued ++ line_texts lines)
+      → EndsAs p ending old.state issued → EndsAs p ending new.state (issued ++ texts_in lines)
   ends_more None moment lines old new issued pulls h = tt
   ends_more (Some ending) moment lines old new issued pulls h = (h.0, comes_more ending.outcome moment lines old new issued pulls h.1)
 
@@ -154,7 +155,7 @@ module _ (p : PrintData) where
   noted_last fact.Failed acked moment issued noted below h =
       let last : Noted = note_step acked fact.Failed moment noted.1 in
       let so : NotedSo p issued last = note-underway p fact.Failed acked moment noted.1 issued (below refl) h.0 in
-      let down : last.1.state ≡ Fault = failed_state (ended (record noted.1 { acked = acked })) in
+      let down : last.1.state ≡ Fault = failed_state (after_ending (record noted.1 { acked = acked })) in
       let its_end : EndsAs p last.0 Fault issued = subst (λ s. EndsAs p last.0 s issued) down so.1 in
       (so.0, subst (λ s. EndsAs p (option_or noted.0 last.0) s issued) (sym down) (either_end noted.0 last.0 noted.1.state issued h.1 its_end))
 
@@ -226,15 +227,15 @@ module _ (p : PrintData) where
       let first : Noted = note_step acked (first_fact found) moment old in
       let texts : List (List ℕ) = after_fact (first_fact found) issued in
       let so : NotedSo p texts first = note-underway p (first_fact found) acked moment old issued s h in
-      let pulled : NotedSo p (texts ++ line_texts lines) (first.0, n.pulled) =
+      let pulled : NotedSo p (texts ++ texts_in lines) (first.0, n.pulled) =
       (pulls-underway moment lines first.1 n.pulled texts n.pulls so.0, ends_more first.0 moment lines first.1 n.pulled texts n.pulls so.1) in
       let below : begins found ≡ false → n.pulled.acked ≤ acked = λ e.
       (let same : n.pulled.acked ≡ acked = acked_pulls moment lines first.1 n.pulled n.pulls
       ∙ (counts_note acked (first_fact found) moment old (not_begun found e)).acked in omega (arith, same)) in
-      let last : NotedSo p (texts ++ line_texts lines) (ending, new) =
-      subst (λ x. NotedSo p (texts ++ line_texts lines) x) (sym n.is)
-      (noted_last found acked moment (texts ++ line_texts lines) (first.0, n.pulled) below pulled) in
-      let all : NotedSo p (issued_in found (line_texts lines) issued) (ending, new) =
+      let last : NotedSo p (texts ++ texts_in lines) (ending, new) =
+      subst (λ x. NotedSo p (texts ++ texts_in lines) x) (sym n.is)
+      (noted_last found acked moment (texts ++ texts_in lines) (first.0, n.pulled) below pulled) in
+      let all : NotedSo p (issued_in found (texts_in lines) issued) (ending, new) =
       subst (λ l. NotedSo p l (ending, new)) (texts_after found lines issued none) last in
       record {
         underway = all.0;
@@ -275,7 +276,7 @@ module _ (p : PrintData) where
       noted-turn moment acked found lines issued old ending new s more none t h
   desk_turn HangingUp moment acked found lines issued old ending new can s more none t h =
       noted-turn moment acked found lines issued old ending new s more none t h
-  desk_turn Talking moment acked found lines issued old ending new can s more none t h =
+  desk_turn UsingLink moment acked found lines issued old ending new can s more none t h =
       noted-turn moment acked found lines issued old ending new s more none t h
   desk_turn Resting moment acked found lines issued old ending new can s more none t h =
       subst (λ l. IsTurnOf p found l issued old ending new) (sym t.0)

@@ -1,12 +1,13 @@
 -- Weaves, and the plan as lines and as texts.
 use Rattle.std.proofs.Common.{◌≡◌, cond, ℕ, zero, suc, ◌+◌, ◌≤◌, List, [], ◌∷◌, ◌++◌, length, take, drop, slice_get, Some, refl, sym, ◌∙◌, ap, arith, append_assoc}
-use Rattle.std.proofs.lemmas.List.{append-nil, map-append, take-append-drop}
+use Rattle.std.proofs.lemmas.List.{append-nil, map-append, take-append-drop, take_all}
 use Rattle.desk_steps.specs.Data.{ScriptTexts, Line, tagged, script_lines}
 use Rattle.desk_steps.specs.Course.{job_line}
 use Rattle.desk_steps.specs.Plain.{numbered}
 use Rattle.desk_steps.specs.declared.state.Point.TheVariants as point
 use Rattle.desk_steps.specs.declared.state.Tag.{Tag}
-use Rattle.print_course.specs.Plan.{plan, poll, is_poll, without_polls, Weave, empty, planned, polled, IsPart, PrintData, print_commands, connected_lines, started_lines, printed_lines, done_lines, plan_lines, line_texts}
+use Rattle.print_course.specs.Plan.{plan, poll, is_poll, without_polls, Weave, empty, planned, polled, IsPart, PrintData, print_commands, connected_lines, started_lines, printed_lines, done_lines, plan_lines}
+use Rattle.session_steps.specs.Turn.{texts_in}
 
 -- the plan's next text is issued
 pub weave_planned : (list plan : List (List ℕ)) (text : List ℕ) → Weave list plan → Weave (list ++ text ∷ []) (plan ++ text ∷ [])
@@ -29,8 +30,8 @@ weave_others _ _ (polled list plan w) = weave_others list plan w
 pub part_self : {X : Type 0} (xs : List X) → IsPart xs xs
 part_self xs = record { rest = []; joined = append-nil xs }
 
-pub part_behind : {X : Type 0} (xs ys : List X) → IsPart xs (xs ++ ys)
-part_behind xs ys = record { rest = ys; joined = refl }
+pub part_after : {X : Type 0} (xs ys : List X) → IsPart xs (xs ++ ys)
+part_after xs ys = record { rest = ys; joined = refl }
 
 pub part_of : {X : Type 0} (xs ys zs : List X) → IsPart xs ys → IsPart ys zs → IsPart xs zs
 part_of xs ys zs a b = record {
@@ -39,35 +40,35 @@ part_of xs ys zs a b = record {
 }
 
 -- the texts of lines that are joined
-pub texts_append : (xs ys : List Line) → line_texts (xs ++ ys) ≡ line_texts xs ++ line_texts ys
+pub texts_append : (xs ys : List Line) → texts_in (xs ++ ys) ≡ texts_in xs ++ texts_in ys
 texts_append xs ys = map-append (λ (line : Line). line.text) xs ys
 
-pub texts_tagged : (tag : Tag) (texts : List (List ℕ)) → line_texts (tagged tag texts) ≡ texts
+pub texts_tagged : (tag : Tag) (texts : List (List ℕ)) → texts_in (tagged tag texts) ≡ texts
 texts_tagged tag [] = refl
 texts_tagged tag (text ∷ texts) = ap (λ (l : List (List ℕ)). text ∷ l) (texts_tagged tag texts)
 
-texts_numbered : (index : ℕ) (texts : List (List ℕ)) → line_texts (numbered 1 index texts) ≡ texts
+texts_numbered : (index : ℕ) (texts : List (List ℕ)) → texts_in (numbered 1 index texts) ≡ texts
 texts_numbered index [] = refl
 texts_numbered index (text ∷ texts) = ap (λ (l : List (List ℕ)). text ∷ l) (texts_numbered (index + 1) texts)
 
-pub texts_part : (xs ys : List Line) → IsPart xs ys → IsPart (line_texts xs) (line_texts ys)
-texts_part xs ys part = record { rest = line_texts part.rest; joined = sym (texts_append xs part.rest) ∙ ap line_texts part.joined }
+pub texts_part : (xs ys : List Line) → IsPart xs ys → IsPart (texts_in xs) (texts_in ys)
+texts_part xs ys part = record { rest = texts_in part.rest; joined = sym (texts_append xs part.rest) ∙ ap texts_in part.joined }
 
 -- the tagged lines are the plan
-pub plan_is : (p : PrintData) → line_texts (plan_lines p) ≡ plan p.scripts (print_commands p)
+pub plan_is : (p : PrintData) → texts_in (plan_lines p) ≡ plan p.scripts (print_commands p)
 plan_is p =
     let s : ScriptTexts = p.scripts in
-    let c : line_texts (connected_lines p) ≡ s.connected = texts_tagged _ s.connected in
-    let b : line_texts (started_lines p) ≡ s.connected ++ s.started =
-    texts_append (connected_lines p) (script_lines s point.Started 1) ∙ ap (λ l. l ++ line_texts (script_lines s point.Started 1)) c
+    let c : texts_in (connected_lines p) ≡ s.connected = texts_tagged _ s.connected in
+    let b : texts_in (started_lines p) ≡ s.connected ++ s.started =
+    texts_append (connected_lines p) (script_lines s point.Started 1) ∙ ap (λ l. l ++ texts_in (script_lines s point.Started 1)) c
     ∙ ap (λ l. s.connected ++ l) (texts_tagged _ s.started) in
-    let n : line_texts (started_lines p ++ numbered 1 0 (print_commands p)) ≡ s.connected ++ s.started ++ print_commands p =
-    texts_append (started_lines p) (numbered 1 0 (print_commands p)) ∙ ap (λ l. l ++ line_texts (numbered 1 0 (print_commands p))) b
+    let n : texts_in (started_lines p ++ numbered 1 0 (print_commands p)) ≡ s.connected ++ s.started ++ print_commands p =
+    texts_append (started_lines p) (numbered 1 0 (print_commands p)) ∙ ap (λ l. l ++ texts_in (numbered 1 0 (print_commands p))) b
     ∙ ap (λ l. s.connected ++ s.started ++ l) (texts_numbered 0 (print_commands p)) in
-    let d : line_texts (done_lines p) ≡ s.connected ++ s.started ++ print_commands p ++ s.done =
-    texts_append (started_lines p ++ numbered 1 0 (print_commands p)) (script_lines s point.Done 1) ∙ ap (λ l. l ++ line_texts (script_lines s point.Done 1)) n
+    let d : texts_in (done_lines p) ≡ s.connected ++ s.started ++ print_commands p ++ s.done =
+    texts_append (started_lines p ++ numbered 1 0 (print_commands p)) (script_lines s point.Done 1) ∙ ap (λ l. l ++ texts_in (script_lines s point.Done 1)) n
     ∙ ap (λ l. s.connected ++ s.started ++ print_commands p ++ l) (texts_tagged _ s.done) in
-    texts_append (done_lines p) (script_lines s point.Disconnect 0) ∙ ap (λ l. l ++ line_texts (script_lines s point.Disconnect 0)) d
+    texts_append (done_lines p) (script_lines s point.Disconnect 0) ∙ ap (λ l. l ++ texts_in (script_lines s point.Disconnect 0)) d
     ∙ ap (λ l. s.connected ++ s.started ++ print_commands p ++ s.done ++ l) (texts_tagged _ s.disconnect)
 
 length-numbered : (index : ℕ) (texts : List (List ℕ)) → length (numbered 1 index texts) ≡ length texts
@@ -97,16 +98,10 @@ printed_more p n text e =
     ap (λ (k : ℕ). printed_lines p k) one ∙ ap (λ (l : List Line). started_lines p ++ l) (take_numbered 0 n n (print_commands p) text e (omega arith))
     ∙ sym (append_assoc (started_lines p) (take n (numbered 1 0 (print_commands p))) (job_line 1 n text ∷ []))
 
-take_whole : {X : Type 0} (xs : List X) (n : ℕ) → n ≡ length xs → take n xs ≡ xs
-take_whole [] zero e = refl
-take_whole [] (suc n) e = refl
-take_whole (x ∷ xs) zero e = let clash : ⊥ = omega arith in absurd clash
-take_whole (x ∷ xs) (suc n) e = ap (λ l. x ∷ l) (take_whole xs n (omega arith))
-
 pub printed_all : (p : PrintData) (n : ℕ) → n ≡ length (print_commands p) → printed_lines p n ≡ started_lines p ++ numbered 1 0 (print_commands p)
 printed_all p n e =
     let long : n ≡ length (numbered 1 0 (print_commands p)) = e ∙ sym (length-numbered 0 (print_commands p)) in
-    ap (λ (l : List Line). started_lines p ++ l) (take_whole (numbered 1 0 (print_commands p)) n long)
+    ap (λ (l : List Line). started_lines p ++ l) (take_all n (numbered 1 0 (print_commands p)) (omega (arith, long)))
 
 -- each stage begins the next one
 pub printed_in_done : (p : PrintData) (n : ℕ) → IsPart (printed_lines p n) (done_lines p)
@@ -116,19 +111,19 @@ printed_in_done p n =
       rest = drop n all;
       joined = append_assoc (started_lines p) (take n all) (drop n all) ∙ ap (λ (l : List Line). started_lines p ++ l) (take-append-drop n all);
     } in
-    part_of (printed_lines p n) (started_lines p ++ all) (done_lines p) some (part_behind (started_lines p ++ all) (script_lines p.scripts point.Done 1))
+    part_of (printed_lines p n) (started_lines p ++ all) (done_lines p) some (part_after (started_lines p ++ all) (script_lines p.scripts point.Done 1))
 
 pub started_in_done : (p : PrintData) → IsPart (started_lines p) (done_lines p)
 started_in_done p =
     part_of (started_lines p) (started_lines p ++ numbered 1 0 (print_commands p)) (done_lines p)
-    (part_behind (started_lines p) (numbered 1 0 (print_commands p)))
-    (part_behind (started_lines p ++ numbered 1 0 (print_commands p)) (script_lines p.scripts point.Done 1))
+    (part_after (started_lines p) (numbered 1 0 (print_commands p)))
+    (part_after (started_lines p ++ numbered 1 0 (print_commands p)) (script_lines p.scripts point.Done 1))
 
 pub done_in_plan : (p : PrintData) → IsPart (done_lines p) (plan_lines p)
-done_in_plan p = part_behind (done_lines p) (script_lines p.scripts point.Disconnect 0)
+done_in_plan p = part_after (done_lines p) (script_lines p.scripts point.Disconnect 0)
 
 pub connected_in_plan : (p : PrintData) → IsPart (connected_lines p) (plan_lines p)
 connected_in_plan p =
     part_of (connected_lines p) (done_lines p) (plan_lines p)
-    (part_of (connected_lines p) (started_lines p) (done_lines p) (part_behind (connected_lines p) (script_lines p.scripts point.Started 1))
+    (part_of (connected_lines p) (started_lines p) (done_lines p) (part_after (connected_lines p) (script_lines p.scripts point.Started 1))
     (started_in_done p)) (done_in_plan p)

@@ -13,7 +13,7 @@ use Rattle.desk_steps.specs.declared.link_fact.LinkFact.TheVariants as fact
 use Rattle.print_course.specs.Plan.{PrintData, print_commands, plan, WeavesPart}
 use Rattle.print_course.specs.Underway.{IsLast, Suits, IsWhole, EndsAs}
 
--- the texts after a pull that gave this
+-- the texts after a pull that returned this
 abbrev pub after_pull : Option Line → List (List ℕ) → List (List ℕ)
 after_pull None issued = issued
 after_pull (Some line) issued = issued ++ line.text ∷ []
@@ -51,6 +51,7 @@ pub record Progress : Type 0 where
   pub desk : Data
   pub issued : List (List ℕ)
 
+-- a print after a step
 abbrev pub after : PrintStep → Progress → Progress
 after (Note acked found moment) x = record { desk = (note_step acked found moment x.desk).1; issued = after_fact found x.issued }
 after (Pull moment) x = record { desk = (pull_step moment x.desk).1; issued = after_pull (pull_step moment x.desk).0 x.issued }
@@ -69,6 +70,7 @@ abbrev pub after_all : List PrintStep → Progress → Progress
 after_all [] x = x
 after_all (step ∷ steps) x = after_all steps (after step x)
 
+-- each of these steps may be taken when its turn comes
 abbrev pub MayTakeAll : List PrintStep → Progress → Type 0
 MayTakeAll [] x = Unit {0}
 MayTakeAll (step ∷ steps) x = MayTake step x.desk × MayTakeAll steps (after step x)

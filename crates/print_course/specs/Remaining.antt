@@ -22,6 +22,7 @@ remaining_at p Finishing print cursor waits = waits + length p.scripts.disconnec
 remaining_at p Closing print cursor waits = waits
 remaining_at p _ print cursor waits = 0
 
+-- how many lines of the plan a desk has still to issue, by how far its print is
 abbrev pub remaining : PrintData → Standing → ℕ
 remaining p s = remaining_at p s.state s.print s.cursor (length s.waiting)
 
@@ -32,7 +33,7 @@ planned_tag (Job print index) = 1
 planned_tag Manual = 0
 planned_tag Poll = 0
 
--- how many lines of the plan a pull gave
+-- how many lines of the plan a pull returned
 abbrev pub planned_in : Option Line → ℕ
 planned_in None = 0
 planned_in (Some line) = planned_tag line.tag
@@ -50,12 +51,13 @@ abbrev pub planned_count : List Line → ℕ
 planned_count [] = 0
 planned_count (line ∷ lines) = planned_tag line.tag + planned_count lines
 
--- a pull that gave a line: it's the plan's and leaves the poll's moment, or it's a poll that was due and puts off the next
+-- a pull that returned a line: it's the plan's and leaves the poll's moment, or it's a poll that was due and puts off the next
 pub record IsPacedBy (moment : ℕ) (old new : Data) (line : Line) : Type 0 where
   pub same_ms : new.poll_ms ≡ old.poll_ms
   pub by_tag : (planned_tag line.tag ≡ 1) × (new.poll_at ≡ old.poll_at)
       ⊎ (planned_tag line.tag ≡ 0) × (old.poll_at ≤ moment) × (new.poll_at ≡ moment_after moment old.poll_ms)
 
+-- the line that a pull returned, if any, is so
 abbrev pub IsPaced : ℕ → Data → Drawn → Type 0
 IsPaced moment d drawn = (line : Line) → drawn.0 ≡ Some line → IsPacedBy moment d drawn.1 line
 

@@ -6,14 +6,15 @@ use Rattle.desk_steps.specs.declared.link_fact.LinkFact.{LinkFact}
 use Rattle.desk_steps.specs.declared.link_fact.LinkFact.TheVariants as fact
 use Rattle.print_records.specs.declared.ending.Ending.{Ending}
 use Rattle.lossy_line.specs.Issuing.{issued_in}
-use Rattle.print_course.specs.Plan.{PrintData, line_texts}
+use Rattle.print_course.specs.Plan.{PrintData}
 use Rattle.print_course.specs.Underway.{IsUnderway, EndsAs}
+use Rattle.session_steps.specs.Turn.{texts_in}
 
 -- a turn found this, issued these lines after these texts, and ended the print so, if it did
 pub record IsTurnOf (p : PrintData) (found : LinkFact) (lines : List Line) (issued : List (List ℕ))
     (old : Data) (ending : Option Ending) (new : Data) : Type 0 where
-  pub underway : IsUnderway p new (issued_in found (line_texts lines) issued)
-  pub ends : EndsAs p ending new.state (issued_in found (line_texts lines) issued)
+  pub underway : IsUnderway p new (issued_in found (texts_in lines) issued)
+  pub ends : EndsAs p ending new.state (issued_in found (texts_in lines) issued)
   pub same_print : new.greatest ≡ old.greatest
   -- it connects until the printer is ready
   pub connects : old.state ≡ Connecting → found ≡ fact.Quiet → new.state ≡ Connecting

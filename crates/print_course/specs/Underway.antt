@@ -8,10 +8,12 @@ use Rattle.desk_steps.specs.declared.state.Point.TheVariants as point
 use Rattle.desk_steps.specs.declared.state.Tag.TheVariants.{Script}
 use Rattle.desk_steps.specs.declared.link_fact.LinkFact.{LinkFact}
 use Rattle.desk_steps.specs.declared.link_fact.LinkFact.TheVariants as fact
+use Rattle.desk_steps.specs.Pull.{last_number}
 use Rattle.print_records.specs.declared.ending.Ending.{Ending}
 use Rattle.print_records.specs.declared.ending.Outcome.{Outcome}
 use Rattle.print_records.specs.declared.ending.Outcome.TheVariants as outcome
-use Rattle.print_course.specs.Plan.{PrintData, print_commands, plan, Weave, IsPart, connected_lines, printed_lines, done_lines, plan_lines, line_texts}
+use Rattle.print_course.specs.Plan.{PrintData, print_commands, plan, Weave, IsPart, connected_lines, printed_lines, done_lines, plan_lines}
+use Rattle.session_steps.specs.Turn.{texts_in}
 
 -- what of a desk says how far its print is
 pub record Standing : Type 0 where
@@ -24,6 +26,7 @@ pub record Standing : Type 0 where
   -- the script lines that wait
   pub waiting : List Line
 
+-- how far the print of a desk is
 abbrev pub standing : Data → Standing
 standing d = record {
   state = d.state;
@@ -82,9 +85,9 @@ pub record IsUnderway (p : PrintData) (d : Data) (issued : List (List ℕ)) : Ty
   pub phase : Phase p (standing d) lines
   pub sent : List Line
   pub parted : sent ++ d.waiting ≡ lines
-  pub woven : Weave issued (line_texts sent)
+  pub woven : Weave issued (texts_in sent)
   -- a u64 counts them
-  pub counted : d.issued < 18446744073709551615 → IsCounted d issued
+  pub counted : d.issued < last_number → IsCounted d issued
   -- the connection is closed only once all was acknowledged
   pub acknowledged : d.state ≡ Offline → d.issued ≤ d.acked
 
@@ -92,7 +95,7 @@ pub record IsUnderway (p : PrintData) (d : Data) (issued : List (List ℕ)) : Ty
 pub record IsWhole (p : PrintData) (d : Data) (issued : List (List ℕ)) : Type 0 where
   pub woven : Weave issued (plan p.scripts (print_commands p))
   pub acknowledged : d.issued ≤ d.acked
-  pub all : d.issued < 18446744073709551615 → d.issued ≡ length issued
+  pub all : d.issued < last_number → d.issued ≡ length issued
 
 -- a fact that the link may report to such a desk
 abbrev pub Suits : LinkFact → ℕ → Data → Type 0
@@ -108,7 +111,7 @@ Suits (fact.Ended end) acked d = d.acked ≤ acked
 pub record IsPrinted (p : PrintData) (issued : List (List ℕ)) : Type 0 where
   pub first : List (List ℕ)
   pub is_part : IsPart first issued
-  pub woven : Weave first (line_texts (done_lines p))
+  pub woven : Weave first (texts_in (done_lines p))
 
 -- what each outcome says; a print that has a desk of its own isn't cancelled
 abbrev pub ComesTo : PrintData → Outcome → State → List (List ℕ) → Type 0

@@ -3,7 +3,7 @@ use Rattle.std.proofs.Common.{◌≡◌, ℕ, ◌+◌, ◌-◌, ◌<◌, ◌≤�
 use Rattle.std.specs.List.{AllByRecursion, remove, prefix_len, position_or_len}
 use Rattle.std.proofs.lemmas.Bool.{cases_Bool, le-leb, lt-leb}
 use Rattle.print_queue.specs.declared.entry.QueueEntry.{QueueEntry}
-use Rattle.print_queue.specs.Rows.{is_before, is_key, held, insert_row, without, without_copy}
+use Rattle.print_queue.specs.Rows.{is_before, is_key, users_entry, insert_row, without, without_copy}
 use Rattle.print_queue.specs.Lawful.{IsApart}
 use Rattle.print_queue.proofs.Pairs.{Pairs, each_so, each_both}
 use Rattle.print_queue.proofs.Comparisons.{before_turned, before_one_way, before_chain, key_other, apart_turned}
@@ -67,7 +67,7 @@ without_copy_free user name [] free = refl
 without_copy_free user name (x ∷ xs) free = rw free.0 (ap (λ rest. x ∷ rest) (without_copy_free user name xs free.1))
 
 -- after the rows of a key were taken out none has it
-pub held_without : (user name : List ℕ) (xs : List QueueEntry) → held user name (without user name xs) ≡ None
+pub held_without : (user name : List ℕ) (xs : List QueueEntry) → users_entry user name (without user name xs) ≡ None
 held_without user name [] = refl
 held_without user name (x ∷ xs) =
     elim (cases_Bool (is_key user name x)) [
@@ -92,11 +92,11 @@ abbrev pub with_left : ℕ → QueueEntry → QueueEntry
 with_left left row = record row { left = left }
 
 -- a row of the key is the first one, or one of the rest
-pub held_first : (user name : List ℕ) (x row : QueueEntry) (xs : List QueueEntry) → held user name (x ∷ xs) ≡ Some row → is_key user name x ≡ true → x ≡ row
+pub held_first : (user name : List ℕ) (x row : QueueEntry) (xs : List QueueEntry) → users_entry user name (x ∷ xs) ≡ Some row → is_key user name x ≡ true → x ≡ row
 held_first user name x row xs there key = let h = rw key at there in cc
 
 -- starting the last copy takes the row out
-pub copy_removes : (user name : List ℕ) (xs : List QueueEntry) → Pairs IsApart xs → (row : QueueEntry) → held user name xs ≡ Some row → row.left ≤ 1 → without_copy user name xs ≡ without user name xs
+pub copy_removes : (user name : List ℕ) (xs : List QueueEntry) → Pairs IsApart xs → (row : QueueEntry) → users_entry user name xs ≡ Some row → row.left ≤ 1 → without_copy user name xs ≡ without user name xs
 copy_removes user name [] pairs row there last = refl
 copy_removes user name (x ∷ xs) pairs row there last =
     elim (cases_Bool (is_key user name x)) [
@@ -105,12 +105,12 @@ copy_removes user name (x ∷ xs) pairs row there last =
           let one : nat_le x.left 1 ≡ true = le-leb x.left 1 (subst (λ (r : QueueEntry). r.left ≤ 1) (sym (held_first user name x row xs there key)) last) in
           rw key (rw one (without_copy_free user name xs free ∙ sym (without_free user name xs free)))
       | inr other ↦
-          let h : held user name xs ≡ Some row = rw other at there in
+          let h : users_entry user name xs ≡ Some row = rw other at there in
           rw other (ap (λ (ys : List QueueEntry). x ∷ ys) (copy_removes user name xs pairs.1 row h last))
     ]
 
 -- starting another copy lowers what is left of the row
-pub copy_lowers : (user name : List ℕ) (xs : List QueueEntry) → Pairs IsApart xs → (row : QueueEntry) → held user name xs ≡ Some row → 1 < row.left → without_copy user name xs ≡ set xs (position_or_len (is_key user name) xs) (with_left (row.left - 1) row)
+pub copy_lowers : (user name : List ℕ) (xs : List QueueEntry) → Pairs IsApart xs → (row : QueueEntry) → users_entry user name xs ≡ Some row → 1 < row.left → without_copy user name xs ≡ set xs (position_or_len (is_key user name) xs) (with_left (row.left - 1) row)
 copy_lowers user name [] pairs row there more = refl
 copy_lowers user name (x ∷ xs) pairs row there more =
     elim (cases_Bool (is_key user name x)) [
@@ -120,13 +120,13 @@ copy_lowers user name (x ∷ xs) pairs row there more =
           let many : nat_le x.left 1 ≡ false = lt-leb x.left 1 (subst (λ (r : QueueEntry). 1 < r.left) (sym same) more) in
           rw key (rw many (ap (λ (ys : List QueueEntry). record x { left = x.left - 1 } ∷ ys) (without_copy_free user name xs free) ∙ ap (λ (r : QueueEntry). record r { left = r.left - 1 } ∷ xs) same))
       | inr other ↦
-          let h : held user name xs ≡ Some row = rw other at there in
+          let h : users_entry user name xs ≡ Some row = rw other at there in
           let e : 1 + position_or_len (is_key user name) xs ≡ suc (position_or_len (is_key user name) xs) = omega arith in
           rw other (rw e (ap (λ (ys : List QueueEntry). x ∷ ys) (copy_lowers user name xs pairs.1 row h more)))
     ]
 
 -- what holds of each row holds of a held one
-pub each_held : (P : QueueEntry → Type 0) (user name : List ℕ) (xs : List QueueEntry) (row : QueueEntry) → AllByRecursion P xs → held user name xs ≡ Some row → P row
+pub each_held : (P : QueueEntry → Type 0) (user name : List ℕ) (xs : List QueueEntry) (row : QueueEntry) → AllByRecursion P xs → users_entry user name xs ≡ Some row → P row
 each_held P user name [] row each there = (cc)
 each_held P user name (x ∷ xs) row each there =
     elim (cases_Bool (is_key user name x)) [
@@ -140,7 +140,7 @@ insert_first row [] above = refl
 insert_first row (x ∷ xs) above = insert_here x row xs (before_one_way row x above.0.0)
 
 -- a row that was taken out goes back to where it was
-pub insert_restores : (user name : List ℕ) (xs : List QueueEntry) → Pairs Above xs → (row : QueueEntry) → held user name xs ≡ Some row → insert_row row (without user name xs) ≡ xs
+pub insert_restores : (user name : List ℕ) (xs : List QueueEntry) → Pairs Above xs → (row : QueueEntry) → users_entry user name xs ≡ Some row → insert_row row (without user name xs) ≡ xs
 insert_restores user name [] pairs row there = absurd (let h : None ≡ Some row = there in cc)
 insert_restores user name (x ∷ xs) pairs row there =
     elim (cases_Bool (is_key user name x)) [
@@ -151,7 +151,7 @@ insert_restores user name (x ∷ xs) pairs row there =
           let out : without user name (x ∷ xs) ≡ xs = rw key (without_free user name xs free) in
           ap (λ (r : QueueEntry). insert_row r (without user name (x ∷ xs))) (sym same) ∙ ap (insert_row x) out ∙ insert_first x xs pairs.0
       | inr other ↦
-          let h : held user name xs ≡ Some row = rw other at there in
+          let h : users_entry user name xs ≡ Some row = rw other at there in
           let out : without user name (x ∷ xs) ≡ x ∷ without user name xs = rw other refl in
           let before : is_before x row ≡ true = (each_held (Above x) user name xs row pairs.0 h).0 in
           ap (insert_row row) out ∙ insert_past x row (without user name xs) before ∙ ap (λ (ys : List QueueEntry). x ∷ ys) (insert_restores user name xs pairs.1 row h)

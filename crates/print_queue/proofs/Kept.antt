@@ -1,5 +1,5 @@
 -- The edits of a queue's rows keep them lawful.
-use Rattle.std.proofs.Common.{◌≡◌, ℕ, ◌+◌, ◌<◌, ◌≤◌, inl, inr, Bool, true, cond, List, [], ◌∷◌, length, get_or, set, Some, refl, sym, ap, ◌∙◌, subst, arith}
+use Rattle.std.proofs.Common.{◌≡◌, ℕ, ◌+◌, ◌<◌, ◌≤◌, inl, inr, Bool, true, cond, List, ◌∷◌, length, get_or, set, Some, sym, ap, ◌∙◌, subst, arith}
 use Rattle.std.specs.List.{AllPairs, filter, count_by, prefix_len}
 use Rattle.std.proofs.lemmas.Bool.{cases_Bool, cases_eq}
 use Rattle.std.proofs.lemmas.List.{length-set, get_or-set_same, get_or-set_other, get_or_default}
@@ -10,9 +10,10 @@ use Rattle.std.proofs.lemmas.List.Sums.{sum_by-cons, sum_by-set}
 use Rattle.std.proofs.lemmas.Slice.Eq.{bytes_eq-Decides}
 use Rattle.print_queue.specs.declared.entry.QueueEntry.{QueueEntry}
 use Rattle.print_queue.specs.Rows.{is_before, is_of, insert_row}
-use Rattle.print_queue.specs.Lawful.{IsApart, IsWhole, IsLawful, HasPlace}
+use Rattle.print_queue.specs.Lawful.{IsApart, IsWholeRow, IsLawful, HasPlace}
 use Rattle.print_queue.proofs.Pairs.{Pairs, pairs_from, pairs_to}
 use Rattle.print_queue.proofs.Edits.{Above, with_left, each_insert, pairs_insert}
+use Rattle.byte_text.proofs.ListLaws.{count-filter}
 
 -- each lawful row comes before the later ones
 pub above_from : (rows : List QueueEntry) → IsLawful rows → Pairs Above rows
@@ -48,34 +49,18 @@ lawful_insert row rows lawful place =
     record {
       sound = record {
         apart = λ i j d below within. (pairs i j d below within).1;
-        whole = All-from_recursion IsWhole _ (each_insert IsWhole row rows place.whole (recursion_from_All IsWhole rows lawful.sound.whole));
+        whole = All-from_recursion IsWholeRow _ (each_insert IsWholeRow row rows place.whole (recursion_from_All IsWholeRow rows lawful.sound.whole));
         few = λ user. few_insert user row rows place.few (lawful.sound.few user);
       };
       ordered = λ i j d below within. (pairs i j d below within).0;
     }
 
--- no more rows pass a test after a filter
-pub count_filter : (p q : QueueEntry → Bool) (rows : List QueueEntry) → count_by p (filter q rows) ≤ count_by p rows
-count_filter p q [] = omega arith
-count_filter p q (x ∷ xs) =
-    let fewer = count_filter p q xs in
-    let all : count_by p (x ∷ xs) ≡ cond (p x) 1 0 + count_by p xs = count_cons p x xs in
-    elim (cases_Bool (q x)) [
-      | inl keeps ↦
-          let kept : filter q (x ∷ xs) ≡ x ∷ filter q xs = rw keeps refl in
-          let some : count_by p (x ∷ filter q xs) ≡ cond (p x) 1 0 + count_by p (filter q xs) = count_cons p x (filter q xs) in
-          rw kept (omega arith)
-      | inr drops ↦
-          let kept : filter q (x ∷ xs) ≡ filter q xs = rw drops refl in
-          rw kept (omega arith)
-    ]
-
 pub lawful_filter : (q : QueueEntry → Bool) (rows : List QueueEntry) → IsLawful rows → IsLawful (filter q rows)
 lawful_filter q rows lawful = record {
   sound = record {
     apart = AllPairs-filter IsApart q rows lawful.sound.apart;
-    whole = All-filter q IsWhole rows lawful.sound.whole;
-    few = λ user. (let h = count_filter (is_of (Some user)) q rows in let few = lawful.sound.few user in omega arith);
+    whole = All-filter q IsWholeRow rows lawful.sound.whole;
+    few = λ user. (let h = count-filter (is_of (Some user)) q rows in let few = lawful.sound.few user in omega arith);
   };
   ordered = AllPairs-filter (λ a b. is_before a b ≡ true) q rows lawful.ordered;
 }
@@ -120,13 +105,13 @@ count_set p xs place y d within same =
     omega arith
 
 -- another number of copies left keeps the rows lawful
-pub lawful_set : (xs : List QueueEntry) (place left : ℕ) (row : QueueEntry) → IsLawful xs → place < length xs → row ≡ get_or xs place row → IsWhole (with_left left row) → IsLawful (set xs place (with_left left row))
+pub lawful_set : (xs : List QueueEntry) (place left : ℕ) (row : QueueEntry) → IsLawful xs → place < length xs → row ≡ get_or xs place row → IsWholeRow (with_left left row) → IsLawful (set xs place (with_left left row))
 lawful_set xs place left row lawful within there whole =
     let alike = alike_set xs place left row within there in
     record {
       sound = record {
         apart = pairs_alike IsApart apart_left xs _ alike lawful.sound.apart;
-        whole = All-set IsWhole xs place (with_left left row) whole lawful.sound.whole;
+        whole = All-set IsWholeRow xs place (with_left left row) whole lawful.sound.whole;
         few = λ user.
             subst (λ (n : ℕ). n ≤ 64) (sym (count_set (is_of (Some user)) xs place (with_left left row) row within (ap (is_of (Some user)) there))) (lawful.sound.few user);
       };

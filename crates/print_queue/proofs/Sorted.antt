@@ -11,7 +11,7 @@ use Rattle.std.proofs.lemmas.List.Edits.{swapped_from_swap, length-swap}
 use Rattle.std.proofs.lemmas.List.Sorted.{IsPermutation-keeps, All-permutation, sum_by-IsPermutation, sorted_far}
 use Rattle.print_queue.specs.declared.entry.QueueEntry.{QueueEntry}
 use Rattle.print_queue.specs.Rows.{is_before, compared}
-use Rattle.print_queue.specs.Lawful.{IsApart, IsWhole, IsSound, IsOrdered, IsLawful}
+use Rattle.print_queue.specs.Lawful.{IsApart, IsWholeRow, IsSound, IsOrdered, IsLawful}
 use Rattle.print_queue.proofs.Comparisons.{before_turned, before_one_way, apart_turned}
 
 -- each two rows at different places are apart
@@ -63,7 +63,7 @@ sound_permuted rows ys moved sound =
     let apart = IsPermutation-keeps rows AllApart (apart_all rows sound.apart) swap_apart ys moved in
     record {
       apart = λ i j d below within. apart i j d (λ same. omega arith) (omega arith) within;
-      whole = All-permutation IsWhole rows ys moved sound.whole;
+      whole = All-permutation IsWholeRow rows ys moved sound.whole;
       few = λ user. subst (λ (n : ℕ). n ≤ 64) (sym (sum_by-IsPermutation _ rows ys moved)) (sound.few user);
     }
 

@@ -9,7 +9,7 @@ pub record IsApart (a b : QueueEntry) : Type 0 where
   pub key : is_key a.user a.name b ≡ false
 
 -- an entry has 1 to 100 copies, of which 1 to all are left
-pub record IsWhole (row : QueueEntry) : Type 0 where
+pub record IsWholeRow (row : QueueEntry) : Type 0 where
   pub some : 1 ≤ row.left
   pub left : row.left ≤ row.copies
   pub most : row.copies ≤ 100
@@ -17,7 +17,7 @@ pub record IsWhole (row : QueueEntry) : Type 0 where
 -- rows in any order that a queue can be made of: arrivals and each user's names are distinct, and no user has over 64
 pub record IsSound (rows : List QueueEntry) : Type 0 where
   pub apart : AllPairs IsApart rows
-  pub whole : All IsWhole rows
+  pub whole : All IsWholeRow rows
   pub few : (user : List ℕ) → count_by (is_of (Some user)) rows ≤ 64
 
 -- greatest priority first, then least arrival
@@ -26,7 +26,7 @@ IsOrdered rows = AllPairs (λ a b. is_before a b ≡ true) rows
 
 -- an entry can be added: its name of its user and its arrival are free, and its user has fewer than 64
 pub record HasPlace (row : QueueEntry) (rows : List QueueEntry) : Type 0 where
-  pub whole : IsWhole row
+  pub whole : IsWholeRow row
   pub apart : All (IsApart row) rows
   pub few : count_by (is_of (Some row.user)) rows < 64
 

@@ -24,8 +24,8 @@ abbrev pub fits : List ℕ → QueueEntry → Bool
 fits material row = bytes_eq row.material (codes "any") || bytes_eq material (codes "any") || bytes_eq row.material material
 
 -- this user's entry of this name, if there is one
-abbrev pub held : List ℕ → List ℕ → List QueueEntry → Option QueueEntry
-held user name rows = find (is_key user name) rows
+abbrev pub users_entry : List ℕ → List ℕ → List QueueEntry → Option QueueEntry
+users_entry user name rows = find (is_key user name) rows
 
 -- the rows with one more, after those that are printed before it
 abbrev pub insert_row : QueueEntry → List QueueEntry → List QueueEntry

@@ -4,7 +4,7 @@ use octo_outside::ItemList;
 use std::cmp::Ordering;
 
 /// An entry of the queue: a file that a user wants printed, some copies of it, on a printer that holds a material.
-#[derive(Drop)]
+#[derive(Debug, Drop)]
 pub struct QueueEntry {
     pub user: Name,
     /// Its name, which is the user's own: another user may have an entry of the same name.
@@ -28,10 +28,10 @@ pub type EntryList = ItemList<QueueEntry>;
 impl QueueEntry {
     ghost use Rattle.std.specs.Prelude.{◌≡◌, ◌<◌, ◌-◌, Some};
     ghost use Rattle.print_queue.specs.Rows.{is_before, is_key, is_of, fits};
-    ghost use Rattle.print_queue.specs.Calls.{is_same, wanted};
+    ghost use Rattle.print_queue.specs.Calls.{is_same, new_entry};
 
     // The entry that a put asks for; it has no arrival yet.
-    pub(crate) fn wanted(
+    pub(crate) fn new_entry(
         user: &Name,
         name: &Name,
         file: &Name,
@@ -39,7 +39,7 @@ impl QueueEntry {
         copies: u8,
         material: &Name,
     ) -> QueueEntry
-        ensures { result ≡ wanted user.now name.now file.now priority copies material.now }
+        ensures { result ≡ new_entry user.now name.now file.now priority copies material.now }
     {
         QueueEntry {
             user: user.copy(),

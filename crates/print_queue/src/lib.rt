@@ -10,6 +10,7 @@ mod rows;
 pub use entry::{EntryList, QueueEntry};
 pub use queue::Queue;
 pub use refusal::{Put, QueueRefusal};
+pub use rows::place_of;
 
 #[cfg(test)]
 mod tests;

@@ -32,12 +32,12 @@ impl Model for Queue {
 }
 
 impl Queue {
-    ghost use Rattle.std.specs.Prelude.{◌≡◌, ◌≢◌, ◌≤◌, ◌+◌, [], true, Some, None, Err, nat_le, if◌then◌else◌, find, filter, option_map, ok_or, IfOk, IfErr, OnOk, OnErr};
+    ghost use Rattle.std.specs.Prelude.{◌≡◌, ◌≢◌, ◌≤◌, ◌+◌, [], true, false, Some, None, Err, nat_le, if◌then◌else◌, find, filter, option_map, ok_or, IfOk, IfErr, OnOk, OnErr};
     ghost use Rattle.std.specs.List.Sorted.{IsPermutation};
     ghost use Rattle.print_queue.specs.declared.refusal.QueueRefusal.TheVariants as refusal;
-    ghost use Rattle.print_queue.specs.Rows.{fits, held, is_of, without, without_copy, insert_row};
-    ghost use Rattle.print_queue.specs.Lawful.{HasPlace, IsLawful, IsOrdered, IsSound, IsWhole, NextOf};
-    ghost use Rattle.print_queue.specs.Calls.{CanRestore, QueueData, new_answer, put_answer, restored, rows_after_put, wanted};
+    ghost use Rattle.print_queue.specs.Rows.{fits, users_entry, is_of, without, without_copy, insert_row};
+    ghost use Rattle.print_queue.specs.Lawful.{HasPlace, IsLawful, IsOrdered, IsSound, IsWholeRow, NextOf};
+    ghost use Rattle.print_queue.specs.Calls.{CanRestore, QueueData, new_answer, put_answer, restored, rows_after_put, new_entry};
 
     /// An empty queue; takes no memory.
     pub fn new(alloc: Global) -> Self
@@ -86,10 +86,12 @@ impl Queue {
 
         ensures answer { result ≢ Err refusal.NoMemory
             → result ≡ put_answer self.old.rows
-            (wanted user.now name.now file.now priority copies material.now) }
+            (new_entry user.now name.now file.now priority copies material.now) }
         ensures rows { self.new.rows ≡ rows_after_put self.old.rows result }
+        ensures again { IfOk result (λ put. put.fresh ≡ false → self.new ≡ self.old) }
+        ensures err { OnErr result (self.new ≡ self.old) }
     {
-        let asked = QueueEntry::wanted(user, name, file, priority, copies, material);
+        let asked = QueueEntry::new_entry(user, name, file, priority, copies, material);
         let place = place_of(&self.entries, user, name);
         if place == self.entries.len() {
             return self.put_new(asked);
@@ -99,11 +101,13 @@ impl Queue {
 
     // Adds an entry of a free name.
     fn put_new(&mut self, asked: QueueEntry) -> Result<Put, QueueRefusal>
-        requires free { held asked.user asked.name self.old.rows ≡ None }
-        requires whole { IsWhole asked }
+        requires free { users_entry asked.user asked.name self.old.rows ≡ None }
+        requires whole { IsWholeRow asked }
 
         ensures answer { result ≢ Err refusal.NoMemory → result ≡ new_answer self.old.rows asked }
         ensures rows { self.new.rows ≡ rows_after_put self.old.rows result }
+        ensures again { IfOk result (λ put. put.fresh ≡ false → self.new ≡ self.old) }
+        ensures err { OnErr result (self.new ≡ self.old) }
     {
         if count_of(&self.entries, &asked.user) >= MOST_ENTRIES {
             return Err(QueueRefusal::Full { count: 64 });
@@ -124,18 +128,22 @@ impl Queue {
         ensures ok { IfOk result (λ put. put ≡ record { entry = entry; fresh = true }) }
         ensures memory { IfErr result (λ refused. refused ≡ refusal.NoMemory) }
         ensures rows { self.new.rows ≡ rows_after_put self.old.rows result }
+        ensures again { IfOk result (λ put. put.fresh ≡ false → self.new ≡ self.old) }
+        ensures err { OnErr result (self.new ≡ self.old) }
     {
-        let place = place_after(&self.entries, &entry);
-        let Ok(()) = self.entries.insert(place, entry.copy()) else {
+        let Ok(()) = self.entries.reserve(1) else {
             return Err(QueueRefusal::NoMemory);
         };
+        let place = place_after(&self.entries, &entry);
+        let _ = self.entries.insert(place, entry.copy());
         Ok(Put { entry, fresh: true })
     }
 
     /// Takes this user's entry of this name out, with all its copies. It can be put back without memory.
     #[tactic(auto, using(std::proofs::lemmas::List::Folds::find_at, std::proofs::lemmas::Option::slice_get_past, std::proofs::lemmas::Option::slice_get_read))]
     pub fn remove(&mut self, user: &Name, name: &Name) -> Result<QueueEntry, QueueRefusal>
-        ensures answer { result ≡ ok_or (held user.now name.now self.old.rows) refusal.NoEntry }
+        ensures answer { result
+            ≡ ok_or (users_entry user.now name.now self.old.rows) refusal.NoEntry }
         ensures rows { OnOk result (self.new.rows ≡ without user.now name.now self.old.rows) }
         ensures spare { OnOk result (self.new.spare ≡ self.old.spare + 1) }
         ensures err { OnErr result (self.new ≡ self.old) }
@@ -154,7 +162,8 @@ impl Queue {
     /// entry is gone. It can be put back without memory.
     #[tactic(auto, using(std::proofs::lemmas::List::Folds::find_at, std::proofs::lemmas::Option::slice_get_past, std::proofs::lemmas::Option::slice_get_read))]
     pub fn take(&mut self, user: &Name, name: &Name) -> Result<QueueEntry, QueueRefusal>
-        ensures answer { result ≡ ok_or (held user.now name.now self.old.rows) refusal.NoEntry }
+        ensures answer { result
+            ≡ ok_or (users_entry user.now name.now self.old.rows) refusal.NoEntry }
         ensures rows { OnOk result (self.new.rows ≡ without_copy user.now name.now self.old.rows) }
         ensures spare { IfOk result
             (λ entry. self.new.spare ≡ self.old.spare + (if nat_le entry.left 1 then 1 else 0)) }

@@ -1,5 +1,6 @@
 //! What the queue answers.
 use crate::QueueEntry;
+use thiserror::Error;
 
 /// A put that the queue took.
 #[derive(Drop)]
@@ -11,17 +12,22 @@ pub struct Put {
 }
 
 /// Why the queue refuses.
-#[derive(Drop)]
+#[derive(Debug, Drop, Error)]
 pub enum QueueRefusal {
     /// The user holds an entry of this name with another file, priority, number of copies or material.
+    #[error("another entry has this name")]
     NameTaken { kept: QueueEntry },
     /// The user holds no entry of this name.
+    #[error("no such entry")]
     NoEntry,
     /// The user holds this number of entries, the most.
+    #[error("the user has the most entries")]
     Full { count: u32 },
     /// The greatest number of arrival is in use.
+    #[error("no number of arrival is left")]
     ArrivalsUsed,
     /// Out of memory.
+    #[error("out of memory")]
     NoMemory,
 }
 

@@ -1,3 +1,4 @@
+//! Puts, copies and limits of a queue.
 ghost use Rattle.std.specs.Prelude.{◌≤◌};
 
 use super::*;
@@ -5,21 +6,17 @@ use byte_text::Name;
 use std::alloc::Global;
 use std::test::Fail;
 
-fn name(text: &str) -> Result<Name, Fail> {
-    Ok(Name::from_text(text).ok_or("a name of over 100 bytes")?)
-}
-
 // ana's entry of this name: a.gcode in any material.
 fn put(queue: &mut Queue, entry: &str, priority: u8) -> Result<Result<Put, QueueRefusal>, Fail>
     requires { priority ≤ 100 }
 {
     Ok(queue.put(
-        &name("ana")?,
-        &name(entry)?,
-        &name("a.gcode")?,
+        &Name::of("ana")?,
+        &Name::of(entry)?,
+        &Name::of("a.gcode")?,
         priority,
         1,
-        &name("any")?,
+        &Name::of("any")?,
     ))
 }
 
@@ -36,8 +33,8 @@ fn an_equal_put_is_answered_with_the_kept_entry(rt: HostRuntime) -> Result<(), F
         return Err(Fail::from("taken"));
     };
     assert_eq!(rt; kept.priority, 5);
-    assert_eq!(rt; queue.own(Some(&name("ana")?))?.as_slice().len(), 1);
-    assert_eq!(rt; queue.own(Some(&name("ben")?))?.as_slice().len(), 0);
+    assert_eq!(rt; queue.own(Some(&Name::of("ana")?))?.as_slice().len(), 1);
+    assert_eq!(rt; queue.own(Some(&Name::of("ben")?))?.as_slice().len(), 0);
     Ok(())
 }
 
@@ -60,13 +57,13 @@ fn the_65th_entry_of_a_user_is_refused(rt: HostRuntime) -> Result<(), Fail> {
 fn after_the_last_arrival_only_an_equal_put_is_taken(rt: HostRuntime) -> Result<(), Fail> {
     let mut entries = EntryList::new(rt.alloc());
     let last = QueueEntry {
-        user: name("ana")?,
-        name: name("job-1")?,
-        file: name("a.gcode")?,
+        user: Name::of("ana")?,
+        name: Name::of("job-1")?,
+        file: Name::of("a.gcode")?,
         priority: 5,
         copies: 1,
         left: 1,
-        material: name("any")?,
+        material: Name::of("any")?,
         arrival: 4_294_967_295,
     };
     entries.push(last)?;
@@ -85,10 +82,10 @@ fn after_the_last_arrival_only_an_equal_put_is_taken(rt: HostRuntime) -> Result<
 #[test]
 fn each_copy_is_started_by_itself(rt: HostRuntime) -> Result<(), Fail> {
     let mut queue = Queue::new(rt.alloc());
-    let (user, entry, file) = (name("ana")?, name("job-1")?, name("a.gcode")?);
-    let pla = name("PLA")?;
+    let (user, entry, file) = (Name::of("ana")?, Name::of("job-1")?, Name::of("a.gcode")?);
+    let pla = Name::of("PLA")?;
     assert!(rt; queue.put(&user, &entry, &file, 5, 2, &pla).is_ok());
-    assert!(rt; queue.next(&name("PETG")?).is_none());
+    assert!(rt; queue.next(&Name::of("PETG")?).is_none());
     assert!(rt; queue.next(&pla).is_some());
     let first = queue.take(&user, &entry).ok().ok_or("no entry")?;
     assert_eq!(rt; first.left, 2);

@@ -7,7 +7,8 @@ pub rose_none : (calls : Option ℕ) → RoseBy 0 calls calls
 rose_none None = tt
 rose_none (Some n) = λ small. omega arith
 
-rose_next : (calls : Option ℕ) → RoseBy 1 calls (counted_one calls)
+-- with one call
+pub rose_next : (calls : Option ℕ) → RoseBy 1 calls (counted_one calls)
 rose_next None = tt
 rose_next (Some n) = λ small. omega arith
 

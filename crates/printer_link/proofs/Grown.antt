@@ -1,6 +1,6 @@
 -- How what the calls of a link record joins.
 use Rattle.std.proofs.Common.{refl, ◌∙◌, List, [], ◌++◌, Option}
-use Rattle.octo_outside.proofs.Told.{became_then, became_same, became_so}
+use Rattle.octo_outside.proofs.Recorded.{became_then, became_same, became_so}
 use Rattle.printer_link.specs.Link.{Recorded}
 use Rattle.printer_model.specs.declared.event.WorldEvent.{WorldEvent}
 

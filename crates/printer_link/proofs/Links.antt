@@ -1,4 +1,4 @@
--- What each call of a link in memory adds to its past.
+-- What each call of a link in memory adds to its recorded history.
 use Rattle.std.proofs.Common.{◌≡◌, ℕ, ◌≤◌, Bool, true, false, List, [], ◌∷◌, ◌++◌, length, replicate, refl, ◌∙◌, ap, subst, append_assoc, append-nil, arith}
 use Rattle.std.specs.Prelude.{Some, ◌&&◌, not, if◌then◌else◌}
 use Rattle.std.specs.List.{list_all}
@@ -8,7 +8,7 @@ use Rattle.std.proofs.lemmas.List.Folds.{list_all-append}
 use Rattle.arrayvec.specs.ArrayVec.{ArrayVec}
 use Rattle.printer_model.specs.World.{WorldData, fits_wire, world_from, apply, can_happen, is_empty, is_free}
 use Rattle.printer_link.specs.Link.{Grows, IsDial, IsRuns, IsSend, IsSendLoss, IsHeard, IsSilence, IsLoss, arrivals, dial_events, due_run, printer_events}
-use Rattle.printer_link.specs.Memory.{MemoryLinkData, before_reply, called, closing_events, failed, grown, harm_events, heard, link_kind, link_world, send_events, LinkRan, LinkMoved, LinkHeard, LinkQuiet, LinkReceived}
+use Rattle.printer_link.specs.Memory.{MemoryLinkData, before_reply, with_one_call, closing_events, after_fault, with_added, harm_events, with_one_recv, link_kind, link_world, send_events, LinkRan, LinkMoved, LinkHeard, LinkQuiet, LinkReceived}
 use Rattle.printer_link.specs.declared.schedule.Fate.{Fate}
 use Rattle.printer_link.specs.declared.schedule.Fate.TheVariants.{Whole, Lost, Garbled}
 use Rattle.printer_link.specs.declared.link.Heard.{Heard}
@@ -26,7 +26,7 @@ grows_by l added now Kind is kind = record {
 }
 
 -- the world after more events of a link
-pub grown_world : (l : MemoryLinkData) (added : List WorldEvent) → link_world (grown l added) ≡ world_from (link_world l) added
+pub grown_world : (l : MemoryLinkData) (added : List WorldEvent) → link_world (with_added l added) ≡ world_from (link_world l) added
 grown_world l added = world_of-append l.story.places l.story.advanced l.story.past added
 
 -- a link that is made is closed by one event, another by none
@@ -57,26 +57,26 @@ dial_linked w last closed =
     ap (λ (v : WorldData). v.linked) (world_from-push w (replicate (length w.printer.queue) Run) (Opened last))
     ∙ ap (λ (v : WorldData). v.linked) (happens (world_from w (replicate (length w.printer.queue) Run)) (Opened last) (dial_opens w last closed))
 
-dial_grown : (l mid new : MemoryLinkData) (last : ℕ) → mid ≡ called l → new ≡ grown mid (dial_events (link_world mid) last) → new ≡ grown (called l) (dial_events (link_world l) last)
-dial_grown l mid new last mid_is new_is = new_is ∙ ap (λ (m : MemoryLinkData). grown m (dial_events (link_world m) last)) mid_is
+dial_grown : (l mid new : MemoryLinkData) (last : ℕ) → mid ≡ with_one_call l → new ≡ with_added mid (dial_events (link_world mid) last) → new ≡ with_added (with_one_call l) (dial_events (link_world l) last)
+dial_grown l mid new last mid_is new_is = new_is ∙ ap (λ (m : MemoryLinkData). with_added m (dial_events (link_world m) last)) mid_is
 
 -- a dial that made a link
-pub dial_past : (l mid new : MemoryLinkData) (last : ℕ) → mid ≡ called l → new ≡ grown mid (dial_events (link_world mid) last) → (link_world l).linked ≡ false → Grows (link_kind l) (Some l.story.past) (Some new.story.past) IsDial
+pub dial_past : (l mid new : MemoryLinkData) (last : ℕ) → mid ≡ with_one_call l → new ≡ with_added mid (dial_events (link_world mid) last) → (link_world l).linked ≡ false → Grows (link_kind l) (Some l.story.past) (Some new.story.past) IsDial
 dial_past l mid new last mid_is new_is closed =
     grows_by l (dial_events (link_world l) last) new.story.past IsDial
     (ap (λ (n : MemoryLinkData). n.story.past) (dial_grown l mid new last mid_is new_is))
     (dial_is (link_world l) last closed)
 
-pub dial_up : (l mid new : MemoryLinkData) (last : ℕ) → mid ≡ called l → new ≡ grown mid (dial_events (link_world mid) last) → (link_world l).linked ≡ false → (link_world new).linked ≡ true
+pub dial_up : (l mid new : MemoryLinkData) (last : ℕ) → mid ≡ with_one_call l → new ≡ with_added mid (dial_events (link_world mid) last) → (link_world l).linked ≡ false → (link_world new).linked ≡ true
 dial_up l mid new last mid_is new_is closed =
     ap (λ (n : MemoryLinkData). (link_world n).linked) (dial_grown l mid new last mid_is new_is)
     ∙ ap (λ (w : WorldData). w.linked) (grown_world l (dial_events (link_world l) last))
     ∙ dial_linked (link_world l) last closed
 
 -- a dial that failed
-pub dial_failed : (l mid late new : MemoryLinkData) → mid ≡ called l → LinkRan mid late → new ≡ failed late → (link_world l).linked ≡ false → Grows (link_kind l) (Some l.story.past) (Some new.story.past) IsRuns
+pub dial_failed : (l mid late new : MemoryLinkData) → mid ≡ with_one_call l → LinkRan mid late → new ≡ after_fault late → (link_world l).linked ≡ false → Grows (link_kind l) (Some l.story.past) (Some new.story.past) IsRuns
 dial_failed l mid late new mid_is ran new_is closed =
-    let late_is : late ≡ grown (called l) (replicate ran.count Run) = ran.is ∙ ap (λ (m : MemoryLinkData). grown m (replicate ran.count Run)) mid_is in
+    let late_is : late ≡ with_added (with_one_call l) (replicate ran.count Run) = ran.is ∙ ap (λ (m : MemoryLinkData). with_added m (replicate ran.count Run)) mid_is in
     let shut : (link_world late).linked ≡ false =
     ap (λ (n : MemoryLinkData). (link_world n).linked) late_is
     ∙ ap (λ (w : WorldData). w.linked) (grown_world l (replicate ran.count Run))
@@ -104,10 +104,10 @@ can_send w line open_now short =
     ap (λ (b : Bool). b && fits_wire line.items) open_now ∙ is_le line short
 
 -- a line that was sent
-pub send_past : (l mid new : MemoryLinkData) (line : ArrayVec ℕ) (fate : Fate) → mid ≡ called l → new ≡ grown mid (send_events (link_world mid) line fate) → (link_world l).linked ≡ true → length line.items ≤ 95 → Grows (link_kind l) (Some l.story.past) (Some new.story.past) (IsSend line.items)
+pub send_past : (l mid new : MemoryLinkData) (line : ArrayVec ℕ) (fate : Fate) → mid ≡ with_one_call l → new ≡ with_added mid (send_events (link_world mid) line fate) → (link_world l).linked ≡ true → length line.items ≤ 95 → Grows (link_kind l) (Some l.story.past) (Some new.story.past) (IsSend line.items)
 send_past l mid new line fate mid_is new_is open_now short =
     grows_by l (send_events (link_world l) line fate) new.story.past (IsSend line.items)
-    (ap (λ (n : MemoryLinkData). n.story.past) (new_is ∙ ap (λ (m : MemoryLinkData). grown m (send_events (link_world m) line fate)) mid_is))
+    (ap (λ (n : MemoryLinkData). n.story.past) (new_is ∙ ap (λ (m : MemoryLinkData). with_added m (send_events (link_world m) line fate)) mid_is))
     (record {
       before = [];
       sent = Send line;
@@ -120,10 +120,10 @@ send_past l mid new line fate mid_is new_is open_now short =
     })
 
 -- a sending that failed
-pub send_failed : (l mid late new : MemoryLinkData) → mid ≡ called l → late ≡ mid → new ≡ failed late → (link_world l).linked ≡ true → Grows (link_kind l) (Some l.story.past) (Some new.story.past) IsSendLoss
+pub send_failed : (l mid late new : MemoryLinkData) → mid ≡ with_one_call l → late ≡ mid → new ≡ after_fault late → (link_world l).linked ≡ true → Grows (link_kind l) (Some l.story.past) (Some new.story.past) IsSendLoss
 send_failed l mid late new mid_is late_is new_is open_now =
     grows_by l (Closed ∷ []) new.story.past IsSendLoss
-    (ap (λ (n : MemoryLinkData). n.story.past) (new_is ∙ ap failed (late_is ∙ mid_is))
+    (ap (λ (n : MemoryLinkData). n.story.past) (new_is ∙ ap after_fault (late_is ∙ mid_is))
     ∙ ap (λ (es : List WorldEvent). l.story.past ++ es) (closing_open (link_world l) open_now))
     (record { before = []; failing = []; behind = []; is = refl; may_send = tt; free_before = refl; free_behind = refl; linked = open_now })
 
@@ -159,11 +159,11 @@ received_linked restarts due w rest reply front open_now =
 
 -- a receiving as it starts
 abbrev pub asked : MemoryLinkData → MemoryLinkData
-asked l = heard (called l)
+asked l = with_one_recv (with_one_call l)
 
 -- the states in which a receiving starts are one
-asked_is : (l first mid : MemoryLinkData) → first ≡ called l → mid ≡ heard first → mid ≡ asked l
-asked_is l first mid first_is mid_is = mid_is ∙ ap heard first_is
+asked_is : (l first mid : MemoryLinkData) → first ≡ with_one_call l → mid ≡ with_one_recv first → mid ≡ asked l
+asked_is l first mid first_is mid_is = mid_is ∙ ap with_one_recv first_is
 
 from_asked : (l mid new : MemoryLinkData) (restarts due : Bool) (into : List ℕ) (got : Heard) → mid ≡ asked l → LinkReceived restarts due into got mid new → LinkReceived restarts due into got (asked l) new
 from_asked l mid new restarts due into got mid_is received =
@@ -187,7 +187,7 @@ heard_grows l new restarts due into was open_now =
     })
 
 -- a line that was received
-pub heard_past : (l first mid new : MemoryLinkData) (restarts due : Bool) (into : List ℕ) (got : Heard) → first ≡ called l → mid ≡ heard first → LinkReceived restarts due into got mid new → (link_world l).linked ≡ true → got ≡ Line → Grows (link_kind l) (Some l.story.past) (Some new.story.past) (IsHeard into)
+pub heard_past : (l first mid new : MemoryLinkData) (restarts due : Bool) (into : List ℕ) (got : Heard) → first ≡ with_one_call l → mid ≡ with_one_recv first → LinkReceived restarts due into got mid new → (link_world l).linked ≡ true → got ≡ Line → Grows (link_kind l) (Some l.story.past) (Some new.story.past) (IsHeard into)
 heard_past l first mid new restarts due into Line first_is mid_is received open_now line =
     heard_grows l new restarts due into (from_asked l mid new restarts due into Line (asked_is l first mid first_is mid_is) received) open_now
 heard_past l first mid new restarts due into Nothing first_is mid_is received open_now line = absurd (cc)
@@ -198,13 +198,13 @@ quiet_grows l new restarts due was =
     (record { free = before_free restarts due (link_world l); empty = was.empty })
 
 -- nothing was received
-pub quiet_past : (l first mid new : MemoryLinkData) (restarts due : Bool) (into : List ℕ) (got : Heard) → first ≡ called l → mid ≡ heard first → LinkReceived restarts due into got mid new → got ≡ Nothing → Grows (link_kind l) (Some l.story.past) (Some new.story.past) IsSilence
+pub quiet_past : (l first mid new : MemoryLinkData) (restarts due : Bool) (into : List ℕ) (got : Heard) → first ≡ with_one_call l → mid ≡ with_one_recv first → LinkReceived restarts due into got mid new → got ≡ Nothing → Grows (link_kind l) (Some l.story.past) (Some new.story.past) IsSilence
 quiet_past l first mid new restarts due into Line first_is mid_is received nothing = absurd (cc)
 quiet_past l first mid new restarts due into Nothing first_is mid_is received nothing =
     quiet_grows l new restarts due (from_asked l mid new restarts due into Nothing (asked_is l first mid first_is mid_is) received)
 
 -- the link is up after a receiving
-pub received_up : (l first mid new : MemoryLinkData) (restarts due : Bool) (into : List ℕ) (got : Heard) → first ≡ called l → mid ≡ heard first → LinkReceived restarts due into got mid new → (link_world l).linked ≡ true → (link_world new).linked ≡ true
+pub received_up : (l first mid new : MemoryLinkData) (restarts due : Bool) (into : List ℕ) (got : Heard) → first ≡ with_one_call l → mid ≡ with_one_recv first → LinkReceived restarts due into got mid new → (link_world l).linked ≡ true → (link_world new).linked ≡ true
 received_up l first mid new restarts due into Line first_is mid_is received open_now =
     let was : LinkHeard restarts due into (asked l) new = from_asked l mid new restarts due into Line (asked_is l first mid first_is mid_is) received in
     ap (λ (n : MemoryLinkData). (link_world n).linked) was.is
@@ -217,9 +217,9 @@ received_up l first mid new restarts due into Nothing first_is mid_is received o
     ∙ before_linked restarts due (link_world l) open_now
 
 -- a receiving that failed
-pub recv_failed : (l first mid late new : MemoryLinkData) → first ≡ called l → mid ≡ heard first → LinkMoved mid late → new ≡ failed late → (link_world l).linked ≡ true → Grows (link_kind l) (Some l.story.past) (Some new.story.past) IsLoss
+pub recv_failed : (l first mid late new : MemoryLinkData) → first ≡ with_one_call l → mid ≡ with_one_recv first → LinkMoved mid late → new ≡ after_fault late → (link_world l).linked ≡ true → Grows (link_kind l) (Some l.story.past) (Some new.story.past) IsLoss
 recv_failed l first mid late new first_is mid_is moved new_is open_now =
-    let late_is : late ≡ grown (asked l) moved.added = moved.is ∙ ap (λ (m : MemoryLinkData). grown m moved.added) (asked_is l first mid first_is mid_is) in
+    let late_is : late ≡ with_added (asked l) moved.added = moved.is ∙ ap (λ (m : MemoryLinkData). with_added m moved.added) (asked_is l first mid first_is mid_is) in
     let still_open : (world_from (link_world l) moved.added).linked ≡ true = world_from-linked (link_world l) moved.added moved.free ∙ open_now in
     let late_open : (link_world late).linked ≡ true =
     ap (λ (n : MemoryLinkData). (link_world n).linked) late_is
@@ -234,6 +234,6 @@ recv_failed l first mid late new first_is mid_is moved new_is open_now =
     (record { before = moved.added; is = refl; free = moved.free; linked = still_open })
 
 -- what the printer did before a receiving for which no place was found
-pub moved_by : (l mid new : MemoryLinkData) (restarts due : Bool) → mid ≡ grown l (before_reply restarts due (link_world l)) → new ≡ mid → LinkMoved l new
+pub moved_by : (l mid new : MemoryLinkData) (restarts due : Bool) → mid ≡ with_added l (before_reply restarts due (link_world l)) → new ≡ mid → LinkMoved l new
 moved_by l mid new restarts due mid_is new_is =
     record { added = before_reply restarts due (link_world l); is = new_is ∙ mid_is; free = before_free restarts due (link_world l) }

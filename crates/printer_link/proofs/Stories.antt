@@ -1,4 +1,4 @@
--- A past that grows event by event, and the world with it.
+-- A recorded history that grows event by event, and the world with it.
 use Rattle.std.proofs.Common.{◌≡◌, ℕ, zero, suc, ◌+◌, ◌<◌, Bool, true, false, List, [], ◌∷◌, ◌++◌, length, replicate, refl, sym, ◌∙◌, ap, append_assoc, append-nil, arith}
 use Rattle.std.specs.Prelude.{if◌then◌else◌, not, ◌&&◌, Result, Ok, Err, OnErr, OnOk}
 use Rattle.std.specs.List.{list_all, list_any}
@@ -13,7 +13,7 @@ use Rattle.printer_model.specs.declared.event.WorldEvent.{WorldEvent}
 use Rattle.printer_model.specs.declared.event.WorldEvent.TheVariants.{Arrive, Opened}
 use Rattle.printer_model.proofs.Laws.{world_of-push, world_of-append, happens}
 
--- a story with another past
+-- a story with another recorded history
 abbrev pub of_past : StoryData → List WorldEvent → StoryData
 of_past s past = record s { past = past }
 

@@ -1,7 +1,7 @@
--- What the calls of a link add to its past.
+-- What the calls of a link add to its recorded history.
 use Rattle.std.specs.Prelude.{◌≡◌, ◌<◌, ◌≤◌, ℕ, ◌+◌, Bool, true, false, if◌then◌else◌, List, [], ◌∷◌, ◌++◌, length, replicate, Option, Some, None, is_some, min}
 use Rattle.std.specs.List.{list_all}
-use Rattle.octo_outside.specs.Told.{Became}
+use Rattle.octo_outside.specs.Recorded.{Became, last_count}
 use Rattle.marlin_frame.specs.Frame.{fails}
 use Rattle.printer_model.specs.Printer.{is_full}
 use Rattle.printer_model.specs.World.{WorldData, is_empty, is_free, is_run, can_happen, happen, world_from, world_of}
@@ -84,7 +84,7 @@ pub record IsHeard (into : List ℕ) (w : WorldData) (added : List WorldEvent) :
   pub free_before : list_all is_free before ≡ true
   pub free_behind : list_all is_free behind ≡ true
 
--- nothing was there to receive, after what the line and the printer do
+-- nothing could be received, after what the line and the printer do
 pub record IsSilence (w : WorldData) (added : List WorldEvent) : Type 0 where
   pub free : list_all is_free added ≡ true
   pub empty : (world_from w added).down ≡ []
@@ -126,12 +126,12 @@ IsHangUp false w added = added ≡ []
 -- the count of calls after one more, at most its type's last value
 abbrev pub counted_one : Option ℕ → Option ℕ
 counted_one None = None
-counted_one (Some calls) = Some (min (calls + 1) 18446744073709551615)
+counted_one (Some calls) = Some (min (calls + 1) last_count)
 
 -- the count of calls, if recorded, rose by at least this number, unless it is at its type's last value
 abbrev pub RoseBy : ℕ → Option ℕ → Option ℕ → Type 0
 RoseBy n None None = Unit {0}
-RoseBy n (Some before) (Some now) = now < 18446744073709551615 → before + n ≤ now
+RoseBy n (Some before) (Some now) = now < last_count → before + n ≤ now
 RoseBy n _ _ = ⊥
 
 -- a dial: the printer runs all that waits, and then the link is made

@@ -1,4 +1,4 @@
--- A link in memory: its schedule, its past, and the events that each call adds.
+-- A link in memory: its schedule, its recorded history, and the events that each call adds.
 use Rattle.std.specs.Prelude.{◌≡◌, ◌≤◌, ℕ, ◌+◌, ◌%◌, Bool, true, false, ◌==◌, ◌&&◌, if◌then◌else◌, List, [], ◌∷◌, ◌++◌, length, replicate, min, count_by, slice_index_or}
 use Rattle.std.specs.List.{list_all, list_any}
 use Rattle.std.specs.Str.{bytes_eq}
@@ -15,7 +15,7 @@ use Rattle.printer_link.specs.declared.schedule.Schedule.{Schedule}
 use Rattle.printer_link.specs.declared.schedule.Fate.{Fate}
 use Rattle.printer_link.specs.declared.schedule.Fate.TheVariants.{Whole, Lost, Garbled}
 
--- a past over a printer, with the fates of the lines that are sent in it
+-- a recorded history over a printer, with the fates of the lines that are sent in it
 pub record StoryData : Type 0 where
   pub places : ℕ
   pub advanced : Bool
@@ -34,11 +34,11 @@ pub record MemoryLinkData : Type 0 where
   pub recvs : ℕ
   pub faults : ℕ
 
--- the world at the end of a past
+-- the world at the end of a recorded history
 abbrev pub story_world : StoryData → WorldData
 story_world s = world_of s.places s.advanced s.past
 
--- a past with more events
+-- a recorded history with more events
 abbrev pub with_events : StoryData → List WorldEvent → StoryData
 with_events s events = record s { past = s.past ++ events }
 
@@ -92,7 +92,7 @@ pub record FreeOnly (old new : StoryData) : Type 0 where
   pub is : new ≡ with_events old added
   pub free : list_all is_free added ≡ true
 
--- what is kept beside a past: its world, and the place of the next fate
+-- what is kept beside a recorded history: its world, and the place of the next fate
 pub record IsKept (places : ℕ) (advanced : Bool) (fates : List Fate) (past : List WorldEvent) (world : WorldData) (next : ℕ) : Type 0 where
   pub some : 1 ≤ places
   pub few : places ≤ 16
@@ -127,20 +127,20 @@ new_link schedule =
     }
 
 -- a call was counted
-abbrev pub called : MemoryLinkData → MemoryLinkData
-called l = record l { calls = one_more l.calls }
+abbrev pub with_one_call : MemoryLinkData → MemoryLinkData
+with_one_call l = record l { calls = one_more l.calls }
 
 -- events were added
-abbrev pub grown : MemoryLinkData → List WorldEvent → MemoryLinkData
-grown l events = record l { story = with_events l.story events }
+abbrev pub with_added : MemoryLinkData → List WorldEvent → MemoryLinkData
+with_added l events = record l { story = with_events l.story events }
 
 -- a failure was counted and the link is down
-abbrev pub failed : MemoryLinkData → MemoryLinkData
-failed l = record (grown l (closing_events (link_world l))) { faults = one_more l.faults }
+abbrev pub after_fault : MemoryLinkData → MemoryLinkData
+after_fault l = record (with_added l (closing_events (link_world l))) { faults = one_more l.faults }
 
 -- a receiving was counted
-abbrev pub heard : MemoryLinkData → MemoryLinkData
-heard l = record l { recvs = one_more l.recvs }
+abbrev pub with_one_recv : MemoryLinkData → MemoryLinkData
+with_one_recv l = record l { recvs = one_more l.recvs }
 
 -- whether a fate is to arrive whole
 abbrev pub is_whole : Fate → Bool
@@ -159,22 +159,22 @@ link_kind l = record { slots = l.story.places; numbered = l.story.advanced; prom
 -- a link that only let the printer run
 pub record LinkRan (old new : MemoryLinkData) : Type 0 where
   pub count : ℕ
-  pub is : new ≡ grown old (replicate count Run)
+  pub is : new ≡ with_added old (replicate count Run)
 
 -- a link on which only the line and the printer did something
 pub record LinkMoved (old new : MemoryLinkData) : Type 0 where
   pub added : List WorldEvent
-  pub is : new ≡ grown old added
+  pub is : new ≡ with_added old added
   pub free : list_all is_free added ≡ true
 
 -- a line was received after what the printer did
 pub record LinkHeard (restarts due : Bool) (into : List ℕ) (old new : MemoryLinkData) : Type 0 where
-  pub is : new ≡ grown old (before_reply restarts due (link_world old) ++ Recv ∷ [])
+  pub is : new ≡ with_added old (before_reply restarts due (link_world old) ++ Recv ∷ [])
   pub front : IsFrontReply into (world_from (link_world old) (before_reply restarts due (link_world old))).down
 
 -- nothing came after what the printer did
 pub record LinkQuiet (restarts due : Bool) (old new : MemoryLinkData) : Type 0 where
-  pub is : new ≡ grown old (before_reply restarts due (link_world old))
+  pub is : new ≡ with_added old (before_reply restarts due (link_world old))
   pub empty : (world_from (link_world old) (before_reply restarts due (link_world old))).down ≡ []
 
 -- a receiving that didn't fail

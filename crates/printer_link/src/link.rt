@@ -1,6 +1,10 @@
-//! A link to a printer: lines go out, reply lines come in, and what happened between is its past.
+//! A link to a printer: lines go out, reply lines come in, and what happened between is its recorded history.
+//!
+//! Source: Marlin's `MAX_CMD_SIZE`, 96, for the longest line; `BUFSIZE` for the buffer slots; `ADVANCED_OK` for
+//! numbered acknowledgements.
 ghost use Rattle.std.specs.Prelude.{◌≡◌, ◌≤◌, ◌↔◌, ℕ, Bool, true, false, List, [], ◌∷◌, Option, Some, None, length, is_some, IfOk, OnOk, OnErr, IsErr, IsErrOf};
-ghost use Rattle.octo_outside.specs.Told.{Counts};
+ghost use Rattle.byte_text.specs.declared.texts.TheConstants.{MOST_LINE_BYTES};
+ghost use Rattle.octo_outside.specs.Recorded.{Counts};
 ghost use Rattle.printer_link.specs.Link.{LinkKind, HasSlots, Grows, IsOpenAs, IsNothing, IsRuns, IsDial, IsSend, IsSendLoss, IsHeard, IsSilence, IsLoss, IsHangUp, IsSendOf, counted_one, dial_events, recv_events};
 ghost use Rattle.printer_model.specs.declared.event.WorldEvent.{WorldEvent};
 ghost use Rattle.printer_model.specs.declared.event.WorldEvent.TheVariants as event;
@@ -8,6 +12,7 @@ ghost use Rattle.printer_link.specs.declared.link.Heard.TheVariants as heard;
 ghost use Rattle.printer_link.specs.declared.link.LinkFault.TheVariants as fault;
 
 use byte_text::{Line, ReplyLine};
+use thiserror::Error;
 
 /// What a receiving found.
 #[derive(Clone, Copy, Debug, PartialEq, Eq)]
@@ -19,11 +24,13 @@ pub enum Heard {
 }
 
 /// Why a call of a link failed.
-#[derive(Clone, Copy, Debug, PartialEq, Eq)]
+#[derive(Clone, Copy, Debug, PartialEq, Eq, Error)]
 pub enum LinkFault {
     /// The link lists no port of that name.
+    #[error("no such port")]
     NoPort,
     /// The link failed and is down; its count of faults rose.
+    #[error("the link failed")]
     Failed,
 }
 
@@ -48,6 +55,8 @@ pub trait Link {
     /// Makes a link to the port of that name.
     fn dial(&mut self, name: &str) -> Result<(), LinkFault>
         requires { up self.old ≡ false }
+
+        // What its history says of it.
         ensures past { OnOk result (Grows (kind self.old) (past self.old) (past self.new) IsDial) }
         ensures past_no_port { IsErrOf result fault.NoPort
             → Grows (kind self.old) (past self.old) (past self.new) IsNothing }
@@ -56,10 +65,14 @@ pub trait Link {
         ensures past_prompt { (kind self.old).prompt ≡ true
             → OnOk result (Grows (kind self.old) (past self.old) (past self.new)
             (λ w added. (last : ℕ) × (added ≡ dial_events w last))) }
+
+        // Whether the port is listed, and whether the link is up.
         ensures no_port { IsErrOf result fault.NoPort ↔ ((kind self.old).listed name.now ≡ false) }
         ensures up { OnOk result (up self.new ≡ true) }
         ensures down { OnErr result (up self.new ≡ false) }
         ensures open { IsOpenAs (kind self.new) (past self.new) (up self.new) }
+
+        // Counts, and what stays.
         ensures slots { HasSlots (kind self.new) }
         ensures kind { kind self.new ≡ kind self.old }
         ensures calls { calls self.new ≡ counted_one (calls self.old) }
@@ -68,7 +81,9 @@ pub trait Link {
     /// Sends a line of at most 95 bytes; the link writes the line end after it.
     fn send(&mut self, line: &Line) -> Result<(), LinkFault>
         requires open { up self.old ≡ true }
-        requires short { length line.now.items ≤ 95 }
+        requires short { length line.now.items ≤ MOST_LINE_BYTES }
+
+        // What its history says of it.
         ensures past { OnOk result (Grows (kind self.old) (past self.old) (past self.new)
             (IsSend line.now.items)) }
         ensures past_failed { OnErr result
@@ -76,10 +91,14 @@ pub trait Link {
         ensures past_prompt { (kind self.old).prompt ≡ true
             → OnOk result (Grows (kind self.old) (past self.old) (past self.new)
             (λ w added. (sent : WorldEvent) × (added ≡ sent ∷ []) × IsSendOf line.now.items sent)) }
+
+        // Whether the link is up.
         ensures no_port { IsErrOf result fault.NoPort → ⊥ }
         ensures up { OnOk result (up self.new ≡ true) }
         ensures down { OnErr result (up self.new ≡ false) }
         ensures open { IsOpenAs (kind self.new) (past self.new) (up self.new) }
+
+        // Counts, and what stays.
         ensures kind { kind self.new ≡ kind self.old }
         ensures calls { calls self.new ≡ counted_one (calls self.old) }
         ensures counts { Counts (IsErr result) (faults self.old) (faults self.new) };
@@ -87,6 +106,8 @@ pub trait Link {
     /// Receives a reply line without its line end, cut to 256 bytes, or finds that nothing has come.
     fn recv(&mut self, into: &mut ReplyLine) -> Result<Heard, LinkFault>
         requires { up self.old ≡ true }
+
+        // What its history says of it.
         ensures past { IfOk result (λ got. got ≡ heard.Line
             → Grows (kind self.old) (past self.old) (past self.new) (IsHeard into.new.items)) }
         ensures past_nothing { IfOk result
@@ -97,10 +118,14 @@ pub trait Link {
         ensures past_prompt { (kind self.old).prompt ≡ true
             → OnOk result (Grows (kind self.old) (past self.old) (past self.new)
             (λ w added. added ≡ recv_events true w)) }
+
+        // Whether the link is up.
         ensures no_port { IsErrOf result fault.NoPort → ⊥ }
         ensures up { OnOk result (up self.new ≡ true) }
         ensures down { OnErr result (up self.new ≡ false) }
         ensures open { IsOpenAs (kind self.new) (past self.new) (up self.new) }
+
+        // Counts, and what stays.
         ensures kind { kind self.new ≡ kind self.old }
         ensures calls { calls self.new ≡ counted_one (calls self.old) }
         ensures counts { Counts (IsErr result) (faults self.old) (faults self.new) };

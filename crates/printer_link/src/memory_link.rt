@@ -1,10 +1,11 @@
-//! A link to the printer in memory, which loses, garbles and fails by a schedule.
+//! A link to the printer in memory, which loses and corrupts lines and fails by a schedule.
 ghost use Rattle.std.specs.Prelude.{◌≡◌, ◌≤◌, ◌∷◌, [], true, false, IfOk, OnOk, OnErr, IsErr, ◌↔◌, ℕ, IsErrOf, Err, Some, length, count_by};
+ghost use Rattle.byte_text.specs.declared.texts.TheConstants.{MOST_LINE_BYTES};
 ghost use Rattle.octo_outside.specs.Memory.{one_more, is_listed};
-ghost use Rattle.octo_outside.specs.Told.{Counts};
+ghost use Rattle.octo_outside.specs.Recorded.{Counts};
 ghost use Rattle.printer_model.specs.World.{is_loss};
 ghost use Rattle.link_history.specs.Executed.{executed};
-ghost use Rattle.printer_link.specs.Memory.{called, closing_events, failed, grown, heard, is_due, is_prompt, link_kind, lists_name, link_world, new_link, next_fate, opening_last, send_events, sends, LinkReceived};
+ghost use Rattle.printer_link.specs.Memory.{with_one_call, closing_events, after_fault, with_added, with_one_recv, is_due, is_prompt, link_kind, lists_name, link_world, new_link, next_fate, opening_last, send_events, sends, LinkReceived};
 ghost use Rattle.printer_link.specs.Link.{HasSlots, Grows, IsDial, IsHangUp, IsHeard, IsLoss, IsNothing, IsOpenAs, IsRuns, IsSend, IsSendLoss, IsSendOf, IsSilence, counted_one, dial_events, recv_events};
 ghost use Rattle.printer_model.specs.declared.event.WorldEvent.{WorldEvent};
 ghost use Rattle.printer_model.specs.declared.event.WorldEvent.TheVariants as event;
@@ -59,7 +60,7 @@ impl Model for MemoryLink {
 }
 
 impl MemoryLink {
-    /// A link that does as the schedule says, to a printer of 1 to 16 places that has run nothing.
+    /// A link that does as the schedule says, to a printer of 1 to 16 buffer slots that has run nothing.
     pub fn new(alloc: Global, schedule: Schedule) -> Result<Self, AllocError>
         requires some { 1 ≤ schedule.places }
         requires few { schedule.places ≤ 16 }
@@ -107,7 +108,7 @@ impl MemoryLink {
             .count() as u64
     }
 
-    /// How many lines were lost or garbled.
+    /// How many lines were lost or corrupted.
     pub fn losses(&self) -> u64
         ensures { result ≡ count_by is_loss self.now.story.past }
     {
@@ -146,13 +147,17 @@ impl Link for MemoryLink {
 
     fn dial(&mut self, name: &str) -> Result<(), LinkFault>
         requires { (link_world self.old).linked ≡ false }
+
+        // The link after it.
         ensures adds { OnOk result (self.new
-            ≡ grown (called self.old) (dial_events (link_world self.old)
+            ≡ with_added (with_one_call self.old) (dial_events (link_world self.old)
             (opening_last self.old.story self.old.last))) }
-        ensures adds_nothing { IsErrOf result fault.NoPort → self.new ≡ called self.old }
+        ensures adds_nothing { IsErrOf result fault.NoPort → self.new ≡ with_one_call self.old }
         ensures fails { is_listed self.old.fail_at (one_more self.old.calls) ≡ true
             → lists_name self.old.names name.now ≡ true
-            → (result ≡ Err fault.Failed) × (self.new ≡ failed (called self.old)) }
+            → (result ≡ Err fault.Failed) × (self.new ≡ after_fault (with_one_call self.old)) }
+
+        // What its history says of it.
         ensures past { OnOk result (Grows (link_kind self.old) (Some self.old.story.past)
             (Some self.new.story.past) IsDial) }
         ensures past_no_port { IsErrOf result fault.NoPort
@@ -164,12 +169,16 @@ impl Link for MemoryLink {
         ensures past_prompt { is_prompt self.old ≡ true
             → OnOk result (Grows (link_kind self.old) (Some self.old.story.past)
             (Some self.new.story.past) (λ w added. (last : ℕ) × (added ≡ dial_events w last))) }
+
+        // Whether the port is listed, and whether the link is up.
         ensures no_port { IsErrOf result fault.NoPort
             ↔ (lists_name self.old.names name.now ≡ false) }
         ensures up { OnOk result ((link_world self.new).linked ≡ true) }
         ensures down { OnErr result ((link_world self.new).linked ≡ false) }
         ensures open { IsOpenAs (link_kind self.new) (Some self.new.story.past)
             (link_world self.new).linked }
+
+        // Counts, and what stays.
         ensures slots { HasSlots (link_kind self.new) }
         ensures kind { link_kind self.new ≡ link_kind self.old }
         ensures calls { Some self.new.calls ≡ counted_one (Some self.old.calls) }
@@ -187,13 +196,17 @@ impl Link for MemoryLink {
 
     fn send(&mut self, line: &Line) -> Result<(), LinkFault>
         requires open { (link_world self.old).linked ≡ true }
-        requires short { length line.now.items ≤ 95 }
+        requires short { length line.now.items ≤ MOST_LINE_BYTES }
+
+        // The link after it.
         ensures adds { OnOk result (self.new
-            ≡ grown (called self.old) (send_events (link_world self.old) line.now
+            ≡ with_added (with_one_call self.old) (send_events (link_world self.old) line.now
             (next_fate self.old.story))) }
-        ensures adds_closed { OnErr result (self.new ≡ failed (called self.old)) }
+        ensures adds_closed { OnErr result (self.new ≡ after_fault (with_one_call self.old)) }
         ensures fails { is_listed self.old.fail_at (one_more self.old.calls) ≡ true
             → result ≡ Err fault.Failed }
+
+        // What its history says of it.
         ensures past { OnOk result (Grows (link_kind self.old) (Some self.old.story.past)
             (Some self.new.story.past) (IsSend line.now.items)) }
         ensures past_failed { OnErr result
@@ -203,11 +216,15 @@ impl Link for MemoryLink {
             → OnOk result (Grows (link_kind self.old) (Some self.old.story.past)
             (Some self.new.story.past) (λ w added. (sent : WorldEvent) × (added ≡ sent ∷ [])
             × IsSendOf line.now.items sent)) }
+
+        // Whether the link is up.
         ensures no_port { IsErrOf result fault.NoPort → ⊥ }
         ensures up { OnOk result ((link_world self.new).linked ≡ true) }
         ensures down { OnErr result ((link_world self.new).linked ≡ false) }
         ensures open { IsOpenAs (link_kind self.new) (Some self.new.story.past)
             (link_world self.new).linked }
+
+        // Counts, and what stays.
         ensures kind { link_kind self.new ≡ link_kind self.old }
         ensures calls { Some self.new.calls ≡ counted_one (Some self.old.calls) }
         ensures counts { Counts (IsErr result) self.old.faults self.new.faults }
@@ -221,12 +238,17 @@ impl Link for MemoryLink {
 
     fn recv(&mut self, into: &mut ReplyLine) -> Result<Heard, LinkFault>
         requires { (link_world self.old).linked ≡ true }
+
+        // The link after it.
         ensures adds { IfOk result (λ got.
             LinkReceived (is_listed self.old.restart_at (one_more self.old.recvs))
             (is_due self.old.slow (one_more self.old.recvs)) into.new.items got
-            (heard (called self.old)) self.new) }
+            (with_one_recv (with_one_call self.old)) self.new) }
         ensures fails { is_listed self.old.fail_at (one_more self.old.calls) ≡ true
-            → (result ≡ Err fault.Failed) × (self.new ≡ failed (heard (called self.old))) }
+            → (result ≡ Err fault.Failed)
+            × (self.new ≡ after_fault (with_one_recv (with_one_call self.old))) }
+
+        // What its history says of it.
         ensures past { IfOk result (λ got. got ≡ heard_as.Line
             → Grows (link_kind self.old) (Some self.old.story.past) (Some self.new.story.past)
             (IsHeard into.new.items)) }
@@ -240,11 +262,15 @@ impl Link for MemoryLink {
         ensures past_prompt { is_prompt self.old ≡ true
             → OnOk result (Grows (link_kind self.old) (Some self.old.story.past)
             (Some self.new.story.past) (λ w added. added ≡ recv_events true w)) }
+
+        // Whether the link is up.
         ensures no_port { IsErrOf result fault.NoPort → ⊥ }
         ensures up { OnOk result ((link_world self.new).linked ≡ true) }
         ensures down { OnErr result ((link_world self.new).linked ≡ false) }
         ensures open { IsOpenAs (link_kind self.new) (Some self.new.story.past)
             (link_world self.new).linked }
+
+        // Counts, and what stays.
         ensures kind { link_kind self.new ≡ link_kind self.old }
         ensures calls { Some self.new.calls ≡ counted_one (Some self.old.calls) }
         ensures counts { Counts (IsErr result) self.old.faults self.new.faults }
@@ -259,7 +285,7 @@ impl Link for MemoryLink {
     }
 
     fn hang_up(&mut self)
-        ensures adds { self.new ≡ grown self.old (closing_events (link_world self.old)) }
+        ensures adds { self.new ≡ with_added self.old (closing_events (link_world self.old)) }
         ensures past { Grows (link_kind self.old) (Some self.old.story.past)
             (Some self.new.story.past) (IsHangUp (link_world self.old).linked) }
         ensures down { (link_world self.new).linked ≡ false }

@@ -249,7 +249,7 @@ impl Story {
     }
 }
 
-/// Whether a link was made in a past.
+/// Whether a link was made in a recorded history.
 fn has_opened(past: &[WorldEvent]) -> bool
     ensures { result ≡ list_any is_opened past.now }
 {
@@ -301,7 +301,7 @@ fn harm(world: &mut World, past: &mut Vec<WorldEvent>, fate: Fate, at: u32, line
     }
 }
 
-/// Adds an event that takes no memory if there is room for it.
+/// Adds an event that takes no memory, to a history with room for one more.
 fn note(world: &mut World, past: &mut Vec<WorldEvent>, event: WorldEvent)
     requires room { vec_len past.old < vec_capacity past.old }
     requires small { takes_memory event ≡ false }

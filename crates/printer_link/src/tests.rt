@@ -1,16 +1,9 @@
+//! Calls of a link in memory, each with what its printer executed.
 use super::*;
 use byte_text::{Line, Name, ReplyLine};
-use octo_outside::{CallList, NameList};
+use octo_outside::{CallList, NameList, calls_of};
 use std::alloc::{AllocError, Global};
 use std::process::Abort;
-
-// A line of the outside.
-fn line(rt: &impl Abort, text: &str) -> Line {
-    let mut line = Line::new();
-    line.try_extend_from_slice(text.as_bytes())
-        .expect(rt, "a short line");
-    line
-}
 
 // A call of a link with what it answers.
 #[derive(Clone, Copy)]
@@ -29,7 +22,7 @@ fn make_call(rt: &impl Abort, link: &mut MemoryLink, call: Call) {
             assert!(rt; link.dial(name) == want);
         }
         Call::Send(text, want) => {
-            let line = line(rt, text);
+            let line = Line::try_from(text.as_bytes()).expect(rt, "a short line");
             assert!(rt; link.is_up() && line.len() <= 95);
             assert!(rt; link.send(&line) == want);
         }
@@ -47,14 +40,10 @@ fn check_recv(rt: &impl Abort, link: &mut MemoryLink, want: Heard, text: &str) {
 }
 
 fn call_list(rt: &impl Abort, alloc: Global, calls: &[u64]) -> CallList {
-    let mut list = CallList::new(alloc);
-    for call in calls {
-        list.push(*call).expect(rt, "memory");
-    }
-    list
+    calls_of(alloc, calls).expect(rt, "no memory")
 }
 
-// A link to one listed port `p` and a printer of 4 places, whose last number is 4 at first.
+// A link to one listed port `p` and a printer of 4 buffer slots, whose last number is 4 at first.
 fn memory_link(
     rt: &impl Abort,
     alloc: Global,
@@ -107,7 +96,7 @@ const WHOLE: [Call; 12] = [
     Call::Send("N4 G28*23", Ok(())),
 ];
 
-// The second line garbled, the third lost; the tenth call fails.
+// The second line is corrupted, the third lost; the tenth call fails.
 const LOSSES: [Call; 10] = [
     Call::Dial("p", Ok(())),
     Call::Send("N0 M110 N1*124", Ok(())),
@@ -177,7 +166,7 @@ fn link_loses_and_fails(rt: HostRuntime) {
     assert_eq!(&rt; link.losses(), 2);
 }
 
-// Each call that allocates, with ample memory.
+// Each call that allocates; allocation succeeds.
 #[test]
 fn ample(rt: HostRuntime) {
     let link = memory_link(&rt, rt.alloc(), &[Fate::Lost], &[2], &[1]);

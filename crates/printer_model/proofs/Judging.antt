@@ -4,7 +4,6 @@ use Rattle.std.specs.Prelude.{Option, Some, None, Ok, Err, bytes_eq, ◌==◌}
 use Rattle.byte_text.specs.Marks.{has_m110}
 use Rattle.marlin_frame.specs.Frame.{begins_with_n, has_checksum, fails, lead_of, line_number_of, text_of, IsNumberedLine, checksum_matches}
 use Rattle.marlin_frame.proofs.PartLaws.{begins_with_n-fails}
-use Rattle.std.proofs.lemmas.Bool.Decides.{nat_tests}
 use Rattle.marlin_reply.specs.Kind.{kind_of}
 use Rattle.marlin_reply.specs.declared.reply.Reply.TheVariants as reply
 use Rattle.marlin_reply.proofs.Lines.{kind_of-error, kind_of-numbered_ok, kind_of-ok, kind_of-plain_ok, kind_of-resend, kind_of-start, kind_of-temps_ok}
@@ -12,31 +11,22 @@ use Rattle.printer_model.specs.Printer.{IsInTurn, IsRefusal, judged, is_out_of_t
 use Rattle.printer_model.specs.Replies.{asked_after, error_line, numbered_ok, ok_line, reason_text, resend_line, run_reply, start_line, temperatures_line}
 use Rattle.printer_model.specs.declared.printer.Reason.{Reason}
 use Rattle.printer_model.specs.declared.printer.Reason.TheVariants.{WrongNumber, NoChecksum, Mismatch}
+use Rattle.std.proofs.lemmas.Bool.{eq-eqb, ne_eqb, and_right}
 
 -- a line without a number
 pub judged-plain : (last : ℕ) (line : List ℕ) → begins_with_n line ≡ false → judged last line ≡ Ok (plain_entry line)
 unfolding judged
 judged-plain last line plain = rw plain refl
 
-same_test : (m n : ℕ) → m ≡ n → (m == n) ≡ true
-same_test m n same = grind (arith, nat_tests)
-
-other_test : (m n : ℕ) → m ≢ n → (m == n) ≡ false
-other_test m n other = grind (arith, nat_tests)
-
-nothing_and : (a : Bool) → (a && false) ≡ false
-nothing_and true = refl
-nothing_and false = refl
-
 in_turn : (last : ℕ) (line : List ℕ) → IsInTurn last line → is_out_of_turn last line ≡ false
 unfolding is_out_of_turn
-in_turn last line (inl next) = ap (λ (b : Bool). not b && not (has_m110 line)) (same_test (line_number_of line) (last + 1) next)
-in_turn last line (inr sets) = ap (λ (b : Bool). not (line_number_of line == last + 1) && not b) sets ∙ nothing_and (not (line_number_of line == last + 1))
+in_turn last line (inl next) = ap (λ (b : Bool). not b && not (has_m110 line)) (eq-eqb (line_number_of line) (last + 1) next)
+in_turn last line (inr sets) = ap (λ (b : Bool). not (line_number_of line == last + 1) && not b) sets ∙ and_right (not (line_number_of line == last + 1)) false refl
 
 out_of_turn : (last : ℕ) (line : List ℕ) → line_number_of line ≢ last + 1 → has_m110 line ≡ false → is_out_of_turn last line ≡ true
 unfolding is_out_of_turn
 out_of_turn last line other sets_none =
-    ap (λ (b : Bool). not b && not (has_m110 line)) (other_test (line_number_of line) (last + 1) other) ∙ ap not sets_none
+    ap (λ (b : Bool). not b && not (has_m110 line)) (ne_eqb (line_number_of line) (last + 1) other) ∙ ap not sets_none
 
 -- a wrong number
 pub judged-out_of_turn : (last : ℕ) (line : List ℕ) → begins_with_n line ≡ true → line_number_of line ≢ last + 1 → has_m110 line ≡ false → judged last line ≡ Err WrongNumber

@@ -3,9 +3,9 @@ use Rattle.std.proofs.Common.{◌≡◌, ℕ, Bool, true, false, cond, List, [],
 use Rattle.std.specs.Prelude.{Result, Ok, Err, remove, slice_set, if◌then◌else◌}
 use Rattle.std.proofs.lemmas.List.Sums.{fold-append}
 use Rattle.std.specs.List.{list_all}
-use Rattle.std.proofs.lemmas.Bool.{cond_both}
+use Rattle.std.proofs.lemmas.Bool.{cond_both, and_parts}
 use Rattle.printer_model.specs.Printer.{IsSameKind, waiting_as, PrinterData, Entry, Logged, is_full, judged, take_judged, take_line, run_queue, ran_line}
-use Rattle.printer_model.specs.World.{WorldData, new_world, can_happen, is_empty, arrive_front, after_run, happen, apply, world_from, world_of, Grew, IsTidy, accepted_lines, moves_printer, moves_up, moves_down, is_free, fits_wire, arrived}
+use Rattle.printer_model.specs.World.{WorldData, new_world, can_happen, is_empty, arrive_front, after_run, happen, apply, world_from, world_of, Grew, IsTidy, accepted_lines, moves_printer, moves_up, moves_down, is_free, fits_wire, after_arrival}
 use Rattle.printer_model.specs.World.{is_run}
 use Rattle.marlin_reply.specs.Kind.{is_chatter}
 use Rattle.printer_model.specs.declared.printer.Reason.{Reason}
@@ -105,7 +105,7 @@ take_judged-IsSameKind : (p : PrinterData) (what : Result Entry Reason) → IsSa
 take_judged-IsSameKind p (Ok entry) = record { places = refl; advanced = refl }
 take_judged-IsSameKind p (Err reason) = IsSameKind-refl p
 
--- a line that is taken leaves the places and the kind of answers
+-- a line that is taken leaves the buffer slots and the kind of acknowledgements
 pub take_line-IsSameKind : (p : PrinterData) (line : List ℕ) → IsSameKind p (take_line p line).1
 take_line-IsSameKind p line =
     cond_both (is_full p) _ (take_judged p (judged p.last line)) (λ t. IsSameKind p t.1) (λ _. IsSameKind-refl p)
@@ -131,7 +131,7 @@ happen-IsSameKind w (Chatter reply) = IsSameKind-refl w.printer
 happen-IsSameKind w Recv = IsSameKind-refl w.printer
 happen-IsSameKind w Closed = IsSameKind-refl w.printer
 
--- an event leaves the places and the kind of answers
+-- an event leaves the buffer slots and the kind of acknowledgements
 pub apply-IsSameKind : (w : WorldData) (event : WorldEvent) → IsSameKind w.printer (apply w event).printer
 apply-IsSameKind w event =
     after_event (λ (v : WorldData). IsSameKind w.printer v.printer) w event (IsSameKind-refl w.printer) (λ _. happen-IsSameKind w event)
@@ -142,15 +142,6 @@ world_from-IsSameKind w (event ∷ events) =
     let here = apply-IsSameKind w event in
     let behind = world_from-IsSameKind (apply w event) events in
     record { places = behind.places ∙ here.places; advanced = behind.advanced ∙ here.advanced }
-
--- two tests that both hold
-pub both_left : (a b : Bool) → (a && b) ≡ true → a ≡ true
-both_left true b both = refl
-both_left false b both = both
-
-pub both_right : (a b : Bool) → (a && b) ≡ true → b ≡ true
-both_right true b both = both
-both_right false b both = absurd (cc)
 
 arrived_linked : (w : WorldData) (up : List (List ℕ)) → (arrive_front w up).linked ≡ w.linked
 arrived_linked w [] = refl
@@ -179,8 +170,8 @@ apply-linked w event free = after_event (λ (v : WorldData). v.linked ≡ w.link
 pub world_from-linked : (w : WorldData) (events : List WorldEvent) → list_all is_free events ≡ true → (world_from w events).linked ≡ w.linked
 world_from-linked w [] free = refl
 world_from-linked w (event ∷ events) free =
-    world_from-linked (apply w event) events (both_right (is_free event) (list_all is_free events) free)
-    ∙ apply-linked w event (both_left (is_free event) (list_all is_free events) free)
+    world_from-linked (apply w event) events (and_parts (is_free event) (list_all is_free events) free).1
+    ∙ apply-linked w event (and_parts (is_free event) (list_all is_free events) free).0
 
 -- a run of a printer in which something waits
 pub run_queue_of : (w : WorldData) (entry : Entry) (behind : List Entry) → w.printer.queue ≡ entry ∷ behind → apply w Run ≡ after_run w (run_queue w.printer (entry ∷ behind))
@@ -291,7 +282,7 @@ nothing_out (suc at) = refl
 
 -- an event that needs an open link
 open_only : (w v : WorldData) (test : Bool) → (w.linked && test) ≡ true → v.linked ≡ w.linked → IsTidy v
-open_only w v test can same = λ shut. let open_now : w.linked ≡ true = both_left w.linked test can in absurd (cc)
+open_only w v test can same = λ shut. let open_now : w.linked ≡ true = (and_parts w.linked test can).0 in absurd (cc)
 
 happen-tidy : (w : WorldData) (event : WorldEvent) → can_happen w event ≡ true → IsTidy w → IsTidy (happen w event)
 happen-tidy w (Opened last) can tidy = λ shut. absurd (cc)
@@ -317,17 +308,17 @@ pub world_of-tidy : (places : ℕ) (advanced : Bool) (past : List WorldEvent) �
 world_of-tidy places advanced past = world_from-tidy (new_world places advanced) past (λ _. record { up = refl; down = refl })
 
 -- what an arrival is, by the line at the front of the wire
-pub arrive_front_of : (w : WorldData) (line : List ℕ) (behind : List (List ℕ)) → w.up ≡ line ∷ behind → is_full w.printer ≡ false → apply w Arrive ≡ arrived w behind (take_judged w.printer (judged w.printer.last line))
+pub arrive_front_of : (w : WorldData) (line : List ℕ) (behind : List (List ℕ)) → w.up ≡ line ∷ behind → is_full w.printer ≡ false → apply w Arrive ≡ after_arrival w behind (take_judged w.printer (judged w.printer.last line))
 arrive_front_of w line behind same room =
     let can : can_happen w Arrive ≡ true = ap (λ (up : List (List ℕ)). not (is_empty up) && not (is_full w.printer)) same ∙ ap not room in
     happens w Arrive can
     ∙ ap (arrive_front w) same
-    ∙ ap (λ (b : Bool). arrived w behind (if b then (Full, w.printer) else take_judged w.printer (judged w.printer.last line))) room
+    ∙ ap (λ (b : Bool). after_arrival w behind (if b then (Full, w.printer) else take_judged w.printer (judged w.printer.last line))) room
 
 -- the arrival of a line that is accepted
-pub arrive_accepts : (w : WorldData) (line : List ℕ) (behind : List (List ℕ)) (entry : Entry) → w.up ≡ line ∷ behind → is_full w.printer ≡ false → judged w.printer.last line ≡ Ok entry → apply w Arrive ≡ arrived w behind (take_judged w.printer (Ok entry))
-arrive_accepts w line behind entry same room is = arrive_front_of w line behind same room ∙ ap (λ (what : Result Entry Reason). arrived w behind (take_judged w.printer what)) is
+pub arrive_accepts : (w : WorldData) (line : List ℕ) (behind : List (List ℕ)) (entry : Entry) → w.up ≡ line ∷ behind → is_full w.printer ≡ false → judged w.printer.last line ≡ Ok entry → apply w Arrive ≡ after_arrival w behind (take_judged w.printer (Ok entry))
+arrive_accepts w line behind entry same room is = arrive_front_of w line behind same room ∙ ap (λ (what : Result Entry Reason). after_arrival w behind (take_judged w.printer what)) is
 
 -- the arrival of a line that is refused
-pub arrive_refuses : (w : WorldData) (line : List ℕ) (behind : List (List ℕ)) (reason : Reason) → w.up ≡ line ∷ behind → is_full w.printer ≡ false → judged w.printer.last line ≡ Err reason → apply w Arrive ≡ arrived w behind (take_judged w.printer (Err reason))
-arrive_refuses w line behind reason same room is = arrive_front_of w line behind same room ∙ ap (λ (what : Result Entry Reason). arrived w behind (take_judged w.printer what)) is
+pub arrive_refuses : (w : WorldData) (line : List ℕ) (behind : List (List ℕ)) (reason : Reason) → w.up ≡ line ∷ behind → is_full w.printer ≡ false → judged w.printer.last line ≡ Err reason → apply w Arrive ≡ after_arrival w behind (take_judged w.printer (Err reason))
+arrive_refuses w line behind reason same room is = arrive_front_of w line behind same room ∙ ap (λ (what : Result Entry Reason). after_arrival w behind (take_judged w.printer what)) is

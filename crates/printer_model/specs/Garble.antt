@@ -1,4 +1,4 @@
--- What a garbled line looks like: its last digit became another one.
+-- What a corrupted line looks like: its last digit became another one.
 use Rattle.std.specs.Prelude.{ℕ, ◌+◌, ◌-◌, ◌%◌, if◌then◌else◌, List, length, slice_index, slice_set}
 use Rattle.std.specs.Char.{is_ascii_digit}
 

@@ -8,7 +8,7 @@ use Rattle.printer_model.specs.declared.printer.Reason.TheVariants.{WrongNumber,
 use Rattle.printer_model.specs.declared.printer.Taken.{Taken}
 use Rattle.printer_model.specs.declared.printer.Taken.TheVariants.{Accepted, Full, Refused}
 
--- a line that waits to be run; the lead is the number at the front, which a second N may overrule
+-- a line that waits to be run; `lead` is the N parameter at the front, which a second N may overrule
 pub record Entry : Type 0 where
   pub number : Option ℕ
   pub lead : Option ℕ
@@ -76,7 +76,7 @@ take_line p line = if is_full p then (Full, p) else take_judged p (judged p.last
 unfoldable pub last_after : ℕ → Entry → ℕ
 last_after last entry = if has_m110 entry.text then last_behind last entry.number else last
 
--- what running an entry says; the places are counted while it still waits
+-- the reply after an entry ran; the free buffer slots are counted while it still waits
 abbrev pub ran_line : PrinterData → Entry → RanLine
 ran_line p entry =
     record {
@@ -95,12 +95,12 @@ abbrev pub run_front : PrinterData → Option RanLine × PrinterData
 run_front p = run_queue p p.queue
 
 -- the printer restarts: it expects number 1, and what waited is gone
-abbrev pub restarted : PrinterData → PrinterData
-restarted p = record p { last = 0; queue = [] }
+abbrev pub printer_after_restart : PrinterData → PrinterData
+printer_after_restart p = record p { last = 0; queue = [] }
 
 -- what of it the log keeps
-abbrev pub logged : RanLine → Logged
-logged ran = record { number = ran.number; text = ran.text }
+abbrev pub log_line_of : RanLine → Logged
+log_line_of ran = record { number = ran.number; text = ran.text }
 
 -- a line that waits, as the log will keep it
 abbrev pub waiting_as : Entry → Logged

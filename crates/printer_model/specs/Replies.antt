@@ -1,5 +1,6 @@
 -- The lines that the printer replies.
 use Rattle.std.specs.Prelude.{ℕ, ◌+◌, Bool, if◌then◌else◌, List, [], ◌∷◌, ◌++◌, min, codes, decimal, bytes_eq, Option, Some, None}
+use Rattle.byte_text.specs.Number.{most_u32}
 use Rattle.printer_model.specs.declared.printer.Reason.{Reason}
 use Rattle.printer_model.specs.declared.printer.Reason.TheVariants.{WrongNumber, NoChecksum, Mismatch}
 use Rattle.printer_model.specs.declared.printer.Taken.{Taken}
@@ -13,7 +14,7 @@ reason_text Mismatch = codes "checksum mismatch"
 
 -- the line that a refusal asks for: the next one, or the greatest number
 unfoldable pub asked_after : ℕ → ℕ
-asked_after last = min (last + 1) 4294967295
+asked_after last = min (last + 1) most_u32
 
 -- the first of the three lines of a refusal
 unfoldable pub error_line : Reason → ℕ → List ℕ
@@ -41,16 +42,16 @@ start_line = codes "start"
 unfoldable pub temperatures_line : List ℕ
 temperatures_line = codes "ok T:21.30 /0.00 B:21.22 /0.00 @:0 B@:0"
 
--- the number in a numbered reply
+-- the N parameter in a numbered acknowledgement
 abbrev pub lead_text : Option ℕ → List ℕ
 lead_text None = []
 lead_text (Some lead) = codes " N" ++ decimal lead
 
--- an `ok` that names the line and the free places
+-- a numbered acknowledgement, with the free buffer slots
 unfoldable pub numbered_ok : Option ℕ → ℕ → List ℕ
 numbered_ok lead free = codes "ok" ++ lead_text lead ++ codes " P15 B" ++ decimal free
 
--- the reply to a run line, with numbered answers or without
+-- the reply to a run line, with numbered acknowledgements or without
 unfoldable pub run_reply : Bool → Option ℕ → List ℕ → ℕ → List ℕ
 run_reply advanced lead text free =
     if bytes_eq text (codes "M105") then temperatures_line

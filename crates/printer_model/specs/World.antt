@@ -2,7 +2,7 @@
 use Rattle.std.specs.Prelude.{◌≡◌, ℕ, Bool, true, false, ◌&&◌, not, nat_le, nat_lt, if◌then◌else◌, List, [], ◌∷◌, ◌++◌, length, drop, map, remove, slice_set, fold, Option, Some, None, Result, Ok, Err}
 use Rattle.marlin_frame.specs.Frame.{fails}
 use Rattle.marlin_reply.specs.Kind.{is_chatter}
-use Rattle.printer_model.specs.Printer.{PrinterData, Logged, RanLine, is_full, take_line, run_front, restarted, logged, waiting_as}
+use Rattle.printer_model.specs.Printer.{PrinterData, Logged, RanLine, is_full, take_line, run_front, printer_after_restart, log_line_of, waiting_as}
 use Rattle.printer_model.specs.Replies.{taken_replies, start_line}
 use Rattle.printer_model.specs.declared.printer.Taken.{Taken}
 use Rattle.printer_model.specs.declared.event.WorldEvent.{WorldEvent}
@@ -56,7 +56,7 @@ abbrev pub is_send : WorldEvent → Bool
 is_send (Send line) = true
 is_send _ = false
 
--- whether an event is a line lost or garbled on its way to the printer
+-- whether an event is a line lost or corrupted on its way to the printer
 abbrev pub is_loss : WorldEvent → Bool
 is_loss (Lose at) = true
 is_loss (Garble at line) = true
@@ -104,26 +104,26 @@ can_happen w Recv = w.linked && not (is_empty w.down)
 can_happen w Closed = w.linked
 
 -- the printer took the front of the wire to it
-abbrev pub arrived : WorldData → List (List ℕ) → Taken × PrinterData → WorldData
-arrived w behind taken = record w { printer = taken.1; up = behind; down = w.down ++ taken_replies taken.0 }
+abbrev pub after_arrival : WorldData → List (List ℕ) → Taken × PrinterData → WorldData
+after_arrival w behind taken = record w { printer = taken.1; up = behind; down = w.down ++ taken_replies taken.0 }
 
 -- the front of the wire to the printer arrives
 abbrev pub arrive_front : WorldData → List (List ℕ) → WorldData
 arrive_front w [] = w
-arrive_front w (line ∷ behind) = arrived w behind (take_line w.printer line)
+arrive_front w (line ∷ behind) = after_arrival w behind (take_line w.printer line)
 
 -- a reply line on the wire from the printer, if a link is made
-abbrev pub replied : WorldData → List ℕ → List (List ℕ)
-replied w reply = if w.linked then w.down ++ reply ∷ [] else w.down
+abbrev pub down_with_reply : WorldData → List ℕ → List (List ℕ)
+down_with_reply w reply = if w.linked then w.down ++ reply ∷ [] else w.down
 
 -- the printer ran a line
 abbrev pub after_run : WorldData → Option RanLine × PrinterData → WorldData
 after_run w (None, p) = w
-after_run w (Some ran, p) = record w { printer = p; log = w.log ++ logged ran ∷ []; down = replied w ran.reply }
+after_run w (Some ran, p) = record w { printer = p; log = w.log ++ log_line_of ran ∷ []; down = down_with_reply w ran.reply }
 
 -- the printer restarted; what it ran stays run
 abbrev pub after_restart : WorldData → WorldData
-after_restart w = record w { printer = restarted w.printer; down = w.down ++ start_line ∷ [] }
+after_restart w = record w { printer = printer_after_restart w.printer; down = w.down ++ start_line ∷ [] }
 
 -- a reply is at the front of the wire from the printer
 pub record IsFrontReply (reply : List ℕ) (down : List (List ℕ)) : Type 0 where
@@ -165,7 +165,7 @@ takes_memory _ = false
 abbrev pub world_from : WorldData → List WorldEvent → WorldData
 world_from w events = fold apply w events
 
--- the world after a past
+-- the world after a recorded history
 abbrev pub world_of : ℕ → Bool → List WorldEvent → WorldData
 world_of places advanced past = world_from (new_world places advanced) past
 

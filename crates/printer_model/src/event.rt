@@ -45,7 +45,7 @@ impl WorldEvent {
         matches!(self, WorldEvent::Send(_))
     }
 
-    /// Whether it is a line lost or garbled on its way to the printer.
+    /// Whether it is a line lost or corrupted on its way to the printer.
     pub fn is_loss(&self) -> bool
         ensures { result ≡ is_loss self.now }
     {

@@ -1,7 +1,11 @@
 //! The printer: it takes numbered lines into a short queue and runs them in order, as Marlin's command queue does.
+//!
+//! Source: Marlin's queue.cpp; `BUFSIZE` for the buffer slots; `MAX_CMD_SIZE`, 96, for the longest line; `ADVANCED_OK`
+//! for numbered acknowledgements.
 ghost use Rattle.std.specs.Prelude.{◌≡◌, ◌≤◌, ◌+◌, ◌-◌, List, [], ◌∷◌, length, Option, drop};
+ghost use Rattle.byte_text.specs.declared.texts.TheConstants.{MOST_LINE_BYTES};
 ghost use Rattle.printer_model.specs.Replies.{run_reply};
-ghost use Rattle.printer_model.specs.Printer.{is_full, judged, is_out_of_turn, last_behind, last_after, numbered_entry, plain_entry, restarted, run_front, take_line};
+ghost use Rattle.printer_model.specs.Printer.{is_full, judged, is_out_of_turn, last_behind, last_after, numbered_entry, plain_entry, printer_after_restart, run_front, take_line};
 
 use crate::replies::run_reply;
 use arrayvec::ArrayVec;
@@ -47,7 +51,7 @@ impl Model for Ran {
     ghost view = { λ r. record { number = r.number; text = r.text.items; reply = r.reply.items } };
 }
 
-/// A line that waits to be run. The lead is the number at its front; if a second `N` follows, the number is after that one.
+/// A line that waits to be run. `lead` is its N parameter; if a second `N` follows, the number is after that one.
 #[derive(Default, Drop)]
 struct Waiting {
     number: Option<u32>,
@@ -63,7 +67,8 @@ impl Model for Waiting {
     ghost view = { λ w. record { number = w.number; lead = w.lead; text = w.text.items } };
 }
 
-/// The printer without a record of what it ran: its last line number, its places, its kind of answers, and what waits.
+/// The printer without a record of what it ran: its last line number, its buffer slots, whether its
+/// acknowledgements are numbered, and what waits.
 #[derive(Drop)]
 pub struct Printer {
     last: u32,
@@ -89,7 +94,8 @@ impl Model for Printer {
 }
 
 impl Printer {
-    /// A printer with this last line number, 1 to 16 places, and replies that name their line if `advanced` is set. Nothing waits.
+    /// A printer with this last line number, 1 to 16 buffer slots, and numbered acknowledgements if `advanced` is
+    /// set. Nothing waits.
     pub fn new(last: u32, places: u8, advanced: bool) -> Self
         requires some { 1 ≤ places }
         requires few { places ≤ 16 }
@@ -110,7 +116,7 @@ impl Printer {
 
     /// Takes a line of at most 95 bytes into the queue, refuses it, or leaves it unread if the queue is full.
     pub fn arrive(&mut self, line: &[u8]) -> Taken
-        requires { length line.now ≤ 95 }
+        requires { length line.now ≤ MOST_LINE_BYTES }
         ensures taken { result ≡ (take_line self.old line.now).0 }
         ensures after { self.new ≡ (take_line self.old line.now).1 }
     {
@@ -179,7 +185,7 @@ impl Printer {
     ///
     /// Source: Marlin's queue.cpp, whose line number and ring buffer are in memory that a reset clears.
     pub(crate) fn restart(&mut self)
-        ensures { self.new ≡ restarted self.old }
+        ensures { self.new ≡ printer_after_restart self.old }
     {
         self.last = 0;
         self.queue.clear();
@@ -214,7 +220,7 @@ impl Printer {
     }
 }
 
-/// What running an entry says, with this many free places.
+/// The reply after an entry ran, with this number of free buffer slots.
 fn ran_line(advanced: bool, free: u8, entry: &Waiting) -> Ran
     ensures { result ≡ record {
       number = entry.now.number;

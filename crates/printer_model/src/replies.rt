@@ -1,4 +1,7 @@
 //! The lines that the printer replies, by Marlin's serial protocol.
+//!
+//! Source: Marlin's queue.cpp for `ok` and the three lines of a `Resend:`; `ADVANCED_OK` for numbered acknowledgements;
+//! temperature.cpp for the report of temperatures.
 ghost use Rattle.std.specs.Prelude.{◌≡◌, ◌+◌, ◌≤◌, ◌++◌, length, decimal, codes, min};
 ghost use Rattle.arrayvec.specs.ArrayVec.{array_vec_len};
 ghost use Rattle.printer_model.specs.Replies.{reason_text, asked_after, error_line, resend_line, ok_line, start_line, temperatures_line, lead_text, numbered_ok, run_reply};
@@ -72,7 +75,7 @@ fn temperatures_line() -> ReplyLine
     line
 }
 
-/// Adds ` N<lead>` if there is a lead.
+/// Adds the N parameter, ` N<lead>`, if the line has one.
 fn append_lead(line: &mut ReplyLine, lead: Option<u32>)
     requires { array_vec_len line.old + 12 ≤ 256 }
     ensures items { line.new.items ≡ line.old.items ++ lead_text lead }
@@ -84,7 +87,7 @@ fn append_lead(line: &mut ReplyLine, lead: Option<u32>)
     }
 }
 
-/// An `ok` that names the line and the free places: `ok N<lead> P15 B<free>`.
+/// A numbered acknowledgement, with the free buffer slots: `ok N<lead> P15 B<free>`.
 #[tactic(auto, unfolding(crate::specs::Replies::numbered_ok))]
 fn numbered_ok(lead: Option<u32>, free: u8) -> ReplyLine
     ensures { result.items ≡ numbered_ok lead free }

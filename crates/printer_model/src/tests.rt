@@ -1,3 +1,4 @@
+//! Worlds and printers, step by step: each event with what it changes, and the replies to lines.
 use super::*;
 use byte_text::{Line, ReplyLine};
 use std::process::Abort;
@@ -31,7 +32,7 @@ enum Step {
     Chat(&'static str),
     // The reply at the front is this one, and is received.
     Hear(&'static str),
-    // Nothing is there to receive.
+    // Nothing can be received.
     Quiet,
     Close,
 }
@@ -204,6 +205,15 @@ fn printer_restarts(rt: HostRuntime) {
     assert_eq!(&rt; world.log().len(), 2);
 }
 
+// The printer runs its two waiting lines, and replies with their numbers and its free slots.
+fn check_replies(rt: &impl Abort, printer: &mut Printer) {
+    for (number, reply) in [(1, "ok N0 P15 B0"), (2, "ok N2 P15 B1")] {
+        let ran = printer.run_one().expect(rt, "a line that waits");
+        assert_eq!(rt; ran.number, Some(number));
+        assert_eq!(rt; ran.reply.as_slice(), reply.as_bytes());
+    }
+}
+
 #[test]
 fn printer_answers(rt: HostRuntime) {
     let mut printer = Printer::new(4, 2, true);
@@ -235,14 +245,10 @@ fn printer_answers(rt: HostRuntime) {
         assert!(&rt; bytes.len() <= 95);
         assert_eq!(&rt; printer.arrive(bytes), want);
     }
-    for (number, reply) in [(1, "ok N0 P15 B0"), (2, "ok N2 P15 B1")] {
-        let ran = printer.run_one().expect(&rt, "a line that waits");
-        assert_eq!(&rt; ran.number, Some(number));
-        assert_eq!(&rt; ran.reply.as_slice(), reply.as_bytes());
-    }
+    check_replies(&rt, &mut printer);
 }
 
-// Each event that allocates, with ample memory, and what was run.
+// Each event that allocates, if allocation succeeds, and what was run.
 #[test]
 fn ample(rt: HostRuntime) {
     let mut world = World::new(rt.alloc(), 1, false);

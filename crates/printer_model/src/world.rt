@@ -41,7 +41,7 @@ impl Model for World {
 }
 
 impl World {
-    /// A world with a closed link and a printer of 1 to 16 places that has run nothing.
+    /// A world with a closed link and a printer of 1 to 16 buffer slots that has run nothing.
     pub fn new(alloc: Global, places: u8, advanced: bool) -> Self
         requires some { 1 ≤ places }
         requires few { places ≤ 16 }
@@ -287,7 +287,7 @@ fn reply_of(bytes: &[u8]) -> ReplyLine
     }
 }
 
-/// Whether a line is chatter: its reply is neither Ok, Resend nor Start.
+/// Whether a line is another reply: neither Ok, Resend nor Start.
 #[tactic(auto, unfolding(marlin_reply::specs::Kind::is_chatter))]
 fn is_chatter(line: &[u8]) -> bool
     ensures { result ≡ is_chatter line.now }

@@ -1,8 +1,8 @@
 -- What a quiet turn makes of the desk of a print, as far as it counts turns.
 use Rattle.std.proofs.Common.{◌≡◌, inl, inr, ℕ, ◌+◌, ◌<◌, ◌≤◌, Bool, true, false, cond, codes, List, [], ◌∷◌, slice_get, Option, None, Some, refl, sym, ◌∙◌, ap, subst, arith}
 use Rattle.desk_steps.specs.Data.{Data, Line, commands_of, with_script, moment_after}
-use Rattle.desk_steps.specs.Pull.{Drawn, talk, nothing, issue, from_scripts, from_manual, from_poll, poll_is_due, from_file, draw_at, is_issued, settle_at, settled, pull_step}
-use Rattle.desk_steps.specs.Note.{Noted, end_at, is_over, finish, opened, ready_at, note_step}
+use Rattle.desk_steps.specs.Pull.{Drawn, draw_in_order, nothing, issue, from_scripts, from_manual, from_poll, poll_is_due, from_file, draw_at, is_issued, settle_at, settled, pull_step}
+use Rattle.desk_steps.specs.Note.{Noted, end_at, is_over, finish, after_open, ready_at, note_step}
 use Rattle.desk_steps.specs.declared.state.State.{State}
 use Rattle.desk_steps.specs.declared.state.State.TheVariants.{Offline, Connecting, Operational, Printing, Pausing, Paused, Cancelling, Finishing, Closing, Fault}
 use Rattle.desk_steps.specs.declared.state.Point.TheVariants as point
@@ -20,26 +20,14 @@ use Rattle.print_course.proofs.Pulling.{issue_state, pull-underway}
 use Rattle.print_course.proofs.Noting.{note-underway}
 use Rattle.print_course.proofs.Polls.{pull-paced, pulls-paced}
 use Rattle.prompt_print.specs.OnWay.{IsInPrint}
+use Rattle.print_course.proofs.States.{kept_poll, kept_manual, kept_scripts, pulls_keep}
 
 -- What a pull leaves of the state.
 
-scripts_state : (w : List Line) (d : Data) (next : Drawn) → next.1.state ≡ d.state → (from_scripts w d next).1.state ≡ d.state
-scripts_state [] d next same = same
-scripts_state (line ∷ lines) d next same = issue_state line (record d { waiting = lines })
-
-manual_state : (m : List (List ℕ)) (d : Data) (next : Drawn) → next.1.state ≡ d.state → (from_manual m d next).1.state ≡ d.state
-manual_state [] d next same = same
-manual_state (text ∷ texts) d next same = issue_state (record { text = text; tag = Manual }) (record d { manual = texts })
-
-poll_state : (b : Bool) (at : ℕ) (d : Data) (next : Drawn) → next.1.state ≡ d.state
-    → (cond b (issue (record { text = codes "M105"; tag = Poll }) (record d { poll_at = at })) next).1.state ≡ d.state
-poll_state true at d next same = issue_state (record { text = codes "M105"; tag = Poll }) (record d { poll_at = at })
-poll_state false at d next same = same
-
-talk_state : (moment : ℕ) (d : Data) (next : Drawn) → next.1.state ≡ d.state → (talk moment d next).1.state ≡ d.state
+talk_state : (moment : ℕ) (d : Data) (next : Drawn) → next.1.state ≡ d.state → (draw_in_order moment d next).1.state ≡ d.state
 talk_state moment d next same =
-    scripts_state d.waiting d (from_manual d.manual d (from_poll moment d next))
-    (manual_state d.manual d (from_poll moment d next) (poll_state (poll_is_due moment d) (moment_after moment d.poll_ms) d next same))
+    kept_scripts d.waiting d (from_manual d.manual d (from_poll moment d next))
+    (kept_manual d.manual d (from_poll moment d next) (kept_poll (poll_is_due moment d) (moment_after moment d.poll_ms) d next same))
 
 file_state : (text : Option (List ℕ)) (d : Data) → (from_file text d).1.state ≡ d.state
 file_state None d = refl
@@ -72,15 +60,11 @@ print_pull moment d (inr at) =
 closing_pull : (moment : ℕ) (d : Data) → d.state ≡ Closing → (pull_step moment d).1.state ≡ Closing
 closing_pull moment d at =
     settle_closing (draw_at d.state moment d).1
-    (ap (λ s. (draw_at s moment d).1.state) at ∙ scripts_state d.waiting d (nothing d) refl ∙ at)
+    (ap (λ s. (draw_at s moment d).1.state) at ∙ kept_scripts d.waiting d (nothing d) refl ∙ at)
 
 print_pulls : (moment : ℕ) (lines : List Line) (old new : Data) → IsInPrint old.state → Pulls moment lines old new → IsInPrint new.state
 print_pulls moment [] old new at pulls = subst (λ (d : Data). IsInPrint d.state) (sym pulls) at
 print_pulls moment (line ∷ lines) old new at pulls = print_pulls moment lines (pull_step moment old).1 new (print_pull moment old at) pulls.1
-
-closing_pulls : (moment : ℕ) (lines : List Line) (old new : Data) → old.state ≡ Closing → Pulls moment lines old new → new.state ≡ Closing
-closing_pulls moment [] old new at pulls = ap (λ (d : Data). d.state) pulls ∙ at
-closing_pulls moment (line ∷ lines) old new at pulls = closing_pulls moment lines (pull_step moment old).1 new (closing_pull moment old at) pulls.1
 
 -- pulls leave a settled desk
 settled_pulls : (moment : ℕ) (lines : List Line) (old new : Data) → settled old ≡ old → Pulls moment lines old new → settled new ≡ new
@@ -165,7 +149,7 @@ module _ (moment acked : ℕ) (lines : List Line) (old : Data) (ending : Option 
   pub quiet_closes : old.state ≡ Closing → IsQuietFor ending old new
   quiet_closes at =
       let told = note_closes acked moment old at in
-      closes at (quiet_ending ∙ told.0) (ap (λ (d : Data). d.state) quiet_new ∙ closing_pulls moment lines first n.pulled told.1 n.pulls)
+      closes at (quiet_ending ∙ told.0) (ap (λ (d : Data). d.state) quiet_new ∙ pulls_keep Closing closing_pull moment lines first n.pulled told.1 n.pulls)
 
 -- What notes leave of the poll.
 
@@ -221,7 +205,7 @@ quiet_poll : (acked moment : ℕ) (d : Data) → IsSamePoll d (note_step acked f
 quiet_poll acked moment d = let so = ended_poll (record d { acked = acked }) in record { at = so.at; ms = so.ms }
 
 pub opened_ms : (acked moment : ℕ) (d : Data) → (note_step acked fact.Opened moment d).1.poll_ms ≡ d.poll_ms
-opened_ms acked moment d = (ended_poll (opened (record d { acked = acked }))).ms
+opened_ms acked moment d = (ended_poll (after_open (record d { acked = acked }))).ms
 
 pub ready_ms : (acked moment : ℕ) (d : Data) → d.state ≡ Connecting → (note_step acked fact.Ready moment d).1.poll_ms ≡ d.poll_ms
 ready_ms acked moment d at =

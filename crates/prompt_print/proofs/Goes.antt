@@ -18,13 +18,13 @@ use Rattle.send_window.specs.declared.session_end.SessionEnd.{SessionEnd}
 use Rattle.session_steps.specs.Data.{SessionData, doing}
 use Rattle.session_steps.specs.DeskTurn.{IsNoted}
 use Rattle.session_steps.specs.Found.{Got, unasked, lost, nothing, whole, can_find, end_by, up_after}
-use Rattle.session_steps.specs.Steps.{talk_steps}
+use Rattle.session_steps.specs.Steps.{steps_over_link}
 use Rattle.session_steps.specs.Turn.{fact_of, texts_in, IsSpent}
-use Rattle.session_steps.specs.declared.found.Doing.TheVariants.{Talking}
+use Rattle.session_steps.specs.declared.found.Doing.TheVariants.{UsingLink}
 use Rattle.session_steps.specs.declared.found.Turned.{Turned}
-use Rattle.prompt_turns.specs.Prompt.{IsSaying}
+use Rattle.prompt_turns.specs.Prompt.{IsReadySession}
 use Rattle.prompt_turns.proofs.Prompted.{HasGoneOn, prompt_talk, heard_goes_on, silence_goes_on}
-use Rattle.print_course.specs.Plan.{PrintData, line_texts}
+use Rattle.print_course.specs.Plan.{PrintData}
 use Rattle.print_course.specs.Underway.{standing, IsUnderway}
 use Rattle.print_course.specs.Remaining.{remaining, is_giving, planned_count, ArePaced}
 use Rattle.print_course.specs.Turned.{IsTurnOf}
@@ -33,9 +33,10 @@ use Rattle.print_course.proofs.Remaining.{disconnect-remaining}
 use Rattle.print_course.proofs.TurnsRemaining.{turn-remaining}
 use Rattle.print_course.proofs.Idle.{idle-remaining, done-next, closes-next}
 use Rattle.prompt_print.specs.OnWay.{IsAt, HasCourse, IsInPrint, Silences, starts, prints, leaves, closes, IsGoing, goes, LeadsOn}
-use Rattle.prompt_print.proofs.Parts.{some_room, all_spoken, below_or_same, some_silence, gives_in_print, finishes, closes_not, not_ended}
+use Rattle.prompt_print.proofs.Parts.{some_room, all_spoken, below_or_same, some_silence, gives_in_print, finishes, closes_not}
 use Rattle.prompt_print.proofs.Desks.{IsQuietFor, goes as goes_on, ends as ends_so, closes as closes_on, quiet_ending, quiet_settles, quiet_prints, quiet_closes, quiet_paced}
 use Rattle.prompt_print.proofs.Turns.{HasTurned, HasAdded, at_world, talks_if, hangs_if, its_fact, may_find, not_failed, steps_for, noted_for, course_of, receives, more_acked, stays_ready, hangs_closed}
+use Rattle.std.proofs.lemmas.Option.{none-some}
 
 module _ (moment at poll_ms : ℕ) (kind : LinkKind) (old_past new_past : Option (List WorldEvent)) (old_calls new_calls : Option ℕ) (old mid : SessionData) (turned : Turned) (h : HasTurned moment at poll_ms kind old_past new_past old_calls new_calls old mid turned) (p : PrintData) (left : ℕ) (g : IsGoing kind p poll_ms moment left old_past old) where
   fact_is : fact_of turned.note ≡ h.turn.found
@@ -47,7 +48,7 @@ module _ (moment at poll_ms : ℕ) (kind : LinkKind) (old_past new_past : Option
   abbrev w : WorldData
   w = world_in kind g.saying.now
 
-  i : IsSaying old.sender w
+  i : IsReadySession old.sender w
   i = g.saying.is
 
   few : old.sender.issued < most_lines
@@ -56,18 +57,18 @@ module _ (moment at poll_ms : ℕ) (kind : LinkKind) (old_past new_past : Option
   -- A turn that finds the connection open.
 
   module _ (unshut : is_closable_at old.desk.state old.desk ≡ false) where
-    talks : doing old ≡ Talking
+    talks : doing old ≡ UsingLink
     talks = talks_if old g.up unshut
 
     asked : (h.turn.got ≡ unasked → ⊥) × (h.turn.got ≡ lost → ⊥)
     asked = receives moment at poll_ms kind old_past new_past old_calls new_calls old mid turned h talks
 
-    steps : HasAdded moment kind (talk_steps h.turn.got h.turn.found texts h.turn.steps.count) old.sender mid.sender g.saying.now new_past
-    steps = steps_for moment at poll_ms kind old_past new_past old_calls new_calls old mid turned h Talking talks g.saying.now g.saying.recorded
+    steps : HasAdded moment kind (steps_over_link h.turn.got h.turn.found texts h.turn.steps.count) old.sender mid.sender g.saying.now new_past
+    steps = steps_for moment at poll_ms kind old_past new_past old_calls new_calls old mid turned h UsingLink talks g.saying.now g.saying.recorded
 
-    steps_got : (got : Got) → h.turn.got ≡ got → HasAdded moment kind (talk_steps got h.turn.found texts h.turn.steps.count) old.sender mid.sender g.saying.now new_past
+    steps_got : (got : Got) → h.turn.got ≡ got → HasAdded moment kind (steps_over_link got h.turn.found texts h.turn.steps.count) old.sender mid.sender g.saying.now new_past
     steps_got got is =
-        let G : Got → Type 0 = λ x. HasAdded moment kind (talk_steps x h.turn.found texts h.turn.steps.count) old.sender mid.sender g.saying.now new_past in
+        let G : Got → Type 0 = λ x. HasAdded moment kind (steps_over_link x h.turn.found texts h.turn.steps.count) old.sender mid.sender g.saying.now new_past in
         subst G is steps
 
     -- the session doesn't end
@@ -84,9 +85,9 @@ module _ (moment at poll_ms : ℕ) (kind : LinkKind) (old_past new_past : Option
     -- A quiet one.
 
     module _ (found : h.turn.found ≡ fact.Quiet) where
-      added : HasAdded moment kind (talk_steps h.turn.got fact.Quiet texts h.turn.steps.count) old.sender mid.sender g.saying.now new_past
+      added : HasAdded moment kind (steps_over_link h.turn.got fact.Quiet texts h.turn.steps.count) old.sender mid.sender g.saying.now new_past
       added =
-          let F : LinkFact → Type 0 = λ x. HasAdded moment kind (talk_steps h.turn.got x texts h.turn.steps.count) old.sender mid.sender g.saying.now new_past in
+          let F : LinkFact → Type 0 = λ x. HasAdded moment kind (steps_over_link h.turn.got x texts h.turn.steps.count) old.sender mid.sender g.saying.now new_past in
           subst F found steps
 
       gone : HasGoneOn h.turn.got old.sender mid.sender (world_from w added.added)
@@ -111,7 +112,7 @@ module _ (moment at poll_ms : ℕ) (kind : LinkKind) (old_past new_past : Option
       noted : IsNoted moment mid.sender.acked fact.Quiet h.turn.lines old.desk turned.ending mid.desk
       noted =
           let N : LinkFact → Type 0 = λ x. IsNoted moment mid.sender.acked x h.turn.lines old.desk turned.ending mid.desk in
-          subst N found (noted_for moment at poll_ms kind old_past new_past old_calls new_calls old mid turned h Talking talks)
+          subst N found (noted_for moment at poll_ms kind old_past new_past old_calls new_calls old mid turned h UsingLink talks)
 
       turn_course : IsTurnOf p fact.Quiet h.turn.lines g.desk.issued old.desk turned.ending mid.desk
       turn_course =
@@ -119,18 +120,18 @@ module _ (moment at poll_ms : ℕ) (kind : LinkKind) (old_past new_past : Option
           subst F found (course_of moment at poll_ms kind old_past new_past old_calls new_calls old mid turned h p g.desk.issued g.desk.course)
 
       abbrev now : List (List ℕ)
-      now = g.desk.issued ++ line_texts h.turn.lines
+      now = g.desk.issued ++ texts_in h.turn.lines
 
       course : IsUnderway p mid.desk now
       course = turn_course.underway
 
-      -- as many lines were issued as the desk gave
+      -- as many lines were issued as the desk returned
       issued_more : mid.sender.issued ≡ old.sender.issued + length h.turn.lines
       issued_more =
           let before = g.desk.course.counted (omega (arith, h.kept.before.issued, few)) in
           let after = course.counted (omega (arith, h.joined.issued, gone.saying.sound.few)) in
-          let both : length now ≡ length g.desk.issued + length (line_texts h.turn.lines) = length-append g.desk.issued (line_texts h.turn.lines) in
-          let each : length (line_texts h.turn.lines) ≡ length h.turn.lines = length-map h.turn.lines _ in
+          let both : length now ≡ length g.desk.issued + length (texts_in h.turn.lines) = length-append g.desk.issued (texts_in h.turn.lines) in
+          let each : length (texts_in h.turn.lines) ≡ length h.turn.lines = length-map h.turn.lines _ in
           omega (arith, before.all, after.all, both, each, h.kept.before.issued, h.joined.issued)
 
       planned : remaining p (standing mid.desk) + planned_count h.turn.lines ≡ remaining p (standing old.desk)
@@ -166,8 +167,8 @@ module _ (moment at poll_ms : ℕ) (kind : LinkKind) (old_past new_past : Option
       going_with e desk poll rest n phase fewer fewest =
           by (below_or_same (length old.sender.held) old.sender.acked old.sender.issued i.sound.counted) paced.0
         where
-          saying : IsAt kind new_past (IsSaying mid.sender)
-          saying = at_world kind g.saying.now added.added new_past (λ v. IsSaying mid.sender v) added.recorded gone.saying
+          saying : IsAt kind new_past (IsReadySession mid.sender)
+          saying = at_world kind g.saying.now added.added new_past (λ v. IsReadySession mid.sender v) added.recorded gone.saying
 
           some : 1 ≤ n
           some = some_silence e mid.sender n phase
@@ -286,7 +287,7 @@ module _ (moment at poll_ms : ℕ) (kind : LinkKind) (old_past new_past : Option
       ends_now : old.desk.state ≡ Finishing → old.desk.waiting ≡ [] → old.sender.acked ≡ old.sender.issued → turned.ending ≡ None → ⊥
       ends_now state none all unended_print =
           let done = done-next p mid.sender.acked moment old.desk g.desk.issued state none (all_acked all) (omega (arith, h.kept.before.issued, few)) g.desk.course in
-          not_ended turned.ending _ unended_print (quiet_ending moment mid.sender.acked h.turn.lines old.desk turned.ending mid.desk noted ∙ done)
+          none-some _ (sym unended_print ∙ quiet_ending moment mid.sender.acked h.turn.lines old.desk turned.ending mid.desk noted ∙ done)
 
       -- and the connection would be closed
       closed_now : old.desk.state ≡ Closing → old.desk.waiting ≡ [] → old.sender.acked ≡ old.sender.issued → ⊥
@@ -305,9 +306,9 @@ module _ (moment at poll_ms : ℕ) (kind : LinkKind) (old_past new_past : Option
       quiet_leads _ is (closes state rest) = close_leads state (omega (arith, is)) (λ all. absurd (closed_now state (rest all) all))
 
     talk_leads : LeadsOn h.turn.found turned.ending kind p poll_ms at (left - 1) new_past mid
-    talk_leads = by_fact h.turn.found refl (may_find moment at poll_ms kind old_past new_past old_calls new_calls old mid turned h Talking talks)
+    talk_leads = by_fact h.turn.found refl (may_find moment at poll_ms kind old_past new_past old_calls new_calls old mid turned h UsingLink talks)
       where
-        by_fact : (f : LinkFact) → h.turn.found ≡ f → can_find Talking f ≡ true → LeadsOn f turned.ending kind p poll_ms at (left - 1) new_past mid
+        by_fact : (f : LinkFact) → h.turn.found ≡ f → can_find UsingLink f ≡ true → LeadsOn f turned.ending kind p poll_ms at (left - 1) new_past mid
         by_fact fact.Quiet found can = quiet_leads found g.silences refl g.phase
         by_fact fact.Ready found can =
             absurd (stays_ready moment at poll_ms kind old_past new_past old_calls new_calls old mid turned h i.ready_is found)

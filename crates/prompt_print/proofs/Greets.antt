@@ -12,22 +12,22 @@ use Rattle.print_records.specs.declared.ending.Ending.{Ending}
 use Rattle.printer_model.specs.World.{WorldData, world_from}
 use Rattle.printer_model.specs.declared.event.WorldEvent.{WorldEvent}
 use Rattle.printer_link.specs.Link.{LinkKind, IsSilence, world_in}
-use Rattle.send_window.specs.Data.{SenderData, begun}
+use Rattle.send_window.specs.Data.{SenderData, sender_after_dial}
 use Rattle.send_window.specs.Hearing.{made_ready}
 use Rattle.send_window.specs.Sending.{next_of}
 use Rattle.send_window.specs.declared.session_end.SessionEnd.{SessionEnd}
 use Rattle.session_steps.specs.Data.{SessionData, doing}
 use Rattle.session_steps.specs.DeskTurn.{IsNoted}
-use Rattle.session_steps.specs.Found.{Got, unasked, lost, nothing, whole, can_find, end_by, is_said, ready_after, up_after}
-use Rattle.session_steps.specs.Steps.{after_steps, dial_steps, talk_steps}
+use Rattle.session_steps.specs.Found.{Got, unasked, lost, nothing, whole, can_find, end_by, may_have_issued, ready_after, up_after}
+use Rattle.session_steps.specs.Steps.{after_steps, dial_steps, steps_over_link}
 use Rattle.session_steps.specs.Turn.{fact_of, texts_in}
-use Rattle.session_steps.specs.declared.found.Doing.TheVariants.{Dialling, Talking}
+use Rattle.session_steps.specs.declared.found.Doing.TheVariants.{Dialling, UsingLink}
 use Rattle.session_steps.specs.declared.found.Turned.{Turned}
 use Rattle.lossy_line.specs.Issuing.{issued_in}
-use Rattle.prompt_turns.specs.Prompt.{IsSaying, IsGreeting}
+use Rattle.prompt_turns.specs.Prompt.{IsReadySession, IsGreeting}
 use Rattle.prompt_turns.proofs.Greeting.{dial_greeting}
 use Rattle.prompt_turns.proofs.Greeted.{hello_unheard, hello_goes_on, hello_unready, hello_talk, greeting_answered, ok_goes_on, ok_readies, ok_talk}
-use Rattle.print_course.specs.Plan.{PrintData, line_texts}
+use Rattle.print_course.specs.Plan.{PrintData}
 use Rattle.print_course.specs.Underway.{standing}
 use Rattle.print_course.specs.Remaining.{remaining}
 use Rattle.print_course.specs.Turned.{IsTurnOf}
@@ -36,7 +36,8 @@ use Rattle.print_course.proofs.Calls.{start-underway}
 use Rattle.print_course.proofs.Remaining.{connecting-remaining, ready-remaining, start-remaining}
 use Rattle.prompt_print.specs.OnWay.{plan_length, starts, IsToDial, IsToGreet, IsGoing, greets, waits, goes, LeadsOn}
 use Rattle.prompt_print.proofs.Desks.{opened_ms, ready_ms, quiet_paced}
-use Rattle.prompt_print.proofs.Turns.{HasTurned, HasAdded, some_of, at_world, talks_if, its_fact, may_find, not_failed, steps_for, noted_for, course_of, receives, more_acked, none_said}
+use Rattle.prompt_print.proofs.Turns.{HasTurned, HasAdded, at_world, talks_if, its_fact, may_find, not_failed, steps_for, noted_for, course_of, receives, more_acked, none_said}
+use Rattle.byte_text.proofs.OptionLaws.{some-if-true}
 
 -- a note without lines
 opened_alone : (moment acked : ℕ) (lines : List Line) (old : Data) (ending : Option Ending) (new : Data) → lines ≡ [] →
@@ -74,7 +75,7 @@ module _ (moment at poll_ms : ℕ) (kind : LinkKind) (old_past new_past : Option
 
     dialled : h.turn.found ≡ fact.Opened → IsToGreet kind p poll_ms (left - 1) 11 [] true new_past mid
     dialled is =
-        let past = some_of old_past d.recorded in
+        let past = some-if-true old_past d.recorded in
         let w : WorldData = world_in kind past.0 in
         let F : LinkFact → Type 0 = λ f. HasAdded moment kind (dial_steps f) old.sender mid.sender past.0 new_past in
         let a : HasAdded moment kind (dial_steps fact.Opened) old.sender mid.sender past.0 new_past =
@@ -82,14 +83,14 @@ module _ (moment at poll_ms : ℕ) (kind : LinkKind) (old_past new_past : Option
         in
         let made = a.are.3.0 in
         let all : a.added ≡ a.are.0 = a.are.2 ∙ ap (λ (es : List WorldEvent). a.are.0 ++ es) a.are.4 ∙ append-nil a.are.0 in
-        let new : IsGreeting [] true (begun old.sender) (world_from w a.are.0) = dial_greeting old.sender w a.are.0 0 d.sound made.0 made.1.some made.1.few in
+        let new : IsGreeting [] true (sender_after_dial old.sender) (world_from w a.are.0) = dial_greeting old.sender w a.are.0 0 d.sound made.0 made.1.some made.1.few in
         let S : SenderData → Type 0 = λ s. IsGreeting [] true s (world_from w a.are.0) in
         let W : List WorldEvent → Type 0 = λ es. IsGreeting [] true mid.sender (world_from w es) in
         let N : LinkFact → Type 0 = λ f. IsNoted moment mid.sender.acked f h.turn.lines old.desk turned.ending mid.desk in
         let n : IsNoted moment mid.sender.acked fact.Opened h.turn.lines old.desk turned.ending mid.desk =
         subst N is (noted_for moment at poll_ms kind old_past new_past old_calls new_calls old mid turned h Dialling d.dials)
         in
-        let none : h.turn.lines ≡ [] = none_said moment at poll_ms kind old_past new_past old_calls new_calls old mid turned h (ap is_said is) in
+        let none : h.turn.lines ≡ [] = none_said moment at poll_ms kind old_past new_past old_calls new_calls old mid turned h (ap may_have_issued is) in
         let desk : mid.desk ≡ (note_step mid.sender.acked fact.Opened moment old.desk).1 =
         opened_alone moment mid.sender.acked h.turn.lines old.desk turned.ending mid.desk none n
         in
@@ -97,7 +98,7 @@ module _ (moment at poll_ms : ℕ) (kind : LinkKind) (old_past new_past : Option
           up = up_by fact.Opened is;
           connects = turn_course.opens is;
           desk = record {
-            issued = issued_in h.turn.found (line_texts h.turn.lines) d.desk.issued;
+            issued = issued_in h.turn.found (texts_in h.turn.lines) d.desk.issued;
             course = turn_course.underway;
             cool = d.desk.cool;
             its_ms = ap (λ (x : Data). x.poll_ms) desk ∙ opened_ms mid.sender.acked moment old.desk ∙ d.desk.its_ms;
@@ -122,29 +123,29 @@ module _ (moment at poll_ms : ℕ) (kind : LinkKind) (old_past new_past : Option
         by_fact fact.Closed is can = absurd (cc)
         by_fact (fact.Ended why) is can = absurd (cc)
 
-  -- A turn that talks before the hello's `ok` is heard.
+  -- A turn that uses the link before the hello's `ok` is heard.
 
   module _ (more : ℕ) (wire : List (List ℕ)) (unsaid : Bool) (g : IsToGreet kind p poll_ms left more wire unsaid old_past old) where
-    pub met_talks : doing old ≡ Talking
+    pub met_talks : doing old ≡ UsingLink
     met_talks = talks_if old g.up (ap (λ s. is_closable_at s old.desk) g.connects)
 
     met_course : IsTurnOf p h.turn.found h.turn.lines g.desk.issued old.desk turned.ending mid.desk
     met_course = course_of moment at poll_ms kind old_past new_past old_calls new_calls old mid turned h p g.desk.issued g.desk.course
 
-    met_steps : (got : Got) → h.turn.got ≡ got → HasAdded moment kind (talk_steps got h.turn.found texts h.turn.steps.count) old.sender mid.sender g.greeting.now new_past
+    met_steps : (got : Got) → h.turn.got ≡ got → HasAdded moment kind (steps_over_link got h.turn.found texts h.turn.steps.count) old.sender mid.sender g.greeting.now new_past
     met_steps got is =
-        let G : Got → Type 0 = λ x. HasAdded moment kind (talk_steps x h.turn.found texts h.turn.steps.count) old.sender mid.sender g.greeting.now new_past in
-        subst G is (steps_for moment at poll_ms kind old_past new_past old_calls new_calls old mid turned h Talking met_talks g.greeting.now g.greeting.recorded)
+        let G : Got → Type 0 = λ x. HasAdded moment kind (steps_over_link x h.turn.found texts h.turn.steps.count) old.sender mid.sender g.greeting.now new_past in
+        subst G is (steps_for moment at poll_ms kind old_past new_past old_calls new_calls old mid turned h UsingLink met_talks g.greeting.now g.greeting.recorded)
 
-    met_found : (got : Got) (f : LinkFact) → h.turn.got ≡ got → h.turn.found ≡ f → HasAdded moment kind (talk_steps got f texts h.turn.steps.count) old.sender mid.sender g.greeting.now new_past
+    met_found : (got : Got) (f : LinkFact) → h.turn.got ≡ got → h.turn.found ≡ f → HasAdded moment kind (steps_over_link got f texts h.turn.steps.count) old.sender mid.sender g.greeting.now new_past
     met_found got f is found =
-        let F : LinkFact → Type 0 = λ x. HasAdded moment kind (talk_steps got x texts h.turn.steps.count) old.sender mid.sender g.greeting.now new_past in
+        let F : LinkFact → Type 0 = λ x. HasAdded moment kind (steps_over_link got x texts h.turn.steps.count) old.sender mid.sender g.greeting.now new_past in
         subst F found (met_steps got is)
 
     met_noted : (f : LinkFact) → h.turn.found ≡ f → IsNoted moment mid.sender.acked f h.turn.lines old.desk turned.ending mid.desk
     met_noted f is =
         let N : LinkFact → Type 0 = λ x. IsNoted moment mid.sender.acked x h.turn.lines old.desk turned.ending mid.desk in
-        subst N is (noted_for moment at poll_ms kind old_past new_past old_calls new_calls old mid turned h Talking met_talks)
+        subst N is (noted_for moment at poll_ms kind old_past new_past old_calls new_calls old mid turned h UsingLink met_talks)
 
     met_more : (f : LinkFact) → h.turn.found ≡ f → (f ≡ fact.Opened → ⊥) → old.desk.acked ≤ mid.sender.acked
     met_more f is other = more_acked moment at poll_ms kind old_past new_past old_calls new_calls old mid turned h (λ opens. other (sym is ∙ opens))
@@ -155,9 +156,9 @@ module _ (moment at poll_ms : ℕ) (kind : LinkKind) (old_past new_past : Option
         (h.turn.found ≡ fact.Ready → LeadsOn fact.Ready turned.ending kind p poll_ms at (left - 1) new_past mid) →
         LeadsOn h.turn.found turned.ending kind p poll_ms at (left - 1) new_past mid
     met_leads got is goes_on quiet ready =
-        by_fact h.turn.found refl (may_find moment at poll_ms kind old_past new_past old_calls new_calls old mid turned h Talking met_talks)
+        by_fact h.turn.found refl (may_find moment at poll_ms kind old_past new_past old_calls new_calls old mid turned h UsingLink met_talks)
       where
-        by_fact : (f : LinkFact) → h.turn.found ≡ f → can_find Talking f ≡ true → LeadsOn f turned.ending kind p poll_ms at (left - 1) new_past mid
+        by_fact : (f : LinkFact) → h.turn.found ≡ f → can_find UsingLink f ≡ true → LeadsOn f turned.ending kind p poll_ms at (left - 1) new_past mid
         by_fact fact.Quiet found can = quiet found
         by_fact fact.Ready found can = ready found
         by_fact fact.Failed found can = absurd (unfailed found)
@@ -176,9 +177,9 @@ module _ (moment at poll_ms : ℕ) (kind : LinkKind) (old_past new_past : Option
     hello_said found is =
         let w : WorldData = world_in kind g.greeting.now in
         let count : ℕ = h.turn.steps.count in
-        let a : HasAdded moment kind (talk_steps nothing fact.Quiet texts count) old.sender mid.sender g.greeting.now new_past = met_found 11 [] true g nothing fact.Quiet is found in
+        let a : HasAdded moment kind (steps_over_link nothing fact.Quiet texts count) old.sender mid.sender g.greeting.now new_past = met_found 11 [] true g nothing fact.Quiet is found in
         let up : mid.up ≡ true = up_by fact.Quiet found ∙ g.up in
-        let spent : next_of (after_steps moment (talk_steps nothing fact.Quiet texts count) old.sender) ≡ None =
+        let spent : next_of (after_steps moment (steps_over_link nothing fact.Quiet texts count) old.sender) ≡ None =
         ap next_of (sym a.sender) ∙ (h.kept.spent up (fact_is ∙ found)).sent
         in
         let said = hello_talk moment texts count old.sender w a.added g.greeting.is a.allowed a.are spent in
@@ -192,7 +193,7 @@ module _ (moment at poll_ms : ℕ) (kind : LinkKind) (old_past new_past : Option
           up = up;
           connects = course.connects g.connects found;
           desk = record {
-            issued = issued_in h.turn.found (line_texts h.turn.lines) g.desk.issued;
+            issued = issued_in h.turn.found (texts_in h.turn.lines) g.desk.issued;
             course = course.underway;
             cool = g.desk.cool;
             its_ms = paced.1 ∙ g.desk.its_ms;
@@ -213,7 +214,7 @@ module _ (moment at poll_ms : ℕ) (kind : LinkKind) (old_past new_past : Option
     -- nothing makes the session ready before its hello is sent
     hello_early : h.turn.got ≡ nothing → h.turn.found ≡ fact.Ready → ⊥
     hello_early is found =
-        let a : HasAdded moment kind (talk_steps nothing fact.Ready texts h.turn.steps.count) old.sender mid.sender g.greeting.now new_past = met_found 11 [] true g nothing fact.Ready is found in
+        let a : HasAdded moment kind (steps_over_link nothing fact.Ready texts h.turn.steps.count) old.sender mid.sender g.greeting.now new_past = met_found 11 [] true g nothing fact.Ready is found in
         let unready : mid.sender.ready ≡ false = ap (λ (s : SenderData). s.ready) a.sender ∙ hello_unready moment old.sender (world_in kind g.greeting.now) g.greeting.is in
         let ready : mid.sender.ready ≡ true = h.ready_is ∙ ap (λ (f : LinkFact). ready_after f old.sender.ready) (fact_is ∙ found) in
         absurd (cc)
@@ -250,15 +251,15 @@ module _ (moment at poll_ms : ℕ) (kind : LinkKind) (old_past new_past : Option
         IsGoing kind p poll_ms at (left - 1) new_past (record mid { desk = (start_at mid.desk.state 1 mid.desk).1 })
     started bytes is found =
         let count : ℕ = h.turn.steps.count in
-        let a : HasAdded moment kind (talk_steps (whole bytes) fact.Ready texts count) old.sender mid.sender g.greeting.now new_past = met_found 10 (hello_frame ∷ []) false g (whole bytes) fact.Ready is found in
+        let a : HasAdded moment kind (steps_over_link (whole bytes) fact.Ready texts count) old.sender mid.sender g.greeting.now new_past = met_found 10 (hello_frame ∷ []) false g (whole bytes) fact.Ready is found in
         let heard = ok_talk old.sender w i moment bytes texts count a.added a.are in
         let sender : mid.sender ≡ made_ready old.sender = a.sender ∙ heard.0 in
-        let S : SenderData → Type 0 = λ s. IsSaying s (world_from w a.added) in
+        let S : SenderData → Type 0 = λ s. IsReadySession s (world_from w a.added) in
         let state : mid.desk.state ≡ Operational = course.readies g.connects found in
         let new : mid.desk.greatest ≡ 0 = h.greatest ∙ (connecting_of p (standing old.desk) g.desk.course.lines g.desk.course.phase g.connects).free.print_is in
-        let issued : List (List ℕ) = issued_in h.turn.found (line_texts h.turn.lines) g.desk.issued in
+        let issued : List (List ℕ) = issued_in h.turn.found (texts_in h.turn.lines) g.desk.issued in
         let so = start-underway p mid.desk issued state new g.desk.cool course.underway in
-        let none : h.turn.lines ≡ [] = none_said moment at poll_ms kind old_past new_past old_calls new_calls old mid turned h (ap is_said found) in
+        let none : h.turn.lines ≡ [] = none_said moment at poll_ms kind old_past new_past old_calls new_calls old mid turned h (ap may_have_issued found) in
         let desk : mid.desk ≡ (note_step mid.sender.acked fact.Ready moment old.desk).1 =
         ready_alone moment mid.sender.acked h.turn.lines old.desk turned.ending mid.desk none (met_noted 10 (hello_frame ∷ []) false g fact.Ready found)
         in
@@ -283,7 +284,7 @@ module _ (moment at poll_ms : ℕ) (kind : LinkKind) (old_past new_past : Option
             cool = g.desk.cool;
             its_ms = ap (λ (x : Data). x.poll_ms) desk ∙ ready_ms mid.sender.acked moment old.desk g.connects ∙ g.desk.its_ms;
           };
-          saying = at_world kind g.greeting.now a.added new_past (λ v. IsSaying mid.sender v) a.recorded (subst S (sym sender) heard.1);
+          saying = at_world kind g.greeting.now a.added new_past (λ v. IsReadySession mid.sender v) a.recorded (subst S (sym sender) heard.1);
           spoken = omega (arith, mid_cursor, mid_issued, none_issued, i.cursor_is);
           due = 1;
           due_is = λ now. omega arith;
@@ -302,7 +303,7 @@ module _ (moment at poll_ms : ℕ) (kind : LinkKind) (old_past new_past : Option
         -- the session is ready after it
         unquiet : (bytes : List ℕ) → h.turn.got ≡ whole bytes → h.turn.found ≡ fact.Quiet → ⊥
         unquiet bytes is found =
-            let a : HasAdded moment kind (talk_steps (whole bytes) fact.Quiet texts h.turn.steps.count) old.sender mid.sender g.greeting.now new_past = met_found 10 (hello_frame ∷ []) false g (whole bytes) fact.Quiet is found in
+            let a : HasAdded moment kind (steps_over_link (whole bytes) fact.Quiet texts h.turn.steps.count) old.sender mid.sender g.greeting.now new_past = met_found 10 (hello_frame ∷ []) false g (whole bytes) fact.Quiet is found in
             let ready : mid.sender.ready ≡ true =
             ap (λ (s : SenderData). s.ready) a.sender ∙ ok_readies old.sender w i moment bytes texts h.turn.steps.count a.are.0 a.are.3.0 (a.are.3.1 refl)
             in

@@ -5,16 +5,16 @@ use Rattle.std.proofs.lemmas.Bool.Decides.{nat_tests}
 use Rattle.desk_steps.specs.Data.{Data}
 use Rattle.desk_steps.specs.declared.state.State.{State}
 use Rattle.desk_steps.specs.declared.state.State.TheVariants.{Printing, Finishing, Closing}
-use Rattle.print_records.specs.declared.ending.Ending.{Ending}
 use Rattle.printer_model.specs.declared.event.WorldEvent.{WorldEvent}
 use Rattle.printer_link.specs.Link.{LinkKind}
 use Rattle.send_window.specs.Data.{SenderData, IsSound, most_lines}
-use Rattle.send_window.specs.Sending.{Outgoing, line, next_at, next_of, room_at, room_of}
+use Rattle.send_window.specs.Sending.{Outgoing, line, next_of, room_at, room_of}
 use Rattle.send_window.specs.declared.session_end.SessionEnd.{SessionEnd}
 use Rattle.session_steps.specs.Data.{SessionData}
 use Rattle.print_course.specs.Plan.{PrintData}
 use Rattle.print_course.specs.Remaining.{is_giving}
 use Rattle.prompt_print.specs.OnWay.{IsInPrint, Silences, starts, prints, leaves, closes, IsGoing}
+use Rattle.prompt_turns.proofs.Saying.{next_in_turn}
 
 -- with nothing unacknowledged there is room for a line
 pub some_room : (s : SenderData) → s.ended ≡ None → s.ready ≡ true → IsSound s → s.acked ≡ s.issued → s.issued < most_lines → room_of s ≡ 0 → ⊥
@@ -28,9 +28,6 @@ some_room s running ready sound all few none =
 pub all_spoken : (s : SenderData) → s.ended ≡ None → s.hello_due ≡ false → s.cursor ≤ s.issued + 1 → next_of s ≡ None → s.cursor ≡ s.issued + 1
 all_spoken s running undue below none = by_cursor (nat_le s.cursor s.issued) refl
   where
-    next : next_of s ≡ (if nat_le s.cursor s.issued then Some (line s.cursor (slice_index_or s.held (s.cursor - s.acked - 1) [])) else None)
-    next = ap (λ (e : Option SessionEnd). next_at e s.hello_due s) running ∙ ap (λ (b : Bool). next_at None b s) undue
-
     past : nat_le s.cursor s.issued ≡ false → s.issued < s.cursor
     past above = grind (arith, nat_tests)
 
@@ -38,7 +35,7 @@ all_spoken s running undue below none = by_cursor (nat_le s.cursor s.issued) ref
     by_cursor false above = omega (arith, past above, below)
     by_cursor true within =
         let some : next_of s ≡ Some (line s.cursor (slice_index_or s.held (s.cursor - s.acked - 1) [])) =
-        next ∙ ap (λ (b : Bool). if b then Some (line s.cursor (slice_index_or s.held (s.cursor - s.acked - 1) [])) else None) within
+        next_in_turn s running undue ∙ ap (λ (b : Bool). if b then Some (line s.cursor (slice_index_or s.held (s.cursor - s.acked - 1) [])) else None) within
         in
         let no : ◌≡◌ {A = Option Outgoing} None (Some (line s.cursor (slice_index_or s.held (s.cursor - s.acked - 1) []))) = sym none ∙ some in
         absurd (cc)
@@ -65,9 +62,6 @@ finishes s (inr at) other = at
 pub closes_not : (s : State) → IsInPrint s → s ≡ Closing → ⊥
 closes_not s (inl a) b = (let no : Printing ≡ Closing = sym a ∙ b in absurd (cc))
 closes_not s (inr a) b = (let no : Finishing ≡ Closing = sym a ∙ b in absurd (cc))
-
-pub not_ended : (o : Option Ending) (e : Ending) → o ≡ None → o ≡ Some e → ⊥
-not_ended o e none some = (let no : ◌≡◌ {A = Option Ending} None (Some e) = sym none ∙ some in absurd (cc))
 
 -- a print that goes on has a turn left
 pub some_left : (kind : LinkKind) (p : PrintData) (poll_ms at left : ℕ) (past : Option (List WorldEvent)) (x : SessionData) →

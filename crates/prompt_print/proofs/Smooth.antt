@@ -4,7 +4,7 @@ use Rattle.std.specs.Prelude.{Option, None, Some, IfSome, max}
 use Rattle.std.proofs.lemmas.Option.{same_Some}
 use Rattle.std.proofs.lemmas.Grind.{common_steps}
 use Rattle.octo_outside.specs.Traits.{NotBefore}
-use Rattle.octo_outside.proofs.Told.{steady_before}
+use Rattle.octo_outside.proofs.Recorded.{steady_before}
 use Rattle.desk_steps.specs.Data.{moment_after}
 use Rattle.desk_steps.specs.declared.state.State.{State}
 use Rattle.desk_steps.specs.declared.state.State.TheVariants.{Offline, Connecting, Operational, Printing, Pausing, Paused, Cancelling, Finishing, Closing, Fault}
@@ -16,6 +16,7 @@ use Rattle.print_course.specs.Plan.{PrintData}
 use Rattle.prompt_print.specs.OnWay.{plan_length, IsOnWay}
 use Rattle.prompt_print.specs.Smooth.{IsUnsaturated, IsSmooth}
 use Rattle.prompt_print.proofs.Leads.{turn_left}
+use Rattle.session_steps.proofs.Choosing.{dials_at}
 
 -- the next poll is later than the moment
 pub poll_later : (moment poll_ms : ℕ) → moment + poll_ms ≤ 18446744073709551615 → 1 ≤ poll_ms → moment < moment_after moment poll_ms
@@ -23,25 +24,6 @@ poll_later moment poll_ms small some = omega (arith, small, some)
 
 pub range_moment : (moment limit poll_ms : ℕ) (r : IsUnsaturated (Some moment) limit poll_ms) → moment ≡ r.last
 range_moment moment limit poll_ms r = same_Some moment r.last r.shown
-
--- a turn that dials is made while the desk connects
-pub dials_connects : (x : SessionData) → doing x ≡ Dialling → x.desk.state ≡ Connecting
-dials_connects x is = by_state x.desk.state connecting
-  where
-    connecting : is_connecting x.desk.state ≡ true
-    connecting = grind (arith, common_steps)
-
-    by_state : (s : State) → is_connecting s ≡ true → s ≡ Connecting
-    by_state Connecting it_is = refl
-    by_state Offline it_is = absurd (cc)
-    by_state Operational it_is = absurd (cc)
-    by_state Printing it_is = absurd (cc)
-    by_state Pausing it_is = absurd (cc)
-    by_state Paused it_is = absurd (cc)
-    by_state Cancelling it_is = absurd (cc)
-    by_state Finishing it_is = absurd (cc)
-    by_state Closing it_is = absurd (cc)
-    by_state Fault it_is = absurd (cc)
 
 -- the clock showed the moment of a turn after which it shows one
 pub record HasShown (before between : Option ℕ) (next last : ℕ) : Type 0 where
@@ -72,10 +54,10 @@ pub last_is : (clock : Option ℕ) (at limit poll_ms : ℕ) → clock ≡ Some a
 last_is clock at limit poll_ms shown r = same_Some at r.last (sym shown ∙ r.shown)
 
 -- a smooth print was so before its last turn
-pub smooth_before : (kind : LinkKind) (past : Option (List WorldEvent)) (port : List ℕ) (first now last : ℕ) (clock later : Option ℕ) (limit poll_ms lines next : ℕ) →
-    first ≤ now → now ≤ last → clock ≡ Some next → (s : IsSmooth kind past port first last later limit poll_ms lines) → next ≤ s.unsaturated.last →
-    IsSmooth kind past port first now clock limit poll_ms lines
-smooth_before kind past port first now last clock later limit poll_ms lines next up down shown s within = record {
+pub smooth_before : (kind : LinkKind) (past : Option (List WorldEvent)) (port : List ℕ) (first now last : ℕ) (clock later : Option ℕ) (limit poll_ms next : ℕ) →
+    first ≤ now → now ≤ last → clock ≡ Some next → (s : IsSmooth kind past port first last later limit poll_ms) → next ≤ s.unsaturated.last →
+    IsSmooth kind past port first now clock limit poll_ms
+smooth_before kind past port first now last clock later limit poll_ms next up down shown s within = record {
   prompt = s.prompt;
   recorded = s.recorded;
   listed = s.listed;
@@ -87,7 +69,6 @@ smooth_before kind past port first now last clock later limit poll_ms lines next
     polls = omega (arith, within, s.unsaturated.polls);
     some_poll = s.unsaturated.some_poll;
   };
-  few = s.few;
 }
 
 pub range_now : (next limit known poll_ms : ℕ) (later : Option ℕ) → known ≡ limit → (r : IsUnsaturated later limit poll_ms) → next ≤ r.last →

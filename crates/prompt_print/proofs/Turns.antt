@@ -1,6 +1,6 @@
 -- A turn of a print over a prompt link in which no call failed, as its steps and its note.
 use Rattle.std.proofs.Common.{◌≡◌, ◌↔◌, ◌⊎◌, inl, inr, ℕ, ◌+◌, ◌<◌, ◌≤◌, Bool, true, false, List, [], ◌++◌, refl, sym, ◌∙◌, ap, subst, arith}
-use Rattle.std.specs.Prelude.{Option, None, Some, is_some, ◌&&◌, if◌then◌else◌}
+use Rattle.std.specs.Prelude.{Option, Some, is_some, ◌&&◌, if◌then◌else◌}
 use Rattle.std.proofs.lemmas.Option.{same_Some}
 use Rattle.desk_steps.specs.Data.{Line, moment_after}
 use Rattle.desk_steps.specs.Table.{is_closable_at}
@@ -12,19 +12,21 @@ use Rattle.printer_model.proofs.Laws.{world_of-append}
 use Rattle.printer_link.specs.Link.{LinkKind, world_in}
 use Rattle.send_window.specs.Data.{SenderData}
 use Rattle.session_steps.specs.Data.{SessionData, IsSession, doing, port_of}
-use Rattle.session_steps.specs.Found.{unasked, lost, is_got, is_said, can_find, ready_after}
+use Rattle.session_steps.specs.Found.{unasked, lost, is_got, may_have_issued, can_find, ready_after}
 use Rattle.session_steps.specs.Steps.{Step, after_steps, AreAllowed, AreAdded, Takes, turn_steps}
 use Rattle.session_steps.specs.Turn.{IsTurn, IsDeskTurn, fact_of, lines_of, texts_in}
 use Rattle.session_steps.specs.declared.found.Doing.{Doing}
-use Rattle.session_steps.specs.declared.found.Doing.TheVariants.{Dialling, HangingUp, Talking}
+use Rattle.session_steps.specs.declared.found.Doing.TheVariants.{Dialling, HangingUp, UsingLink}
 use Rattle.session_steps.specs.declared.found.Turned.{Turned}
 use Rattle.session_steps.proofs.Noting.{noted_fact, noted_lines}
-use Rattle.lossy_line.proofs.Told.{IsKept}
+use Rattle.lossy_line.proofs.Recorded.{IsKept}
 use Rattle.print_course.specs.Plan.{PrintData}
 use Rattle.print_course.specs.Turned.{IsTurnOf}
 use Rattle.print_course.specs.Underway.{IsUnderway}
 use Rattle.print_course.proofs.Turning.{turn-underway}
 use Rattle.prompt_print.specs.OnWay.{IsAt}
+use Rattle.byte_text.proofs.OptionLaws.{some-if-true}
+use Rattle.std.proofs.lemmas.Bool.{and_right}
 
 -- a turn over a prompt link in which no call failed; the clock, which shows `at` after it, rests only if nothing was heard
 pub record HasTurned (moment at poll_ms : ℕ) (kind : LinkKind) (old_past new_past : Option (List WorldEvent)) (old_calls new_calls : Option ℕ)
@@ -52,15 +54,11 @@ pub record HasAdded (moment : ℕ) (kind : LinkKind) (steps : List Step) (s t : 
   pub allowed : AreAllowed moment steps s
   pub are : AreAdded moment true steps s (world_in kind now) added
 
-pub some_of : {X : Type 0} (o : Option X) → is_some o ≡ true → (x : X) × (o ≡ Some x)
-some_of (Some x) is = (x, refl)
-some_of None is = absurd (cc)
-
 added_by : (moment : ℕ) (kind : LinkKind) (old_past new_past : Option (List WorldEvent)) (old_calls new_calls : Option ℕ) (steps : List Step)
     (s t : SenderData) (now : List WorldEvent) → kind.prompt ≡ true → old_past ≡ Some now →
     Takes moment kind old_past new_past old_calls new_calls steps s t → HasAdded moment kind steps s t now new_past
 added_by moment kind old_past new_past old_calls new_calls steps s t now prompt is takes =
-    let later = some_of new_past (takes.past.stays ∙ ap is_some is) in
+    let later = some-if-true new_past (takes.past.stays ∙ ap is_some is) in
     let grew = takes.past.grew later.0 later.1 in
     let same : grew.0 ≡ now = same_Some grew.0 now (sym grew.2 ∙ is) in
     let B : Bool → Type 0 = λ b. AreAdded moment b steps s (world_in kind grew.0) grew.1 in
@@ -83,14 +81,14 @@ at_world kind now added past P is so = record {
 }
 
 -- what the next turn does over a link that is up
-pub up_doing : (x : SessionData) → x.up ≡ true → doing x ≡ (if is_closable_at x.desk.state x.desk then HangingUp else Talking)
+pub up_doing : (x : SessionData) → x.up ≡ true → doing x ≡ (if is_closable_at x.desk.state x.desk then HangingUp else UsingLink)
 up_doing x up = ap (λ (b : Bool). doing (record x { up = b })) up
 
-pub talks_if : (x : SessionData) → x.up ≡ true → is_closable_at x.desk.state x.desk ≡ false → doing x ≡ Talking
-talks_if x up unshut = up_doing x up ∙ ap (λ (b : Bool). if b then HangingUp else Talking) unshut
+pub talks_if : (x : SessionData) → x.up ≡ true → is_closable_at x.desk.state x.desk ≡ false → doing x ≡ UsingLink
+talks_if x up unshut = up_doing x up ∙ ap (λ (b : Bool). if b then HangingUp else UsingLink) unshut
 
 pub hangs_if : (x : SessionData) → x.up ≡ true → is_closable_at x.desk.state x.desk ≡ true → doing x ≡ HangingUp
-hangs_if x up shut = up_doing x up ∙ ap (λ (b : Bool). if b then HangingUp else Talking) shut
+hangs_if x up shut = up_doing x up ∙ ap (λ (b : Bool). if b then HangingUp else UsingLink) shut
 
 module _ (moment at poll_ms : ℕ) (kind : LinkKind) (old_past new_past : Option (List WorldEvent)) (old_calls new_calls : Option ℕ) (old mid : SessionData) (turned : Turned) (h : HasTurned moment at poll_ms kind old_past new_past old_calls new_calls old mid turned) where
   pub its_fact : fact_of turned.note ≡ h.turn.found
@@ -128,8 +126,8 @@ module _ (moment at poll_ms : ℕ) (kind : LinkKind) (old_past new_past : Option
       subst F its_fact (subst L lines
       (turn-underway p moment kind old_past new_past old_calls new_calls old mid turned issued h.kept.before h.kept.finds h.not_fallen h.turn course))
 
-  -- a turn that talks receives, and no call of it fails
-  pub receives : doing old ≡ Talking → (h.turn.got ≡ unasked → ⊥) × (h.turn.got ≡ lost → ⊥)
+  -- a turn that uses the link receives, and no call of it fails
+  pub receives : doing old ≡ UsingLink → (h.turn.got ≡ unasked → ⊥) × (h.turn.got ≡ lost → ⊥)
   receives talks = (λ none. h.turn.asked.0 none talks, λ broken. not_failed (h.turn.broken broken))
 
   -- what is acknowledged doesn't fall, but for a link that is made
@@ -141,12 +139,8 @@ module _ (moment at poll_ms : ℕ) (kind : LinkKind) (old_past new_past : Option
       by (inr up) = omega (arith, up, h.kept.before.acked)
 
   -- a turn that found no quiet issued nothing
-  pub none_said : is_said h.turn.found ≡ false → h.turn.lines ≡ []
-  none_said unsaid = h.turn.none_issued (ap (λ (b : Bool). is_got h.turn.got && b) unsaid ∙ and_off (is_got h.turn.got))
-    where
-      and_off : (b : Bool) → (b && false) ≡ false
-      and_off true = refl
-      and_off false = refl
+  pub none_said : may_have_issued h.turn.found ≡ false → h.turn.lines ≡ []
+  none_said unsaid = h.turn.none_issued (ap (λ (b : Bool). is_got h.turn.got && b) unsaid ∙ and_right (is_got h.turn.got) false refl)
 
   -- once a session is ready nothing makes it so
   pub stays_ready : old.sender.ready ≡ true → h.turn.found ≡ fact.Ready → ⊥

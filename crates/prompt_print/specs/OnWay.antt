@@ -15,7 +15,7 @@ use Rattle.send_window.specs.Data.{SenderData, IsSound, most_lines}
 use Rattle.session_steps.specs.Data.{SessionData, doing, port_of}
 use Rattle.session_steps.specs.declared.found.Doing.TheVariants.{Dialling}
 use Rattle.temp_rules.specs.Hot.{first_hot_of}
-use Rattle.prompt_turns.specs.Prompt.{IsSaying, IsGreeting}
+use Rattle.prompt_turns.specs.Prompt.{IsReadySession, IsGreeting}
 use Rattle.print_course.specs.Plan.{PrintData, print_commands, plan}
 use Rattle.print_course.specs.Underway.{standing, IsUnderway}
 use Rattle.print_course.specs.Remaining.{remaining}
@@ -75,7 +75,7 @@ pub record IsToGreet (kind : LinkKind) (p : PrintData) (poll_ms left more : ℕ)
 pub record IsGoing (kind : LinkKind) (p : PrintData) (poll_ms at left : ℕ) (past : Option (List WorldEvent)) (x : SessionData) : Type 0 where
   pub up : x.up ≡ true
   pub desk : HasCourse p poll_ms x.desk
-  pub saying : IsAt kind past (IsSaying x.sender)
+  pub saying : IsAt kind past (IsReadySession x.sender)
   pub spoken : x.sender.cursor ≡ x.sender.issued + 1
   pub due : ℕ
   pub due_is : x.desk.poll_at ≤ at → 1 ≤ due

@@ -8,23 +8,23 @@ use Rattle.marlin_frame.specs.Numbering.{hello_number, hello_frame}
 use Rattle.marlin_reply.specs.Kind.{kind_of}
 use Rattle.printer_model.specs.Printer.{Entry, PrinterData, is_full, last_after, run_queue, take_judged}
 use Rattle.printer_model.specs.Replies.{run_reply}
-use Rattle.printer_model.specs.World.{WorldData, is_empty, is_free, can_happen, happen, apply, world_from, arrived, after_run}
+use Rattle.printer_model.specs.World.{WorldData, is_empty, is_free, can_happen, happen, apply, world_from, after_arrival, after_run}
 use Rattle.printer_model.specs.declared.event.WorldEvent.{WorldEvent}
 use Rattle.printer_model.specs.declared.event.WorldEvent.TheVariants.{Opened, Arrive, Run, Recv}
 use Rattle.printer_model.proofs.Laws.{world_from-IsSameKind, world_from-push, happens, arrive_accepts, run_queue_of}
 use Rattle.printer_link.specs.Link.{IsDial, IsHeard, IsSend, arrivals, due_run, due_recv, printer_events, recv_events}
-use Rattle.send_window.specs.Data.{SenderData, IsSound, begun}
+use Rattle.send_window.specs.Data.{SenderData, IsSound, sender_after_dial}
 use Rattle.send_window.specs.Hearing.{made_ready, hear_step}
-use Rattle.send_window.specs.Sending.{Outgoing, hello, next_at, next_of, given as given_out, timed, frame_step, room_of}
+use Rattle.send_window.specs.Sending.{Outgoing, hello, next_at, next_of, after_giving as given_out, with_deadline, frame_step, room_of}
 use Rattle.send_window.specs.declared.session_end.SessionEnd.{SessionEnd}
 use Rattle.send_window.proofs.Soundness.{begun_sound, hears_sound, gives_sound}
-use Rattle.session_steps.specs.Steps.{after_steps, AreAllowed, AreAdded, IsGiven, IsGivenAlone, speech}
+use Rattle.session_steps.specs.Steps.{after_steps, AreAllowed, AreAdded, IsGiven, IsGivenAlone, issues_then_sends}
 use Rattle.lossy_wires.specs.Pieces.{greeting, text_in, bytes_in, entry_in, ok_heard, named_by, Each, IsFit}
 use Rattle.lossy_wires.proofs.Hearing.{hear_as, ok_by}
 use Rattle.lossy_wires.proofs.Reading.{greeting_accepted, last_after-greeting, IsRunReply, run_heard}
-use Rattle.prompt_turns.specs.Prompt.{IsInStep, IsSaying, IsGreeting}
+use Rattle.prompt_turns.specs.Prompt.{IsInStep, IsReadySession, IsGreeting}
 use Rattle.prompt_turns.proofs.Alone.{HasSent, sent_promptly, split_free, head_of}
-use Rattle.prompt_turns.proofs.Saying.{take_all}
+use Rattle.std.proofs.lemmas.List.{take_all}
 
 -- before the hello is sent a receiving finds nothing
 pub none_yet : (due : Bool) (s : SenderData) (w : WorldData) → IsGreeting [] due s w → recv_events true w ≡ []
@@ -47,14 +47,14 @@ no_next s running undue past = grind (arith, nat_tests, common_steps)
 -- the hello is sent
 hello_sent : (moment : ℕ) (s : SenderData) (w : WorldData) (added : List WorldEvent) → IsGreeting [] true s w → IsGiven (next_of s) w added →
     IsGivenAlone (next_of s) added → IsGreeting (hello_frame ∷ []) false (frame_step moment s) (world_from w added)
-hello_sent moment s w added i given prompt =
+hello_sent moment s w added i after_giving prompt =
     let next : next_of s ≡ Some hello = hello_next s i.running i.due_is in
     let O : Option Outgoing → Type 0 = λ o. IsGiven o w added in
     let P : Option Outgoing → Type 0 = λ o. IsGivenAlone o added in
-    let sends : IsSend hello_frame w added = subst O next given in
+    let sends : IsSend hello_frame w added = subst O next after_giving in
     let only = subst P next prompt in
     let went : HasSent hello_frame w (world_from w added) = sent_promptly hello_frame w added sends only.0 only.1 only.2 in
-    let after : frame_step moment s ≡ timed moment (record s { hello_due = false }) = ap (λ (o : Option Outgoing). given_out o moment s) next in
+    let after : frame_step moment s ≡ with_deadline moment (record s { hello_due = false }) = ap (λ (o : Option Outgoing). given_out o moment s) next in
     let Q : SenderData → Type 0 = λ t. IsSound t in
     let S : SenderData → Type 0 = λ t. IsGreeting (hello_frame ∷ []) false t (world_from w added) in
     let N : PrinterData → Type 0 = λ p. (p.queue ≡ []) × (1 ≤ p.places) × (p.places ≤ 16) in
@@ -77,9 +77,9 @@ hello_sent moment s w added i given prompt =
 
 -- what the turn that sends the hello says
 pub speaks : (moment : ℕ) (texts : List (List ℕ)) (count : ℕ) (s : SenderData) (w : WorldData) (added : List WorldEvent) → IsGreeting [] true s w →
-    AreAllowed moment (speech true texts count) s → AreAdded moment true (speech true texts count) s w added →
-    next_of (after_steps moment (speech true texts count) s) ≡ None →
-    IsGreeting (hello_frame ∷ []) false (after_steps moment (speech true texts count) s) (world_from w added)
+    AreAllowed moment (issues_then_sends true texts count) s → AreAdded moment true (issues_then_sends true texts count) s w added →
+    next_of (after_steps moment (issues_then_sends true texts count) s) ≡ None →
+    IsGreeting (hello_frame ∷ []) false (after_steps moment (issues_then_sends true texts count) s) (world_from w added)
 speaks moment (text ∷ texts) count s w added i can is spent = absurd (no_room s i.running i.unready can.0.0)
 speaks moment [] zero s w added i can is spent = (let no_line : Some hello ≡ None = sym (hello_next s i.running i.due_is) ∙ spent in absurd (cc))
 speaks moment [] (suc zero) s w added i can is spent =
@@ -109,7 +109,7 @@ greets s w i =
     let empty : length w.printer.queue ≡ 0 = ap length i.queue in
     let room : is_full w.printer ≡ false = room_for w.printer (omega (arith, empty, i.some)) in
     let a : WorldData = apply w Arrive in
-    let came : a ≡ arrived w [] (take_judged w.printer (Ok entry)) = arrive_accepts w (bytes_in greeting) [] entry i.up_is room (greeting_accepted w.printer.last) in
+    let came : a ≡ after_arrival w [] (take_judged w.printer (Ok entry)) = arrive_accepts w (bytes_in greeting) [] entry i.up_is room (greeting_accepted w.printer.last) in
     let queue : a.printer.queue ≡ entry ∷ [] = ap (λ (v : WorldData). v.printer.queue) came ∙ ap (λ (q : List Entry). q ++ entry ∷ []) i.queue in
     let last : a.printer.last ≡ hello_number = ap (λ (v : WorldData). v.printer.last) came in
     let linked : a.linked ≡ true = ap (λ (v : WorldData). v.linked) came ∙ i.linked in
@@ -171,7 +171,7 @@ greets s w i =
 -- the hello's `ok` is heard
 pub record HasBegun (moment : ℕ) (bytes : List ℕ) (s : SenderData) (v : WorldData) : Type 0 where
   pub is : hear_step (kind_of bytes) moment s ≡ made_ready s
-  pub saying : IsSaying (made_ready s) v
+  pub saying : IsReadySession (made_ready s) v
 
 pub greeting_heard : (moment : ℕ) (bytes : List ℕ) (s : SenderData) (w : WorldData) (added : List WorldEvent) → IsGreeting (hello_frame ∷ []) false s w →
     IsHeard bytes w added → added ≡ recv_events true w → HasBegun moment bytes s (world_from w added)
@@ -207,7 +207,7 @@ greeting_heard moment bytes s w added i is prompt =
 
 -- a link that was just made
 pub dial_greeting : (s : SenderData) (w : WorldData) (added : List WorldEvent) (last : ℕ) → IsSound s → IsDial w added → 1 ≤ w.printer.places →
-    w.printer.places ≤ 16 → IsGreeting [] true (begun s) (world_from w added)
+    w.printer.places ≤ 16 → IsGreeting [] true (sender_after_dial s) (world_from w added)
 dial_greeting s w added last sound dial some few =
     let before : WorldData = world_from w dial.runs in
     let idle : (before.linked ≡ false) × (before.printer.queue ≡ []) = empties before dial.opens in

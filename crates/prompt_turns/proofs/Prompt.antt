@@ -7,15 +7,17 @@ use Rattle.std.proofs.lemmas.List.Folds.{list_all-append}
 use Rattle.std.proofs.lemmas.Bool.Decides.{nat_tests}
 use Rattle.marlin_frame.specs.Numbering.{wire_number}
 use Rattle.printer_model.specs.Printer.{Entry, is_full, take_judged, last_after, run_queue}
-use Rattle.printer_model.specs.World.{WorldData, is_empty, is_free, can_happen, happen, apply, world_from, arrived, after_run}
+use Rattle.printer_model.specs.World.{WorldData, is_empty, is_free, can_happen, happen, apply, world_from, after_arrival, after_run}
 use Rattle.printer_model.specs.declared.event.WorldEvent.{WorldEvent}
 use Rattle.printer_model.specs.declared.event.WorldEvent.TheVariants.{Arrive, Run, Recv}
 use Rattle.printer_model.proofs.Laws.{happens, arrive_accepts, run_queue_of, world_from-push}
 use Rattle.printer_model.specs.Replies.{run_reply}
 use Rattle.printer_link.specs.Link.{arrivals, due_run, due_recv, printer_events, recv_events}
 use Rattle.lossy_wires.specs.Pieces.{Piece, command, bytes_in, entry_in, Each, IsFit}
-use Rattle.lossy_wires.proofs.Reading.{line_accepted, last_after-command, IsRunReply, run_heard}
+use Rattle.lossy_wires.proofs.Reading.{line_accepted, last_after-command, IsRunReply, run_heard, small_number}
 use Rattle.prompt_turns.specs.Prompt.{pieces_from, IsInStep}
+use Rattle.printer_link.proofs.Stories.{arrivals_free}
+use Rattle.prompt_turns.proofs.Alone.{head_of}
 
 pub pieces_append : (place : ℕ) (xs ys : List (List ℕ)) → pieces_from place (xs ++ ys) ≡ pieces_from place xs ++ pieces_from (place + length xs) ys
 pieces_append place [] ys = ap (λ (n : ℕ). pieces_from n ys) (omega arith)
@@ -38,7 +40,7 @@ arrives place queued rest text w fit few room i =
     let here : ℕ = place + length queued in
     let behind : List (List ℕ) = map bytes_in (pieces_from (suc here) rest) in
     let entry : Entry = entry_in (command here text) in
-    let is : apply w Arrive ≡ arrived w behind (take_judged w.printer (Ok entry)) =
+    let is : apply w Arrive ≡ after_arrival w behind (take_judged w.printer (Ok entry)) =
     arrive_accepts w (bytes_in (command here text)) behind entry i.up room (line_accepted w.printer.last here text few fit i.next)
     in
     let n : suc here ≡ place + length (queued ++ text ∷ []) = omega (arith, last_length queued text) in
@@ -132,16 +134,6 @@ arrive_all place queued (text ∷ rest) w fit few i =
           waits = λ some. on.waits (omega (arith, ap length regroup, append_length queued (text ∷ rest)));
         })
 
--- what arrives is none of the host's doing
-free_arrivals : (w : WorldData) (up : List (List ℕ)) → list_all is_free (arrivals w up) ≡ true
-free_arrivals w [] = refl
-free_arrivals w (line ∷ behind) = by_full (is_full w.printer) (free_arrivals (happen w Arrive) behind)
-  where
-    by_full : (b : Bool) → list_all is_free (arrivals (happen w Arrive) behind) ≡ true →
-        list_all is_free (if b then [] else Arrive ∷ arrivals (happen w Arrive) behind) ≡ true
-    by_full true rest = refl
-    by_full false rest = rest
-
 -- a run and a receiving after it
 pub record HasHeard (place : ℕ) (texts : List (List ℕ)) (w : WorldData) : Type 0 where
   pub reply : List ℕ
@@ -162,9 +154,6 @@ pub record HasRun (place : ℕ) (queued flying : List (List ℕ)) (w : WorldData
   pub heard : IsRunReply reply (wire_number place)
   pub runs : is_empty w.printer.queue ≡ false
   pub received : IsInStep (suc place) queued flying (apply (apply w Run) Recv)
-
-small_number : (place : ℕ) → place ≤ 1999999999 → wire_number place < 2 ^ 32
-small_number place few = grind arith
 
 run_one : (place : ℕ) (text : List ℕ) (queued flying : List (List ℕ)) (w : WorldData) → IsFit text → place ≤ 1999999999 →
     IsInStep place (text ∷ queued) flying w → HasRun place queued flying w
@@ -217,9 +206,6 @@ prompt_heard place text texts queued flying w fit few all i =
     each_behind [] ys fit = fit
     each_behind (x ∷ xs) ys fit = each_behind xs ys fit.1
 
-    head_same : (a b : List ℕ) (xs ys : List (List ℕ)) → a ∷ xs ≡ b ∷ ys → a ≡ b
-    head_same a b xs ys is = ap (λ (l : List (List ℕ)). slice_index_or l 0 a) is
-
     tail_same : (a b : List ℕ) (xs ys : List (List ℕ)) → a ∷ xs ≡ b ∷ ys → xs ≡ ys
     tail_same a b xs ys is = ap (drop 1) is
 
@@ -228,7 +214,7 @@ prompt_heard place text texts queued flying w fit few all i =
     heard_by [] coming all_there some step = absurd (omega (arith, some))
     heard_by (front ∷ there) coming all_there some step =
         let v : WorldData = world_from w (arrivals w w.up) in
-        let same : front ≡ text = head_same front text (there ++ coming) texts all_there in
+        let same : front ≡ text = head_of front text (there ++ coming) texts all_there in
         let S : List ℕ → Type 0 = λ t. IsInStep place (t ∷ there) coming v in
         let ran = run_one place text there coming v fit.0 (omega (arith, few)) (subst S same step) in
         let run : due_run true v ≡ Run ∷ [] = ap (λ (b : Bool). if b then [] else Run ∷ []) ran.runs in
@@ -248,7 +234,7 @@ prompt_heard place text texts queued flying w fit few all i =
           reply = ran.reply;
           first = events;
           is = is;
-          free = list_all-append is_free (arrivals w w.up) (Run ∷ []) ∙ ap (λ (b : Bool). b && list_all is_free (Run ∷ [])) (free_arrivals w w.up);
+          free = list_all-append is_free (arrivals w w.up) (Run ∷ []) ∙ ap (λ (b : Bool). b && list_all is_free (Run ∷ [])) (arrivals_free w w.up);
           front = down;
           heard = ran.heard;
           there = there;

@@ -1,6 +1,6 @@
 -- A turn of a ready session over a prompt link acknowledges the next line.
 use Rattle.std.specs.Prelude.{None}
-use Rattle.std.proofs.Common.{◌≡◌, ◌⊎◌, inl, inr, ℕ, suc, ◌+◌, ◌-◌, ◌<◌, ◌≤◌, Bool, true, false, List, [], ◌∷◌, ◌++◌, length, refl, sym, ◌∙◌, ap, subst, arith}
+use Rattle.std.proofs.Common.{◌≡◌, ◌⊎◌, inl, inr, ℕ, suc, ◌+◌, ◌-◌, ◌<◌, ◌≤◌, true, false, List, [], ◌∷◌, ◌++◌, length, refl, sym, ◌∙◌, ap, subst, arith}
 use Rattle.std.specs.Prelude.{Option, ◌&&◌}
 use Rattle.std.specs.List.{list_all}
 use Rattle.std.proofs.lemmas.List.Folds.{list_all-append}
@@ -14,12 +14,15 @@ use Rattle.printer_link.specs.Link.{IsHeard, IsSilence, recv_events}
 use Rattle.send_window.specs.Data.{SenderData, most_lines}
 use Rattle.send_window.specs.Hearing.{acknowledged, hear_step, tick_step, is_past}
 use Rattle.session_steps.specs.Found.{Got, unasked, lost, nothing, whole, is_whole, end_by}
-use Rattle.session_steps.specs.Steps.{Step, opens, finds_no_port, fails_to_dial, hears, listens, fails_to_receive, ticks, issues, gives, fails_to_send, hangs_up, after_step, after_steps, AreAllowed, AreAdded, speech, talk_steps}
+use Rattle.session_steps.specs.Steps.{Step, opens, finds_no_port, fails_to_dial, hears, listens, fails_to_receive, ticks, issues, gives, fails_to_send, hangs_up, after_step, after_steps, AreAllowed, AreAdded, issues_then_sends, steps_over_link}
 use Rattle.session_steps.proofs.Keeping.{keeps_frame}
 use Rattle.lossy_wires.specs.Pieces.{Each, IsFit}
-use Rattle.prompt_turns.specs.Prompt.{IsInStep, IsSaying}
+use Rattle.prompt_turns.specs.Prompt.{IsInStep, IsReadySession}
 use Rattle.prompt_turns.proofs.Prompt.{append_length, prompt_heard}
-use Rattle.prompt_turns.proofs.Saying.{take_all, tick_idle, early_after, heard_saying, IsSayStep, say_all, say_speech, none_there}
+use Rattle.prompt_turns.proofs.Saying.{tick_idle, early_after, heard_saying, IsSayStep, say_all, say_speech, none_there}
+use Rattle.std.proofs.lemmas.List.{take_all}
+use Rattle.byte_text.proofs.ListLaws.{never_empty}
+use Rattle.std.proofs.lemmas.Bool.{and_right}
 
 -- issuing and sending acknowledge nothing
 say_acked : (moment : ℕ) (steps : List Step) (s : SenderData) → Each IsSayStep steps → (after_steps moment steps s).acked ≡ s.acked
@@ -38,28 +41,28 @@ say_acked moment (hangs_up was_up ∷ steps) s say = absurd say.0
 
 -- after a turn: one more line is acknowledged if one was unacknowledged, and then something was heard
 pub record HasGoneOn (got : Got) (s t : SenderData) (v : WorldData) : Type 0 where
-  pub saying : IsSaying t v
+  pub saying : IsReadySession t v
   pub more : s.acked < s.issued → (t.acked ≡ s.acked + 1) × (is_whole got ≡ true)
   pub same : s.acked ≡ s.issued → (t.acked ≡ s.acked) × (is_whole got ≡ false)
 
-module _ (moment : ℕ) (texts : List (List ℕ)) (count : ℕ) (s : SenderData) (w : WorldData) (added : List WorldEvent) (i : IsSaying s w) (spoken : s.cursor ≡ s.issued + 1) (few : s.issued < most_lines) (small : moment + s.limit ≤ 18446744073709551615) where
+module _ (moment : ℕ) (texts : List (List ℕ)) (count : ℕ) (s : SenderData) (w : WorldData) (added : List WorldEvent) (i : IsReadySession s w) (spoken : s.cursor ≡ s.issued + 1) (few : s.issued < most_lines) (small : moment + s.limit ≤ 18446744073709551615) where
   -- the rest of a turn, from the tick on
-  clocked : (t : SenderData) (first rest : List WorldEvent) → tick_step moment t ≡ t → IsSaying t (world_from w first) → added ≡ first ++ rest →
-      AreAllowed moment (ticks ∷ speech true texts count) t → AreAdded moment true (ticks ∷ speech true texts count) t (world_from w first) rest →
-      IsSaying (after_steps moment (ticks ∷ speech true texts count) t) (world_from w added)
-      × ((after_steps moment (ticks ∷ speech true texts count) t).acked ≡ t.acked)
+  clocked : (t : SenderData) (first rest : List WorldEvent) → tick_step moment t ≡ t → IsReadySession t (world_from w first) → added ≡ first ++ rest →
+      AreAllowed moment (ticks ∷ issues_then_sends true texts count) t → AreAdded moment true (ticks ∷ issues_then_sends true texts count) t (world_from w first) rest →
+      IsReadySession (after_steps moment (ticks ∷ issues_then_sends true texts count) t) (world_from w added)
+      × ((after_steps moment (ticks ∷ issues_then_sends true texts count) t).acked ≡ t.acked)
   clocked t first rest idle here is can steps =
       let u : SenderData = tick_step moment t in
-      let S : SenderData → Type 0 = λ x. IsSaying x (world_from (world_from w first) steps.0) in
+      let S : SenderData → Type 0 = λ x. IsReadySession x (world_from (world_from w first) steps.0) in
       let none : steps.0 ≡ [] = steps.3.0 in
-      let N : List WorldEvent → Type 0 = λ es. IsSaying t (world_from (world_from w first) es) in
-      let ticked : IsSaying u (world_from (world_from w first) steps.0) = subst S (sym idle) (subst N (sym none) here) in
-      let said = say_all moment (speech true texts count) u (world_from (world_from w first) steps.0) steps.1 (say_speech texts count) can.1 steps.4 ticked in
-      let V : WorldData → Type 0 = λ v. IsSaying (after_steps moment (speech true texts count) u) v in
+      let N : List WorldEvent → Type 0 = λ es. IsReadySession t (world_from (world_from w first) es) in
+      let ticked : IsReadySession u (world_from (world_from w first) steps.0) = subst S (sym idle) (subst N (sym none) here) in
+      let said = say_all moment (issues_then_sends true texts count) u (world_from (world_from w first) steps.0) steps.1 (say_speech texts count) can.1 steps.4 ticked in
+      let V : WorldData → Type 0 = λ v. IsReadySession (after_steps moment (issues_then_sends true texts count) u) v in
       let all : world_from w added ≡ world_from (world_from (world_from w first) steps.0) steps.1 =
       ap (world_from w) is ∙ world_from-append w first rest ∙ ap (world_from (world_from w first)) steps.2 ∙ world_from-append (world_from w first) steps.0 steps.1
       in
-      (subst V (sym all) said, say_acked moment (speech true texts count) u (say_speech texts count) ∙ ap (λ (x : SenderData). x.acked) idle)
+      (subst V (sym all) said, say_acked moment (issues_then_sends true texts count) u (say_speech texts count) ∙ ap (λ (x : SenderData). x.acked) idle)
 
   held_count : s.acked + length s.held ≡ s.issued
   held_count = i.sound.counted
@@ -77,13 +80,9 @@ module _ (moment : ℕ) (texts : List (List ℕ)) (count : ℕ) (s : SenderData)
           let E : List (List ℕ) → Type 0 = λ l. Each IsFit l in
           let h = prompt_heard (suc s.acked) text more i.queued i.flying w (subst E holds i.fits) (omega (arith, held_count, ap length holds, few)) (all_held ∙ holds) i.step in
           let split : list_all is_free (h.first ++ Recv ∷ []) ≡ (list_all is_free h.first && false) = list_all-append is_free h.first (Recv ∷ []) in
-          let off : (list_all is_free h.first && false) ≡ false = and_off (list_all is_free h.first) in
+          let off : (list_all is_free h.first && false) ≡ false = and_right (list_all is_free h.first) false refl in
           let clash : true ≡ false = sym silence.free ∙ ap (list_all is_free) h.is ∙ split ∙ off in
           absurd (cc)
-        where
-          and_off : (b : Bool) → (b && false) ≡ false
-          and_off true = refl
-          and_off false = refl
 
   -- with nothing unacknowledged it finds nothing
   none_waits : s.acked ≡ s.issued → recv_events true w ≡ []
@@ -107,13 +106,13 @@ module _ (moment : ℕ) (texts : List (List ℕ)) (count : ℕ) (s : SenderData)
 
   -- the receiving of a turn that hears something
   heard_on : (bytes : List ℕ) (first rest : List WorldEvent) → s.acked < s.issued → IsHeard bytes w first → first ≡ recv_events true w → added ≡ first ++ rest →
-      AreAllowed moment (ticks ∷ speech true texts count) (hear_step (kind_of bytes) moment s) →
-      AreAdded moment true (ticks ∷ speech true texts count) (hear_step (kind_of bytes) moment s) (world_from w first) rest →
-      HasGoneOn (whole bytes) s (after_steps moment (ticks ∷ speech true texts count) (hear_step (kind_of bytes) moment s)) (world_from w added)
+      AreAllowed moment (ticks ∷ issues_then_sends true texts count) (hear_step (kind_of bytes) moment s) →
+      AreAdded moment true (ticks ∷ issues_then_sends true texts count) (hear_step (kind_of bytes) moment s) (world_from w first) rest →
+      HasGoneOn (whole bytes) s (after_steps moment (ticks ∷ issues_then_sends true texts count) (hear_step (kind_of bytes) moment s)) (world_from w added)
   heard_on bytes first rest some is prompt all can steps =
       let answered = heard_saying moment bytes s w first i spoken some few is prompt in
       let t : SenderData = hear_step (kind_of bytes) moment s in
-      let I : SenderData → Type 0 = λ x. IsSaying x (world_from w first) in
+      let I : SenderData → Type 0 = λ x. IsReadySession x (world_from w first) in
       let T : SenderData → Type 0 = λ x. tick_step moment x ≡ x in
       let idle : tick_step moment t ≡ t =
       subst T (sym answered.is) (tick_idle moment (acknowledged moment s) answered.saying.running (early_after moment s.limit (s.acked + 1) s.issued i.sound.some_limit small))
@@ -127,12 +126,12 @@ module _ (moment : ℕ) (texts : List (List ℕ)) (count : ℕ) (s : SenderData)
 
   -- a turn that hears nothing
   silent_on : (first rest : List WorldEvent) → s.acked ≡ s.issued → first ≡ recv_events true w → added ≡ first ++ rest →
-      AreAllowed moment (ticks ∷ speech true texts count) s →
-      AreAdded moment true (ticks ∷ speech true texts count) s (world_from w first) rest →
-      HasGoneOn nothing s (after_steps moment (ticks ∷ speech true texts count) s) (world_from w added)
+      AreAllowed moment (ticks ∷ issues_then_sends true texts count) s →
+      AreAdded moment true (ticks ∷ issues_then_sends true texts count) s (world_from w first) rest →
+      HasGoneOn nothing s (after_steps moment (ticks ∷ issues_then_sends true texts count) s) (world_from w added)
   silent_on first rest none prompt all can steps =
       let still : first ≡ [] = prompt ∙ none_waits none in
-      let I : List WorldEvent → Type 0 = λ es. IsSaying s (world_from w es) in
+      let I : List WorldEvent → Type 0 = λ es. IsReadySession s (world_from w es) in
       let early : is_past s.deadline moment ≡ false = ap (λ (d : Option ℕ). is_past d moment) (i.sound.none_awaited i.ready_is none) in
       let on = clocked s first rest (tick_idle moment s i.running early) (subst I (sym still) i) all can steps in
       record {
@@ -142,11 +141,7 @@ module _ (moment : ℕ) (texts : List (List ℕ)) (count : ℕ) (s : SenderData)
       }
 
   heard_none : (bytes : List ℕ) (first : List WorldEvent) → s.acked ≡ s.issued → IsHeard bytes w first → first ≡ recv_events true w → ⊥
-  heard_none bytes first none is prompt = longer is.before (sym (prompt ∙ none_waits none) ∙ is.is)
-    where
-      longer : (xs : List WorldEvent) → [] ≡ xs ++ Recv ∷ is.behind → ⊥
-      longer [] same = absurd (cc)
-      longer (x ∷ xs) same = absurd (cc)
+  heard_none bytes first none is prompt = never_empty is.before Recv is.behind (sym (prompt ∙ none_waits none) ∙ is.is)
 
   counted_below : (s.acked < s.issued) ⊎ (s.acked ≡ s.issued)
   counted_below = by_held s.held refl
@@ -155,19 +150,19 @@ module _ (moment : ℕ) (texts : List (List ℕ)) (count : ℕ) (s : SenderData)
       by_held [] holds = inr (omega (arith, ap length holds, held_count))
       by_held (text ∷ more) holds = inl (omega (arith, ap length holds, held_count))
 
-  pub prompt_talk : (got : Got) → (got ≡ unasked → ⊥) → (got ≡ lost → ⊥) → AreAllowed moment (talk_steps got fact.Quiet texts count) s →
-      AreAdded moment true (talk_steps got fact.Quiet texts count) s w added →
-      HasGoneOn got s (after_steps moment (talk_steps got fact.Quiet texts count) s) (world_from w added)
+  pub prompt_talk : (got : Got) → (got ≡ unasked → ⊥) → (got ≡ lost → ⊥) → AreAllowed moment (steps_over_link got fact.Quiet texts count) s →
+      AreAdded moment true (steps_over_link got fact.Quiet texts count) s w added →
+      HasGoneOn got s (after_steps moment (steps_over_link got fact.Quiet texts count) s) (world_from w added)
   prompt_talk unasked asked unbroken can is = absurd (asked refl)
   prompt_talk lost asked unbroken can is = absurd (unbroken refl)
   prompt_talk nothing asked unbroken can is = by_count counted_below
     where
-      by_count : (s.acked < s.issued) ⊎ (s.acked ≡ s.issued) → HasGoneOn nothing s (after_steps moment (talk_steps nothing fact.Quiet texts count) s) (world_from w added)
+      by_count : (s.acked < s.issued) ⊎ (s.acked ≡ s.issued) → HasGoneOn nothing s (after_steps moment (steps_over_link nothing fact.Quiet texts count) s) (world_from w added)
       by_count (inl some) = (let S : List WorldEvent → Type 0 = λ es. IsSilence w es in absurd (ends_heard some (subst S (is.3.1 refl) is.3.0)))
       by_count (inr none) = silent_on is.0 is.1 none (is.3.1 refl) is.2 can.1 is.4
   prompt_talk (whole bytes) asked unbroken can is = by_count counted_below
     where
-      by_count : (s.acked < s.issued) ⊎ (s.acked ≡ s.issued) → HasGoneOn (whole bytes) s (after_steps moment (talk_steps (whole bytes) fact.Quiet texts count) s) (world_from w added)
+      by_count : (s.acked < s.issued) ⊎ (s.acked ≡ s.issued) → HasGoneOn (whole bytes) s (after_steps moment (steps_over_link (whole bytes) fact.Quiet texts count) s) (world_from w added)
       by_count (inl some) = heard_on bytes is.0 is.1 some is.3.0 (is.3.1 refl) is.2 can.1 is.4
       by_count (inr none) = absurd (heard_none bytes is.0 none is.3.0 (is.3.1 refl))
 

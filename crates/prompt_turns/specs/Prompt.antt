@@ -21,7 +21,7 @@ pub record IsInStep (place : ℕ) (queued flying : List (List ℕ)) (w : WorldDa
   pub few : w.printer.places ≤ 16
 
 -- a ready session over a prompt link: what is sent and unacknowledged waits in the printer, and then on the wire to it
-pub record IsSaying (s : SenderData) (w : WorldData) : Type 0 where
+pub record IsReadySession (s : SenderData) (w : WorldData) : Type 0 where
   pub ready_is : s.ready ≡ true
   pub awaiting : s.swallow ≡ false
   pub running : s.ended ≡ None

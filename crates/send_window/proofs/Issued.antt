@@ -5,7 +5,7 @@ use Rattle.std.proofs.lemmas.Grind.{common_steps}
 use Rattle.std.proofs.lemmas.List.{drop-drop, drop-append-le, append-nil, length-append}
 use Rattle.marlin_reply.specs.declared.reply.Reply.{Reply}
 use Rattle.send_window.specs.declared.session_end.SessionEnd.{SessionEnd}
-use Rattle.send_window.specs.Data.{SenderData, begun}
+use Rattle.send_window.specs.Data.{SenderData, sender_after_dial}
 use Rattle.send_window.specs.Hearing.{tick_step, heard_reply, unless_ended}
 use Rattle.send_window.specs.Sending.{push_step}
 use Rattle.send_window.specs.Session.{Step, hears, ticks, issues, gives, after_step, after_steps, texts_of, HoldsIssued}
@@ -57,5 +57,5 @@ steps_hold (step ∷ steps) s texts holds =
     append_assoc texts (texts_of (step ∷ [])) (texts_of steps) ∙ sym (ap (λ (more : List (List ℕ)). texts ++ more) (texts_first step steps)) in
     subst P one_by_one (steps_hold steps (after_step step s) (texts ++ texts_of (step ∷ [])) (step_holds step s texts holds))
 
-pub session_holds : (steps : List Step) (s : SenderData) → HoldsIssued (texts_of steps) (after_steps steps (begun s))
-session_holds steps s = steps_hold steps (begun s) [] (record { count = refl; rest = refl; acked_issued = omega arith })
+pub session_holds : (steps : List Step) (s : SenderData) → HoldsIssued (texts_of steps) (after_steps steps (sender_after_dial s))
+session_holds steps s = steps_hold steps (sender_after_dial s) [] (record { count = refl; rest = refl; acked_issued = omega arith })

@@ -7,7 +7,7 @@ use Rattle.std.proofs.lemmas.List.{reverse-append, append-nil}
 use Rattle.marlin_reply.specs.declared.reply.Reply.{Reply}
 use Rattle.marlin_reply.specs.declared.reply.Reply.TheVariants as reply
 use Rattle.send_window.specs.declared.session_end.SessionEnd.TheVariants.{NoAnswer}
-use Rattle.send_window.specs.Data.{SenderData, IsSound, begun}
+use Rattle.send_window.specs.Data.{SenderData, IsSound, sender_after_dial}
 use Rattle.send_window.specs.Hearing.{hear_step, tick_step}
 use Rattle.send_window.specs.Sending.{Outgoing, next_of, push_step, frame_step}
 use Rattle.send_window.specs.Session.{Step, hears, ticks, issues, gives, after_step, after_steps, AreAllowed, replies_of}
@@ -35,7 +35,7 @@ quiet_unsent since s sound owes none_left = grind (arith, common_steps)
 pub sends_in_silence : SendsInSilence
 sends_in_silence = (quiet_heard, owes_ticked, owes_issued, quiet_given, quiet_unsent)
 
-owes_quiet : (since : ℕ) (s : SenderData) → IsQuiet since s → OwesLine since s
+pub owes_quiet : (since : ℕ) (s : SenderData) → IsQuiet since s → OwesLine since s
 owes_quiet since s quiet = grind (arith, common_steps)
 
 quiet_in_turn : (moment since : ℕ) (s : SenderData) → IsSound s → OwesLine since s → IsInTurn (ticks moment) s → IsQuiet since s
@@ -51,7 +51,7 @@ sent_since-sent traffic =
     let e : sent_since (traffic ++ sent ∷ []) ≡ 1 + sent_since traffic = ap (prefix_len is_sent) (reverse-append traffic (sent ∷ [])) in
     omega arith
 
--- none given out: nothing changes
+-- none is returned: nothing changes
 owes_none : (moment : ℕ) (traffic : List Traffic) (s : SenderData) (next : Option Outgoing) → next_of s ≡ next → IsSound s → OwesLine (sent_since traffic) s →
     OwesLine (sent_since (traffic ++ (if is_some next then sent ∷ [] else []))) (frame_step moment s)
 owes_none moment traffic s None none_left sound owes =
@@ -98,24 +98,24 @@ received_steps (issues text ∷ steps) s = received_steps steps (after_step (iss
 received_steps (gives moment ∷ steps) s =
     received_given (next_of s) (traffic_of steps (after_step (gives moment) s)) ∙ received_steps steps (after_step (gives moment) s)
 
-silent_by : (ready : Bool) (steps : List Step) (s : SenderData) (moment count : ℕ) → IsSound s → AreAllowed steps (begun s) → AreInTurn steps (begun s) →
-    IsInTurn (ticks moment) (after_steps steps (begun s)) → (after_steps steps (begun s)).ended ≡ None →
-    (tick_step moment (after_steps steps (begun s))).ended ≡ Some (NoAnswer count) → (after_steps steps (begun s)).ready ≡ ready → IsSilent (traffic_of steps (begun s))
+silent_by : (ready : Bool) (steps : List Step) (s : SenderData) (moment count : ℕ) → IsSound s → AreAllowed steps (sender_after_dial s) → AreInTurn steps (sender_after_dial s) →
+    IsInTurn (ticks moment) (after_steps steps (sender_after_dial s)) → (after_steps steps (sender_after_dial s)).ended ≡ None →
+    (tick_step moment (after_steps steps (sender_after_dial s))).ended ≡ Some (NoAnswer count) → (after_steps steps (sender_after_dial s)).ready ≡ ready → IsSilent (traffic_of steps (sender_after_dial s))
 silent_by false steps s moment count sound allowed in_turn last_in_turn open_still ends unready =
     let counted = (flags_are_counted steps s open_still).1 in
     let none_counted : own_oks reply.Start (replies_of steps) ≡ 0 = none_of _ _ unready counted.1 in
-    inl (ap (own_oks reply.Start) (received_steps steps (begun s)) ∙ none_counted)
+    inl (ap (own_oks reply.Start) (received_steps steps (sender_after_dial s)) ∙ none_counted)
   where
     none_of : (b : Bool) (n : ℕ) → b ≡ false → (1 ≤ n → b ≡ true) → n ≡ 0
     none_of true n e f = absurd (cc)
     none_of false zero e f = refl
     none_of false (suc n) e f = let h : false ≡ true = f (omega arith) in absurd (cc)
 silent_by true steps s moment count sound allowed in_turn last_in_turn open_still ends is_ready =
-    let owed : Owed ([] ++ traffic_of steps (begun s)) (after_steps steps (begun s)) =
-    steps_owed steps [] (begun s) allowed in_turn (record { sound = begun_sound s sound; owes = record { one_more = λ _ _ _. omega arith; unsent = λ _ _ _ more. absurd (omega arith) } }) in
-    let before = after_steps steps (begun s) in
+    let owed : Owed ([] ++ traffic_of steps (sender_after_dial s)) (after_steps steps (sender_after_dial s)) =
+    steps_owed steps [] (sender_after_dial s) allowed in_turn (record { sound = begun_sound s sound; owes = record { one_more = λ _ _ _. omega arith; unsent = λ _ _ _ more. absurd (omega arith) } }) in
+    let before = after_steps steps (sender_after_dial s) in
     let rule = (tick_ends (NoAnswer count) moment before open_still).0 ends in
-    let quiet : IsQuiet (sent_since (traffic_of steps (begun s))) before = quiet_in_turn moment _ before owed.sound owed.owes last_in_turn in
+    let quiet : IsQuiet (sent_since (traffic_of steps (sender_after_dial s))) before = quiet_in_turn moment _ before owed.sound owed.owes last_in_turn in
     inr (omega (arith, quiet.sent_enough open_still is_ready rule.1, rule.2))
 
 pub ends_in_silence : EndsInSilence

@@ -5,8 +5,8 @@ use Rattle.std.proofs.lemmas.Grind.{common_steps}
 use Rattle.marlin_reply.specs.declared.reply.Reply.{Reply}
 use Rattle.marlin_reply.specs.declared.reply.Reply.TheVariants as reply
 use Rattle.send_window.specs.declared.session_end.SessionEnd.{SessionEnd}
-use Rattle.send_window.specs.Data.{SenderData, IsSound, new_sender, begun}
-use Rattle.send_window.specs.Hearing.{hear_step, tick_step, heard_reply, heard_ok, heard_resend, heard_start, marked, unless_ended}
+use Rattle.send_window.specs.Data.{SenderData, IsSound, new_sender, sender_after_dial}
+use Rattle.send_window.specs.Hearing.{hear_step, tick_step, heard_reply, heard_ok, heard_resend, heard_start, after_hearing, unless_ended}
 use Rattle.send_window.specs.Sending.{room_of}
 use Rattle.send_window.specs.Laws.{StaysSound}
 use Rattle.send_window.specs.Session.{Step, hears, ticks, issues, gives, after_step, IsAllowed}
@@ -14,7 +14,7 @@ use Rattle.send_window.specs.Session.{Step, hears, ticks, issues, gives, after_s
 pub new_sound : (w l : ℕ) → 1 ≤ w → w ≤ 16 → 1 ≤ l → IsSound (new_sender w l)
 new_sound w l some most span = search rules
 
-pub begun_sound : (s : SenderData) → IsSound s → IsSound (begun s)
+pub begun_sound : (s : SenderData) → IsSound s → IsSound (sender_after_dial s)
 begun_sound s sound = search rules
 
 ok_sound : (number : Option ℕ) (moment : ℕ) (s : SenderData) → s.ended ≡ None → IsSound s → IsSound (heard_ok s.swallow s.ready number moment s)
@@ -26,7 +26,7 @@ resend_sound number moment s none_yet sound = grind (arith, common_steps)
 start_sound : (s : SenderData) → s.ended ≡ None → IsSound s → IsSound (heard_start s.ready s)
 start_sound s none_yet sound = grind (arith, common_steps)
 
-marked_sound : (s : SenderData) → IsSound s → IsSound (marked s)
+marked_sound : (s : SenderData) → IsSound s → IsSound (after_hearing s)
 marked_sound s sound = grind (arith, common_steps)
 
 reply_sound : (heard_line : Reply) (moment : ℕ) (s : SenderData) → s.ended ≡ None → IsSound s → IsSound (heard_reply heard_line moment s)

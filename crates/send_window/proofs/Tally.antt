@@ -5,7 +5,7 @@ use Rattle.std.proofs.lemmas.Grind.{common_steps}
 use Rattle.marlin_reply.specs.declared.reply.Reply.{Reply}
 use Rattle.marlin_reply.specs.declared.reply.Reply.TheVariants as reply
 use Rattle.send_window.specs.declared.session_end.SessionEnd.{SessionEnd}
-use Rattle.send_window.specs.Data.{SenderData, begun}
+use Rattle.send_window.specs.Data.{SenderData, sender_after_dial}
 use Rattle.send_window.specs.Hearing.{tick_step, heard_reply, unless_ended}
 use Rattle.send_window.specs.Session.{Step, hears, ticks, issues, gives, after_step, after_steps, replies_of}
 use Rattle.send_window.specs.Counting.{is_resend, answers_of, own_oks, last_of, IsAwaited, AreAwaited}
@@ -135,7 +135,7 @@ steps_tally (step ∷ steps) former s swallows =
 
 pub acked_is_counted : AckedIsCounted
 acked_is_counted steps s =
-    let tally = steps_tally steps reply.Start (begun s) (λ _. refl) in
+    let tally = steps_tally steps reply.Start (sender_after_dial s) (λ _. refl) in
     (omega (arith, tally.most), λ open_still awaited. omega (arith, tally.exact open_still awaited))
 
 owed_false : (b : Bool) (n : ℕ) → owed b ≡ 1 - n → (b ≡ true) ↔ (1 ≤ n)
@@ -144,5 +144,5 @@ owed_false false n e = (λ h. absurd (cc), λ h. absurd (omega arith))
 
 pub flags_are_counted : FlagsAreCounted
 flags_are_counted steps s open_still =
-    let tally = steps_tally steps reply.Start (begun s) (λ _. refl) in
+    let tally = steps_tally steps reply.Start (sender_after_dial s) (λ _. refl) in
     (tally.swallows open_still, owed_false _ _ (tally.readies open_still))

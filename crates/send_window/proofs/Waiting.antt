@@ -5,7 +5,7 @@ use Rattle.std.proofs.lemmas.Grind.{common_steps}
 use Rattle.marlin_reply.specs.declared.reply.Reply.{Reply}
 use Rattle.send_window.specs.declared.session_end.SessionEnd.TheVariants.{NoAnswer}
 use Rattle.send_window.specs.declared.session_end.SessionEnd.{SessionEnd}
-use Rattle.send_window.specs.Data.{SenderData, IsSound, begun}
+use Rattle.send_window.specs.Data.{SenderData, IsSound, sender_after_dial}
 use Rattle.send_window.specs.Hearing.{later, hear_step, tick_step, heard_reply, unless_ended}
 use Rattle.send_window.specs.Session.{Step, hears, ticks, issues, gives, after_step, IsSince, WaitsSince}
 use Rattle.send_window.specs.Laws.{WaitsFiveLimits}
@@ -21,7 +21,7 @@ later_more : (start moment span silent wanted : ℕ) → later start ((silent + 
 unfolding later
 later_more start moment span silent wanted passed due = omega arith
 
-begun_waits : (start : ℕ) (s : SenderData) → WaitsSince start (begun s)
+begun_waits : (start : ℕ) (s : SenderData) → WaitsSince start (sender_after_dial s)
 begun_waits start s = record { long_enough = λ wanted _ none_set. absurd (cc) }
 
 reply_waits : (start : ℕ) (heard_line : Reply) (moment : ℕ) (s : SenderData) → start ≤ moment → WaitsSince start s → WaitsSince start (heard_reply heard_line moment s)

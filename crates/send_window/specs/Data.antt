@@ -62,8 +62,8 @@ new_sender w l = record {
 }
 
 -- the same sender at the beginning of a session
-abbrev pub begun : SenderData → SenderData
-begun s = record (new_sender s.window s.limit) { hello_due = true }
+abbrev pub sender_after_dial : SenderData → SenderData
+sender_after_dial s = record (new_sender s.window s.limit) { hello_due = true }
 
 -- what holds of a sender between its calls
 pub record IsSound (s : SenderData) : Type 0 where

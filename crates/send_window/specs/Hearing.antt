@@ -1,5 +1,6 @@
 -- What a sender does with a reply and at a tick of the clock.
 use Rattle.std.specs.Prelude.{ℕ, ◌+◌, ◌-◌, min, max, Bool, true, false, ◌&&◌, drop, Option, None, Some, Result, Ok, Err, if◌then◌else◌, nat_lt, nat_le, ◌==◌}
+use Rattle.byte_text.specs.Number.{most_u64}
 use Rattle.marlin_reply.specs.declared.reply.Reply.{Reply}
 use Rattle.marlin_reply.specs.declared.reply.Reply.TheVariants as reply
 use Rattle.send_window.specs.declared.session_end.SessionEnd.{SessionEnd}
@@ -7,9 +8,13 @@ use Rattle.send_window.specs.declared.session_end.SessionEnd.TheVariants.{NoAnsw
 use Rattle.marlin_frame.specs.Numbering.{wire_number, place_of}
 use Rattle.send_window.specs.Data.{SenderData, most_lines}
 
+-- the greatest moment
+abbrev pub last_moment : ℕ
+last_moment = most_u64
+
 -- a moment this number of milliseconds later, at most the greatest one
 unfoldable pub later : ℕ → ℕ → ℕ
-later moment span = min (moment + span) 18446744073709551615
+later moment span = min (moment + span) last_moment
 
 -- the deadline at a moment: none if every issued line is acknowledged
 abbrev pub deadline_at : ℕ → ℕ → ℕ → ℕ → Option ℕ
@@ -20,16 +25,16 @@ abbrev pub end_of_numbers : ℕ → ℕ → Option SessionEnd
 end_of_numbers acknowledged all = if acknowledged == most_lines then Some (NumbersUsed all) else None
 
 -- something was heard
-abbrev pub marked : SenderData → SenderData
-marked s = record s { heard = true }
+abbrev pub after_hearing : SenderData → SenderData
+after_hearing s = record s { heard = true }
 
 -- the session ends
 abbrev pub ended_by : SessionEnd → SenderData → SenderData
 ended_by why s = record s { ended = Some why }
 
 -- the `ok` after a Resend counts for nothing
-abbrev pub swallowed : SenderData → SenderData
-swallowed s = record s { swallow = false; heard = true }
+abbrev pub after_swallowed_ok : SenderData → SenderData
+after_swallowed_ok s = record s { swallow = false; heard = true }
 
 -- the `ok` of the hello
 abbrev pub made_ready : SenderData → SenderData
@@ -49,7 +54,7 @@ acknowledged moment s = record s {
 
 -- an `ok` of a ready session: of a line if one is unacknowledged, else it counts for nothing
 abbrev pub line_ok : ℕ → SenderData → SenderData
-line_ok moment s = if nat_lt s.acked s.issued then acknowledged moment s else marked s
+line_ok moment s = if nat_lt s.acked s.issued then acknowledged moment s else after_hearing s
 
 -- an `ok` of a ready session that may name its line, which is the next one to acknowledge
 abbrev pub named_ok : Option ℕ → ℕ → SenderData → SenderData
@@ -60,7 +65,7 @@ named_ok (Some number) moment s =
 
 -- an `ok`, by whether it is swallowed and whether the session is ready
 abbrev pub heard_ok : Bool → Bool → Option ℕ → ℕ → SenderData → SenderData
-heard_ok true _ number moment s = swallowed s
+heard_ok true _ number moment s = after_swallowed_ok s
 heard_ok false false number moment s = made_ready s
 heard_ok false true number moment s = named_ok number moment s
 
@@ -106,7 +111,7 @@ heard_resend true number moment s = resend_asked number moment s
 
 -- the printer began anew, by whether the session is ready
 abbrev pub heard_start : Bool → SenderData → SenderData
-heard_start false s = marked s
+heard_start false s = after_hearing s
 heard_start true s = ended_by Restarted s
 
 -- a reply in a session that hasn't ended
@@ -114,10 +119,10 @@ abbrev pub heard_reply : Reply → ℕ → SenderData → SenderData
 heard_reply (reply.Ok number _ _ _) moment s = heard_ok s.swallow s.ready number moment s
 heard_reply (reply.Resend number) moment s = heard_resend s.ready number moment s
 heard_reply reply.Start moment s = heard_start s.ready s
-heard_reply reply.Busy moment s = marked s
-heard_reply (reply.Temps _) moment s = marked s
-heard_reply reply.Error moment s = marked s
-heard_reply reply.Other moment s = marked s
+heard_reply reply.Busy moment s = after_hearing s
+heard_reply (reply.Temps _) moment s = after_hearing s
+heard_reply reply.Error moment s = after_hearing s
+heard_reply reply.Other moment s = after_hearing s
 
 -- a step of a session, which changes nothing once it has ended
 abbrev pub unless_ended : Option SessionEnd → SenderData → SenderData → SenderData

@@ -6,7 +6,7 @@ use Rattle.marlin_reply.specs.declared.reply.Reply.TheVariants as reply
 use Rattle.send_window.specs.declared.session_end.SessionEnd.{SessionEnd}
 use Rattle.send_window.specs.declared.session_end.SessionEnd.TheVariants.{NoAnswer, AskedBack, AskedAhead, Counts, Restarted, NumbersUsed}
 use Rattle.marlin_frame.specs.Numbering.{wire_number}
-use Rattle.send_window.specs.Data.{SenderData, IsSound, new_sender, begun, most_lines}
+use Rattle.send_window.specs.Data.{SenderData, IsSound, new_sender, sender_after_dial, most_lines}
 use Rattle.send_window.specs.Hearing.{later, hear_step, tick_step, is_past}
 use Rattle.send_window.specs.Sending.{hello, line, next_of, room_of, push_step, frame_step, IsFramable}
 use Rattle.send_window.specs.Session.{Step, hears, ticks, issues, gives, after_step, after_steps, IsAllowed, AreAllowed, replies_of, texts_of, HoldsIssued, IsSince, WaitsSince}
@@ -16,7 +16,7 @@ use Rattle.send_window.specs.Counting.{is_ok, is_resend, is_pending, own_oks, ac
 abbrev pub StaysSound : Type 0
 StaysSound =
     ((w l : ℕ) → 1 ≤ w → w ≤ 16 → 1 ≤ l → IsSound (new_sender w l))
-    × ((s : SenderData) → IsSound s → IsSound (begun s))
+    × ((s : SenderData) → IsSound s → IsSound (sender_after_dial s))
     × ((step : Step) (s : SenderData) → IsAllowed step s → IsSound s → IsSound (after_step step s))
 
 -- the lines held are the issued ones above acked, after each step and after any steps of a session
@@ -24,7 +24,7 @@ abbrev pub HoldsLines : Type 0
 HoldsLines =
     ((step : Step) (s : SenderData) (texts : List (List ℕ)) →
     HoldsIssued texts s → HoldsIssued (texts ++ texts_of (step ∷ [])) (after_step step s))
-    × ((steps : List Step) (s : SenderData) → HoldsIssued (texts_of steps) (after_steps steps (begun s)))
+    × ((steps : List Step) (s : SenderData) → HoldsIssued (texts_of steps) (after_steps steps (sender_after_dial s)))
 
 -- a line to be sent is an issued one above acked, at its own place, and the session is ready
 pub record IsUnacknowledged (texts : List (List ℕ)) (s : SenderData) (place : ℕ) (text : List ℕ) : Type 0 where
@@ -131,9 +131,9 @@ EndsByRule =
 abbrev pub AckedIsCounted : Type 0
 AckedIsCounted =
     (steps : List Step) (s : SenderData) →
-    ((after_steps steps (begun s)).acked ≤ acked_of (replies_of steps))
-    × ((after_steps steps (begun s)).ended ≡ None → AreAwaited steps (begun s) →
-    (after_steps steps (begun s)).acked ≡ acked_of (replies_of steps))
+    ((after_steps steps (sender_after_dial s)).acked ≤ acked_of (replies_of steps))
+    × ((after_steps steps (sender_after_dial s)).ended ≡ None → AreAwaited steps (sender_after_dial s) →
+    (after_steps steps (sender_after_dial s)).acked ≡ acked_of (replies_of steps))
 
 -- one more reply counts if it is an `ok` and no Resend is pending; a Resend is pending from then on to the next `ok`
 abbrev pub CountsNext : Type 0
@@ -146,9 +146,9 @@ CountsNext =
 -- the swallow flag is set exactly if a Resend is pending, and the session is ready from the first `ok` that counts
 abbrev pub FlagsAreCounted : Type 0
 FlagsAreCounted =
-    (steps : List Step) (s : SenderData) → (after_steps steps (begun s)).ended ≡ None →
-    ((after_steps steps (begun s)).swallow ≡ is_pending (replies_of steps))
-    × (((after_steps steps (begun s)).ready ≡ true) ↔ (1 ≤ own_oks reply.Start (replies_of steps)))
+    (steps : List Step) (s : SenderData) → (after_steps steps (sender_after_dial s)).ended ≡ None →
+    ((after_steps steps (sender_after_dial s)).swallow ≡ is_pending (replies_of steps))
+    × (((after_steps steps (sender_after_dial s)).ready ≡ true) ↔ (1 ≤ own_oks reply.Start (replies_of steps)))
 
 -- how the steps of a turn keep what a silent limit owes: a tick may owe a line, and once nothing is unsent none is owed
 abbrev pub SendsInSilence : Type 0
@@ -165,17 +165,17 @@ SendsInSilence =
 abbrev pub EndsInSilence : Type 0
 EndsInSilence =
     (steps : List Step) (s : SenderData) (moment count : ℕ) → IsSound s →
-    AreAllowed steps (begun s) → AreInTurn steps (begun s) →
-    let before = after_steps steps (begun s) in
+    AreAllowed steps (sender_after_dial s) → AreInTurn steps (sender_after_dial s) →
+    let before = after_steps steps (sender_after_dial s) in
     IsInTurn (ticks moment) before → before.ended ≡ None →
     (tick_step moment before).ended ≡ Some (NoAnswer count) →
-    IsSilent (traffic_of steps (begun s))
+    IsSilent (traffic_of steps (sender_after_dial s))
 
 -- no session ends with no answer sooner than five limits after it began or a line was acknowledged, nor if the
 -- hello and all issued lines are acknowledged
 abbrev pub WaitsFiveLimits : Type 0
 WaitsFiveLimits =
-    ((start : ℕ) (s : SenderData) → WaitsSince start (begun s))
+    ((start : ℕ) (s : SenderData) → WaitsSince start (sender_after_dial s))
     × ((start : ℕ) (step : Step) (s : SenderData) → IsSound s → IsSince start step → WaitsSince start s → WaitsSince start (after_step step s))
     × ((heard_line : Reply) (moment : ℕ) (s : SenderData) → s.acked < (hear_step heard_line moment s).acked → WaitsSince moment (hear_step heard_line moment s))
     × ((start moment count : ℕ) (s : SenderData) → IsSound s → WaitsSince start s → s.ended ≡ None → (tick_step moment s).ended ≡ Some (NoAnswer count) →

@@ -1,4 +1,4 @@
--- What a sender issues and gives out.
+-- What a sender issues, and what it returns to be sent.
 use Rattle.std.specs.Prelude.{◌≡◌, ℕ, ◌+◌, ◌-◌, ◌≤◌, min, max, Bool, true, false, List, [], ◌∷◌, ◌++◌, length, Option, None, Some, unwrap_or, is_some, if◌then◌else◌, ◌&&◌, nat_le, slice_index_or}
 use Rattle.send_window.specs.declared.session_end.SessionEnd.{SessionEnd}
 use Rattle.byte_text.specs.Marks.{has_byte}
@@ -14,7 +14,7 @@ pub record IsFramable (text : List ℕ) : Type 0 where
   pub no_star : has_byte 42 text ≡ false
   pub no_line_feed : has_byte 10 text ≡ false
 
--- what a sender gives out: the hello, or the line at a place in the session
+-- what a sender returns to be sent: the hello, or the line at a place in the session
 pub data Outgoing : Type 0 where
   hello : Outgoing
   line : ℕ → List ℕ → Outgoing
@@ -60,19 +60,19 @@ next_at None false s = next_line s
 abbrev pub next_of : SenderData → Option Outgoing
 next_of s = next_at s.ended s.hello_due s
 
--- something was given out: if there is no deadline, one is set
-abbrev pub timed : ℕ → SenderData → SenderData
-timed moment s = record s {
+-- something was returned to be sent: a deadline is set, unless one was set before
+abbrev pub with_deadline : ℕ → SenderData → SenderData
+with_deadline moment s = record s {
   deadline = Some (unwrap_or s.deadline (later moment s.limit));
   heard = is_some s.deadline && s.heard;
 }
 
--- what was to be sent is given out
-abbrev pub given : Option Outgoing → ℕ → SenderData → SenderData
-given None moment s = s
-given (Some hello) moment s = timed moment (record s { hello_due = false })
-given (Some (line place text)) moment s = timed moment (record s { cursor = s.cursor + 1; sent = max s.sent s.cursor })
+-- what was to be sent is returned
+abbrev pub after_giving : Option Outgoing → ℕ → SenderData → SenderData
+after_giving None moment s = s
+after_giving (Some hello) moment s = with_deadline moment (record s { hello_due = false })
+after_giving (Some (line place text)) moment s = with_deadline moment (record s { cursor = s.cursor + 1; sent = max s.sent s.cursor })
 
 -- a call for the next frame
 abbrev pub frame_step : ℕ → SenderData → SenderData
-frame_step moment s = given (next_of s) moment s
+frame_step moment s = after_giving (next_of s) moment s

@@ -1,7 +1,9 @@
 //! The lines that were issued and aren't acknowledged.
 ghost use Rattle.std.specs.Prelude.{◌≡◌, ◌<◌, ◌≤◌, [], ◌∷◌, ◌++◌, length, drop, slice_index_or, IfOk, false};
 ghost use Rattle.byte_text.specs.Marks.{has_byte};
+ghost use Rattle.byte_text.specs.declared.texts.TheConstants.{MOST_LINE_BYTES};
 ghost use Rattle.marlin_frame.specs.Frame.{frame_of};
+ghost use Rattle.marlin_frame.specs.declared.written.TheConstants.{LAST_NUMBER};
 ghost use Rattle.send_window.specs.Sending.{IsFramable};
 
 use byte_text::{Line, Text, bounded_text};
@@ -41,16 +43,16 @@ impl HeldText {
     }
 
     fn frame(&self, number: u32, into: &mut Line)
-        requires { number ≤ 2000000000 }
+        requires { number ≤ LAST_NUMBER }
         ensures frame { into.new.items ≡ frame_of number self.now }
-        ensures short { length into.new.items ≤ 95 }
+        ensures short { length into.new.items ≤ MOST_LINE_BYTES }
         ensures one_line { has_byte 10 into.new.items ≡ false }
     {
         frame(number, &self.text, into);
     }
 }
 
-/// Lines in the order of their numbers, at most 16 of them.
+/// At most 16 lines, in the order of their numbers.
 #[derive(Drop)]
 pub(crate) struct Held {
     lines: HeapCircularBuffer<HeldText>,
@@ -101,9 +103,9 @@ impl Held {
     /// Writes the frame of the line at `index` under this number.
     pub(crate) fn frame_at(&self, index: usize, number: u32, into: &mut Line)
         requires held { index < length self.now }
-        requires number { number ≤ 2000000000 }
+        requires number { number ≤ LAST_NUMBER }
         ensures frame { into.new.items ≡ frame_of number (slice_index_or self.now index []) }
-        ensures short { length into.new.items ≤ 95 }
+        ensures short { length into.new.items ≤ MOST_LINE_BYTES }
         ensures one_line { has_byte 10 into.new.items ≡ false }
     {
         match self.lines.get(index) {

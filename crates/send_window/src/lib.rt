@@ -1,5 +1,8 @@
 //! The sender of a print host, by Marlin's serial protocol: lines with a number and a checksum, a window of lines
 //! that may be unacknowledged, Resend requests, and a time limit for the printer's `ok`.
+//!
+//! Source: Marlin's queue.cpp for line numbers, checksums, `ok`, `Resend:` and `M110`; `ADVANCED_OK` for numbered
+//! acknowledgements.
 #![tactic(auto)]
 
 mod held;

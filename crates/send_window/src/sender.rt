@@ -1,8 +1,9 @@
 //! The sender of one session after another.
 ghost use Rattle.std.specs.Prelude.{◌≡◌, ◌<◌, ◌≤◌, ◌+◌, length, IfOk, IfSome, IsNone, None, option_map, true, false};
 ghost use Rattle.byte_text.specs.Marks.{has_byte};
+ghost use Rattle.byte_text.specs.declared.texts.TheConstants.{MOST_LINE_BYTES};
 ghost use Rattle.marlin_frame.specs.Numbering.{wire_number, hello_frame};
-ghost use Rattle.send_window.specs.Data.{IsSound, new_sender, begun};
+ghost use Rattle.send_window.specs.Data.{IsSound, new_sender, sender_after_dial};
 ghost use Rattle.send_window.specs.Hearing.{hear_step, tick_step, answer_of};
 ghost use Rattle.send_window.specs.Sending.{IsFramable, room_of, push_step, next_of, number_of_outgoing, bytes_of_outgoing, frame_step};
 
@@ -93,7 +94,7 @@ impl Sender {
 
     /// Begins a session: all is as new, and the hello is to be sent.
     pub fn hello(&mut self)
-        ensures state { self.new ≡ begun self.old }
+        ensures state { self.new ≡ sender_after_dial self.old }
         ensures sound { IsSound self.new }
     {
         self.issued = 0;
@@ -195,7 +196,7 @@ impl Sender {
         ensures number { result ≡ option_map number_of_outgoing (next_of self.old) }
         ensures bytes { IfSome (next_of self.old)
             (λ next. into.new.items ≡ bytes_of_outgoing next) }
-        ensures short { IfSome (next_of self.old) (λ _. length into.new.items ≤ 95) }
+        ensures short { IfSome (next_of self.old) (λ _. length into.new.items ≤ MOST_LINE_BYTES) }
         ensures one_line { IfSome (next_of self.old) (λ _. has_byte 10 into.new.items ≡ false) }
         ensures nothing { IsNone (next_of self.old) → into.new ≡ into.old }
         ensures state { self.new ≡ frame_step moment self.old }

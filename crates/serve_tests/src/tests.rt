@@ -3,14 +3,11 @@ mod bench;
 mod doors;
 mod ends;
 mod late_door;
-mod makers;
 mod real_rests;
 mod starts;
 
 use bench::Bench;
-use doors::{conns_of, end_doors, gates, reply_at, served_count, status};
-
-const ROOT: &[u8] = b"root-key-0123456789";
+use doors::{end_doors, gates, reply_at, served_count, status};
 
 const VERSION: &[u8] = b"GET /api/version HTTP/1.1\r\nX-Api-Key: root-key-0123456789\r\n\r\n";
 

@@ -10,7 +10,7 @@ use Rattle.session_steps.specs.Data.{SessionData, doing, port_of}
 use Rattle.temp_rules.specs.Hot.{first_hot_of}
 use Rattle.print_course.specs.Underway.{IsUnderway}
 use Rattle.print_course.proofs.Calls.{select-underway}
-use Rattle.session_print.specs.Ends.{IsNew, prepared, print_of}
+use Rattle.session_print.specs.Ends.{IsNew, print_of}
 use Rattle.lossy_turns.specs.Patience.{IsPatient, IsOnTime}
 use Rattle.session_print.specs.Printed.{HasPrinted, IsOver}
 use Rattle.session_print.specs.BetweenTurns.{IsDialling}
@@ -18,21 +18,22 @@ use Rattle.session_print.specs.declared.end.PrintEnd.{PrintEnd}
 use Rattle.session_print.specs.declared.end.PrintEnd.TheVariants as end
 use Rattle.lossy_turns.proofs.Histories.{none_printed}
 use Rattle.session_print.proofs.Printing.{printed_of, part_none}
+use Rattle.print_course.specs.Progress.{after_select}
 
 new_acked : (x : SessionData) → IsNew x → x.sender.acked ≡ 0
 new_acked x new = ap (λ (s : SenderData). s.acked) new.its_sender
 
--- a desk that was prepared is about to dial
+-- a desk that was after_select is about to dial
 pub begins : (port : List ℕ) (file : File) (past : Option (List WorldEvent)) (x y : SessionData) → IsNew x →
-    first_hot_of x.desk.limits file.job.commands ≡ None → y.desk ≡ prepared port file x.desk → y.sender ≡ x.sender → y.up ≡ false →
+    first_hot_of x.desk.limits file.job.commands ≡ None → y.desk ≡ after_select port file x.desk → y.sender ≡ x.sender → y.up ≡ false →
     IsDialling (print_of x.desk file) (port_of y.desk) past past y
 begins port file past x y new cool desk sender up =
     let d0 : Data = new_desk x.desk.scripts x.desk.limits x.desk.poll_ms in
-    let ready : y.desk ≡ prepared port file d0 = desk ∙ ap (prepared port file) new.its_desk in
+    let ready : y.desk ≡ after_select port file d0 = desk ∙ ap (after_select port file) new.its_desk in
     let S : SenderData → Type 0 = λ s. IsSound s in
     let D : Data → Type 0 = λ d. IsUnderway (print_of x.desk file) d [] in
     record {
-      dials = ap (λ (d : Data). doing (record y { desk = d })) ready ∙ ap (λ (b : Bool). doing (record y { desk = prepared port file d0; up = b })) up;
+      dials = ap (λ (d : Data). doing (record y { desk = d })) ready ∙ ap (λ (b : Bool). doing (record y { desk = after_select port file d0; up = b })) up;
       its_port = refl;
       nothing = refl;
       none_acked = ap (λ (s : SenderData). s.acked) sender ∙ new_acked x new;
@@ -52,7 +53,7 @@ refused kind plan past x line asked limit new =
     let A : ℕ → Type 0 = λ n. (before : List WorldEvent) → HasPrinted kind plan how n before [] in
     record {
       printed = recorded_same past (HasPrinted kind plan how x.sender.acked)
-          (subst A (sym (new_acked x new)) (λ before. printed_of kind plan how [] 0 before [] (part_none plan) (λ is. absurd (cc)) (λ count is. absurd (cc)) (none_printed kind before [] refl)));
+          (subst A (sym (new_acked x new)) (λ before. printed_of kind plan how [] 0 before [] (part_none plan) (λ is. absurd (cc)) (λ count is. absurd (cc)) (λ all is. absurd (cc)) (none_printed kind before [] refl)));
       ended = λ why is. absurd (cc);
       unsent = λ none. refl;
     }

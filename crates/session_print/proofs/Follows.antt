@@ -16,20 +16,20 @@ use Rattle.printer_link.proofs.Grown.{recorded_so}
 use Rattle.session_steps.specs.Data.{SessionData, doing, is_calling}
 use Rattle.session_steps.specs.Found.{can_find}
 use Rattle.session_steps.specs.declared.found.Doing.{Doing}
-use Rattle.session_steps.specs.declared.found.Doing.TheVariants.{Dialling, HangingUp, Talking, Resting}
+use Rattle.session_steps.specs.declared.found.Doing.TheVariants.{Dialling, HangingUp, UsingLink, Resting}
 use Rattle.print_course.specs.Plan.{PrintData, print_commands, plan}
 use Rattle.print_course.specs.Underway.{IsUnderway}
 use Rattle.lossy_line.proofs.Turned.{rests_down}
 use Rattle.session_print.specs.Ends.{end_of, desk_after, left_after}
 use Rattle.session_print.specs.Printed.{IsOver}
 use Rattle.lossy_turns.specs.History.{IsMade}
-use Rattle.session_print.specs.BetweenTurns.{IsTalking, GoesOn}
+use Rattle.session_print.specs.BetweenTurns.{IsOnLink, GoesOn}
 use Rattle.session_print.specs.declared.end.PrintEnd.{PrintEnd}
 use Rattle.session_print.specs.declared.end.PrintEnd.TheVariants as end
 use Rattle.session_print.proofs.Course.{start_course, left_course}
 
 -- which end it is
-why_of : SessionEnd → PrintEnd → SessionEnd
+unfoldable pub why_of : SessionEnd → PrintEnd → SessionEnd
 why_of other (end.Ended why) = why
 why_of other _ = other
 
@@ -61,7 +61,7 @@ calls_of x f awake can none = by_doing (doing x) refl can
     by_doing : (d : Doing) → doing x ≡ d → can_find d f ≡ true → is_calling (doing x) ≡ true
     by_doing Dialling is can = ap is_calling is
     by_doing HangingUp is can = absurd (hangs f can none)
-    by_doing Talking is can = ap is_calling is
+    by_doing UsingLink is can = ap is_calling is
     by_doing Resting is can = (let no : Dialling ≡ Resting = sym (awake (rests_down x is)) ∙ is in absurd (cc))
 
 -- what the end of the connection leaves
@@ -92,8 +92,8 @@ desk_made kind issued x d past added made =
     }
 
 module _ (kind : LinkKind) (p : PrintData) (port : List ℕ) (first now : Option (List WorldEvent)) (x : SessionData) where
-  desk_talks : (l : IsTalking kind p port first now x) (d : Data) → IsUnderway p d l.issued → (x.sender.ready ≡ false → d.greatest ≡ 0) →
-      IsTalking kind p port first now (record x { desk = d })
+  desk_talks : (l : IsOnLink kind p port first now x) (d : Data) → IsUnderway p d l.issued → (x.sender.ready ≡ false → d.greatest ≡ 0) →
+      IsOnLink kind p port first now (record x { desk = d })
   desk_talks l d course unstarted = record {
     issued = l.issued;
     on = record { course = course; cool = l.on.cool; sound = l.on.sound };

@@ -1,5 +1,5 @@
 -- What a print has made of a history, by its plan and its end.
-use Rattle.std.proofs.Common.{◌≡◌, ◌⊎◌, inl, inr, ℕ, zero, suc, ◌≤◌, List, [], ◌∷◌, ◌++◌, length, take, refl, sym, ◌∙◌, ap, arith}
+use Rattle.std.proofs.Common.{◌≡◌, ◌⊎◌, inl, inr, ℕ, suc, ◌≤◌, List, [], ◌∷◌, ◌++◌, length, refl, sym, ◌∙◌, ap, arith}
 use Rattle.std.specs.Prelude.{◌<◌, Option, Some, None}
 use Rattle.link_history.specs.Executed.{opens, executed}
 use Rattle.printer_model.specs.declared.event.WorldEvent.{WorldEvent}
@@ -13,32 +13,30 @@ use Rattle.session_print.specs.Printed.{HasPrinted}
 use Rattle.session_print.specs.declared.end.PrintEnd.{PrintEnd}
 use Rattle.session_print.specs.declared.end.PrintEnd.TheVariants as end
 use Rattle.std.specs.Prelude.{◌*◌}
+use Rattle.send_window.specs.Data.{most_lines}
 use Rattle.send_window.specs.Hearing.{later}
 use Rattle.send_window.specs.declared.session_end.SessionEnd.TheVariants.{NoAnswer, AskedBack, AskedAhead, Counts, Restarted, NumbersUsed}
 use Rattle.session_print.specs.Waiting.{HasWaited}
-
-take_over : {X : Type 0} (n : ℕ) (xs : List X) → length xs ≤ n → take n xs ≡ xs
-take_over zero [] within = refl
-take_over (suc n) [] within = refl
-take_over zero (x ∷ xs) within = absurd (omega (arith, within))
-take_over (suc n) (x ∷ xs) within = ap (λ (l : List _). x ∷ l) (take_over n xs (omega (arith, within)))
+use Rattle.std.proofs.lemmas.List.{take_all}
 
 -- what was issued, by the plan
 pub printed_of : (kind : LinkKind) (plan : List (List ℕ)) (how : PrintEnd) (issued : List (List ℕ)) (acked : ℕ) (past added : List WorldEvent) →
     WeavesPart issued plan → (how ≡ end.Done → Weave issued plan × (acked ≡ length issued)) →
-    ((count : ℕ) → how ≡ end.Ended (NoAnswer count) → (issued ≡ []) ⊎ (acked < length issued)) → HasIssued kind issued acked past added →
+    ((count : ℕ) → how ≡ end.Ended (NoAnswer count) → (count ≡ 5) × ((issued ≡ []) ⊎ (acked < length issued))) →
+    ((all : ℕ) → how ≡ end.Ended (NumbersUsed all) → (all ≡ most_lines) × (acked ≡ most_lines)) → HasIssued kind issued acked past added →
     HasPrinted kind plan how acked past added
-printed_of kind plan how issued acked past added part all unanswered h = record {
+printed_of kind plan how issued acked past added part all unanswered all_used h = record {
   issued = issued;
   of_plan = part;
   history = h;
   done = λ is. (let whole = all is in record {
     woven = whole.0;
     all_executed = h.tied.executed_first
-        ∙ ap (logged_from 1) (take_over (length (executed kind.slots kind.numbered (past ++ added) (suc (opens past)))) issued (omega (arith, whole.1, h.tied.acked_run)));
+        ∙ ap (logged_from 1) (take_all (length (executed kind.slots kind.numbered (past ++ added) (suc (opens past)))) issued (omega (arith, whole.1, h.tied.acked_run)));
     all_acked = whole.1;
   });
   unanswered = unanswered;
+  all_used = all_used;
 }
 
 none_of : {X : Type 0} (xs : List X) → length xs ≡ 0 → xs ≡ []

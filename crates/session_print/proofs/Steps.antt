@@ -6,7 +6,7 @@ use Rattle.desk_steps.specs.declared.state.State.TheVariants.{Offline, Operation
 use Rattle.desk_steps.specs.declared.link_fact.LinkFact.{LinkFact}
 use Rattle.desk_steps.specs.declared.link_fact.LinkFact.TheVariants as fact
 use Rattle.send_window.specs.declared.session_end.SessionEnd.{SessionEnd}
-use Rattle.send_window.specs.declared.session_end.SessionEnd.TheVariants.{NoAnswer}
+use Rattle.send_window.specs.declared.session_end.SessionEnd.TheVariants.{NoAnswer, NumbersUsed}
 use Rattle.print_records.specs.declared.ending.Ending.{Ending}
 use Rattle.printer_model.specs.declared.event.WorldEvent.{WorldEvent}
 use Rattle.printer_link.specs.Link.{LinkKind, Recorded, world_in}
@@ -14,13 +14,13 @@ use Rattle.printer_link.proofs.Grown.{recorded_then, recorded_so}
 use Rattle.send_window.specs.Data.{SenderData, IsSound}
 use Rattle.session_steps.specs.Data.{SessionData, IsSession, doing, port_of}
 use Rattle.session_steps.specs.DeskTurn.{IsNoted}
-use Rattle.session_steps.specs.Found.{is_got, is_said, can_find, up_after, ready_after}
+use Rattle.session_steps.specs.Found.{is_got, may_have_issued, can_find, up_after, ready_after}
 use Rattle.session_steps.specs.Steps.{after_steps, turn_steps}
 use Rattle.session_steps.specs.Turn.{IsTurn, IsDeskTurn, fact_of, lines_of, texts_in}
 use Rattle.session_steps.specs.declared.found.Doing.{Doing}
-use Rattle.session_steps.specs.declared.found.Doing.TheVariants.{Dialling, HangingUp, Talking, Resting}
+use Rattle.session_steps.specs.declared.found.Doing.TheVariants.{Dialling, HangingUp, UsingLink, Resting}
 use Rattle.session_steps.specs.declared.found.Turned.{Turned}
-use Rattle.print_course.specs.Plan.{PrintData, print_commands, plan, Weave, line_texts}
+use Rattle.print_course.specs.Plan.{PrintData, print_commands, plan, Weave}
 use Rattle.print_course.specs.Turned.{IsTurnOf}
 use Rattle.print_course.proofs.Turning.{turn-underway}
 use Rattle.print_course.specs.Underway.{IsUnderway}
@@ -28,14 +28,14 @@ use Rattle.print_course.proofs.Results.{underway-part, underway-whole}
 use Rattle.lossy_line.specs.Issuing.{issued_in}
 use Rattle.lossy_line.specs.Linked.{IsLinked, LinkedAs, opened}
 use Rattle.lossy_line.specs.Tied.{EndCausedAs}
-use Rattle.session_steps.proofs.Noting.{noted_fact, noted_lines}
-use Rattle.lossy_line.proofs.Told.{IsKept}
+use Rattle.session_steps.proofs.Noting.{noted_fact, noted_lines, desk_noted}
+use Rattle.lossy_line.proofs.Recorded.{IsKept}
 use Rattle.lossy_line.proofs.Turned.{IsTurned, dials_down, rests_down, opens_dialling}
 use Rattle.session_print.specs.Ends.{IsUnsent, end_of}
 use Rattle.session_print.specs.Printed.{HasPrinted, IsOver}
 use Rattle.lossy_turns.specs.History.{IsMade}
-use Rattle.lossy_turns.specs.Patience.{IsUnanswered}
-use Rattle.session_print.specs.BetweenTurns.{IsDialling, IsTalking, IsBetweenTurns, GoesOn}
+use Rattle.lossy_turns.specs.Patience.{FitsEnd}
+use Rattle.session_print.specs.BetweenTurns.{IsDialling, IsOnLink, IsBetweenTurns, GoesOn}
 use Rattle.session_print.specs.declared.end.PrintEnd.{PrintEnd}
 use Rattle.session_print.specs.declared.end.PrintEnd.TheVariants as end
 use Rattle.lossy_turns.proofs.Histories.{none_printed, nothing_added}
@@ -43,6 +43,8 @@ use Rattle.session_print.proofs.Printing.{printed_of, unanswered_of, part_none}
 use Rattle.lossy_turns.proofs.Turns.{ports_dialling, turned_all, made_on, made_now, none_made, none_added, made_printed}
 use Rattle.session_print.proofs.Course.{closed_off}
 use Rattle.lossy_turns.proofs.Lasting.{sound_steps, ended_turn}
+use Rattle.std.proofs.lemmas.Bool.{and_right}
+use Rattle.session_print.proofs.Follows.{why_of}
 
 -- what a turn promises of a print
 pub record HasTurned (moment : ℕ) (kind : LinkKind) (old_past new_past : Option (List WorldEvent)) (old_calls new_calls : Option ℕ) (old mid : SessionData) (turned : Turned) : Type 0 where
@@ -53,25 +55,8 @@ pub record HasTurned (moment : ℕ) (kind : LinkKind) (old_past new_past : Optio
   pub ready_is : mid.sender.ready ≡ ready_after (fact_of turned.note) old.sender.ready
   pub not_fallen : (fact_of turned.note ≡ fact.Opened) ⊎ (old.sender.acked ≤ mid.sender.acked)
   pub no_port : (fact_of turned.note ≡ fact.NoPort) ↔ ((doing old ≡ Dialling) × (kind.listed (port_of old.desk) ≡ false))
-  pub unanswered : (count : ℕ) → fact_of turned.note ≡ fact.Ended (NoAnswer count) → IsUnanswered mid.sender
+  pub fits : (why : SessionEnd) → fact_of turned.note ≡ fact.Ended why → FitsEnd why mid.sender
   pub caused : (why : SessionEnd) → fact_of turned.note ≡ fact.Ended why → (issued : List (List ℕ)) → LinkedAs kind old_past issued old → EndCausedAs kind new_past why
-
--- which end it is
-why_of : SessionEnd → PrintEnd → SessionEnd
-why_of other (end.Ended why) = why
-why_of other _ = other
-
-and_off : (b : Bool) → (b && false) ≡ false
-and_off true = refl
-and_off false = refl
-
--- a turn that doesn't rest notes what it found
-noted_by : (x : Doing) (moment acked : ℕ) (found : LinkFact) (lines : List Line) (d : Data) (ending : Option Ending) (e : Data) →
-    (x ≡ Resting → ⊥) → IsDeskTurn x moment acked found lines d ending e → IsNoted moment acked found lines d ending e
-noted_by Dialling moment acked found lines d ending e awake is = is
-noted_by HangingUp moment acked found lines d ending e awake is = is
-noted_by Talking moment acked found lines d ending e awake is = is
-noted_by Resting moment acked found lines d ending e awake is = absurd (awake refl)
 
 module _ (moment : ℕ) (kind : LinkKind) (old_past new_past : Option (List WorldEvent)) (old_calls new_calls : Option ℕ) (old mid : SessionData) (turned : Turned) (h : HasTurned moment kind old_past new_past old_calls new_calls old mid turned) (p : PrintData) (port : List ℕ) (first : Option (List WorldEvent)) where
   -- the plan of the print
@@ -91,11 +76,11 @@ module _ (moment : ℕ) (kind : LinkKind) (old_past new_past : Option (List Worl
   can = (let F : LinkFact → Type 0 = λ f. can_find (doing old) f ≡ true in subst F its_fact h.kept.finds)
 
   -- a turn that may not issue has issued nothing
-  no_lines : is_said h.turn.found ≡ false → h.turn.lines ≡ []
-  no_lines unsaid = h.turn.none_issued (ap (λ (b : Bool). is_got h.turn.got && b) unsaid ∙ and_off (is_got h.turn.got))
+  no_lines : may_have_issued h.turn.found ≡ false → h.turn.lines ≡ []
+  no_lines unsaid = h.turn.none_issued (ap (λ (b : Bool). is_got h.turn.got && b) unsaid ∙ and_right (is_got h.turn.got) false refl)
 
   noted : (doing old ≡ Resting → ⊥) → IsNoted moment mid.sender.acked h.turn.found h.turn.lines old.desk turned.ending mid.desk
-  noted awake = noted_by (doing old) moment mid.sender.acked h.turn.found h.turn.lines old.desk turned.ending mid.desk awake h.turn.desk
+  noted awake = desk_noted (doing old) moment mid.sender.acked h.turn.found h.turn.lines old.desk turned.ending mid.desk awake h.turn.desk
 
   sound : IsSound old.sender → IsSound mid.sender
   sound was =
@@ -109,8 +94,8 @@ module _ (moment : ℕ) (kind : LinkKind) (old_past new_past : Option (List Worl
 
   underway : (issued : List (List ℕ)) → IsUnderway p old.desk issued → IsUnderway p mid.desk (issued_in h.turn.found texts issued)
   underway issued h0 =
-      let F : LinkFact → Type 0 = λ f. IsUnderway p mid.desk (issued_in f (line_texts (lines_of turned.note)) issued) in
-      let L : List Line → Type 0 = λ l. IsUnderway p mid.desk (issued_in h.turn.found (line_texts l) issued) in
+      let F : LinkFact → Type 0 = λ f. IsUnderway p mid.desk (issued_in f (texts_in (lines_of turned.note)) issued) in
+      let L : List Line → Type 0 = λ l. IsUnderway p mid.desk (issued_in h.turn.found (texts_in l) issued) in
       subst L (noted_lines turned.note moment old.sender.acked mid.sender.acked h.turn.lines h.turn.got h.turn.found h.turn.none h.turn.some)
       (subst F its_fact (course issued h0).underway)
 
@@ -124,7 +109,7 @@ module _ (moment : ℕ) (kind : LinkKind) (old_past new_past : Option (List Worl
       λ past added t. (let none = none_made moment kind old mid h.turn.got h.turn.found texts past added other d.dials t in
       let A : ℕ → Type 0 = λ n. HasPrinted kind whole how n past added in
       subst A (sym (ap (λ (s : SenderData). s.acked) none.1 ∙ d.none_acked))
-      (printed_of kind whole how [] 0 past added (part_none whole) (λ is. absurd (undone is)) (λ count is. absurd (unended (NoAnswer count) is)) (none_printed kind past added none.0)))
+      (printed_of kind whole how [] 0 past added (part_none whole) (λ is. absurd (undone is)) (λ count is. absurd (unended (NoAnswer count) is)) (λ all is. absurd (unended (NumbersUsed all) is)) (none_printed kind past added none.0)))
       in
       record {
         printed = subst F d.nothing (recorded_so old_past new_past
@@ -137,7 +122,7 @@ module _ (moment : ℕ) (kind : LinkKind) (old_past new_past : Option (List Worl
       }
 
   -- the turn makes the link
-  dial_made : IsDialling p port first old_past old → fact_of turned.note ≡ fact.Opened → IsTalking kind p port first new_past mid
+  dial_made : IsDialling p port first old_past old → fact_of turned.note ≡ fact.Opened → IsOnLink kind p port first new_past mid
   dial_made d is =
       let found : h.turn.found ≡ fact.Opened = sym its_fact ∙ is in
       let P : List WorldEvent → List WorldEvent → Type 0 = λ past added. IsMade kind [] mid past added in
@@ -178,20 +163,20 @@ module _ (moment : ℕ) (kind : LinkKind) (old_past new_past : Option (List Worl
   dial_goes d (fact.Ended why) is = absurd (can_not d (fact.Ended why) is refl)
 
   -- the link was made in a turn before
-  up_clash : {X : Type 0} → IsTalking kind p port first old_past old → old.up ≡ false → X
+  up_clash : {X : Type 0} → IsOnLink kind p port first old_past old → old.up ≡ false → X
   up_clash l down = (let up : old.up ≡ true = l.up in absurd (cc))
 
-  talks : IsTalking kind p port first old_past old → h.turn.found ≡ fact.Opened → ⊥
+  talks : IsOnLink kind p port first old_past old → h.turn.found ≡ fact.Opened → ⊥
   talks l is =
       let F : LinkFact → Type 0 = λ f. can_find (doing old) f ≡ true in
       up_clash l (dials_down old (opens_dialling (doing old) (subst F is can)))
 
-  listens_not : IsTalking kind p port first old_past old → fact_of turned.note ≡ fact.NoPort → ⊥
+  listens_not : IsOnLink kind p port first old_past old → fact_of turned.note ≡ fact.NoPort → ⊥
   listens_not l is =
       let F : LinkFact → Type 0 = λ f. can_find (doing old) f ≡ true in
       up_clash l (dials_down old (ports_dialling (doing old) (subst F is h.kept.finds)))
 
-  talk_made : (l : IsTalking kind p port first old_past old) →
+  talk_made : (l : IsOnLink kind p port first old_past old) →
       Recorded first new_past (λ past added. IsMade kind (issued_in h.turn.found texts l.issued) mid past added)
   talk_made l =
       recorded_then first old_past new_past (λ past added. IsMade kind l.issued old past added)
@@ -200,7 +185,7 @@ module _ (moment : ℕ) (kind : LinkKind) (old_past new_past : Option (List Worl
       l.history all
       (λ past added more made t. made_on moment kind old mid h.turn.got h.turn.found texts l.issued past added more (talks l) made t)
 
-  talk_linked : (l : IsTalking kind p port first old_past old) → LinkedAs kind old_past l.issued old
+  talk_linked : (l : IsOnLink kind p port first old_past old) → LinkedAs kind old_past l.issued old
   talk_linked l now is =
       let grew = l.history.grew now is in
       let L : List WorldEvent → Type 0 = λ es. IsLinked kind l.issued old es in
@@ -215,19 +200,19 @@ module _ (moment : ℕ) (kind : LinkKind) (old_past new_past : Option (List Worl
       ∙ ended_turn moment why (doing old) old.up h.turn.got texts h.turn.steps.count old.sender (subst F found can) ((h.turn.ended why).0 found)
 
   -- a print that is done has issued the whole plan, and all of it is acknowledged
-  talk_whole : (l : IsTalking kind p port first old_past old) → h.turn.found ≡ fact.Closed →
+  talk_whole : (l : IsOnLink kind p port first old_past old) → h.turn.found ≡ fact.Closed →
       Weave (issued_in h.turn.found texts l.issued) whole × (mid.sender.acked ≡ length (issued_in h.turn.found texts l.issued))
   talk_whole l closed =
       let N : LinkFact → Type 0 = λ f. IsNoted moment mid.sender.acked f h.turn.lines old.desk turned.ending mid.desk in
       let n : IsNoted moment mid.sender.acked fact.Closed h.turn.lines old.desk turned.ending mid.desk = subst N closed (noted (λ rests. up_clash l (rests_down old rests))) in
-      let off : mid.desk.state ≡ Offline = closed_off moment mid.sender.acked h.turn.lines old.desk turned.ending mid.desk (no_lines (ap is_said closed)) n in
+      let off : mid.desk.state ≡ Offline = closed_off moment mid.sender.acked h.turn.lines old.desk turned.ending mid.desk (no_lines (ap may_have_issued closed)) n in
       let done = underway-whole p mid.desk (issued_in h.turn.found texts l.issued) off (underway l.issued l.on.course) in
       let s : IsSound mid.sender = sound l.on.sound in (
         done.woven,
         omega (arith, done.acknowledged, done.all (omega (arith, h.joined.issued, s.few)), h.joined.issued, h.joined.acked, s.counted),
       )
 
-  talk_over : (how : PrintEnd) → IsTalking kind p port first old_past old → (how ≡ end.Done → h.turn.found ≡ fact.Closed) →
+  talk_over : (how : PrintEnd) → IsOnLink kind p port first old_past old → (how ≡ end.Done → h.turn.found ≡ fact.Closed) →
       ((why : SessionEnd) → how ≡ end.Ended why → fact_of turned.note ≡ fact.Ended why) → (IsUnsent how → ⊥) → IsOver kind whole how first new_past mid
   talk_over how l closed ends sent =
       let now : List (List ℕ) = issued_in h.turn.found texts l.issued in
@@ -236,12 +221,13 @@ module _ (moment : ℕ) (kind : LinkKind) (old_past new_past : Option (List Worl
             (λ past added. HasPrinted kind whole how mid.sender.acked past added) (talk_made l)
             (λ past added made. printed_of kind whole how now mid.sender.acked past added (underway-part p mid.desk now (underway l.issued l.on.course))
             (λ done. talk_whole l (closed done))
-            (λ count is. unanswered_of kind now mid past added made (h.unanswered count (ends (NoAnswer count) is))) (made_printed kind now mid past added made));
-        ended = λ why is. record { its_end = talk_ended why (sym its_fact ∙ ends why is); caused = h.caused why (ends why is) l.issued (talk_linked l) };
+            (λ count is. (let fits = h.fits (NoAnswer count) (ends (NoAnswer count) is) in (fits.0, unanswered_of kind now mid past added made fits.1)))
+            (λ all is. h.fits (NumbersUsed all) (ends (NumbersUsed all) is)) (made_printed kind now mid past added made));
+        ended = λ why is. record { its_end = talk_ended why (sym its_fact ∙ ends why is); fits = h.fits why (ends why is); caused = h.caused why (ends why is) l.issued (talk_linked l) };
         unsent = λ none. absurd (sent none);
       }
 
-  talk_on : (l : IsTalking kind p port first old_past old) → mid.up ≡ true → IsTalking kind p port first new_past mid
+  talk_on : (l : IsOnLink kind p port first old_past old) → mid.up ≡ true → IsOnLink kind p port first new_past mid
   talk_on l up = record {
     issued = issued_in h.turn.found texts l.issued;
     on = record { course = (underway l.issued l.on.course); cool = l.on.cool; sound = sound l.on.sound };
@@ -262,7 +248,7 @@ module _ (moment : ℕ) (kind : LinkKind) (old_past new_past : Option (List Worl
       was_unready fact.Failed is unready = sym (ap (λ (f : LinkFact). ready_after f old.sender.ready) is) ∙ unready
       was_unready (fact.Ended why) is unready = sym (ap (λ (f : LinkFact). ready_after f old.sender.ready) is) ∙ unready
 
-  talk_goes : IsTalking kind p port first old_past old → (f : LinkFact) → fact_of turned.note ≡ f → GoesOn kind p port (end_of f) first new_past mid
+  talk_goes : IsOnLink kind p port first old_past old → (f : LinkFact) → fact_of turned.note ≡ f → GoesOn kind p port (end_of f) first new_past mid
   unfolding why_of
   talk_goes l fact.Quiet is = talk_on l (h.kept.up ∙ ap (λ (f : LinkFact). up_after f old.up) is ∙ l.up)
   talk_goes l fact.Ready is = talk_on l (h.kept.up ∙ ap (λ (f : LinkFact). up_after f old.up) is)

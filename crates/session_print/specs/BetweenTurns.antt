@@ -33,8 +33,8 @@ pub record HasBegun (now : Option (List WorldEvent)) (x : SessionData) : Type 0 
   pub print : PrintData
   pub dialling : IsDialling print (port_of x.desk) now now x
 
--- the next turn talks over the link or hangs up
-pub record IsTalking (kind : LinkKind) (p : PrintData) (port : List ℕ) (first now : Option (List WorldEvent)) (x : SessionData) : Type 0 where
+-- the next turn uses the link or hangs up
+pub record IsOnLink (kind : LinkKind) (p : PrintData) (port : List ℕ) (first now : Option (List WorldEvent)) (x : SessionData) : Type 0 where
   pub issued : List (List ℕ)
   pub on : IsOnCourse p issued x
   pub up : x.up ≡ true
@@ -44,9 +44,9 @@ pub record IsTalking (kind : LinkKind) (p : PrintData) (port : List ℕ) (first 
 
 -- a print is between two turns
 abbrev pub IsBetweenTurns : LinkKind → PrintData → List ℕ → Option (List WorldEvent) → Option (List WorldEvent) → SessionData → Type 0
-IsBetweenTurns kind p port first now x = IsDialling p port first now x ⊎ IsTalking kind p port first now x
+IsBetweenTurns kind p port first now x = IsDialling p port first now x ⊎ IsOnLink kind p port first now x
 
 -- what a turn has left: a print that goes on or that ended so
 abbrev pub GoesOn : LinkKind → PrintData → List ℕ → Option PrintEnd → Option (List WorldEvent) → Option (List WorldEvent) → SessionData → Type 0
-GoesOn kind p port None first now x = IsTalking kind p port first now x
+GoesOn kind p port None first now x = IsOnLink kind p port first now x
 GoesOn kind p port (Some how) first now x = IsOver kind (plan p.scripts (print_commands p)) how first now x

@@ -11,6 +11,7 @@ use Rattle.temp_rules.specs.declared.job.HotLine.{HotLine}
 use Rattle.print_course.specs.Plan.{PrintData}
 use Rattle.session_print.specs.declared.end.PrintEnd.{PrintEnd}
 use Rattle.session_print.specs.declared.end.PrintEnd.TheVariants as end
+use Rattle.print_course.specs.Progress.{after_select}
 
 -- a session at which nothing was done yet
 pub record IsNew (x : SessionData) : Type 0 where
@@ -18,12 +19,6 @@ pub record IsNew (x : SessionData) : Type 0 where
   pub its_sender : x.sender ≡ new_sender x.sender.window x.sender.limit
   pub sound : IsSound x.sender
   pub down : x.up ≡ false
-
--- the desk begins to connect to a port, and a file is selected
-abbrev pub prepared : List ℕ → File → Data → Data
-prepared port file d =
-    let connected = (connect_at d.state port d).1 in
-    (select_at connected.state file connected).1
 
 -- what a desk prints of a file
 abbrev pub print_of : Data → File → PrintData

@@ -4,18 +4,19 @@ use Rattle.link_history.specs.Executed.{opens, executed}
 use Rattle.printer_model.specs.declared.event.WorldEvent.{WorldEvent}
 use Rattle.printer_link.specs.Link.{LinkKind, Recorded}
 use Rattle.send_window.specs.declared.session_end.SessionEnd.{SessionEnd}
-use Rattle.send_window.specs.declared.session_end.SessionEnd.TheVariants.{NoAnswer}
-use Rattle.send_window.specs.Data.{SenderData}
+use Rattle.send_window.specs.declared.session_end.SessionEnd.TheVariants.{NoAnswer, NumbersUsed}
+use Rattle.send_window.specs.Data.{SenderData, most_lines}
 use Rattle.session_steps.specs.Data.{SessionData}
 use Rattle.lossy_line.specs.Tied.{EndCausedAs, logged_from}
 use Rattle.print_course.specs.Plan.{Weave, WeavesPart}
 use Rattle.lossy_turns.specs.History.{HasIssued}
+use Rattle.lossy_turns.specs.Patience.{FitsEnd}
 use Rattle.session_print.specs.Ends.{IsUnsent}
 use Rattle.session_print.specs.declared.end.PrintEnd.{PrintEnd}
 use Rattle.session_print.specs.declared.end.PrintEnd.TheVariants as end
 
 -- the whole plan was issued, and all of it was executed and acknowledged
-pub record IsWhole (kind : LinkKind) (plan issued : List (List ℕ)) (acked : ℕ) (past added : List WorldEvent) : Type 0 where
+pub record IsWholePrint (kind : LinkKind) (plan issued : List (List ℕ)) (acked : ℕ) (past added : List WorldEvent) : Type 0 where
   pub woven : Weave issued plan
   pub all_executed : executed kind.slots kind.numbered (past ++ added) (suc (opens past)) ≡ logged_from 1 issued
   pub all_acked : acked ≡ length issued
@@ -27,13 +28,16 @@ pub record HasPrinted (kind : LinkKind) (plan : List (List ℕ)) (how : PrintEnd
   pub of_plan : WeavesPart issued plan
   pub history : HasIssued kind issued acked past added
   -- a print that is done has made the whole of it
-  pub done : how ≡ end.Done → IsWhole kind plan issued acked past added
-  -- one that had no answer had none to its hello, or not to all of its lines
-  pub unanswered : (count : ℕ) → how ≡ end.Ended (NoAnswer count) → (issued ≡ []) ⊎ (acked < length issued)
+  pub done : how ≡ end.Done → IsWholePrint kind plan issued acked past added
+  -- one that had no answer in five limits had none to its hello, or not to all of its lines
+  pub unanswered : (count : ℕ) → how ≡ end.Ended (NoAnswer count) → (count ≡ 5) × ((issued ≡ []) ⊎ (acked < length issued))
+  -- one whose session had no numbers left has had an answer to all that there are
+  pub all_used : (all : ℕ) → how ≡ end.Ended (NumbersUsed all) → (all ≡ most_lines) × (acked ≡ most_lines)
 
--- a session ended so: its sender has, and the history shows the cause
+-- a session ended so: its sender has, with the numbers that it names, and the history shows the cause
 pub record HasEnded (kind : LinkKind) (now : Option (List WorldEvent)) (s : SenderData) (why : SessionEnd) : Type 0 where
   pub its_end : s.ended ≡ Some why
+  pub fits : FitsEnd why s
   pub caused : EndCausedAs kind now why
 
 -- a print of this plan ended so

@@ -1,13 +1,14 @@
 //! The turns of a print, from the dial to the hang-up.
-ghost use Rattle.std.specs.Prelude.{◌≡◌, ◌≢◌, ◌↔◌, ◌≤◌, ◌+◌, ◌-◌, ◌*◌, ℕ, List, length, true, false, Option, Some, None, is_some};
-ghost use Rattle.octo_outside.specs.Told.{Counts, Steady};
+ghost use Rattle.std.specs.Prelude.{◌≡◌, ◌≢◌, ◌↔◌, ◌<◌, ◌≤◌, ◌+◌, ◌-◌, ◌*◌, ℕ, List, length, true, false, Option, Some, None, is_some};
+ghost use Rattle.octo_outside.specs.Recorded.{Counts, Steady};
 ghost use Rattle.octo_outside.specs.Traits.{NotBefore};
 ghost use Rattle.desk_steps.specs.Table.{connect_at, select_at, disconnect_at, start_at};
 ghost use Rattle.gcode_lines.specs.Job.{texts_of};
-ghost use Rattle.job_desk.specs.DeskViews.{named_file};
+ghost use Rattle.desk_steps.specs.Data.{named_file};
 ghost use Rattle.desk_steps.specs.declared.link_fact.LinkFact.TheVariants as fact;
 ghost use Rattle.send_window.specs.declared.session_end.SessionEnd.{SessionEnd};
 ghost use Rattle.send_window.specs.declared.session_end.SessionEnd.TheVariants.{NoAnswer};
+ghost use Rattle.send_window.specs.Data.{most_lines};
 ghost use Rattle.send_window.specs.Hearing.{later};
 ghost use Rattle.printer_link.specs.Link.{Recorded, RoseBy};
 ghost use Rattle.printer_model.specs.declared.event.WorldEvent.{WorldEvent};
@@ -19,8 +20,9 @@ ghost use Rattle.print_course.specs.Plan.{PrintData, print_commands, plan};
 ghost use Rattle.prompt_print.specs.OnWay.{IsOnWay, plan_length};
 ghost use Rattle.prompt_print.specs.Smooth.{IsUnsaturated, IsSmooth};
 ghost use Rattle.session_print.specs.Enough.{LeavesOnWay};
-ghost use Rattle.session_print.specs.Ends.{IsNew, IsTooHot, IsUnlisted, IsUnsent, is_too_hot, end_of, prepared, desk_after, left_after};
-ghost use Rattle.lossy_turns.specs.Patience.{IsPatient, IsUnanswered, IsOnTime};
+ghost use Rattle.print_course.specs.Progress.{after_select};
+ghost use Rattle.session_print.specs.Ends.{IsNew, IsTooHot, IsUnlisted, IsUnsent, is_too_hot, end_of, desk_after, left_after};
+ghost use Rattle.lossy_turns.specs.Patience.{IsPatient, IsOnTime};
 ghost use Rattle.session_print.specs.Waiting.{HasWaited};
 ghost use Rattle.session_print.specs.Printed.{HasPrinted, HasEnded, IsOver};
 ghost use Rattle.session_print.specs.BetweenTurns.{IsDialling, HasBegun, IsBetweenTurns, GoesOn};
@@ -69,8 +71,6 @@ pub fn run_print<L: Link, T: Clock>(
         → HasEnded (L.kind link.old) (L.past link.new) session.new.sender why }
     ensures waited { HasWaited result (T.moment clock.old)
         session.old.sender.limit (T.moment clock.new) }
-    ensures unanswered { (count : ℕ) → result ≡ end.Ended (NoAnswer count)
-        → IsUnanswered session.new.sender }
     ensures used { (made : ℕ) → result ≡ end.TurnsUsed made
         → (made ≡ turns) × RoseBy turns (L.calls link.old) (L.calls link.new) }
 
@@ -79,7 +79,6 @@ pub fn run_print<L: Link, T: Clock>(
         → IsSmooth (L.kind link.old) (L.past link.old) port.now
         (L.faults link.old) (L.faults link.new)
         (T.moment clock.new) session.old.sender.limit session.old.desk.poll_ms
-        (length (plan session.old.desk.scripts (texts_of job)))
         → length (plan session.old.desk.scripts (texts_of job)) + 32 ≤ turns → result ≡ end.Done }
 
     // The link afterwards, and what a print leaves that sent nothing.
@@ -96,6 +95,9 @@ pub fn run_print<L: Link, T: Clock>(
             limit: hot.limit,
         };
     }
+    // A plan has few lines: those of a file and of its scripts.
+    let _ = job.count();
+    let _ = session.desk().script_lines();
     prepare(session, port, name, job);
     make_turns(session, link, clock, turns)
 }
@@ -105,7 +107,8 @@ fn prepare(session: &mut Session, port: &Name, name: &Name, job: Job)
     requires { IsNew session.old }
     ensures sender { session.new.sender ≡ session.old.sender }
     ensures up { session.new.up ≡ false }
-    ensures desk { session.new.desk ≡ prepared port.now (named_file name.now job) session.old.desk }
+    ensures desk { session.new.desk
+        ≡ after_select port.now (named_file name.now job) session.old.desk }
 {
     let _ = session.connect(port);
     let _ = session.select(name, job);
@@ -122,27 +125,31 @@ fn make_turns<L: Link, T: Clock>(
     requires begins { HasBegun (L.past link.old) session.old }
     requires on_time { IsOnTime (T.moment clock.old) (T.moment clock.old) 0
         session.old.sender.limit session.old.sender }
+
+    // How the print ends.
     ensures over { (p : PrintData)
         → IsDialling p (port_of session.old.desk) (L.past link.old) (L.past link.old) session.old
         → IsOver (L.kind link.old) (plan p.scripts (print_commands p)) result
         (L.past link.old) (L.past link.new) session.new }
     ensures no_port { (result ≡ end.NoPort)
         ↔ ((1 ≤ turns) × ((L.kind link.old).listed (port_of session.old.desk) ≡ false)) }
+
+    // The link after it, and how many calls were made.
     ensures down { L.up link.new ≡ false }
     ensures kind { L.kind link.new ≡ L.kind link.old }
     ensures counts { Counts (result ≡ end.LinkFailed) (L.faults link.old) (L.faults link.new) }
     ensures used { (made : ℕ) → result ≡ end.TurnsUsed made
         → (made ≡ turns) × RoseBy turns (L.calls link.old) (L.calls link.new) }
+
+    // How long it takes, and which end it never comes to.
     ensures waited { HasWaited result (T.moment clock.old)
         session.old.sender.limit (T.moment clock.new) }
-    ensures unanswered { (count : ℕ) → result ≡ end.Ended (NoAnswer count)
-        → IsUnanswered session.new.sender }
     ensures prompt { (p : PrintData)
         → IsDialling p (port_of session.old.desk) (L.past link.old) (L.past link.old) session.old
         → IsSmooth (L.kind link.old) (L.past link.old) (port_of session.old.desk)
         (L.faults link.old) (L.faults link.new) (T.moment clock.new)
-        session.old.sender.limit session.old.desk.poll_ms (plan_length p)
-        → plan_length p + 32 ≤ turns → result ≡ end.Done }
+        session.old.sender.limit session.old.desk.poll_ms
+        → plan_length p + 32 < most_lines → plan_length p + 32 ≤ turns → result ≡ end.Done }
     ensures passes { (line asked limit : ℕ) → result ≢ end.TooHot line asked limit }
 {
     let mut moment = 0;
@@ -166,12 +173,16 @@ fn make_turn<L: Link, T: Clock>(
 ) -> Option<PrintEnd>
     requires as_up { L.up link.old ≡ session.old.up }
     requires unstarted { session.old.sender.ready ≡ false → session.old.desk.greatest ≡ 0 }
+
+    // Whether the print goes on.
     ensures goes { (p : PrintData) (port : List ℕ) (first : Option (List WorldEvent)) (limit : ℕ)
         → IsPatient 0 limit session.old.sender
         → IsBetweenTurns (L.kind link.old) p port first (L.past link.old) session.old
         → GoesOn (L.kind link.old) p port result first (L.past link.new) session.new }
     ensures no_port { (result ≡ Some end.NoPort) ↔ ((doing session.old ≡ now_doing.Dialling)
         × ((L.kind link.old).listed (port_of session.old.desk) ≡ false)) }
+
+    // The link after it, and its calls.
     ensures up { result ≡ None → L.up link.new ≡ session.new.up }
     ensures down { is_some result ≡ true → L.up link.new ≡ false }
     ensures kind { L.kind link.new ≡ L.kind link.old }
@@ -179,13 +190,16 @@ fn make_turn<L: Link, T: Clock>(
     ensures calls { (session.old.up ≡ false → doing session.old ≡ now_doing.Dialling)
         → result ≡ None → RoseBy 1 (L.calls link.old) (L.calls link.new) }
     ensures unused { (made : ℕ) → result ≢ Some (end.TurnsUsed made) }
+
+    // How long it waits.
     ensures waits { (start limit : ℕ) → start ≤ moment → IsPatient start limit session.old.sender
         → IsPatient start limit session.new.sender }
     ensures waited { (start limit count : ℕ)
         → start ≤ moment → IsPatient start limit session.old.sender
-        → result ≡ Some (end.Ended (NoAnswer count))
-        → (later start (5 * limit) ≤ moment) × IsUnanswered session.new.sender }
+        → result ≡ Some (end.Ended (NoAnswer count)) → later start (5 * limit) ≤ moment }
     ensures clock { NotBefore (T.moment clock.old) (T.moment clock.new) }
+
+    // Over a prompt link; and which end it never comes to.
     ensures prompt { (p : PrintData) (poll_ms at left : ℕ)
         → (L.kind link.old).prompt ≡ true → Steady (L.faults link.old) (L.faults link.new)
         → IsUnsaturated (Some moment) session.old.sender.limit poll_ms

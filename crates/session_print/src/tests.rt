@@ -24,18 +24,17 @@ const L: Fate = Fate::Lost;
 
 const G: Fate = Fate::Garbled;
 
+/// A file of four commands.
+const FOUR_LINES: &str = "G28\nG1 X10\nG1 X20\nG1 X30\n";
+
+/// Its commands.
+const FOUR: [&str; 4] = ["G28", "G1 X10", "G1 X20", "G1 X30"];
+
 /// How a print ended, and the link as it left it.
 #[derive(Drop)]
 struct Printed {
     end: PrintEnd,
     link: MemoryLink,
-}
-
-fn name(rt: &impl Abort, text: &str) -> Name {
-    match Name::from_text(text) {
-        Some(name) => name,
-        None => panic!(rt; "a name of over 100 bytes"),
-    }
 }
 
 fn fate_list(alloc: Global, fates: &[Fate]) -> Result<FateList, AllocError> {
@@ -57,7 +56,7 @@ fn schedule(rt: &impl Abort, alloc: Global, fates: &[Fate]) -> Result<Schedule, 
     ensures { IfOk result (λ schedule. schedule.places ≡ 4) }
 {
     let mut names = NameList::new(alloc);
-    names.push(name(rt, "p"))?;
+    names.push(Name::from_text("p").expect(rt, "a long name"))?;
     let fates = fate_list(alloc, fates)?;
     Ok(Schedule {
         names,
@@ -103,32 +102,34 @@ fn print(
         &mut session,
         &mut link,
         &mut clock,
-        &name(rt, "p"),
-        &name(rt, "a.gcode"),
+        &Name::from_text("p").expect(rt, "a long name"),
+        &Name::from_text("a.gcode").expect(rt, "a long name"),
         job,
         turns,
     );
     Ok(Printed { end, link })
 }
 
-fn check(rt: &impl Abort, printed: &Printed, end: PrintEnd, sends: u64, ran: u64) {
-    assert_eq!(rt; printed.end, end);
-    assert_eq!(rt; printed.link.sends(), sends);
-    assert!(rt; !printed.link.is_up());
-    match printed.link.executed(1) {
-        Ok(lines) => assert_eq!(rt; lines.as_slice().len() as u64, ran),
+/// What the printer ran are the first of these lines. Returns how many it ran.
+fn check_first(rt: &impl Abort, link: &MemoryLink, texts: &[&str]) -> usize {
+    match link.executed(1) {
+        Ok(lines) => {
+            assert!(rt; lines.as_slice().len() <= texts.len());
+            for (line, text) in lines.as_slice().iter().zip(texts) {
+                assert_eq!(rt; line.text.as_slice(), text.as_bytes());
+            }
+            lines.as_slice().len()
+        }
         Err(_) => panic!(rt; "no memory"),
     }
 }
 
-fn check_text(rt: &impl Abort, link: &MemoryLink, at: usize, text: &str) {
-    match link.executed(1) {
-        Ok(lines) => match lines.as_slice().get(at) {
-            Some(line) => assert_eq!(rt; line.text.as_slice(), text.as_bytes()),
-            None => panic!(rt; "a line that was not executed"),
-        },
-        Err(_) => panic!(rt; "no memory"),
-    }
+/// How a print ended, the number of lines sent, the hello included, and the lines that the printer ran.
+fn check(rt: &impl Abort, printed: &Printed, end: PrintEnd, sends: u64, texts: &[&str]) {
+    assert_eq!(rt; printed.end, end);
+    assert_eq!(rt; printed.link.sends(), sends);
+    assert!(rt; !printed.link.is_up());
+    assert_eq!(rt; check_first(rt, &printed.link, texts), texts.len());
 }
 
 /// A line without faults; seven turns are enough.
@@ -136,9 +137,7 @@ fn check_text(rt: &impl Abort, link: &MemoryLink, at: usize, text: &str) {
 fn whole(rt: HostRuntime) -> Result<(), Fail> {
     let schedule = schedule(&rt, rt.alloc(), &[])?;
     let printed = print(&rt, rt.alloc(), schedule, "G28\nG1 X10\n", 1, 7)?;
-    check(&rt, &printed, PrintEnd::Done, 3, 2);
-    check_text(&rt, &printed.link, 0, "G28");
-    check_text(&rt, &printed.link, 1, "G1 X10");
+    check(&rt, &printed, PrintEnd::Done, 3, &["G28", "G1 X10"]);
     Ok(())
 }
 
@@ -147,7 +146,8 @@ fn whole(rt: HostRuntime) -> Result<(), Fail> {
 fn turns_used(rt: HostRuntime) -> Result<(), Fail> {
     let schedule = schedule(&rt, rt.alloc(), &[])?;
     let printed = print(&rt, rt.alloc(), schedule, "G28\nG1 X10\n", 1, 6)?;
-    check(&rt, &printed, PrintEnd::TurnsUsed { turns: 6 }, 3, 2);
+    let end = PrintEnd::TurnsUsed { turns: 6 };
+    check(&rt, &printed, end, 3, &["G28", "G1 X10"]);
     Ok(())
 }
 
@@ -156,7 +156,7 @@ fn turns_used(rt: HostRuntime) -> Result<(), Fail> {
 fn empty(rt: HostRuntime) -> Result<(), Fail> {
     let schedule = schedule(&rt, rt.alloc(), &[])?;
     let printed = print(&rt, rt.alloc(), schedule, "", 1, 1_000)?;
-    check(&rt, &printed, PrintEnd::Done, 1, 0);
+    check(&rt, &printed, PrintEnd::Done, 1, &[]);
     Ok(())
 }
 
@@ -164,10 +164,8 @@ fn empty(rt: HostRuntime) -> Result<(), Fail> {
 #[test]
 fn lost(rt: HostRuntime) -> Result<(), Fail> {
     let schedule = schedule(&rt, rt.alloc(), &[W, W, L, W])?;
-    let file = "G28\nG1 X10\nG1 X20\nG1 X30\n";
-    let printed = print(&rt, rt.alloc(), schedule, file, 1, 1_000)?;
-    check(&rt, &printed, PrintEnd::Done, 8, 4);
-    check_text(&rt, &printed.link, 3, "G1 X30");
+    let printed = print(&rt, rt.alloc(), schedule, FOUR_LINES, 1, 1_000)?;
+    check(&rt, &printed, PrintEnd::Done, 8, &FOUR);
     Ok(())
 }
 
@@ -176,7 +174,7 @@ fn lost(rt: HostRuntime) -> Result<(), Fail> {
 fn corrupted(rt: HostRuntime) -> Result<(), Fail> {
     let schedule = schedule(&rt, rt.alloc(), &[W, G])?;
     let printed = print(&rt, rt.alloc(), schedule, "G28\n", 1, 1_000)?;
-    check(&rt, &printed, PrintEnd::Done, 3, 1);
+    check(&rt, &printed, PrintEnd::Done, 3, &["G28"]);
     Ok(())
 }
 
@@ -185,7 +183,7 @@ fn corrupted(rt: HostRuntime) -> Result<(), Fail> {
 fn hello_corrupted(rt: HostRuntime) -> Result<(), Fail> {
     let schedule = schedule(&rt, rt.alloc(), &[G])?;
     let printed = print(&rt, rt.alloc(), schedule, "G28\n", 1, 1_000)?;
-    check(&rt, &printed, PrintEnd::Done, 3, 1);
+    check(&rt, &printed, PrintEnd::Done, 3, &["G28"]);
     Ok(())
 }
 
@@ -195,7 +193,7 @@ fn hello_lost(rt: HostRuntime) -> Result<(), Fail> {
     let schedule = schedule(&rt, rt.alloc(), &[L])?;
     let printed = print(&rt, rt.alloc(), schedule, "G28\n", 1_000, 1_000)?;
     let end = PrintEnd::Ended(SessionEnd::NoAnswer { silent: 5 });
-    check(&rt, &printed, end, 1, 0);
+    check(&rt, &printed, end, 1, &[]);
     Ok(())
 }
 
@@ -209,7 +207,8 @@ fn slow_printer(rt: HostRuntime) -> Result<(), Fail> {
     };
     let file = "G28\nG1 X1\nG1 X2\nG1 X3\nG1 X4\nG1 X5\n";
     let printed = print(&rt, rt.alloc(), schedule, file, 1, 1_000)?;
-    check(&rt, &printed, PrintEnd::Done, 13, 6);
+    let texts = ["G28", "G1 X1", "G1 X2", "G1 X3", "G1 X4", "G1 X5"];
+    check(&rt, &printed, PrintEnd::Done, 13, &texts);
     Ok(())
 }
 
@@ -222,7 +221,7 @@ fn numbered(rt: HostRuntime) -> Result<(), Fail> {
     };
     let file = "G1 X1\nG1 X1\nG1 X1\nG1 X1\nG1 X1\n";
     let printed = print(&rt, rt.alloc(), schedule, file, 1, 1_000)?;
-    check(&rt, &printed, PrintEnd::Done, 10, 5);
+    check(&rt, &printed, PrintEnd::Done, 10, &["G1 X1"; 5]);
     Ok(())
 }
 
@@ -234,7 +233,7 @@ fn failing(rt: HostRuntime) -> Result<(), Fail> {
         ..schedule(&rt, rt.alloc(), &[])?
     };
     let printed = print(&rt, rt.alloc(), schedule, "G28\n", 1, 1_000)?;
-    check(&rt, &printed, PrintEnd::LinkFailed, 1, 0);
+    check(&rt, &printed, PrintEnd::LinkFailed, 1, &[]);
     Ok(())
 }
 
@@ -247,7 +246,7 @@ fn restarted(rt: HostRuntime) -> Result<(), Fail> {
     };
     let printed = print(&rt, rt.alloc(), schedule, "G28\nG1 X10\n", 1, 1_000)?;
     let end = PrintEnd::Ended(SessionEnd::Restarted);
-    check(&rt, &printed, end, 3, 1);
+    check(&rt, &printed, end, 3, &["G28"]);
     Ok(())
 }
 
@@ -262,7 +261,7 @@ fn too_hot(rt: HostRuntime) -> Result<(), Fail> {
         asked: 260,
         limit: 250,
     };
-    check(&rt, &printed, end, 0, 0);
+    check(&rt, &printed, end, 0, &[]);
     Ok(())
 }
 
@@ -274,7 +273,7 @@ fn no_port(rt: HostRuntime) -> Result<(), Fail> {
         ..schedule(&rt, rt.alloc(), &[])?
     };
     let printed = print(&rt, rt.alloc(), schedule, "G28\n", 1, 1_000)?;
-    check(&rt, &printed, PrintEnd::NoPort, 0, 0);
+    check(&rt, &printed, PrintEnd::NoPort, 0, &[]);
     Ok(())
 }
 
@@ -309,8 +308,8 @@ fn print_scripted(rt: &impl Abort, alloc: Global) -> Result<Printed, Fail> {
         &mut session,
         &mut link,
         &mut clock,
-        &name(rt, "p"),
-        &name(rt, "a.gcode"),
+        &Name::from_text("p").expect(rt, "a long name"),
+        &Name::from_text("a.gcode").expect(rt, "a long name"),
         job,
         1_000,
     );
@@ -321,10 +320,7 @@ fn print_scripted(rt: &impl Abort, alloc: Global) -> Result<Printed, Fail> {
 #[test]
 fn scripts(rt: HostRuntime) -> Result<(), Fail> {
     let printed = print_scripted(&rt, rt.alloc())?;
-    check(&rt, &printed, PrintEnd::Done, 6, 5);
-    for (at, text) in [(0, "M155 S0"), (1, "M107"), (2, "G28"), (3, "M84")] {
-        check_text(&rt, &printed.link, at, text);
-    }
-    check_text(&rt, &printed.link, 4, "M140 S0");
+    let texts = ["M155 S0", "M107", "G28", "M84", "M140 S0"];
+    check(&rt, &printed, PrintEnd::Done, 6, &texts);
     Ok(())
 }

@@ -1,27 +1,23 @@
 -- What a turn does, by the desk.
 use Rattle.std.proofs.Common.{◌≡◌, Bool, true, false, cond, not, ◌&&◌, refl}
-use Rattle.std.proofs.lemmas.Bool.{false≢true}
+use Rattle.std.proofs.lemmas.Bool.{false≢true, and_parts}
 use Rattle.desk_steps.specs.Table.{is_closable_at}
 use Rattle.desk_steps.specs.declared.state.State.{State}
 use Rattle.desk_steps.specs.declared.state.State.TheVariants.{Offline, Connecting, Operational, Printing, Pausing, Paused, Cancelling, Finishing, Closing, Fault}
 use Rattle.session_steps.specs.Data.{SessionData, doing, is_connecting}
-use Rattle.session_steps.specs.declared.found.Doing.TheVariants.{Dialling, HangingUp, Talking, Resting}
+use Rattle.session_steps.specs.declared.found.Doing.TheVariants.{Dialling, HangingUp, UsingLink, Resting}
 
-chosen_first : (a b c : Bool) → cond a Dialling (cond b HangingUp (cond c Talking Resting)) ≡ Dialling → a ≡ true
+chosen_first : (a b c : Bool) → cond a Dialling (cond b HangingUp (cond c UsingLink Resting)) ≡ Dialling → a ≡ true
 chosen_first true b c e = refl
 chosen_first false true c e = absurd (cc e)
 chosen_first false false true e = absurd (cc e)
 chosen_first false false false e = absurd (cc e)
 
-chosen_second : (a b c : Bool) → cond a Dialling (cond b HangingUp (cond c Talking Resting)) ≡ HangingUp → b ≡ true
+chosen_second : (a b c : Bool) → cond a Dialling (cond b HangingUp (cond c UsingLink Resting)) ≡ HangingUp → b ≡ true
 chosen_second false true c e = refl
 chosen_second true b c e = absurd (cc e)
 chosen_second false false true e = absurd (cc e)
 chosen_second false false false e = absurd (cc e)
-
-is_second : (a b : Bool) → (a && b) ≡ true → b ≡ true
-is_second true b e = e
-is_second false b e = absurd (false≢true e)
 
 connects_at : (s : State) → is_connecting s ≡ true → s ≡ Connecting
 connects_at Connecting e = refl
@@ -37,8 +33,8 @@ connects_at Fault e = absurd (false≢true e)
 
 -- a turn that dials finds a desk that connects
 pub dials_at : (x : SessionData) → doing x ≡ Dialling → x.desk.state ≡ Connecting
-dials_at x e = connects_at x.desk.state (is_second (not x.up) (is_connecting x.desk.state)
-    (chosen_first (not x.up && is_connecting x.desk.state) (is_closable_at x.desk.state x.desk) x.up e))
+dials_at x e = connects_at x.desk.state (and_parts (not x.up) (is_connecting x.desk.state)
+    (chosen_first (not x.up && is_connecting x.desk.state) (is_closable_at x.desk.state x.desk) x.up e)).1
 
 -- a turn that hangs up finds a desk that may close
 pub hangs_up_at : (x : SessionData) → doing x ≡ HangingUp → is_closable_at x.desk.state x.desk ≡ true

@@ -1,22 +1,24 @@
 -- How each call of the desk counts issued and acknowledged lines.
-use Rattle.std.proofs.Common.{◌≡◌, ℕ, ◌+◌, Bool, true, false, cond, nat_eq, codes, List, [], ◌∷◌, Option, None, Some, refl, ap, ◌∙◌}
+use Rattle.std.proofs.Common.{◌≡◌, ℕ, ◌+◌, Bool, true, false, nat_eq, codes, List, [], ◌∷◌, Option, None, Some, refl, ap, ◌∙◌}
 use Rattle.std.specs.Prelude.{Result, Ok, Err, nat_lt, length, ◌++◌}
-use Rattle.desk_steps.specs.Data.{moment_after, Data, File, Line}
+use Rattle.desk_steps.specs.Data.{moment_after, Data, File, Line, with_script}
 use Rattle.desk_steps.specs.Table.{connect_at, disconnect_at, select_at, drop_file_step, is_named, start_at, start_file, start_checked, restart_at, pause_at, resume_at, toggle_at, cancel_at, manual_at, add_manual}
-use Rattle.desk_steps.specs.Pull.{Drawn, talk, nothing, next_number, keep_number, issue, from_scripts, from_manual, from_poll, poll_is_due, from_file, draw_at, is_issued, settle_at, settled, pull_step}
+use Rattle.desk_steps.specs.Pull.{Drawn, draw_in_order, nothing, next_number, keep_number, issue, from_scripts, from_manual, from_poll, poll_is_due, from_file, draw_at, is_issued, settle_at, settled, pull_step}
 use Rattle.desk_steps.specs.Course.{job_line}
-use Rattle.desk_steps.specs.Note.{Noted, ended, is_over, end_at, fail, ready_at, opened, note_fact, note_step}
+use Rattle.desk_steps.specs.Note.{Noted, after_ending, is_over, end_at, fail, ready_at, after_open, note_fact, note_step}
 use Rattle.desk_steps.specs.declared.state.State.{State}
 use Rattle.desk_steps.specs.declared.state.Refusal.{Refusal}
 use Rattle.desk_steps.specs.declared.state.Refusal.TheVariants as refusal
 use Rattle.desk_steps.specs.declared.state.State.TheVariants.{Offline, Connecting, Operational, Printing, Pausing, Paused, Cancelling, Finishing, Closing, Fault}
+use Rattle.desk_steps.specs.declared.state.Point.TheVariants as point
 use Rattle.desk_steps.specs.declared.state.Tag.{Tag}
 use Rattle.desk_steps.specs.declared.state.Tag.TheVariants.{Script, Job, Manual, Poll}
 use Rattle.desk_steps.specs.declared.link_fact.LinkFact.{LinkFact}
 use Rattle.desk_steps.specs.declared.link_fact.LinkFact.TheVariants as fact
 use Rattle.temp_rules.specs.declared.job.HotLine.{HotLine}
 use Rattle.temp_rules.specs.Hot.{first_hot_of}
-use Rattle.desk_steps.proofs.Steady.{either, choose_pair}
+use Rattle.desk_steps.proofs.Steady.{choose_pair}
+use Rattle.std.proofs.lemmas.Bool.{cond_both}
 
 -- both counts are the same
 pub record Counts (d e : Data) : Type 0 where
@@ -101,7 +103,9 @@ counts_manual Finishing lines d = counts_adds lines d
 counts_manual _ lines d = same d
 
 counts_settle : (s : State) (d : Data) → Counts d (settle_at s d)
-counts_settle Printing d = either (λ e. Counts d e) (is_issued d) _ d (record { issued = refl; acked = refl }) (same d)
+counts_settle Printing d =
+    cond_both (is_issued d) (with_script point.Done d.greatest (record d { state = Finishing })) d (λ e. Counts d e)
+    (λ _. record { issued = refl; acked = refl }) (λ _. same d)
 counts_settle _ d = same d
 
 counts_end : (s : State) (d : Data) → Counts d (end_at s d).1
@@ -132,8 +136,8 @@ counts_fact fact.Ready moment d e =
     and_then d is _ (and_then d heard is (record { issued = refl; acked = refl }) (counts_ready heard.state moment heard)) (counts_end is.state is)
 counts_fact fact.Closed moment d e = record { issued = refl; acked = refl }
 counts_fact fact.NoPort moment d e = record { issued = refl; acked = refl }
-counts_fact fact.Failed moment d e = counts_fail d (ended d) (counts_end d.state d)
-counts_fact (fact.Ended end) moment d e = counts_fail d (ended d) (counts_end d.state d)
+counts_fact fact.Failed moment d e = counts_fail d (after_ending d) (counts_end d.state d)
+counts_fact (fact.Ended end) moment d e = counts_fail d (after_ending d) (counts_end d.state d)
 
 -- a note sets how many lines are acknowledged
 pub counts_note : (acknowledged : ℕ) (f : LinkFact) (moment : ℕ) (d : Data) → begins f ≡ false →
@@ -153,10 +157,10 @@ pub noted_acked : (acknowledged : ℕ) (f : LinkFact) (moment : ℕ) (d e : Data
 noted_acked acknowledged f moment d e other is = ap (λ (x : Data). x.acked) is ∙ (counts_note acknowledged f moment d other).acked
 
 -- with a new session both counts are 0
-pub counts_opened : (moment : ℕ) (d : Data) → Counts (opened (record d { acked = 0 })) (note_step 0 fact.Opened moment d).1
+pub counts_opened : (moment : ℕ) (d : Data) → Counts (after_open (record d { acked = 0 })) (note_step 0 fact.Opened moment d).1
 counts_opened moment d =
-    let told : Data = opened (record d { acked = 0 }) in
-    let noted : Noted = ended told in
+    let told : Data = after_open (record d { acked = 0 }) in
+    let noted : Noted = after_ending told in
     and_then told noted.1 (settled noted.1) (counts_end told.state told) (counts_settle noted.1.state noted.1)
 
 -- the count after a pull
@@ -173,8 +177,7 @@ counted_none : (d : Data) → Counted d (nothing d)
 counted_none d = record { issued = refl; acked = refl }
 
 counts_keep : (tag : Tag) (number : ℕ) (d : Data) → Counts d (keep_number tag number d)
-counts_keep (Script point print) number d = either (λ e. Counts d e) (nat_eq print 0) d (record d { print_line = number }) (same d)
-    (record { issued = refl; acked = refl })
+counts_keep (Script point print) number d = cond_both (nat_eq print 0) d (record d { print_line = number }) (λ e. Counts d e) (λ _. same d) (λ _. record { issued = refl; acked = refl })
 counts_keep (Job print index) number d = record { issued = refl; acked = refl }
 counts_keep Manual number d = same d
 counts_keep Poll number d = record { issued = refl; acked = refl }
@@ -193,20 +196,16 @@ counted_from_manual : (m : List (List ℕ)) (d : Data) (next : Drawn) → Counte
 counted_from_manual [] d next h = h
 counted_from_manual (text ∷ texts) d next h = counted_issue (record { text = text; tag = Manual }) d (record d { manual = texts }) refl refl
 
-choose_drawn : (P : Drawn → Type 0) (b : Bool) (x y : Drawn) → P x → P y → P (cond b x y)
-choose_drawn P true x y hx hy = hx
-choose_drawn P false x y hx hy = hy
-
 counted_poll : (moment : ℕ) (d : Data) (next : Drawn) → Counted d next → Counted d (from_poll moment d next)
 counted_poll moment d next h =
     let asked : Data = record d { poll_at = moment_after moment d.poll_ms } in
-    choose_drawn (λ p. Counted d p) (poll_is_due moment d) _ next (counted_issue (record { text = codes "M105"; tag = Poll }) d asked refl refl) h
+    cond_both (poll_is_due moment d) _ next (λ p. Counted d p) (λ _. counted_issue (record { text = codes "M105"; tag = Poll }) d asked refl refl) (λ _. h)
 
 counted_file : (text : Option (List ℕ)) (d : Data) → Counted d (from_file text d)
 counted_file None d = counted_none d
 counted_file (Some text) d = counted_issue (job_line d.greatest d.cursor text) d (record d { cursor = d.cursor + 1 }) refl refl
 
-counted_talk : (moment : ℕ) (d : Data) (next : Drawn) → Counted d next → Counted d (talk moment d next)
+counted_talk : (moment : ℕ) (d : Data) (next : Drawn) → Counted d next → Counted d (draw_in_order moment d next)
 counted_talk moment d next h = counted_scripts d.waiting d _ (counted_from_manual d.manual d _ (counted_poll moment d next h))
 
 counted_draw : (s : State) (moment : ℕ) (d : Data) → Counted d (draw_at s moment d)

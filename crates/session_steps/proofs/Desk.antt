@@ -21,9 +21,10 @@ use Rattle.desk_steps.specs.declared.issued.Issued.{Issued}
 use Rattle.send_window.specs.declared.session_end.SessionEnd.{SessionEnd}
 use Rattle.send_window.specs.Hearing.{answer_of}
 use Rattle.session_steps.specs.Found.{up_after}
-use Rattle.session_steps.specs.Turn.{drawn, texts_in, is_unbroken}
+use Rattle.session_steps.specs.Turn.{lines_drawn, texts_in, is_unbroken}
 use Rattle.session_steps.proofs.Stepping.{after_steps-append, allowed_then}
 use Rattle.session_steps.proofs.Counts.{Counts}
+use Rattle.byte_text.proofs.OptionLaws.{none-if-false}
 
 -- one more pull with a line
 pub pulls_push : (moment : ℕ) (lines : List Line) (line : Line) (old mid : Data) → Pulls moment lines old mid → (pull_step moment mid).0 ≡ Some line →
@@ -36,7 +37,7 @@ pulls_push moment (first ∷ lines) line old mid pulls some =
 
 -- a pull, whatever it returns
 pub pulls_more : (moment : ℕ) (lines : List Line) (old mid : Data) (got : Option Line) → Pulls moment lines old mid → (pull_step moment mid).0 ≡ got →
-    (got ≡ None → (pull_step moment mid).1 ≡ mid) → Pulls moment (lines ++ drawn got) old (pull_step moment mid).1
+    (got ≡ None → (pull_step moment mid).1 ≡ mid) → Pulls moment (lines ++ lines_drawn got) old (pull_step moment mid).1
 pulls_more moment lines old mid None pulls e still =
     let P : List Line → Type 0 = λ all. Pulls moment all old (pull_step moment mid).1 in
     let Q : Data → Type 0 = λ d. Pulls moment lines old d in
@@ -83,28 +84,28 @@ pub record Pulled (moment : ℕ) (d : Data) (s t : SenderData) : Type 0 where
   pub pushed : t ≡ push_step line.text s
 
 pulled_as : (moment : ℕ) (d : Data) (s t : SenderData) (got : Option Line) → (pull_step moment d).0 ≡ got → is_some got ≡ true →
-    Issues moment (texts_in (drawn got)) s t → Pulled moment d s t
+    Issues moment (texts_in (lines_drawn got)) s t → Pulled moment d s t
 pulled_as moment d s t None e some after = absurd (cc some)
 pulled_as moment d s t (Some line) e some after = record { line = line; drew = e; pushed = after.sender }
 
 pub pulled_by : (moment : ℕ) (d : Data) (s t : SenderData) → is_some (pull_step moment d).0 ≡ true →
-    Issues moment (texts_in (drawn (pull_step moment d).0)) s t → Pulled moment d s t
+    Issues moment (texts_in (lines_drawn (pull_step moment d).0)) s t → Pulled moment d s t
 pulled_by moment d s t some after = pulled_as moment d s t (pull_step moment d).0 refl some after
 
 -- it joins those before it
 pub pulls_next : (moment : ℕ) (lines more : List Line) (old d e : Data) (line : Line) → Pulls moment lines old d → (pull_step moment d).0 ≡ Some line →
-    e ≡ (pull_step moment d).1 → more ≡ lines ++ drawn (pull_step moment d).0 → Pulls moment more old e
+    e ≡ (pull_step moment d).1 → more ≡ lines ++ lines_drawn (pull_step moment d).0 → Pulls moment more old e
 pulls_next moment lines more old d e line pulls drew after joined =
-    let all : more ≡ lines ++ line ∷ [] = joined ∙ ap (λ (got : Option Line). lines ++ drawn got) drew in
+    let all : more ≡ lines ++ line ∷ [] = joined ∙ ap (λ (got : Option Line). lines ++ lines_drawn got) drew in
     let P : Data → Type 0 = λ x. Pulls moment more old x in
     let Q : List Line → Type 0 = λ xs. Pulls moment xs old (pull_step moment d).1 in
     subst P (sym after) (subst Q (sym all) (pulls_push moment lines line old d pulls drew))
 
 -- the issuing of one line more
 pub issuing_next : (moment : ℕ) (lines more : List Line) (d : Data) (s t u : SenderData) → Issues moment (texts_in lines) s t →
-    Issues moment (texts_in (drawn (pull_step moment d).0)) t u → more ≡ lines ++ drawn (pull_step moment d).0 → Issues moment (texts_in more) s u
+    Issues moment (texts_in (lines_drawn (pull_step moment d).0)) t u → more ≡ lines ++ lines_drawn (pull_step moment d).0 → Issues moment (texts_in more) s u
 issuing_next moment lines more d s t u first second joined =
-    let new = drawn (pull_step moment d).0 in
+    let new = lines_drawn (pull_step moment d).0 in
     let parts : issuing (texts_in (lines ++ new)) ≡ issuing (texts_in lines) ++ issuing (texts_in new) =
     ap issuing (map-append (λ (line : Line). line.text) lines new) ∙ map-append issues (texts_in lines) (texts_in new) in
     let all : issuing (texts_in more) ≡ issuing (texts_in lines) ++ issuing (texts_in new) = ap (λ (ls : List Line). issuing (texts_in ls)) joined ∙ parts in
@@ -118,16 +119,12 @@ issuing_next moment lines more d s t u first second joined =
     }
 
 -- a pull without a line leaves the desk, and the next returns none either
-none_of : (got : Option Line) → is_some got ≡ false → got ≡ None
-none_of None e = refl
-none_of (Some line) e = absurd (cc e)
-
 pub pull_idle : (moment : ℕ) (d e : Data) → settled d ≡ d → is_some (pull_step moment d).0 ≡ false → e ≡ (pull_step moment d).1 → e ≡ d
-pull_idle moment d e is_settled none after = after ∙ settled_by_steps.idle_pull moment d is_settled (none_of (pull_step moment d).0 none)
+pull_idle moment d e is_settled none after = after ∙ settled_by_steps.idle_pull moment d is_settled (none-if-false (pull_step moment d).0 none)
 
 pub pull_again : (moment : ℕ) (d e : Data) → settled d ≡ d → is_some (pull_step moment d).0 ≡ false → e ≡ (pull_step moment d).1 → (pull_step moment e).0 ≡ None
 pull_again moment d e is_settled none after =
-    ap (λ (x : Data). (pull_step moment x).0) (pull_idle moment d e is_settled none after) ∙ none_of (pull_step moment d).0 none
+    ap (λ (x : Data). (pull_step moment x).0) (pull_idle moment d e is_settled none after) ∙ none-if-false (pull_step moment d).0 none
 
 pub pull_settles : (moment : ℕ) (d e : Data) → e ≡ (pull_step moment d).1 → settled e ≡ e
 pull_settles moment d e after = ap settled after ∙ settled_by_steps.by_pull moment d ∙ sym after

@@ -15,12 +15,12 @@ use Rattle.print_records.specs.declared.ending.Ending.{Ending}
 use Rattle.print_records.specs.declared.ending.Outcome.{Outcome}
 use Rattle.print_records.specs.declared.ending.Outcome.TheVariants as outcome
 use Rattle.session_steps.specs.declared.found.Doing.{Doing}
-use Rattle.session_steps.specs.declared.found.Doing.TheVariants.{Dialling, HangingUp, Talking, Resting}
+use Rattle.session_steps.specs.declared.found.Doing.TheVariants.{Dialling, HangingUp, UsingLink, Resting}
 use Rattle.session_steps.specs.DeskTurn.{Pulls, IsNoted, IsRunOut, EndsSo, IsTurnEnding}
 use Rattle.session_steps.specs.Turn.{IsDeskTurn}
 use Rattle.session_steps.proofs.Desk.{pulls_greatest}
 
-pulls_go : (moment : ℕ) (lines : List Line) (old new : Data) → Pulls moment lines old new → Goes old new
+pub pulls_go : (moment : ℕ) (lines : List Line) (old new : Data) → Pulls moment lines old new → Goes old new
 pulls_go moment [] old new same =
     let P : Data → Type 0 = λ d. Goes old d in
     subst P (sym same) (record { going = λ g. g; before = λ h. h })
@@ -151,7 +151,7 @@ module _ (moment acked : ℕ) (lines : List Line) (old : Data) (ending : Option 
       IfSome ending (λ e. IsTurnEnding found old new e)
   turn_ends Dialling found desk = noted_ends found desk
   turn_ends HangingUp found desk = noted_ends found desk
-  turn_ends Talking found desk = noted_ends found desk
+  turn_ends UsingLink found desk = noted_ends found desk
   turn_ends Resting found desk =
       let P : Option Ending → Type 0 = λ o. IfSome o (λ e. IsTurnEnding found old new e) in
       subst P (sym desk.1) tt

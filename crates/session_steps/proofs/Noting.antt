@@ -18,10 +18,10 @@ use Rattle.send_window.proofs.Soundness.{hears_sound}
 use Rattle.session_steps.specs.Data.{SessionData, IsSession, doing}
 use Rattle.session_steps.specs.DeskTurn.{IsNoted, IsQuietTurn, IsTurnEnding}
 use Rattle.session_steps.specs.Found.{Got, unasked, lost, nothing, whole, can_find, temps_in, ready_after}
-use Rattle.session_steps.specs.Steps.{after_steps, issuing, sends, speech, clock_steps, dial_steps, talk_steps, turn_steps}
+use Rattle.session_steps.specs.Steps.{after_steps, issuing, sends, issues_then_sends, clock_steps, dial_steps, steps_over_link, turn_steps}
 use Rattle.session_steps.specs.Turn.{IsDeskTurn, IsNoteOf, IsNoteOn, IsTurn, IsUneventful, fact_of, lines_of, texts_in}
 use Rattle.session_steps.specs.declared.found.Doing.{Doing}
-use Rattle.session_steps.specs.declared.found.Doing.TheVariants.{Dialling, HangingUp, Talking, Resting}
+use Rattle.session_steps.specs.declared.found.Doing.TheVariants.{Dialling, HangingUp, UsingLink, Resting}
 use Rattle.session_steps.specs.declared.found.Turned.{Turned}
 use Rattle.session_steps.proofs.Endings.{turn_ends}
 use Rattle.session_steps.proofs.Keeping.{keeps_issuing, unmoved_sends, ticked_keeps, ready_lasts, acked_heard, issued_heard}
@@ -74,7 +74,7 @@ rises_stays s t u rises stays =
 stays_tick : (moment : ℕ) (s : SenderData) → Stays s (tick_step moment s)
 stays_tick moment s = let ticked = ticked_keeps moment s in record { acked = ticked.acked; ready = ticked.ready }
 
-stays_speech : (moment : ℕ) (all : Bool) (texts : List (List ℕ)) (count : ℕ) (s : SenderData) → Stays s (after_steps moment (speech all texts count) s)
+stays_speech : (moment : ℕ) (all : Bool) (texts : List (List ℕ)) (count : ℕ) (s : SenderData) → Stays s (after_steps moment (issues_then_sends all texts count) s)
 stays_speech moment all texts count s =
     let mid : SenderData = after_steps moment (issuing texts) s in
     let first = keeps_issuing moment texts s in
@@ -108,7 +108,7 @@ rises_heard moment bytes s sound =
     }
 
 rises_talk : (moment : ℕ) (got : Got) (found : LinkFact) (texts : List (List ℕ)) (count : ℕ) (s : SenderData) → IsSound s →
-    Rises s (after_steps moment (talk_steps got found texts count) s)
+    Rises s (after_steps moment (steps_over_link got found texts count) s)
 rises_talk moment unasked found texts count s sound = rises_same s sound
 rises_talk moment lost found texts count s sound = rises_same s sound
 rises_talk moment nothing found texts count s sound = rises_stays s s _ (rises_same s sound) (stays_clock moment found texts count s)
@@ -133,15 +133,15 @@ dial_rises moment (fact.Ended end) s sound = inr (λ e. cc e, rises_same s sound
 not_opened : (doing_now : Doing) (found : LinkFact) → can_find doing_now found ≡ true → doing_now ≢ Dialling → found ≢ fact.Opened
 not_opened Dialling found can other opens = other refl
 not_opened HangingUp found can other opens = let no : can_find HangingUp fact.Opened ≡ true = sym (ap (can_find HangingUp) opens) ∙ can in false≢true no
-not_opened Talking found can other opens = let no : can_find Talking fact.Opened ≡ true = sym (ap (can_find Talking) opens) ∙ can in false≢true no
+not_opened UsingLink found can other opens = let no : can_find UsingLink fact.Opened ≡ true = sym (ap (can_find UsingLink) opens) ∙ can in false≢true no
 not_opened Resting found can other opens = let no : can_find Resting fact.Opened ≡ true = sym (ap (can_find Resting) opens) ∙ can in false≢true no
 
 turn_rises : (moment : ℕ) (doing_now : Doing) (was_up : Bool) (got : Got) (found : LinkFact) (texts : List (List ℕ)) (count : ℕ) (s : SenderData) →
     can_find doing_now found ≡ true → IsSound s → RisesIn found s (after_steps moment (turn_steps doing_now was_up got found texts count) s)
 turn_rises moment Dialling was_up got found texts count s can sound = dial_rises moment found s sound
 turn_rises moment HangingUp was_up got found texts count s can sound = inr (not_opened HangingUp found can (λ e. cc e), rises_same s sound)
-turn_rises moment Talking was_up got found texts count s can sound = inr
-    (not_opened Talking found can (λ e. cc e), rises_talk moment got found texts count s sound)
+turn_rises moment UsingLink was_up got found texts count s can sound = inr
+    (not_opened UsingLink found can (λ e. cc e), rises_talk moment got found texts count s sound)
 turn_rises moment Resting was_up got found texts count s can sound = inr (not_opened Resting found can (λ e. cc e), rises_same s sound)
 
 -- readiness, by when it begins
@@ -171,11 +171,11 @@ rests_quiet fact.Failed can = absurd (false≢true can)
 rests_quiet (fact.Ended end) can = absurd (false≢true can)
 
 -- a turn that does something makes a note for the desk
-desk_noted : (doing_now : Doing) (moment acked : ℕ) (found : LinkFact) (lines : List Line) (old : Data) (ending : Option Ending) (new : Data) →
+pub desk_noted : (doing_now : Doing) (moment acked : ℕ) (found : LinkFact) (lines : List Line) (old : Data) (ending : Option Ending) (new : Data) →
     (doing_now ≡ Resting → ⊥) → IsDeskTurn doing_now moment acked found lines old ending new → IsNoted moment acked found lines old ending new
 desk_noted Dialling moment acked found lines old ending new active desk = desk
 desk_noted HangingUp moment acked found lines old ending new active desk = desk
-desk_noted Talking moment acked found lines old ending new active desk = desk
+desk_noted UsingLink moment acked found lines old ending new active desk = desk
 desk_noted Resting moment acked found lines old ending new active desk = absurd (active refl)
 
 -- a turn without a note, by what it does
@@ -183,7 +183,7 @@ quiet_turn : (doing_now : Doing) (moment : ℕ) (old : Data) (ending : Option En
     IsDeskTurn doing_now moment old.acked fact.Quiet [] old ending new → IsQuietTurn doing_now moment old ending new
 quiet_turn Dialling moment old ending new can desk = absurd (false≢true can)
 quiet_turn HangingUp moment old ending new can desk = absurd (false≢true can)
-quiet_turn Talking moment old ending new can desk = (
+quiet_turn UsingLink moment old ending new can desk = (
   ap (λ (n : Option Ending × Data). n.0) desk.is,
   ap (λ (n : Option Ending × Data). n.1) desk.is ∙ desk.pulls,
 )
@@ -251,7 +251,7 @@ module _ (moment : ℕ) (kind : LinkKind) (old_past new_past : Option (List Worl
       let D : Doing → Type 0 = λ d. can_find d t.found ≡ true in
       let E : Doing → Type 0 = λ d. IsDeskTurn d moment new.sender.acked t.found t.lines old.desk turned.ending new.desk in
       let S : Doing → Type 0 = λ d. new.sender ≡ after_steps moment (turn_steps d old.up t.got t.found (texts_in t.lines) t.steps.count) old.sender in
-      let none_got : t.got ≡ unasked = t.asked.1 (λ talks. (let no : Resting ≡ Talking = sym rests ∙ talks in cc no)) in
+      let none_got : t.got ≡ unasked = t.asked.1 (λ talks. (let no : Resting ≡ UsingLink = sym rests ∙ talks in cc no)) in
       let desk = subst E rests t.desk in
       t.none.1 (record {
         no_line = desk.0;

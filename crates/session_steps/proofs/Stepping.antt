@@ -13,12 +13,13 @@ use Rattle.send_window.specs.Data.{SenderData}
 use Rattle.send_window.specs.Hearing.{tick_step}
 use Rattle.desk_steps.specs.declared.link_fact.LinkFact.{LinkFact}
 use Rattle.desk_steps.specs.declared.link_fact.LinkFact.TheVariants as fact
-use Rattle.session_steps.specs.Found.{Got, unasked, lost, nothing, whole, is_got, got_of, is_said, may_issue, end_by, can_find}
+use Rattle.session_steps.specs.Found.{Got, unasked, lost, nothing, whole, is_got, got_of, may_have_issued, may_issue, end_by, can_find}
 use Rattle.session_steps.specs.declared.found.Doing.{Doing}
 use Rattle.session_steps.specs.declared.found.Doing.TheVariants.{Dialling, Resting}
 use Rattle.session_steps.specs.declared.found.Received.{Received}
 use Rattle.session_steps.specs.declared.found.Received.TheVariants as received
-use Rattle.session_steps.specs.Steps.{Step, opens, finds_no_port, fails_to_dial, fails_to_receive, ticks, hangs_up, hears, listens, issues, gives, fails_to_send, received_by, clock_steps, dial_steps, talk_steps, turn_steps, after_step, after_steps, IsAllowed, AreAllowed, IsDone, IsDonePromptly, IsGiven, IsGivenAlone, IsAdded, AreAdded, calls_by, calls_after, Issues, Takes, TakesSome, issuing, sends, speech}
+use Rattle.session_steps.specs.Steps.{Step, opens, finds_no_port, fails_to_dial, fails_to_receive, ticks, hangs_up, hears, listens, issues, gives, fails_to_send, received_by, clock_steps, dial_steps, steps_over_link, turn_steps, after_step, after_steps, IsAllowed, AreAllowed, IsDone, IsDonePromptly, IsGiven, IsGivenAlone, IsAdded, AreAdded, calls_by, calls_after, Issues, Takes, TakesSome, issuing, sends, issues_then_sends}
+use Rattle.printer_link.proofs.Calls.{rose_then, rose_none, rose_next}
 
 pub after_steps-append : (moment : ℕ) (xs ys : List Step) (s : SenderData) → after_steps moment (xs ++ ys) s ≡ after_steps moment ys (after_steps moment xs s)
 after_steps-append moment [] ys s = refl
@@ -160,7 +161,7 @@ takes_issuing moment kind old a texts s t issued_all = record {
   calls = sym (calls_issuing texts a);
 }
 
--- a printer of the same places
+-- a printer of the same buffer slots
 pub takes_at : (moment : ℕ) (kind kind' : LinkKind) (old new : Option (List WorldEvent)) (a b : Option ℕ) (xs : List Step) (s t : SenderData) → kind' ≡ kind →
     Takes moment kind' old new a b xs s t → Takes moment kind old new a b xs s t
 takes_at moment kind kind' old new a b xs s t same takes =
@@ -192,7 +193,7 @@ takes_last moment kind old mid new a b c s t u some one = record {
 -- texts are issued, and then frames sent
 pub takes_said : (moment : ℕ) (kind : LinkKind) (old new : Option (List WorldEvent)) (a b : Option ℕ) (all : Bool) (texts : List (List ℕ))
     (s t u : SenderData) →
-    Issues moment texts s t → TakesSome moment kind old new a b (sends all) t u → TakesSome moment kind old new a b (speech all texts) s u
+    Issues moment texts s t → TakesSome moment kind old new a b (sends all) t u → TakesSome moment kind old new a b (issues_then_sends all texts) s u
 takes_said moment kind old new a b all texts s t u issued_all some = record {
   count = some.count;
   takes = takes_then moment kind old old new a a b (issuing texts) (sends all some.count) s t u
@@ -203,7 +204,7 @@ takes_said moment kind old new a b all texts s t u issued_all some = record {
 pub takes_talk : (moment : ℕ) (kind kind' : LinkKind) (old mid new : Option (List WorldEvent)) (a b c : Option ℕ) (got : Got) (found : LinkFact)
     (texts : List (List ℕ)) (s t u : SenderData) →
     is_got got ≡ true → kind' ≡ kind → Takes moment kind old mid a b (received_by got) s t → TakesSome moment kind' mid new b c (clock_steps found texts) t u →
-    TakesSome moment kind old new a c (talk_steps got found texts) s u
+    TakesSome moment kind old new a c (steps_over_link got found texts) s u
 takes_talk moment kind kind' old mid new a b c unasked found texts s t u is same first some = absurd (cc is)
 takes_talk moment kind kind' old mid new a b c lost found texts s t u is same first some = absurd (cc is)
 takes_talk moment kind kind' old mid new a b c nothing found texts s t u is same first some = record {
@@ -239,8 +240,8 @@ got_kept got kept same is gone =
     absurd (cc)
 
 -- a turn that receives without a failure issues no line only by its fact
-pub none_said : (got kept : Got) (found : LinkFact) → kept ≡ got → is_got got ≡ true → may_issue kept found ≡ false → is_said found ≡ false
-none_said got kept found same is none = sym (ap (λ (b : Bool). b && is_said found) (ap is_got same ∙ is)) ∙ none
+pub none_said : (got kept : Got) (found : LinkFact) → kept ≡ got → is_got got ≡ true → may_issue kept found ≡ false → may_have_issued found ≡ false
+none_said got kept found same is none = sym (ap (λ (b : Bool). b && may_have_issued found) (ap is_got same ∙ is)) ∙ none
 
 -- a link whose printer keeps 1 to 16 lines waiting is made
 pub opens_placed : (kind : LinkKind) (old new : Option (List WorldEvent)) (s : SenderData) → HasSlots kind → Grows kind old new IsDial →
@@ -275,25 +276,6 @@ gives_written kind old new (Some next) number bytes some written grew promptly =
     record { there = refl; grew = subst P written grew; promptly = λ is. subst Q written (promptly is) }
 
 -- how the count of calls rises
-same_stays : (a : Option ℕ) → RoseBy 0 a a
-same_stays None = tt
-same_stays (Some n) = λ below. omega arith
-
-counted_rises : (a : Option ℕ) → RoseBy 1 a (counted_one a)
-counted_rises None = tt
-counted_rises (Some n) = λ below. omega arith
-
-rose_then : (m n : ℕ) (a b c : Option ℕ) → RoseBy m a b → RoseBy n b c → RoseBy (m + n) a c
-rose_then m n None None None one two = tt
-rose_then m n None None (Some z) one two = two
-rose_then m n None (Some y) c one two = absurd one
-rose_then m n (Some x) None c one two = absurd one
-rose_then m n (Some x) (Some y) None one two = two
-rose_then m n (Some x) (Some y) (Some z) one two = λ below. (
-    let second : y + n ≤ z = two below in
-    let first : x + m ≤ y = one (omega arith) in
-    omega arith)
-
 counted_stays : (a : Option ℕ) → RoseBy 0 a (counted_one a)
 counted_stays None = tt
 counted_stays (Some n) = λ below. omega arith
@@ -306,22 +288,22 @@ stays_by fails_to_dial a = counted_stays a
 stays_by (hears bytes) a = counted_stays a
 stays_by listens a = counted_stays a
 stays_by fails_to_receive a = counted_stays a
-stays_by ticks a = same_stays a
-stays_by (issues text) a = same_stays a
+stays_by ticks a = rose_none a
+stays_by (issues text) a = rose_none a
 stays_by gives a = counted_stays a
 stays_by fails_to_send a = counted_stays a
-stays_by (hangs_up was_up) a = same_stays a
+stays_by (hangs_up was_up) a = rose_none a
 
 -- nor do steps
 stays_after : (steps : List Step) (a : Option ℕ) → RoseBy 0 a (calls_after steps a)
-stays_after [] a = same_stays a
+stays_after [] a = rose_none a
 stays_after (x ∷ steps) a = rose_then 0 0 a (calls_by x a) (calls_after steps (calls_by x a)) (stays_by x a) (stays_after steps (calls_by x a))
 
 -- steps that begin with a call raise it
 begins_calling : (steps : List Step) (a b : Option ℕ) → b ≡ calls_after steps (counted_one a) → RoseBy 1 a b
 begins_calling steps a b is =
     let P : Option ℕ → Type 0 = λ n. RoseBy 1 a n in
-    subst P (sym is) (rose_then 1 0 a (counted_one a) (calls_after steps (counted_one a)) (counted_rises a) (stays_after steps (counted_one a)))
+    subst P (sym is) (rose_then 1 0 a (counted_one a) (calls_after steps (counted_one a)) (rose_next a) (stays_after steps (counted_one a)))
 
 -- as a turn does that dials
 pub dial_calls : (found : LinkFact) (a b : Option ℕ) → can_find Dialling found ≡ true → b ≡ calls_after (dial_steps found) a → RoseBy 1 a b
@@ -333,9 +315,9 @@ dial_calls fact.NoPort a b can is = begins_calling [] a b is
 dial_calls fact.Failed a b can is = begins_calling [] a b is
 dial_calls (fact.Ended end) a b can is = absurd (cc can)
 
--- and one that talks
+-- and one that uses the link
 pub talk_calls : (got : Got) (found : LinkFact) (texts : List (List ℕ)) (count : ℕ) (a b : Option ℕ) → (got ≡ unasked → ⊥) →
-    b ≡ calls_after (talk_steps got found texts count) a → RoseBy 1 a b
+    b ≡ calls_after (steps_over_link got found texts count) a → RoseBy 1 a b
 talk_calls unasked found texts count a b asked is = absurd (asked refl)
 talk_calls lost found texts count a b asked is = begins_calling [] a b is
 talk_calls nothing found texts count a b asked is = begins_calling (clock_steps found texts count) a b is

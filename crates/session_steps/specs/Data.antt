@@ -6,8 +6,9 @@ use Rattle.desk_steps.specs.declared.state.State.{State}
 use Rattle.desk_steps.specs.declared.state.State.TheVariants.{Offline, Connecting, Operational, Printing, Pausing, Paused, Cancelling, Finishing, Closing, Fault}
 use Rattle.send_window.specs.Data.{SenderData}
 use Rattle.session_steps.specs.declared.found.Doing.{Doing}
-use Rattle.session_steps.specs.declared.found.Doing.TheVariants.{Dialling, HangingUp, Talking, Resting}
+use Rattle.session_steps.specs.declared.found.Doing.TheVariants.{Dialling, HangingUp, UsingLink, Resting}
 
+-- a session's desk and sender, and its link
 pub record SessionData : Type 0 where
   pub desk : Data
   pub sender : SenderData
@@ -42,7 +43,7 @@ abbrev pub doing : SessionData → Doing
 doing s =
     if not s.up && is_connecting s.desk.state then Dialling
     else (if is_closable_at s.desk.state s.desk then HangingUp
-    else (if s.up then Talking else Resting))
+    else (if s.up then UsingLink else Resting))
 
 -- the port that a desk connects to, the empty name if it has none
 abbrev pub port_of : Data → List ℕ
@@ -52,5 +53,5 @@ port_of d = unwrap_or d.port []
 abbrev pub is_calling : Doing → Bool
 is_calling Dialling = true
 is_calling HangingUp = false
-is_calling Talking = true
+is_calling UsingLink = true
 is_calling Resting = false

@@ -11,7 +11,7 @@ use Rattle.print_records.specs.declared.ending.Ending.{Ending}
 use Rattle.print_records.specs.declared.ending.Outcome.{Outcome}
 use Rattle.print_records.specs.declared.ending.Outcome.TheVariants as outcome
 use Rattle.session_steps.specs.declared.found.Doing.{Doing}
-use Rattle.session_steps.specs.declared.found.Doing.TheVariants.{Dialling, HangingUp, Talking, Resting}
+use Rattle.session_steps.specs.declared.found.Doing.TheVariants.{Dialling, HangingUp, UsingLink, Resting}
 
 -- successive pulls at a moment return these lines and lead from one desk to another
 abbrev pub Pulls : ℕ → List Line → Data → Data → Type 0
@@ -43,7 +43,7 @@ pub record IsNoted (moment acked : ℕ) (found : LinkFact) (lines : List Line) (
 abbrev pub IsQuietTurn : Doing → ℕ → Data → Option Ending → Data → Type 0
 IsQuietTurn Dialling moment old ending new = ⊥
 IsQuietTurn HangingUp moment old ending new = ⊥
-IsQuietTurn Talking moment old ending new =
+IsQuietTurn UsingLink moment old ending new =
     (ending ≡ (note_step old.acked fact.Quiet moment old).0) × (new ≡ (note_step old.acked fact.Quiet moment old).1)
 IsQuietTurn Resting moment old ending new = (ending ≡ None) × (new ≡ old)
 

@@ -10,7 +10,7 @@ use Rattle.desk_steps.specs.declared.link_fact.LinkFact.TheVariants as fact
 use Rattle.send_window.specs.Data.{SenderData}
 use Rattle.send_window.specs.Hearing.{hear_step, tick_step}
 use Rattle.session_steps.specs.declared.found.Doing.{Doing}
-use Rattle.session_steps.specs.declared.found.Doing.TheVariants.{Dialling, HangingUp, Talking, Resting}
+use Rattle.session_steps.specs.declared.found.Doing.TheVariants.{Dialling, HangingUp, UsingLink, Resting}
 use Rattle.session_steps.specs.declared.found.Received.{Received}
 use Rattle.session_steps.specs.declared.found.Received.TheVariants as received
 
@@ -90,22 +90,22 @@ can_find Dialling fact.Opened = true
 can_find Dialling fact.NoPort = true
 can_find Dialling fact.Failed = true
 can_find HangingUp fact.Closed = true
-can_find Talking fact.Quiet = true
-can_find Talking fact.Ready = true
-can_find Talking fact.Failed = true
-can_find Talking (fact.Ended end) = true
+can_find UsingLink fact.Quiet = true
+can_find UsingLink fact.Ready = true
+can_find UsingLink fact.Failed = true
+can_find UsingLink (fact.Ended end) = true
 can_find Resting fact.Quiet = true
 can_find _ _ = false
 
 -- whether a turn that found this may have issued lines: it stayed quiet, or a call of the link failed
-abbrev pub is_said : LinkFact → Bool
-is_said fact.Quiet = true
-is_said fact.Failed = true
-is_said _ = false
+abbrev pub may_have_issued : LinkFact → Bool
+may_have_issued fact.Quiet = true
+may_have_issued fact.Failed = true
+may_have_issued _ = false
 
 -- whether a turn may have issued lines: its receiving didn't fail, nor did it end the session or make it ready
 abbrev pub may_issue : Got → LinkFact → Bool
-may_issue got found = is_got got && is_said found
+may_issue got found = is_got got && may_have_issued found
 
 -- whether the hello is acknowledged after a turn that found this
 abbrev pub ready_after : LinkFact → Bool → Bool

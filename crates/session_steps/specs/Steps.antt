@@ -4,7 +4,7 @@ use Rattle.byte_text.specs.Sendable.{IsSendable}
 use Rattle.marlin_reply.specs.Kind.{kind_of}
 use Rattle.desk_steps.specs.declared.link_fact.LinkFact.{LinkFact}
 use Rattle.desk_steps.specs.declared.link_fact.LinkFact.TheVariants as fact
-use Rattle.send_window.specs.Data.{SenderData, begun}
+use Rattle.send_window.specs.Data.{SenderData, sender_after_dial}
 use Rattle.send_window.specs.Sending.{Outgoing, bytes_of_outgoing, next_of, room_of, frame_step, push_step}
 use Rattle.send_window.specs.Hearing.{hear_step, tick_step}
 use Rattle.printer_model.specs.World.{WorldData, world_from}
@@ -12,7 +12,7 @@ use Rattle.printer_link.specs.Link.{LinkKind, Grows, IsDial, IsRuns, IsSend, IsS
 use Rattle.printer_model.specs.declared.event.WorldEvent.{WorldEvent}
 use Rattle.session_steps.specs.Found.{Got, unasked, lost, nothing, whole}
 use Rattle.session_steps.specs.declared.found.Doing.{Doing}
-use Rattle.session_steps.specs.declared.found.Doing.TheVariants.{Dialling, HangingUp, Talking, Resting}
+use Rattle.session_steps.specs.declared.found.Doing.TheVariants.{Dialling, HangingUp, UsingLink, Resting}
 
 -- a step of a turn
 pub data Step : Type 0 where
@@ -41,7 +41,7 @@ pub data Step : Type 0 where
 
 -- the sender after a step at a moment
 abbrev pub after_step : ℕ → Step → SenderData → SenderData
-after_step moment opens s = begun s
+after_step moment opens s = sender_after_dial s
 after_step moment finds_no_port s = s
 after_step moment fails_to_dial s = s
 after_step moment (hears bytes) s = hear_step (kind_of bytes) moment s
@@ -92,7 +92,7 @@ pub record HasPlaces (w : WorldData) : Type 0 where
   pub some : 1 ≤ w.printer.places
   pub few : w.printer.places ≤ 16
 
--- what a step adds to the past of the link
+-- what a step adds to the recorded history of the link
 abbrev pub IsDone : Step → SenderData → WorldData → List WorldEvent → Type 0
 IsDone opens s w added = IsDial w added × HasPlaces w
 IsDone finds_no_port s w added = added ≡ []
@@ -185,25 +185,25 @@ sends true count = replicate count gives
 sends false count = replicate count gives ++ fails_to_send ∷ []
 
 -- texts are issued, and then frames sent
-abbrev pub speech : Bool → List (List ℕ) → ℕ → List Step
-speech all texts count = issuing texts ++ sends all count
+abbrev pub issues_then_sends : Bool → List (List ℕ) → ℕ → List Step
+issues_then_sends all texts count = issuing texts ++ sends all count
 
 -- what a turn over an open link does after its receiving, by what it finds
 abbrev pub clock_steps : LinkFact → List (List ℕ) → ℕ → List Step
-clock_steps fact.Quiet texts count = ticks ∷ speech true texts count
+clock_steps fact.Quiet texts count = ticks ∷ issues_then_sends true texts count
 clock_steps fact.Opened texts count = []
 clock_steps fact.Ready texts count = ticks ∷ []
 clock_steps fact.Closed texts count = []
 clock_steps fact.NoPort texts count = []
-clock_steps fact.Failed texts count = ticks ∷ speech false texts count
+clock_steps fact.Failed texts count = ticks ∷ issues_then_sends false texts count
 clock_steps (fact.Ended end) texts count = ticks ∷ hangs_up true ∷ []
 
 -- a turn over an open link, by what it receives and finds
-abbrev pub talk_steps : Got → LinkFact → List (List ℕ) → ℕ → List Step
-talk_steps unasked found texts count = []
-talk_steps lost found texts count = fails_to_receive ∷ []
-talk_steps nothing found texts count = listens ∷ clock_steps found texts count
-talk_steps (whole bytes) found texts count = hears bytes ∷ clock_steps found texts count
+abbrev pub steps_over_link : Got → LinkFact → List (List ℕ) → ℕ → List Step
+steps_over_link unasked found texts count = []
+steps_over_link lost found texts count = fails_to_receive ∷ []
+steps_over_link nothing found texts count = listens ∷ clock_steps found texts count
+steps_over_link (whole bytes) found texts count = hears bytes ∷ clock_steps found texts count
 
 -- a turn that dials, by what it finds
 abbrev pub dial_steps : LinkFact → List Step
@@ -219,7 +219,7 @@ dial_steps (fact.Ended end) = []
 abbrev pub turn_steps : Doing → Bool → Got → LinkFact → List (List ℕ) → ℕ → List Step
 turn_steps Dialling was_up got found texts count = dial_steps found
 turn_steps HangingUp was_up got found texts count = hangs_up was_up ∷ []
-turn_steps Talking was_up got found texts count = talk_steps got found texts count
+turn_steps UsingLink was_up got found texts count = steps_over_link got found texts count
 turn_steps Resting was_up got found texts count = []
 
 -- the sender and the link take these steps, with some count of frames

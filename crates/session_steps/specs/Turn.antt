@@ -17,7 +17,7 @@ use Rattle.printer_link.specs.Link.{LinkKind}
 use Rattle.session_steps.specs.Found.{Got, lost, unasked, is_whole, may_issue, temps_in, temps_kept, end_by, can_find, up_after, ready_after}
 use Rattle.session_steps.specs.Steps.{TakesSome, turn_steps}
 use Rattle.session_steps.specs.declared.found.Doing.{Doing}
-use Rattle.session_steps.specs.declared.found.Doing.TheVariants.{Dialling, HangingUp, Talking, Resting}
+use Rattle.session_steps.specs.declared.found.Doing.TheVariants.{Dialling, HangingUp, UsingLink, Resting}
 use Rattle.session_steps.specs.declared.found.Found.{Found}
 use Rattle.session_steps.specs.declared.found.Turned.{Turned}
 
@@ -41,9 +41,9 @@ abbrev pub texts_in : List Line → List (List ℕ)
 texts_in lines = map (λ line. line.text) lines
 
 -- the line that was drawn, if any
-abbrev pub drawn : Option Line → List Line
-drawn None = []
-drawn (Some line) = line ∷ []
+abbrev pub lines_drawn : Option Line → List Line
+lines_drawn None = []
+lines_drawn (Some line) = line ∷ []
 
 -- nothing is left to issue or send: no room for a line or no line to issue, and no frame unsent
 pub record IsSpent (moment : ℕ) (d : Data) (s : SenderData) : Type 0 where
@@ -87,7 +87,7 @@ IsKeptIn found moment acked note =
 abbrev pub IsDeskTurn : Doing → ℕ → ℕ → LinkFact → List Line → Data → Option Ending → Data → Type 0
 IsDeskTurn Dialling moment acked found lines old ending new = IsNoted moment acked found lines old ending new
 IsDeskTurn HangingUp moment acked found lines old ending new = IsNoted moment acked found lines old ending new
-IsDeskTurn Talking moment acked found lines old ending new = IsNoted moment acked found lines old ending new
+IsDeskTurn UsingLink moment acked found lines old ending new = IsNoted moment acked found lines old ending new
 IsDeskTurn Resting moment acked found lines old ending new = (lines ≡ []) × (ending ≡ None) × (new ≡ old)
 
 -- what a turn received, found and issued, with all that hangs on it
@@ -97,7 +97,7 @@ pub record IsTurn (moment : ℕ) (kind : LinkKind) (old_past new_past : Option (
   pub found : LinkFact
   pub lines : List Line
   -- it receives exactly if the link is open and isn't hung up
-  pub asked : (got ≡ unasked) ↔ (doing old ≢ Talking)
+  pub asked : (got ≡ unasked) ↔ (doing old ≢ UsingLink)
   pub heard : turned.heard ≡ is_whole got
   -- it makes no note exactly if nothing happened, and else the note records what did
   pub none : (turned.note ≡ None) ↔ IsUneventful lines old.sender.acked new.sender.acked got found

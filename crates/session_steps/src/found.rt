@@ -16,7 +16,7 @@ pub enum Doing {
     /// It hangs up.
     HangingUp,
     /// It receives, and then sends.
-    Talking,
+    UsingLink,
     /// Nothing.
     Resting,
 }

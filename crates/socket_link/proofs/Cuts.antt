@@ -49,8 +49,8 @@ any_nowhere p (x ∷ xs) high =
     ] high
 
 -- what is left of a window after its first elements
-pub window_behind : (xs : List ℕ) (start end n : ℕ) → start ≤ end → n ≤ length (take (end - start) (drop start xs)) → take (end - (start + n)) (drop (start + n) xs) ≡ drop n (take (end - start) (drop start xs))
-window_behind xs start end n ordered short =
+pub window_after : (xs : List ℕ) (start end n : ℕ) → start ≤ end → n ≤ length (take (end - start) (drop start xs)) → take (end - (start + n)) (drop (start + n) xs) ≡ drop n (take (end - start) (drop start xs))
+window_after xs start end n ordered short =
     let taken : length (take (end - start) (drop start xs)) ≡ min (end - start) (length (drop start xs)) = length-take (end - start) (drop start xs) in
     let whole : end - start ≡ n + (end - (start + n)) = omega arith in
     ap (λ ys. take (end - (start + n)) ys) (sym (drop-drop n start xs))

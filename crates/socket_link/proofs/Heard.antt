@@ -7,12 +7,7 @@ use Rattle.printer_link.specs.declared.link.Heard.TheVariants.{Line, Nothing}
 use Rattle.socket_link.specs.Heard.{Came, HeardLater}
 use Rattle.socket_link.specs.Lines.{LinesData, cut, ends_line}
 use Rattle.socket_link.specs.Sent.{Wrote}
-
--- what was cut before more was added is cut to the same
-pub take_once : (n : ℕ) (xs ys : List ℕ) → take n (take n xs ++ ys) ≡ take n (xs ++ ys)
-take_once zero xs ys = refl
-take_once (suc n) [] ys = refl
-take_once (suc n) (x ∷ xs) ys = ap (λ l. x ∷ l) (take_once n xs ys)
+use Rattle.byte_text.proofs.ListLaws.{take_once}
 
 -- nothing was read
 pub nothing_came : {S : Type 0} (remaining : S → Option (List ℕ)) (stream : S) → Came remaining (Some stream) (Some stream) []
@@ -27,30 +22,45 @@ keeps_consumes (Some xs) (Some ys) k = sym k
 pub no_bytes_came : {S : Type 0} (remaining : S → Option (List ℕ)) (before after : S) → Keeps (remaining before) (remaining after) → Came remaining (Some before) (Some after) []
 no_bytes_came remaining before after k = keeps_consumes (remaining before) (remaining after) k
 
--- the receiving wrote, and then a line ended
-pub heard_line : {S : Type 0} (contents remaining : S → Option (List ℕ)) (before between after : Option S) (unsent came line begun : List ℕ) (old new : LinesData)
-    → Wrote contents before between unsent → Came remaining between after came → begun ≡ cut (old.begun ++ old.waiting)
-    → list_any ends_line came ≡ true → line ≡ cut (begun ++ before_first ends_line came) → new ≡ record { begun = []; waiting = after_first ends_line came }
+-- the receiving wrote and read, and then a line ended
+pub heard_line : {S : Type 0} (contents remaining : S → Option (List ℕ)) (before between after : Option S) (unsent line : List ℕ) (old read new : LinesData)
+    → Wrote contents before between unsent → Came remaining between after read.waiting
+    → read.begun ≡ cut (old.begun ++ old.waiting) → read.ended ≡ false
+    → list_any ends_line read.waiting ≡ true → line ≡ cut (read.begun ++ before_first ends_line read.waiting)
+    → new ≡ record read { begun = []; waiting = after_first ends_line read.waiting }
     → HeardLater contents remaining before after unsent old Line line new
-heard_line contents remaining before None after unsent came line begun old new w c b any is behind = absurd c
-heard_line contents remaining before (Some s) after unsent came line begun old new w c b any is behind = record {
+heard_line contents remaining before None after unsent line old read new w c b going any is rest = absurd c
+heard_line contents remaining before (Some s) after unsent line old read new w c b going any is rest = record {
   written = s;
-  came = came;
+  came = read.waiting;
   wrote = w;
   comes = c;
-  hears = (any, is ∙ ap (λ l. cut (l ++ before_first ends_line came)) b ∙ take_once 256 (old.begun ++ old.waiting) (before_first ends_line came), behind);
+  hears = (
+    any,
+    is
+        ∙ ap (λ l. cut (l ++ before_first ends_line read.waiting)) b
+        ∙ take_once 256 (old.begun ++ old.waiting) (before_first ends_line read.waiting),
+    rest ∙ ap (λ e. record { begun = []; waiting = after_first ends_line read.waiting; ended = e }) going,
+  );
 }
 
--- the receiving wrote, and no line has ended yet
-pub heard_nothing : {S : Type 0} (contents remaining : S → Option (List ℕ)) (before between after : Option S) (unsent came line begun : List ℕ) (old new : LinesData)
-    → Wrote contents before between unsent → Came remaining between after came → begun ≡ cut (old.begun ++ old.waiting)
-    → list_any ends_line came ≡ false → new ≡ record { begun = cut (begun ++ came); waiting = [] }
+-- the receiving wrote and read, and no line has ended yet
+pub heard_nothing : {S : Type 0} (contents remaining : S → Option (List ℕ)) (before between after : Option S) (unsent line : List ℕ) (old read new : LinesData)
+    → Wrote contents before between unsent → Came remaining between after read.waiting
+    → read.begun ≡ cut (old.begun ++ old.waiting) → read.ended ≡ false
+    → list_any ends_line read.waiting ≡ false → new ≡ record read { begun = cut (read.begun ++ read.waiting); waiting = [] }
     → HeardLater contents remaining before after unsent old Nothing line new
-heard_nothing contents remaining before None after unsent came line begun old new w c b any is = absurd c
-heard_nothing contents remaining before (Some s) after unsent came line begun old new w c b any is = record {
+heard_nothing contents remaining before None after unsent line old read new w c b going any is = absurd c
+heard_nothing contents remaining before (Some s) after unsent line old read new w c b going any is = record {
   written = s;
-  came = came;
+  came = read.waiting;
   wrote = w;
   comes = c;
-  hears = (any, is ∙ ap (λ l. record { begun = l; waiting = [] }) (ap (λ l. cut (l ++ came)) b ∙ take_once 256 (old.begun ++ old.waiting) came));
+  hears = (
+    any,
+    is
+        ∙ ap (λ e. record { begun = cut (read.begun ++ read.waiting); waiting = []; ended = e }) going
+        ∙ ap (λ l. record { begun = l; waiting = []; ended = false })
+        (ap (λ l. cut (l ++ read.waiting)) b ∙ take_once 256 (old.begun ++ old.waiting) read.waiting),
+  );
 }

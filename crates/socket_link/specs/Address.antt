@@ -11,11 +11,19 @@ is_colon byte = byte == 58
 
 -- a port is written in one to five digits, and is at most 65,535
 abbrev pub is_port : List ℕ → Bool
-is_port bytes = list_all is_ascii_digit bytes && nat_le 1 (length bytes) && nat_le (length bytes) 5 && nat_le (number_of bytes) 65535
+is_port bytes =
+    list_all is_ascii_digit bytes
+    && nat_le 1 (length bytes)
+    && nat_le (length bytes) 5
+    && nat_le (number_of bytes) 65535
 
 -- an address is a host and, after the last colon, a port; what begins with `unix:` is a path
 abbrev pub names_address : List ℕ → Bool
-names_address name = has_byte 58 name && nat_le 1 (length (before_last is_colon name)) && is_port (after_last is_colon name) && not (starts_with nat_eq name (codes "unix:"))
+names_address name =
+    has_byte 58 name
+    && nat_le 1 (length (before_last is_colon name))
+    && is_port (after_last is_colon name)
+    && not (starts_with nat_eq name (codes "unix:"))
 
 -- a path of a Unix socket, which isn't empty
 abbrev pub names_path : List ℕ → Bool

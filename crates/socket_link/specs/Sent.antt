@@ -2,7 +2,7 @@
 use Rattle.std.specs.Prelude.{◌≡◌, ◌⊎◌, ℕ, List, ◌∷◌, [], ◌++◌, Option, None, Some}
 use Rattle.std.specs.Io.KnownBytes.{Appends}
 
--- a stream wrote these bytes, if it says what it holds
+-- a stream wrote these bytes, if what it holds is known
 abbrev pub Wrote : {S : Type 0} → (S → Option (List ℕ)) → Option S → Option S → List ℕ → Type 0
 Wrote contents None after bytes = ⊥
 Wrote contents (Some before) None bytes = ⊥

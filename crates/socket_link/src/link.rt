@@ -1,11 +1,11 @@
 //! A link to a printer over TCP or a Unix socket.
-ghost use Rattle.std.specs.Prelude.{◌≡◌, ◌+◌, ◌<◌, ◌≤◌, ◌⊎◌, ◌↔◌, ◌++◌, ◌∷◌, [], length, true, false, is_some, Some, None, Ok, IfSome, IfOk, OnOk, OnErr, IsErr, IsOk, IsErrOf, IsTrue, MatchResult, ⊤};
-ghost use Rattle.std.specs.IoError.{error_kind};
+ghost use Rattle.std.specs.Prelude.{◌≡◌, ◌+◌, ◌≤◌, ◌↔◌, ◌++◌, ◌∷◌, [], length, true, false, is_some, Some, None, Ok, IfSome, IfOk, OnOk, OnErr, IsErr, IsOk, IsErrOf, ⊤};
 ghost use Rattle.std.specs.List.{list_any, before_first, after_first};
-ghost use Rattle.octo_outside.specs.Told.{Counts};
+ghost use Rattle.octo_outside.specs.Recorded.{Counts};
 ghost use Rattle.socket_link.specs.Address.{names_port};
 ghost use Rattle.octo_sockets.specs.Streams.{of_stream};
 ghost use Rattle.socket_link.specs.Lines.{cut, ends_line};
+ghost use Rattle.socket_link.specs.declared.unsent.TheConstants.{ROOM};
 ghost use Rattle.socket_link.specs.Sent.{Joins, Wrote, WroteFirst};
 ghost use Rattle.socket_link.specs.Heard.{Came, HeardLater};
 ghost use Rattle.printer_link.specs.declared.link.Heard.TheVariants as heard;
@@ -14,13 +14,11 @@ ghost use Rattle.printer_link.specs.declared.link.LinkFault.TheVariants as fault
 use crate::address::names_port;
 use crate::lines::Lines;
 use crate::unsent::Unsent;
-use byte_text::{Line, ReplyLine};
+use byte_text::{Line, MOST_LINE_BYTES, ReplyLine};
 use libc::net::{POLLIN, poll};
 use libc::types::pollfd;
-use octo_sockets::{SocketStream, linger, may_come_later, prepare, unix_path};
+use octo_sockets::{SocketStream, linger, prepare, unix_path};
 use printer_link::{Heard, Link, LinkFault};
-use std::io;
-use std::io::ErrorKind;
 use std::net::{Net, TcpStream, ToSocketAddrs};
 use std::os::fd::AsRawFd;
 use std::os::unix::net::UnixStream;
@@ -29,16 +27,15 @@ use std::time::{Clock, Duration};
 // How long a receiving waits for input, in milliseconds.
 const WAIT: i32 = 1;
 
-// How long one address is tried, in milliseconds, and how many addresses of a host are.
+// How long one address is tried, in milliseconds, and how many addresses of a host are tried.
 const CONNECT: u64 = 2000;
 
 const ADDRESSES: usize = 4;
 
 /// A link to the ports named `HOST:PORT`, over TCP, and `unix:PATH`, over a Unix socket. It does not record its history.
-///
 /// A receiving waits for about a millisecond, and a reply that comes in ends the wait at once. Lines that are sent
-/// are written when a receiving finds no reply that has been read, so that those of one turn go out together; a
-/// write that fails then is that receiving's failure. So is the end of the peer's output, also within a line.
+/// are written when a receiving finds no reply that has been read, so that those of one turn go out together. The
+/// receiving fails if that write fails, or if it finds that the peer has closed, even within a line.
 #[derive(Drop)]
 pub struct SocketLink<R: Net + Drop> {
     rt: R,
@@ -49,7 +46,7 @@ pub struct SocketLink<R: Net + Drop> {
     faults: u64,
 }
 
-// A stream over TCP to an address, none if nobody answers there in time.
+// Connects over TCP to an address; `None` if no peer accepts in time.
 fn connect_address<R: Net>(rt: &R, name: &str) -> Option<R::Stream> {
     let timeout = Duration::from_millis(CONNECT);
     for address in name.to_socket_addrs(rt).ok()?.take(ADDRESSES) {
@@ -60,7 +57,7 @@ fn connect_address<R: Net>(rt: &R, name: &str) -> Option<R::Stream> {
     None
 }
 
-// A stream to a port, none if nobody answers there. A Unix socket answers at once or not at all.
+// Connects to a port; `None` if no peer accepts. A Unix socket accepts at once or not at all.
 fn connect<R: Net>(rt: &R, name: &str) -> Option<SocketStream<R::Stream>> {
     let stream = match unix_path(name) {
         Some(path) => SocketStream::Unix(UnixStream::connect(rt, path).ok()?),
@@ -70,8 +67,7 @@ fn connect<R: Net>(rt: &R, name: &str) -> Option<SocketStream<R::Stream>> {
     Some(stream)
 }
 
-// Whether a read of the stream has something to return, now or within about a millisecond. A poll that fails says
-// nothing, and the read then has a limit of its own.
+// Whether a read has something to return within about a millisecond. If the poll fails, the read's own limit ends it.
 fn may_read<S: AsRawFd>(stream: &S) -> bool {
     let mut asked = [pollfd {
         fd: stream.as_raw_fd(),
@@ -81,21 +77,8 @@ fn may_read<S: AsRawFd>(stream: &S) -> bool {
     poll(&mut asked, WAIT) != 0
 }
 
-// Whether a peer is open after a read: one that has closed sends no byte.
-fn is_open_after(read: &io::Result<usize>) -> bool
-    ensures { MatchResult read.now
-        (λ n. IsTrue result ↔ (0 < n))
-        (λ error. IsTrue result ↔ (error_kind error ≡ ErrorKind.WouldBlock)
-        ⊎ (error_kind error ≡ ErrorKind.TimedOut) ⊎ (error_kind error ≡ ErrorKind.Interrupted)) }
-{
-    match read {
-        Ok(n) => *n > 0,
-        Err(error) => may_come_later(error),
-    }
-}
-
 impl<R: Net + Copy> SocketLink<R> {
-    /// No link is made yet.
+    /// A link that isn't connected yet.
     pub fn new(rt: &R) -> Self
         ensures down { result.up ≡ false }
         ensures faults { result.faults ≡ 0 }
@@ -123,7 +106,9 @@ impl<R: Net + Drop> SocketLink<R> {
     fn fail(&mut self) -> LinkFault
         ensures fault { result ≡ fault.Failed }
         ensures down { self.new.up ≡ false }
+        ensures closed { self.new.stream ≡ None }
         ensures counts { Counts ⊤ self.old.faults self.new.faults }
+        ensures lines { self.new.lines ≡ self.old.lines }
     {
         self.stream = None;
         self.up = false;
@@ -131,7 +116,7 @@ impl<R: Net + Drop> SocketLink<R> {
         LinkFault::Failed
     }
 
-    // Writes what is unsent; `false` if that fails, and then there is no stream.
+    // Writes what is unsent. Returns `false` if that fails, and then drops the stream.
     fn write_out(&mut self) -> bool
         ensures stream { result ≡ is_some self.new.stream }
         ensures emptied { self.new.unsent ≡ [] }
@@ -152,15 +137,15 @@ impl<R: Net + Drop> SocketLink<R> {
         written
     }
 
-    // Has a line written at the next writing; if there is no room, what is unsent is written first. `false` if
-    // that fails.
+    // Adds a line to what is unsent, which it writes first if room is missing. Returns `false` if that fails.
     fn gather(&mut self, line: &Line) -> bool
-        requires { length line.now.items ≤ 95 }
-        ensures room { length self.old.unsent + length line.now.items + 1 ≤ 1552 → result ≡ true }
+        requires { length line.now.items ≤ MOST_LINE_BYTES }
+        ensures room { length self.old.unsent + length line.now.items + 1 ≤ ROOM → result ≡ true }
         ensures joined { result ≡ true → Joins (of_stream R.Stream.contents) line.now.items
             self.old.unsent self.new.unsent self.old.stream self.new.stream }
         ensures up { self.new.up ≡ self.old.up }
         ensures faults { self.new.faults ≡ self.old.faults }
+        ensures lines { self.new.lines ≡ self.old.lines }
     {
         if self.unsent.has_room(line) {
             self.unsent.add(line);
@@ -171,13 +156,14 @@ impl<R: Net + Drop> SocketLink<R> {
         written
     }
 
-    // Reads what comes within about a millisecond; `false` if the stream failed or the peer has closed.
+    // Reads what comes within about a millisecond. Returns `false` if the stream failed or the peer has closed.
     #[tactic(auto, using(crate::proofs::Heard::nothing_came, crate::proofs::Heard::no_bytes_came))]
     fn read_in(&mut self) -> bool
         requires { self.old.lines.waiting ≡ [] }
         ensures begun { self.new.lines.begun ≡ self.old.lines.begun }
         ensures came { result ≡ true → Came (of_stream R.Stream.remaining)
             self.old.stream self.new.stream self.new.lines.waiting }
+        ensures peer { result ≡ true → self.new.lines.ended ≡ false }
         ensures unsent { self.new.unsent ≡ self.old.unsent }
         ensures up { self.new.up ≡ self.old.up }
         ensures faults { self.new.faults ≡ self.old.faults }
@@ -185,17 +171,14 @@ impl<R: Net + Drop> SocketLink<R> {
         let Some(mut stream) = self.stream.take() else {
             return false;
         };
-        if !may_read(&stream) {
-            self.stream = Some(stream);
-            return true;
+        if may_read(&stream) {
+            let _ = self.lines.fill(&mut stream);
         }
-        let read = self.lines.fill(&mut stream);
         self.stream = Some(stream);
-        is_open_after(&read)
+        !self.lines.has_ended()
     }
 
-    // Takes the next reply that was read; if there is none, writes what is unsent and waits for more. `None` if
-    // the link failed.
+    // Takes the next reply. If none has ended, writes what is unsent and waits for more. `None` if the link failed.
     #[tactic(auto, using(crate::proofs::Sent::wrote_first))]
     fn hear(&mut self, into: &mut ReplyLine) -> Option<Heard>
         ensures at_once { list_any ends_line self.old.lines.waiting ≡ true
@@ -203,9 +186,13 @@ impl<R: Net + Drop> SocketLink<R> {
         ensures line { list_any ends_line self.old.lines.waiting ≡ true
             → into.new.items
             ≡ cut (self.old.lines.begun ++ before_first ends_line self.old.lines.waiting) }
-        ensures behind { list_any ends_line self.old.lines.waiting ≡ true
-            → self.new.lines
-            ≡ record { begun = []; waiting = after_first ends_line self.old.lines.waiting } }
+        ensures after { list_any ends_line self.old.lines.waiting ≡ true
+            → self.new.lines ≡ record self.old.lines {
+              begun = [];
+              waiting = after_first ends_line self.old.lines.waiting;
+            } }
+        ensures still { list_any ends_line self.old.lines.waiting ≡ true
+            → (self.new.unsent ≡ self.old.unsent) × (self.new.stream ≡ self.old.stream) }
 
         // If no reply waited, what is unsent was written before more was read.
         ensures emptied { list_any ends_line self.old.lines.waiting ≡ false → is_some result ≡ true
@@ -218,6 +205,10 @@ impl<R: Net + Drop> SocketLink<R> {
             HeardLater (of_stream R.Stream.contents) (of_stream R.Stream.remaining)
             self.old.stream self.new.stream self.old.unsent self.old.lines got into.new.items
             self.new.lines) }
+
+        // And its last reading didn't find the end of the stream, as when the peer has closed.
+        ensures peer { list_any ends_line self.old.lines.waiting ≡ false → is_some result ≡ true
+            → self.new.lines.ended ≡ false }
 
         ensures up { self.new.up ≡ self.old.up }
         ensures faults { self.new.faults ≡ self.old.faults }
@@ -251,7 +242,21 @@ impl<R: Net + Clock + Drop> Link for SocketLink<R> {
 
     ghost faults = { λ l. l.faults };
 
-    fn dial(&mut self, name: &str) -> Result<(), LinkFault> {
+    /// Connects to the port of that name, trying at most 4 addresses for about 2 seconds each. Fails if no peer
+    /// accepts, and with `NoPort` if the name isn't a port's.
+    fn dial(&mut self, name: &str) -> Result<(), LinkFault>
+        requires { self.old.up ≡ false }
+
+        // Nothing of a former connection is left.
+        ensures unsent { OnOk result (self.new.unsent ≡ []) }
+        ensures lines { OnOk result
+            (self.new.lines ≡ record { begun = []; waiting = []; ended = false }) }
+
+        ensures no_port { IsErrOf result fault.NoPort ↔ (names_port name.now ≡ false) }
+        ensures up { OnOk result (self.new.up ≡ true) }
+        ensures down { OnErr result (self.new.up ≡ false) }
+        ensures counts { Counts (IsErrOf result fault.Failed) self.old.faults self.new.faults }
+    {
         if !names_port(name) {
             return Err(LinkFault::NoPort);
         }
@@ -267,13 +272,15 @@ impl<R: Net + Clock + Drop> Link for SocketLink<R> {
 
     fn send(&mut self, line: &Line) -> Result<(), LinkFault>
         requires open { self.old.up ≡ true }
-        requires short { length line.now.items ≤ 95 }
+        requires short { length line.now.items ≤ MOST_LINE_BYTES }
         ensures joined { OnOk result (Joins (of_stream R.Stream.contents) line.now.items
             self.old.unsent self.new.unsent self.old.stream self.new.stream) }
-        ensures room { length self.old.unsent + length line.now.items + 1 ≤ 1552 → IsOk result }
+        ensures room { length self.old.unsent + length line.now.items + 1 ≤ ROOM → IsOk result }
+        ensures lines { self.new.lines ≡ self.old.lines }
         ensures no_port { IsErrOf result fault.NoPort → ⊥ }
         ensures up { OnOk result (self.new.up ≡ true) }
         ensures down { OnErr result (self.new.up ≡ false) }
+        ensures closed { OnErr result (self.new.stream ≡ None) }
         ensures counts { Counts (IsErr result) self.old.faults self.new.faults }
         ensures steady { OnOk result (self.new.faults ≡ self.old.faults) }
     {
@@ -290,11 +297,13 @@ impl<R: Net + Clock + Drop> Link for SocketLink<R> {
         ensures line { list_any ends_line self.old.lines.waiting ≡ true
             → into.new.items ≡ cut (self.old.lines.begun
             ++ before_first ends_line self.old.lines.waiting) }
-        ensures behind { list_any ends_line self.old.lines.waiting ≡ true
-            → self.new.lines ≡ record {
+        ensures after { list_any ends_line self.old.lines.waiting ≡ true
+            → self.new.lines ≡ record self.old.lines {
               begun = [];
               waiting = after_first ends_line self.old.lines.waiting;
             } }
+        ensures still { list_any ends_line self.old.lines.waiting ≡ true
+            → (self.new.unsent ≡ self.old.unsent) × (self.new.stream ≡ self.old.stream) }
 
         // If no reply waited and the call didn't fail, what was unsent was written before more was read.
         ensures emptied { list_any ends_line self.old.lines.waiting ≡ false
@@ -309,9 +318,14 @@ impl<R: Net + Clock + Drop> Link for SocketLink<R> {
             self.old.stream self.new.stream self.old.unsent self.old.lines got into.new.items
             self.new.lines) }
 
+        // And its last reading didn't find the end of the stream, as when the peer has closed.
+        ensures peer { list_any ends_line self.old.lines.waiting ≡ false
+            → OnOk result (self.new.lines.ended ≡ false) }
+
         ensures no_port { IsErrOf result fault.NoPort → ⊥ }
         ensures up { OnOk result (self.new.up ≡ true) }
         ensures down { OnErr result (self.new.up ≡ false) }
+        ensures closed { OnErr result (self.new.stream ≡ None) }
         ensures counts { Counts (IsErr result) self.old.faults self.new.faults }
         ensures steady { OnOk result (self.new.faults ≡ self.old.faults) }
     {
@@ -321,8 +335,12 @@ impl<R: Net + Clock + Drop> Link for SocketLink<R> {
         }
     }
 
-    /// Writes what is unsent and closes. Input that comes meanwhile is dropped, for about 50 milliseconds at most.
-    fn hang_up(&mut self) {
+    /// Closes the link. Input that comes meanwhile is dropped, for about 50 milliseconds at most.
+    fn hang_up(&mut self)
+        ensures closed { self.new.stream ≡ None }
+        ensures down { self.new.up ≡ false }
+        ensures faults { self.new.faults ≡ self.old.faults }
+    {
         self.up = false;
         if let Some(mut stream) = self.stream.take() {
             let _ = self.unsent.write(&mut stream);

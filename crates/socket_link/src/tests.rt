@@ -10,8 +10,9 @@ use std::test::Fail;
 use std::time::Duration;
 use std::{fs, process};
 
+// Names of addresses, and others.
 #[test]
-fn names(rt: HostRuntime) {
+fn addresses(rt: HostRuntime) {
     for (name, want) in [
         ("127.0.0.1:7100", true),
         ("printer:0", true),
@@ -36,6 +37,11 @@ fn names(rt: HostRuntime) {
     ] {
         assert_eq!(rt; names_address(name), want, "at {name}");
     }
+}
+
+// Names of ports, and others.
+#[test]
+fn ports(rt: HostRuntime) {
     for (name, want) in [
         ("127.0.0.1:7100", true),
         ("unix:/run/printer", true),
@@ -50,12 +56,12 @@ fn names(rt: HostRuntime) {
     }
 }
 
-// What the peer or the link does, and what is to come of it.
+// What the peer or the link does, and with which result.
 #[derive(Clone, Copy)]
 enum Step {
-    // The peer writes this; this number of bytes without a line end; closes its writing side.
-    Says(&'static str),
-    SaysMany(usize),
+    // The peer writes this; writes this number of bytes without a line end; closes its writing side.
+    Writes(&'static str),
+    WritesMany(usize),
     Closes,
     // The link sends a line; the peer reads these bytes.
     Send(&'static str),
@@ -75,7 +81,7 @@ fn send(rt: &impl Abort, link: &mut SocketLink<HostRuntime>, text: &str) {
     assert!(rt; link.send(&line) == Ok(()));
 }
 
-// What the link receives when it has received long enough for something to come.
+// Receives until a line has ended or the link has failed, at most a thousand times.
 fn hear(
     rt: &impl Abort,
     link: &mut SocketLink<HostRuntime>,
@@ -113,8 +119,8 @@ fn take_step(
 ) {
     let mut reply = ReplyLine::new();
     match step {
-        Step::Says(text) => peer.write_all(text.as_bytes()).expect(rt, "written"),
-        Step::SaysMany(count) => {
+        Step::Writes(text) => peer.write_all(text.as_bytes()).expect(rt, "written"),
+        Step::WritesMany(count) => {
             for _ in 0..count {
                 peer.write_all(b"x").expect(rt, "written");
             }
@@ -141,20 +147,20 @@ const STEPS: [Step; 17] = [
     Step::Send("N2 G28*17"),
     Step::Quiet,
     Step::Reads("N0 M110 N1*124\nN2 G28*17\n"),
-    // A carriage return belongs to the line, and lines that came together are given one by one.
-    Step::Says("ok\nok T:20 /0\r\n\nstar"),
+    // A carriage return belongs to the line, and lines that came together are received one by one.
+    Step::Writes("ok\nok T:20 /0\r\n\nstar"),
     Step::Hear("ok"),
     Step::Hear("ok T:20 /0\r"),
     Step::Hear(""),
     Step::Quiet,
-    Step::Says("t\n"),
+    Step::Writes("t\n"),
     Step::Hear("start"),
     // A line that is cut, and the line after it.
-    Step::SaysMany(5000),
-    Step::Says("\nok\n"),
+    Step::WritesMany(5000),
+    Step::Writes("\nok\n"),
     Step::HearCut,
     Step::Hear("ok"),
-    Step::Says("not a whole li"),
+    Step::Writes("not a whole li"),
 ];
 
 #[test]
@@ -175,7 +181,7 @@ fn socket_link(rt: HostRuntime) -> Result<(), Fail> {
     Ok(())
 }
 
-// A port at which nobody listens, and what was sent before a link is given up.
+// What was sent before the host hangs up is written, and a dial fails if no peer listens.
 #[test]
 fn socket_link_ends(rt: HostRuntime) -> Result<(), Fail> {
     let listener = TcpListener::bind(&rt, "127.0.0.1:0")?;
@@ -184,7 +190,7 @@ fn socket_link_ends(rt: HostRuntime) -> Result<(), Fail> {
     assert!(rt; link.dial(name.as_str()) == Ok(()));
     let (mut peer, _) = listener.accept()?;
     peer.set_read_timeout(Some(Duration::from_secs(10)))?;
-    take_step(&rt, &mut link, &mut peer, Step::Says("ok\n"));
+    take_step(&rt, &mut link, &mut peer, Step::Writes("ok\n"));
     take_step(&rt, &mut link, &mut peer, Step::Send("M104 S0"));
     link.hang_up();
     assert!(rt; !link.is_up());
@@ -195,7 +201,7 @@ fn socket_link_ends(rt: HostRuntime) -> Result<(), Fail> {
     Ok(())
 }
 
-// A Unix socket: lines go both ways, and if nobody listens any more a dial fails.
+// A Unix socket: lines go both ways, and a dial fails once no peer listens.
 #[test]
 fn unix_socket(rt: HostRuntime) -> Result<(), Fail> {
     let path = format!(in rt.alloc(); "/tmp/socket_link_{}", process::id(rt.process()))?;

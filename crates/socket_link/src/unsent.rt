@@ -9,12 +9,12 @@ use std::io::Write;
 use std::marker::Model;
 
 // Room for sixteen of the longest lines, each with its line feed.
-const SIZE: usize = 1552;
+const ROOM: usize = 1552;
 
-/// Lines that were sent and not written yet, each with its line feed.
+/// Lines that were sent and aren't written yet, each with its line feed.
 #[derive(Drop)]
 pub struct Unsent {
-    bytes: ArrayVec<u8, SIZE>,
+    bytes: ArrayVec<u8, ROOM>,
 }
 
 impl Model for Unsent {
@@ -23,7 +23,7 @@ impl Model for Unsent {
     ghost view = { λ u. u.bytes.items };
 }
 
-// Writes all the bytes; `false` if the stream failed or blocked for too long.
+// Writes all the bytes. Returns `false` if the stream failed or blocked for too long.
 #[tactic(auto, using(crate::proofs::Cuts::appends_start))]
 fn write_whole<S: Write>(stream: &mut S, bytes: &[u8]) -> bool
     ensures { result ≡ true
@@ -40,7 +40,7 @@ fn write_whole<S: Write>(stream: &mut S, bytes: &[u8]) -> bool
 }
 
 impl Unsent {
-    /// Nothing is to be written.
+    /// No line is unsent.
     pub fn new() -> Self
         ensures { result ≡ [] }
     {
@@ -51,21 +51,21 @@ impl Unsent {
 
     /// Whether there is room for this line.
     pub fn has_room(&self, line: &Line) -> bool
-        ensures { IsTrue result ↔ (length self.now + length line.now.items + 1 ≤ 1552) }
+        ensures { IsTrue result ↔ (length self.now + length line.now.items + 1 ≤ ROOM) }
     {
         line.len() < self.bytes.remaining_capacity()
     }
 
     /// Adds a line and its line feed.
     pub fn add(&mut self, line: &Line)
-        requires { length self.old + length line.now.items + 1 ≤ 1552 }
+        requires { length self.old + length line.now.items + 1 ≤ ROOM }
         ensures { self.new ≡ self.old ++ line.now.items ++ 10 ∷ [] }
     {
         let _ = self.bytes.try_extend_from_slice(line.as_slice());
         self.bytes.push(b'\n');
     }
 
-    /// Writes what there is, and forgets it; `false` if the stream failed or blocked for too long.
+    /// Writes all lines and forgets them. Returns `false` if the stream failed or blocked for too long.
     pub fn write<S: Write>(&mut self, stream: &mut S) -> bool
         ensures written { result ≡ true
             → Appends (S.Write.contents stream.old) (S.Write.contents stream.new) self.old }

@@ -3,7 +3,7 @@ use crate::rows::{LONG, begin, drop_entry, end, entry, user};
 use crate::same::are_same;
 use crate::tests::empty_keeper;
 use octo_keeper::{Change, Keeper, MemoryKeeper, Tables};
-use octo_outside::{CallList, ItemList};
+use octo_outside::CallList;
 use print_records::Outcome;
 use sql_keeper::SqlKeeper;
 use sqlite::MemStore;
@@ -17,19 +17,11 @@ struct Pair {
     database: SqlKeeper<MemStore>,
 }
 
-fn empty_tables(alloc: Global) -> Tables {
-    Tables {
-        users: ItemList::new(alloc),
-        queue: ItemList::new(alloc),
-        prints: ItemList::new(alloc),
-    }
-}
-
 impl Pair {
     fn new(alloc: Global) -> Result<Pair, Fail> {
         Ok(Pair {
             alloc,
-            memory: MemoryKeeper::new(empty_tables(alloc), CallList::new(alloc)),
+            memory: MemoryKeeper::new(Tables::empty(alloc), CallList::new(alloc)),
             database: empty_keeper(alloc)?,
         })
     }
@@ -158,7 +150,7 @@ fn last_copies(pair: &mut Pair) -> Result<(), Fail> {
     pair.drop_entry("zoe", "night")
 }
 
-// Seven changes, some of which name rows that aren't there.
+// Seven changes, some of which name rows that don't exist.
 fn rest(pair: &mut Pair) -> Result<(), Fail> {
     pair.drop_entry("ana", "night")?;
     pair.set_user("nobody", 6, &[], true)?;
@@ -180,7 +172,7 @@ fn sql_agrees(rt: HostRuntime) -> Result<(), Fail> {
     again(pair)
 }
 
-// The rows are there after the database is adopted again.
+// The rows exist after the database is adopted again.
 fn again(pair: Pair) -> Result<(), Fail> {
     let Pair {
         alloc,

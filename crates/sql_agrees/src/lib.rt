@@ -4,6 +4,8 @@
 #[cfg(test)]
 mod agrees;
 #[cfg(test)]
+mod read;
+#[cfg(test)]
 mod refused;
 #[cfg(test)]
 mod rows;

@@ -36,7 +36,7 @@ fn old_database(alloc: Global) -> Result<Connection<MemStore>, Fail> {
     Ok(connection)
 }
 
-fn refused<S: Alter + Drop>(
+fn fail_to_adopt<S: Alter + Drop>(
     alloc: Global,
     connection: Connection<S>,
 ) -> Result<Connection<S>, Fail> {
@@ -78,7 +78,7 @@ fn an_old_row_out_of_range(rt: HostRuntime) -> Result<(), Fail> {
         &mut database,
         "UPDATE queue SET priority = 256 WHERE arrival = 3",
     )?;
-    let mut connection = refused(alloc, database)?;
+    let mut connection = fail_to_adopt(alloc, database)?;
     assert_eq!(rt; number(&mut connection, "SELECT schema FROM meta")?, 1);
     assert_eq!(rt; number(&mut connection, "SELECT count(*) FROM queue")?, 2);
     run(
@@ -94,9 +94,9 @@ fn another_schema_is_refused(rt: HostRuntime) -> Result<(), Fail> {
     let alloc = rt.alloc();
     let mut database = old_database(alloc)?;
     run(&mut database, "UPDATE meta SET schema = 3")?;
-    let mut connection = refused(alloc, database)?;
+    let mut connection = fail_to_adopt(alloc, database)?;
     assert_eq!(rt; number(&mut connection, "SELECT schema FROM meta")?, 3);
     run(&mut connection, "BEGIN")?;
-    let _ = refused(alloc, connection)?;
+    let _ = fail_to_adopt(alloc, connection)?;
     Ok(())
 }

@@ -11,19 +11,14 @@ use std::test::Fail;
 pub const LONG: &str =
     "a-name-of-100-bytes-0123456789-0123456789-0123456789-0123456789-0123456789-0123456789-0123456789-012";
 
-/// A text of at most 100 bytes, as a name.
-pub fn name(text: &str) -> Result<Name, Fail> {
-    Ok(Name::from_text(text).ok_or("a long name")?)
-}
-
 /// A user whose digest is 32 times this byte.
 pub fn user(text: &str, byte: u8, groups: &[&str], active: bool) -> Result<UserRow, Fail> {
     let mut list = ArrayVec::new();
     for group in groups {
-        let _ = list.try_push(name(group)?);
+        let _ = list.try_push(Name::of(group)?);
     }
     Ok(UserRow {
-        name: name(text)?,
+        name: Name::of(text)?,
         digest: [byte; 32],
         groups: list,
         active,
@@ -39,13 +34,13 @@ pub fn entry(
     arrival: u32,
 ) -> Result<QueueEntry, Fail> {
     Ok(QueueEntry {
-        user: name(user)?,
-        name: name(text)?,
-        file: name("a.gcode")?,
+        user: Name::of(user)?,
+        name: Name::of(text)?,
+        file: Name::of("a.gcode")?,
         priority,
         copies,
         left: copies,
-        material: name("any")?,
+        material: Name::of("any")?,
         arrival,
     })
 }
@@ -54,8 +49,8 @@ pub fn entry(
 pub fn print(number: u32, user: &str) -> Result<PrintRow, Fail> {
     Ok(PrintRow {
         number,
-        user: name(user)?,
-        file: name("a.gcode")?,
+        user: Name::of(user)?,
+        file: Name::of("a.gcode")?,
         commands: 4_294_967_295,
         outcome: Outcome::Active,
     })
@@ -86,7 +81,7 @@ pub fn end(print: u32, outcome: Outcome) -> Change {
 /// A user's entry of a name is taken out.
 pub fn drop_entry(user: &str, text: &str) -> Result<Change, Fail> {
     Ok(Change::DropEntry {
-        user: name(user)?,
-        name: name(text)?,
+        user: Name::of(user)?,
+        name: Name::of(text)?,
     })
 }

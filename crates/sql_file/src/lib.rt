@@ -14,7 +14,7 @@ use sqlite::{Connection, File, FileStore};
 /// What keeps the tables of a host in a database file and the log beside it.
 pub type FileKeeper = SqlKeeper<FileStore<File>>;
 
-/// Opens the database file of that path and adopts it; a file that isn't there is made. The file is locked until the keeper
+/// Opens the database file of that path and adopts it; a missing file is made. The file is locked until the keeper
 /// is dropped: another program that has it open is a fault, and so are a path that is no database and `:memory:`.
 ///
 /// `FILE` and `FILE-wal` belong together: the log holds what was committed and isn't in the file yet.

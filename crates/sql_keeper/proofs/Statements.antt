@@ -1,7 +1,7 @@
 -- Statements that ran one after the other.
-use Rattle.std.proofs.Common.{◌≡◌, ℕ, ◌+◌, ◌<◌, suc, ℤ, List, [], ◌∷◌, ◌++◌, map, take, length, get_or, Option, Some, None, ok_or, MatchOption, IsTrue, inl, inr, Result, Ok, Err, OnOk, IfOk, IfErr, ap, sym, subst, ◌∙◌, arith}
+use Rattle.std.proofs.Common.{◌≡◌, ℕ, ◌+◌, ◌<◌, suc, ℤ, List, [], ◌∷◌, ◌++◌, map, take, drop, length, get_or, Option, Some, None, ok_or, MatchOption, IsTrue, inl, inr, Result, Ok, Err, OnOk, IfOk, IfErr, ap, sym, subst, ◌∙◌, arith}
 use Rattle.std.proofs.Math.Seq.{take-suc}
-use Rattle.std.proofs.lemmas.List.{map-append}
+use Rattle.std.proofs.lemmas.List.{map-append, take-append-drop}
 use Rattle.print_queue.specs.declared.entry.QueueEntry.{QueueEntry}
 use Rattle.std.specs.Borrow.{MutBor}
 use Rattle.sqlite_value.specs.Order.{Row}
@@ -33,16 +33,16 @@ module _ {S : Type 0} (g : Ghosts S) where
   runs_unstored r one two a b c unstored = runs_on r one two a.now b.now c.now (unstored_clean g b c unstored)
 
   -- a transaction goes on after statements that ran
-  ran_inside : (list : List Statement) (a b : Held S) → RanInTurn g list a b → IsTrue a.in_transaction → IsTrue b.in_transaction
+  pub ran_inside : (list : List Statement) (a b : Held S) → RanInTurn g list a b → IsTrue a.in_transaction → IsTrue b.in_transaction
   ran_inside [] a b same inside = subst (λ h. IsTrue h.in_transaction) (sym same) inside
   ran_inside (it ∷ others) a b ran inside = ran_inside others ran.0 b ran.2 ran.1.1.1.mode
 
-  fails_first : (one two : List Statement) (a b : Held S) → FailsInTurn g one a b → FailsInTurn g (one ++ two) a b
+  pub fails_first : (one two : List Statement) (a b : Held S) → FailsInTurn g one a b → FailsInTurn g (one ++ two) a b
   fails_first [] two a b fails = absurd fails
   fails_first (it ∷ others) two a b (inl refused) = inl refused
   fails_first (it ∷ others) two a b (inr later) = inr (later.0, later.1, fails_first others two later.0 b later.2)
 
-  fails_later : (one two : List Statement) (a b c : Held S) → RanInTurn g one a b → FailsInTurn g two b c → FailsInTurn g (one ++ two) a c
+  pub fails_later : (one two : List Statement) (a b c : Held S) → RanInTurn g one a b → FailsInTurn g two b c → FailsInTurn g (one ++ two) a c
   fails_later [] two a b c same fails = subst (λ h. FailsInTurn g two h c) same fails
   fails_later (it ∷ others) two a b c ran fails = inr (ran.0, ran.1, fails_later others two ran.0 b c ran.2 fails)
 
@@ -76,6 +76,13 @@ put_more entries i entry within is =
     rw next (
     ap (map entry_put) (take-suc entries i entry within) ∙ map-append entry_put (take i entries) (get_or entries i entry ∷ [])
     ∙ ap (λ e. map entry_put (take i entries) ++ entry_put e ∷ []) (sym is))
+
+-- all entries: those before one, that one, and those after it
+pub put_split : (entries : List QueueEntry) (i : ℕ) (entry : QueueEntry) → i < length entries → entry ≡ get_or entries i entry
+    → map entry_put entries ≡ (map entry_put (take i entries) ++ entry_put entry ∷ []) ++ map entry_put (drop (i + 1) entries)
+put_split entries i entry within is =
+    ap (map entry_put) (sym (take-append-drop (i + 1) entries)) ∙ map-append entry_put (take (i + 1) entries) (drop (i + 1) entries)
+    ∙ ap (λ before. before ++ map entry_put (drop (i + 1) entries)) (put_more entries i entry within is)
 
 -- what a number says, if there is one
 pub if_found : {E : Type 0} (N : Type 0) (o : Option ℤ) (e : E) (r : Result ℤ E) (P Q : ℤ → Type 0) → r ≡ ok_or o e → MatchOption o N P → ((n : ℤ) → P n → Q n) → IfOk r Q

@@ -20,9 +20,11 @@ pub record Inside {S : Type 0} (g : Ghosts S) (Moved : State → State → Type 
   pub same_reference : new.ghost_name ≡ old.ghost_name
   pub moved : Moved (state g old.now) (state g new.now)
 
+-- a call inside a transaction that keeps the last commit
 abbrev pub Kept : {S : Type 0} → Ghosts S → MutBor (Held S) → MutBor (Held S) → Type 0
 Kept g = Inside g KeepsLast
 
+-- a call inside a transaction that stores nothing
 abbrev pub Unstored : {S : Type 0} → Ghosts S → MutBor (Held S) → MutBor (Held S) → Type 0
 Unstored g = Inside g StoresNothing
 

@@ -1,9 +1,11 @@
 -- What a load returns of the rows that the database holds, and when it fails.
-use Rattle.std.specs.Prelude.{◌≡◌, ◌⊎◌, ℕ, false, List, [], map}
+use Rattle.std.specs.Prelude.{◌≡◌, ◌≢◌, ◌⊎◌, ℕ, false, List, [], map}
 use Rattle.std.specs.List.{All}
 use Rattle.sqlite_value.specs.Order.{Row}
 use Rattle.sqlite_trees.specs.declared.store.Store.{Ghosts}
 use Rattle.sqlite.specs.declared.error.Error.{Error}
+use Rattle.sqlite.specs.declared.error.Error.TheVariants.{SqliteFailure}
+use Rattle.sqlite.specs.declared.error.ErrorCode.TheVariants.{OutOfMemory}
 use Rattle.sqlite.specs.Held.{Held, state}
 use Rattle.sqlite.specs.State.{HasCleanDisk, FailsToQuery, Shown}
 use Rattle.octo_keeper.specs.declared.tables.Tables.{Tables}
@@ -17,14 +19,23 @@ module _ {S : Type 0} (g : Ghosts S) where
   abbrev pub Found : List ℕ → List Row → Held S → Held S → Type 0
   Found query rows old new = Shown query [] (state g old) (state g new) rows
 
+  -- it fails, and not for out of memory
+  abbrev pub Unanswered : List ℕ → Held S → Held S → Type 0
+  Unanswered query old new = (error : Error) × (error ≢ SqliteFailure OutOfMemory) × FailsToQuery query [] (state g old) (state g new) error
+
+  -- it fails, or shows rows of which this is true
+  abbrev pub Misread : List ℕ → (List Row → Type 0) → Held S → Held S → Type 0
+  Misread query AreSuch old new = Unanswered query old new ⊎ ((rows : List Row) × Found query rows old new × AreSuch rows)
+
   -- it fails, or shows a row that can't be read
   abbrev pub Unread : List ℕ → (Row → Type 0) → Held S → Held S → Type 0
-  Unread query Holds old new = ((error : Error) × FailsToQuery query [] (state g old) (state g new) error) ⊎ ((rows : List Row) × Found query rows old new × ¬ All Holds rows)
+  Unread query Holds = Misread query (λ rows. ¬ All Holds rows)
 
   -- the same, if the disk returned what was written
   abbrev pub Finds : List ℕ → List Row → Held S → Held S → Type 0
   Finds query rows old new = HasCleanDisk (state g new) → Found query rows old new
 
+  -- it fails, or shows a row that can't be read, if the disk returned what was written
   abbrev pub FailsToFind : List ℕ → (Row → Type 0) → Held S → Held S → Type 0
   FailsToFind query Holds old new = HasCleanDisk (state g new) → Unread query Holds old new
 
@@ -41,10 +52,14 @@ module _ {S : Type 0} (g : Ghosts S) where
   FailsAtPrints old new = Unread SELECT_PRINTS.now HoldsPrint old new
 
   abbrev pub FailsAtQueue : Held S → Held S → Type 0
-  FailsAtQueue old new = Unread SELECT_ENTRIES.now HoldsEntry old new ⊎ ((two : Held S) × (rows : List Row) × Found SELECT_ENTRIES.now rows old two × FailsAtPrints two new)
+  FailsAtQueue old new =
+      Unread SELECT_ENTRIES.now HoldsEntry old new
+      ⊎ ((two : Held S) × (rows : List Row) × Found SELECT_ENTRIES.now rows old two × FailsAtPrints two new)
 
   abbrev pub FailsToLoad : Held S → Held S → Type 0
-  FailsToLoad old new = Unread SELECT_USERS.now HoldsUser old new ⊎ ((one : Held S) × (rows : List Row) × Found SELECT_USERS.now rows old one × FailsAtQueue one new)
+  FailsToLoad old new =
+      Unread SELECT_USERS.now HoldsUser old new
+      ⊎ ((one : Held S) × (rows : List Row) × Found SELECT_USERS.now rows old one × FailsAtQueue one new)
 
   -- or all show theirs, and a host can't begin with them
   abbrev pub IsUnsound : Held S → Held S → Type 0

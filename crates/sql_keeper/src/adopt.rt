@@ -1,11 +1,12 @@
 //! A database as it is when its keeper begins.
-ghost use Rattle.std.specs.Prelude.{◌∷◌, [], map, IfOk, OnOk};
+ghost use Rattle.std.specs.Prelude.{◌∷◌, [], map, IfOk, IsErrOf, OnOk};
 ghost use Rattle.sqlite.specs.Held.{state};
 ghost use Rattle.sqlite.specs.State.{HasCleanDisk};
 ghost use Rattle.sql_keeper.specs.Kept.{IsAtomic, Unstored};
-ghost use Rattle.sql_keeper.specs.Loads.{Finds};
-ghost use Rattle.sql_keeper.specs.Settled.{FoundNumber, Settled, Settles, Upgraded, plain, tables_made};
-ghost use Rattle.sql_keeper.specs.Statements.{Runs, entry_put};
+ghost use Rattle.sql_keeper.specs.Loads.{Finds, Misread, Unanswered};
+ghost use Rattle.sql_keeper.specs.Settled.{FailsToAdopt, FailsToSettle, FailsToUpgrade, FoundNumber, HasNoSchema, Settled, Settles, Upgraded, plain, queue_moved, tables_made};
+ghost use Rattle.sql_keeper.specs.Statements.{FailsInTurn, InTransaction, Runs, entry_put};
+ghost use Rattle.octo_keeper.specs.declared.keeper.KeeperFault.TheVariants as fault;
 
 use crate::entries::put_entry;
 use crate::fault::fault_of;
@@ -25,6 +26,9 @@ fn run<S: Alter>(transaction: &mut Transaction<'_, S>, sql: &str) -> Result<(), 
     ensures stores { Unstored S.Store transaction.old.conn transaction.new.conn }
     ensures ran { OnOk result (Runs S.Store (plain sql.now ∷ [])
         transaction.old.conn.now transaction.new.conn.now) }
+    ensures failed { IsErrOf result fault.Failed → InTransaction S.Store
+        (FailsInTurn S.Store (plain sql.now ∷ []))
+        transaction.old.conn.now transaction.new.conn.now }
 {
     match statement::run(transaction, sql, &[]) {
         Ok(()) => Ok(()),
@@ -40,6 +44,9 @@ fn rows_of<S: Alter>(
     ensures stores { Unstored S.Store transaction.old.conn transaction.new.conn }
     ensures found { IfOk result (λ rows.
         Finds S.Store sql.now rows.items transaction.old.conn.now transaction.new.conn.now) }
+    ensures failed { IsErrOf result fault.Failed → InTransaction S.Store
+        (Unanswered S.Store sql.now)
+        transaction.old.conn.now transaction.new.conn.now }
 {
     match transaction.query_all(sql, &[]) {
         Ok(rows) => Ok(rows),
@@ -52,6 +59,9 @@ fn schema_of<S: Alter>(transaction: &mut Transaction<'_, S>) -> Result<i64, Keep
     ensures stores { Unstored S.Store transaction.old.conn transaction.new.conn }
     ensures number { IfOk result (λ number. HasCleanDisk (state S.Store transaction.new.conn.now)
         → FoundNumber S.Store number transaction.old.conn.now transaction.new.conn.now) }
+    ensures failed { IsErrOf result fault.Failed → InTransaction S.Store
+        (Misread S.Store SELECT_SCHEMA.now HasNoSchema)
+        transaction.old.conn.now transaction.new.conn.now }
 {
     let rows = rows_of(transaction, SELECT_SCHEMA)?;
     match rows.as_slice() {
@@ -65,8 +75,11 @@ fn schema_of<S: Alter>(transaction: &mut Transaction<'_, S>) -> Result<i64, Keep
 #[tactic(auto, using(crate::proofs::Kept::unstored_then, crate::proofs::Kept::unstored_same))]
 fn make_tables<S: Alter>(transaction: &mut Transaction<'_, S>) -> Result<(), KeeperFault>
     ensures stores { Unstored S.Store transaction.old.conn transaction.new.conn }
-    ensures ran { OnOk result (Runs S.Store (tables_made)
+    ensures ran { OnOk result (Runs S.Store tables_made
         transaction.old.conn.now transaction.new.conn.now) }
+    ensures failed { IsErrOf result fault.Failed → InTransaction S.Store
+        (FailsInTurn S.Store tables_made)
+        transaction.old.conn.now transaction.new.conn.now }
 {
     run(transaction, USERS)?;
     run(transaction, ENTRIES)?;
@@ -83,6 +96,9 @@ fn put_entries<S: Alter>(
     ensures stores { Unstored S.Store transaction.old.conn transaction.new.conn }
     ensures ran { OnOk result (Runs S.Store (map entry_put entries.now)
         transaction.old.conn.now transaction.new.conn.now) }
+    ensures failed { IsErrOf result fault.Failed → InTransaction S.Store
+        (FailsInTurn S.Store (map entry_put entries.now))
+        transaction.old.conn.now transaction.new.conn.now }
 {
     for entry in entries {
         if let Err(error) = put_entry(transaction, entry) {
@@ -90,6 +106,25 @@ fn put_entries<S: Alter>(
         }
     }
     Ok(())
+}
+
+// Brings these entries into the table that has the place of the queue of the schema before.
+#[tactic(auto, using(crate::proofs::Kept::unstored_then, crate::proofs::Kept::unstored_same))]
+fn move_queue<S: Alter>(
+    transaction: &mut Transaction<'_, S>,
+    entries: &[QueueEntry],
+) -> Result<(), KeeperFault>
+    ensures stores { Unstored S.Store transaction.old.conn transaction.new.conn }
+    ensures ran { OnOk result (Runs S.Store (queue_moved entries.now)
+        transaction.old.conn.now transaction.new.conn.now) }
+    ensures failed { IsErrOf result fault.Failed → InTransaction S.Store
+        (FailsInTurn S.Store (queue_moved entries.now))
+        transaction.old.conn.now transaction.new.conn.now }
+{
+    run(transaction, ENTRIES)?;
+    put_entries(transaction, entries)?;
+    run(transaction, DROP_OLD_QUEUE)?;
+    run(transaction, UPDATE_SCHEMA)
 }
 
 // Brings the queue of the schema before into the table that has its place now.
@@ -101,14 +136,14 @@ fn upgrade_tables<S: Alter>(
     ensures stores { Unstored S.Store transaction.old.conn transaction.new.conn }
     ensures ran { OnOk result (HasCleanDisk (state S.Store transaction.new.conn.now)
         → Upgraded S.Store transaction.old.conn.now transaction.new.conn.now) }
+    ensures failed { IsErrOf result fault.Failed → InTransaction S.Store
+        (FailsToUpgrade S.Store)
+        transaction.old.conn.now transaction.new.conn.now }
 {
     let rows = rows_of(transaction, SELECT_OLD_QUEUE)?;
     let old = old_entries_of(alloc, rows.as_slice())?;
     let entries = upgrade(alloc, old.as_slice())?;
-    run(transaction, ENTRIES)?;
-    put_entries(transaction, entries.as_slice())?;
-    run(transaction, DROP_OLD_QUEUE)?;
-    run(transaction, UPDATE_SCHEMA)
+    move_queue(transaction, entries.as_slice())
 }
 
 // Brings the database to the schema that is kept.
@@ -117,6 +152,9 @@ fn settle<S: Alter>(alloc: Global, transaction: &mut Transaction<'_, S>) -> Resu
     ensures stores { Unstored S.Store transaction.old.conn transaction.new.conn }
     ensures settled { OnOk result (HasCleanDisk (state S.Store transaction.new.conn.now)
         → Settled S.Store transaction.old.conn.now transaction.new.conn.now) }
+    ensures failed { IsErrOf result fault.Failed → InTransaction S.Store
+        (FailsToSettle S.Store)
+        transaction.old.conn.now transaction.new.conn.now }
 {
     run(transaction, META)?;
     match schema_of(transaction)? {
@@ -134,6 +172,8 @@ pub fn settle_schema<S: Alter>(
 ) -> Result<(), KeeperFault>
     ensures settled { OnOk result (HasCleanDisk (state S.Store connection.new)
         → Settles S.Store connection.old connection.new) }
+    ensures failed { IsErrOf result fault.Failed → HasCleanDisk (state S.Store connection.new)
+        → FailsToAdopt S.Store connection.old connection.new }
     ensures atomic { IsAtomic (state S.Store connection.old) (state S.Store connection.new) }
 {
     if !connection.is_autocommit() {

@@ -27,8 +27,8 @@ impl<S: Alter + Drop> SqlKeeper<S> {
     ghost use Rattle.sqlite.specs.Held.{state};
     ghost use Rattle.sqlite.specs.State.{HasCleanDisk};
     ghost use Rattle.sql_keeper.specs.Kept.{IsAtomic};
-    ghost use Rattle.sql_keeper.specs.Settled.{Settles};
-    ghost use Rattle.octo_outside.specs.Told.{Counts};
+    ghost use Rattle.sql_keeper.specs.Settled.{FailsToAdopt, Settles};
+    ghost use Rattle.octo_outside.specs.Recorded.{Counts};
     ghost use Rattle.octo_keeper.specs.declared.keeper.KeeperFault.TheVariants as fault;
 
     /// Takes a database over. An empty one gets its tables, one of the schema before is upgraded, each in one transaction; one of
@@ -37,6 +37,9 @@ impl<S: Alter + Drop> SqlKeeper<S> {
         ensures fresh { IfOk result (λ keeper. keeper.faults ≡ 0) }
         ensures settled { IfOk result (λ keeper. HasCleanDisk (state S.Store keeper.connection)
             → Settles S.Store connection keeper.connection) }
+        ensures failed { IfErr result (λ refused. refused.fault ≡ fault.Failed
+            → HasCleanDisk (state S.Store refused.connection)
+            → FailsToAdopt S.Store connection refused.connection) }
         ensures adopted { IfOk result
             (λ keeper. IsAtomic (state S.Store connection) (state S.Store keeper.connection)) }
         ensures refused { IfErr result
@@ -82,7 +85,7 @@ impl<S: Alter + Drop> Keeper for SqlKeeper<S> {
     ghost use Rattle.std.specs.List.{All};
     ghost use Rattle.sqlite.specs.Held.{state};
     ghost use Rattle.sqlite.specs.State.{HasCleanDisk};
-    ghost use Rattle.octo_outside.specs.Told.{Counts};
+    ghost use Rattle.octo_outside.specs.Recorded.{Counts};
     ghost use Rattle.octo_keeper.specs.Tables.{AreSound};
     ghost use Rattle.octo_keeper.specs.declared.keeper.KeeperFault.TheVariants as fault;
     ghost use Rattle.sql_rows.specs.Holds.{HasGroups};

@@ -6,7 +6,7 @@ pub const SCHEMA: i64 = 2;
 /// The number of the schema before: its queue has neither copies nor materials.
 pub const SCHEMA_BEFORE: i64 = 1;
 
-/// Makes the table with the schema's number, unless it is there.
+/// Makes the table with the schema's number, unless it exists.
 pub const META: &str = "CREATE TABLE IF NOT EXISTS meta (schema INTEGER NOT NULL)";
 
 /// Makes the table of users.

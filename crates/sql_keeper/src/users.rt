@@ -25,7 +25,8 @@ pub fn load_users<S: Alter>(
     connection: &mut Connection<S>,
 ) -> Result<UserList, KeeperFault>
     ensures rows { IfOk result
-        (λ users. Finds S.Store SELECT_USERS.now (map user_row users) connection.old connection.new) }
+        (λ users. Finds S.Store SELECT_USERS.now (map user_row users)
+        connection.old connection.new) }
     ensures groups { IfOk result (All HasGroups) }
     ensures failed { IsErrOf result fault.Failed
         → FailsToFind S.Store SELECT_USERS.now HoldsUser connection.old connection.new }

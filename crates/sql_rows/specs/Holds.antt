@@ -91,6 +91,6 @@ pub record HoldsPrint (row : Row) : Type 0 where
   pub commands : HoldsBelow 4294967296 (column row 3)
   pub outcome : HoldsBelow 4 (column row 4)
 
--- a user whose groups can be told from their text
+-- a user whose groups can be read back from their text
 abbrev pub HasGroups : UserRow → Type 0
 HasGroups user = All IsGroup user.groups.items

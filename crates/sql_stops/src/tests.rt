@@ -9,19 +9,15 @@ use sqlite::{Alter, Files};
 use std::alloc::Global;
 use std::test::Fail;
 
-fn name(text: &str) -> Result<Name, Fail> {
-    Ok(Name::from_text(text).ok_or("a long name")?)
-}
-
 fn entry() -> Result<QueueEntry, Fail> {
     Ok(QueueEntry {
-        user: name("ana")?,
-        name: name("job-1")?,
-        file: name("a.gcode")?,
+        user: Name::of("ana")?,
+        name: Name::of("job-1")?,
+        file: Name::of("a.gcode")?,
         priority: 5,
         copies: 2,
         left: 2,
-        material: name("any")?,
+        material: Name::of("any")?,
         arrival: 1,
     })
 }
@@ -31,8 +27,8 @@ fn begin() -> Result<Change, Fail> {
         ended: None,
         print: PrintRow {
             number: 1,
-            user: name("ana")?,
-            file: name("a.gcode")?,
+            user: Name::of("ana")?,
+            file: Name::of("a.gcode")?,
             commands: 3,
             outcome: Outcome::Active,
         },
@@ -83,7 +79,7 @@ fn made(alloc: Global, database: Database) -> Result<Run, Fail> {
 }
 
 // How many of the two changes the rows show; 9 if they show a part of one.
-fn shown(tables: &Tables) -> u8 {
+fn changes_in(tables: &Tables) -> u8 {
     match (tables.queue.as_slice(), tables.prints.as_slice()) {
         ([], []) => 0,
         ([entry], []) if entry.left == 2 => 1,
@@ -97,7 +93,7 @@ fn stop_at_each_call(alloc: Global, log_stops: bool) -> Result<(), Fail> {
     for calls in 0..200 {
         let Run { made, files } = stopped_run(alloc, log_stops, calls)?;
         let tables = tables_of(alloc, open_again(alloc, files)?)?;
-        let shown = shown(&tables);
+        let shown = changes_in(&tables);
         if shown < made || made.saturating_add(1) < shown {
             return Err("a change is lost or kept by half".into());
         }

@@ -28,7 +28,7 @@ struct Run {
 
 fn stopped_run(alloc: Global, log_stops: bool, calls: u64) -> Run {
     match open(alloc, files(alloc, log_stops, calls)) {
-        Ok(database) => written(alloc, database),
+        Ok(database) => write_then_adopt(alloc, database),
         Err(files) => Run {
             is_written: false,
             is_adopted: false,
@@ -37,10 +37,10 @@ fn stopped_run(alloc: Global, log_stops: bool, calls: u64) -> Run {
     }
 }
 
-fn written(alloc: Global, database: Database) -> Run {
+fn write_then_adopt(alloc: Global, database: Database) -> Run {
     let mut database = database;
     if batch(&mut database, BEFORE) {
-        return adopted(alloc, database);
+        return adopt_written(alloc, database);
     }
     Run {
         is_written: false,
@@ -49,7 +49,7 @@ fn written(alloc: Global, database: Database) -> Run {
     }
 }
 
-fn adopted(alloc: Global, database: Database) -> Run {
+fn adopt_written(alloc: Global, database: Database) -> Run {
     match SqlKeeper::adopt(alloc, database) {
         Ok(keeper) => Run {
             is_written: true,

@@ -12,7 +12,8 @@ use Rattle.temp_rules.specs.declared.job.HotLine.{HotLine}
 abbrev no_command : Command
 no_command = record { text = []; line = 0; place = 0; begin = 0 }
 
-abbrev hot_at : ℕ → Option TooHot → Option HotLine
+-- what is found too hot, with the line where it is asked for
+abbrev pub hot_at : ℕ → Option TooHot → Option HotLine
 hot_at line hot = option_map (λ h. record { line = line; asked = h.asked; limit = h.limit }) hot
 
 -- the search from a command on, by what is known of that command

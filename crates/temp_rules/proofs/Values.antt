@@ -10,6 +10,7 @@ use Rattle.temp_rules.specs.Hot.{AllWithin, is_above, too_hot, hot_of}
 use Rattle.temp_rules.specs.declared.heater.Heater.TheVariants.{Tool, Bed}
 use Rattle.temp_rules.specs.declared.limits.Limits.{Limits}
 use Rattle.temp_rules.specs.declared.limits.TooHot.{TooHot}
+use Rattle.byte_text.proofs.OptionLaws.{first-none, second-none}
 
 below-limit : (limit : ℕ) (micro : ℤ) → is_above limit micro ≡ false → micro ≤ℤ pos (limit * 1000000)
 below-limit limit micro h = grind (arith, ints)
@@ -42,15 +43,7 @@ names-above : (limit : ℕ) (values : List ℤ) (hot : TooHot) → too_hot limit
 names-above limit [] hot h = absurd (cc)
 names-above limit (micro ∷ values) hot h = above-more limit micro values hot (is_above limit micro) refl h (names-above limit values hot)
 
--- a choice of two has none if neither has, and what it has one of them has
-first-none : (first second : Option TooHot) → option_or first second ≡ None → first ≡ None
-first-none None second h = refl
-first-none (Some hot) second h = absurd (cc)
-
-second-none : (first second : Option TooHot) → option_or first second ≡ None → second ≡ None
-second-none None second h = h
-second-none (Some hot) second h = absurd (cc)
-
+-- what a choice of two has one of them has
 of-either : (first second : Option TooHot) (hot : TooHot) → option_or first second ≡ Some hot → (first ≡ Some hot) ⊎ (second ≡ Some hot)
 of-either None second hot h = inr h
 of-either (Some found) second hot h = inl h

@@ -1,3 +1,4 @@
+-- The temperatures that a command asks of a heater.
 use Rattle.std.specs.Prelude.{ℕ, ◌+◌, ◌/◌, ◌==◌, ◌||◌, ℤ, pos, negsuc, Bool, if◌then◌else◌, List, [], ◌∷◌, Option, None, Some}
 use Rattle.std.specs.List.{filter_map}
 use Rattle.gcode_words.specs.Words.{words_of}

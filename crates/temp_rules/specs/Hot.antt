@@ -1,3 +1,4 @@
+-- The first command that asks a heater for more than its limit.
 use Rattle.std.specs.Prelude.{All, ◌≤ℤ◌, ℕ, ◌*◌, ℤ, pos, int_lt, Bool, List, [], ◌∷◌, Option, None}
 use Rattle.std.specs.List.{find}
 use Rattle.std.specs.Option.{option_map, option_or}

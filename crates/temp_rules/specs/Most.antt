@@ -1,3 +1,4 @@
+-- The greatest temperatures that commands ask of the heaters.
 use Rattle.std.specs.Prelude.{ℕ, ℤ, max, List, [], ◌∷◌, fold, map}
 use Rattle.temp_rules.specs.Asked.{asked_of, degrees_up}
 use Rattle.temp_rules.specs.declared.heater.Heater.{Heater}

@@ -1,4 +1,6 @@
 //! The heaters, and how a command asks one of them.
+//!
+//! Source: Marlin's G-code reference, `M104`, `M109`, `M140` and `M190`.
 
 /// A heater of the printer.
 #[derive(Clone, Copy, Debug, PartialEq, Eq)]

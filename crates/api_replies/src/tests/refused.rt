@@ -19,13 +19,15 @@ fn refusals(rt: HostRuntime) -> Result<(), Fail> {
         ),
         (
             Answer::BadGroup {
-                group: name("nogroup")?,
+                group: Name::of("nogroup")?,
             },
             400,
             "{\"error\":\"BadGroup\",\"group\":\"nogroup\"}",
         ),
         (
-            Answer::KeyTaken { name: name("eve")? },
+            Answer::KeyTaken {
+                name: Name::of("eve")?,
+            },
             409,
             "{\"error\":\"KeyTaken\",\"name\":\"eve\"}",
         ),

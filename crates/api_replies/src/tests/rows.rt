@@ -128,7 +128,7 @@ fn uploads(rt: HostRuntime) -> Result<(), Fail> {
     for (answer, bytes) in [
         (
             Answer::Uploaded {
-                name: name("a.gcode")?,
+                name: Name::of("a.gcode")?,
                 select: false,
                 print: false,
             },
@@ -137,7 +137,7 @@ Content-Type: application/json\r\n\r\n{\"done\":true,\"effectivePrint\":false,\"
         ),
         (
             Answer::Stored {
-                name: name("a.gcode")?,
+                name: Name::of("a.gcode")?,
                 cause: StoredCause::KeeperFault,
             },
             "HTTP/1.1 503 Service Unavailable\r\nConnection: close\r\nContent-Length: 152\r\n\
@@ -145,7 +145,7 @@ Content-Type: application/json\r\n\r\n{\"done\":true,\"effectivePrint\":false,\"
         ),
         (
             Answer::Stored {
-                name: name("a.gcode")?,
+                name: Name::of("a.gcode")?,
                 cause: StoredCause::NoMemory,
             },
             "HTTP/1.1 507 Insufficient Storage\r\nConnection: close\r\nContent-Length: 149\r\n\

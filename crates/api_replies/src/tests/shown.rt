@@ -7,10 +7,10 @@ fn connection(rt: HostRuntime) -> Result<(), Fail> {
     let version = "{\"api\":\"0.1\",\"server\":\"profile-1\",\"text\":\"OctoPrint profile-1\"}";
     shows(&rt, alloc, Answer::Version, 200, version)?;
     let mut ports = NameList::new(alloc);
-    ports.push(name("127.0.0.1:9")?)?;
-    ports.push(name("p")?)?;
+    ports.push(Name::of("127.0.0.1:9")?)?;
+    ports.push(Name::of("p")?)?;
     let answer = Answer::Connection {
-        port: Some(name("p")?),
+        port: Some(Name::of("p")?),
         state: State::Operational,
         ports,
     };
@@ -64,7 +64,7 @@ fn files(rt: HostRuntime) -> Result<(), Fail> {
         "{\"files\":[{\"name\":\"a.gcode\",\"origin\":\"local\",\"path\":\"a.gcode\",\"size\":19,\"type\":\"machinecode\"}]}";
     shows(&rt, alloc, Answer::Files { files }, 200, body)?;
     let answer = Answer::Uploaded {
-        name: name("a.gcode")?,
+        name: Name::of("a.gcode")?,
         select: true,
         print: false,
     };
@@ -72,7 +72,7 @@ fn files(rt: HostRuntime) -> Result<(), Fail> {
         "{\"done\":true,\"effectivePrint\":false,\"effectiveSelect\":true,\"files\":{\"local\":{\"name\":\"a.gcode\",\"origin\":\"local\",\"path\":\"a.gcode\"}}}";
     shows(&rt, alloc, answer, 201, body)?;
     let answer = Answer::Stored {
-        name: name("a.gcode")?,
+        name: Name::of("a.gcode")?,
         cause: StoredCause::KeeperFault,
     };
     let body =
@@ -82,9 +82,9 @@ fn files(rt: HostRuntime) -> Result<(), Fail> {
 
 fn ana() -> Result<ShownUser, Fail> {
     let mut groups = ArrayVec::new();
-    groups.push(name("users")?);
+    groups.push(Name::of("users")?);
     Ok(ShownUser {
-        name: name("ana")?,
+        name: Name::of("ana")?,
         groups,
         active: true,
     })
@@ -92,10 +92,10 @@ fn ana() -> Result<ShownUser, Fail> {
 
 fn eve() -> Result<ShownUser, Fail> {
     let mut groups = ArrayVec::new();
-    groups.push(name("guests")?);
-    groups.push(name("users")?);
+    groups.push(Name::of("guests")?);
+    groups.push(Name::of("users")?);
     Ok(ShownUser {
-        name: name("eve")?,
+        name: Name::of("eve")?,
         groups,
         active: true,
     })
@@ -143,8 +143,8 @@ fn prints(rt: HostRuntime) -> Result<(), Fail> {
     let mut prints = ShownPrintList::new(alloc);
     prints.push(ShownPrint {
         number: 2,
-        user: name("ana")?,
-        file: name("a.gcode")?,
+        user: Name::of("ana")?,
+        file: Name::of("a.gcode")?,
         commands: 3,
         outcome: Outcome::Done,
     })?;

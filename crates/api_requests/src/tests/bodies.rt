@@ -39,7 +39,7 @@ fn no_jobs(rt: HostRuntime) -> Result<(), Fail> {
 
 // The degrees that a body asks for.
 fn degrees(alloc: Global, path: &str, body: &str) -> Result<u16, Fail> {
-    let ask = posted(alloc, path, body)??;
+    let ask = ask_of_post(alloc, path, body)??;
     match &ask.request {
         Request::HeatTool { degrees } | Request::HeatBed { degrees } => Ok(*degrees),
         _ => Err(Fail::from("another request")),

@@ -31,6 +31,8 @@ fn path_and_method(rt: HostRuntime) -> Result<(), Fail> {
     assert!(rt; found == "NoRoute");
     let found = faulty(alloc, Method::PATCH, "/api/job", false, true, "text/plain")?;
     assert!(rt; found == "BadMethod");
+    let path = "/api/files/local/%2e%2e";
+    assert!(rt; faulty(alloc, Method::DELETE, path, false, false, "")? == "NoRoute");
     let found = faulty(alloc, Method::GET, "/api/version", false, true, "")?;
     assert!(rt; found == "BadMedia");
     Ok(())
@@ -109,4 +111,15 @@ fn long_json(rt: HostRuntime) -> Result<(), Fail> {
     assert!(rt; sized_post(alloc, 1_048_576)? == "Start");
     assert!(rt; sized_post(alloc, 1_048_577)? == "BadBody");
     Ok(())
+}
+
+// A body of 200 opening brackets, and one of lists whose brackets are closed.
+#[test]
+fn nested_json(rt: HostRuntime) -> Result<(), Fail> {
+    let alloc = rt.alloc();
+    let open = "[".repeat(alloc, 200)?;
+    let close = "]".repeat(alloc, 200)?;
+    let lists = format!(in alloc; "{open}{close}")?;
+    let bodies = [open.as_str(), lists.as_str()];
+    come_to(&rt, alloc, "/api/job", "BadBody", &bodies)
 }

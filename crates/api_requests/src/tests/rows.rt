@@ -3,7 +3,7 @@ use super::*;
 
 // Whether a body asks for this entry.
 fn puts(alloc: Global, body: &str, numbers: (u8, u8), of: &str) -> Result<bool, Fail> {
-    let ask = posted(alloc, "/api/queue", body)??;
+    let ask = ask_of_post(alloc, "/api/queue", body)??;
     let Request::PutEntry {
         name,
         file,
@@ -52,7 +52,7 @@ fn no_entries(rt: HostRuntime) -> Result<(), Fail> {
 
 // Whether a body asks for the user eve with her key and this number of groups.
 fn adds_eve(alloc: Global, body: &str, count: usize, on: bool) -> Result<bool, Fail> {
-    let ask = posted(alloc, "/api/access/users", body)??;
+    let ask = ask_of_post(alloc, "/api/access/users", body)??;
     let Request::PutUser {
         name,
         key,
@@ -100,7 +100,7 @@ fn put(alloc: Global, body: &str) -> Result<Result<Ask, Direct>, Fail> {
 }
 
 // Of the changes of a user's key, groups and activity, those that a body asks for.
-fn changed(alloc: Global, body: &str) -> Result<(bool, bool, Option<bool>), Fail> {
+fn changes_in(alloc: Global, body: &str) -> Result<(bool, bool, Option<bool>), Fail> {
     let ask = put(alloc, body)??;
     let Request::ChangeUser {
         key,
@@ -117,10 +117,10 @@ fn changed(alloc: Global, body: &str) -> Result<(bool, bool, Option<bool>), Fail
 #[test]
 fn changes(rt: HostRuntime) -> Result<(), Fail> {
     let alloc = rt.alloc();
-    assert!(rt; changed(alloc, "{}")? == (false, false, None));
+    assert!(rt; changes_in(alloc, "{}")? == (false, false, None));
     let body = "{\"active\":false,\"groups\":[]}";
-    assert!(rt; changed(alloc, body)? == (false, true, Some(false)));
-    assert!(rt; changed(alloc, "{\"key\":\"evekey0000000001\"}")? == (true, false, None));
+    assert!(rt; changes_in(alloc, body)? == (false, true, Some(false)));
+    assert!(rt; changes_in(alloc, "{\"key\":\"evekey0000000001\"}")? == (true, false, None));
     Ok(())
 }
 

@@ -2,7 +2,7 @@
 use super::*;
 
 // What an upload of this filename asks.
-fn uploaded(alloc: Global, filename: &str) -> Result<Result<Ask, Direct>, Fail> {
+fn ask_of_upload(alloc: Global, filename: &str) -> Result<Result<Ask, Direct>, Fail> {
     let mut body = Vec::from_slice(
         alloc,
         b"--XY\r\nContent-Disposition: form-data; name=\"file\"; filename=\"",
@@ -16,7 +16,7 @@ fn uploaded(alloc: Global, filename: &str) -> Result<Result<Ask, Direct>, Fail> 
 
 // Whether an upload of this filename is stored under this name.
 fn stores(alloc: Global, filename: &str, wanted: &str) -> Result<bool, Fail> {
-    let ask = uploaded(alloc, filename)??;
+    let ask = ask_of_upload(alloc, filename)??;
     let Request::PutFile {
         name,
         bytes,
@@ -53,14 +53,22 @@ fn uploads(rt: HostRuntime) -> Result<(), Fail> {
 
 // The name of what an upload of this filename comes to.
 fn upload(alloc: Global, filename: &str) -> Result<&'static str, Fail> {
-    let answer = uploaded(alloc, filename)?;
+    let answer = ask_of_upload(alloc, filename)?;
     Ok(outcome(&answer))
 }
 
 #[test]
 fn bad_names(rt: HostRuntime) -> Result<(), Fail> {
     let alloc = rt.alloc();
-    for filename in ["", ".g", "a.txt", "a.gcode/", "..", "a.gcode.part"] {
+    for filename in [
+        "",
+        ".g",
+        "a.txt",
+        "a.gcode/",
+        "..",
+        "a.gcode.part",
+        "../../etc/passwd",
+    ] {
         assert!(rt; upload(alloc, filename)? == "BadMedia");
     }
     let long =

@@ -1,14 +1,14 @@
 //! A host with its keeper, its shelf and its link.
-use super::ROOT;
-use super::makers::{blob, house_of, keeper_of, link, shelf_of};
 use super::seen::{Seen, seen_of};
 use super::wishes::{Wish, request_of};
 use desk_steps::State;
+use host_makers::{ROOT, house_of, keeper_of, link_at, shelf_of, three_users};
 use octo_asks::Ask;
 use octo_house::House;
 use octo_keeper::{MemoryKeeper, MemoryShelf};
+use octo_outside::Blob;
 use print_records::Outcome;
-use printer_link::MemoryLink;
+use printer_link::{FateList, MemoryLink};
 use std::alloc::Global;
 use std::process::Abort;
 
@@ -35,13 +35,14 @@ pub(super) struct Kept {
 impl Bench {
     /// A host with a printer for PLA, at whose keeper and shelf these calls fail, counted from 1.
     pub(super) fn failing(rt: &impl Abort, alloc: Global, keeper: &[u64], shelf: &[u64]) -> Bench {
-        let mut keeper = keeper_of(rt, alloc, keeper);
-        let mut shelf = shelf_of(rt, alloc, shelf);
-        let house = match house_of(rt, alloc, "PLA", &mut keeper, &mut shelf) {
-            Ok(house) => house,
-            Err(_) => panic!(rt; "it doesn't begin"),
-        };
-        let link = link(rt, alloc);
+        let mut keeper = keeper_of(
+            alloc,
+            three_users(alloc).expect(rt, "no memory"),
+            keeper,
+        ).expect(rt, "no memory");
+        let mut shelf = shelf_of(alloc, shelf).expect(rt, "no memory");
+        let house = house_of(alloc, "PLA", 30_000, &mut keeper, &mut shelf).expect(rt, "no host");
+        let link = link_at(alloc, "p", FateList::new(alloc)).expect(rt, "no memory");
         Bench {
             alloc,
             house,
@@ -55,7 +56,7 @@ impl Bench {
     pub(super) fn end(self) {}
 
     fn ask(&mut self, rt: &impl Abort, key: &[u8], wish: Wish) -> Seen {
-        let key = blob(rt, self.alloc, key);
+        let key = Blob::from_slice(self.alloc, key).expect(rt, "no memory");
         let request = request_of(rt, self.alloc, wish);
         let ask = Ask { key, request };
         let answer = self.house.ask(&mut self.keeper, &mut self.shelf, ask, 7);
@@ -99,7 +100,7 @@ impl Bench {
         Seen::Turned
     }
 
-    pub(super) fn kept(&self, rt: &impl Abort) -> Kept {
+    pub(super) fn what_is_kept(&self, rt: &impl Abort) -> Kept {
         let Some(tables) = self.keeper.tables() else {
             panic!(rt; "no tables")
         };

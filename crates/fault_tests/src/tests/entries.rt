@@ -2,8 +2,8 @@
 use super::rows::{Calls, Place, Step, calls_of};
 use super::seen::Seen;
 use super::wishes::Wish;
-use super::{ANA, BEN, ROOT};
 use desk_steps::State;
+use host_makers::{ANA, BEN, ROOT};
 use print_records::Outcome;
 
 /// Turns until nothing is connected to or printed any more.

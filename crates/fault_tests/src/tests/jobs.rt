@@ -2,8 +2,8 @@
 use super::rows::{Calls, Place, Step, calls_of};
 use super::seen::Seen;
 use super::wishes::Wish;
-use super::{ANA, EVE};
 use desk_steps::State;
+use host_makers::{ANA, EVE};
 use octo_access::Permission;
 use print_records::Outcome;
 

@@ -23,7 +23,7 @@ pub(super) fn look_at(rt: &impl Abort, bench: &mut Bench) -> Look {
         queue: bench.sees(rt, Wish::Queue),
         prints: bench.sees(rt, Wish::Prints),
         users: bench.sees(rt, Wish::Users),
-        kept: bench.kept(rt),
+        kept: bench.what_is_kept(rt),
     }
 }
 

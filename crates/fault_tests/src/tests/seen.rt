@@ -2,7 +2,7 @@
 use super::sums::{active_users, left_sum, newest, size_sum};
 use desk_steps::State;
 use octo_access::Permission;
-use octo_asks::{Answer, Progress, ShownEntry, ShownFile, StoredCause};
+use octo_asks::{Answer, ShownFile, StoredCause};
 use print_records::Outcome;
 
 /// What came of a step, by its plain values.
@@ -84,7 +84,7 @@ pub(super) fn seen_of(answer: &Answer) -> Seen {
         Answer::WrongState { state } => Seen::WrongState(*state),
         Answer::FileBusy => Seen::FileBusy,
         Answer::TooHotLine { line, asked, limit } => Seen::TooHotLine(*line, *asked, *limit),
-        Answer::NameTaken { kept } => Seen::NameTaken(priority_of(kept)),
+        Answer::NameTaken { kept } => Seen::NameTaken(kept.as_ref().map(|kept| kept.priority)),
         Answer::KeeperFault => Seen::KeeperFault,
         Answer::ShelfFault => Seen::ShelfFault,
         _ => Seen::Other,
@@ -94,13 +94,6 @@ pub(super) fn seen_of(answer: &Answer) -> Seen {
 fn size_of(file: &Option<ShownFile>) -> Option<u64> {
     match file {
         Some(file) => Some(file.size),
-        None => None,
-    }
-}
-
-fn priority_of(kept: &Option<ShownEntry>) -> Option<u8> {
-    match kept {
-        Some(kept) => Some(kept.priority),
         None => None,
     }
 }

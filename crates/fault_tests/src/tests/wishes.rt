@@ -1,5 +1,5 @@
 //! What the steps of a row ask for.
-use super::makers::{blob, name};
+use byte_text::Name;
 use desk_steps::State;
 use octo_asks::Request;
 use octo_outside::Blob;
@@ -45,7 +45,7 @@ pub(super) fn request_of(rt: &impl Abort, alloc: Global, wish: Wish) -> Request 
         Wish::Upload(text, print) => upload(rt, alloc, text, print),
         Wish::Put(entry, priority, copies, material) => put(rt, entry, priority, copies, material),
         Wish::Drop(entry) => Request::DropOwn {
-            name: name(rt, entry),
+            name: Name::from_text(entry).expect(rt, "a long name"),
         },
         Wish::Select(print) => Request::SelectFile {
             name: file(rt),
@@ -79,13 +79,13 @@ fn plain_request(wish: Wish) -> Request {
 }
 
 fn file(rt: &impl Abort) -> byte_text::Name {
-    name(rt, "a.gcode")
+    Name::from_text("a.gcode").expect(rt, "a long name")
 }
 
 fn upload(rt: &impl Abort, alloc: Global, text: &[u8], print: bool) -> Request {
     Request::PutFile {
         name: file(rt),
-        bytes: blob(rt, alloc, text),
+        bytes: Blob::from_slice(alloc, text).expect(rt, "no memory"),
         select: false,
         print,
     }
@@ -93,20 +93,20 @@ fn upload(rt: &impl Abort, alloc: Global, text: &[u8], print: bool) -> Request {
 
 fn put(rt: &impl Abort, entry: &str, priority: u8, copies: u8, material: &str) -> Request {
     Request::PutEntry {
-        name: name(rt, entry),
+        name: Name::from_text(entry).expect(rt, "a long name"),
         file: file(rt),
         priority,
         copies,
-        material: name(rt, material),
+        material: Name::from_text(material).expect(rt, "a long name"),
     }
 }
 
 fn added_user(rt: &impl Abort, alloc: Global) -> Request {
     let mut groups = arrayvec::ArrayVec::new();
-    groups.push(name(rt, "users"));
+    groups.push(Name::from_text("users").expect(rt, "a long name"));
     Request::PutUser {
-        name: name(rt, "tom"),
-        key: blob(rt, alloc, b"tom-key-0123456789"),
+        name: Name::from_text("tom").expect(rt, "a long name"),
+        key: Blob::from_slice(alloc, b"tom-key-0123456789").expect(rt, "no memory"),
         groups,
         active: true,
     }
@@ -114,7 +114,7 @@ fn added_user(rt: &impl Abort, alloc: Global) -> Request {
 
 fn switched_off(rt: &impl Abort) -> Request {
     Request::ChangeUser {
-        name: name(rt, "tom"),
+        name: Name::from_text("tom").expect(rt, "a long name"),
         key: None,
         groups: None,
         active: Some(false),

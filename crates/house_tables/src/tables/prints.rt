@@ -5,7 +5,7 @@ ghost use Rattle.octo_keeper.specs.Tables.{with_due_end, with_taken};
 ghost use Rattle.octo_keeper.specs.declared.tables.Tables.{Tables};
 ghost use Rattle.gcode_lines.specs.Job.{most_bytes};
 ghost use Rattle.print_records.specs.declared.ending.Outcome.TheVariants as outcome;
-ghost use Rattle.octo_outside.specs.Told.{Counts};
+ghost use Rattle.octo_outside.specs.Recorded.{Counts};
 ghost use Rattle.house_rows.specs.Counts.{is_failed};
 ghost use Rattle.house_tables.specs.Data.{due_of, has_room_for, is_unwritten_by_fault, with_begun, with_ended};
 ghost use Rattle.house_tables.specs.Kept.{KeepsRows};

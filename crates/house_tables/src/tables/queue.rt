@@ -4,21 +4,21 @@ ghost use Rattle.octo_asks.specs.Shown.{shown_entry};
 ghost use Rattle.octo_asks.specs.declared.answer.Answer.TheVariants as answer;
 ghost use Rattle.octo_keeper.specs.Tables.{changed};
 ghost use Rattle.octo_keeper.specs.declared.tables.Change.TheVariants as change;
-ghost use Rattle.print_queue.specs.Calls.{wanted};
-ghost use Rattle.print_queue.specs.Lawful.{IsWhole};
+ghost use Rattle.print_queue.specs.Calls.{new_entry};
+ghost use Rattle.print_queue.specs.Lawful.{IsWholeRow};
 ghost use Rattle.print_queue.specs.Rows.{without};
 ghost use Rattle.house_verdicts.specs.Known.{Known};
 ghost use Rattle.house_verdicts.specs.Rows.{put_by, drop_verdict};
 ghost use Rattle.print_queue.specs.Calls.{put_answer};
 ghost use Rattle.house_verdicts.specs.Verdict.{IsDone, is_fault};
-ghost use Rattle.octo_outside.specs.Told.{Counts};
+ghost use Rattle.octo_outside.specs.Recorded.{Counts};
 ghost use Rattle.house_rows.specs.Counts.{is_keepers, is_shelfs};
 ghost use Rattle.house_tables.specs.Data.{over};
 ghost use Rattle.house_tables.specs.Done.{TablesDone};
 
 use super::HostTables;
 use byte_text::Name;
-use house_rows::{has_entry, keeper_refused, queue_refused};
+use house_rows::{answer_of_keeper_fault, answer_of_queue_refusal, has_entry};
 use octo_asks::{Answer, ShownEntry};
 use octo_keeper::{Change, Keeper};
 use print_queue::QueueEntry;
@@ -27,8 +27,8 @@ impl HostTables {
     /// Adds an entry, which has no arrival yet, to the queue.
     pub fn put_entry<K: Keeper>(&mut self, keeper: &mut K, asked: &QueueEntry) -> Answer
         requires priority { asked.now.priority ≤ 100 }
-        requires whole { IsWhole asked.now }
-        requires new { asked.now ≡ wanted asked.now.user asked.now.name asked.now.file
+        requires whole { IsWholeRow asked.now }
+        requires new { asked.now ≡ new_entry asked.now.user asked.now.name asked.now.file
             asked.now.priority asked.now.copies asked.now.material }
         ensures done { (k : Known) → IsDone (put_by (put_answer self.old.queue asked.now)
             (over k self.old)) result (over k self.old) (over k self.new) }
@@ -44,7 +44,7 @@ impl HostTables {
             &asked.material,
         ) {
             Ok(put) => put,
-            Err(refusal) => return queue_refused(&refusal),
+            Err(refusal) => return answer_of_queue_refusal(&refusal),
         };
         if put.fresh {
             return self.write_entry(keeper, put.entry);
@@ -74,7 +74,7 @@ impl HostTables {
             },
             Err(fault) => {
                 let _ = self.queue.remove(&entry.user, &entry.name);
-                keeper_refused(fault)
+                answer_of_keeper_fault(fault)
             }
         }
     }
@@ -95,7 +95,7 @@ impl HostTables {
             name: name.copy(),
         };
         if let Err(fault) = keeper.commit(self.alloc, &change) {
-            return keeper_refused(fault);
+            return answer_of_keeper_fault(fault);
         }
         let _ = self.queue.remove(user, name);
         Answer::Accepted

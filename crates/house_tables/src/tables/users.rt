@@ -10,7 +10,9 @@ ghost use Rattle.house_tables.specs.Done.{TablesDone};
 use super::HostTables;
 use arrayvec::ArrayVec;
 use byte_text::Name;
-use house_rows::{changed_user, keeper_refused, new_user, nobody, user_named, user_refused};
+use house_rows::{
+    answer_of_keeper_fault, answer_of_user_refusal, changed_user, new_user, nobody, user_named,
+};
 use octo_access::{Policy, UserRow};
 use octo_asks::{Answer, ShownUser};
 use octo_keeper::{Change, Keeper};
@@ -45,7 +47,7 @@ impl HostTables {
             result self.old self.new }
     {
         if let Err(refusal) = self.users.put(row, policy) {
-            return user_refused(&refusal);
+            return answer_of_user_refusal(&refusal);
         }
         match keeper.commit(self.alloc, &Change::PutUser(row.copy())) {
             Ok(()) => Answer::User {
@@ -53,7 +55,7 @@ impl HostTables {
             },
             Err(fault) => {
                 self.users.take_back(&row.name);
-                keeper_refused(fault)
+                answer_of_keeper_fault(fault)
             }
         }
     }
@@ -91,13 +93,13 @@ impl HostTables {
     {
         let former = match self.users.change(row, policy) {
             Ok(former) => former,
-            Err(refusal) => return user_refused(&refusal),
+            Err(refusal) => return answer_of_user_refusal(&refusal),
         };
         match keeper.commit(self.alloc, &Change::SetUser(row.copy())) {
             Ok(()) => Answer::Accepted,
             Err(fault) => {
                 self.users.restore(&former);
-                keeper_refused(fault)
+                answer_of_keeper_fault(fault)
             }
         }
     }

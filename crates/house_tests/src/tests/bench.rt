@@ -1,15 +1,19 @@
 //! A host with its keeper, its shelf and its link.
-use super::ANA;
-use super::makers::{blob, house_of, keeper_of, link, name, shelf_of};
 use super::seen::{Seen, seen_of};
+use byte_text::Name;
 use desk_steps::State;
+use host_makers::{ANA, house_of, keeper_of, link_at, shelf_of, three_users};
 use octo_asks::{Ask, Request};
 use octo_house::House;
 use octo_keeper::{KeeperFault, MemoryKeeper, MemoryShelf};
+use octo_outside::Blob;
 use print_records::Outcome;
-use printer_link::MemoryLink;
+use printer_link::{FateList, MemoryLink};
 use std::alloc::Global;
 use std::process::Abort;
+
+/// The time limit of a line, in milliseconds.
+pub(super) const LIMIT: u64 = 30_000;
 
 /// A host with its keeper, its shelf and its link.
 #[derive(Drop)]
@@ -21,20 +25,6 @@ pub(super) struct Bench {
     link: MemoryLink,
 }
 
-/// A begun host, and nothing else.
-fn begun(
-    rt: &impl Abort,
-    alloc: Global,
-    material: &str,
-    keeper: &mut MemoryKeeper,
-    shelf: &mut MemoryShelf,
-) -> House {
-    match house_of(rt, alloc, material, keeper, shelf) {
-        Ok(house) => house,
-        Err(_) => panic!(rt; "it doesn't begin"),
-    }
-}
-
 impl Bench {
     /// A host with a printer of a material, at whose keeper and shelf these calls fail, counted from 1.
     pub(super) fn failing(
@@ -44,10 +34,14 @@ impl Bench {
         keeper: &[u64],
         shelf: &[u64],
     ) -> Bench {
-        let mut keeper = keeper_of(rt, alloc, keeper);
-        let mut shelf = shelf_of(rt, alloc, shelf);
-        let house = begun(rt, alloc, material, &mut keeper, &mut shelf);
-        let link = link(rt, alloc);
+        let mut keeper = keeper_of(
+            alloc,
+            three_users(alloc).expect(rt, "no memory"),
+            keeper,
+        ).expect(rt, "no memory");
+        let mut shelf = shelf_of(alloc, shelf).expect(rt, "no memory");
+        let house = house_of(alloc, material, LIMIT, &mut keeper, &mut shelf).expect(rt, "no host");
+        let link = link_at(alloc, "p", FateList::new(alloc)).expect(rt, "no memory");
         Bench {
             alloc,
             house,
@@ -67,11 +61,13 @@ impl Bench {
 
     /// Another host takes the place of this one, on what the keeper and the shelf hold.
     pub(super) fn begin_again(&mut self, rt: &impl Abort) {
-        self.house = begun(rt, self.alloc, "any", &mut self.keeper, &mut self.shelf);
+        self.house = house_of(self.alloc, "any", LIMIT, &mut self.keeper, &mut self.shelf).expect(
+            rt, "no host",
+        );
     }
 
     pub(super) fn ask(&mut self, rt: &impl Abort, key: &[u8], request: Request) -> Seen {
-        let key = blob(rt, self.alloc, key);
+        let key = Blob::from_slice(self.alloc, key).expect(rt, "no memory");
         let ask = Ask { key, request };
         let answer = self.house.ask(&mut self.keeper, &mut self.shelf, ask, 7);
         seen_of(&answer)
@@ -112,8 +108,8 @@ impl Bench {
 
     pub(super) fn upload(&mut self, rt: &impl Abort, file: &str, text: &[u8], print: bool) -> Seen {
         let request = Request::PutFile {
-            name: name(rt, file),
-            bytes: blob(rt, self.alloc, text),
+            name: Name::from_text(file).expect(rt, "a long name"),
+            bytes: Blob::from_slice(self.alloc, text).expect(rt, "no memory"),
             select: false,
             print,
         };
@@ -129,7 +125,7 @@ impl Bench {
             )
         );
         let request = Request::SelectFile {
-            name: name(rt, file),
+            name: Name::from_text(file).expect(rt, "a long name"),
             print: false,
         };
         self.accepts(rt, ANA, request);

@@ -1,7 +1,7 @@
 //! Prints are started, paused, cancelled and refused.
 use super::*;
 use octo_access::Permission;
-use octo_outside::ItemList;
+use octo_outside::{Blob, ItemList};
 
 const SIX: &[u8] = b"G28\nG1 X1\nG1 X2\nG1 X3\nG1 X4\nG1 X5\n";
 
@@ -64,7 +64,11 @@ fn restart_while_paused(rt: HostRuntime) {
 /// Asks to send a line.
 fn sends(bench: &mut Bench, rt: &impl Abort, alloc: Global, text: &[u8]) -> Seen {
     let mut texts = ItemList::new(alloc);
-    assert!(rt; texts.push(blob(rt, alloc, text)).is_ok());
+    assert!(rt;
+        texts
+            .push(Blob::from_slice(alloc, text).expect(rt, "no memory"))
+            .is_ok()
+    );
     bench.ask(rt, ANA, Request::Lines { texts })
 }
 

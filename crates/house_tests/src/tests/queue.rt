@@ -2,6 +2,8 @@
 ghost use Rattle.std.specs.Prelude.{◌<◌};
 
 use super::*;
+use byte_text::Name;
+use octo_outside::Blob;
 
 /// Asks ana's entry of the file into the queue.
 fn put(
@@ -13,11 +15,11 @@ fn put(
     material: &str,
 ) -> Seen {
     let request = Request::PutEntry {
-        name: name(rt, entry),
-        file: name(rt, "a.gcode"),
+        name: Name::from_text(entry).expect(rt, "a long name"),
+        file: Name::from_text("a.gcode").expect(rt, "a long name"),
         priority,
         copies,
-        material: name(rt, material),
+        material: Name::from_text(material).expect(rt, "a long name"),
     };
     bench.ask(rt, ANA, request)
 }
@@ -124,10 +126,10 @@ fn failed_next(rt: HostRuntime) {
 
 fn adds(bench: &mut Bench, rt: &impl Abort, alloc: Global, text: &str) -> Seen {
     let mut groups = arrayvec::ArrayVec::new();
-    groups.push(name(rt, "users"));
+    groups.push(Name::from_text("users").expect(rt, "a long name"));
     let request = Request::PutUser {
-        name: name(rt, text),
-        key: blob(rt, alloc, b"tom-key-0123456789"),
+        name: Name::from_text(text).expect(rt, "a long name"),
+        key: Blob::from_slice(alloc, b"tom-key-0123456789").expect(rt, "no memory"),
         groups,
         active: true,
     };
@@ -136,7 +138,7 @@ fn adds(bench: &mut Bench, rt: &impl Abort, alloc: Global, text: &str) -> Seen {
 
 fn switches_off(bench: &mut Bench, rt: &impl Abort, text: &str) -> Seen {
     let request = Request::ChangeUser {
-        name: name(rt, text),
+        name: Name::from_text(text).expect(rt, "a long name"),
         key: None,
         groups: None,
         active: Some(false),
@@ -146,7 +148,7 @@ fn switches_off(bench: &mut Bench, rt: &impl Abort, text: &str) -> Seen {
 
 fn drops_own(bench: &mut Bench, rt: &impl Abort, entry: &str) -> Seen {
     let request = Request::DropOwn {
-        name: name(rt, entry),
+        name: Name::from_text(entry).expect(rt, "a long name"),
     };
     bench.ask(rt, ANA, request)
 }

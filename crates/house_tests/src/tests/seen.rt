@@ -2,7 +2,7 @@
 use desk_steps::State;
 use gcode_lines::FileFault;
 use octo_access::Permission;
-use octo_asks::{Answer, Progress, ShownEntry, ShownFile, ShownPrintList, StoredCause};
+use octo_asks::{Answer, Progress, ShownFile, ShownPrintList, StoredCause};
 use print_records::Outcome;
 
 /// An answer by its plain values: what tests compare, and of a list its length.
@@ -78,7 +78,7 @@ pub(super) fn seen_of(answer: &Answer) -> Seen {
         Answer::WrongState { state } => Seen::WrongState(*state),
         Answer::FileBusy => Seen::FileBusy,
         Answer::TooHotLine { line, asked, limit } => Seen::TooHotLine(*line, *asked, *limit),
-        Answer::NameTaken { kept } => Seen::NameTaken(priority_of(kept)),
+        Answer::NameTaken { kept } => Seen::NameTaken(kept.as_ref().map(|kept| kept.priority)),
         Answer::Full { count } => Seen::Full(*count),
         Answer::KeeperFault => Seen::KeeperFault,
         Answer::ShelfFault => Seen::ShelfFault,
@@ -96,13 +96,6 @@ fn job_of(file: &Option<ShownFile>, progress: &Option<Progress>, state: State) -
 fn newest_of(prints: &ShownPrintList) -> Option<Outcome> {
     match prints.as_slice().first() {
         Some(print) => Some(print.outcome),
-        None => None,
-    }
-}
-
-fn priority_of(kept: &Option<ShownEntry>) -> Option<u8> {
-    match kept {
-        Some(kept) => Some(kept.priority),
         None => None,
     }
 }

@@ -1,11 +1,12 @@
 //! Turns, and ends that are written later.
-use super::makers::{house_of, keeper_of, shelf_of};
+use super::bench::LIMIT;
 use super::*;
+use host_makers::{house_of, keeper_of, shelf_of, three_users};
 use octo_house::BeginFault;
 use octo_keeper::KeeperFault;
 
 /// A host whose print has ended, and whose keeper failed at that end.
-fn ended(rt: &impl Abort, alloc: Global) -> Bench {
+fn ended_bench(rt: &impl Abort, alloc: Global) -> Bench {
     let mut bench = Bench::failing(rt, alloc, "any", &[3], &[]);
     bench.connect(rt);
     bench.select(rt, "a.gcode", b"G28\n");
@@ -17,7 +18,7 @@ fn ended(rt: &impl Abort, alloc: Global) -> Bench {
 // The keeper fails at the end of a print: its record stays active, and the next turn writes it.
 #[test]
 fn end_written_later(rt: HostRuntime) {
-    let mut bench = ended(&rt, rt.alloc());
+    let mut bench = ended_bench(&rt, rt.alloc());
     assert_eq!(rt; bench.kept_outcome(0), Some(Outcome::Active));
     assert_eq!(rt; bench.unwritten(), Some((1, KeeperFault::Failed)));
     bench.turn(&rt);
@@ -29,7 +30,7 @@ fn end_written_later(rt: HostRuntime) {
 // A print that begins meanwhile carries the end.
 #[test]
 fn end_written_by_a_start(rt: HostRuntime) {
-    let mut bench = ended(&rt, rt.alloc());
+    let mut bench = ended_bench(&rt, rt.alloc());
     bench.accepts(&rt, ANA, Request::Start);
     assert_eq!(rt; bench.kept_outcome(0), Some(Outcome::Done));
     assert_eq!(rt; bench.kept_outcome(1), Some(Outcome::Active));
@@ -55,9 +56,12 @@ fn begin_after_a_print(rt: HostRuntime) {
 
 /// Why a host doesn't begin, at whose keeper and shelf these calls fail.
 fn fault_of(rt: &impl Abort, alloc: Global, keeper: &[u64], shelf: &[u64]) -> Option<BeginFault> {
-    let mut keeper = keeper_of(rt, alloc, keeper);
-    let mut shelf = shelf_of(rt, alloc, shelf);
-    match house_of(rt, alloc, "any", &mut keeper, &mut shelf) {
+    let mut keeper = keeper_of(alloc, three_users(alloc).expect(rt, "no memory"), keeper).expect(
+        rt,
+        "no memory",
+    );
+    let mut shelf = shelf_of(alloc, shelf).expect(rt, "no memory");
+    match house_of(alloc, "any", LIMIT, &mut keeper, &mut shelf) {
         Ok(_) => None,
         Err(fault) => Some(fault),
     }

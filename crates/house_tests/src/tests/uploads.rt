@@ -1,32 +1,33 @@
 //! Files are stored, printed, shown and deleted.
 use super::*;
+use byte_text::Name;
 use gcode_lines::FileFault;
 use octo_asks::StoredCause;
 
 fn deletes(bench: &mut Bench, rt: &impl Abort) -> Seen {
     let request = Request::DeleteFile {
-        name: name(rt, "a.gcode"),
+        name: Name::from_text("a.gcode").expect(rt, "a long name"),
     };
     bench.ask(rt, ANA, request)
 }
 
 fn shows(bench: &mut Bench, rt: &impl Abort) -> Seen {
     let request = Request::GetFile {
-        name: name(rt, "a.gcode"),
+        name: Name::from_text("a.gcode").expect(rt, "a long name"),
     };
     bench.ask(rt, ANA, request)
 }
 
 fn downloads(bench: &mut Bench, rt: &impl Abort) -> Seen {
     let request = Request::Download {
-        name: name(rt, "a.gcode"),
+        name: Name::from_text("a.gcode").expect(rt, "a long name"),
     };
     bench.ask(rt, ANA, request)
 }
 
 fn selects(bench: &mut Bench, rt: &impl Abort) -> Seen {
     let request = Request::SelectFile {
-        name: name(rt, "a.gcode"),
+        name: Name::from_text("a.gcode").expect(rt, "a long name"),
         print: false,
     };
     bench.ask(rt, ANA, request)

@@ -1,4 +1,4 @@
-//! Heads that a server and another reader of them could take for different messages.
+//! Heads that two readers could take for different messages.
 use super::{reads, refuses};
 use http_grammar::MessageFault;
 use std::test::Fail;

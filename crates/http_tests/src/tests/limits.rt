@@ -50,6 +50,16 @@ fn heads(rt: HostRuntime) -> Result<(), Fail> {
     at_most(&rt, rt.alloc(), fields, 64, "", MessageFault::HeadTooLarge)
 }
 
+// A head of 16,385 bytes without an end; one of 16,383, whose end may still come, ends with its input.
+#[test]
+fn heads_without_an_end(rt: HostRuntime) -> Result<(), Fail> {
+    let alloc = rt.alloc();
+    let over = repeated(alloc, "X: ", "a", 16_365, "")?;
+    refuses(&rt, alloc, &[over.as_str()], MessageFault::HeadTooLarge)?;
+    let under = repeated(alloc, "X: ", "a", 16_363, "")?;
+    refuses(&rt, alloc, &[under.as_str()], MessageFault::Ended)
+}
+
 // A chunk's line of 1,024 bytes with its line end, and trailers of 16,384 bytes with the empty line.
 #[test]
 fn chunks(rt: HostRuntime) -> Result<(), Fail> {

@@ -4,7 +4,7 @@ use super::{PATIENCE, conn_of};
 use byte_conn::ByteConn;
 use http_grammar::MessageFault;
 use octo_http::{Message, read_message};
-use octo_outside::{CallList, MemoryConn};
+use octo_outside::{CallList, MemoryConn, calls_of};
 use std::alloc::{AllocError, Global};
 use std::test::Fail;
 
@@ -21,7 +21,7 @@ fn upload(rt: HostRuntime) -> Result<(), Fail> {
 
 // What is read of the upload byte by byte, if these calls find nothing.
 fn read_with(alloc: Global, quiet: &[u64]) -> Result<Result<Message, MessageFault>, AllocError> {
-    let quiet_at = CallList::from_items(Vec::from_slice(alloc, quiet)?);
+    let quiet_at = calls_of(alloc, quiet)?;
     let conn = MemoryConn::new(alloc, UPLOAD, quiet_at, CallList::new(alloc))?;
     Ok(read_message(alloc, &mut ByteConn::new(conn), PATIENCE))
 }

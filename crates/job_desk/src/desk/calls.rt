@@ -2,7 +2,7 @@
 ghost use Rattle.std.specs.Prelude.{◌≡◌, ◌<◌, ◌≤◌, ◌+◌, ◌++◌, ◌⊎◌, length, Ok, Err, MatchResult, All};
 ghost use Rattle.byte_text.specs.Sendable.{IsSendable};
 ghost use Rattle.desk_steps.specs.Table.{add_manual, cancel_at, connect_at, disconnect_at, drop_file_step, manual_at, pause_at, printing, restart_at, resume_at, select_at, start_at, toggle_at};
-ghost use Rattle.job_desk.specs.DeskViews.{named_file};
+ghost use Rattle.desk_steps.specs.Data.{named_file};
 ghost use Rattle.job_desk.specs.Views.{bytes_of};
 
 use super::{Desk, MOST_MANUAL, NotSelected, Prints, Selected};
@@ -36,7 +36,7 @@ impl Desk {
         }
     }
 
-    /// Ends the connection, after the script for it if there was a connection.
+    /// Ends the connection; if it was ready, the Disconnect script comes first.
     pub fn disconnect(&mut self)
         ensures { self.new ≡ disconnect_at self.old.state self.old }
     {

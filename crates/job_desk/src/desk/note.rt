@@ -1,7 +1,7 @@
 //! What the desk makes of a turn of the link.
 ghost use Rattle.std.specs.Prelude.{◌≡◌, ◌⊎◌, true, false, IfSome};
 ghost use Rattle.desk_steps.specs.Endings.{IsEnding};
-ghost use Rattle.desk_steps.specs.Note.{ended, fail, leave, note_fact, note_step, opened, ready_at};
+ghost use Rattle.desk_steps.specs.Note.{after_ending, fail, leave, note_fact, note_step, after_open, ready_at};
 ghost use Rattle.job_desk.specs.DeskViews.{MayNote};
 
 use super::{Desk, Lines, Prints};
@@ -24,8 +24,8 @@ impl Prints {
 impl Desk {
     /// Ends what is over by acknowledgement: no script line waits, and every issued line of the print is acknowledged.
     fn end(&mut self) -> Option<Ending>
-        ensures ending { result ≡ (ended self.old).0 }
-        ensures after { self.new ≡ (ended self.old).1 }
+        ensures ending { result ≡ (after_ending self.old).0 }
+        ensures after { self.new ≡ (after_ending self.old).1 }
     {
         if !self.waiting.is_empty() {
             return None;
@@ -68,7 +68,7 @@ impl Desk {
 
     /// A new session: nothing was issued in it yet.
     fn open(&mut self)
-        ensures { self.new ≡ opened self.old }
+        ensures { self.new ≡ after_open self.old }
     {
         self.lines = Lines {
             issued: 0,
@@ -113,8 +113,8 @@ impl Desk {
 
     /// The link or the session failed, after what this very turn completes.
     fn fail(&mut self) -> Option<Ending>
-        ensures ending { result ≡ (fail (ended self.old)).0 }
-        ensures after { self.new ≡ (fail (ended self.old)).1 }
+        ensures ending { result ≡ (fail (after_ending self.old)).0 }
+        ensures after { self.new ≡ (fail (after_ending self.old)).1 }
     {
         let completed = self.end();
         let broken = self.leave(State::Fault, Outcome::Failed);

@@ -3,7 +3,7 @@ ghost use Rattle.std.specs.Prelude.{◌≡◌, length, IfSome, slice_get};
 ghost use Rattle.std.specs.Option.{option_map};
 ghost use Rattle.byte_text.specs.Sendable.{IsSendable};
 ghost use Rattle.desk_steps.specs.Data.{commands_of};
-ghost use Rattle.desk_steps.specs.Pull.{draw_at, from_file, from_manual, from_poll, from_scripts, keep_number, next_number, poll_is_due, pull_step, settled, talk};
+ghost use Rattle.desk_steps.specs.Pull.{draw_at, from_file, from_manual, from_poll, from_scripts, keep_number, next_number, poll_is_due, pull_step, settled, draw_in_order};
 ghost use Rattle.desk_steps.specs.Issued.{line_of};
 ghost use Rattle.job_desk.specs.Views.{DrawsFrom};
 
@@ -116,7 +116,7 @@ impl Desk {
 
     /// A line other than a file command.
     fn take_other(&mut self, moment: u64) -> Option<Issued>
-        ensures drawn { DrawsFrom (talk moment self.old) result self.old self.new }
+        ensures drawn { DrawsFrom (draw_in_order moment self.old) result self.old self.new }
         ensures sendable { IfSome result (λ issued. IsSendable issued.text.items) }
     {
         if let Some(line) = self.take_script() {

@@ -1,4 +1,6 @@
 //! Worked cases: what is issued around a pause and a cancel.
+use byte_text::Name;
+
 mod table;
 
 use super::*;
@@ -43,13 +45,6 @@ const fn script(text: &'static str, point: Point) -> Step {
     Step::Issues(text, Tag::Script { point, print: 1 })
 }
 
-fn name(rt: &impl Abort, text: &str) -> Name {
-    match Name::from_text(text) {
-        Some(name) => name,
-        None => panic!(rt; "a name of over 100 bytes"),
-    }
-}
-
 fn add(rt: &impl Abort, scripts: &mut Scripts, point: Point, text: &str) {
     match one_command(text.as_bytes()) {
         Ok(text) => assert!(rt; scripts.add(point, &text).is_ok()),
@@ -78,7 +73,10 @@ fn desk_with(rt: &impl Abort, alloc: Global, lines: &[(Point, &str)]) -> Result<
 
 fn select(rt: &impl Abort, alloc: Global, desk: &mut Desk) -> Result<bool, Fail> {
     let job = read_commands(alloc, b"G28\n")?;
-    Ok(desk.select(&name(rt, "a.gcode"), job).is_ok())
+    Ok(
+        desk.select(&Name::from_text("a.gcode").expect(rt, "a long name"), job)
+            .is_ok(),
+    )
 }
 
 fn start(rt: &impl Abort, desk: &mut Desk) -> bool {
@@ -99,7 +97,8 @@ fn disconnect(desk: &mut Desk) -> bool {
 }
 
 fn connect(rt: &impl Abort, desk: &mut Desk) -> bool {
-    desk.connect(&name(rt, "p")).is_ok()
+    desk.connect(&Name::from_text("p").expect(rt, "a long name"))
+        .is_ok()
 }
 
 /// Makes a call, and returns whether it was accepted.

@@ -1,12 +1,16 @@
 //! How asks are answered.
-ghost use Rattle.std.specs.Prelude.{◌≡◌, ◌≤◌, List, true, false};
+ghost use Rattle.std.specs.Prelude.{◌≡◌, ◌↔◌, ◌≤◌, List, Option, true, false};
+ghost use Rattle.octo_access.specs.declared.permission.Permission.{Permission};
+ghost use Rattle.octo_asks.specs.declared.answer.Answer.TheVariants as answer;
 ghost use Rattle.octo_keeper.specs.declared.shelf.ShelfFile.{ShelfFile};
-ghost use Rattle.print_queue.specs.Calls.{wanted};
-ghost use Rattle.print_queue.specs.Lawful.{IsWhole};
+ghost use Rattle.print_queue.specs.Calls.{new_entry};
+ghost use Rattle.print_queue.specs.Lawful.{IsWholeRow};
+ghost use Rattle.house_verdicts.specs.Access.{is_denied};
 ghost use Rattle.house_verdicts.specs.Answers.{verdict, request_verdict, lacking};
 ghost use Rattle.house_verdicts.specs.Rows.{put_entry_verdict};
-ghost use Rattle.octo_house.specs.Answered.{Answers, AnswersOn, Shelves, AskDone, KeeperDone};
-ghost use Rattle.octo_house.specs.Groups.{is_edit, is_row};
+ghost use Rattle.house_verdicts.specs.Verdict.{gives};
+ghost use Rattle.octo_house.specs.Answered.{Answers, AnswersOn, Shelves, IsUntouched, AskDone, KeeperDone};
+ghost use Rattle.octo_house.specs.Groups.{is_edit, is_row, is_reading};
 ghost use Rattle.octo_house.specs.State.{known_of};
 
 use super::House;
@@ -26,6 +30,13 @@ impl House {
         ask: Ask,
         _moment: u64,
     ) -> Answer
+        // Who is denied, whatever the files are; nothing changes then.
+        ensures denied { (files : List ShelfFile) (permission : Option Permission)
+            → (result ≡ answer.Denied permission)
+            ↔ (verdict ask files (known_of self.old) ≡ gives (answer.Denied permission)) }
+        ensures untouched { is_denied result ≡ true → IsUntouched
+            keeper.old keeper.new shelf.old shelf.new self.old self.new }
+
         // The answer, and what it leaves of the host and of the files.
         ensures done { AnswersOn (S.files shelf.old)
             (λ files. verdict ask files (known_of self.old)) result self.old self.new }
@@ -74,6 +85,7 @@ impl House {
         ensures done { AnswersOn (S.files shelf.old)
             (λ files. request_verdict request.now user.now files (known_of self.old))
             result self.old self.new }
+        ensures granted { is_reading request.now ≡ true → is_denied result ≡ false }
         ensures files { Shelves (S.files shelf.old) (S.files shelf.new)
             (λ files. request_verdict request.now user.now files (known_of self.old)) result }
         ensures rest { AskDone K.tables K.faults S.files S.faults
@@ -119,6 +131,7 @@ impl House {
         ensures done { AnswersOn (S.files shelf.old)
             (λ files. request_verdict request.now user.now files (known_of self.old))
             result self.old self.new }
+        ensures granted { is_reading request.now ≡ true → is_denied result ≡ false }
         ensures files { Shelves (S.files shelf.old) (S.files shelf.new)
             (λ files. request_verdict request.now user.now files (known_of self.old)) result }
         ensures rest { AskDone K.tables K.faults S.files S.faults
@@ -186,8 +199,8 @@ impl House {
     // Adds an entry to the queue.
     fn put_entry<K: Keeper>(&mut self, keeper: &mut K, asked: &QueueEntry) -> Answer
         requires priority { asked.now.priority ≤ 100 }
-        requires whole { IsWhole asked.now }
-        requires new { asked.now ≡ wanted asked.now.user asked.now.name asked.now.file
+        requires whole { IsWholeRow asked.now }
+        requires new { asked.now ≡ new_entry asked.now.user asked.now.name asked.now.file
             asked.now.priority asked.now.copies asked.now.material }
         ensures done { Answers (put_entry_verdict asked.now (known_of self.old)) result
             self.old self.new }

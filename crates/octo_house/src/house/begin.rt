@@ -1,6 +1,6 @@
 //! A host begins.
 ghost use Rattle.std.specs.Prelude.{◌≡◌, ℕ, false, length, Some, IfOk, IsErrOf};
-ghost use Rattle.octo_outside.specs.Told.{Counts};
+ghost use Rattle.octo_outside.specs.Recorded.{Counts};
 ghost use Rattle.desk_steps.specs.Data.{new_desk};
 ghost use Rattle.octo_keeper.specs.declared.tables.Tables.{Tables};
 ghost use Rattle.send_window.specs.Data.{new_sender};

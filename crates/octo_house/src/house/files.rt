@@ -2,16 +2,17 @@
 ghost use Rattle.std.specs.Prelude.{◌≡◌, true, false};
 ghost use Rattle.desk_steps.specs.Table.{drop_file_step};
 ghost use Rattle.house_verdicts.specs.Reads.{list_files_verdict, get_file_verdict, download_verdict};
+ghost use Rattle.house_verdicts.specs.Access.{is_denied};
 ghost use Rattle.house_verdicts.specs.Uploads.{delete_verdict};
 ghost use Rattle.octo_house.specs.Answered.{Answers, AnswersOn, Shelves, ShelfDone};
-ghost use Rattle.octo_outside.specs.Told.{Counts};
+ghost use Rattle.octo_outside.specs.Recorded.{Counts};
 ghost use Rattle.house_rows.specs.Counts.{is_keepers, is_shelfs};
 ghost use Rattle.octo_house.specs.State.{AreRowsLeft, IsListed, known_of};
 
 use super::House;
 use byte_text::Name;
 use desk_steps::Refusal;
-use house_rows::{drop_name, read_bytes, refused, shelf_refused, shown_files};
+use house_rows::{answer_of_refusal, answer_of_shelf_fault, drop_name, read_bytes, shown_files};
 use octo_asks::{Answer, ShownFile};
 use octo_keeper::Shelf;
 
@@ -19,11 +20,12 @@ impl House {
     // All files.
     pub(super) fn list_files<S: Shelf>(&self, shelf: &mut S) -> Answer
         ensures done { AnswersOn (S.files shelf.old) list_files_verdict result self.now self.now }
+        ensures granted { is_denied result ≡ false }
         ensures rest { ShelfDone S.files S.faults shelf.old shelf.new result }
     {
         let files = match shelf.list(self.desk.alloc) {
             Ok(files) => files,
-            Err(fault) => return shelf_refused(fault),
+            Err(fault) => return answer_of_shelf_fault(fault),
         };
         match shown_files(self.desk.alloc, files.as_slice()) {
             Ok(files) => Answer::Files { files },
@@ -36,6 +38,7 @@ impl House {
         ensures done { AnswersOn (S.files shelf.old)
             (λ files. get_file_verdict name.now files (known_of self.now))
             result self.now self.now }
+        ensures granted { is_denied result ≡ false }
         ensures rest { ShelfDone S.files S.faults shelf.old shelf.new result }
     {
         if !self.holds(name) {
@@ -57,6 +60,7 @@ impl House {
         ensures done { AnswersOn (S.files shelf.old)
             (λ files. download_verdict name.now files (known_of self.now))
             result self.now self.now }
+        ensures granted { is_denied result ≡ false }
         ensures rest { ShelfDone S.files S.faults shelf.old shelf.new result }
     {
         if !self.holds(name) {
@@ -98,10 +102,10 @@ impl House {
             return Answer::NoFile;
         }
         if let Err(refusal) = self.may_drop(name) {
-            return refused(refusal);
+            return answer_of_refusal(refusal);
         }
         if let Err(fault) = shelf.remove(self.desk.alloc, name) {
-            return shelf_refused(fault);
+            return answer_of_shelf_fault(fault);
         }
         let _ = self.desk.session.drop_file(name);
         drop_name(&mut self.names, name);

@@ -1,7 +1,7 @@
 //! The selected file is printed: the keeper writes the record first, and then what can't fail is changed.
 ghost use Rattle.std.specs.Prelude.{◌≡◌, ℕ, true, OnOk};
 ghost use Rattle.desk_steps.specs.Table.{restart_at, start_at};
-ghost use Rattle.house_verdicts.specs.Known.{next_number};
+ghost use Rattle.house_verdicts.specs.Known.{next_print_number};
 ghost use Rattle.house_verdicts.specs.Prints.{has_room, new_row, start_verdict, restart_verdict};
 ghost use Rattle.octo_house.specs.Answered.{Answers, KeeperDone};
 ghost use Rattle.octo_house.specs.State.{known_of};
@@ -9,7 +9,7 @@ ghost use Rattle.octo_house.specs.State.{known_of};
 use super::House;
 use byte_text::Name;
 use desk_steps::{Refusal, State};
-use house_rows::{check_job, keeper_refused, refused};
+use house_rows::{answer_of_keeper_fault, answer_of_refusal, check_job};
 use octo_asks::Answer;
 use octo_keeper::Keeper;
 use print_records::{Ending, Outcome, PrintRow};
@@ -34,7 +34,7 @@ impl House {
     // The record of a print of the selected file, for which there is room.
     fn selected_row(&self, user: &Name) -> PrintRow
         requires { has_room (known_of self.now) ≡ true }
-        ensures { result ≡ new_row (next_number (known_of self.now)) user.now
+        ensures { result ≡ new_row (next_print_number (known_of self.now)) user.now
             self.now.desk.session.desk.file }
     {
         let desk = self.desk.session.desk();
@@ -52,7 +52,7 @@ impl House {
             result self.old self.new }
     {
         if let Err(refusal) = self.may_start() {
-            return refused(refusal);
+            return answer_of_refusal(refusal);
         }
         if let Err(full) = self.tables.check_room() {
             return full;
@@ -60,7 +60,7 @@ impl House {
         let row = self.selected_row(user);
         let number = row.number;
         if let Err(fault) = self.tables.begin_print(keeper, None, row, None) {
-            return keeper_refused(fault);
+            return answer_of_keeper_fault(fault);
         }
         let _ = self.desk.session.start(number);
         Answer::Accepted
@@ -88,7 +88,7 @@ impl House {
     {
         let print = match self.may_restart() {
             Ok(print) => print,
-            Err(refusal) => return refused(refusal),
+            Err(refusal) => return answer_of_refusal(refusal),
         };
         if let Err(full) = self.tables.check_room() {
             return full;
@@ -100,7 +100,7 @@ impl House {
         let row = self.selected_row(user);
         let number = row.number;
         if let Err(fault) = self.tables.begin_print(keeper, Some(ending), row, None) {
-            return keeper_refused(fault);
+            return answer_of_keeper_fault(fault);
         }
         let _ = self.desk.session.restart(number);
         Answer::Accepted

@@ -2,7 +2,9 @@
 ghost use Rattle.std.specs.Prelude.{◌≡◌, [], true, false};
 ghost use Rattle.desk_steps.specs.declared.state.State.TheVariants as state;
 ghost use Rattle.octo_keeper.specs.Tables.{with_taken};
-ghost use Rattle.house_verdicts.specs.Uploads.{select_verdict, next_verdict, take_verdict, print_verdict, named_file};
+ghost use Rattle.house_verdicts.specs.Access.{is_denied};
+ghost use Rattle.desk_steps.specs.Data.{named_file};
+ghost use Rattle.house_verdicts.specs.Uploads.{select_verdict, next_verdict, take_verdict, print_verdict};
 ghost use Rattle.octo_house.specs.Answered.{Answers, AnswersOn, KeeperDone, PrintDone, ShelfDone};
 ghost use Rattle.octo_house.specs.State.{IsDeskAlone, known_of};
 ghost use Rattle.octo_house.specs.Taken.{taken_answer};
@@ -11,7 +13,7 @@ use super::House;
 use byte_text::Name;
 use desk_steps::State;
 use gcode_lines::Job;
-use house_rows::{check_job, keeper_refused, may_select, read_job, refused};
+use house_rows::{answer_of_keeper_fault, answer_of_refusal, check_job, may_select, read_job};
 use octo_asks::{Answer, ShownEntry};
 use octo_keeper::{Keeper, Shelf};
 use print_queue::QueueEntry;
@@ -22,6 +24,7 @@ impl House {
         ensures done { AnswersOn (S.files shelf.old)
             (λ files. select_verdict [] name.now false files (known_of self.old)) result
             self.old self.new }
+        ensures granted { is_denied result ≡ false }
         ensures alone { IsDeskAlone self.old self.new }
         ensures rest { ShelfDone S.files S.faults shelf.old shelf.new result }
     {
@@ -52,6 +55,7 @@ impl House {
         ensures done { AnswersOn (S.files shelf.old)
             (λ files. select_verdict user.now name.now true files (known_of self.old)) result
             self.old self.new }
+        ensures granted { is_denied result ≡ false }
         ensures rest { PrintDone K.tables K.faults S.files S.faults
             keeper.old keeper.new shelf.old shelf.new result self.old self.new }
     {
@@ -85,7 +89,7 @@ impl House {
             result self.old self.new }
     {
         if let Err(refusal) = check_job(&job, self.desk.session.desk().limits()) {
-            return refused(refusal);
+            return answer_of_refusal(refusal);
         }
         if let Err(full) = self.tables.check_room() {
             return full;
@@ -94,7 +98,7 @@ impl House {
         let number = row.number;
         let accepted = taken_answer(&taken);
         if let Err(fault) = self.tables.begin_print(keeper, None, row, taken) {
-            return keeper_refused(fault);
+            return answer_of_keeper_fault(fault);
         }
         let _ = self.desk.session.select(name, job);
         let _ = self.desk.session.start(number);
@@ -109,6 +113,7 @@ impl House {
     ) -> Answer
         ensures done { AnswersOn (S.files shelf.old)
             (λ files. next_verdict files (known_of self.old)) result self.old self.new }
+        ensures granted { is_denied result ≡ false }
         ensures rest { PrintDone K.tables K.faults S.files S.faults
             keeper.old keeper.new shelf.old shelf.new result self.old self.new }
     {
@@ -132,6 +137,7 @@ impl House {
         requires { self.old.desk.session.desk.state ≡ state.Operational }
         ensures done { AnswersOn (S.files shelf.old)
             (λ files. take_verdict files (known_of self.old) entry) result self.old self.new }
+        ensures granted { is_denied result ≡ false }
         ensures rest { PrintDone K.tables K.faults S.files S.faults
             keeper.old keeper.new shelf.old shelf.new result self.old self.new }
     {

@@ -7,10 +7,10 @@ ghost use Rattle.session_steps.specs.Data.{doing, is_calling};
 ghost use Rattle.session_steps.specs.declared.found.Doing.TheVariants as now_doing;
 ghost use Rattle.session_steps.specs.Turn.{fact_of, IsTurn, IsTurnByNote};
 ghost use Rattle.house_tables.specs.Kept.{KeepsRows};
-ghost use Rattle.octo_outside.specs.Told.{Counts};
+ghost use Rattle.octo_outside.specs.Recorded.{Counts};
 ghost use Rattle.std.specs.Option.{option_or};
 ghost use Rattle.house_tables.specs.Data.{due_of, is_unwritten_by_fault};
-ghost use Rattle.octo_house.specs.Turned.{Turns, temps_told};
+ghost use Rattle.octo_house.specs.Turned.{Turns, known_temps};
 
 use super::House;
 use desk_steps::Note;
@@ -30,7 +30,7 @@ fn is_active(desk: &Desk)
 
 // The temperatures that are known after a turn with this note, or without one.
 fn temps_after_turn(note: &Option<Note>, kept: Temps) -> Temps
-    ensures { result ≡ temps_told note.now kept }
+    ensures { result ≡ known_temps note.now kept }
 {
     match note {
         Some(note) => temps_after(note, kept),

@@ -4,13 +4,14 @@ ghost use Rattle.desk_steps.specs.Run.{Start};
 ghost use Rattle.gcode_lines.specs.Job.{most_bytes};
 ghost use Rattle.octo_keeper.specs.Files.{with_file};
 ghost use Rattle.octo_asks.specs.declared.answer.Answer.TheVariants as answer;
-ghost use Rattle.house_verdicts.specs.Known.{next_number, shown_count};
+ghost use Rattle.house_verdicts.specs.Known.{next_print_number, shown_count};
 ghost use Rattle.temp_rules.specs.Hot.{first_hot_of};
-ghost use Rattle.house_verdicts.specs.Prints.{has_room, started};
-ghost use Rattle.house_verdicts.specs.Uploads.{put_file_verdict, named_file, has_file_room, is_selected, is_printed};
+ghost use Rattle.house_verdicts.specs.Prints.{has_room, start_deed};
+ghost use Rattle.desk_steps.specs.Data.{named_file};
+ghost use Rattle.house_verdicts.specs.Uploads.{put_file_verdict, has_file_room, is_selected, is_printed};
 ghost use Rattle.house_verdicts.specs.Verdict.{begins, is_fault};
 ghost use Rattle.octo_house.specs.Answered.{Answers, Shelves, AskDone, KeeperDone};
-ghost use Rattle.octo_outside.specs.Told.{Counts};
+ghost use Rattle.octo_outside.specs.Recorded.{Counts};
 ghost use Rattle.house_rows.specs.Reading.{is_keepers_fault, is_shelfs_fault};
 ghost use Rattle.octo_house.specs.State.{AreRowsLeft, IsListed, known_of};
 ghost use Rattle.octo_house.specs.Storing.{IsStored, IsNotStored, IsStartable, cause_of};
@@ -19,7 +20,10 @@ use super::House;
 use byte_text::Name;
 use desk_steps::{Limits, State};
 use gcode_lines::{Job, read_commands};
-use house_rows::{add_name, bad_file, is_among, may_select, refused, reserve_name, shelf_refused};
+use house_rows::{
+    add_name, answer_of_refusal, answer_of_shelf_fault, bad_file, is_among, may_select,
+    reserve_name,
+};
 use octo_access::{Permission, UserRow};
 use octo_asks::{Answer, StoredCause};
 use octo_keeper::{Keeper, KeeperFault, Shelf};
@@ -98,14 +102,14 @@ impl House {
         ensures keeper { is_keepers_fault result ≡ false }
     {
         if let Err(refusal) = self.may_drop(name) {
-            return Err(refused(refusal));
+            return Err(answer_of_refusal(refusal));
         }
         self.check_files(name)?;
         let Ok(()) = reserve_name(&mut self.names) else {
             return Err(Answer::NoMemory);
         };
         if let Err(fault) = shelf.put(self.desk.alloc, name, bytes) {
-            return Err(shelf_refused(fault));
+            return Err(answer_of_shelf_fault(fault));
         }
         let _ = self.desk.session.drop_file(name);
         add_name(&mut self.names, name);
@@ -167,8 +171,8 @@ impl House {
         requires start { IsStartable name.now commands (known_of self.old) }
         requires few { commands ≤ most_bytes }
         ensures done { Answers (begins (answer.Uploaded name.now true true)
-            (started user.now self.old.desk.session.desk.file
-            (Start (next_number (known_of self.old)) ∷ [])
+            (start_deed user.now self.old.desk.session.desk.file
+            (Start (next_print_number (known_of self.old)) ∷ [])
             (known_of self.old)) name.now) result self.old self.new }
         ensures plain { is_fault result ≡ false }
         ensures rest { KeeperDone K.tables K.faults keeper.old keeper.new

@@ -1,15 +1,15 @@
 //! The kinds of turn: it dials, hangs up, or receives and then sends.
 ghost use Rattle.std.specs.Prelude.{◌≡◌, ◌≢◌, ◌↔◌, ◌≤◌, ℕ, [], ◌∷◌, map, true, false, None, OnOk, OnErr, IsErrOf};
-ghost use Rattle.octo_outside.specs.Told.{Counts};
+ghost use Rattle.octo_outside.specs.Recorded.{Counts};
 ghost use Rattle.desk_steps.specs.Issued.{line_of};
 ghost use Rattle.desk_steps.specs.declared.link_fact.LinkFact.TheVariants as fact;
 ghost use Rattle.printer_link.specs.Link.{HasSlots, Grows, IsDial, IsNothing, IsRuns, RoseBy, counted_one, dial_events};
 ghost use Rattle.printer_link.specs.declared.link.LinkFault.TheVariants as fault;
-ghost use Rattle.send_window.specs.Data.{begun};
+ghost use Rattle.send_window.specs.Data.{sender_after_dial};
 ghost use Rattle.session_steps.specs.Data.{IsSession, doing, is_calling, port_of};
 ghost use Rattle.session_steps.specs.DeskTurn.{IsNoted};
 ghost use Rattle.session_steps.specs.Found.{got_of, up_after, can_find, unasked};
-ghost use Rattle.session_steps.specs.Steps.{Takes, TakesSome, hangs_up, dial_steps, talk_steps, turn_steps};
+ghost use Rattle.session_steps.specs.Steps.{Takes, TakesSome, hangs_up, dial_steps, steps_over_link, turn_steps};
 ghost use Rattle.octo_session.specs.FoundBy.{IsFoundBy};
 ghost use Rattle.session_steps.specs.Turn.{texts_in, IsDeskTurn, IsSpent};
 ghost use Rattle.session_steps.specs.declared.found.Doing.TheVariants as now_doing;
@@ -25,6 +25,8 @@ use session_steps::{Doing, Found, Received};
 // Dials the port of the desk.
 fn dial_port<L: Link>(desk: &Desk, link: &mut L) -> Result<(), LinkFault>
     requires { L.up link.old ≡ false }
+
+    // What the history says of it.
     ensures past { OnOk result (Grows (L.kind link.old) (L.past link.old) (L.past link.new)
         IsDial) }
     ensures past_no_port { IsErrOf result fault.NoPort
@@ -34,11 +36,15 @@ fn dial_port<L: Link>(desk: &Desk, link: &mut L) -> Result<(), LinkFault>
         (λ w added. (last : ℕ) × (added ≡ dial_events w last))) }
     ensures past_failed { IsErrOf result fault.Failed
         → Grows (L.kind link.old) (L.past link.old) (L.past link.new) IsRuns }
+
+    // Whether the port is listed, that the call counts, and whether the link is up.
     ensures no_port { IsErrOf result fault.NoPort
         ↔ ((L.kind link.old).listed (port_of desk.now) ≡ false) }
     ensures calls { L.calls link.new ≡ counted_one (L.calls link.old) }
     ensures up { OnOk result (L.up link.new ≡ true) }
     ensures down { OnErr result (L.up link.new ≡ false) }
+
+    // What stays, and the faults.
     ensures slots { HasSlots (L.kind link.old) }
     ensures kind { L.kind link.new ≡ L.kind link.old }
     ensures counts { Counts (IsErrOf result fault.Failed) (L.faults link.old) (L.faults link.new) }
@@ -54,7 +60,7 @@ impl Session {
     fn doing(&self) -> Doing
         ensures is { result ≡ doing self.now }
         ensures shut { result ≡ now_doing.Dialling → self.now.up ≡ false }
-        ensures open { result ≡ now_doing.Talking → self.now.up ≡ true }
+        ensures open { result ≡ now_doing.UsingLink → self.now.up ≡ true }
         ensures joined { IsSession self.now }
     {
         if !self.up && self.desk.state() == State::Connecting {
@@ -64,7 +70,7 @@ impl Session {
             return Doing::HangingUp;
         }
         if self.up {
-            return Doing::Talking;
+            return Doing::UsingLink;
         }
         Doing::Resting
     }
@@ -79,7 +85,7 @@ impl Session {
             result.ending self.new.desk }
         ensures joined { IsSession self.new }
         ensures up { self.new.up ≡ true }
-        ensures sender { self.new.sender ≡ begun self.old.sender }
+        ensures sender { self.new.sender ≡ sender_after_dial self.old.sender }
     {
         self.sender.hello();
         self.up = true;
@@ -91,17 +97,23 @@ impl Session {
     fn dial<L: Link>(&mut self, link: &mut L, moment: u64) -> Found
         requires shut { self.old.up ≡ false }
         requires down { L.up link.old ≡ false }
+
+        // What it found, which the desk noted.
         ensures finds { can_find now_doing.Dialling result.fact ≡ true }
         ensures silent { result.issued.items ≡ [] }
         ensures unasked { result.received ≡ received.Unasked }
         ensures noted { IsNoted moment self.new.sender.acked result.fact [] self.old.desk
             result.ending self.new.desk }
+
+        // The session and the link after it, and whether the port is listed.
         ensures joined { IsSession self.new }
         ensures up { self.new.up ≡ up_after result.fact false }
         ensures link { L.up link.new ≡ self.new.up }
         ensures no_port { (result.fact ≡ fact.NoPort)
             ↔ ((L.kind link.old).listed (port_of self.old.desk) ≡ false) }
         ensures ready { self.new.sender.ready ≡ true → self.old.sender.ready ≡ true }
+
+        // The steps that it took, and what stays of the link.
         ensures steps { Takes moment (L.kind link.old) (L.past link.old) (L.past link.new)
             (L.calls link.old) (L.calls link.new) (dial_steps result.fact) self.old.sender
             self.new.sender }
@@ -127,15 +139,21 @@ impl Session {
     // Hangs up, if the link is up.
     fn hang_up<L: Link>(&mut self, link: &mut L, moment: u64) -> Found
         requires { L.up link.old ≡ self.old.up }
+
+        // What it found, which the desk noted.
         ensures finds { result.fact ≡ fact.Closed }
         ensures silent { result.issued.items ≡ [] }
         ensures unasked { result.received ≡ received.Unasked }
         ensures noted { IsNoted moment self.new.sender.acked fact.Closed [] self.old.desk
             result.ending self.new.desk }
+
+        // The session and the link after it.
         ensures joined { IsSession self.new }
         ensures up { self.new.up ≡ false }
         ensures link { L.up link.new ≡ false }
         ensures sender { self.new.sender ≡ self.old.sender }
+
+        // The steps that it took, and what stays of the link.
         ensures steps { Takes moment (L.kind link.old) (L.past link.old) (L.past link.new)
             (L.calls link.old) (L.calls link.new) (hangs_up self.old.up ∷ []) self.old.sender
             self.new.sender }
@@ -154,19 +172,25 @@ impl Session {
     fn turn_while_up<L: Link>(&mut self, link: &mut L, moment: u64, line: &mut ReplyLine) -> Found
         requires open { self.old.up ≡ true }
         requires up { L.up link.old ≡ true }
-        ensures finds { can_find now_doing.Talking result.fact ≡ true }
+
+        // What it found, which the desk noted.
+        ensures finds { can_find now_doing.UsingLink result.fact ≡ true }
         ensures asked { (got_of result.received line.new.items) ≢ unasked }
         ensures found_by { IsFoundBy moment (got_of result.received line.new.items) result
             self.old.sender self.new.sender }
         ensures noted { IsNoted moment self.new.sender.acked result.fact
             (map line_of result.issued.items) self.old.desk result.ending self.new.desk }
+
+        // The session and the link after it.
         ensures spent { result.fact ≡ fact.Quiet → IsSpent moment self.new.desk self.new.sender }
         ensures joined { IsSession self.new }
         ensures up { self.new.up ≡ up_after result.fact true }
         ensures link { L.up link.new ≡ self.new.up }
+
+        // The steps that it took, and what stays of the link.
         ensures steps { TakesSome moment (L.kind link.old) (L.past link.old) (L.past link.new)
             (L.calls link.old) (L.calls link.new)
-            (talk_steps (got_of result.received line.new.items) result.fact
+            (steps_over_link (got_of result.received line.new.items) result.fact
             (texts_in (map line_of result.issued.items))) self.old.sender self.new.sender }
         ensures kind { L.kind link.new ≡ L.kind link.old }
         ensures counts { Counts (result.fact ≡ fact.Failed)
@@ -188,13 +212,17 @@ impl Session {
         line: &mut ReplyLine,
     ) -> Found
         requires { L.up link.old ≡ self.old.up }
+
+        // What it found, which the desk noted.
         ensures finds { can_find (doing self.old) result.fact ≡ true }
         ensures asked { ((got_of result.received line.new.items) ≡ unasked)
-            ↔ (doing self.old ≢ now_doing.Talking) }
+            ↔ (doing self.old ≢ now_doing.UsingLink) }
         ensures found_by { IsFoundBy moment (got_of result.received line.new.items) result
             self.old.sender self.new.sender }
         ensures desk { IsDeskTurn (doing self.old) moment self.new.sender.acked result.fact
             (map line_of result.issued.items) self.old.desk result.ending self.new.desk }
+
+        // The session and the link after it, and whether the port is listed.
         ensures spent { self.new.up ≡ true → result.fact ≡ fact.Quiet
             → IsSpent moment self.new.desk self.new.sender }
         ensures joined { IsSession self.new }
@@ -204,6 +232,8 @@ impl Session {
         ensures no_port { (result.fact ≡ fact.NoPort)
             ↔ ((doing self.old ≡ now_doing.Dialling)
             × ((L.kind link.old).listed (port_of self.old.desk) ≡ false)) }
+
+        // The steps that it took, and what stays of the link.
         ensures steps { TakesSome moment (L.kind link.old) (L.past link.old) (L.past link.new)
             (L.calls link.old) (L.calls link.new)
             (turn_steps (doing self.old) self.old.up (got_of result.received line.new.items)
@@ -218,7 +248,7 @@ impl Session {
         match self.doing() {
             Doing::Dialling => self.dial(link, moment),
             Doing::HangingUp => self.hang_up(link, moment),
-            Doing::Talking => self.turn_while_up(link, moment, line),
+            Doing::UsingLink => self.turn_while_up(link, moment, line),
             Doing::Resting => Found::silent(LinkFact::Quiet, Received::Unasked, None),
         }
     }

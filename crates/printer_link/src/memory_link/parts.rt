@@ -1,9 +1,9 @@
 //! What the calls of the link in memory do, part by part.
 ghost use Rattle.std.specs.Prelude.{◌≡◌, ◌≤◌, ◌∷◌, [], true, IfOk, OnOk, OnErr, IsErr, Err, ⊤};
 ghost use Rattle.octo_outside.specs.Memory.{one_more, is_listed};
-ghost use Rattle.octo_outside.specs.Told.{Counts};
+ghost use Rattle.octo_outside.specs.Recorded.{Counts};
 ghost use Rattle.printer_model.specs.World.{IsFrontReply};
-ghost use Rattle.printer_link.specs.Memory.{before_reply, called, failed, grown, heard, is_due, lists_name, link_world, next_fate, opening_last, send_events, LinkMoved, LinkRan, LinkReceived};
+ghost use Rattle.printer_link.specs.Memory.{before_reply, with_one_call, after_fault, with_added, with_one_recv, is_due, lists_name, link_world, next_fate, opening_last, send_events, LinkMoved, LinkRan, LinkReceived};
 ghost use Rattle.printer_link.specs.Link.{dial_events};
 ghost use Rattle.printer_model.specs.declared.event.WorldEvent.TheVariants as event;
 ghost use Rattle.printer_link.specs.declared.link.Heard.TheVariants as heard_as;
@@ -18,7 +18,7 @@ impl MemoryLink {
     /// Counts a call, and says whether it is one of those that fail.
     pub(super) fn begin(&mut self) -> bool
         ensures fails { result ≡ is_listed self.old.fail_at (one_more self.old.calls) }
-        ensures counts { self.new ≡ called self.old }
+        ensures counts { self.new ≡ with_one_call self.old }
     {
         self.calls = self.calls.saturating_add(1);
         let call = self.calls;
@@ -28,7 +28,7 @@ impl MemoryLink {
     /// Counts a receiving, and says whether the printer runs a line at it.
     pub(super) fn begin_recv(&mut self) -> bool
         ensures due { result ≡ is_due self.old.slow (one_more self.old.recvs) }
-        ensures counts { self.new ≡ heard self.old }
+        ensures counts { self.new ≡ with_one_recv self.old }
     {
         self.recvs = self.recvs.saturating_add(1);
         self.recvs % (u64::from(self.slow) + 1) == 0
@@ -48,7 +48,7 @@ impl MemoryLink {
     /// Counts a failure, and closes the link if one is made.
     pub(super) fn fail(&mut self) -> LinkFault
         ensures fault { result ≡ fault.Failed }
-        ensures after { self.new ≡ failed self.old }
+        ensures after { self.new ≡ after_fault self.old }
         ensures counts { Counts ⊤ self.old.faults self.new.faults }
     {
         self.story.close();
@@ -68,10 +68,10 @@ impl MemoryLink {
             .any(|listed| listed.as_str() == name)
     }
 
-    /// The printer runs all that waits, and a link is made; `fails` gives up at once.
+    /// The printer runs all that waits, and a link is made; if `fails` is set, the call fails at once.
     pub(super) fn make_link(&mut self, fails: bool) -> Result<(), AllocError>
         ensures ok { OnOk result (self.new
-            ≡ grown self.old (dial_events (link_world self.old)
+            ≡ with_added self.old (dial_events (link_world self.old)
             (opening_last self.old.story self.old.last))) }
         ensures err { OnErr result (LinkRan self.old self.new) }
         ensures fails { fails ≡ true → IsErr result × (self.new ≡ self.old) }
@@ -82,10 +82,10 @@ impl MemoryLink {
         self.story.dial(self.last)
     }
 
-    /// A line is sent and meets its fate; `fails` gives up at once.
+    /// A line is sent and meets its fate; if `fails` is set, the call fails at once.
     pub(super) fn transmit(&mut self, fails: bool, line: &Line) -> Result<(), AllocError>
         ensures ok { OnOk result (self.new
-            ≡ grown self.old (send_events (link_world self.old) line.now
+            ≡ with_added self.old (send_events (link_world self.old) line.now
             (next_fate self.old.story))) }
         ensures err { OnErr result (self.new ≡ self.old) }
         ensures fails { fails ≡ true → IsErr result }
@@ -99,7 +99,7 @@ impl MemoryLink {
     /// What happens before a reply is received.
     pub(super) fn before_reply(&mut self, restarts: bool, due: bool) -> Result<(), AllocError>
         ensures ok { OnOk result (self.new
-            ≡ grown self.old (before_reply restarts due (link_world self.old))) }
+            ≡ with_added self.old (before_reply restarts due (link_world self.old))) }
         ensures err { OnErr result (LinkMoved self.old self.new) }
     {
         self.story.before_reply(restarts, due)
@@ -108,7 +108,7 @@ impl MemoryLink {
     /// Takes the front of the wire from the printer, if there is one.
     pub(super) fn take_front(&mut self, into: &mut ReplyLine) -> Result<Heard, AllocError>
         ensures line { IfOk result (λ got. got ≡ heard_as.Line
-            → (self.new ≡ grown self.old (event.Recv ∷ []))
+            → (self.new ≡ with_added self.old (event.Recv ∷ []))
             × IsFrontReply into.new.items (link_world self.old).down) }
         ensures nothing { IfOk result (λ got. got ≡ heard_as.Nothing
             → (self.new ≡ self.old) × ((link_world self.old).down ≡ [])) }
@@ -117,7 +117,8 @@ impl MemoryLink {
         self.story.receive(into)
     }
 
-    /// What happens before a reply is received, and then the next one is taken; `fails` gives up at once.
+    /// What happens before a reply is received, and then the next one is taken; if `fails` is set, the call fails at
+    /// once.
     pub(super) fn take_reply(
         &mut self,
         fails: bool,

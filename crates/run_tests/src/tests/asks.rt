@@ -1,7 +1,8 @@
 //! Lists of asks.
-use super::ROOT;
-use super::makers::{blob, name};
+use byte_text::Name;
+use host_makers::ROOT;
 use octo_asks::{Ask, AskList, Request};
+use octo_outside::Blob;
 use std::alloc::Global;
 use std::process::Abort;
 
@@ -13,7 +14,7 @@ fn push(
     key: &[u8],
     request: Request,
 ) {
-    let key = blob(rt, alloc, key);
+    let key = Blob::from_slice(alloc, key).expect(rt, "no memory");
     assert!(rt; asks.push((worker, Ask { key, request })).is_ok());
 }
 
@@ -45,8 +46,8 @@ pub(super) fn versions(rt: &impl Abort, alloc: Global, asks: &mut AskList, count
 /// To store a file, to print it, and perhaps to select it.
 pub(super) fn put_file(rt: &impl Abort, alloc: Global, select: bool, bytes: &[u8]) -> Request {
     Request::PutFile {
-        name: name(rt, "a.gcode"),
-        bytes: blob(rt, alloc, bytes),
+        name: Name::from_text("a.gcode").expect(rt, "a long name"),
+        bytes: Blob::from_slice(alloc, bytes).expect(rt, "no memory"),
         select,
         print: true,
     }

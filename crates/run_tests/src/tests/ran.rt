@@ -1,16 +1,28 @@
 //! A run that has ended.
-use super::makers::{counter_of, empty_shelf, house_of, keeper_of, link};
+ghost use Rattle.std.specs.Prelude.{◌≡◌};
+ghost use Rattle.octo_asks.specs.Memory.{new_counter};
+
 use super::seen::{Seen, SeenEntry, entry_of};
+use host_makers::{house_of, keeper_of, link_at, no_rows, shelf_of};
 use house_run::run;
 use octo_asks::{AskList, Entry, MemoryCounter};
 use octo_house::House;
 use octo_keeper::{KeeperFault, MemoryKeeper, MemoryShelf};
 use octo_outside::MemoryClock;
 use print_records::Outcome;
-use printer_link::MemoryLink;
+use printer_link::{FateList, MemoryLink};
 use std::alloc::Global;
 use std::process::Abort;
 use std::sync::Wait;
+
+fn counter_of(rt: &impl Abort, alloc: Global, asks: AskList) -> MemoryCounter
+    ensures { result ≡ new_counter asks }
+{
+    match MemoryCounter::new(alloc, asks) {
+        Ok(counter) => counter,
+        Err(_) => panic!(rt; "no memory"),
+    }
+}
 
 /// What a run left: the number that it returned, and its host and all that it went over.
 #[derive(Drop)]
@@ -32,10 +44,12 @@ impl Ran {
         fails: &[u64],
     ) -> Ran {
         let mut counter = counter_of(rt, alloc, asks);
-        let mut keeper = keeper_of(rt, alloc, fails);
-        let mut shelf = empty_shelf(alloc);
-        let mut house = house_of(rt, alloc, &mut keeper, &mut shelf);
-        let mut link = link(rt, alloc);
+        let mut keeper = keeper_of(alloc, no_rows(alloc), fails).expect(rt, "no memory");
+        let mut shelf = shelf_of(alloc, &[]).expect(rt, "no memory");
+        let mut house = house_of(alloc, "any", 30_000, &mut keeper, &mut shelf).expect(
+            rt, "no host",
+        );
+        let mut link = link_at(alloc, "p", FateList::new(alloc)).expect(rt, "no memory");
         assert!(rt; !link.is_up());
         let mut clock = MemoryClock::new(100, 10);
         let calls = run(

@@ -2,7 +2,7 @@
 ghost use Rattle.std.specs.Prelude.{◌≡◌, ◌≤◌, None, Some, unwrap_or, true, false};
 ghost use Rattle.send_window.specs.Data.{IsSound};
 ghost use Rattle.send_window.specs.Hearing.{deadline_at, end_of_numbers, is_past, later, limit_passed, silent_limits, ticked};
-ghost use Rattle.send_window.specs.Sending.{given, hello, next_line};
+ghost use Rattle.send_window.specs.Sending.{after_giving, hello, next_line};
 
 use super::{MOST_LINES, MOST_SILENT, Sender};
 use crate::session_end::SessionEnd;
@@ -10,7 +10,7 @@ use crate::session_end::SessionEnd;
 impl Sender {
     pub(super) fn give_hello(&mut self, moment: u64)
         requires { self.old.hello_due ≡ true }
-        ensures state { self.new ≡ given (Some hello) moment self.old }
+        ensures state { self.new ≡ after_giving (Some hello) moment self.old }
         ensures sound { IsSound self.new }
     {
         self.hello_due = false;
@@ -21,7 +21,7 @@ impl Sender {
     pub(super) fn give_line(&mut self, moment: u64)
         requires hello_given { self.old.hello_due ≡ false }
         requires issued { self.old.cursor ≤ self.old.issued }
-        ensures state { self.new ≡ given (next_line self.old) moment self.old }
+        ensures state { self.new ≡ after_giving (next_line self.old) moment self.old }
         ensures sound { IsSound self.new }
     {
         self.sent = self.sent.max(self.cursor);

@@ -1,9 +1,11 @@
+//! Sessions of a sender, step by step: each call with the frames that follow it.
 ghost use Rattle.std.specs.Prelude.{◌≡◌, [], ◌∷◌, None};
 ghost use Rattle.send_window.specs.Counting.{acked_of};
 
 use crate::{Sender, SessionEnd};
 use byte_text::{Line, has_byte};
 use marlin_reply::Reply;
+use std::alloc::Global;
 use std::process::Abort;
 use std::test::*;
 
@@ -16,8 +18,6 @@ const N2: &[u8] = b"N2 G28*17";
 const N3: &[u8] = b"N3 G1 X10*82";
 
 const N4: &[u8] = b"N4 G1 X20*86";
-
-const N5: &[u8] = b"N5 G1 X30*86";
 
 #[derive(Drop)]
 enum Act {
@@ -100,17 +100,22 @@ fn perform(rt: &impl Abort, sender: &mut Sender, step: &Step) -> Result<(), Sess
     }
 }
 
-fn play(rt: &impl Abort, sender: &mut Sender, steps: &[Step]) {
+// The frames of a step are sent, and no more.
+fn check_frames(rt: &impl Abort, sender: &mut Sender, step: &Step, i: usize) {
     let mut line = Line::new();
+    for frame in step.frames {
+        let number = sender.next_frame(step.moment, &mut line);
+        assert!(rt; number.is_some(), "step {i}");
+        assert!(rt; line.as_slice() == *frame, "step {i}");
+    }
+    assert_eq!(rt; sender.next_frame(step.moment, &mut line), None, "step {i}");
+}
+
+fn play(rt: &impl Abort, sender: &mut Sender, steps: &[Step]) {
     for (i, step) in steps.iter().enumerate() {
         let answer = perform(rt, sender, step);
         assert_eq!(rt; answer, step.answer, "step {i}");
-        for frame in step.frames {
-            let number = sender.next_frame(step.moment, &mut line);
-            assert!(rt; number.is_some(), "step {i}");
-            assert!(rt; line.as_slice() == *frame, "step {i}");
-        }
-        assert_eq!(rt; sender.next_frame(step.moment, &mut line), None, "step {i}");
+        check_frames(rt, sender, step, i);
     }
 }
 
@@ -118,19 +123,16 @@ fn play(rt: &impl Abort, sender: &mut Sender, steps: &[Step]) {
 #[test]
 fn late_resend(rt: HostRuntime) -> Result<(), Fail> {
     let mut sender = Sender::new(rt.alloc(), 4, LIMIT)?;
-    play(
-        &rt,
-        &mut sender,
-        &[
-            at(0, Act::Begin, &[HELLO]),
-            at(0, ok(), &[]),
-            at(0, Act::Issue(b"G28"), &[N2]),
-            at(29_999, Act::Tick, &[]),
-            at(30_000, Act::Tick, &[N2]),
-            at(30_001, resend(3), &[]),
-            at(30_002, ok(), &[]),
-        ],
-    );
+    let steps = [
+        at(0, Act::Begin, &[HELLO]),
+        at(0, ok(), &[]),
+        at(0, Act::Issue(b"G28"), &[N2]),
+        at(29_999, Act::Tick, &[]),
+        at(30_000, Act::Tick, &[N2]),
+        at(30_001, resend(3), &[]),
+        at(30_002, ok(), &[]),
+    ];
+    play(&rt, &mut sender, &steps);
     assert_eq!(rt; sender.acked(), 0);
     play(&rt, &mut sender, &[at(30_003, ok(), &[])]);
     assert_eq!(rt; sender.acked(), 1);
@@ -141,26 +143,23 @@ fn late_resend(rt: HostRuntime) -> Result<(), Fail> {
 #[test]
 fn repeated_resend(rt: HostRuntime) -> Result<(), Fail> {
     let mut sender = Sender::new(rt.alloc(), 4, LIMIT)?;
-    play(
-        &rt,
-        &mut sender,
-        &[
-            at(0, Act::Begin, &[HELLO]),
-            at(0, ok(), &[]),
-            at(0, Act::Issue(b"G28"), &[N2]),
-            at(0, Act::Issue(b"G1 X10"), &[N3]),
-            at(0, Act::Issue(b"G1 X20"), &[N4]),
-            at(0, Act::Issue(b"G1 X30"), &[N5]),
-            at(1, ok(), &[]),
-            at(2, resend(3), &[N3, N4, N5]),
-            at(2, ok(), &[]),
-            at(3, resend(3), &[]),
-            at(3, ok(), &[]),
-            at(4, ok(), &[]),
-            at(5, ok(), &[]),
-            at(6, ok(), &[]),
-        ],
-    );
+    let steps = [
+        at(0, Act::Begin, &[HELLO]),
+        at(0, ok(), &[]),
+        at(0, Act::Issue(b"G28"), &[N2]),
+        at(0, Act::Issue(b"G1 X10"), &[N3]),
+        at(0, Act::Issue(b"G1 X20"), &[N4]),
+        at(0, Act::Issue(b"G1 X30"), &[b"N5 G1 X30*86"]),
+        at(1, ok(), &[]),
+        at(2, resend(3), &[N3, N4, b"N5 G1 X30*86"]),
+        at(2, ok(), &[]),
+        at(3, resend(3), &[]),
+        at(3, ok(), &[]),
+        at(4, ok(), &[]),
+        at(5, ok(), &[]),
+        at(6, ok(), &[]),
+    ];
+    play(&rt, &mut sender, &steps);
     assert_eq!(rt; sender.acked(), 4);
     assert_eq!(rt; sender.room(), 4);
     Ok(())
@@ -170,70 +169,61 @@ fn repeated_resend(rt: HostRuntime) -> Result<(), Fail> {
 #[test]
 fn third_resend(rt: HostRuntime) -> Result<(), Fail> {
     let mut sender = Sender::new(rt.alloc(), 16, LIMIT)?;
-    play(
-        &rt,
-        &mut sender,
-        &[
-            at(0, Act::Begin, &[HELLO]),
-            at(0, ok(), &[]),
-            at(0, Act::Issue(b"G28"), &[N2]),
-            at(0, Act::Issue(b"G1 X10"), &[N3]),
-            at(0, Act::Issue(b"G1 X20"), &[N4]),
-            at(1, resend(2), &[N2, N3, N4]),
-            at(1, ok(), &[]),
-            at(2, resend(2), &[]),
-            at(2, ok(), &[]),
-            at(3, resend(2), &[]),
-            at(3, ok(), &[]),
-            at(4, resend(2), &[N2, N3, N4]),
-            at(4, ok(), &[]),
-            at(5, ok_of(2), &[]),
-            at(5, ok_of(3), &[]),
-            at(5, ok_of(4), &[]),
-            at(5, ok_of(5), &[]),
-        ],
-    );
+    let steps = [
+        at(0, Act::Begin, &[HELLO]),
+        at(0, ok(), &[]),
+        at(0, Act::Issue(b"G28"), &[N2]),
+        at(0, Act::Issue(b"G1 X10"), &[N3]),
+        at(0, Act::Issue(b"G1 X20"), &[N4]),
+        at(1, resend(2), &[N2, N3, N4]),
+        at(1, ok(), &[]),
+        at(2, resend(2), &[]),
+        at(2, ok(), &[]),
+        at(3, resend(2), &[]),
+        at(3, ok(), &[]),
+        at(4, resend(2), &[N2, N3, N4]),
+        at(4, ok(), &[]),
+        at(5, ok_of(2), &[]),
+        at(5, ok_of(3), &[]),
+        at(5, ok_of(4), &[]),
+        at(5, ok_of(5), &[]),
+    ];
+    play(&rt, &mut sender, &steps);
     assert_eq!(rt; sender.acked(), 3);
     assert_eq!(rt; sender.issued(), 3);
     Ok(())
 }
 
-// The printer counted from 4 and got a garbled hello; later a line passes a limit in which it was busy.
+// The printer counted from 4 and got a corrupted hello; later a line passes a limit in which it was busy.
 #[test]
 fn garbled_hello(rt: HostRuntime) -> Result<(), Fail> {
     let mut sender = Sender::new(rt.alloc(), 1, LIMIT)?;
     assert_eq!(rt; sender.room(), 0);
-    play(
-        &rt,
-        &mut sender,
-        &[
-            at(0, Act::Begin, &[HELLO]),
-            at(1, Act::Hear(Reply::Error), &[]),
-            at(1, resend(5), &[HELLO]),
-            at(1, ok(), &[]),
-            at(2, Act::Hear(Reply::Start), &[]),
-        ],
-    );
+    let steps = [
+        at(0, Act::Begin, &[HELLO]),
+        at(1, Act::Hear(Reply::Error), &[]),
+        at(1, resend(5), &[HELLO]),
+        at(1, ok(), &[]),
+        at(2, Act::Hear(Reply::Start), &[]),
+    ];
+    play(&rt, &mut sender, &steps);
     assert_eq!(rt; sender.room(), 0);
     play(&rt, &mut sender, &[at(100, ok(), &[])]);
     assert!(rt; sender.ready());
     assert_eq!(rt; sender.room(), 1);
-    play(
-        &rt,
-        &mut sender,
-        &[
-            at(200, Act::Issue(b"G28"), &[N2]),
-            at(20_000, Act::Hear(Reply::Busy), &[]),
-            at(30_199, Act::Tick, &[]),
-            at(30_200, Act::Tick, &[N2]),
-            at(60_200, Act::Tick, &[N2]),
-            at(90_200, Act::Tick, &[N2]),
-            at(120_200, Act::Tick, &[N2]),
-            at(150_200, Act::Tick, &[N2]),
-            ends(180_200, Act::Tick, SessionEnd::NoAnswer { silent: 5 }),
-            ends(180_201, ok(), SessionEnd::NoAnswer { silent: 5 }),
-        ],
-    );
+    let steps = [
+        at(200, Act::Issue(b"G28"), &[N2]),
+        at(20_000, Act::Hear(Reply::Busy), &[]),
+        at(30_199, Act::Tick, &[]),
+        at(30_200, Act::Tick, &[N2]),
+        at(60_200, Act::Tick, &[N2]),
+        at(90_200, Act::Tick, &[N2]),
+        at(120_200, Act::Tick, &[N2]),
+        at(150_200, Act::Tick, &[N2]),
+        ends(180_200, Act::Tick, SessionEnd::NoAnswer { silent: 5 }),
+        ends(180_201, ok(), SessionEnd::NoAnswer { silent: 5 }),
+    ];
+    play(&rt, &mut sender, &steps);
     Ok(())
 }
 
@@ -241,20 +231,43 @@ fn garbled_hello(rt: HostRuntime) -> Result<(), Fail> {
 #[test]
 fn lost_hello(rt: HostRuntime) -> Result<(), Fail> {
     let mut sender = Sender::new(rt.alloc(), 4, LIMIT)?;
-    play(
-        &rt,
-        &mut sender,
-        &[
-            at(0, Act::Begin, &[HELLO]),
-            at(30_000, Act::Tick, &[]),
-            at(60_000, Act::Tick, &[]),
-            at(90_000, Act::Tick, &[]),
-            at(149_999, Act::Tick, &[]),
-            ends(179_999, Act::Tick, SessionEnd::NoAnswer { silent: 5 }),
-            at(180_000, Act::Begin, &[HELLO]),
-        ],
-    );
+    let steps = [
+        at(0, Act::Begin, &[HELLO]),
+        at(30_000, Act::Tick, &[]),
+        at(60_000, Act::Tick, &[]),
+        at(90_000, Act::Tick, &[]),
+        at(149_999, Act::Tick, &[]),
+        ends(179_999, Act::Tick, SessionEnd::NoAnswer { silent: 5 }),
+        at(180_000, Act::Begin, &[HELLO]),
+    ];
+    play(&rt, &mut sender, &steps);
     Ok(())
+}
+
+// A sender of 8 lines, of which 5 are acknowledged.
+fn with_five_of_eight(rt: &impl Abort, alloc: Global) -> Result<Sender, Fail> {
+    let mut sender = Sender::new(alloc, 4, LIMIT)?;
+    let steps = [
+        at(0, Act::Begin, &[HELLO]),
+        at(0, ok(), &[]),
+        at(0, Act::Issue(b"G28"), &[N2]),
+        at(0, ok(), &[]),
+        at(0, Act::Issue(b"G28"), &[b"N3 G28*16"]),
+        at(0, ok(), &[]),
+        at(0, Act::Issue(b"G28"), &[b"N4 G28*23"]),
+        at(0, ok(), &[]),
+        at(0, Act::Issue(b"G28"), &[b"N5 G28*22"]),
+        at(0, ok(), &[]),
+        at(0, Act::Issue(b"G28"), &[b"N6 G28*21"]),
+        at(0, ok(), &[]),
+        at(0, Act::Issue(b"G28"), &[b"N7 G28*20"]),
+        at(0, Act::Issue(b"G28"), &[b"N8 G28*27"]),
+        at(0, Act::Issue(b"G28"), &[b"N9 G28*26"]),
+        at(1, resend(10), &[]),
+        at(1, ok_of(8), &[]),
+    ];
+    play(rt, &mut sender, &steps);
+    Ok(sender)
 }
 
 // With 5 of 8 lines acknowledged: which replies end the session, and how; the end then stays.
@@ -279,30 +292,7 @@ fn ends_of_a_session(rt: HostRuntime) -> Result<(), Fail> {
         (Act::Hear(Reply::Start), SessionEnd::Restarted),
     ];
     for (reply, end) in cases {
-        let mut sender = Sender::new(rt.alloc(), 4, LIMIT)?;
-        play(
-            &rt,
-            &mut sender,
-            &[
-                at(0, Act::Begin, &[HELLO]),
-                at(0, ok(), &[]),
-                at(0, Act::Issue(b"G28"), &[N2]),
-                at(0, ok(), &[]),
-                at(0, Act::Issue(b"G28"), &[b"N3 G28*16"]),
-                at(0, ok(), &[]),
-                at(0, Act::Issue(b"G28"), &[b"N4 G28*23"]),
-                at(0, ok(), &[]),
-                at(0, Act::Issue(b"G28"), &[b"N5 G28*22"]),
-                at(0, ok(), &[]),
-                at(0, Act::Issue(b"G28"), &[b"N6 G28*21"]),
-                at(0, ok(), &[]),
-                at(0, Act::Issue(b"G28"), &[b"N7 G28*20"]),
-                at(0, Act::Issue(b"G28"), &[b"N8 G28*27"]),
-                at(0, Act::Issue(b"G28"), &[b"N9 G28*26"]),
-                at(1, resend(10), &[]),
-                at(1, ok_of(8), &[]),
-            ],
-        );
+        let mut sender = with_five_of_eight(&rt, rt.alloc())?;
         assert_eq!(rt; sender.acked(), 5);
         assert_eq!(rt; sender.room(), 1);
         play(
@@ -326,8 +316,8 @@ fn ample(rt: HostRuntime) -> Result<(), Fail> {
     Ok(())
 }
 
-// What replies alone acknowledge, the first `ok` being the hello's: a line garbled once, a line lost with two after
-// it, and a garbled hello.
+// What replies alone acknowledge, the first `ok` being the hello's: a line corrupted once, a line lost with two after
+// it, and a corrupted hello.
 fn counted_replies()
     ensures garbled_line { acked_of
         (Reply.Ok None None None None ∷ Reply.Error ∷ Reply.Resend 2 ∷ Reply.Ok None None None None

@@ -2,15 +2,15 @@
 ghost use Rattle.octo_house.specs.State.{session_of};
 ghost use Rattle.house_run.specs.Runs.{IsFresh};
 
-use super::ROOT;
-use super::makers::{blob, empty_keeper, empty_shelf, house_of, link};
 use super::real_rests::RealRests;
+use host_makers::{ROOT, house_of, keeper_of, link_at, no_rows, shelf_of};
 use octo_asks::{Ask, Request};
 use octo_doors::{Door, Doors};
 use octo_house::House;
 use octo_keeper::{MemoryKeeper, MemoryShelf};
+use octo_outside::Blob;
 use octo_serve::serve;
-use printer_link::MemoryLink;
+use printer_link::{Fate, FateList, MemoryLink};
 use std::alloc::Global;
 use std::process::Abort;
 use std::sync::Wait;
@@ -19,6 +19,16 @@ use std::time::Clock;
 
 /// The quiet reads for which a worker waits.
 const PATIENCE: u32 = 10_000;
+
+/// The first line that is sent arrives, and this number of lines after it is lost.
+fn fates(rt: &impl Abort, alloc: Global, lost: u32) -> FateList {
+    let mut fates = FateList::new(alloc);
+    assert!(rt; fates.push(Fate::Whole).is_ok());
+    for _ in 0..lost {
+        assert!(rt; fates.push(Fate::Lost).is_ok());
+    }
+    fates
+}
 
 /// A host with all that it serves with but its doors.
 #[derive(Drop)]
@@ -35,10 +45,10 @@ impl Bench {
     pub(super) fn new(rt: &impl Abort, alloc: Global, lost: u32) -> Bench
         ensures fresh { IsFresh (session_of result.house) }
     {
-        let mut keeper = empty_keeper(alloc);
-        let mut shelf = empty_shelf(alloc);
-        let house = house_of(rt, alloc, &mut keeper, &mut shelf);
-        let link = link(rt, alloc, lost);
+        let mut keeper = keeper_of(alloc, no_rows(alloc), &[]).expect(rt, "no memory");
+        let mut shelf = shelf_of(alloc, &[]).expect(rt, "no memory");
+        let house = house_of(alloc, "any", 1_000, &mut keeper, &mut shelf).expect(rt, "no host");
+        let link = link_at(alloc, "p", fates(rt, alloc, lost)).expect(rt, "no memory");
         Bench {
             alloc,
             house,
@@ -56,7 +66,7 @@ impl Bench {
         requires fresh { IsFresh (session_of self.old.house) }
         ensures fresh { IsFresh (session_of self.new.house) }
     {
-        let key = blob(rt, self.alloc, ROOT);
+        let key = Blob::from_slice(self.alloc, ROOT).expect(rt, "no memory");
         self.house
             .ask(&mut self.keeper, &mut self.shelf, Ask { key, request }, 0);
     }

@@ -1,9 +1,5 @@
 //! Doors in memory, and what was replied at them.
-ghost use Rattle.std.specs.Prelude.{All};
-ghost use Rattle.octo_doors.specs.Memory.{IsUntouched};
-
-use octo_doors::{ConnList, Doors, MemoryDoor};
-use octo_outside::{CallList, MemoryConn};
+use octo_doors::{Doors, MemoryDoor};
 use octo_serve::GateDoor;
 use std::alloc::Global;
 use std::process::Abort;
@@ -22,35 +18,6 @@ pub(super) fn gates<R: Abort + Copy + Drop>(
         Ok(doors) => doors,
         Err(_) => panic!(rt; "no memory"),
     }
-}
-
-fn conn(rt: &impl Abort, alloc: Global, input: &[u8]) -> MemoryConn
-    ensures { IsUntouched result }
-{
-    match MemoryConn::new(alloc, input, CallList::new(alloc), CallList::new(alloc)) {
-        Ok(conn) => conn,
-        Err(_) => panic!(rt; "no memory"),
-    }
-}
-
-fn with_conn(rt: &impl Abort, alloc: Global, conns: ConnList, input: &[u8]) -> ConnList
-    requires { All IsUntouched conns }
-    ensures { All IsUntouched result }
-{
-    let mut conns = conns;
-    assert!(rt; conns.push(conn(rt, alloc, input)).is_ok());
-    conns
-}
-
-/// Connections with these inputs.
-pub(super) fn conns_of(rt: &impl Abort, alloc: Global, inputs: &[&[u8]]) -> ConnList
-    ensures { All IsUntouched result }
-{
-    let mut conns = ConnList::new(alloc);
-    for input in inputs {
-        conns = with_conn(rt, alloc, conns, input);
-    }
-    conns
 }
 
 /// The status of a reply.

@@ -1,7 +1,7 @@
 //! Workers at work at once, and how a host ends.
 use super::*;
+use host_makers::door_of;
 use octo_doors::{Doors, MemoryDoor};
-use octo_outside::CallList;
 use std::alloc::Global;
 use std::process::Abort;
 
@@ -43,21 +43,12 @@ fn shutdown(rt: HostRuntime) {
     bench.end();
 }
 
-fn door(rt: &impl Abort, alloc: Global, inputs: &[&[u8]], fails: bool) -> MemoryDoor {
-    let conns = conns_of(rt, alloc, inputs);
-    let mut fail_at = CallList::new(alloc);
-    if fails {
-        assert!(rt; fail_at.push(1).is_ok());
-    }
-    MemoryDoor::new(alloc, conns, CallList::new(alloc), fail_at)
-}
-
 fn failing_doors(rt: &impl Abort, alloc: Global) -> Doors<MemoryDoor> {
     Doors {
-        a: door(rt, alloc, &[VERSION, VERSION], false),
-        b: door(rt, alloc, &[VERSION], true),
-        c: door(rt, alloc, &[], false),
-        d: door(rt, alloc, &[VERSION], false),
+        a: door_of(alloc, &[VERSION, VERSION], &[]).expect(rt, "no memory"),
+        b: door_of(alloc, &[VERSION], &[1]).expect(rt, "no memory"),
+        c: door_of(alloc, &[], &[]).expect(rt, "no memory"),
+        d: door_of(alloc, &[VERSION], &[]).expect(rt, "no memory"),
     }
 }
 

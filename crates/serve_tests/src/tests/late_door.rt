@@ -1,7 +1,7 @@
 //! A door that waits for another.
-use super::conns_of;
+use host_makers::door_of;
 use octo_doors::{Door, Knock, MemoryDoor};
-use octo_outside::{CallList, Failed, MemoryConn};
+use octo_outside::{Failed, MemoryConn};
 use std::alloc::Global;
 use std::process::Abort;
 use std::sync::Arc;
@@ -78,10 +78,9 @@ impl<R: Abort + Copy + Drop> LateDoor<R> {
         waits: bool,
         opens_at: u64,
     ) -> LateDoor<R> {
-        let conns = conns_of(rt, alloc, inputs);
         LateDoor {
             rt: *rt,
-            door: MemoryDoor::new(alloc, conns, CallList::new(alloc), CallList::new(alloc)),
+            door: door_of(alloc, inputs, &[]).expect(rt, "no memory"),
             gate: same_gate(rt, gate),
             waits,
             finished: 0,

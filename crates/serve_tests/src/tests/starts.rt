@@ -3,10 +3,11 @@ ghost use Rattle.octo_house.specs.State.{session_of};
 ghost use Rattle.house_run.specs.Runs.{IsFresh};
 
 use super::late_door::{LateDoor, gate};
-use super::makers::{blob, name};
 use super::*;
+use byte_text::Name;
 use octo_asks::Request;
 use octo_doors::Doors;
+use octo_outside::Blob;
 use std::alloc::Global;
 use std::process::Abort;
 
@@ -27,8 +28,8 @@ fn connecting(rt: &impl Abort, alloc: Global) -> Bench
 {
     let mut bench = Bench::new(rt, alloc, 100);
     let file = Request::PutFile {
-        name: name(rt, "a.gcode"),
-        bytes: blob(rt, alloc, FILE),
+        name: Name::from_text("a.gcode").expect(rt, "a long name"),
+        bytes: Blob::from_slice(alloc, FILE).expect(rt, "no memory"),
         select: true,
         print: false,
     };

@@ -6,7 +6,7 @@ use super::*;
 struct Failing {
     call: u64,
     sends: u64,
-    ran: u64,
+    ran: usize,
 }
 
 /// The calls of a print of two lines: the dial, a receiving, the hello, two receivings (the first one has its `ok`), the two
@@ -59,16 +59,10 @@ const CALLS: [Failing; 9] = [
     },
 ];
 
-/// What was executed are the first of these lines.
-fn check_first(rt: &impl Abort, link: &MemoryLink, texts: &[&str]) {
-    match link.executed(1) {
-        Ok(lines) => {
-            for (line, text) in lines.as_slice().iter().zip(texts) {
-                assert_eq!(rt; line.text.as_slice(), text.as_bytes());
-            }
-        }
-        Err(_) => panic!(rt; "no memory"),
-    }
+/// The link failed, and is down.
+fn check_failed(rt: &impl Abort, printed: &Printed) {
+    assert_eq!(rt; printed.end, PrintEnd::LinkFailed);
+    assert!(rt; !printed.link.is_up());
 }
 
 /// Prints two lines over a link whose call of this number fails.
@@ -85,8 +79,12 @@ fn print_failing(rt: &impl Abort, alloc: Global, number: u64) -> Result<Printed,
 fn each_call_failing(rt: HostRuntime) -> Result<(), Fail> {
     for row in CALLS {
         let printed = print_failing(&rt, rt.alloc(), row.call)?;
-        check(&rt, &printed, PrintEnd::LinkFailed, row.sends, row.ran);
-        check_first(&rt, &printed.link, &["G28", "G1 X10"]);
+        check_failed(&rt, &printed);
+        assert_eq!(rt; printed.link.sends(), row.sends);
+        assert_eq!(rt;
+            check_first(&rt, &printed.link, &["G28", "G1 X10"]),
+            row.ran
+        );
     }
     Ok(())
 }
@@ -95,8 +93,32 @@ fn each_call_failing(rt: HostRuntime) -> Result<(), Fail> {
 #[test]
 fn no_call_failing(rt: HostRuntime) -> Result<(), Fail> {
     let printed = print_failing(&rt, rt.alloc(), 10)?;
-    check(&rt, &printed, PrintEnd::Done, 3, 2);
+    check(&rt, &printed, PrintEnd::Done, 3, &["G28", "G1 X10"]);
     Ok(())
+}
+
+/// Prints four lines, the second of which is lost, over a link whose call of this number fails.
+fn print_losing(rt: &impl Abort, alloc: Global, number: u64) -> Result<Printed, Fail> {
+    let schedule = Schedule {
+        fail_at: call(alloc, number)?,
+        ..schedule(rt, alloc, &[W, W, L, W])?
+    };
+    print(rt, alloc, schedule, FOUR_LINES, 1, 1_000)
+}
+
+/// Each call of the link fails in turn in a print that sends three lines again, until no call is left that could fail.
+#[test]
+fn each_call_failing_after_a_loss(rt: HostRuntime) -> Result<(), Fail> {
+    for number in 1..=100 {
+        let printed = print_losing(&rt, rt.alloc(), number)?;
+        if printed.end == PrintEnd::Done {
+            check(&rt, &printed, PrintEnd::Done, 8, &FOUR);
+            return Ok(());
+        }
+        check_failed(&rt, &printed);
+        check_first(&rt, &printed.link, &FOUR);
+    }
+    Err("never done")?
 }
 
 /// Three commands in 35 turns, by a clock whose every rest makes a poll for temperatures due.

@@ -1,59 +1,19 @@
 //! A desk with its printer.
-use super::makers::{blob, name};
-use desk_steps::{Limits, State};
+use desk_steps::State;
+use host_makers::{link_at, plain_session, ports};
 use house_desk::HostDesk;
-use job_desk::{Desk, Scripts};
 use marlin_reply::Temps;
 use octo_asks::Answer;
-use octo_outside::{CallList, NameList};
-use octo_session::Session;
-use printer_link::{FateList, MemoryLink, Schedule};
-use send_window::Sender;
+use octo_outside::Blob;
+use printer_link::{FateList, MemoryLink};
 use std::alloc::Global;
 use std::process::Abort;
-
-fn ports(rt: &impl Abort, alloc: Global) -> NameList {
-    let mut ports = NameList::new(alloc);
-    assert!(rt; ports.push(name(rt, "p")).is_ok());
-    ports
-}
-
-fn link(rt: &impl Abort, alloc: Global) -> MemoryLink {
-    let schedule = Schedule {
-        names: ports(rt, alloc),
-        last: 0,
-        places: 4,
-        advanced: false,
-        fates: FateList::new(alloc),
-        slow: 0,
-        fail_at: CallList::new(alloc),
-        restart_at: CallList::new(alloc),
-    };
-    match MemoryLink::new(alloc, schedule) {
-        Ok(link) => link,
-        Err(_) => panic!(rt; "no memory"),
-    }
-}
-
-fn session(rt: &impl Abort, alloc: Global) -> Session {
-    let limits = Limits {
-        tool: 250,
-        bed: 100,
-    };
-    let Ok(desk) = Desk::new(alloc, Scripts::new(alloc), limits, 5_000) else {
-        panic!(rt; "no memory")
-    };
-    let Ok(sender) = Sender::new(alloc, 4, 30_000) else {
-        panic!(rt; "no memory")
-    };
-    Session::new(desk, sender)
-}
 
 fn desk(rt: &impl Abort, alloc: Global) -> HostDesk {
     HostDesk {
         alloc,
-        session: session(rt, alloc),
-        ports: ports(rt, alloc),
+        session: plain_session(alloc, 30_000).expect(rt, "no memory"),
+        ports: ports(alloc, "p").expect(rt, "no memory"),
         temps: Temps {
             tool: None,
             bed: None,
@@ -93,11 +53,13 @@ fn is_accepted(answer: Answer) -> bool {
 #[test]
 fn ample_desk(rt: HostRuntime) {
     let mut desk = desk(&rt, rt.alloc());
-    let mut link = link(&rt, rt.alloc());
+    let mut link = link_at(rt.alloc(), "p", FateList::new(rt.alloc())).expect(&rt, "no memory");
     assert!(rt; is_accepted(desk.connect(&None)));
     make_ready(&rt, &mut desk, &mut link);
     assert!(rt; connection_of(&desk) == Some((1, State::Operational)));
-    assert!(rt; is_accepted(desk.lines(&[blob(&rt, rt.alloc(), b"M105")])));
+    assert!(rt;
+        is_accepted(desk.lines(&[Blob::from_slice(rt.alloc(), b"M105").expect(&rt, "no memory")]))
+    );
     assert!(rt; is_accepted(desk.heat_tool(200)));
     assert!(rt; is_accepted(desk.heat_bed(60)));
     assert!(rt; matches!(desk.job(), Answer::Job { file: None, .. }));

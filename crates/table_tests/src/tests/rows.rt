@@ -1,12 +1,12 @@
 //! Rows and what is shown of them.
-use super::makers::{blob, entry, name, print, user};
+use super::makers::{entry, print, user};
 use byte_text::Name;
 use house_rows::{
     add_name, add_print, copy_names, names_in, read_bytes, read_job, read_lines, reserve_name,
     reserve_print, shown_entries, shown_files, shown_prints, shown_users,
 };
 use octo_keeper::{MemoryShelf, Shelf};
-use octo_outside::CallList;
+use octo_outside::{Blob, CallList};
 use print_records::{Outcome, PrintRow};
 use std::alloc::Global;
 use std::process::Abort;
@@ -14,7 +14,7 @@ use std::process::Abort;
 /// Adds a name.
 fn grow_names(rt: &impl Abort, names: &mut Vec<Name>, text: &str) {
     assert!(rt; reserve_name(names).is_ok());
-    add_name(names, &name(rt, text));
+    add_name(names, &Name::from_text(text).expect(rt, "a long name"));
 }
 
 /// Whether names have this many, and this first one.
@@ -28,7 +28,10 @@ fn begin_with(names: &[Name], count: usize, first: &str) -> bool {
 // Names of files, in their order.
 #[test]
 fn ample_names(rt: HostRuntime) {
-    let mut names = match names_in(rt.alloc(), &[(name(&rt, "b.gcode"), 4)]) {
+    let mut names = match names_in(
+        rt.alloc(),
+        &[(Name::from_text("b.gcode").expect(&rt, "a long name"), 4)],
+    ) {
         Ok(names) => names,
         Err(_) => panic!(rt; "no memory"),
     };
@@ -67,7 +70,12 @@ fn outcome_shown(alloc: Global, rows: &[PrintRow]) -> Option<Outcome> {
 // A file, a user, an entry and a print as they are shown.
 #[test]
 fn ample_shown(rt: HostRuntime) {
-    assert!(rt; size_shown(rt.alloc(), &name(&rt, "a.gcode")) == Some(4));
+    assert!(rt;
+        size_shown(
+            rt.alloc(),
+            &Name::from_text("a.gcode").expect(&rt, "a long name")
+        ) == Some(4)
+    );
     assert!(rt; active_shown(&rt, rt.alloc()) == Some(true));
     assert!(rt; copies_shown(&rt, rt.alloc()) == Some(3));
     let mut rows = Vec::new(rt.alloc());
@@ -97,7 +105,10 @@ fn file_read<S: Shelf>(alloc: Global, shelf: &mut S, file: &Name) -> Option<(usi
 
 /// The number of lines that a text is.
 fn lines_read(rt: &impl Abort, alloc: Global) -> Option<usize> {
-    match read_lines(alloc, &[blob(rt, alloc, b"M105")]) {
+    match read_lines(
+        alloc,
+        &[Blob::from_slice(alloc, b"M105").expect(rt, "no memory")],
+    ) {
         Ok(lines) => Some(lines.len()),
         Err(_) => None,
     }
@@ -106,7 +117,7 @@ fn lines_read(rt: &impl Abort, alloc: Global) -> Option<usize> {
 // A file and a line that are read.
 #[test]
 fn ample_read(rt: HostRuntime) {
-    let file = name(&rt, "a.gcode");
+    let file = Name::from_text("a.gcode").expect(&rt, "a long name");
     let mut shelf = shelf(&rt, rt.alloc(), &file);
     assert!(rt; file_read(rt.alloc(), &mut shelf, &file) == Some((4, 1)));
     assert!(rt; lines_read(&rt, rt.alloc()) == Some(1));

@@ -1,17 +1,19 @@
 //! Tables that change with their keeper.
 ghost use Rattle.std.specs.Prelude.{◌≡◌, None};
 
-use super::makers::{blob, entry, keeper, name};
+use super::makers::{entry, keeper};
+use byte_text::Name;
 use house_tables::HostTables;
 use octo_access::{Groups, Policy};
 use octo_asks::Answer;
 use octo_keeper::{Keeper, MemoryKeeper};
+use octo_outside::Blob;
 use print_records::{Ending, Outcome};
 use std::alloc::Global;
 use std::process::Abort;
 
 /// The tables of a host that begins with what the keeper keeps.
-fn begun<K: Keeper>(rt: &impl Abort, alloc: Global, keeper: &mut K) -> HostTables {
+fn tables_of<K: Keeper>(rt: &impl Abort, alloc: Global, keeper: &mut K) -> HostTables {
     match keeper.load(alloc) {
         Ok(tables) => HostTables::new(alloc, tables),
         Err(_) => panic!(rt; "no tables"),
@@ -37,9 +39,16 @@ fn adds_user<K: Keeper>(
     keeper: &mut K,
 ) -> bool {
     let policy = Policy::new(Groups::new(alloc), None);
-    let key = blob(rt, alloc, b"ben-key-0123456789");
+    let key = Blob::from_slice(alloc, b"ben-key-0123456789").expect(rt, "no memory");
     let groups = arrayvec::ArrayVec::new();
-    let answer = tables.put_user(keeper, &policy, &name(rt, "ben"), &key, &groups, true);
+    let answer = tables.put_user(
+        keeper,
+        &policy,
+        &Name::from_text("ben").expect(rt, "a long name"),
+        &key,
+        &groups,
+        true,
+    );
     matches!(answer, Answer::User { .. })
 }
 
@@ -50,7 +59,14 @@ fn switches_off<K: Keeper>(
     keeper: &mut K,
 ) -> bool {
     let policy = Policy::new(Groups::new(alloc), None);
-    let answer = tables.change_user(keeper, &policy, &name(rt, "ben"), &None, &None, Some(false));
+    let answer = tables.change_user(
+        keeper,
+        &policy,
+        &Name::from_text("ben").expect(rt, "a long name"),
+        &None,
+        &None,
+        Some(false),
+    );
     matches!(answer, Answer::Accepted)
 }
 
@@ -58,7 +74,7 @@ fn switches_off<K: Keeper>(
 #[test]
 fn ample_users(rt: HostRuntime) {
     let mut keeper = keeper(&rt, rt.alloc());
-    let mut tables = begun(&rt, rt.alloc(), &mut keeper);
+    let mut tables = tables_of(&rt, rt.alloc(), &mut keeper);
     assert!(rt; adds_user(&rt, rt.alloc(), &mut tables, &mut keeper));
     assert!(rt; switches_off(&rt, rt.alloc(), &mut tables, &mut keeper));
     assert!(rt; counts(&tables) == Some((2, 0, 0)));
@@ -73,7 +89,11 @@ fn puts<K: Keeper>(rt: &impl Abort, tables: &mut HostTables, keeper: &mut K) -> 
 
 fn drops<K: Keeper>(rt: &impl Abort, tables: &mut HostTables, keeper: &mut K) -> bool {
     matches!(
-        tables.drop_entry(keeper, &name(rt, "ana"), &name(rt, "job-1")),
+        tables.drop_entry(
+            keeper,
+            &Name::from_text("ana").expect(rt, "a long name"),
+            &Name::from_text("job-1").expect(rt, "a long name")
+        ),
         Answer::Accepted
     )
 }
@@ -82,7 +102,7 @@ fn drops<K: Keeper>(rt: &impl Abort, tables: &mut HostTables, keeper: &mut K) ->
 #[test]
 fn ample_entries(rt: HostRuntime) {
     let mut keeper = keeper(&rt, rt.alloc());
-    let mut tables = begun(&rt, rt.alloc(), &mut keeper);
+    let mut tables = tables_of(&rt, rt.alloc(), &mut keeper);
     assert!(rt; puts(&rt, &mut tables, &mut keeper));
     assert!(rt; counts(&tables) == Some((1, 1, 0)));
     assert!(rt; drops(&rt, &mut tables, &mut keeper));
@@ -94,7 +114,11 @@ fn begins<K: Keeper>(rt: &impl Abort, tables: &mut HostTables, keeper: &mut K) -
     if tables.check_room().is_err() {
         return false;
     }
-    let row = tables.next_row(&name(rt, "ana"), &name(rt, "a.gcode"), 218);
+    let row = tables.next_row(
+        &Name::from_text("ana").expect(rt, "a long name"),
+        &Name::from_text("a.gcode").expect(rt, "a long name"),
+        218,
+    );
     tables.begin_print(keeper, None, row, None).is_ok()
 }
 
@@ -110,7 +134,7 @@ fn kept_outcome(keeper: &MemoryKeeper) -> Option<Outcome> {
 #[test]
 fn ample_prints(rt: HostRuntime) {
     let mut keeper = keeper(&rt, rt.alloc());
-    let mut tables = begun(&rt, rt.alloc(), &mut keeper);
+    let mut tables = tables_of(&rt, rt.alloc(), &mut keeper);
     assert!(rt; begins(&rt, &mut tables, &mut keeper));
     assert!(rt; counts(&tables) == Some((1, 0, 1)));
     assert!(rt; tables.unwritten().is_none());

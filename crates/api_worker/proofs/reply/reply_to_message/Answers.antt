@@ -1,6 +1,6 @@
 use Rattle.std.proofs.Common.{[], true, sym, subst}
 use Rattle.octo_http.specs.declared.reply.HttpReply.{HttpReply}
-use Rattle.octo_outside.proofs.Told.{adds_none}
+use Rattle.octo_outside.proofs.Recorded.{adds_none}
 use Rattle.api_worker.specs.Served.{IsReplied, refused}
 use Rattle.api_worker.proofs.reply.reply_to_message.Goals as goal
 

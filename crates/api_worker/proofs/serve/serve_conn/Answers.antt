@@ -1,8 +1,8 @@
 use Rattle.std.proofs.Common.{◌≡◌, ℕ, List, [], Option, Some, sym, ap, subst, ◌∙◌}
 use Rattle.octo_doors.specs.Doors.{ConnState, state_of}
 use Rattle.octo_http.specs.Message.{Writes, Answers, IsPatient}
-use Rattle.octo_outside.proofs.Told.{adds_none}
-use Rattle.octo_outside.specs.Told.{Rose}
+use Rattle.octo_outside.proofs.Recorded.{adds_none}
+use Rattle.octo_outside.specs.Recorded.{Rose}
 use Rattle.std.specs.Prelude.{Ok, Err}
 use Rattle.api_worker.specs.Served.{no_call}
 use Rattle.api_worker.proofs.Asked.{leads_to}

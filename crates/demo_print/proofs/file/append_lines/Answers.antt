@@ -1,6 +1,6 @@
 use Rattle.std.proofs.Common.{◌∙◌, ◌<◌, ◌+◌, ◌-◌, ◌++◌, ◌∷◌, ℕ, List, ap, sym, codes, arith}
 use Rattle.std.proofs.lemmas.List.{append_assoc}
-use Rattle.demo_print.specs.Draws.{draws, drawn, number_after}
+use Rattle.demo_print.specs.Draws.{draws, upper_bits, number_after}
 use Rattle.demo_print.specs.File.{command_of, lines_of}
 use Rattle.demo_print.proofs.DrawLaws.{after-more, draws-more}
 use Rattle.demo_print.proofs.file.append_lines.Goals as goal
@@ -11,7 +11,7 @@ loop-preserved c =
     let left = c.args.commands - (c.loop.counter + 1) in
     let next = c.draw.new.self in
     let drawn_next = draws-more c.loop.numbers c.args.commands c.loop.counter within
-    ∙ ap (λ (number : ℕ). drawn number ∷ draws number left) (sym c.draw.ensures.number)
+    ∙ ap (λ (number : ℕ). upper_bits number ∷ draws number left) (sym c.draw.ensures.number)
     ∙ ap (λ (draw : ℕ). draw ∷ draws next left) (sym c.draw.ensures.value) in
     record {
       lines = c.loop.invariant.lines

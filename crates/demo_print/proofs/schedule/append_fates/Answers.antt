@@ -1,7 +1,7 @@
 use Rattle.std.proofs.Common.{◌∙◌, ◌<◌, ◌+◌, ◌-◌, ◌++◌, ◌∷◌, [], ℕ, List, ap, sym, arith}
 use Rattle.std.proofs.lemmas.List.{append_assoc}
 use Rattle.printer_link.specs.declared.schedule.Fate.{Fate}
-use Rattle.demo_print.specs.Draws.{draws, drawn}
+use Rattle.demo_print.specs.Draws.{draws, upper_bits}
 use Rattle.demo_print.specs.Fates.{fate_after, fates_after, harmed_after}
 use Rattle.demo_print.proofs.DrawLaws.{draws-more}
 use Rattle.demo_print.proofs.schedule.append_fates.Goals as goal
@@ -12,9 +12,9 @@ loop-preserved c =
     let next = c.append_fate.new.numbers in
     let left = draws next (c.args.count - (c.loop.counter + 1)) in
     let told = c.in_ok-harmed.ensures in
-    let fate = fate_after c.loop.harmed (drawn next) in
+    let fate = fate_after c.loop.harmed (upper_bits next) in
     let drawn_next = draws-more c.loop.numbers c.args.count c.loop.counter within
-    ∙ ap (λ (number : ℕ). drawn number ∷ draws number (c.args.count - (c.loop.counter + 1))) (sym told.number) in
+    ∙ ap (λ (number : ℕ). upper_bits number ∷ draws number (c.args.count - (c.loop.counter + 1))) (sym told.number) in
     record {
       fates = c.loop.invariant.fates
           ∙ ap (λ (all : List ℕ). c.loop.fates ++ fates_after c.loop.harmed all) drawn_next

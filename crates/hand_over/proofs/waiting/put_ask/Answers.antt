@@ -3,7 +3,7 @@ use Rattle.atomic_table.specs.Table.{rest}
 use Rattle.hand_over.specs.declared.board.Letter.TheVariants.{Asked}
 use Rattle.hand_over.specs.declared.board.Stage.TheVariants.{Writing}
 use Rattle.hand_over.specs.Views.{worker_of}
-use Rattle.hand_over.specs.Steps.{staged, stage_with, letter_in}
+use Rattle.hand_over.specs.Steps.{at_stage, stage_with, letter_in}
 use Rattle.hand_over.proofs.Sitting.{is_worker, takes_slot_as, puts_ask_as}
 use Rattle.hand_over.proofs.waiting.put_ask.Goals as goal
 
@@ -22,5 +22,5 @@ store-requires c = let took = c.load.ensures.2 in let number = ap (λ m. (worker
 
 pub returns-clause-asked : goal.returns-clause-asked
 returns-clause-asked c = let took = c.load.ensures.2 in
-    c.store.ensures.2 ∙ ap (λ m. (staged m.0 (stage_with (letter_in m.1)), [])) (c.exchange.ensures.3
+    c.store.ensures.2 ∙ ap (λ m. (at_stage m.0 (stage_with (letter_in m.1)), [])) (c.exchange.ensures.3
     ∙ ap (λ m. (m.0, (c.args.number, Some (Asked c.args.ask)) ∷ rest m.1)) took.1)

@@ -1,7 +1,7 @@
-use Rattle.std.proofs.Common.{◌&&◌, [], ◌∷◌, Option, Some, refl, sym, ap, subst, ◌∙◌}
+use Rattle.std.proofs.Common.{◌&&◌, inl, [], ◌∷◌, Option, Some, refl, sym, ap, subst, ◌∙◌}
 use Rattle.std.specs.Prelude.{IfSome}
-use Rattle.octo_outside.specs.Told.{Adds}
-use Rattle.octo_outside.proofs.Told.{became_so}
+use Rattle.octo_outside.specs.Recorded.{Adds}
+use Rattle.octo_outside.proofs.Recorded.{became_so}
 use Rattle.octo_asks.specs.History.{History}
 use Rattle.octo_asks.specs.declared.counter.Given.{Given}
 use Rattle.octo_asks.specs.declared.entry.Entry.TheVariants as entry
@@ -20,7 +20,8 @@ returns-clause-leads g c before below =
     let past' = g.C.Counter.past c.answer.new.self in
     let Adds_by : Option Given → Type 0 = λ given. IfSome given (λ one. Adds past past' (entry.Call c.args.worker one.ask c.args.moment c.ask-answer.result ∷ [])) in
     call_walks (known_of c.args.house.now) (known_of c.ask-answer.new.self) (session_of c.args.house.now) (session_of c.ask-answer.new.self) past past' _ _
-    c.args.worker c.args.ask c.args.moment c.ask-answer.result (subst Adds_by c.requires.given c.answer.ensures.past) c.ask-answer.ensures.done c.ask-answer.ensures.files
+    c.args.worker c.args.ask c.args.moment c.ask-answer.result (subst Adds_by c.requires.given c.answer.ensures.past)
+    (λ files at. c.ask-answer.ensures.done files (inl at)) c.ask-answer.ensures.files
     c.ask-answer.ensures.rest.apart.sender c.ask-answer.ensures.rest.apart.up refl before below
 
 pub returns-clause-counted : goal.returns-clause-counted

@@ -1,8 +1,8 @@
 use Rattle.std.proofs.Common.{Option, Some, None, refl, sym, subst}
-use Rattle.octo_outside.specs.Told.{Became}
+use Rattle.octo_outside.specs.Recorded.{Became}
 use Rattle.octo_asks.specs.History.{History}
 use Rattle.octo_house.specs.State.{known_of, session_of}
-use Rattle.octo_outside.proofs.Told.{became_same}
+use Rattle.octo_outside.proofs.Recorded.{became_same}
 use Rattle.house_counts.specs.Rounds.{AsksAt}
 use Rattle.house_counts.proofs.Counting.{none_asks}
 use Rattle.house_run.specs.Runs.{Leads}

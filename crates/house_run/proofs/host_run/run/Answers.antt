@@ -1,16 +1,16 @@
 use Rattle.std.proofs.Common.{◌≡◌, ℕ, [], Option, None, refl, sym, subst, ◌∙◌, arith}
 use Rattle.std.specs.Prelude.{IfSome}
-use Rattle.octo_outside.specs.Told.{Became}
+use Rattle.octo_outside.specs.Recorded.{Became}
 use Rattle.octo_house.specs.State.{session_of}
 use Rattle.house_walks.proofs.Walking.{walks_then}
 use Rattle.house_run.specs.declared.tally.Tally.{Tally}
-use Rattle.house_run.specs.Runs.{stands, begins, ended}
+use Rattle.house_run.specs.Runs.{stands, begins, RunIsOver}
 use Rattle.house_run.specs.Tallies.{tally_of}
 use Rattle.house_counts.proofs.Counting.{none_counted}
 use Rattle.house_counts.proofs.Hearing.{temps_none}
 use Rattle.house_counts.proofs.Showing.{begin_shows}
 use Rattle.house_counts.proofs.Timing.{Timed, timed_begins, timed_round, timed_later, timed_ends}
-use Rattle.octo_outside.proofs.Told.{became_same}
+use Rattle.octo_outside.proofs.Recorded.{became_same}
 use Rattle.house_run.proofs.Running.{begin_walks, walks_round, end_walks, tally_then, no_entry, over_by}
 use Rattle.house_run.proofs.Rounds.{counted_round, counted_end, uses_round, uses_end, temps_round, temps_end_of}
 use Rattle.house_line.proofs.Recorded.{begin_in_step}
@@ -33,6 +33,7 @@ loop-init g c =
       listed = λ files. files;
       up = c.requires.down ∙ sym c.requires.fresh.down;
       kind = refl;
+      recorded = refl;
       given = c.requires.answered;
       closed = c.requires.open;
       place = refl;
@@ -61,7 +62,7 @@ loop-preserved g c =
           (t.leads held moment (omega arith));
       counted = subst Counted (sym c.tally_after-tally.ensures)
           (tally_then first mid after None _ (tally_then first before mid c.answer_next-asked.result c.loop.tally i.counted a.counted) t.counted);
-      kept = λ begun is. t.kept begun (a.kept begun (i.kept begun is));
+      kept = λ begun is. t.kept begun (a.rest.kept begun (i.kept begun is));
       faults = counted_round first before mid after moment _ _ _ _ _ _ _ _ _ _ _ _ _ _ i.faults a.asks t.turns t.keeper;
       uses = uses_round (g.L.Link.kind c.args.link.now) (g.L.Link.kind c.loop.link) i.kind c.args.house.now c.loop.house c.answer_next-asked.new.house c.loop.moment moment
           (omega (arith, c.max-moment.ensures)) _ _ _ _ _ _ _ _ _ first before mid after (g.S.Shelf.files c.args.shelf.now) (g.S.Shelf.files c.loop.shelf) held
@@ -72,18 +73,19 @@ loop-preserved g c =
           (timed_round (g.T.Clock.moment c.args.clock.now) (g.T.Clock.moment c.now.new.self) c.loop.moment c.now.result moment _ _ _ _ _ _ _ _ _ _ first before mid after
           (subst (λ (at : Option ℕ). Timed (g.T.Clock.moment c.args.clock.now) at c.loop.moment first before) (sym c.now.ensures.stays) i.moments)
           (subst (λ (at : Option ℕ). IfSome at (λ now. c.now.result ≡ now)) (sym c.now.ensures.stays) c.now.ensures.now) c.max-moment.ensures a.asks t.turns);
-      listed = λ files. t.listed held (a.listed (i.listed files));
+      listed = λ files. t.listed held (a.rest.listed (i.listed files));
       up = t.up;
       kind = t.kind ∙ i.kind;
+      recorded = t.recorded ∙ i.recorded;
       given = t.given;
       closed = t.closed;
       place = t.place ∙ (a.place ∙ i.place);
       link = omega (arith, i.link, t.link);
-      keeper = omega (arith, i.keeper, a.keeper, t.keeper);
-      shelf = omega (arith, i.shelf, a.shelf);
+      keeper = omega (arith, i.keeper, a.rest.keeper, t.keeper);
+      shelf = omega (arith, i.shelf, a.rest.shelf);
       steps = round_ties (g.L.Link.kind c.args.link.now) (g.L.Link.kind c.loop.link) i.kind first before mid after (g.L.Link.past c.args.link.now) (g.L.Link.past c.loop.link)
           (g.L.Link.past c.take_turn-heard.new.link) (session_of c.loop.house) (session_of c.answer_next-asked.new.house) (session_of c.take_turn-heard.new.house)
-          moment _ _ _ _ i.steps a.asks a.apart.sender a.apart.up t.tied;
+          moment _ _ _ _ i.steps a.asks a.rest.apart.sender a.rest.apart.up t.tied;
     }
 
 pub returns-then-is_over-clause-history : goal.returns-then-is_over-clause-history
@@ -96,7 +98,7 @@ returns-then-is_over-clause-history g c =
     let start = g.S.Shelf.files c.args.shelf.now in
     let held = g.S.Shelf.files c.answer_next-asked.new.shelf in
     let moment = c.max-moment.result in
-    walks_then first after last start held held (begins c.args.house.now) (stands c.take_turn-heard.new.house moment) (ended c.take_turn-heard.new.house)
+    walks_then first after last start held held (begins c.args.house.now) (stands c.take_turn-heard.new.house moment) (RunIsOver c.take_turn-heard.new.house)
     (walks_round first before mid after start (g.S.Shelf.files c.loop.shelf) held c.args.house.now c.loop.house c.answer_next-asked.new.house
     c.take_turn-heard.new.house c.loop.moment moment (omega (arith, c.max-moment.ensures)) c.loop.invariant.leads c.answer_next-asked.ensures.leads
     (c.take_turn-heard.ensures.leads held moment (omega arith)))
@@ -116,7 +118,7 @@ returns-then-is_over-clause-over g c =
 
 pub returns-then-is_over-clause-listed : goal.returns-then-is_over-clause-listed
 returns-then-is_over-clause-listed g c files =
-    c.take_turn-heard.ensures.listed (g.S.Shelf.files c.answer_next-asked.new.shelf) (c.answer_next-asked.ensures.listed (c.loop.invariant.listed files))
+    c.take_turn-heard.ensures.listed (g.S.Shelf.files c.answer_next-asked.new.shelf) (c.answer_next-asked.ensures.rest.listed (c.loop.invariant.listed files))
 
 pub returns-then-is_over-clause-place : goal.returns-then-is_over-clause-place
 returns-then-is_over-clause-place g c =
@@ -125,18 +127,22 @@ returns-then-is_over-clause-place g c =
 pub returns-then-is_over-clause-kind : goal.returns-then-is_over-clause-kind
 returns-then-is_over-clause-kind g c = c.hang_up.ensures.kind ∙ (c.take_turn-heard.ensures.kind ∙ c.loop.invariant.kind)
 
+pub returns-then-is_over-clause-recorded : goal.returns-then-is_over-clause-recorded
+returns-then-is_over-clause-recorded g c =
+    c.hang_up.ensures.past.stays ∙ (c.take_turn-heard.ensures.recorded ∙ c.loop.invariant.recorded)
+
 pub returns-then-is_over-clause-link : goal.returns-then-is_over-clause-link
 returns-then-is_over-clause-link g c = omega (arith, c.loop.invariant.link, c.take_turn-heard.ensures.link, c.hang_up.ensures.faults)
 
 pub returns-then-is_over-clause-keeper : goal.returns-then-is_over-clause-keeper
-returns-then-is_over-clause-keeper g c = omega (arith, c.loop.invariant.keeper, c.answer_next-asked.ensures.keeper, c.take_turn-heard.ensures.keeper)
+returns-then-is_over-clause-keeper g c = omega (arith, c.loop.invariant.keeper, c.answer_next-asked.ensures.rest.keeper, c.take_turn-heard.ensures.keeper)
 
 pub returns-then-is_over-clause-shelf : goal.returns-then-is_over-clause-shelf
-returns-then-is_over-clause-shelf g c = omega (arith, c.loop.invariant.shelf, c.answer_next-asked.ensures.shelf)
+returns-then-is_over-clause-shelf g c = omega (arith, c.loop.invariant.shelf, c.answer_next-asked.ensures.rest.shelf)
 
 pub returns-then-is_over-clause-kept : goal.returns-then-is_over-clause-kept
 returns-then-is_over-clause-kept g c begun is =
-    c.take_turn-heard.ensures.kept begun (c.answer_next-asked.ensures.kept begun (c.loop.invariant.kept begun is))
+    c.take_turn-heard.ensures.kept begun (c.answer_next-asked.ensures.rest.kept begun (c.loop.invariant.kept begun is))
 
 pub returns-then-is_over-clause-faults : goal.returns-then-is_over-clause-faults
 returns-then-is_over-clause-faults g c =
@@ -211,7 +217,7 @@ returns-then-is_over-clause-tied g c =
     hung_ties kind (g.L.Link.kind c.take_turn-heard.new.link) (t.kind ∙ i.kind) first after (g.C.Counter.past c.close.new.self) front link (g.L.Link.past c.hang_up.new.self)
     x (g.L.Link.up c.take_turn-heard.new.link) t.up c.hang_up.ensures.past c.close.ensures.past
     (round_ties kind (g.L.Link.kind c.loop.link) i.kind first (g.C.Counter.past c.loop.counter) (g.C.Counter.past c.answer_next-asked.new.counter) after front
-    (g.L.Link.past c.loop.link) link (session_of c.loop.house) (session_of c.answer_next-asked.new.house) x c.max-moment.result _ _ _ _ i.steps a.asks a.apart.sender a.apart.up
+    (g.L.Link.past c.loop.link) link (session_of c.loop.house) (session_of c.answer_next-asked.new.house) x c.max-moment.result _ _ _ _ i.steps a.asks a.rest.apart.sender a.rest.apart.up
     t.tied)
 
 pub returns-then-is_over-clause-prints : goal.returns-then-is_over-clause-prints

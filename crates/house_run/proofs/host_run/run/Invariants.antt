@@ -1,5 +1,5 @@
-use Rattle.std.proofs.Common.{◌≡◌, ◌≤◌, false, None}
-use Rattle.octo_outside.specs.Told.{Became}
+use Rattle.std.proofs.Common.{◌≡◌, ◌≤◌, false, None, is_some}
+use Rattle.octo_outside.specs.Recorded.{Became}
 use Rattle.house_counts.specs.Faults.{AreCounted}
 use Rattle.house_counts.specs.LinkUse.{UsesLink}
 use Rattle.house_counts.specs.Shows.{Shows}
@@ -30,6 +30,7 @@ invariant-loop g l = record {
   listed : IsListed (g.S.Shelf.files l.initial.shelf) l.initial.house → IsListed (g.S.Shelf.files l.shelf) l.house;
   up : g.L.Link.up l.link ≡ (session_of l.house).up;
   kind : g.L.Link.kind l.link ≡ g.L.Link.kind l.initial.link;
+  recorded : is_some (g.L.Link.past l.link) ≡ is_some (g.L.Link.past l.initial.link);
   given : g.C.Counter.given l.counter ≡ None;
   closed : g.C.Counter.closed l.counter ≡ false;
   place : g.C.Counter.place l.counter ≡ g.C.Counter.place l.initial.counter;

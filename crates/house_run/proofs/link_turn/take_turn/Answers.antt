@@ -2,7 +2,7 @@ use Rattle.std.proofs.Common.{◌≡◌, refl, ap, subst, ◌∙◌}
 use Rattle.desk_steps.specs.Data.{Data}
 use Rattle.desk_steps.specs.declared.state.State.{State}
 use Rattle.session_steps.specs.Data.{SessionData}
-use Rattle.lossy_line.proofs.Told.{kept_by_note}
+use Rattle.lossy_line.proofs.Recorded.{kept_by_note}
 use Rattle.octo_house.specs.State.{known_of, session_of}
 use Rattle.house_run.specs.Turns.{Notes}
 use Rattle.house_run.proofs.Noting.{turn_walks, notes_count}
@@ -65,3 +65,6 @@ returns-clause-tied g c before front =
     (g.L.Link.calls c.turn-turned.new.link) (session_of c.args.house.now) (session_of c.turn-turned.new.self) c.turn-turned.result t.turn
     (kept_by_note t.by_note) before (g.C.Counter.past c.args.counter.now)
     (g.C.Counter.past c.note_turn.new.counter) front _ _ t.by_note.none_acked c.note_turn.ensures.notes
+
+pub returns-clause-recorded : goal.returns-clause-recorded
+returns-clause-recorded g c = c.turn-turned.ensures.turn.steps.takes.past.stays

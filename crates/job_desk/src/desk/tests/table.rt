@@ -86,12 +86,18 @@ fn check_cell(
     Ok(())
 }
 
+// One call in each state.
+fn check_row(rt: &impl Abort, alloc: Global, call: Call, row: &str) -> Result<(), Fail> {
+    for (state, after) in STATES.iter().zip(row.as_bytes()) {
+        check_cell(rt, alloc, call, *state, *after)?;
+    }
+    Ok(())
+}
+
 #[test]
 fn each_call_in_each_state(rt: HostRuntime) -> Result<(), Fail> {
     for (call, row) in TABLE {
-        for (state, after) in STATES.iter().zip(row.as_bytes()) {
-            check_cell(&rt, rt.alloc(), call, *state, *after)?;
-        }
+        check_row(&rt, rt.alloc(), call, row)?;
     }
     Ok(())
 }

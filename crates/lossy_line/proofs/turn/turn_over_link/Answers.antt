@@ -4,7 +4,7 @@ use Rattle.session_steps.specs.Turn.{fact_of, lines_of, texts_in}
 use Rattle.lossy_line.specs.Issuing.{issued_in}
 use Rattle.lossy_line.specs.Linked.{LinkedAs, OpenedAs}
 use Rattle.lossy_line.specs.Tied.{TiedAs, FormerTiedAs, EndCausedAs}
-use Rattle.lossy_line.proofs.Told.{kept_by_note, turn_linked, turn_opened, turn_tied, turn_former_tied, turn_end_caused}
+use Rattle.lossy_line.proofs.Recorded.{kept_by_note, turn_linked, turn_opened, turn_tied, turn_former_tied, turn_end_caused}
 use Rattle.lossy_line.proofs.turn.turn_over_link.Goals as goal
 
 pub returns-clause-linked : goal.returns-clause-linked

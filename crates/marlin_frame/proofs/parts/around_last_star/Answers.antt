@@ -5,5 +5,5 @@ use Rattle.marlin_frame.proofs.parts.around_last_star.Goals as goal
 pub returns-in-None-clause-before : goal.returns-in-None-clause-before
 returns-in-None-clause-before c = sym (before_last_none 42 c.args.line.now c.in-None.ensures.none)
 
-pub returns-in-None-clause-behind : goal.returns-in-None-clause-behind
-returns-in-None-clause-behind c = sym (after_last_none 42 c.args.line.now c.in-None.ensures.none)
+pub returns-in-None-clause-after : goal.returns-in-None-clause-after
+returns-in-None-clause-after c = sym (after_last_none 42 c.args.line.now c.in-None.ensures.none)

@@ -6,7 +6,7 @@ use Rattle.marlin_sim.proofs.serve.drain.Given as goal
 
 abbrev pub invariant-loop : goal.invariant-loop
 invariant-loop g l = record {
-  told : (plan : SimPlan) (input : List ℕ) (first : Outside) → Serves plan input first (outside (g.C.Conn.left l.initial.conn) (g.C.Conn.written l.initial.conn) (g.O.Sink.written l.initial.out)) l.initial.sim → Serves plan input first (outside (g.C.Conn.left l.conn) (g.C.Conn.written l.conn) (g.O.Sink.written l.out)) l.sim;
+  follows : (plan : SimPlan) (input : List ℕ) (first : Outside) → Serves plan input first (outside (g.C.Conn.left l.initial.conn) (g.C.Conn.written l.initial.conn) (g.O.Sink.written l.initial.out)) l.initial.sim → Serves plan input first (outside (g.C.Conn.left l.conn) (g.C.Conn.written l.conn) (g.O.Sink.written l.out)) l.sim;
   left : g.C.Conn.left l.conn ≡ g.C.Conn.left l.initial.conn;
   quiets : g.C.Conn.quiets l.conn ≡ g.C.Conn.quiets l.initial.conn;
   places : l.sim.printer.places ≡ l.initial.sim.printer.places;

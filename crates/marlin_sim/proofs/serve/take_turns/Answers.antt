@@ -7,7 +7,7 @@ loop-preserved g c =
     let i = c.loop.invariant in
     let e = c.take_turn.ensures in
     record {
-      told = λ input first going. c.in-On.ensures.told input first (i.told input first going);
+      follows = λ input first going. c.in-On.ensures.follows input first (i.follows input first going);
       used = used_more c.loop.counter _ _ _ _ _ _ e.quiets_counted i.used (c.in-On.ensures.used refl);
       places = c.in-On.ensures.places (inl refl) ∙ i.places;
       quiets_counted = omega (arith, i.quiets_counted, e.quiets_counted);

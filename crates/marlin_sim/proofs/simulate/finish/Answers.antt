@@ -5,7 +5,7 @@ use Rattle.marlin_sim.proofs.simulate.finish.Goals as goal
 pub returns-in-Ok : goal.returns-in-Ok
 returns-in-Ok g c =
     record {
-      told = λ plan input first left wrote ending. printed_ending c.args.ending plan input first left wrote _ _ c.args.sim.now c.in_default.not-SinkFailed ending c.in-Ok.ensures.ok;
+      follows = λ plan input first left wrote ending. printed_ending c.args.ending plan input first left wrote _ _ c.args.sim.now c.in_default.not-SinkFailed ending c.in-Ok.ensures.ok;
       same = inl refl;
       counted = c.print_text-in_default.ensures.counts.later;
       failed = λ failed. inl failed;
@@ -14,7 +14,7 @@ returns-in-Ok g c =
 pub returns-in-Err : goal.returns-in-Err
 returns-in-Err g c =
     record {
-      told = λ plan input first left wrote ending. lost_ending c.args.ending plan input first left wrote _ _ c.args.sim.now c.in_default.not-SinkFailed c.in_default.not-NoMemory ending c.in-Err.ensures.err;
+      follows = λ plan input first left wrote ending. lost_ending c.args.ending plan input first left wrote _ _ c.args.sim.now c.in_default.not-SinkFailed c.in_default.not-NoMemory ending c.in-Err.ensures.err;
       same = inr refl;
       counted = c.print_text-in_default.ensures.counts.later;
       failed = λ _. inr (c.in-Err.ensures.counts.rose refl);

@@ -1,7 +1,7 @@
 use Rattle.std.proofs.Common.{sym, subst}
 use Rattle.marlin_sim.specs.Sim.{SimData}
 use Rattle.marlin_sim.specs.Served.{Outside, outside, Serves}
-use Rattle.marlin_sim.proofs.Serving.{new_serves, if_told}
+use Rattle.marlin_sim.proofs.Serving.{new_serves, if_some}
 use Rattle.marlin_sim.proofs.simulate.simulate.Goals as goal
 
 pub returns-clause-served : goal.returns-clause-served
@@ -11,6 +11,6 @@ returns-clause-served g c =
     let wrote = g.C.Conn.written c.args.conn.now in
     let printed = g.O.Sink.written c.args.out.now in
     let first : Outside = outside left wrote printed in
-    if_told left _
-    (λ input told. (let New : SimData → Type 0 = λ s. Serves plan input first first s in
-    c.finish.ensures.told plan input first _ _ (c.begin-ending.ensures.told input first (subst New (sym c.in-Ok.ensures) (new_serves plan input left wrote printed told)))))
+    if_some left _
+    (λ input follows. (let New : SimData → Type 0 = λ s. Serves plan input first first s in
+    c.finish.ensures.follows plan input first _ _ (c.begin-ending.ensures.follows input first (subst New (sym c.in-Ok.ensures) (new_serves plan input left wrote printed follows)))))

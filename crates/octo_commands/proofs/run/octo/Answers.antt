@@ -1,5 +1,5 @@
 use Rattle.std.proofs.Common.{◌≡◌, ◌⊎◌, refl, inl, inr, ◌∙◌, ap}
-use Rattle.octo_outside.proofs.Told.{steady_not_rose}
+use Rattle.octo_outside.proofs.Recorded.{steady_not_rose}
 use Rattle.octo_report.specs.Status.{code_of}
 use Rattle.octo_serve.specs.Around.{link_state, keeper_state, shelf_state, door_state}
 use Rattle.octo_host.specs.Hosting.{around}

@@ -4,7 +4,7 @@ use Rattle.octo_files.proofs.Gives.{over_gives}
 use Rattle.octo_files.proofs.TooLarge.{no_settings}
 use Rattle.octo_report.specs.declared.report.Report.{Report}
 use Rattle.octo_report.specs.declared.report.Report.TheVariants as report
-use Rattle.octo_settings.specs.Config.{most_bytes}
+use Rattle.octo_settings.specs.Config.{most_config_bytes}
 use Rattle.octo_settings.specs.declared.fault.SettingsFault.TheVariants.{NotToml}
 use Rattle.octo_settings.specs.declared.settings.Settings.{Settings}
 use Rattle.octo_files.proofs.settings.read_settings_file.Goals as goal
@@ -13,4 +13,4 @@ pub returns-in-Err-TooLong-clause-exact : goal.returns-in-Err-TooLong-clause-exa
 returns-in-Err-TooLong-clause-exact g c =
     let refusal : Result Settings Report = Err (report.BadSettings NotToml) in
     let over = rw c.in-Err-TooLong.field-0-is at c.in-Err-TooLong.ensures.too_long in
-    inr (over_gives (g.F.Source.files c.args.files.now) c.args.name.now most_bytes (λ bytes. AreSettings bytes refusal) (over refl) no_settings)
+    inr (over_gives (g.F.Source.files c.args.files.now) c.args.name.now most_config_bytes (λ bytes. AreSettings bytes refusal) (over refl) no_settings)

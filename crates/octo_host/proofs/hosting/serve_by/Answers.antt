@@ -10,7 +10,7 @@ use Rattle.octo_host.proofs.hosting.serve_by.Goals as goal
 pub returns-in-Err-clause-serves : goal.returns-in-Err-clause-serves
 returns-in-Err-clause-serves g c =
     let e = c.in-Err.ensures in
-    not_served _ _ _ c.in-Err.fault _ _ (ap (λ (h : HostEnd). h.report) c.unserved.ensures ∙ c.refused.ensures) (ap (λ (h : HostEnd). h.history) c.unserved.ensures) (record {
+    not_served _ _ _ c.in-Err.fault _ _ (ap (λ (h : HostEnd). h.report) c.unserved.ensures ∙ c.begin_fault_report.ensures) (ap (λ (h : HostEnd). h.history) c.unserved.ensures) (record {
       link = refl;
       moment = refl;
       tables = e.tables;

@@ -1,5 +1,5 @@
 use Rattle.std.proofs.Common.{refl, arith}
-use Rattle.octo_outside.proofs.Told.{rose_after}
+use Rattle.octo_outside.proofs.Recorded.{rose_after}
 use Rattle.octo_http.proofs.Reading.{caused_since}
 use Rattle.octo_http.proofs.MessageLemmas.{head_fault, bounded_same, patient_at, failed_with, leave_fault, bounded_cut, patient_leave, body_fault, bounded_all, asked_only, waits_both, message_read, patient_read}
 use Rattle.octo_http.proofs.message.read_message.Goals as goal

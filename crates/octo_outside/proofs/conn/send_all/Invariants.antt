@@ -1,5 +1,5 @@
 use Rattle.std.proofs.Common.{length, ◌≡◌, ◌-◌, ◌≤◌, take}
-use Rattle.octo_outside.specs.Told.{Adds}
+use Rattle.octo_outside.specs.Recorded.{Adds}
 use Rattle.octo_outside.proofs.conn.send_all.Given as goal
 
 abbrev pub invariant-loop-done : goal.invariant-loop-done

@@ -1,8 +1,8 @@
 use Rattle.std.proofs.Common.{◌≡◌, ℕ, ◌+◌, ◌-◌, List, ◌++◌, length, take, drop, arith, length-drop, ◌∙◌, ap, sym, subst}
 use Rattle.std.proofs.lemmas.List.{take_rest}
 use Rattle.std.proofs.Math.Seq.{take-add}
-use Rattle.octo_outside.specs.Told.{Adds}
-use Rattle.octo_outside.proofs.Told.{adds_then}
+use Rattle.octo_outside.specs.Recorded.{Adds}
+use Rattle.octo_outside.proofs.Recorded.{adds_then}
 use Rattle.octo_outside.proofs.sink.write_all.Goals as goal
 
 pub loop-done-preserved : goal.loop-done-preserved

@@ -13,6 +13,7 @@ returns-clause-ran g c = record {
   prints = c.run.ensures.prints;
   down = c.run.ensures.down;
   kind = c.run.ensures.kind;
+  recorded = c.run.ensures.recorded;
   faults = c.run.ensures.faults;
   link = c.run.ensures.link;
   keeper = c.run.ensures.keeper;

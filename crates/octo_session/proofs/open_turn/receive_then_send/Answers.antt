@@ -1,8 +1,8 @@
 use Rattle.std.proofs.Common.{◌≡◌, inr, true, map, sym, ap, subst, ◌∙◌}
-use Rattle.octo_outside.proofs.Told.{counts_then}
+use Rattle.octo_outside.proofs.Recorded.{counts_then}
 use Rattle.desk_steps.specs.Issued.{line_of}
 use Rattle.session_steps.specs.Found.{Got, got_of, temps_in, temps_kept, is_got, end_by}
-use Rattle.session_steps.specs.Steps.{TakesSome, talk_steps}
+use Rattle.session_steps.specs.Steps.{TakesSome, steps_over_link}
 use Rattle.session_steps.specs.Turn.{texts_in}
 use Rattle.session_steps.specs.declared.found.Received.{Received}
 use Rattle.session_steps.proofs.Stepping.{takes_talk, end_by_is, got_some, got_kept, none_said}
@@ -39,7 +39,7 @@ returns-in_default g c =
       joined = e.joined;
       steps = let P : Got → Type 0 = λ x. TakesSome c.args.moment (g.L.Link.kind c.args.link.now) (g.L.Link.past c.args.link.now)
           (g.L.Link.past c.after_receiving.new.link) (g.L.Link.calls c.args.link.now) (g.L.Link.calls c.after_receiving.new.link)
-          (talk_steps x c.after_receiving.result.fact (texts_in (map line_of c.after_receiving.result.issued.items))) c.args.sender.now
+          (steps_over_link x c.after_receiving.result.fact (texts_in (map line_of c.after_receiving.result.issued.items))) c.args.sender.now
           c.after_receiving.new.sender in subst P (sym got_same) (takes_talk _ _ _ _ _ _ _ _ _ got c.after_receiving.result.fact
           (texts_in (map line_of c.after_receiving.result.issued.items)) c.args.sender.now c.receive.new.sender c.after_receiving.new.sender is r.kind r.steps
           e.steps);

@@ -3,7 +3,7 @@ use Rattle.std.proofs.lemmas.Option.{same_Some}
 use Rattle.std.specs.Prelude.{Option}
 use Rattle.desk_steps.specs.declared.link_fact.LinkFact.{LinkFact}
 use Rattle.desk_steps.specs.declared.link_fact.LinkFact.TheVariants as fact
-use Rattle.octo_outside.proofs.Told.{steady_not_rose}
+use Rattle.octo_outside.proofs.Recorded.{steady_not_rose}
 use Rattle.printer_link.specs.Link.{LinkKind}
 use Rattle.session_steps.specs.Data.{SessionData}
 use Rattle.session_steps.specs.Turn.{fact_of}
@@ -12,8 +12,9 @@ use Rattle.send_window.specs.declared.session_end.SessionEnd.TheVariants.{NoAnsw
 use Rattle.session_steps.specs.Data.{doing}
 use Rattle.session_steps.specs.Found.{can_find}
 use Rattle.session_steps.proofs.Noting.{noted_fact}
-use Rattle.lossy_line.proofs.Told.{kept_by_note}
-use Rattle.lossy_turns.specs.Patience.{IsPatient, IsUnanswered}
+use Rattle.lossy_line.proofs.Recorded.{kept_by_note}
+use Rattle.lossy_turns.specs.Patience.{IsPatient}
+use Rattle.lossy_turns.proofs.Numbers.{turn_fits}
 use Rattle.lossy_turns.proofs.Waits.{turn_patient, turn_unanswered}
 use Rattle.session_print.specs.Ends.{end_of, desk_after}
 use Rattle.session_print.specs.BetweenTurns.{GoesOn}
@@ -44,10 +45,10 @@ returns-clause-goes g c p port first limit patient way =
       ready_is = e.by_note.ready_is;
       not_fallen = e.by_note.not_fallen;
       no_port = e.by_note.no_port;
-      unanswered = λ count is. (let t = e.turn in
+      fits = λ why is. (let t = e.turn in
           let found : fact_of turned.note ≡ t.found = noted_fact turned.note c.args.moment old.sender.acked mid.sender.acked t.lines t.got t.found t.none t.some in
           let F : LinkFact → Type 0 = λ f. can_find (doing old) f ≡ true in
-          (turn_unanswered c.args.moment _ _ _ _ _ old mid turned t 0 limit (omega arith) count e.by_note.before patient (sym found ∙ is) (subst F found e.by_note.finds)).1);
+          turn_fits c.args.moment _ _ _ _ _ old mid turned t e.by_note.before 0 limit (omega arith) patient why (sym found ∙ is) (subst F found e.by_note.finds));
       caused = λ why is issued linked. (let K : LinkKind → Type 0 = λ k. EndCausedAs k now why in subst K e.kind (e.caused why is issued linked));
     }
     in
@@ -76,8 +77,7 @@ returns-clause-waited g c start limit count since p is =
     let ends : fact_of note ≡ fact.Ended (NoAnswer count) = fact_by (fact_of note) (NoAnswer count) (ap end_of (sym c.fact_of_turn.ensures) ∙ sym c.go_on.ensures.end ∙ is) in
     let F : LinkFact → Type 0 = λ f. can_find (doing old) f ≡ true in
     let w = turn_unanswered c.args.moment _ _ _ _ _ old c.turn_over_link-turned.new.session c.turn_over_link-turned.result t start limit since count e.by_note.before p (sym found ∙ ends) (subst F found e.by_note.finds) in
-    let S : SessionData → Type 0 = λ x. IsUnanswered x.sender in
-    (w.0, subst S (sym c.go_on.ensures.after) w.1)
+    w.0
 
 pub returns-clause-calls : goal.returns-clause-calls
 returns-clause-calls g c awake is =

@@ -1,12 +1,12 @@
 use Rattle.std.proofs.Common.{◌≡◌, ◌+◌, ◌-◌, inl, inr, ℕ, Bool, Option, Some, refl, sym, ◌∙◌, ap, subst, arith}
 use Rattle.std.proofs.lemmas.Option.{same_Some}
-use Rattle.octo_outside.proofs.Told.{rose_after, steady_after}
+use Rattle.octo_outside.proofs.Recorded.{rose_after, steady_after}
 use Rattle.printer_link.specs.Link.{LinkKind, RoseBy, Grows, IsHangUp}
 use Rattle.printer_link.proofs.Calls.{rose_none, rose_then}
 use Rattle.session_steps.specs.Data.{port_of}
 use Rattle.print_course.specs.Plan.{print_commands, plan}
 use Rattle.session_print.specs.Printed.{IsOver}
-use Rattle.session_print.specs.BetweenTurns.{IsTalking}
+use Rattle.session_print.specs.BetweenTurns.{IsOnLink}
 use Rattle.session_print.specs.declared.end.PrintEnd.TheVariants as end
 use Rattle.lossy_turns.proofs.Waits.{in_time, on_time_next}
 use Rattle.session_print.proofs.Printing.{waited_by}
@@ -23,7 +23,7 @@ loop-init g c = record {
   kind = refl;
   calls = rose_none (g.L.Link.calls c.args.link.now);
   on_time = c.requires.on_time;
-  prompt = λ p dialling smooth at shown. sets_out _ p _ _ _ _ c.args.session.now dialling smooth at;
+  prompt = λ p dialling smooth few at shown. sets_out _ p _ _ _ _ c.args.session.now dialling smooth few at;
   counted = omega arith;
 }
 
@@ -42,22 +42,22 @@ loop-preserved g c =
     let b = c.requires.begins in
     record {
       up = c.in-None.ensures.up refl;
-      way = λ p dialling. (let K : LinkKind → Type 0 = λ k. IsTalking k p port first (g.L.Link.past c.make_turn.new.link) c.make_turn.new.session in
+      way = λ p dialling. (let K : LinkKind → Type 0 = λ k. IsOnLink k p port first (g.L.Link.past c.make_turn.new.link) c.make_turn.new.session in
           inr (subst K (sym c.make_turn.ensures.kind) (c.in-None.ensures.goes p port first c.args.session.now.sender.limit i.on_time.patient (under c.loop.counter kind p port first now c.loop.session (i.way p dialling)))));
       kind = c.make_turn.ensures.kind ∙ i.kind;
       calls = rose_then c.loop.counter 1 (g.L.Link.calls c.args.link.now) (g.L.Link.calls c.loop.link) _ i.calls (c.in-None.ensures.calls (awake c.loop.counter kind b.print port first now c.loop.session (i.way b.print b.dialling)) refl);
       on_time = on_time_next _ _ _ _ _ _ _ _ _ _ i.on_time c.now.ensures.now c.now.ensures.stays c.make_turn.ensures.clock c.max-moment.ensures
           (λ start since p. c.make_turn.ensures.waits start c.args.session.now.sender.limit since p);
-      prompt = λ p dialling smooth at shown. (let so = shown_before _ _ _ _ _ _ _ c.now.ensures.now c.now.ensures.stays c.make_turn.ensures.clock c.max-moment.ensures i.on_time.shown shown in
+      prompt = λ p dialling smooth few at shown. (let so = shown_before _ _ _ _ _ _ _ c.now.ensures.now c.now.ensures.stays c.make_turn.ensures.clock c.max-moment.ensures i.on_time.shown shown in
           let last = last_is _ at _ _ shown smooth.unsaturated in
-          let was = smooth_before _ _ port _ (g.L.Link.faults c.loop.link) _ (g.T.Clock.moment c.loop.clock) _ _ _ _ _ i.counted c.make_turn.ensures.counts.later so.before_is smooth (omega (arith, so.within, last)) in
+          let was = smooth_before _ _ port _ (g.L.Link.faults c.loop.link) _ (g.T.Clock.moment c.loop.clock) _ _ _ _ i.counted c.make_turn.ensures.counts.later so.before_is smooth (omega (arith, so.within, last)) in
           let left : ℕ = plan_length p + 12 - c.loop.counter in
           let ms = c.args.session.now.desk.poll_ms in
           let on : IsOnWay kind p ms at (left - 1) (g.L.Link.past c.make_turn.new.link) c.make_turn.new.session =
           c.in-None.ensures.prompt p ms at left (ap (λ (k : LinkKind). k.prompt) i.kind ∙ smooth.prompt)
           (steady_after _ (g.L.Link.faults c.loop.link) _ smooth.steady i.counted c.make_turn.ensures.counts.later)
           (range_now _ _ c.loop.session.sender.limit _ _ i.on_time.patient.its_limit smooth.unsaturated (omega (arith, so.within, last)))
-          so.between_is shown (i.prompt p dialling was _ so.before_is)
+          so.between_is shown (i.prompt p dialling was few _ so.before_is)
           in
           let K : LinkKind → Type 0 = λ k. IsOnWay k p ms at (left - 1) (g.L.Link.past c.make_turn.new.link) c.make_turn.new.session in
           let N : ℕ → Type 0 = λ n. IsOnWay (g.L.Link.kind c.make_turn.new.link) p ms at n (g.L.Link.past c.make_turn.new.link) c.make_turn.new.session in
@@ -135,10 +135,6 @@ returns-clause-used g c made is =
     let Q : Option ℕ → Type 0 = λ calls. RoseBy c.loop.counter (g.L.Link.calls c.args.link.now) calls in
     (sym (same_turns c.args.turns made is), subst P all (subst Q (sym c.hang_up.ensures.calls) i.calls))
 
-pub returns-in-Some-clause-unanswered : goal.returns-in-Some-clause-unanswered
-returns-in-Some-clause-unanswered g c count is =
-    (c.in-Some.ensures.waited 0 c.args.session.now.sender.limit count (omega arith) c.loop.invariant.on_time.patient (ap Some is)).1
-
 pub returns-in-Some-clause-waited : goal.returns-in-Some-clause-waited
 returns-in-Some-clause-waited g c =
     let limit = c.args.session.now.sender.limit in
@@ -146,22 +142,22 @@ returns-in-Some-clause-waited g c =
     (λ count start at is began now.
     (let so = in_time _ _ _ _ _ _ _ _ _ c.loop.session.sender c.loop.invariant.on_time c.now.ensures.now c.now.ensures.stays c.make_turn.ensures.clock c.max-moment.ensures start at began now in
     let waited = c.in-Some.ensures.waited start limit count so.0 so.2 (ap Some is) in
-    omega (arith, waited.0, so.1)))
+    omega (arith, waited, so.1)))
 
 pub returns-in-Some-clause-prompt : goal.returns-in-Some-clause-prompt
-returns-in-Some-clause-prompt g c p dialling smooth enough =
+returns-in-Some-clause-prompt g c p dialling smooth few enough =
     let i = c.loop.invariant in
     let at = smooth.unsaturated.last in
     let so = shown_before _ _ _ _ _ _ _ c.now.ensures.now c.now.ensures.stays c.make_turn.ensures.clock c.max-moment.ensures i.on_time.shown smooth.unsaturated.shown in
-    let was = smooth_before _ _ (port_of c.args.session.now.desk) _ (g.L.Link.faults c.loop.link) _ (g.T.Clock.moment c.loop.clock) _ _ _ _ _ i.counted c.make_turn.ensures.counts.later so.before_is smooth so.within in
+    let was = smooth_before _ _ (port_of c.args.session.now.desk) _ (g.L.Link.faults c.loop.link) _ (g.T.Clock.moment c.loop.clock) _ _ _ _ i.counted c.make_turn.ensures.counts.later so.before_is smooth so.within in
     c.in-Some.ensures.prompt p c.args.session.now.desk.poll_ms at (plan_length p + 12 - c.loop.counter) (ap (λ (k : LinkKind). k.prompt) i.kind ∙ smooth.prompt)
     (steady_after _ (g.L.Link.faults c.loop.link) _ smooth.steady i.counted c.make_turn.ensures.counts.later)
     (range_now _ _ c.loop.session.sender.limit _ _ i.on_time.patient.its_limit smooth.unsaturated so.within)
-    so.between_is smooth.unsaturated.shown (i.prompt p dialling was _ so.before_is)
+    so.between_is smooth.unsaturated.shown (i.prompt p dialling was few _ so.before_is)
 
 pub returns-clause-prompt : goal.returns-clause-prompt
-returns-clause-prompt g c p dialling smooth enough =
+returns-clause-prompt g c p dialling smooth few enough =
     let i = c.loop.invariant in
     let same : g.L.Link.faults c.hang_up.new.self ≡ g.L.Link.faults c.loop.link = c.hang_up.ensures.faults in
-    let was = smooth_before _ _ (port_of c.args.session.now.desk) _ (g.L.Link.faults c.loop.link) _ (g.T.Clock.moment c.loop.clock) _ _ _ _ smooth.unsaturated.last i.counted (omega (arith, same)) smooth.unsaturated.shown smooth (omega arith) in
-    absurd (not_used _ p _ _ c.loop.counter c.args.turns _ c.loop.session enough (omega (arith, c.loop-test.false)) (i.prompt p dialling was smooth.unsaturated.last smooth.unsaturated.shown))
+    let was = smooth_before _ _ (port_of c.args.session.now.desk) _ (g.L.Link.faults c.loop.link) _ (g.T.Clock.moment c.loop.clock) _ _ _ smooth.unsaturated.last i.counted (omega (arith, same)) smooth.unsaturated.shown smooth (omega arith) in
+    absurd (not_used _ p _ _ c.loop.counter c.args.turns _ c.loop.session enough (omega (arith, c.loop-test.false)) (i.prompt p dialling was few smooth.unsaturated.last smooth.unsaturated.shown))

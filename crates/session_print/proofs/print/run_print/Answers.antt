@@ -1,14 +1,14 @@
-use Rattle.std.proofs.Common.{◌≡◌, None, sym, ◌∙◌, ap}
+use Rattle.std.proofs.Common.{◌≡◌, ◌≤◌, None, sym, ◌∙◌, ap, subst, arith}
 use Rattle.gcode_lines.specs.Job.{texts_of}
 use Rattle.temp_rules.specs.Hot.{first_hot_of}
 use Rattle.temp_rules.specs.declared.limits.Limits.{Limits}
-use Rattle.desk_steps.specs.Data.{Data}
-use Rattle.job_desk.specs.DeskViews.{named_file}
+use Rattle.desk_steps.specs.Data.{Data, named_file}
+use Rattle.job_desk.specs.Scripts.{own_lines}
 use Rattle.print_course.specs.Plan.{plan}
 use Rattle.session_print.specs.Ends.{print_of}
 use Rattle.session_print.proofs.Begins.{refused, begins}
 use Rattle.session_print.specs.Printed.{IsOver}
-use Rattle.session_print.proofs.Prompting.{smooth_prepared}
+use Rattle.session_print.proofs.Prompting.{few_planned, smooth_prepared}
 use Rattle.session_print.proofs.print.run_print.Given as Given
 use Rattle.session_print.proofs.print.run_print.Goals as goal
 
@@ -48,10 +48,17 @@ returns-clause-ended g c = (over g c).ended
 pub returns-clause-unsent : goal.returns-clause-unsent
 returns-clause-unsent g c = (over g c).unsent
 
+-- the scripts of the desk have few lines
+few_scripts : (g : Given.Over) (c : goal.After-make_turns g) → own_lines c.args.session.now.desk.scripts ≤ 256
+few_scripts g c =
+    (let S : Data → Type 0 = λ d. own_lines d.scripts ≤ 256 in
+    subst S c.desk-2.ensures (omega (arith, c.script_lines.ensures.value, c.script_lines.ensures.few)))
+
 pub returns-clause-prompt : goal.returns-clause-prompt
 returns-clause-prompt g c none_hot smooth enough =
     let x = c.args.session.now in
     let file = named_file c.args.name.now c.args.job in
     c.make_turns.ensures.prompt (print_of x.desk file)
     (begins c.args.port.now file (g.L.Link.past c.args.link.now) x c.prepare.new.session c.requires.new none_hot c.prepare.ensures.desk c.prepare.ensures.sender c.prepare.ensures.up)
-    (smooth_prepared _ _ c.args.port.now file _ _ _ _ x c.prepare.new.session c.requires.new c.prepare.ensures.desk c.prepare.ensures.sender smooth) enough
+    (smooth_prepared _ _ c.args.port.now file _ _ _ x c.prepare.new.session c.requires.new c.prepare.ensures.desk c.prepare.ensures.sender smooth)
+    (few_planned x.desk.scripts c.args.job (few_scripts g c) (omega (arith, c.count.ensures.value, c.count.ensures.few))) enough

@@ -1,11 +1,14 @@
 -- What is done follows from the number of the schema.
-use Rattle.std.proofs.Common.{◌≡◌, pos, inl, inr, refl, rules}
+use Rattle.std.proofs.Common.{◌≡◌, pos, [], ◌∷◌, inl, inr, refl, rules, IsErrOf}
+use Rattle.octo_keeper.specs.declared.keeper.KeeperFault.TheVariants as fault
 use Rattle.sqlite.specs.Held.{state}
 use Rattle.sqlite.specs.State.{HasCleanDisk}
-use Rattle.sql_keeper.specs.Settled.{Settled, Upgraded, tables_made}
+use Rattle.sql_keeper.specs.declared.schema.TheConstants.{META, SELECT_SCHEMA}
+use Rattle.sql_keeper.specs.Settled.{IsForeign, Settled, Upgraded, plain, tables_made}
 use Rattle.sql_keeper.specs.Statements.{Runs}
 use Rattle.sql_keeper.proofs.Kept.{unstored_clean}
-use Rattle.sql_keeper.proofs.Statements.{on_ok}
+use Rattle.sql_keeper.proofs.Failures.{found_inside}
+use Rattle.sql_keeper.proofs.Statements.{on_ok, ran_inside}
 use Rattle.sql_keeper.proofs.adopt.settle.Goals as goal
 
 pub returns-in-0-clause-settled : goal.returns-in-0-clause-settled
@@ -59,3 +62,49 @@ returns-in-2-clause-settled g c read =
       found = c.in_ok-schema_of.ensures.number read;
       settled = inr (inr (is, refl));
     }
+
+pub returns-in_err-schema_of-clause-failed : goal.returns-in_err-schema_of-clause-failed
+returns-in_err-schema_of-clause-failed g c failed clean inside =
+    let a = c.args.transaction.now.conn in
+    let b = c.run.new.transaction.conn in
+    let d = c.schema_of.new.transaction.conn in
+    let is : IsErrOf c.schema_of.result fault.Failed = search rules in
+    let ran = c.in_ok-run.ensures.ran (unstored_clean g.S.Store b d c.schema_of.ensures.stores clean) in
+    inr (b.now, ran, inl (c.schema_of.ensures.failed is clean (ran_inside g.S.Store (plain META.now ∷ []) a.now b.now ran inside)))
+
+pub returns-in-0-clause-failed : goal.returns-in-0-clause-failed
+returns-in-0-clause-failed g c failed clean inside =
+    let a = c.args.transaction.now.conn in
+    let b = c.run.new.transaction.conn in
+    let d = c.schema_of.new.transaction.conn in
+    let e = c.make_tables.new.transaction.conn in
+    let number = c.in_ok-schema_of.field-0 in
+    let is : number ≡ pos 0 = search rules in
+    let read = unstored_clean g.S.Store d e c.make_tables.ensures.stores clean in
+    let ran = c.in_ok-run.ensures.ran (unstored_clean g.S.Store b d c.schema_of.ensures.stores read) in
+    let found = c.in_ok-schema_of.ensures.number read in
+    let still = found_inside g.S.Store SELECT_SCHEMA.now found.rows b.now d.now found.found (ran_inside g.S.Store (plain META.now ∷ []) a.now b.now ran inside) in
+    inr (b.now, ran, inr (d.now, number, found, inl (is, c.make_tables.ensures.failed failed clean still)))
+
+pub returns-in-1-clause-failed : goal.returns-in-1-clause-failed
+returns-in-1-clause-failed g c failed clean inside =
+    let a = c.args.transaction.now.conn in
+    let b = c.run.new.transaction.conn in
+    let d = c.schema_of.new.transaction.conn in
+    let e = c.upgrade_tables.new.transaction.conn in
+    let number = c.in_ok-schema_of.field-0 in
+    let is : number ≡ pos 1 = search rules in
+    let read = unstored_clean g.S.Store d e c.upgrade_tables.ensures.stores clean in
+    let ran = c.in_ok-run.ensures.ran (unstored_clean g.S.Store b d c.schema_of.ensures.stores read) in
+    let found = c.in_ok-schema_of.ensures.number read in
+    let still = found_inside g.S.Store SELECT_SCHEMA.now found.rows b.now d.now found.found (ran_inside g.S.Store (plain META.now ∷ []) a.now b.now ran inside) in
+    inr (b.now, ran, inr (d.now, number, found, inr (inl (is, c.upgrade_tables.ensures.failed failed clean still))))
+
+pub returns-in_default-clause-failed : goal.returns-in_default-clause-failed
+returns-in_default-clause-failed g c failed clean inside =
+    let b = c.run.new.transaction.conn in
+    let d = c.schema_of.new.transaction.conn in
+    let number = c.in_ok-schema_of.field-0 in
+    let ran = c.in_ok-run.ensures.ran (unstored_clean g.S.Store b d c.schema_of.ensures.stores clean) in
+    let foreign : IsForeign number = search rules in
+    inr (b.now, ran, inr (d.now, number, c.in_ok-schema_of.ensures.number clean, inr (inr (foreign, refl))))

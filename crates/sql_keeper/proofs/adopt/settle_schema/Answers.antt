@@ -1,8 +1,9 @@
 -- What a stop leaves of the transaction, which was undone or committed.
-use Rattle.std.proofs.Common.{◌≡◌, rules, subst, arith}
+use Rattle.std.proofs.Common.{◌≡◌, inl, inr, ap, rules, subst, arith, IsErrOf}
+use Rattle.octo_keeper.specs.declared.keeper.KeeperFault.TheVariants as fault
 use Rattle.sqlite.specs.Held.{state}
 use Rattle.sqlite.specs.State.{HasCleanDisk}
-use Rattle.sql_keeper.specs.Settled.{Settled, Settles}
+use Rattle.sql_keeper.specs.Settled.{FailsToAdopt, FailsToSettle, Settled, Settles}
 use Rattle.sql_keeper.specs.Kept.{IsAtomic}
 use Rattle.sql_keeper.proofs.Kept.{atomic_same, undone_atomic, committed_atomic}
 use Rattle.sql_keeper.proofs.adopt.settle_schema.Goals as goal
@@ -45,3 +46,25 @@ returns-in-Ok-clause-settled g c =
       settled = subst (λ h. Settled g.S.Store h last) c.transaction-transaction.ensures.begun (c.in_default.ensures.settled (omega (arith, c.commit.ensures.survives.clean, clean)));
       committed = (c.in-Ok.ensures.ok clean).1;
     })
+
+pub returns-in-Err-clause-failed : goal.returns-in-Err-clause-failed
+returns-in-Err-clause-failed g c =
+    let end = c.rollback.new.self.0 in
+    let last = c.settle.new.transaction.conn.now in
+    let begun = c.transaction-transaction.ensures.begun in
+    let same : end ≡ c.connection-1.given.0 = search rules in
+    λ failed. subst (λ h. HasCleanDisk (state g.S.Store h) → FailsToAdopt g.S.Store c.args.connection.now h) same
+    (λ clean.
+    let is : IsErrOf c.settle.result fault.Failed = search rules in
+    let fails = c.settle.ensures.failed is (omega (arith, c.rollback.ensures.survives.clean, clean)) (ap (λ h. h.in_transaction) begun) in
+    inr (last, inl (subst (λ h. FailsToSettle g.S.Store h last) begun fails, c.rollback.ensures.undone clean)))
+
+pub returns-in-Err-commit-clause-failed : goal.returns-in-Err-commit-clause-failed
+returns-in-Err-commit-clause-failed g c =
+    let end = c.commit.new.self.0 in
+    let last = c.settle.new.transaction.conn.now in
+    let same : end ≡ c.connection-2-1.given.0 = search rules in
+    λ failed. subst (λ h. HasCleanDisk (state g.S.Store h) → FailsToAdopt g.S.Store c.args.connection.now h) same
+    (λ clean.
+    let settled = subst (λ h. Settled g.S.Store h last) c.transaction-transaction.ensures.begun (c.in_default.ensures.settled (omega (arith, c.commit.ensures.survives.clean, clean))) in
+    inr (last, inr (settled, c.in-Err-commit.error, (λ memory. let none = c.fault_of.ensures.1 memory in cc), c.in-Err-commit.ensures.err clean)))

@@ -17,4 +17,4 @@ pub returns-in_err-execute-clause-failed : goal.returns-in_err-execute-clause-fa
 returns-in_err-execute-clause-failed g c =
     let same : c.from_residual.result ≡ Err c.in_err-execute.field-0.0 = search rules in
     subst (λ r. IfErr r (Refuses g.S.Store (with_values c.args.sql.now (bound c.args.values.now) ∷ []) c.args.transaction.now.conn.now c.execute.new.self.conn.now)) (sym same)
-    (λ other clean inside. inl (c.in_err-execute.field-0.0, c.in_err-execute.ensures.runs clean inside))
+    (λ other clean inside. inl (c.in_err-execute.field-0.0, other, c.in_err-execute.ensures.runs clean inside))

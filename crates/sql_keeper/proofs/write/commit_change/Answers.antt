@@ -65,4 +65,4 @@ returns-in-Err-commit-clause-failed g c =
     λ failed. subst (λ h. HasCleanDisk (state g.S.Store h) → FailsToWrite g.S.Store (statements c.args.change.now) c.args.connection.now h) same
     (λ clean.
     let ran = subst (λ h. RanInTurn g.S.Store (statements c.args.change.now) h last) c.transaction-transaction.ensures.begun (c.in_default.ensures.ran (omega (arith, c.commit.ensures.survives.clean, clean))) in
-    inr (last, inr (ran, c.in-Err-commit.error, c.in-Err-commit.ensures.err clean)))
+    inr (last, inr (ran, c.in-Err-commit.error, (λ memory. let none = c.fault_of-in-Err-commit.ensures.1 memory in cc), c.in-Err-commit.ensures.err clean)))

@@ -34,7 +34,7 @@ returns-in-Err-commit-clause-done g c =
     let left : c.take_back.new.self ≡ c.self.inside.users =
     c.take_back.ensures ∙ ap (without c.args.row.now.name) c.in_default.ensures.rows
     ∙ without-with_row c.args.row.now c.self.inside.users (put-new-name c.args.policy.now c.args.row.now c.self.inside.users c.in_default.ensures.exact) in
-    put-undone c.args.row.now c.args.policy.now c.in-Err-commit.fault c.keeper_refused.result c.args.self.now _ c.keeper_refused.ensures
+    put-undone c.args.row.now c.args.policy.now c.in-Err-commit.fault c.answer_of_keeper_fault.result c.args.self.now _ c.answer_of_keeper_fault.ensures
     (users-same _ _ c.take_back.new.self c.self.view_is left)
     (ap (λ (t : TablesData). put_refusal c.args.policy.now c.args.row.now t.users) (sym c.self.view_is) ∙ c.in_default.ensures.exact)
 

@@ -39,7 +39,7 @@ returns-in-Ok-commit-clause-rest g c = record {
 
 pub returns-in-Err-commit-clause-done : goal.returns-in-Err-commit-clause-done
 returns-in-Err-commit-clause-done g c =
-    set-undone c.args.row.now c.args.policy.now c.in-Err-commit.fault c.keeper_refused.result c.args.self.now _ c.keeper_refused.ensures
+    set-undone c.args.row.now c.args.policy.now c.in-Err-commit.fault c.answer_of_keeper_fault.result c.args.self.now _ c.answer_of_keeper_fault.ensures
     (users-same _ _ c.restore.new.self c.self.view_is
     (c.restore.ensures ∙ back-after c.args.row.now c.in-Ok.former c.self.inside.users c.change.new.self c.in-Ok.ensures.rows c.in-Ok.ensures.exact.1))
     (ap (λ (t : TablesData). change_refusal c.args.policy.now c.args.row.now t.users) (sym c.self.view_is) ∙ c.in-Ok.ensures.exact.0)

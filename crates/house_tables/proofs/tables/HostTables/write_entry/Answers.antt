@@ -5,7 +5,7 @@ use Rattle.house_tables.proofs.Put.{fault-not}
 use Rattle.house_tables.proofs.tables.HostTables.write_entry.Goals as goal
 
 pub returns-in-Err-clause-ok : goal.returns-in-Err-clause-ok
-returns-in-Err-clause-ok g c = λ fine. absurd (fault-not c.in-Err.fault c.keeper_refused.result c.keeper_refused.ensures fine)
+returns-in-Err-clause-ok g c = λ fine. absurd (fault-not c.in-Err.fault c.answer_of_keeper_fault.result c.answer_of_keeper_fault.ensures fine)
 
 pub returns-in-Err-clause-err : goal.returns-in-Err-clause-err
 returns-in-Err-clause-err g c = λ failed. (

@@ -1,6 +1,6 @@
 use Rattle.std.proofs.Common.{Bool, refl, ◌∙◌, subst, arith}
 use Rattle.marlin_sim.specs.Sim.{Arrived, AfterArrival, no_line, one_line}
-use Rattle.marlin_sim.proofs.Steps.{arrived_tells, arrived_work, keeps_then}
+use Rattle.marlin_sim.proofs.Steps.{arrived_follows, arrived_work, keeps_then}
 use Rattle.marlin_sim.proofs.sim.Sim.arrive_all.Goals as goal
 
 pub loop-init : goal.loop-init
@@ -13,7 +13,7 @@ loop-preserved c =
     let less = arrived_work c.loop.self c.arrive_next.new.self arrived in
     record {
       arrives = one_line c.args.self.now c.loop.self c.arrive_next.new.self c.loop.invariant.arrives arrived;
-      kept = keeps_then c.args.self.now c.loop.self c.arrive_next.new.self c.loop.invariant.kept (λ plan input rest wrote printed t. arrived_tells plan input rest wrote printed _ _ arrived t);
+      kept = keeps_then c.args.self.now c.loop.self c.arrive_next.new.self c.loop.invariant.kept (λ plan input rest wrote printed t. arrived_follows plan input rest wrote printed _ _ arrived t);
       work = omega (arith, less.0, c.loop.invariant.work);
       places = less.1 ∙ c.loop.invariant.places;
     }

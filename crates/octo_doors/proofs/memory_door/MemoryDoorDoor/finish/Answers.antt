@@ -1,7 +1,7 @@
 use Rattle.std.proofs.Common.{[], ◌∷◌, List, map, Option, Some, None, ap, sym, subst}
 use Rattle.std.specs.Prelude.{option_map, if◌then◌else◌}
 use Rattle.octo_outside.specs.Memory.{ConnData}
-use Rattle.octo_outside.specs.Told.{Adds}
+use Rattle.octo_outside.specs.Recorded.{Adds}
 use Rattle.octo_doors.specs.Memory.{DoorData, conn_state}
 use Rattle.octo_doors.proofs.Served.{adds_conn}
 use Rattle.octo_doors.proofs.memory_door.MemoryDoorDoor.finish.Goals as goal

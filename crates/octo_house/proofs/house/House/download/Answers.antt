@@ -4,20 +4,20 @@ use Rattle.octo_asks.specs.declared.answer.Answer.TheVariants as answer
 use Rattle.house_verdicts.specs.Known.{is_held}
 use Rattle.house_verdicts.specs.Verdict.{gives}
 use Rattle.octo_house.specs.State.{known_of}
-use Rattle.octo_house.proofs.ReadDone.{given, passed, bytes-read, bytes-missed}
+use Rattle.octo_house.proofs.ReadDone.{given, passed-on, read-on, bytes-read, bytes-missed}
 use Rattle.octo_house.proofs.house.House.download.Goals as goal
 
 pub returns-in-Ok-clause-done : goal.returns-in-Ok-clause-done
-returns-in-Ok-clause-done g c = λ files at.
+returns-in-Ok-clause-done g c = λ files.
     let k = known_of c.args.self.now in
     let held : is_held c.args.name.now k ≡ true = cc in
-    passed (not (is_held c.args.name.now k)) answer.NoFile _ _ k k (ap not held)
-    (bytes-read (bytes_of c.args.name.now files) (λ bytes. gives (answer.Download bytes)) c.in-Ok.bytes _ k k
-    (c.in-Ok.ensures.read files at) (given _ _ k refl))
+    passed-on (not (is_held c.args.name.now k)) answer.NoFile _ _ k k (ap not held)
+    (read-on _ _ k k (λ at. bytes-read (bytes_of c.args.name.now files) (λ bytes. gives (answer.Download bytes)) c.in-Ok.bytes _ k k
+    (c.in-Ok.ensures.read files at) (given _ _ k refl)))
 
 pub returns-in-Err-clause-done : goal.returns-in-Err-clause-done
-returns-in-Err-clause-done g c = λ files at.
+returns-in-Err-clause-done g c = λ files.
     let k = known_of c.args.self.now in
     let held : is_held c.args.name.now k ≡ true = cc in
-    passed (not (is_held c.args.name.now k)) answer.NoFile _ _ k k (ap not held)
-    (bytes-missed (bytes_of c.args.name.now files) (λ bytes. gives (answer.Download bytes)) c.in-Err.answer k (c.in-Err.ensures.read files at))
+    passed-on (not (is_held c.args.name.now k)) answer.NoFile _ _ k k (ap not held)
+    (read-on _ _ k k (λ at. bytes-missed (bytes_of c.args.name.now files) (λ bytes. gives (answer.Download bytes)) c.in-Err.answer k (c.in-Err.ensures.read files at)))

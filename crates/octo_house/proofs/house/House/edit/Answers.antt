@@ -50,6 +50,7 @@ returns-in_default g c =
     let still : is_storing c.args.request.now ≡ false = search rules in
     record {
       done = λ files at. c.put_row.ensures.done files;
+      granted = search rules;
       files = shelves-same _ _ (λ files. request_verdict c.args.request.now c.args.user.now files (known_of c.args.self.now)) _ refl
           (λ files. request-leaves c.args.request.now c.args.user.now files (known_of c.args.self.now) still);
       rest = record {

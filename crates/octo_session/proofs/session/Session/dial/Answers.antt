@@ -1,6 +1,6 @@
 use Rattle.std.proofs.Common.{◌≡◌, sym, subst}
 use Rattle.desk_steps.specs.declared.link_fact.LinkFact.{LinkFact}
-use Rattle.send_window.specs.Data.{begun}
+use Rattle.send_window.specs.Data.{sender_after_dial}
 use Rattle.session_steps.specs.Steps.{Takes, opens, dial_steps}
 use Rattle.session_steps.proofs.Stepping.{takes_both, opens_placed}
 use Rattle.octo_session.proofs.session.Session.dial.Goals as goal
@@ -8,7 +8,7 @@ use Rattle.octo_session.proofs.session.Session.dial.Goals as goal
 pub returns-in-Ok-clause-steps : goal.returns-in-Ok-clause-steps
 returns-in-Ok-clause-steps g c =
     let old = c.args.link.now in
-    let after : c.open.new.self.sender ≡ begun c.args.self.now.sender = c.open.ensures.sender in
+    let after : c.open.new.self.sender ≡ sender_after_dial c.args.self.now.sender = c.open.ensures.sender in
     let P : LinkFact → Type 0 = λ f. Takes c.args.moment (g.L.Link.kind old) (g.L.Link.past old) (g.L.Link.past c.dial_port.new.link) (g.L.Link.calls old)
     (g.L.Link.calls c.dial_port.new.link) (dial_steps f) c.args.self.now.sender c.open.new.self.sender in
     let grew = opens_placed (g.L.Link.kind old) (g.L.Link.past old) (g.L.Link.past c.dial_port.new.link) c.args.self.now.sender c.in-Ok.ensures.slots

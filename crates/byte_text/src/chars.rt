@@ -1,0 +1,18 @@
+//! Bytes as characters: a space or a tab, and letters in any case.
+ghost use Rattle.std.specs.Prelude.{◌≡◌};
+ghost use Rattle.std.specs.Str.{str_eq_ignore_ascii_case};
+ghost use Rattle.byte_text.specs.Chars.{is_space};
+
+/// Whether a byte is a space or a tab.
+pub fn is_space(byte: u8) -> bool
+    ensures { result ≡ is_space byte }
+{
+    byte == b' ' || byte == b'\t'
+}
+
+/// Whether two texts are equal but for the case of their ASCII letters.
+pub fn same_text(text: &[u8], other: &[u8]) -> bool
+    ensures { result ≡ str_eq_ignore_ascii_case text.now other.now }
+{
+    text.eq_ignore_ascii_case(other)
+}

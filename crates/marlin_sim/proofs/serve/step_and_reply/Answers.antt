@@ -1,0 +1,6 @@
+use Rattle.marlin_sim.proofs.Serving.{serves_kept}
+use Rattle.marlin_sim.proofs.serve.step_and_reply.Goals as goal
+
+pub returns-in-Ok-clause-follows : goal.returns-in-Ok-clause-follows
+returns-in-Ok-clause-follows g c plan input first v =
+    c.deliver.ensures.follows plan input first (serves_kept plan input first _ c.args.sim.now c.step.new.self c.in-Ok.ensures.kept v)
