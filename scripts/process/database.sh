@@ -13,7 +13,7 @@ install_sqlite3() {
 }
 if ! command -v sqlite3 >/dev/null && ! install_sqlite3 >"$work/apt" 2>&1; then
     cat "$work/apt"
-    echo "failed: sqlite3 isn't there and can't be installed"
+    echo "failed: sqlite3 is missing and can't be installed"
     exit 1
 fi
 

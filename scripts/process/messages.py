@@ -1,5 +1,5 @@
-"""Reads each recorded message (crates/client_messages/data) by `client_messages`: what it prints, also if the bytes come one by one, and
-that the input has ended if it is cut."""
+"""Reads each recorded message (crates/client_messages/data) by `client_messages`, at once and byte by byte: compares what it prints.
+A message that is cut must be reported as ended."""
 
 import glob
 import os
@@ -30,7 +30,7 @@ def reads_bytes(name):
 
 
 def first_other_cut(name, path):
-    """The first place at which the message's end isn't missed, by turns at once and byte by byte."""
+    """The first place at which a cut message isn't reported as ended. The places are read at once and byte by byte in turn."""
     with open(os.path.join(CRATE, "data", name), "rb") as source:
         message = source.read()
     for end in range(len(message)):

@@ -26,7 +26,7 @@ beforePrintStarted = ["M107"]
 afterPrintDone = ["M84"]
 EOF
 
-# name, the file's text, the words of marlin_sim after its address, what octo prints, octo's status, what the printer prints,
+# name, the file's text, the arguments of marlin_sim after its address, what octo prints, octo's status, what the printer prints,
 # and octo's options
 print_row() {
     if [ "$over" = tcp ]; then
@@ -57,7 +57,7 @@ print_row() {
     fi
 }
 
-# A printer that is killed while it prints: octo ends with status 5, and what was executed are the first lines of the print.
+# A printer that is killed while it prints: octo ends with status 5, and the printer executed the first lines of the print.
 kill_row() {
     port=$(scripts/free_port) || exit 1
     timeout 60 crates/marlin_sim/out/marlin_sim "127.0.0.1:$port" 0 4 - - >"$work/executed" &

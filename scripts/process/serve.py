@@ -56,8 +56,8 @@ def slicer_upload(folder):
 
 
 def silent_peers(folder):
-    """Connections that send nothing keep a worker each until its patience ends: with three of them others are answered at once, with
-    four after that."""
+    """Connections that send nothing keep a worker each until its patience ends. Beside three of them others are answered at once,
+    beside four only after the patience has ended."""
     host = Host(folder, 9, "[serve]\npatience = 1000\n").start()
     silent = []
     try:
@@ -139,8 +139,8 @@ def many_requests(folder):
 
 
 def killed_print(folder, after):
-    """Kills the host some time after a print began. Begun again it finds its tables, its files whole, and the print as Failed, or as Done
-    if it was over."""
+    """Kills the host some time after a print began. A new start finds the tables and whole files. The print is Failed, or Done if it was
+    over."""
     printer = Printer(folder)
     host = Host(folder, printer.port).start()
     long = LAYER * 200

@@ -149,7 +149,7 @@ class Host:
         return self
 
     def answers(self):
-        """Whether it has begun: its address is bound before the database is opened. A path that isn't there is no call of the house."""
+        """Whether it has begun: its address is bound before the database is opened. A path that doesn't exist is no call of the house."""
         try:
             return listens(self.port) and self.ask("GET", "/api/nothing").status == 404
         except OSError:
