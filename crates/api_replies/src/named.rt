@@ -6,8 +6,8 @@ ghost use Rattle.api_replies.specs.Replies.{json_reply, refusal, reply_of, is_na
 
 use crate::direct::empty_reply;
 use crate::refusals::{
-    bad_file_value, full_value, group_value, holder_value, name_taken_value, permission_value,
-    refusal_value, state_value, too_hot_line_value, too_hot_value,
+    bad_file_value, full_value, name_taken_value, noted_value, refusal_value, too_hot_line_value,
+    too_hot_value,
 };
 use crate::texts::{permission_text, state_text};
 use octo_asks::Answer;
@@ -68,10 +68,18 @@ pub(crate) fn refusal_reply(alloc: Global, answer: &Answer) -> Result<HttpReply,
     match answer {
         Answer::Denied { permission } => {
             let permission = permission_text(*permission);
-            json_reply(alloc, 403, permission_value(alloc, "Denied", permission)?)
+            json_reply(
+                alloc,
+                403,
+                noted_value(alloc, "Denied", "permission", permission)?,
+            )
         }
         Answer::BadGroup { group } => {
-            json_reply(alloc, 400, group_value(alloc, "BadGroup", group.as_str())?)
+            json_reply(
+                alloc,
+                400,
+                noted_value(alloc, "BadGroup", "group", group.as_str())?,
+            )
         }
         Answer::BadFile { fault } => json_reply(alloc, 400, bad_file_value(alloc, *fault)?),
         Answer::TooHot { asked, limit } => {
@@ -79,7 +87,11 @@ pub(crate) fn refusal_reply(alloc: Global, answer: &Answer) -> Result<HttpReply,
         }
         Answer::WrongState { state } => {
             let state = state_text(*state);
-            json_reply(alloc, 409, state_value(alloc, "WrongState", state)?)
+            json_reply(
+                alloc,
+                409,
+                noted_value(alloc, "WrongState", "state", state)?,
+            )
         }
         Answer::TooHotLine { line, asked, limit } => {
             json_reply(
@@ -90,7 +102,11 @@ pub(crate) fn refusal_reply(alloc: Global, answer: &Answer) -> Result<HttpReply,
         }
         Answer::NameTaken { kept } => json_reply(alloc, 409, name_taken_value(alloc, kept)?),
         Answer::KeyTaken { name } => {
-            json_reply(alloc, 409, holder_value(alloc, "KeyTaken", name.as_str())?)
+            json_reply(
+                alloc,
+                409,
+                noted_value(alloc, "KeyTaken", "name", name.as_str())?,
+            )
         }
         Answer::Full { count } => json_reply(alloc, 409, full_value(alloc, *count)?),
         _ => named_reply(alloc, answer),

@@ -1,7 +1,9 @@
 //! Refusals as JSON.
 ghost use Rattle.std.specs.Prelude.{◌≡◌, codes, IfOk};
+ghost use Rattle.gcode_lines.specs.declared.fault.FileFault.TheVariants as fault;
+ghost use Rattle.serde_json.specs.Data.{string, object, no_members, member, put as with_member};
 ghost use Rattle.serde_json.specs.View.{view};
-ghost use Rattle.api_replies.specs.Refusals.{refusal_data, noted_data, bad_line_data, bad_file_data, too_hot_data, too_hot_line_data, name_taken_data, full_data};
+ghost use Rattle.api_replies.specs.Refusals.{refusal_data, bad_line_data, bad_file_data, too_hot_data, too_hot_line_data, name_taken_data, full_data};
 
 use crate::items::entry_value;
 use gcode_lines::FileFault;
@@ -16,37 +18,17 @@ pub(crate) fn refusal_value(alloc: Global, name: &str) -> Result<Value, AllocErr
     json!(in alloc; {"error": name})
 }
 
-/// A refusal with the group that it is about.
-pub(crate) fn group_value(alloc: Global, name: &str, group: &str) -> Result<Value, AllocError>
-    ensures { IfOk result (λ value. view value ≡ noted_data name.now (codes "group") group.now) }
-{
-    json!(in alloc; {"error": name, "group": group})
-}
-
-/// A refusal with the name of the user that it is about.
-pub(crate) fn holder_value(alloc: Global, name: &str, holder: &str) -> Result<Value, AllocError>
-    ensures { IfOk result (λ value. view value ≡ noted_data name.now (codes "name") holder.now) }
-{
-    json!(in alloc; {"error": name, "name": holder})
-}
-
-/// A refusal with the permission that the caller lacks.
-pub(crate) fn permission_value(
+/// A refusal with a text that says more, under its key.
+pub(crate) fn noted_value(
     alloc: Global,
     name: &str,
-    permission: &str,
+    key: &str,
+    text: &str,
 ) -> Result<Value, AllocError>
-    ensures { IfOk result (λ value. view value
-        ≡ noted_data name.now (codes "permission") permission.now) }
+    ensures { IfOk result (λ value. view value ≡ object (with_member key.now (string text.now)
+        (member (codes "error") (string name.now) no_members))) }
 {
-    json!(in alloc; {"error": name, "permission": permission})
-}
-
-/// A refusal with the state.
-pub(crate) fn state_value(alloc: Global, name: &str, state: &str) -> Result<Value, AllocError>
-    ensures { IfOk result (λ value. view value ≡ noted_data name.now (codes "state") state.now) }
-{
-    json!(in alloc; {"error": name, "state": state})
+    json!(in alloc; {"error": name, key: text})
 }
 
 // A line of a file that is refused.
@@ -56,6 +38,13 @@ fn bad_line_value(alloc: Global, fault: &str, line: u32) -> Result<Value, AllocE
     json!(in alloc; {"error": "BadFile", "fault": fault, "line": line})
 }
 
+// A file of too many bytes.
+fn too_large_value(alloc: Global, bytes: u64) -> Result<Value, AllocError>
+    ensures { IfOk result (λ value. view value ≡ bad_file_data (fault.TooLarge bytes)) }
+{
+    json!(in alloc; {"bytes": bytes, "error": "BadFile", "fault": "TooLarge"})
+}
+
 /// A file that has no job.
 pub(crate) fn bad_file_value(alloc: Global, fault: FileFault) -> Result<Value, AllocError>
     ensures { IfOk result (λ value. view value ≡ bad_file_data fault) }
@@ -63,10 +52,8 @@ pub(crate) fn bad_file_value(alloc: Global, fault: FileFault) -> Result<Value, A
     match fault {
         FileFault::TooLong { line } => bad_line_value(alloc, "TooLong", line),
         FileFault::ControlByte { line } => bad_line_value(alloc, "ControlByte", line),
-        FileFault::TooLarge { bytes } => {
-            json!(in alloc; {"bytes": bytes, "error": "BadFile", "fault": "TooLarge"})
-        }
-        FileFault::NoMemory => json!(in alloc; {"error": "BadFile", "fault": "NoMemory"}),
+        FileFault::TooLarge { bytes } => too_large_value(alloc, bytes),
+        FileFault::NoMemory => noted_value(alloc, "BadFile", "fault", "NoMemory"),
     }
 }
 

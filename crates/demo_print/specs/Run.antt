@@ -1,5 +1,5 @@
 -- What a demo runs, and what it comes to.
-use Rattle.std.specs.Prelude.{◌≡◌, ◌≢◌, ℕ, false, [], length, count_by, Some, Ok}
+use Rattle.std.specs.Prelude.{◌≡◌, ◌≢◌, ℕ, false, true, [], length, count_by, codes, Some, Ok}
 use Rattle.gcode_lines.specs.Commands.{job_of}
 use Rattle.gcode_lines.specs.Job.{JobData, texts_of}
 use Rattle.job_desk.specs.Scripts.{no_scripts}
@@ -12,6 +12,7 @@ use Rattle.print_course.specs.Plan.{plan}
 use Rattle.send_window.specs.declared.session_end.SessionEnd.{SessionEnd}
 use Rattle.session_print.specs.Ends.{IsTooHot}
 use Rattle.session_print.specs.Printed.{HasPrinted}
+use Rattle.session_print.specs.declared.end.PrintEnd.{PrintEnd}
 use Rattle.session_print.specs.declared.end.PrintEnd.TheVariants as end
 use Rattle.temp_rules.specs.Hot.{first_hot_of}
 use Rattle.temp_rules.specs.declared.limits.Limits.{Limits}
@@ -24,27 +25,28 @@ use Rattle.demo_print.specs.declared.run.Demo.{Demo}
 abbrev pub demo_kind : (seed commands : ℕ) → LinkKind
 demo_kind seed commands = link_kind (new_link (demo_schedule seed commands))
 
--- a print of this job, over a link to which nothing happened before
-pub record IsPrint (kind : LinkKind) (job : JobData) (demo : Demo) : Type 0 where
-  pub acked : ℕ
-  pub printed : Recorded (Some []) (Some demo.link.story.past) (HasPrinted kind (plan no_scripts (texts_of job)) demo.end acked)
-  pub ended : (why : SessionEnd) → demo.end ≡ end.Ended why → EndCausedAs kind (Some demo.link.story.past) why
-  pub same_kind : link_kind demo.link ≡ kind
-  pub down : (link_world demo.link).linked ≡ false
-
 -- the greatest temperatures of a demo, in degrees Celsius
 abbrev pub demo_limits : Limits
 demo_limits = record { tool = 300; bed = 120 }
+
+-- a print of this job without scripts ended so, over a link to which nothing happened before
+pub record IsPrint (kind : LinkKind) (job : JobData) (link : MemoryLinkData) (ended_as : PrintEnd) : Type 0 where
+  pub acked : ℕ
+  pub printed : Recorded (Some []) (Some link.story.past) (HasPrinted kind (plan no_scripts (texts_of job)) ended_as acked)
+  pub ended : (why : SessionEnd) → ended_as ≡ end.Ended why → EndCausedAs kind (Some link.story.past) why
+  pub same_kind : link_kind link ≡ kind
+  pub down : (link_world link).linked ≡ false
+  pub listed : kind.listed (codes "demo") ≡ true → ended_as ≢ end.NoPort
+  pub cool : IsTooHot (first_hot_of demo_limits job.commands) ended_as
+  pub used : (turns : ℕ) → ended_as ≡ end.TurnsUsed turns → turns ≡ 1000000000
 
 -- a demo that was run: its file was printed over its link, whose port is listed and which didn't fail
 pub record IsDemo (seed commands : ℕ) (demo : Demo) : Type 0 where
   pub job : JobData
   pub its_file : job_of (demo_file seed commands) ≡ Ok job
-  pub print : IsPrint (demo_kind seed commands) job demo
+  pub print : IsPrint (demo_kind seed commands) job demo.link demo.end
   pub listed : demo.end ≢ end.NoPort
   pub sound : demo.end ≢ end.LinkFailed
-  pub cool : IsTooHot (first_hot_of demo_limits job.commands) demo.end
-  pub used : (turns : ℕ) → demo.end ≡ end.TurnsUsed turns → turns ≡ 1000000000
 
 -- what happened on a link
 abbrev pub counts_of : MemoryLinkData → DemoCounts

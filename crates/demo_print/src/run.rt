@@ -1,17 +1,19 @@
 //! The run of a demo.
-ghost use Rattle.std.specs.Prelude.{◌≡◌, ◌≤◌, length, false, IfOk};
+ghost use Rattle.std.specs.Prelude.{◌≡◌, ◌≤◌, length, false, [], IfOk};
 ghost use Rattle.byte_text.specs.declared.name.TheConstants.{MOST_NAME_BYTES};
 ghost use Rattle.desk_steps.specs.Data.{new_desk};
 ghost use Rattle.send_window.specs.Data.{new_sender, IsSound};
 ghost use Rattle.session_print.specs.Ends.{IsNew};
 ghost use Rattle.job_desk.specs.Scripts.{no_scripts};
-ghost use Rattle.demo_print.specs.Run.{IsDemo, counts_of, demo_limits};
+ghost use Rattle.printer_link.specs.Memory.{link_kind, link_world};
+ghost use Rattle.demo_print.specs.Run.{IsDemo, IsPrint, counts_of, demo_limits};
 ghost use Rattle.demo_print.specs.declared.file.TheConstants.{MOST_COMMANDS};
 
 use crate::job::demo_job;
 use crate::report::DemoCounts;
 use crate::schedule::demo_schedule;
 use byte_text::Name;
+use gcode_lines::Job;
 use job_desk::{Desk, Scripts};
 use octo_outside::MemoryClock;
 use octo_session::Session;
@@ -68,6 +70,24 @@ fn plain_session(alloc: Global) -> Result<Session, AllocError>
     Ok(Session::new(desk, sender))
 }
 
+// Prints a job over a link to which nothing happened before, in a session of its own.
+fn print_over(alloc: Global, link: &mut MemoryLink, job: Job) -> Result<PrintEnd, AllocError>
+    requires new { link.old.story.past ≡ [] }
+    requires down { (link_world link.old).linked ≡ false }
+    ensures { IfOk result (IsPrint (link_kind link.old) job link.new) }
+{
+    let mut session = plain_session(alloc)?;
+    Ok(run_print(
+        &mut session,
+        link,
+        &mut MemoryClock::new(0, REST),
+        &name("demo"),
+        &name("file"),
+        job,
+        TURNS,
+    ))
+}
+
 /// Prints the file of a demo over a link in memory of its own, for a seed of at most 2,147,483,647 and at most 200,000
 /// commands. The printer has 4 buffer slots and the last line number 4; the window is 4, and a rest takes 100 ms.
 ///
@@ -81,16 +101,7 @@ pub fn run_demo(alloc: Global, seed: u32, commands: u32) -> Result<Demo, AllocEr
 {
     let job = demo_job(alloc, seed, commands)?;
     let mut link = MemoryLink::new(alloc, demo_schedule(alloc, seed, commands)?)?;
-    let mut session = plain_session(alloc)?;
-    let end = run_print(
-        &mut session,
-        &mut link,
-        &mut MemoryClock::new(0, REST),
-        &name("demo"),
-        &name("file"),
-        job,
-        TURNS,
-    );
+    let end = print_over(alloc, &mut link, job)?;
     if end == PrintEnd::LinkFailed {
         return Err(AllocError);
     }
