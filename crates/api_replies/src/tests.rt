@@ -18,9 +18,19 @@ use octo_asks::{
 use octo_http::ReplyKind;
 use octo_outside::{Blob, NameList};
 use print_records::Outcome;
-use std::alloc::Global;
+use std::alloc::{AllocError, Global};
 use std::process::Abort;
 use std::test::Fail;
+
+// Whether the answer's reply has this status, kind and body.
+fn is_reply(
+    alloc: Global,
+    answer: Answer,
+    wanted: (u16, ReplyKind, &[u8]),
+) -> Result<bool, AllocError> {
+    let reply = to_bytes(alloc, answer)?;
+    Ok((reply.status, reply.kind, reply.body.as_slice()) == wanted)
+}
 
 // The answer's reply is JSON with this status and body.
 fn shows(
@@ -30,10 +40,8 @@ fn shows(
     status: u16,
     body: &str,
 ) -> Result<(), Fail> {
-    let reply = to_bytes(alloc, answer)?;
-    assert_eq!(rt; reply.status, status);
-    assert!(rt; reply.kind == ReplyKind::Json);
-    assert!(rt; reply.body.as_slice() == body.as_bytes());
+    let wanted = (status, ReplyKind::Json, body.as_bytes());
+    assert!(rt; is_reply(alloc, answer, wanted)?, "{body}");
     Ok(())
 }
 
@@ -63,22 +71,14 @@ const ENTRY: &str =
 #[test]
 fn ample(rt: HostRuntime) -> Result<(), Fail> {
     let alloc = rt.alloc();
-    shows(
-        &rt,
-        alloc,
-        Answer::TakenEntry { entry: entry()? },
-        200,
-        ENTRY,
-    )?;
+    let taken = Answer::TakenEntry { entry: entry()? };
+    shows(&rt, alloc, taken, 200, ENTRY)?;
     let bytes = Blob::from_slice(alloc, b"G28\n")?;
-    let reply = to_bytes(alloc, Answer::Download { bytes })?;
-    assert_eq!(rt; reply.status, 200);
-    assert!(rt; reply.kind == ReplyKind::Bytes);
-    assert!(rt; reply.body.as_slice() == b"G28\n".as_slice());
-    for (answer, status) in [(Answer::Accepted, 204), (Answer::NoMemory, 507)] {
-        let reply = to_bytes(alloc, answer)?;
-        assert_eq!(rt; reply.status, status);
-        assert!(rt; reply.kind == ReplyKind::Empty && reply.body.is_empty());
-    }
+    let wanted = (200, ReplyKind::Bytes, b"G28\n".as_slice());
+    assert!(rt; is_reply(alloc, Answer::Download { bytes }, wanted)?);
+    let wanted = (204, ReplyKind::Empty, b"".as_slice());
+    assert!(rt; is_reply(alloc, Answer::Accepted, wanted)?);
+    let wanted = (507, ReplyKind::Empty, b"".as_slice());
+    assert!(rt; is_reply(alloc, Answer::NoMemory, wanted)?);
     Ok(())
 }

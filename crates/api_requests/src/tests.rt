@@ -98,29 +98,43 @@ fn come_to(
     Ok(())
 }
 
+// Whether this is asked, with this key.
+fn is_ask(ask: &Ask, wanted: &str, key: &[u8]) -> bool {
+    name_of(&ask.request) == wanted && ask.key.as_slice() == key
+}
+
 // Whether the message comes to this, and its key is this.
 fn has_key(alloc: Global, message: Message, wanted: &str, key: &[u8]) -> Result<bool, Fail> {
     let ask = to_request(alloc, message)?;
-    Ok(name_of(&ask.request) == wanted && ask.key.as_slice() == key)
+    Ok(is_ask(&ask, wanted, key))
 }
 
-// The calls that take memory, each once; one table of routes serves two messages.
+// A POST of JSON to the job.
+fn job_message(alloc: Global, body: &[u8]) -> Result<Message, Fail> {
+    let kind = "application/json; charset=utf-8";
+    message(alloc, Method::POST, "/api/job", kind, body)
+}
+
+// Whether a POST to the job comes to this by a table of routes.
+fn asks_by(alloc: Global, routes: &Routes, body: &[u8], wanted: &str) -> Result<bool, Fail> {
+    let ask = request_by(alloc, routes, job_message(alloc, body)?)?;
+    Ok(is_ask(&ask, wanted, b"rootxkeyx0000000"))
+}
+
+// One table of routes serves two messages.
+fn serves_two(rt: &impl Abort, alloc: Global, routes: &Routes) -> Result<(), Fail> {
+    assert!(rt; asks_by(alloc, routes, b"{\"command\":\"start\"}", "Start")?);
+    assert!(rt; asks_by(alloc, routes, b"{\"command\":\"cancel\"}", "Cancel")?);
+    Ok(())
+}
+
+// The calls that take memory, each once.
 #[test]
 fn ample(rt: HostRuntime) -> Result<(), Fail> {
     let alloc = rt.alloc();
-    let kind = "application/json; charset=utf-8";
-    let body = b"{\"command\":\"start\"}";
-    let start = message(alloc, Method::POST, "/api/job", kind, body)?;
+    let start = job_message(alloc, b"{\"command\":\"start\"}")?;
     assert!(rt; has_key(alloc, start, "Start", b"rootxkeyx0000000")?);
-    let routes = Routes::new(alloc)?;
-    let cancel = b"{\"command\":\"cancel\"}";
-    for (body, wanted) in [(body.as_slice(), "Start"), (cancel.as_slice(), "Cancel")] {
-        let message = message(alloc, Method::POST, "/api/job", kind, body)?;
-        let ask = request_by(alloc, &routes, message)?;
-        assert!(rt; name_of(&ask.request) == wanted);
-        assert!(rt; ask.key.as_slice() == b"rootxkeyx0000000".as_slice());
-    }
-    Ok(())
+    serves_two(&rt, alloc, &Routes::new(alloc)?)
 }
 
 #[test]

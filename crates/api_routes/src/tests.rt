@@ -1,7 +1,8 @@
 //! Paths and methods, and what they are about.
 use crate::*;
+use api_direct::Direct;
 use octo_asks::Request;
-use std::alloc::Global;
+use std::alloc::{AllocError, Global};
 use std::process::Abort;
 use std::test::Fail;
 
@@ -10,61 +11,91 @@ const METHODS: [&str; 8] = [
 ];
 
 // What a path is about, by a table of routes made for this path alone.
-fn about(alloc: Global, path: &[u8]) -> Result<Option<Target>, Fail> {
+fn about(alloc: Global, path: &[u8]) -> Result<Result<Option<Target>, Direct>, AllocError> {
     let routes = Routes::new(alloc)?;
-    Ok(target_of(alloc, &routes, path)?)
+    Ok(target_of(alloc, &routes, path))
+}
+
+// The target takes these methods and no others.
+fn takes_only(rt: &impl Abort, target: &Target, methods: &[&str]) {
+    for method in METHODS {
+        let taken = methods.iter().any(|one| *one == method);
+        assert!(rt; wanted_of(method, target).is_some() == taken);
+    }
 }
 
 // The path takes these methods and no others.
 fn takes(rt: &impl Abort, alloc: Global, path: &str, methods: &[&str]) -> Result<(), Fail> {
-    let target = about(alloc, path.as_bytes())?.ok_or("no route")?;
-    for method in METHODS {
-        let taken = methods.iter().any(|one| *one == method);
-        assert!(rt; wanted_of(method, &target).is_some() == taken);
+    let target = about(alloc, path.as_bytes())??.ok_or("no route")?;
+    takes_only(rt, &target, methods);
+    Ok(())
+}
+
+// Each path takes the methods on its right and no others.
+fn each_takes(rt: &impl Abort, alloc: Global, rows: &[(&str, &[&str])]) -> Result<(), Fail> {
+    for (path, methods) in rows {
+        takes(rt, alloc, path, methods)?;
     }
     Ok(())
 }
 
 #[test]
 fn printer_paths(rt: HostRuntime) -> Result<(), Fail> {
-    let alloc = rt.alloc();
-    takes(&rt, alloc, "/api/version", &["GET"])?;
-    takes(&rt, alloc, "/api/connection", &["GET", "POST"])?;
-    takes(&rt, alloc, "/api/printer", &["GET"])?;
-    takes(&rt, alloc, "/api/printer/tool", &["POST"])?;
-    takes(&rt, alloc, "/api/printer/bed", &["POST"])?;
-    takes(&rt, alloc, "/api/printer/command", &["POST"])?;
-    takes(&rt, alloc, "/api/job", &["GET", "POST"])?;
-    takes(&rt, alloc, "/api/system/commands/core/shutdown", &["POST"])
+    let rows: [(&str, &[&str]); 8] = [
+        ("/api/version", &["GET"]),
+        ("/api/connection", &["GET", "POST"]),
+        ("/api/printer", &["GET"]),
+        ("/api/printer/tool", &["POST"]),
+        ("/api/printer/bed", &["POST"]),
+        ("/api/printer/command", &["POST"]),
+        ("/api/job", &["GET", "POST"]),
+        ("/api/system/commands/core/shutdown", &["POST"]),
+    ];
+    each_takes(&rt, rt.alloc(), &rows)
 }
 
 #[test]
 fn file_paths(rt: HostRuntime) -> Result<(), Fail> {
-    let alloc = rt.alloc();
-    takes(&rt, alloc, "/api/files", &["GET"])?;
-    takes(&rt, alloc, "/api/files/local", &["GET", "POST"])?;
-    let methods = ["GET", "POST", "DELETE"];
-    takes(&rt, alloc, "/api/files/local/a.gcode", &methods)?;
-    takes(&rt, alloc, "/downloads/files/local/a.gcode", &["GET"])
+    let rows: [(&str, &[&str]); 4] = [
+        ("/api/files", &["GET"]),
+        ("/api/files/local", &["GET", "POST"]),
+        ("/api/files/local/a.gcode", &["GET", "POST", "DELETE"]),
+        ("/downloads/files/local/a.gcode", &["GET"]),
+    ];
+    each_takes(&rt, rt.alloc(), &rows)
 }
 
 #[test]
 fn other_paths(rt: HostRuntime) -> Result<(), Fail> {
-    let alloc = rt.alloc();
-    takes(&rt, alloc, "/api/access/users", &["GET", "POST"])?;
-    takes(&rt, alloc, "/api/access/users/ana", &["PUT"])?;
-    takes(&rt, alloc, "/api/queue", &["GET", "POST"])?;
-    takes(&rt, alloc, "/api/queue/job-1", &["DELETE"])?;
-    takes(&rt, alloc, "/api/queue/ana/job-1", &["DELETE"])?;
-    takes(&rt, alloc, "/api/queue-next", &["POST"])?;
-    takes(&rt, alloc, "/api/prints", &["GET"])
+    let rows: [(&str, &[&str]); 7] = [
+        ("/api/access/users", &["GET", "POST"]),
+        ("/api/access/users/ana", &["PUT"]),
+        ("/api/queue", &["GET", "POST"]),
+        ("/api/queue/job-1", &["DELETE"]),
+        ("/api/queue/ana/job-1", &["DELETE"]),
+        ("/api/queue-next", &["POST"]),
+        ("/api/prints", &["GET"]),
+    ];
+    each_takes(&rt, rt.alloc(), &rows)
+}
+
+// None of these paths is about anything.
+fn lead_nowhere(
+    rt: &impl Abort,
+    alloc: Global,
+    routes: &Routes,
+    paths: &[&str],
+) -> Result<(), Fail> {
+    for path in paths {
+        assert!(rt; target_of(alloc, routes, path.as_bytes())?.is_none());
+    }
+    Ok(())
 }
 
 #[test]
 fn no_paths(rt: HostRuntime) -> Result<(), Fail> {
     let alloc = rt.alloc();
-    let routes = Routes::new(alloc)?;
-    for path in [
+    let paths = [
         "/",
         "",
         "*",
@@ -79,18 +110,21 @@ fn no_paths(rt: HostRuntime) -> Result<(), Fail> {
         "/api/files/local/",
         "/api/files/sdcard",
         "http://127.0.0.1/api/version",
-    ] {
-        assert!(rt; target_of(alloc, &routes, path.as_bytes())?.is_none());
-    }
-    assert!(rt; target_of(alloc, &routes, b"/api/queue/\xff")?.is_none());
+    ];
+    lead_nowhere(&rt, alloc, &Routes::new(alloc)?, &paths)
+}
+
+// A name that isn't UTF-8.
+#[test]
+fn stray_bytes(rt: HostRuntime) -> Result<(), Fail> {
+    assert!(rt; about(rt.alloc(), b"/api/queue/\xff")??.is_none());
     Ok(())
 }
 
 #[test]
 fn no_names(rt: HostRuntime) -> Result<(), Fail> {
     let alloc = rt.alloc();
-    let routes = Routes::new(alloc)?;
-    for path in [
+    let paths = [
         "/api/files/local/%2e%2e",
         "/api/files/local/..",
         "/api/files/local/..%2fa.gcode",
@@ -108,80 +142,108 @@ fn no_names(rt: HostRuntime) -> Result<(), Fail> {
         "/api/access/users/%c3%a4",
         "/api/queue/a%2fb",
         "/api/queue/a%2fb/c",
-    ] {
-        assert!(rt; target_of(alloc, &routes, path.as_bytes())?.is_none());
-    }
-    Ok(())
+    ];
+    lead_nowhere(&rt, alloc, &Routes::new(alloc)?, &paths)
 }
 
 // What a request without a body asks.
 fn request_at(alloc: Global, method: &str, path: &str) -> Result<Request, Fail> {
-    let target = about(alloc, path.as_bytes())?.ok_or("no route")?;
-    let Some(Wanted::Nothing { request }) = wanted_of(method, &target) else {
-        return Err("no request")?;
-    };
-    Ok(request)
+    let target = about(alloc, path.as_bytes())??.ok_or("no route")?;
+    match wanted_of(method, &target) {
+        Some(Wanted::Nothing { request }) => Ok(request),
+        _ => Err(Fail::from("no request")),
+    }
 }
 
-// The file of that path is to be deleted.
-fn deletes(rt: &impl Abort, alloc: Global, path: &str, wanted: &str) -> Result<(), Fail> {
-    let request = request_at(alloc, "DELETE", path)?;
-    let Request::DeleteFile { name } = &request else {
-        return Err("another request")?;
-    };
-    assert!(rt; name.as_str() == wanted);
-    Ok(())
+// Whether the file of this name is to be deleted.
+fn deletes(request: &Request, wanted: &str) -> bool {
+    match request {
+        Request::DeleteFile { name } => name.as_str() == wanted,
+        _ => false,
+    }
 }
 
 #[test]
 fn decoded_names(rt: HostRuntime) -> Result<(), Fail> {
-    let alloc = rt.alloc();
-    deletes(&rt, alloc, "/api/files/local/a.gcode", "a.gcode")?;
-    deletes(&rt, alloc, "/api/files/local/b.%67", "b.g")?;
-    deletes(&rt, alloc, "/api/files/local/%43.GCO", "C.GCO")?;
-    let path = "/api/files/local/lo%6e%67+(1)_-%2egcode";
-    deletes(&rt, alloc, path, "long+(1)_-.gcode")
+    for (path, wanted) in [
+        ("/api/files/local/a.gcode", "a.gcode"),
+        ("/api/files/local/b.%67", "b.g"),
+        ("/api/files/local/%43.GCO", "C.GCO"),
+        (
+            "/api/files/local/lo%6e%67+(1)_-%2egcode",
+            "long+(1)_-.gcode",
+        ),
+    ] {
+        assert!(rt; deletes(&request_at(rt.alloc(), "DELETE", path)?, wanted));
+    }
+    Ok(())
+}
+
+// Whether this entry of this user is to be dropped.
+fn drops(request: &Request, whose: &str, wanted: &str) -> bool {
+    match request {
+        Request::DropOther { user, name } => user.as_str() == whose && name.as_str() == wanted,
+        _ => false,
+    }
 }
 
 #[test]
 fn entry_names(rt: HostRuntime) -> Result<(), Fail> {
-    let request = request_at(rt.alloc(), "DELETE", "/api/queue/a%6ea/job%2d1")?;
-    let Request::DropOther { user, name } = &request else {
-        return Err("another request")?;
-    };
-    assert!(rt; user.as_str() == "ana");
-    assert!(rt; name.as_str() == "job-1");
+    let path = "/api/queue/a%6ea/job%2d1";
+    assert!(rt; drops(&request_at(rt.alloc(), "DELETE", path)?, "ana", "job-1"));
     Ok(())
+}
+
+// The path to a user whose name has this number of bytes.
+fn user_path(alloc: Global, length: usize) -> Result<Vec<u8>, AllocError> {
+    let mut path = Vec::from_slice(alloc, b"/api/access/users/")?;
+    for _ in 0..length {
+        path.push(b'x')?;
+    }
+    Ok(path)
 }
 
 #[test]
 fn lengths_of_names(rt: HostRuntime) -> Result<(), Fail> {
-    let alloc = rt.alloc();
-    let mut path = Vec::from_slice(alloc, b"/api/access/users/")?;
-    for _ in 0..100 {
-        path.push(b'x')?;
+    for (length, is_name) in [(100, true), (101, false)] {
+        let path = user_path(rt.alloc(), length)?;
+        assert!(rt; about(rt.alloc(), path.as_slice())??.is_some() == is_name);
     }
-    assert!(rt; about(alloc, path.as_slice())?.is_some());
-    path.push(b'x')?;
-    assert!(rt; about(alloc, path.as_slice())?.is_none());
     Ok(())
+}
+
+// Whether this is the file of that name.
+fn is_file(target: Option<Target>, wanted: &str) -> bool {
+    match target {
+        Some(Target::File { name }) => name.as_str() == wanted,
+        _ => false,
+    }
+}
+
+// Whether this is the entry of that name, of that user.
+fn is_entry_of(target: Option<Target>, whose: &str, wanted: &str) -> bool {
+    match target {
+        Some(Target::OthersEntry { user, name }) => {
+            user.as_str() == whose && name.as_str() == wanted
+        }
+        _ => false,
+    }
+}
+
+// Whether the one path is that of a file, and the other that of an entry.
+fn finds_both(alloc: Global, routes: &Routes) -> Result<(bool, bool), Direct> {
+    let file = is_file(
+        target_of(alloc, routes, b"/api/files/local/%61.gcode")?,
+        "a.gcode",
+    );
+    let entry = target_of(alloc, routes, b"/api/queue/ana/job-1")?;
+    Ok((file, is_entry_of(entry, "ana", "job-1")))
 }
 
 // The calls that take memory, each once; the second path is looked for in the same table.
 #[test]
 fn ample(rt: HostRuntime) -> Result<(), Fail> {
-    let alloc = rt.alloc();
-    let routes = Routes::new(alloc)?;
-    let found = target_of(alloc, &routes, b"/api/files/local/%61.gcode")?;
-    let Target::File { name } = &found.ok_or("no route")? else {
-        return Err("another target")?;
-    };
-    assert!(rt; name.as_str() == "a.gcode");
-    let found = target_of(alloc, &routes, b"/api/queue/ana/job-1")?;
-    let Target::OthersEntry { user, name } = &found.ok_or("no route")? else {
-        return Err("another target")?;
-    };
-    assert!(rt; user.as_str() == "ana");
-    assert!(rt; name.as_str() == "job-1");
+    let found = finds_both(rt.alloc(), &Routes::new(rt.alloc())?)?;
+    assert_eq!(rt; found, (true, true));
     Ok(())
 }

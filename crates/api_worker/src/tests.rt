@@ -107,24 +107,53 @@ fn statuses(alloc: Global, door: &MemoryDoor) -> Result<Vec<u8>, AllocError> {
     Ok(texts)
 }
 
-// A peer that goes away after the target of its message gets no reply.
-#[test]
-fn replies_and_leaves(rt: HostRuntime) -> Result<(), Fail> {
-    let alloc = rt.alloc();
+// Whether the door of a worker with this host held, and the statuses of the replies at it.
+fn left_by(
+    rt: &(impl Wait + Abort),
+    alloc: Global,
+    door: MemoryDoor,
+    host: &mut Host,
+) -> Result<(bool, Vec<u8>), AllocError> {
+    let mut door = door;
+    let holds = worker(rt, alloc, &mut door, host, 3);
+    Ok((holds, statuses(alloc, &door)?))
+}
+
+// A worker with this host says whether its door held. It leaves replies of these statuses, and a number of asks that were
+// answered, of which it left with so many.
+fn works(
+    rt: &(impl Wait + Abort),
+    alloc: Global,
+    door: MemoryDoor,
+    host: Host,
+    wanted: (bool, &[u8], (u32, u32)),
+) -> Result<(), Fail> {
+    let mut host = host;
+    let (holds, replies) = left_by(rt, alloc, door, &mut host)?;
+    let asks = (host.answered, host.left);
+    assert_eq!(rt; (holds, replies.as_slice(), asks), wanted);
+    Ok(())
+}
+
+// A request, an unknown path, no request, a peer that goes away after the target of its message, and a request.
+fn five_conns(alloc: Global) -> Result<ConnList, AllocError>
+    ensures { IfOk result (λ all. All IsUntouched all) }
+{
     let conns = with_conn(alloc, ConnList::new(alloc), VERSION)?;
     let conns = with_conn(alloc, conns, b"GET /api/nothing HTTP/1.1\r\n\r\n")?;
     let conns = with_conn(alloc, conns, b"what is this\r\n\r\n")?;
     let conns = with_conn(alloc, conns, b"GET /api/version HT")?;
-    let conns = with_conn(alloc, conns, VERSION)?;
-    let mut door = MemoryDoor::new(alloc, conns, calls_of(alloc, &[2])?, CallList::new(alloc));
-    let mut host = Host::open_for(10);
-    assert!(rt; worker(&rt, alloc, &mut door, &mut host, 3));
-    assert_eq!(rt;
-        statuses(alloc, &door)?.as_slice(),
-        b"200 404 400 - 200 ".as_slice()
-    );
-    assert_eq!(rt; (host.answered, host.left), (3, 1));
-    Ok(())
+    with_conn(alloc, conns, VERSION)
+}
+
+// A peer that goes away after the target of its message gets no reply.
+#[test]
+fn replies_and_leaves(rt: HostRuntime) -> Result<(), Fail> {
+    let alloc = rt.alloc();
+    let quiet_at = calls_of(alloc, &[2])?;
+    let door = MemoryDoor::new(alloc, five_conns(alloc)?, quiet_at, CallList::new(alloc));
+    let wanted = (true, b"200 404 400 - 200 ".as_slice(), (3, 1));
+    works(&rt, alloc, door, Host::open_for(10), wanted)
 }
 
 // Once the host has ended, the connection at hand is answered so, and no other one is accepted.
@@ -134,96 +163,120 @@ fn a_host_that_ends(rt: HostRuntime) -> Result<(), Fail> {
     let conns = with_conn(alloc, ConnList::new(alloc), VERSION)?;
     let conns = with_conn(alloc, conns, VERSION)?;
     let conns = with_conn(alloc, conns, VERSION)?;
-    let mut door = MemoryDoor::new(alloc, conns, CallList::new(alloc), CallList::new(alloc));
-    let mut host = Host::open_for(1);
-    assert!(rt; worker(&rt, alloc, &mut door, &mut host, 3));
-    assert_eq!(rt; statuses(alloc, &door)?.as_slice(), b"200 503 ".as_slice());
-    assert_eq!(rt; (host.answered, host.left), (1, 0));
-    Ok(())
+    let door = MemoryDoor::new(alloc, conns, CallList::new(alloc), CallList::new(alloc));
+    let wanted = (true, b"200 503 ".as_slice(), (1, 0));
+    works(&rt, alloc, door, Host::open_for(1), wanted)
 }
 
 // The second accept fails: the worker leaves, and says that its door failed.
 #[test]
 fn a_door_that_fails(rt: HostRuntime) -> Result<(), Fail> {
     let alloc = rt.alloc();
+    let fail_at = calls_of(alloc, &[2])?;
     let conns = with_conn(alloc, ConnList::new(alloc), VERSION)?;
     let conns = with_conn(alloc, conns, VERSION)?;
-    let mut door = MemoryDoor::new(alloc, conns, CallList::new(alloc), calls_of(alloc, &[2])?);
-    let mut host = Host::open_for(10);
-    assert!(rt; !worker(&rt, alloc, &mut door, &mut host, 3));
-    assert_eq!(rt; statuses(alloc, &door)?.as_slice(), b"200 ".as_slice());
-    assert_eq!(rt; (host.answered, host.left), (2, 1));
-    Ok(())
+    let door = MemoryDoor::new(alloc, conns, CallList::new(alloc), fail_at);
+    let wanted = (false, b"200 ".as_slice(), (2, 1));
+    works(&rt, alloc, door, Host::open_for(10), wanted)
+}
+
+// A connection with this input; of its calls, these find nothing and these fail.
+fn faulty_conn(
+    alloc: Global,
+    input: &[u8],
+    quiet: &[u64],
+    failing: &[u64],
+) -> Result<ConnList, AllocError>
+    ensures { IfOk result (λ all. All IsUntouched all) }
+{
+    let quiet_at = calls_of(alloc, quiet)?;
+    let conn = MemoryConn::new(alloc, input, quiet_at, calls_of(alloc, failing)?)?;
+    let mut conns = ConnList::new(alloc);
+    conns.push(conn)?;
+    Ok(conns)
 }
 
 // A peer that sends half a message and then nothing is answered that it is too slow.
 #[test]
 fn a_slow_peer(rt: HostRuntime) -> Result<(), Fail> {
     let alloc = rt.alloc();
-    let mut conns = ConnList::new(alloc);
-    conns.push(MemoryConn::new(
-        alloc,
-        VERSION,
-        calls_of(alloc, &[1, 2, 3])?,
-        CallList::new(alloc),
-    )?)?;
-    let mut door = MemoryDoor::new(alloc, conns, CallList::new(alloc), CallList::new(alloc));
-    let mut host = Host::open_for(10);
-    assert!(rt; worker(&rt, alloc, &mut door, &mut host, 3));
-    assert_eq!(rt; statuses(alloc, &door)?.as_slice(), b"408 ".as_slice());
-    assert_eq!(rt; (host.answered, host.left), (1, 1));
-    Ok(())
+    let conns = faulty_conn(alloc, VERSION, &[1, 2, 3], &[])?;
+    let door = MemoryDoor::new(alloc, conns, CallList::new(alloc), CallList::new(alloc));
+    let wanted = (true, b"408 ".as_slice(), (1, 1));
+    works(&rt, alloc, door, Host::open_for(10), wanted)
 }
 
-// A door after a worker that served an upload, of whose connection this call failed, and another message.
-fn serve_upload(rt: &(impl Wait + Abort), alloc: Global, number: u64) -> Result<MemoryDoor, Fail> {
-    let mut conns = ConnList::new(alloc);
-    let failing = calls_of(alloc, &[number])?;
-    conns.push(MemoryConn::new(alloc, UPLOAD, CallList::new(alloc), failing)?)?;
+// A door with an upload, of whose connection this call fails, and another message.
+fn upload_door(alloc: Global, number: u64) -> Result<MemoryDoor, AllocError> {
+    let conns = faulty_conn(alloc, UPLOAD, &[], &[number])?;
     let conns = with_conn(alloc, conns, VERSION)?;
-    let mut door = MemoryDoor::new(alloc, conns, CallList::new(alloc), CallList::new(alloc));
+    Ok(MemoryDoor::new(alloc, conns, CallList::new(alloc), CallList::new(alloc)))
+}
+
+// The door after a worker that served an upload, of whose connection this call failed, and another message.
+fn serve_upload(rt: &(impl Wait + Abort), alloc: Global, number: u64) -> Result<MemoryDoor, Fail> {
+    let mut door = upload_door(alloc, number)?;
     let mut host = Host::open_for(10);
-    assert!(rt; worker(rt, alloc, &mut door, &mut host, 3));
-    assert_eq!(rt; host.left, 1);
+    let holds = worker(rt, alloc, &mut door, &mut host, 3);
+    assert_eq!(rt; (holds, host.left), (true, 1));
     Ok(door)
+}
+
+// How many bytes were written to an upload's connection, if they are the first of the leave and the reply, and the next
+// connection has its whole reply.
+fn upload_written(door: &MemoryDoor) -> Option<usize> {
+    let Some([upload, version]) = door.served() else {
+        return None;
+    };
+    let written = upload.written().unwrap_or(b"none");
+    if UPLOAD_REPLY.starts_with(written) && version.written() == Some(VERSION_REPLY) {
+        return Some(written.len());
+    }
+    None
 }
 
 // Each call of an upload's connection fails in turn, until no call is left that could fail: what was written are the first
 // bytes of the leave and the reply, and the next connection has its whole reply.
 #[test]
 fn each_call_of_an_upload_failing(rt: HostRuntime) -> Result<(), Fail> {
-    let alloc = rt.alloc();
     for number in 1..=100 {
-        let door = serve_upload(&rt, alloc, number)?;
-        let Some([upload, version]) = door.served() else {
-            return Err("not two connections")?;
-        };
-        let written = upload.written().unwrap_or(b"none");
-        assert!(rt; UPLOAD_REPLY.starts_with(written));
-        assert!(rt; version.written() == Some(VERSION_REPLY));
-        if written.len() == UPLOAD_REPLY.len() {
+        let written = upload_written(&serve_upload(&rt, rt.alloc(), number)?);
+        assert!(rt; written.is_some(), "at call {number}");
+        if written == Some(UPLOAD_REPLY.len()) {
             return Ok(());
         }
     }
     Err("no whole reply")?
 }
 
+// Whether a message is replied to, with this table of routes or with none.
+fn serves(alloc: Global, routes: Option<&Routes>, host: &mut Host) -> Result<bool, AllocError> {
+    let mut conn = MemoryConn::new(alloc, VERSION, CallList::new(alloc), CallList::new(alloc))?;
+    let is_open = serve_conn(alloc, routes, &mut conn, host, 3);
+    let written = conn.written().unwrap_or(b"");
+    Ok(is_open && written.get(9..12).unwrap_or(b"-") == b"200".as_slice())
+}
+
+// Two messages are replied to, the one with a table of routes and the other without.
+fn serves_two(
+    rt: &impl Abort,
+    alloc: Global,
+    routes: &Routes,
+    host: &mut Host,
+) -> Result<(), Fail> {
+    for table in [Some(routes), None] {
+        assert!(rt; serves(alloc, table, host)?);
+    }
+    Ok(())
+}
+
 // The calls that take memory, each once: two connections, with and without a table of routes, and then one at a door.
 #[test]
 fn ample(rt: HostRuntime) -> Result<(), Fail> {
     let alloc = rt.alloc();
-    let routes = Routes::new(alloc)?;
     let mut host = Host::open_for(4);
-    for table in [Some(&routes), None] {
-        let mut conn = MemoryConn::new(alloc, VERSION, CallList::new(alloc), CallList::new(alloc))?;
-        assert!(rt; serve_conn(alloc, table, &mut conn, &mut host, 3));
-        let written = conn.written().unwrap_or(b"");
-        assert_eq!(rt; written.get(9..12).unwrap_or(b"-"), b"200".as_slice());
-    }
+    serves_two(&rt, alloc, &Routes::new(alloc)?, &mut host)?;
     let conns = with_conn(alloc, ConnList::new(alloc), VERSION)?;
-    let mut door = MemoryDoor::new(alloc, conns, CallList::new(alloc), CallList::new(alloc));
-    assert!(rt; worker(&rt, alloc, &mut door, &mut host, 3));
-    assert_eq!(rt; statuses(alloc, &door)?.as_slice(), b"200 ".as_slice());
-    assert_eq!(rt; (host.answered, host.left), (4, 1));
-    Ok(())
+    let door = MemoryDoor::new(alloc, conns, CallList::new(alloc), CallList::new(alloc));
+    works(&rt, alloc, door, host, (true, b"200 ".as_slice(), (4, 1)))
 }

@@ -4,7 +4,7 @@ ghost use Rattle.demo_print.specs.declared.file.TheConstants.{MOST_COMMANDS};
 
 use super::*;
 use crate::draws::Draws;
-use printer_link::{Fate, Schedule};
+use printer_link::Fate;
 use session_print::PrintEnd;
 use std::alloc::Global;
 use std::process::Abort;
@@ -30,26 +30,62 @@ fn is_letter(fate: Fate, letter: u8) -> bool {
     }
 }
 
-// The first fates have these letters, and this is the number of all.
-fn has_fates(rt: &impl Abort, schedule: &Schedule, letters: &[u8], count: usize) {
-    let fates = schedule.fates.as_slice();
-    assert_eq!(rt; fates.len(), count);
+fn check_fates(rt: &impl Abort, fates: &[Fate], letters: &[u8]) {
     for (fate, letter) in fates.iter().zip(letters) {
         assert!(rt; is_letter(*fate, *letter));
     }
 }
 
+// The first fates of a demo have these letters, and this is the number of all.
+fn has_fates(
+    rt: &impl Abort,
+    alloc: Global,
+    seed: u32,
+    commands: u32,
+    letters: &[u8],
+    count: usize,
+) -> Result<(), Fail>
+    requires { commands ≤ MOST_COMMANDS }
+{
+    let schedule = demo_schedule(alloc, seed, commands)?;
+    check_fates(rt, schedule.fates.as_slice(), letters);
+    assert_eq!(rt; schedule.fates.as_slice().len(), count);
+    Ok(())
+}
+
+fn is_file(
+    rt: &impl Abort,
+    alloc: Global,
+    seed: u32,
+    commands: u32,
+    text: &str,
+) -> Result<(), Fail> {
+    let file = demo_file(alloc, seed, commands)?;
+    assert!(rt; file.as_slice() == text.as_bytes());
+    Ok(())
+}
+
+// The job of three commands by seed 1.
+fn is_job(rt: &impl Abort, alloc: Global) -> Result<(), Fail> {
+    let job = demo_job(alloc, 1, 3)?;
+    assert_eq!(rt; job.count(), 3);
+    assert!(rt; job.text() == THREE_COMMANDS.as_bytes());
+    Ok(())
+}
+
+const THREE_COMMANDS: &str = "G1 E38\nG1 E158\nG1 Y113\n";
+
 // The calls that take memory, each once.
 #[test]
 fn ample(rt: HostRuntime) -> Result<(), Fail> {
-    let alloc = rt.alloc();
-    let file = demo_file(alloc, 1, 3)?;
-    assert!(rt; file.as_slice() == b"G1 E38\nG1 E158\nG1 Y113\n".as_slice());
-    let job = demo_job(alloc, 1, 3)?;
-    assert_eq!(rt; job.count(), 3);
-    assert!(rt; job.text() == file.as_slice());
-    let schedule = demo_schedule(alloc, 1, 3)?;
-    has_fates(&rt, &schedule, b"WWGWLWWW", 1013);
+    is_file(&rt, rt.alloc(), 1, 3, THREE_COMMANDS)?;
+    is_job(&rt, rt.alloc())?;
+    has_fates(&rt, rt.alloc(), 1, 3, b"WWGWLWWW", 1013)?;
+    comes_to(&rt, rt.alloc(), 1, 3, (3, 8, 2))
+}
+
+#[test]
+fn summary_of_counts(rt: HostRuntime) {
     let counts = DemoCounts {
         executed: 3,
         sent: 8,
@@ -58,23 +94,18 @@ fn ample(rt: HostRuntime) -> Result<(), Fail> {
     let text = summary(1, 3, &counts, 0);
     let wanted = b"demo seed 1 commands 3\nexecuted 3\nsent 8\nfaults 2\nstatus 0\n";
     assert!(rt; text.as_slice() == wanted.as_slice());
-    comes_to(&rt, alloc, 1, 3, (3, 8, 2))
 }
 
 // After two lines that are harmed the next one is whole, whatever its draw.
 #[test]
 fn third_is_whole(rt: HostRuntime) -> Result<(), Fail> {
-    let schedule = demo_schedule(rt.alloc(), 133, 0)?;
-    has_fates(&rt, &schedule, b"WLLWWWLWWWGWW", 1001);
-    Ok(())
+    has_fates(&rt, rt.alloc(), 133, 0, b"WLLWWWLWWWGWW", 1001)
 }
 
 #[test]
 fn all_commands(rt: HostRuntime) -> Result<(), Fail> {
-    let file = demo_file(rt.alloc(), 3, 5)?;
-    let wanted = b"G4 P47\nG4 P7\nG1 Y165\nG1 X112\nG1 E22\n";
-    assert!(rt; file.as_slice() == wanted.as_slice());
-    Ok(())
+    let wanted = "G4 P47\nG4 P7\nG1 Y165\nG1 X112\nG1 E22\n";
+    is_file(&rt, rt.alloc(), 3, 5, wanted)
 }
 
 // The demo of a seed executes, sends and loses these numbers of lines, and is printed.
@@ -89,9 +120,9 @@ fn comes_to(
     requires commands { commands ≤ MOST_COMMANDS }
 {
     let demo = run_demo(alloc, seed, commands)?;
+    assert_eq!(rt; demo.end, PrintEnd::Done);
     let counts = demo.counts()?;
     assert_eq!(rt; (counts.executed, counts.sent, counts.faults), wanted);
-    assert_eq!(rt; demo.end, PrintEnd::Done);
     Ok(())
 }
 

@@ -2,27 +2,57 @@
 use super::*;
 use octo_outside::Blob;
 use std::alloc::{AllocError, Global};
+use std::process::Abort;
 use std::test::Fail;
 
-/// A file's commands as `line:place:begin:text`, each in a line, and what was skipped; or its fault. The text's place
-/// is read from the command's word.
-fn listing(alloc: Global, file: &str) -> Result<String, AllocError> {
-    let job = match read_commands(alloc, file.as_bytes()) {
-        Ok(job) => job,
-        Err(fault) => return format!(in alloc; "{fault}"),
-    };
+/// A command as `line:place:begin:text` in a line; its begin is read from the command's word.
+fn entry(
+    alloc: Global,
+    line: u32,
+    place: u32,
+    word: u64,
+    text: &[u8],
+) -> Result<String, AllocError> {
+    let begin = word % 268_435_456;
+    let text = std::str::from_utf8(text).unwrap_or("?");
+    format!(in alloc; "{line}:{place}:{begin}:{text}\n")
+}
+
+fn entries(alloc: Global, job: &Job) -> Result<String, AllocError> {
     let mut text = String::new(alloc);
     for i in 0..job.count() {
-        let command = std::str::from_utf8(job.get(i)).unwrap_or("?");
-        let line = job.line(i);
-        let place = job.place(i);
-        let begin = job.packed().get(i).copied().unwrap_or(0) % 268_435_456;
-        text.push_str(&format!(in alloc; "{line}:{place}:{begin}:{command}\n")?)?;
+        let word = job.packed().get(i).copied().unwrap_or(0);
+        text.push_str(&entry(alloc, job.line(i), job.place(i), word, job.get(i))?)?;
     }
+    Ok(text)
+}
+
+/// A job's commands, and what was skipped.
+fn shown(alloc: Global, job: &Job) -> Result<String, AllocError> {
+    let listed = entries(alloc, job)?;
     let skipped = job.skipped();
     let bytes = job.bytes();
-    text.push_str(&format!(in alloc; "skipped {skipped} of {bytes} bytes")?)?;
-    Ok(text)
+    format!(in alloc; "{listed}skipped {skipped} of {bytes} bytes")
+}
+
+/// A file's job, or its fault.
+fn listing(alloc: Global, file: &str) -> Result<String, AllocError> {
+    match read_commands(alloc, file.as_bytes()) {
+        Ok(job) => shown(alloc, &job),
+        Err(fault) => format!(in alloc; "{fault}"),
+    }
+}
+
+/// Each file has that listing.
+fn assert_listings(
+    rt: &(impl Abort + Alloc<A = Global>),
+    files: &[(&str, &str)],
+) -> Result<(), Fail> {
+    for (file, want) in files {
+        let text = listing(rt.alloc(), file)?;
+        assert!(rt; text.as_str() == *want, "of {file}: {text}");
+    }
+    Ok(())
 }
 
 // A file, and what is found in it.
@@ -73,10 +103,7 @@ const FILES: [(&str, &str); 21] = [
 
 #[test]
 fn files(rt: HostRuntime) -> Result<(), Fail> {
-    for (file, want) in FILES {
-        assert_eq!(rt; listing(rt.alloc(), file)?.as_str(), want, "of {file}");
-    }
-    Ok(())
+    assert_listings(&rt, &FILES)
 }
 
 // The same of files as slicers write them.
@@ -122,75 +149,97 @@ const SLICED: [(&str, &str); 10] = [
 
 #[test]
 fn files_of_slicers(rt: HostRuntime) -> Result<(), Fail> {
-    for (file, want) in SLICED {
-        assert_eq!(rt; listing(rt.alloc(), file)?.as_str(), want, "of {file}");
-    }
-    Ok(())
+    assert_listings(&rt, &SLICED)
 }
 
 #[test]
 fn single_lines(rt: HostRuntime) {
-    let cases: [(&str, Result<&str, NotOne>); 16] = [
-        ("N5 G28*22 ; home", Ok("G28")),
-        (" G1 X1\t\r", Ok("G1 X1")),
-        ("n5 G28", Ok("n5 G28")),
-        ("N G1", Ok("N G1")),
+    for (line, want) in [
+        ("N5 G28*22 ; home", "G28"),
+        (" G1 X1\t\r", "G1 X1"),
+        ("n5 G28", "n5 G28"),
+        ("N G1", "N G1"),
         (
             "M117 aaaaaaaaaaaaaaaaaaaaaaaaaaaaaaaaaaaaaaaaaaaaaaaaaaaaaaaaaaaaaaaaaaaaaaaaaa",
-            Ok("M117 aaaaaaaaaaaaaaaaaaaaaaaaaaaaaaaaaaaaaaaaaaaaaaaaaaaaaaaaaaaaaaaaaaaaaaaaaa"),
+            "M117 aaaaaaaaaaaaaaaaaaaaaaaaaaaaaaaaaaaaaaaaaaaaaaaaaaaaaaaaaaaaaaaaaaaaaaaaaa",
         ),
-        ("G28\n", Err(NotOne::LineEnd)),
-        ("\n", Err(NotOne::LineEnd)),
-        ("; M110\n", Err(NotOne::LineEnd)),
-        ("", Err(NotOne::Empty)),
-        ("N12 ; M110", Err(NotOne::Empty)),
-        ("M117 M110 N9", Err(NotOne::HasM110)),
-        (
-            "M110 aaaaaaaaaaaaaaaaaaaaaaaaaaaaaaaaaaaaaaaaaaaaaaaaaaaaaaaaaaaaaaaaaaaaaaaaaaaaaaaaaaaa",
-            Err(NotOne::HasM110),
-        ),
-        (
-            "M117 aaaaaaaaaaaaaaaaaaaaaaaaaaaaaaaaaaaaaaaaaaaaaaaaaaaaaaaaaaaaaaaaaaaaaaaaaaa",
-            Err(NotOne::TooLong),
-        ),
-        (
-            "\x07aaaaaaaaaaaaaaaaaaaaaaaaaaaaaaaaaaaaaaaaaaaaaaaaaaaaaaaaaaaaaaaaaaaaaaaaaaaaaaaaaaaa",
-            Err(NotOne::TooLong),
-        ),
-        ("G1\x07X", Err(NotOne::ControlByte)),
-        ("G1\rX", Err(NotOne::ControlByte)),
-    ];
-    for (line, want) in cases {
-        match (one_command(line.as_bytes()), want) {
-            (Ok(text), Ok(want)) => assert!(rt; text.as_slice() == want.as_bytes(), "of {line}"),
-            (Err(fault), Err(want)) => assert_eq!(rt; fault, want, "of {line}"),
-            _ => assert!(rt; false, "of {line}"),
-        }
+    ] {
+        assert!(rt;
+            one_command(line.as_bytes()).is_ok_and(|text| text.as_slice() == want.as_bytes()),
+            "of {line}"
+        );
     }
 }
 
 #[test]
-fn too_large(rt: HostRuntime) -> Result<(), Fail> {
+fn lines_refused(rt: HostRuntime) {
+    for (line, want) in [
+        ("G28\n", NotOne::LineEnd),
+        ("\n", NotOne::LineEnd),
+        ("; M110\n", NotOne::LineEnd),
+        ("", NotOne::Empty),
+        ("N12 ; M110", NotOne::Empty),
+        ("M117 M110 N9", NotOne::HasM110),
+        (
+            "M110 aaaaaaaaaaaaaaaaaaaaaaaaaaaaaaaaaaaaaaaaaaaaaaaaaaaaaaaaaaaaaaaaaaaaaaaaaaaaaaaaaaaa",
+            NotOne::HasM110,
+        ),
+        (
+            "M117 aaaaaaaaaaaaaaaaaaaaaaaaaaaaaaaaaaaaaaaaaaaaaaaaaaaaaaaaaaaaaaaaaaaaaaaaaaa",
+            NotOne::TooLong,
+        ),
+        (
+            "\x07aaaaaaaaaaaaaaaaaaaaaaaaaaaaaaaaaaaaaaaaaaaaaaaaaaaaaaaaaaaaaaaaaaaaaaaaaaaaaaaaaaaa",
+            NotOne::TooLong,
+        ),
+        ("G1\x07X", NotOne::ControlByte),
+        ("G1\rX", NotOne::ControlByte),
+    ] {
+        assert!(rt;
+            one_command(line.as_bytes()).err() == Some(want),
+            "of {line}"
+        );
+    }
+}
+
+/// A file of a byte more than is allowed.
+fn large_file(alloc: Global) -> Result<Vec<u8>, AllocError> {
     let line = [b'\n'; 1024];
-    let mut file = Vec::new(rt.alloc());
+    let mut file = Vec::new(alloc);
     for _ in 0..65536 {
         file.extend_from_slice(&line)?;
     }
     file.push(7)?;
+    Ok(file)
+}
+
+#[test]
+fn too_large(rt: HostRuntime) -> Result<(), Fail> {
+    let file = large_file(rt.alloc())?;
     let fault = read_commands(rt.alloc(), &file).err();
     assert_eq!(rt; fault, Some(FileFault::TooLarge { bytes: 67_108_865 }));
     Ok(())
+}
+
+/// The job of a file that is taken, not copied.
+fn taken(alloc: Global, file: &[u8]) -> Result<Job, Fail> {
+    Ok(take_commands(alloc, Blob::from_slice(alloc, file)?)?)
 }
 
 #[test]
 fn words_of_commands(rt: HostRuntime) -> Result<(), Fail> {
     let file =
         b"; generated by slicer\r\n; thumbnail begin 16x16 4\r\n; AAAA\r\n; thumbnail end\r\nM201 X500 Y500\r\n";
-    let job = take_commands(rt.alloc(), Blob::from_slice(rt.alloc(), file)?)?;
+    let job = taken(rt.alloc(), file)?;
     assert_eq!(rt; job.packed().first().copied(), Some(175_556_788_299));
     assert!(rt; job.text() == file.as_slice());
-    let none = take_commands(rt.alloc(), Blob::new(rt.alloc()))?;
-    assert!(rt; none.packed().is_empty() && none.text().is_empty());
+    Ok(())
+}
+
+#[test]
+fn empty_file(rt: HostRuntime) -> Result<(), Fail> {
+    let job = take_commands(rt.alloc(), Blob::new(rt.alloc()))?;
+    assert!(rt; job.packed().is_empty() && job.text().is_empty());
     Ok(())
 }
 
@@ -199,7 +248,13 @@ fn ample(rt: HostRuntime) -> Result<(), Fail> {
     let job = read_commands(rt.alloc(), b"G28\nG1 X10\n")?;
     assert_eq!(rt; job.count(), 2);
     assert!(rt; job.get(1) == b"G1 X10".as_slice());
-    let taken = take_commands(rt.alloc(), Blob::from_slice(rt.alloc(), job.text())?)?;
-    assert!(rt; taken.packed() == job.packed());
+    Ok(())
+}
+
+#[test]
+fn ample_taken(rt: HostRuntime) -> Result<(), Fail> {
+    let read = read_commands(rt.alloc(), b"G28\nG1 X10\n")?;
+    let job = taken(rt.alloc(), read.text())?;
+    assert!(rt; job.packed() == read.packed());
     Ok(())
 }

@@ -20,6 +20,3 @@ pub use measuring::measure;
 pub use remainder::rest;
 pub use shown::{MeasureText, measure_text};
 pub use totals::{Extent, Measure};
-
-#[cfg(test)]
-mod tests;

@@ -5,6 +5,7 @@ ghost use Rattle.hand_over.specs.Ends.{house_place, worker_place};
 
 use crate::*;
 use octo_asks::{Answer, Ask, Asker, Closed, Counter, Next, Request};
+use std::alloc::Global;
 use std::sync::Wait;
 use std::test::Fail;
 use std::thread::{Threads, join_mut, yield_now};
@@ -111,29 +112,38 @@ fn ample(rt: HostRuntime) -> Result<(), Fail> {
     Ok(())
 }
 
+fn ask_of(alloc: Global, request: Request) -> Result<Ask, Fail> {
+    Ok(Ask::of(alloc, b"ana-key-0123456789", request)?)
+}
+
+// Whether one worker's asks are refused, and both see that the host has ended.
+fn see_the_end<R: Wait>(c: &mut WorkerEnd<R>, d: &mut WorkerEnd<R>, asks: (Ask, Ask)) -> bool
+    ensures { (worker_place c.new ≡ worker_place c.old) × (worker_place d.new ≡ worker_place d.old) }
+{
+    let (first, second) = asks;
+    matches!(c.ask(first), Err(Closed)) && c.closed() && d.closed() && c.ask(second).is_err()
+}
+
 #[test]
 fn a_closed_host_takes_no_ask(rt: HostRuntime) -> Result<(), Fail> {
+    let first = ask_of(rt.alloc(), Request::Version)?;
+    let second = ask_of(rt.alloc(), Request::Version)?;
     let (mut house, mut workers) = ends(&rt, rt.alloc())?;
     house.close();
-    let version = Ask::of(rt.alloc(), b"ana-key-0123456789", Request::Version)?;
-    assert!(&rt; matches!(workers.c.ask(version), Err(Closed)));
-    assert!(&rt; workers.c.closed());
-    assert!(&rt; workers.d.closed());
-    let version = Ask::of(rt.alloc(), b"ana-key-0123456789", Request::Version)?;
-    assert!(&rt; workers.c.ask(version).is_err());
+    assert!(&rt; see_the_end(&mut workers.c, &mut workers.d, (first, second)));
     house.end(workers);
     Ok(())
 }
 
 #[test]
 fn each_worker_gets_its_answer(rt: HostRuntime) -> Result<(), Fail> {
+    let version = ask_of(rt.alloc(), Request::Version)?;
+    let job = ask_of(rt.alloc(), Request::GetJob)?;
     let (mut house, workers) = ends(&rt, rt.alloc())?;
     let Workers { mut a, b, c, mut d } = workers;
-    let version = Ask::of(rt.alloc(), b"ana-key-0123456789", Request::Version)?;
-    let job = Ask::of(rt.alloc(), b"ana-key-0123456789", Request::GetJob)?;
     let answers = answers_of_both(&rt, &mut a, &mut d, &mut house, (version, job));
-    assert!(&rt; matches!(&answers, (Some(Answer::Version), Some(Answer::Accepted))));
     house.close();
     house.end(Workers { a, b, c, d });
+    assert!(&rt; matches!(&answers, (Some(Answer::Version), Some(Answer::Accepted))));
     Ok(())
 }

@@ -12,6 +12,3 @@ pub use fault::MessageFault;
 pub use framing::Framing;
 pub use head::{Found, Head, look};
 pub use part::{Part, look_part};
-
-#[cfg(test)]
-mod tests;

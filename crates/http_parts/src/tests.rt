@@ -1,5 +1,6 @@
 //! Uploads as clients send them, and bodies at the edges of the rules.
 use crate::{PartFault, Parts, Span, multipart};
+use std::process::Abort;
 
 const FORM: &[u8] = b"multipart/form-data; boundary=XY";
 
@@ -9,6 +10,44 @@ const NONE: Parts = Parts {
     select: false,
     print: false,
 };
+
+const PRINT: Parts = Parts {
+    name: None,
+    file: None,
+    select: false,
+    print: true,
+};
+
+const SELECT: Parts = Parts {
+    name: None,
+    file: None,
+    select: true,
+    print: false,
+};
+
+// A body or its type, and what it comes to.
+type Row = (&'static str, Result<Parts, PartFault>);
+
+// Each body comes to what is on its right.
+fn each_body(rt: &impl Abort, rows: &[Row]) {
+    for (body, want) in rows {
+        assert_eq!(rt; multipart(body.as_bytes(), FORM), *want, "at {body}");
+    }
+}
+
+// A body of no parts comes, by each type, to what is on the type's right.
+fn each_type(rt: &impl Abort, rows: &[Row]) {
+    for (kind, want) in rows {
+        assert_eq!(rt; multipart(b"--XY--", kind.as_bytes()), *want, "at {kind}");
+    }
+}
+
+// Cut off before its last delimiter's end, the body of an upload has no closing delimiter.
+fn none_closes(rt: &impl Abort, body: &[u8; 142]) {
+    for end in 0..138 {
+        assert_eq!(rt; multipart(&body[..end], FORM), Err(PartFault::NoClose));
+    }
+}
 
 // The upload of 142 bytes, whose file holds text like a delimiter within a line.
 #[test]
@@ -25,16 +64,13 @@ fn upload(rt: HostRuntime) {
     assert_eq!(rt; multipart(body, FORM), Ok(want));
     assert_eq!(rt; &body[61..68], b"a.gcode".as_slice());
     assert_eq!(rt; &body[113..132], b"G28 ; --XY\r\nG1 X10\n".as_slice());
-    for end in 0..138 {
-        assert_eq!(rt; multipart(&body[..end], FORM), Err(PartFault::NoClose));
-    }
+    none_closes(&rt, body);
 }
 
 // Types with and without a boundary.
 #[test]
 fn types(rt: HostRuntime) {
-    let body = b"--XY--";
-    for (kind, want) in [
+    let rows: [Row; 11] = [
         ("multipart/form-data; boundary=XY", Ok(NONE)),
         (
             "Multipart/Form-Data;charset=utf-8; BOUNDARY=\"XY\" ",
@@ -58,15 +94,14 @@ fn types(rt: HostRuntime) {
         ),
         ("multipart/mixed; boundary=XY", Err(PartFault::NoBoundary)),
         ("", Err(PartFault::NoBoundary)),
-    ] {
-        assert_eq!(rt; multipart(body, kind.as_bytes()), want, "at {kind}");
-    }
+    ];
+    each_type(&rt, &rows);
 }
 
 // Bodies without a closing delimiter, and with parts of no name.
 #[test]
 fn bodies(rt: HostRuntime) {
-    for (body, want) in [
+    let rows: [Row; 8] = [
         ("", Err(PartFault::NoClose)),
         ("--XY\r\n--XY--", Err(PartFault::NoClose)),
         ("x--XY--", Err(PartFault::NoClose)),
@@ -78,29 +113,21 @@ fn bodies(rt: HostRuntime) {
             "--XY\r\nContent-Disposition: form-data; name=print\r\n\r\n--XY--",
             Err(PartFault::BadPart { at: 6 }),
         ),
-    ] {
-        assert_eq!(rt; multipart(body.as_bytes(), FORM), want, "at {body}");
-    }
+    ];
+    each_body(&rt, &rows);
 }
 
 // Bodies with flags, and with a file that has no name.
 #[test]
 fn bodies_of_parts(rt: HostRuntime) {
-    let flags = |select, print| {
-        Ok(Parts {
-            select,
-            print,
-            ..NONE
-        })
-    };
-    for (body, want) in [
+    let rows: [Row; 5] = [
         (
             "--XY \t\r\ncontent-disposition:form-data;name=print\r\n\r\nTrue\r\n--XY--",
-            flags(false, true),
+            Ok(PRINT),
         ),
         (
             "--XY\r\nContent-Disposition: form-data; NAME=\"select\"\r\n\r\ntrue\r\n--XY\r\nX: y\r\nContent-Disposition: form-data; name=\"print\"\r\nContent-Disposition: form-data; name=\"select\"\r\n\r\nfalse\r\n--XY--",
-            flags(true, false),
+            Ok(SELECT),
         ),
         (
             "--XY\r\nContent-Disposition: form-data; name=\"file\"\r\n\r\nG28\r\n--XY--",
@@ -114,9 +141,8 @@ fn bodies_of_parts(rt: HostRuntime) {
             "--XY\r\nContent-Disposition: form-data; filename=\"a\"\r\n\r\nG28\r\n--XY--",
             Err(PartFault::BadPart { at: 6 }),
         ),
-    ] {
-        assert_eq!(rt; multipart(body.as_bytes(), FORM), want, "at {body}");
-    }
+    ];
+    each_body(&rt, &rows);
 }
 
 // The last file counts, and a filename is taken with its backslashes.

@@ -1,9 +1,11 @@
-//! What is read of an input, whole and byte by byte.
+//! What is read of an input, whole and byte by byte, what its pieces are, and what is replied.
 mod chunks;
 mod cuts;
 mod heads;
 mod lengths;
 mod limits;
+mod pieces;
+mod replies;
 mod slow;
 
 use byte_conn::ByteConn;
@@ -41,6 +43,16 @@ fn post(alloc: Global, text: &str) -> Result<Blob, AllocError> {
     Ok(input)
 }
 
+/// Why a `POST` that goes on with this text isn't read, whole and byte by byte.
+fn faults(
+    alloc: Global,
+    text: &str,
+) -> Result<(Option<MessageFault>, Option<MessageFault>), AllocError> {
+    let input = post(alloc, text)?;
+    let whole = read(alloc, input.as_slice())?.err();
+    Ok((whole, read_bytes(alloc, input.as_slice())?.err()))
+}
+
 /// No `POST` that goes on with one of these texts is read, whole or byte by byte, and that is why.
 fn refuses(
     rt: &impl Abort,
@@ -49,11 +61,10 @@ fn refuses(
     fault: MessageFault,
 ) -> Result<(), Fail> {
     for text in texts {
-        let input = post(alloc, text)?;
-        let whole = read(alloc, input.as_slice())?;
-        assert!(rt; whole.err() == Some(fault), "{text}");
-        let slow = read_bytes(alloc, input.as_slice())?;
-        assert!(rt; slow.err() == Some(fault), "{text}");
+        assert!(rt;
+            faults(alloc, text)? == (Some(fault), Some(fault)),
+            "{text}"
+        );
     }
     Ok(())
 }
@@ -63,13 +74,25 @@ fn has_body(read: Result<Message, MessageFault>, body: &str) -> bool {
     read.is_ok_and(|message| message.body.as_slice() == body.as_bytes())
 }
 
+/// Whether a `POST` that goes on with this text is read, whole and byte by byte, and has this body.
+fn has_bodies(alloc: Global, text: &str, body: &str) -> Result<(bool, bool), AllocError> {
+    let input = post(alloc, text)?;
+    let whole = has_body(read(alloc, input.as_slice())?, body);
+    Ok((whole, has_body(read_bytes(alloc, input.as_slice())?, body)))
+}
+
 /// Each `POST` that goes on with the left text is read, whole and byte by byte, and has the body on its right.
 fn reads(rt: &impl Abort, alloc: Global, rows: &[(&str, &str)]) -> Result<(), Fail> {
     for (text, body) in rows {
-        let input = post(alloc, text)?;
-        assert!(rt; has_body(read(alloc, input.as_slice())?, body), "{text}");
-        let slow = read_bytes(alloc, input.as_slice())?;
-        assert!(rt; has_body(slow, body), "{text}");
+        assert!(rt; has_bodies(alloc, text, body)? == (true, true), "{text}");
     }
     Ok(())
+}
+
+/// Whether a field was given, with this value.
+fn has_value(field: &Option<Blob>, value: &[u8]) -> bool {
+    match field {
+        Some(given) => given.as_slice() == value,
+        None => false,
+    }
 }

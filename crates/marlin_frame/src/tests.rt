@@ -268,47 +268,52 @@ fn lines_are_written_and_read_back(rt: HostRuntime) {
 }
 
 #[test]
-fn lines_of_a_small_print(rt: HostRuntime) {
+fn hello_line(rt: HostRuntime) {
     let mut hello = Line::new();
     hello_frame(&mut hello);
     assert!(rt; hello.as_slice() == b"N0 M110 N1*124".as_slice());
     assert!(rt; line_number(&hello) == HELLO_NUMBER && lead(&hello) == 0);
+}
+
+#[test]
+fn lines_of_a_small_print(rt: HostRuntime) {
     assert!(rt; line_of(&rt, wire_number(1), b"G28").as_slice() == b"N2 G28*17".as_slice());
     assert!(rt; line_of(&rt, wire_number(2), b"G1 X10").as_slice() == b"N3 G1 X10*82".as_slice());
 }
 
 #[test]
 fn faults_of_a_line(rt: HostRuntime) {
-    let command = b"G28".as_slice();
-    assert!(rt;
-        read_frame(b"N5 G28*22")
-            == Read::Numbered {
-                n: 5,
-                text: command
-            }
-    );
-    assert!(rt; read_frame(b"N5 G28*23") == Read::BadSum);
-    assert!(rt; read_frame(b"N5 G28") == Read::NoSum);
-    assert!(rt; read_frame(b"G28") == Read::Plain);
-    assert!(rt; read_frame(b"") == Read::Plain);
-    assert!(rt; read_frame(b"N5 G28*") == Read::BadSum);
-    assert!(rt;
-        read_frame(b"N5 G28*22 ")
-            == Read::Numbered {
-                n: 5,
-                text: command
-            }
-    );
+    let numbered = Read::Numbered { n: 5, text: b"G28" };
+    for (line, read) in [
+        (b"N5 G28*22".as_slice(), numbered),
+        (b"N5 G28*23", Read::BadSum),
+        (b"N5 G28", Read::NoSum),
+        (b"G28", Read::Plain),
+        (b"", Read::Plain),
+        (b"N5 G28*", Read::BadSum),
+        (b"N5 G28*22 ", numbered),
+    ] {
+        assert!(rt; read_frame(line) == read);
+    }
 }
 
 #[test]
 fn numbers_of_a_line(rt: HostRuntime) {
-    assert!(rt; line_number(b"N0 M110 N7*122") == 7 && lead(b"N0 M110 N7*122") == 0);
-    assert!(rt; line_number(b"N12M110") == 12);
-    assert!(rt; line_number(b"N1 N9 M110 N3") == 3);
-    assert!(rt; line_number(b"N1 G1 N9") == 1);
-    assert!(rt; line_number(b"N4294967296 G28") == 4_294_967_295);
-    assert!(rt; line_number(b"N G28") == 0);
+    for (line, number) in [
+        (b"N0 M110 N7*122".as_slice(), 7),
+        (b"N12M110", 12),
+        (b"N1 N9 M110 N3", 3),
+        (b"N1 G1 N9", 1),
+        (b"N4294967296 G28", 4_294_967_295),
+        (b"N G28", 0),
+    ] {
+        assert!(rt; line_number(line) == number);
+    }
+    assert!(rt; lead(b"N0 M110 N7*122") == 0);
+}
+
+#[test]
+fn texts_of_a_line(rt: HostRuntime) {
     assert!(rt; text(b"N5  G28*1*2") == b" G28*1".as_slice());
     assert!(rt; text(b"N5G28*") == b"G28".as_slice());
 }

@@ -38,16 +38,21 @@ fn word_list(alloc: Global, words: &[&str]) -> Result<WordList, AllocError> {
     Ok(list)
 }
 
-fn simulation(alloc: Global, row: &Row) -> Result<Outcome, AllocError> {
-    let words = word_list(alloc, row.words)?;
-    let mut conn = MemoryConn::new(
-        alloc,
-        row.input,
-        calls_of(alloc, row.quiet_at)?,
-        calls_of(alloc, row.conn_fails)?,
-    )?;
-    let mut out = MemorySink::new(alloc, calls_of(alloc, row.sink_fails)?);
-    let end = sim(alloc, &words, &mut conn, &mut out);
+fn conn_of(alloc: Global, row: &Row) -> Result<MemoryConn, AllocError> {
+    let quiet_at = calls_of(alloc, row.quiet_at)?;
+    MemoryConn::new(alloc, row.input, quiet_at, calls_of(alloc, row.conn_fails)?)
+}
+
+fn sink_of(alloc: Global, row: &Row) -> Result<MemorySink, AllocError> {
+    Ok(MemorySink::new(alloc, calls_of(alloc, row.sink_fails)?))
+}
+
+fn outcome_of(
+    alloc: Global,
+    end: SimEnd,
+    conn: &MemoryConn,
+    out: &MemorySink,
+) -> Result<Outcome, AllocError> {
     Ok(Outcome {
         end,
         written: conn.written().unwrap_or(&[]).to_vec(alloc)?,
@@ -55,11 +60,28 @@ fn simulation(alloc: Global, row: &Row) -> Result<Outcome, AllocError> {
     })
 }
 
+fn simulation(alloc: Global, row: &Row) -> Result<Outcome, AllocError> {
+    let mut conn = conn_of(alloc, row)?;
+    let mut out = sink_of(alloc, row)?;
+    let end = {
+        let words = word_list(alloc, row.words)?;
+        sim(alloc, &words, &mut conn, &mut out)
+    };
+    outcome_of(alloc, end, &conn, &out)
+}
+
 fn assert_row(rt: &(impl Abort + Alloc<A = Global>), row: &Row) -> Result<(), Fail> {
     let outcome = simulation(rt.alloc(), row)?;
     assert_eq!(rt; outcome.end, row.end);
     assert_eq!(rt; outcome.written.as_slice(), row.written);
     assert_eq!(rt; outcome.printed.as_slice(), row.printed);
+    Ok(())
+}
+
+fn assert_rows(rt: &(impl Abort + Alloc<A = Global>), rows: &[Row]) -> Result<(), Fail> {
+    for row in rows {
+        assert_row(rt, row)?;
+    }
     Ok(())
 }
 
@@ -104,10 +126,7 @@ fn planned_lines(rt: HostRuntime) -> Result<(), Fail> {
             ..GARBLED
         },
     ];
-    for row in &rows {
-        assert_row(&rt, row)?;
-    }
-    Ok(())
+    assert_rows(&rt, &rows)
 }
 
 #[test]
@@ -127,10 +146,7 @@ fn short_inputs(rt: HostRuntime) -> Result<(), Fail> {
             ..GARBLED
         },
     ];
-    for row in &rows {
-        assert_row(&rt, row)?;
-    }
-    Ok(())
+    assert_rows(&rt, &rows)
 }
 
 // Call 1 writes `start`, call 2 reads the input, call 3 writes the replies, and call 4 reads its end.
@@ -169,28 +185,34 @@ fn failing_calls(rt: HostRuntime) -> Result<(), Fail> {
             ..GARBLED
         },
     ];
-    for row in &rows {
-        assert_row(&rt, row)?;
-    }
-    Ok(())
+    assert_rows(&rt, &rows)
+}
+
+// A simulation of at most that many turns, without losses.
+fn turns_of(alloc: Global, conn: &mut MemoryConn, out: &mut MemorySink, turns: u64) -> SimEnd
+    requires { 1 ≤ turns }
+{
+    let plan = SimPlan {
+        last: 4,
+        places: 4,
+        drop: CallList::new(alloc),
+        garble: CallList::new(alloc),
+        turns,
+    };
+    simulate(alloc, conn, out, &plan)
 }
 
 // Two reads find nothing yet, and the third finds the input, of which one line is run in that turn.
 #[test]
 fn turns_used(rt: HostRuntime) -> Result<(), Fail> {
-    let alloc = rt.alloc();
+    let row = Row {
+        quiet_at: &[2, 3],
+        ..GARBLED
+    };
     for (turns, printed) in [(1, b"".as_slice()), (3, b"N1 M110 N1\n".as_slice())] {
-        let plan = SimPlan {
-            last: 4,
-            places: 4,
-            drop: CallList::new(alloc),
-            garble: CallList::new(alloc),
-            turns,
-        };
-        let quiet_at = calls_of(alloc, &[2, 3])?;
-        let mut conn = MemoryConn::new(alloc, GARBLED.input, quiet_at, CallList::new(alloc))?;
-        let mut out = MemorySink::new(alloc, CallList::new(alloc));
-        let end = simulate(alloc, &mut conn, &mut out, &plan);
+        let mut conn = conn_of(rt.alloc(), &row)?;
+        let mut out = sink_of(rt.alloc(), &row)?;
+        let end = turns_of(rt.alloc(), &mut conn, &mut out, turns);
         assert_eq!(rt; end, SimEnd::TurnsUsed { turns });
         assert_eq!(rt; out.written().unwrap_or(&[]), printed);
     }

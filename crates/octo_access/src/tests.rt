@@ -26,8 +26,23 @@ fn policy(alloc: Global) -> Result<Policy, Fail> {
     Ok(Policy::new(groups, Some(admin)))
 }
 
-fn is_named(rt: &impl Abort, row: Option<UserRow>, wanted: &str) {
-    assert!(rt; row.is_some_and(|row| row.name.as_str() == wanted));
+const BEN_KEY: &[u8] = b"ben-key-0123456789";
+
+const ANA_KEY: &[u8] = b"ana-key-0123456789";
+
+// The user ana, in the group `makers`.
+fn only_ana(alloc: Global, policy: &Policy) -> Result<Users, Fail> {
+    let mut users = Users::new(alloc);
+    users.put(&user("ana", ANA_KEY, "makers")?, policy)?;
+    Ok(users)
+}
+
+// Whether the key is of a user of that name, or of none.
+fn is_key_of(users: &Users, policy: &Policy, key: &[u8], wanted: Option<&str>) -> bool {
+    match users.by_key(policy, key) {
+        Some(row) => wanted.is_some_and(|wanted| row.name.as_str() == wanted),
+        None => wanted.is_none(),
+    }
 }
 
 // The digest of a key, by another program.
@@ -41,46 +56,93 @@ fn digests(rt: HostRuntime) {
     assert_eq!(rt; digest_of(b"ana-key-0123456789"), wanted);
 }
 
+// The users ben and ana, put in that order.
+fn two_users(alloc: Global, policy: &Policy) -> Result<Users, Fail> {
+    let mut users = Users::new(alloc);
+    for (name, key, group) in [("ben", BEN_KEY, "users"), ("ana", ANA_KEY, "makers")] {
+        users.put(&user(name, key, group)?, policy)?;
+    }
+    Ok(users)
+}
+
 #[test]
 fn ample(rt: HostRuntime) -> Result<(), Fail> {
     let policy = policy(rt.alloc())?;
-    let mut users = Users::new(rt.alloc());
-    users.put(&user("ben", b"ben-key-0123456789", "users")?, &policy)?;
-    users.put(&user("ana", b"ana-key-0123456789", "makers")?, &policy)?;
-    assert_eq!(rt; users.rows().len(), 2);
-    is_named(&rt, users.by_key(&policy, b"ana-key-0123456789"), "ana");
-    is_named(&rt, users.by_key(&policy, b"root-key-0123456789"), "root");
-    assert!(rt; users.by_key(&policy, b"").is_none());
+    assert_eq!(rt; two_users(rt.alloc(), &policy)?.rows().len(), 2);
     Ok(())
 }
 
 #[test]
-fn refusals(rt: HostRuntime) -> Result<(), Fail> {
+fn keys(rt: HostRuntime) -> Result<(), Fail> {
     let policy = policy(rt.alloc())?;
-    let mut users = Users::new(rt.alloc());
-    users.put(&user("ana", b"ana-key-0123456789", "makers")?, &policy)?;
-    let again = users.put(&user("ana", b"new-key-0123456789", "users")?, &policy);
-    assert!(rt; matches!(again, Err(UserRefusal::NameTaken)));
-    let same_key = users.put(&user("eve", b"ana-key-0123456789", "users")?, &policy);
-    assert!(rt; matches!(same_key, Err(UserRefusal::KeyTaken { name }) if name.as_str() == "ana"));
-    let no_group = users.put(&user("eve", b"eve-key-0123456789", "painters")?, &policy);
+    let users = two_users(rt.alloc(), &policy)?;
+    for (key, wanted) in [
+        (ANA_KEY, Some("ana")),
+        (b"root-key-0123456789", Some("root")),
+        (b"", None),
+    ] {
+        assert!(rt; is_key_of(&users, &policy, key, wanted));
+    }
+    Ok(())
+}
+
+// Why a user isn't put beside ana.
+fn refusal(
+    alloc: Global,
+    name: &str,
+    key: &[u8],
+    group: &str,
+) -> Result<Option<UserRefusal>, Fail> {
+    let policy = policy(alloc)?;
+    let mut users = only_ana(alloc, &policy)?;
+    Ok(users.put(&user(name, key, group)?, &policy).err())
+}
+
+#[test]
+fn name_taken(rt: HostRuntime) -> Result<(), Fail> {
+    let refused = refusal(rt.alloc(), "ana", b"new-key-0123456789", "users")?;
+    assert!(rt; matches!(refused, Some(UserRefusal::NameTaken)));
+    Ok(())
+}
+
+#[test]
+fn key_taken(rt: HostRuntime) -> Result<(), Fail> {
+    let refused = refusal(rt.alloc(), "eve", ANA_KEY, "users")?;
+    assert!(rt; matches!(refused, Some(UserRefusal::KeyTaken { name }) if name.as_str() == "ana"));
+    Ok(())
+}
+
+#[test]
+fn unknown_group(rt: HostRuntime) -> Result<(), Fail> {
+    let refused = refusal(rt.alloc(), "eve", b"eve-key-0123456789", "painters")?;
     assert!(rt;
-        matches!(no_group, Err(UserRefusal::BadGroup { group }) if group.as_str() == "painters")
+        matches!(refused, Some(UserRefusal::BadGroup { group }) if group.as_str() == "painters")
     );
     Ok(())
+}
+
+// Switches ana off; her row before.
+fn switch_off(users: &mut Users, policy: &Policy) -> Result<UserRow, Fail> {
+    let mut ana = user("ana", ANA_KEY, "makers")?;
+    ana.active = false;
+    Ok(users.change(&ana, policy)?)
 }
 
 #[test]
 fn switched_off(rt: HostRuntime) -> Result<(), Fail> {
     let policy = policy(rt.alloc())?;
-    let mut users = Users::new(rt.alloc());
-    let mut ana = user("ana", b"ana-key-0123456789", "makers")?;
-    users.put(&ana, &policy)?;
-    ana.active = false;
-    let former = users.change(&ana, &policy)?;
-    assert!(rt; former.active);
-    assert!(rt; users.by_key(&policy, b"ana-key-0123456789").is_none());
-    users.take_back(&ana.name);
+    let mut users = only_ana(rt.alloc(), &policy)?;
+    assert!(rt; switch_off(&mut users, &policy)?.active);
+    assert!(rt; users.by_key(&policy, ANA_KEY).is_none());
+    Ok(())
+}
+
+#[test]
+fn taken_back(rt: HostRuntime) -> Result<(), Fail> {
+    let policy = policy(rt.alloc())?;
+    let mut users = only_ana(rt.alloc(), &policy)?;
+    switch_off(&mut users, &policy)?;
+    users.take_back(&Name::of("ana")?);
     assert!(rt; users.rows().is_empty());
     Ok(())
 }
@@ -88,16 +150,24 @@ fn switched_off(rt: HostRuntime) -> Result<(), Fail> {
 #[test]
 fn permissions(rt: HostRuntime) -> Result<(), Fail> {
     let policy = policy(rt.alloc())?;
-    let maker = user("ana", b"", "makers")?;
-    let reader = user("ben", b"", "readonly")?;
-    assert!(rt; policy.allowed(&maker, Permission::Print));
-    assert!(rt; !policy.allowed(&maker, Permission::Status));
-    assert!(rt; policy.allowed(&reader, Permission::FilesList));
-    assert!(rt; !policy.allowed(&reader, Permission::FilesSelect));
-    assert_eq!(rt;
-        Permission::from_name("FILES_DELETE"),
-        Some(Permission::FilesDelete)
-    );
-    assert_eq!(rt; Permission::from_name("files_delete"), None);
+    for (group, permission, wanted) in [
+        ("makers", Permission::Print, true),
+        ("makers", Permission::Status, false),
+        ("readonly", Permission::FilesList, true),
+        ("readonly", Permission::FilesSelect, false),
+    ] {
+        let member = user("ana", b"", group)?;
+        assert!(rt; policy.allowed(&member, permission) == wanted, "{group}");
+    }
     Ok(())
+}
+
+#[test]
+fn permission_names(rt: HostRuntime) {
+    for (name, wanted) in [
+        ("FILES_DELETE", Some(Permission::FilesDelete)),
+        ("files_delete", None),
+    ] {
+        assert_eq!(rt; Permission::from_name(name), wanted);
+    }
 }

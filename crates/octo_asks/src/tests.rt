@@ -1,4 +1,6 @@
 //! What requests need, copies of asks, what answers show, and a counter in memory.
+ghost use Rattle.std.specs.Prelude.{◌≡◌, false, None, IfOk};
+
 use crate::*;
 use arrayvec::ArrayVec;
 use byte_text::Name;
@@ -8,7 +10,7 @@ use octo_access::{Permission, UserRow};
 use octo_outside::Blob;
 use print_queue::QueueEntry;
 use print_records::{Outcome, PrintRow};
-use std::alloc::Global;
+use std::alloc::{AllocError, Global};
 use std::process::Abort;
 use std::test::Fail;
 
@@ -18,82 +20,84 @@ fn names(text: &str) -> Result<ArrayVec<Name, 8>, Fail> {
     Ok(list)
 }
 
-fn needs(rt: &impl Abort, request: &Request, wanted: &[Permission]) {
-    assert!(rt; needed(request).as_slice() == wanted);
+fn needs(rt: &impl Abort, request: Request, wanted: &[Permission]) {
+    assert!(rt; needed(&request).as_slice() == wanted);
 }
 
 #[test]
-fn reads_need(rt: HostRuntime) -> Result<(), Fail> {
-    needs(&rt, &Request::Version, &[Permission::Status]);
-    needs(&rt, &Request::GetConnection, &[Permission::Status]);
-    needs(&rt, &Request::GetPrinter, &[Permission::Status]);
-    needs(&rt, &Request::GetJob, &[Permission::Status]);
-    needs(&rt, &Request::ListPrints, &[Permission::Status]);
-    needs(&rt, &Request::ListFiles, &[Permission::FilesList]);
-    needs(&rt, &Request::ListUsers, &[Permission::Admin]);
-    needs(&rt, &Request::ListQueue, &[Permission::FilesSelect]);
-    Ok(())
+fn status_reads_need(rt: HostRuntime) {
+    for request in [
+        Request::Version,
+        Request::GetConnection,
+        Request::GetPrinter,
+        Request::GetJob,
+        Request::ListPrints,
+    ] {
+        needs(&rt, request, &[Permission::Status]);
+    }
+}
+
+#[test]
+fn lists_need(rt: HostRuntime) {
+    needs(&rt, Request::ListFiles, &[Permission::FilesList]);
+    needs(&rt, Request::ListUsers, &[Permission::Admin]);
+    needs(&rt, Request::ListQueue, &[Permission::FilesSelect]);
 }
 
 #[test]
 fn files_need(rt: HostRuntime) -> Result<(), Fail> {
-    let file = Name::of("a.gcode")?;
-    needs(
-        &rt,
-        &Request::GetFile { name: file.copy() },
-        &[Permission::FilesList],
-    );
-    needs(
-        &rt,
-        &Request::DeleteFile { name: file.copy() },
-        &[Permission::FilesDelete],
-    );
-    needs(
-        &rt,
-        &Request::Download { name: file.copy() },
-        &[Permission::FilesDownload],
-    );
-    let select = Request::SelectFile {
-        name: file.copy(),
-        print: false,
-    };
-    needs(&rt, &select, &[Permission::FilesSelect]);
-    let print = Request::SelectFile {
-        name: file,
-        print: true,
-    };
-    needs(&rt, &print, &[Permission::FilesSelect, Permission::Print]);
+    let name = Name::of("a.gcode")?;
+    let got = Request::GetFile { name: name.copy() };
+    needs(&rt, got, &[Permission::FilesList]);
+    let deleted = Request::DeleteFile { name: name.copy() };
+    needs(&rt, deleted, &[Permission::FilesDelete]);
+    let downloaded = Request::Download { name };
+    needs(&rt, downloaded, &[Permission::FilesDownload]);
     Ok(())
 }
 
 #[test]
-fn work_needs(rt: HostRuntime) -> Result<(), Fail> {
-    needs(
-        &rt,
-        &Request::Connect { port: None },
-        &[Permission::Connection],
-    );
-    needs(&rt, &Request::Disconnect, &[Permission::Connection]);
-    needs(
-        &rt,
-        &Request::HeatTool { degrees: 210 },
-        &[Permission::Control],
-    );
-    needs(
-        &rt,
-        &Request::HeatBed { degrees: 60 },
-        &[Permission::Control],
-    );
-    needs(&rt, &Request::Start, &[Permission::Print]);
-    needs(&rt, &Request::Cancel, &[Permission::Print]);
-    needs(&rt, &Request::Restart, &[Permission::Print]);
-    needs(&rt, &Request::Pause, &[Permission::Print]);
-    needs(&rt, &Request::Resume, &[Permission::Print]);
-    needs(&rt, &Request::Toggle, &[Permission::Print]);
-    needs(&rt, &Request::NextEntry, &[Permission::Print]);
-    needs(&rt, &Request::Shutdown, &[Permission::System]);
-    needs(&rt, &Request::Leave, &[]);
+fn selections_need(rt: HostRuntime) -> Result<(), Fail> {
+    for (print, wanted) in [
+        (false, [Permission::FilesSelect].as_slice()),
+        (true, &[Permission::FilesSelect, Permission::Print]),
+    ] {
+        let name = Name::of("a.gcode")?;
+        needs(&rt, Request::SelectFile { name, print }, wanted);
+    }
     Ok(())
+}
+
+#[test]
+fn connections_need(rt: HostRuntime) {
+    let connect = Request::Connect { port: None };
+    needs(&rt, connect, &[Permission::Connection]);
+    needs(&rt, Request::Disconnect, &[Permission::Connection]);
+    needs(&rt, Request::Shutdown, &[Permission::System]);
+    needs(&rt, Request::Leave, &[]);
+}
+
+#[test]
+fn heaters_need(rt: HostRuntime) {
+    let tool = Request::HeatTool { degrees: 210 };
+    needs(&rt, tool, &[Permission::Control]);
+    let bed = Request::HeatBed { degrees: 60 };
+    needs(&rt, bed, &[Permission::Control]);
+}
+
+#[test]
+fn prints_need(rt: HostRuntime) {
+    for request in [
+        Request::Start,
+        Request::Cancel,
+        Request::Restart,
+        Request::Pause,
+        Request::Resume,
+        Request::Toggle,
+        Request::NextEntry,
+    ] {
+        needs(&rt, request, &[Permission::Print]);
+    }
 }
 
 fn put_file(alloc: Global) -> Result<Request, Fail> {
@@ -107,48 +111,69 @@ fn put_file(alloc: Global) -> Result<Request, Fail> {
 
 fn lines(alloc: Global) -> Result<Request, Fail> {
     let mut texts = BlobList::new(alloc);
-    texts.push(Blob::from_slice(alloc, b"G28")?)?;
-    texts.push(Blob::from_slice(alloc, b"M104 S200")?)?;
+    for text in [b"G28".as_slice(), b"M104 S200"] {
+        texts.push(Blob::from_slice(alloc, text)?)?;
+    }
     Ok(Request::Lines { texts })
 }
 
 fn change_user(alloc: Global) -> Result<Request, Fail> {
     Ok(Request::ChangeUser {
         name: Name::of("ana")?,
-        key: Some(Blob::from_slice(alloc, b"a-new-key-0123456")?),
         groups: Some(names("users")?),
         active: Some(false),
+        key: Some(Blob::from_slice(alloc, b"a-new-key-0123456")?),
     })
 }
 
+fn copied(alloc: Global, request: Request) -> Result<Request, AllocError> {
+    request.copy(alloc)
+}
+
+fn prints_file(request: &Request, wanted: &[u8]) -> bool {
+    match request {
+        Request::PutFile { bytes, print, .. } => *print && bytes.as_slice() == wanted,
+        _ => false,
+    }
+}
+
 #[test]
-fn ample_copies(rt: HostRuntime) -> Result<(), Fail> {
-    let alloc = rt.alloc();
-    let put = put_file(alloc)?.copy(alloc)?;
-    let Request::PutFile { bytes, print, .. } = &put else {
-        return Err("another request")?;
-    };
-    assert!(rt; bytes.as_slice() == b"G28\n".as_slice() && *print);
-    let copy = Ask::of(alloc, b"ana-key-0123456789", Request::Pause)?.copy(alloc)?;
+fn ample_file(rt: HostRuntime) -> Result<(), Fail> {
+    let copy = copied(rt.alloc(), put_file(rt.alloc())?)?;
+    assert!(rt; prints_file(&copy, b"G28\n"));
+    Ok(())
+}
+
+fn pause(alloc: Global) -> Result<Ask, AllocError> {
+    Ask::of(alloc, b"ana-key-0123456789", Request::Pause)?.copy(alloc)
+}
+
+#[test]
+fn ample_ask(rt: HostRuntime) -> Result<(), Fail> {
+    let copy = pause(rt.alloc())?;
     assert!(rt; copy.key.as_slice() == b"ana-key-0123456789".as_slice());
     assert!(rt; matches!(&copy.request, Request::Pause));
     Ok(())
 }
 
 #[test]
-fn ample_lists(rt: HostRuntime) -> Result<(), Fail> {
-    let alloc = rt.alloc();
-    let sent = lines(alloc)?.copy(alloc)?;
-    let Request::Lines { texts } = &sent else {
-        return Err("another request")?;
-    };
-    assert_eq!(rt; texts.as_slice().len(), 2);
-    let changed = change_user(alloc)?.copy(alloc)?;
-    let Request::ChangeUser { groups, active, .. } = &changed else {
-        return Err("another request")?;
-    };
-    assert!(rt; groups.is_some());
-    assert_eq!(rt; *active, Some(false));
+fn ample_lines(rt: HostRuntime) -> Result<(), Fail> {
+    let copy = copied(rt.alloc(), lines(rt.alloc())?)?;
+    assert!(rt; matches!(&copy, Request::Lines { texts } if texts.as_slice().len() == 2));
+    Ok(())
+}
+
+fn switches_off(request: &Request) -> bool {
+    match request {
+        Request::ChangeUser { groups, active, .. } => groups.is_some() && *active == Some(false),
+        _ => false,
+    }
+}
+
+#[test]
+fn ample_user(rt: HostRuntime) -> Result<(), Fail> {
+    let copy = copied(rt.alloc(), change_user(rt.alloc())?)?;
+    assert!(rt; switches_off(&copy));
     Ok(())
 }
 
@@ -164,7 +189,7 @@ fn heaters(rt: HostRuntime) -> Result<(), Fail> {
 }
 
 #[test]
-fn rows(rt: HostRuntime) -> Result<(), Fail> {
+fn users_shown(rt: HostRuntime) -> Result<(), Fail> {
     let user = ShownUser::of(&UserRow {
         name: Name::of("ana")?,
         digest: [7; 32],
@@ -172,6 +197,11 @@ fn rows(rt: HostRuntime) -> Result<(), Fail> {
         active: true,
     });
     assert!(rt; user.name.as_str() == "ana" && user.groups.len() == 1 && user.active);
+    Ok(())
+}
+
+#[test]
+fn entries_shown(rt: HostRuntime) -> Result<(), Fail> {
     let entry = ShownEntry::of(&QueueEntry {
         user: Name::of("ana")?,
         name: Name::of("job-1")?,
@@ -183,6 +213,11 @@ fn rows(rt: HostRuntime) -> Result<(), Fail> {
         arrival: 9,
     });
     assert!(rt; entry.name.as_str() == "job-1" && entry.copies == 2 && entry.left == 1);
+    Ok(())
+}
+
+#[test]
+fn prints_shown(rt: HostRuntime) -> Result<(), Fail> {
     let print = ShownPrint::of(&PrintRow {
         number: 3,
         user: Name::of("ana")?,
@@ -194,25 +229,43 @@ fn rows(rt: HostRuntime) -> Result<(), Fail> {
     Ok(())
 }
 
-fn two_asks(alloc: Global) -> Result<AskList, Fail> {
+fn add_ask(alloc: Global, asks: &mut AskList, worker: u8, request: Request) -> Result<(), Fail> {
+    let ask = Ask::of(alloc, b"ana-key-0123456789", request)?;
+    asks.push((worker, ask))?;
+    Ok(())
+}
+
+// A counter whose workers 2 and 0 ask.
+fn two_asks(alloc: Global) -> Result<MemoryCounter, Fail>
+    ensures given { IfOk result (λ counter. counter.given ≡ None) }
+    ensures open { IfOk result (λ counter. counter.closed ≡ false) }
+{
     let mut asks = AskList::new(alloc);
-    asks.push((2, Ask::of(alloc, b"ana-key-0123456789", Request::GetJob)?))?;
-    asks.push((0, Ask::of(alloc, b"ana-key-0123456789", Request::Leave)?))?;
-    Ok(asks)
+    add_ask(alloc, &mut asks, 2, Request::GetJob)?;
+    add_ask(alloc, &mut asks, 0, Request::Leave)?;
+    Ok(MemoryCounter::new(alloc, asks)?)
+}
+
+fn asks_for_job(ask: Ask) -> bool {
+    matches!(&ask.request, Request::GetJob)
+}
+
+fn worker_of(next: Next) -> Option<u8> {
+    match next {
+        Next::Asked { worker, .. } => Some(worker),
+        Next::Nothing => None,
+    }
 }
 
 #[test]
 fn ample(rt: HostRuntime) -> Result<(), Fail> {
-    let alloc = rt.alloc();
-    let mut counter = MemoryCounter::new(alloc, two_asks(alloc)?)?;
-    let first = counter.next();
-    let Next::Asked { worker, ask } = &first else {
+    let mut counter = two_asks(rt.alloc())?;
+    let Next::Asked { worker: 2, ask } = counter.next() else {
         return Err("no ask")?;
     };
-    assert!(rt; *worker == 2 && matches!(&ask.request, Request::GetJob));
+    assert!(rt; asks_for_job(ask));
     counter.answer(2, 5, Answer::NoFile);
-    let second = counter.next();
-    assert!(rt; matches!(&second, Next::Asked { worker: 0, .. }));
+    assert_eq!(rt; worker_of(counter.next()), Some(0));
     Ok(())
 }
 
@@ -226,32 +279,38 @@ fn note() -> Note {
     }
 }
 
+// A counter whose worker 3 asks.
+fn one_ask(alloc: Global) -> Result<MemoryCounter, Fail>
+    ensures given { IfOk result (λ counter. counter.given ≡ None) }
+    ensures open { IfOk result (λ counter. counter.closed ≡ false) }
+{
+    let mut asks = AskList::new(alloc);
+    add_ask(alloc, &mut asks, 3, Request::Leave)?;
+    Ok(MemoryCounter::new(alloc, asks)?)
+}
+
 #[test]
 fn history(rt: HostRuntime) -> Result<(), Fail> {
-    let alloc = rt.alloc();
-    let mut asks = AskList::new(alloc);
-    asks.push((3, Ask::of(alloc, b"ana-key-0123456789", Request::Leave)?))?;
-    let mut counter = MemoryCounter::new(alloc, asks)?;
+    let mut counter = one_ask(rt.alloc())?;
     counter.note(note());
-    let first = counter.next();
-    let Next::Asked { worker: 3, .. } = &first else {
+    let Next::Asked { worker: 3, .. } = counter.next() else {
         return Err("no ask")?;
     };
     counter.answer(3, 6, Answer::Accepted);
     counter.close();
-    let entries = counter.entries().ok_or("no history")?;
-    assert_eq!(rt; entries.len(), 3);
-    assert!(rt; matches!(&entries[0], Entry::Note(_)));
     assert!(rt;
         matches!(
-            &entries[1],
-            Entry::Call {
-                worker: 3,
-                moment: 6,
-                ..
-            }
+            counter.entries(),
+            Some([
+                Entry::Note(_),
+                Entry::Call {
+                    worker: 3,
+                    moment: 6,
+                    ..
+                },
+                Entry::Close
+            ])
         )
     );
-    assert!(rt; matches!(&entries[2], Entry::Close));
     Ok(())
 }

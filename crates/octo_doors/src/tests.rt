@@ -6,7 +6,8 @@ use crate::{ConnList, Door, Knock, MemoryDoor, TcpDoor};
 use octo_outside::{CallList, Conn, Failed, MemoryConn, calls_of, send_all};
 use std::alloc::{AllocError, Global};
 use std::io::{Read, Write};
-use std::net::TcpStream;
+use std::net::{SocketAddr, TcpStream};
+use std::process::Abort;
 use std::test::Fail;
 use std::time::Duration;
 
@@ -41,59 +42,95 @@ fn bytes_written(alloc: Global, door: &MemoryDoor) -> Result<Vec<u8>, AllocError
     Ok(texts)
 }
 
-// The second call finds nothing yet, the fourth fails, and those after it find the end, whatever is listed.
-#[test]
-fn scheduled_accepts(rt: HostRuntime) -> Result<(), Fail> {
-    let alloc = rt.alloc();
+// A door at which three connections come; its second call finds nothing yet, and its fourth fails.
+fn scheduled_door(alloc: Global) -> Result<MemoryDoor, AllocError> {
     let mut conns = ConnList::new(alloc);
     conns.push(new_conn(alloc, b"one.")?)?;
     conns.push(new_conn(alloc, b"two.")?)?;
     conns.push(new_conn(alloc, b"lost")?)?;
-    let mut door = MemoryDoor::new(
-        alloc,
-        conns,
-        calls_of(alloc, &[2, 5])?,
-        calls_of(alloc, &[4, 5])?,
-    );
+    let quiet_at = calls_of(alloc, &[2, 5])?;
+    Ok(MemoryDoor::new(alloc, conns, quiet_at, calls_of(alloc, &[4, 5])?))
+}
+
+// The calls after the fourth find the end, whatever is listed.
+#[test]
+fn scheduled_accepts(rt: HostRuntime) -> Result<(), Fail> {
+    let alloc = rt.alloc();
+    let mut door = scheduled_door(alloc)?;
     for want in ['c', 'q', 'c', 'f', 'e', 'e'] {
         assert_eq!(rt; serve_once(&mut door), want);
     }
-    assert_eq!(rt;
-        bytes_written(alloc, &door)?.as_slice(),
-        b"one.two.".as_slice()
-    );
+    let written = bytes_written(alloc, &door)?;
+    assert_eq!(rt; written.as_slice(), b"one.two.".as_slice());
     Ok(())
+}
+
+// A door at which no connection is to come; its first two calls are listed as quiet, and the second fails.
+fn bare_door(alloc: Global) -> Result<MemoryDoor, AllocError> {
+    let quiet_at = calls_of(alloc, &[1, 2])?;
+    Ok(MemoryDoor::new(
+        alloc,
+        ConnList::new(alloc),
+        quiet_at,
+        calls_of(alloc, &[2])?,
+    ))
 }
 
 // A door at which no connection is to come ends at once, unless its call is listed.
 #[test]
 fn no_connections(rt: HostRuntime) -> Result<(), Fail> {
-    let alloc = rt.alloc();
-    let quiet_at = calls_of(alloc, &[1, 2])?;
-    let fail_at = calls_of(alloc, &[2])?;
-    let mut door = MemoryDoor::new(alloc, ConnList::new(alloc), quiet_at, fail_at);
+    let mut door = bare_door(rt.alloc())?;
     for want in ['e', 'f', 'e'] {
         assert_eq!(rt; serve_once(&mut door), want);
     }
     Ok(())
 }
 
-// The calls that take memory, each once: a door in memory keeps the connection that is given back, and four doors share
-// a listener.
+// A door at which one connection comes, and none of whose calls is listed.
+fn door_of(alloc: Global, input: &[u8]) -> Result<MemoryDoor, AllocError> {
+    let mut conns = ConnList::new(alloc);
+    conns.push(new_conn(alloc, input)?)?;
+    Ok(MemoryDoor::new(alloc, conns, CallList::new(alloc), CallList::new(alloc)))
+}
+
+// The calls of a door in memory that take memory, each once: it keeps the connection that is given back.
 #[test]
 fn ample(rt: HostRuntime) -> Result<(), Fail> {
     let alloc = rt.alloc();
-    let mut conns = ConnList::new(alloc);
-    conns.push(new_conn(alloc, b"one.")?)?;
-    let mut door = MemoryDoor::new(alloc, conns, CallList::new(alloc), CallList::new(alloc));
+    let mut door = door_of(alloc, b"one.")?;
     assert_eq!(rt; serve_once(&mut door), 'c');
     assert!(rt; door.served().is_some());
-    assert_eq!(rt; bytes_written(alloc, &door)?.as_slice(), b"one.".as_slice());
-    let doors = TcpDoor::four(&rt, alloc, "127.0.0.1:0")?;
+    let written = bytes_written(alloc, &door)?;
+    assert_eq!(rt; written.as_slice(), b"one.".as_slice());
+    Ok(())
+}
+
+// Four doors share a listener.
+#[test]
+fn ample_doors(rt: HostRuntime) -> Result<(), Fail> {
+    let doors = TcpDoor::four(&rt, rt.alloc(), "127.0.0.1:0")?;
     let address = doors.a.address();
     assert!(rt; address.is_some());
-    assert!(rt; doors.b.address() == address && doors.c.address() == address);
-    assert!(rt; doors.d.address() == address);
+    let others = [doors.b.address(), doors.c.address(), doors.d.address()];
+    assert!(rt; others == [address; 3]);
+    Ok(())
+}
+
+// A peer that has sent 13 bytes to this address.
+fn peer_of(rt: &HostRuntime, address: SocketAddr) -> Result<TcpStream, Fail> {
+    let mut peer = TcpStream::connect(rt, address)?;
+    peer.set_read_timeout(Some(Duration::from_secs(10)))?;
+    peer.write_all(b"four and more")?;
+    Ok(peer)
+}
+
+// The peer reads this, and then the end.
+fn reads_four(rt: &impl Abort, peer: TcpStream) -> Result<(), Fail> {
+    let mut peer = peer;
+    let mut read = [0; 8];
+    assert_eq!(rt; peer.read(&mut read)?, 4);
+    assert_eq!(rt; peer.read(&mut read)?, 0);
+    assert_eq!(rt; &read[..4], b"four".as_slice());
     Ok(())
 }
 
@@ -102,18 +139,11 @@ fn ample(rt: HostRuntime) -> Result<(), Fail> {
 #[test]
 fn tcp_doors(rt: HostRuntime) -> Result<(), Fail> {
     let mut doors = TcpDoor::four(&rt, rt.alloc(), "127.0.0.1:0")?;
-    let address = doors.c.address().ok_or("not bound")?;
     assert_eq!(rt; serve_once(&mut doors.a), 'q');
-    let mut peer = TcpStream::connect(&rt, address)?;
-    peer.set_read_timeout(Some(Duration::from_secs(10)))?;
-    peer.write_all(b"four and more")?;
+    let peer = peer_of(&rt, doors.c.address().ok_or("not bound")?)?;
     assert_eq!(rt; serve_once(&mut doors.b), 'c');
     assert_eq!(rt; serve_once(&mut doors.d), 'q');
-    let mut read = [0; 8];
-    assert_eq!(rt; peer.read(&mut read)?, 4);
-    assert_eq!(rt; peer.read(&mut read)?, 0);
-    assert_eq!(rt; &read[..4], b"four".as_slice());
-    Ok(())
+    reads_four(&rt, peer)
 }
 
 // What isn't an address: the first call fails, and the door has ended then.
@@ -121,8 +151,10 @@ fn tcp_doors(rt: HostRuntime) -> Result<(), Fail> {
 fn absent_doors(rt: HostRuntime) -> Result<(), Fail> {
     let mut doors = TcpDoor::four(&rt, rt.alloc(), "7100")?;
     for want in ['f', 'e', 'e'] {
-        assert_eq!(rt; serve_once(&mut doors.a), want);
-        assert_eq!(rt; serve_once(&mut doors.d), want);
+        assert_eq!(rt;
+            (serve_once(&mut doors.a), serve_once(&mut doors.d)),
+            (want, want)
+        );
     }
     Ok(())
 }

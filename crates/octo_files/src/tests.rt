@@ -1,8 +1,7 @@
 //! Files and settings in memory, each with the report that reading it ends in.
 use super::*;
-use octo_outside::{CallList, MemorySink, MemorySource};
+use octo_outside::{CallList, MemorySink, MemorySource, calls_of};
 use octo_report::{Report, write_report};
-use octo_settings::Settings;
 use std::alloc::Global;
 use std::process::Abort;
 use std::test::Fail;
@@ -24,17 +23,11 @@ fn source(alloc: Global, name: &str, bytes: &[u8]) -> Result<MemorySource, Fail>
 }
 
 /// Compares the exit status and the text of a report.
-fn assert_report(
-    rt: &(impl Abort + Alloc<A = Global>),
-    report: &Report,
-    code: u8,
-    text: &[u8],
-) -> Result<(), Fail> {
-    let mut out = MemorySink::new(rt.alloc(), CallList::new(rt.alloc()));
-    assert!(rt; write_report(&mut out, report).is_ok());
-    assert_eq!(rt; out.written().unwrap_or(&[]), text);
+fn assert_report(rt: &(impl Abort + Alloc<A = Global>), report: Report, code: u8, text: &[u8]) {
     assert_eq!(rt; report.code(), code);
-    Ok(())
+    let mut out = MemorySink::new(rt.alloc(), CallList::new(rt.alloc()));
+    assert!(rt; write_report(&mut out, &report).is_ok());
+    assert_eq!(rt; out.written().unwrap_or(&[]), text);
 }
 
 /// The measure of the short file.
@@ -49,7 +42,6 @@ const REST: &[u8] =
 const SETTINGS: &[u8] =
     b"printer.ports = [\"p\"]\nlimits.tool = 250\nadmin.name = \"a\"\nadmin.key_sha256 = \"0123456789abcdef0123456789abcdef0123456789abcdef0123456789abcdef\"\n";
 
-/// The calls that take memory, each once.
 #[test]
 fn ample(rt: HostRuntime) -> Result<(), Fail> {
     let mut files = source(rt.alloc(), "a.gcode", SHORT)?;
@@ -57,27 +49,43 @@ fn ample(rt: HostRuntime) -> Result<(), Fail> {
         return Err(Fail::from("refused"));
     };
     assert_eq!(rt; job.count(), 7);
-    let checked = check_file(rt.alloc(), &mut files, "a.gcode", &LIMITS);
+    Ok(())
+}
+
+#[test]
+fn checks(rt: HostRuntime) -> Result<(), Fail> {
+    let mut files = source(rt.alloc(), "a.gcode", SHORT)?;
+    let report = check_file(rt.alloc(), &mut files, "a.gcode", &LIMITS);
     let text = b"commands 7\nskipped 0\nhottest tool 0\nhottest bed 0\n";
-    assert_report(&rt, &checked, 0, text)?;
-    let measured = measure_file(rt.alloc(), &mut files, "a.gcode");
-    assert_report(&rt, &measured, 0, MEASURED)?;
-    let rest = rest_of_file(rt.alloc(), &mut files, "a.gcode", 4);
-    assert_report(&rt, &rest, 0, REST)?;
-    assert_settings(&rt, SETTINGS, 250)
+    assert_report(&rt, report, 0, text);
+    Ok(())
 }
 
 #[test]
 fn measures(rt: HostRuntime) -> Result<(), Fail> {
     let mut files = source(rt.alloc(), "a.gcode", SHORT)?;
     let report = measure_file(rt.alloc(), &mut files, "a.gcode");
-    assert_report(&rt, &report, 0, MEASURED)
+    assert_report(&rt, report, 0, MEASURED);
+    Ok(())
+}
+
+/// Compares the rests of a file, each from a command.
+fn assert_rests(
+    rt: &(impl Abort + Alloc<A = Global>),
+    file: &[u8],
+    rows: &[(usize, u8, &[u8])],
+) -> Result<(), Fail> {
+    let mut files = source(rt.alloc(), "a.gcode", file)?;
+    for (from, code, text) in rows {
+        let report = rest_of_file(rt.alloc(), &mut files, "a.gcode", *from);
+        assert_report(rt, report, *code, text);
+    }
+    Ok(())
 }
 
 #[test]
 fn goes_on_at_a_command(rt: HostRuntime) -> Result<(), Fail> {
-    let mut files = source(rt.alloc(), "a.gcode", SHORT)?;
-    let rows = [
+    let rows: [(usize, u8, &[u8]); 3] = [
         (4, 0, REST),
         (
             7,
@@ -86,25 +94,33 @@ fn goes_on_at_a_command(rt: HostRuntime) -> Result<(), Fail> {
         ),
         (8, 3, b"file: 7 commands\n"),
     ];
-    for (from, code, text) in rows {
-        let report = rest_of_file(rt.alloc(), &mut files, "a.gcode", from);
-        assert_report(&rt, &report, code, text)?;
-    }
+    assert_rests(&rt, SHORT, &rows)
+}
+
+/// A hot command, and then inches.
+const HOT: &[u8] = b"M104 S999\nG20\n";
+
+/// A measure doesn't mind how hot a command is; it refuses inches.
+#[test]
+fn measures_hot_commands(rt: HostRuntime) -> Result<(), Fail> {
+    let mut files = source(rt.alloc(), "hot.gcode", HOT)?;
+    let report = measure_file(rt.alloc(), &mut files, "hot.gcode");
+    assert_report(&rt, report, 3, b"file: line 2: inches\n");
     Ok(())
 }
 
-/// Neither a measure nor a rest minds how hot a command is; both refuse inches, the rest only before its command.
+/// Nor does a rest mind it; it refuses inches only before its command.
 #[test]
-fn measures_hot_commands(rt: HostRuntime) -> Result<(), Fail> {
-    let mut files = source(rt.alloc(), "hot.gcode", b"M104 S999\nG20\n")?;
-    let inches = b"file: line 2: inches\n";
-    let measure = measure_file(rt.alloc(), &mut files, "hot.gcode");
-    assert_report(&rt, &measure, 3, inches)?;
-    let rest = rest_of_file(rt.alloc(), &mut files, "hot.gcode", 2);
-    assert_report(&rt, &rest, 3, inches)?;
-    let before = rest_of_file(rt.alloc(), &mut files, "hot.gcode", 1);
-    let text = b"G90\nM82\nG92 X0.000000 Y0.000000 Z0.000000 E0.000000\nG20\n";
-    assert_report(&rt, &before, 0, text)
+fn goes_on_after_hot_commands(rt: HostRuntime) -> Result<(), Fail> {
+    let rows: [(usize, u8, &[u8]); 2] = [
+        (2, 3, b"file: line 2: inches\n"),
+        (
+            1,
+            0,
+            b"G90\nM82\nG92 X0.000000 Y0.000000 Z0.000000 E0.000000\nG20\n",
+        ),
+    ];
+    assert_rests(&rt, HOT, &rows)
 }
 
 /// Checks files, each with its exit status and its text.
@@ -115,7 +131,7 @@ fn assert_checks(
     for (file, code, text) in rows {
         let mut files = source(rt.alloc(), "f", file)?;
         let report = check_file(rt.alloc(), &mut files, "f", &LIMITS);
-        assert_report(rt, &report, *code, text)?;
+        assert_report(rt, report, *code, text);
     }
     Ok(())
 }
@@ -190,35 +206,33 @@ fn checks_by_other_limits(rt: HostRuntime) -> Result<(), Fail> {
         bed: 120,
     };
     let report = check_file(rt.alloc(), &mut files, "a.gcode", &limits);
-    assert_report(&rt, &report, 3, b"file: line 3: too hot: 260 over 250\n")
+    assert_report(&rt, report, 3, b"file: line 3: too hot: 260 over 250\n");
+    Ok(())
+}
+
+/// A source with the short file, whose second call fails.
+fn failing_source(alloc: Global) -> Result<MemorySource, Fail> {
+    let mut files = MemorySource::new(alloc, calls_of(alloc, &[2])?);
+    files.put("a.gcode", SHORT)?;
+    Ok(files)
 }
 
 #[test]
 fn failing_sources(rt: HostRuntime) -> Result<(), Fail> {
-    let mut calls = CallList::new(rt.alloc());
-    calls.push(2)?;
-    let mut files = MemorySource::new(rt.alloc(), calls);
-    files.put("a.gcode", SHORT)?;
-    let failed = b"source failed\n";
-    let read = check_file(rt.alloc(), &mut files, "a.gcode", &LIMITS);
-    assert_report(&rt, &read, 4, failed)?;
-    let absent = measure_file(rt.alloc(), &mut files, "b.gcode");
-    assert_report(&rt, &absent, 4, failed)?;
-    let absent = rest_of_file(rt.alloc(), &mut files, "b.gcode", 0);
-    assert_report(&rt, &absent, 4, failed)
+    let mut files = failing_source(rt.alloc())?;
+    let report = check_file(rt.alloc(), &mut files, "a.gcode", &LIMITS);
+    assert_report(&rt, report, 4, b"source failed\n");
+    Ok(())
 }
 
-/// The text of the report that settings are refused with, or of none.
-fn assert_refused(
-    rt: &(impl Abort + Alloc<A = Global>),
-    settings: Result<Settings, Report>,
-    code: u8,
-    text: &[u8],
-) -> Result<(), Fail> {
-    match settings {
-        Ok(_) => Err(Fail::from("read")),
-        Err(report) => assert_report(rt, &report, code, text),
-    }
+#[test]
+fn absent_files(rt: HostRuntime) -> Result<(), Fail> {
+    let mut files = source(rt.alloc(), "a.gcode", SHORT)?;
+    let measured = measure_file(rt.alloc(), &mut files, "b.gcode");
+    assert_report(&rt, measured, 4, b"source failed\n");
+    let rest = rest_of_file(rt.alloc(), &mut files, "b.gcode", 0);
+    assert_report(&rt, rest, 4, b"source failed\n");
+    Ok(())
 }
 
 #[test]
@@ -251,17 +265,37 @@ fn named_settings(rt: HostRuntime) -> Result<(), Fail> {
     assert_settings(&rt, SETTINGS, 250)
 }
 
+/// Settings under this name are refused with that report.
+fn assert_refused(
+    rt: &(impl Abort + Alloc<A = Global>),
+    files: &mut MemorySource,
+    name: &str,
+    code: u8,
+    text: &[u8],
+) {
+    match read_settings_of(rt.alloc(), files, Some(name)) {
+        Ok(_) => panic!(rt; "read"),
+        Err(report) => assert_report(rt, report, code, text),
+    }
+}
+
 #[test]
 fn refused_settings(rt: HostRuntime) -> Result<(), Fail> {
-    let mut files = source(rt.alloc(), "octo.toml", b"printer = 3\n")?;
-    let kind = read_settings_of(rt.alloc(), &mut files, Some("octo.toml"));
-    assert_refused(&rt, kind, 7, b"settings: printer: wrong kind\n")?;
-    files.put("octo.toml", b"= 3\n")?;
-    let other = read_settings_of(rt.alloc(), &mut files, Some("octo.toml"));
-    assert_refused(&rt, other, 7, b"settings: not toml\n")?;
-    files.put("octo.toml", b"")?;
-    let missing = read_settings_of(rt.alloc(), &mut files, Some("octo.toml"));
-    assert_refused(&rt, missing, 7, b"settings: printer.ports: missing\n")?;
-    let absent = read_settings_of(rt.alloc(), &mut files, Some("other.toml"));
-    assert_refused(&rt, absent, 4, b"source failed\n")
+    let rows: [(&[u8], &[u8]); 3] = [
+        (b"printer = 3\n", b"settings: printer: wrong kind\n"),
+        (b"= 3\n", b"settings: not toml\n"),
+        (b"", b"settings: printer.ports: missing\n"),
+    ];
+    for (settings, text) in rows {
+        let mut files = source(rt.alloc(), "octo.toml", settings)?;
+        assert_refused(&rt, &mut files, "octo.toml", 7, text);
+    }
+    Ok(())
+}
+
+#[test]
+fn absent_settings(rt: HostRuntime) -> Result<(), Fail> {
+    let mut files = source(rt.alloc(), "octo.toml", b"")?;
+    assert_refused(&rt, &mut files, "other.toml", 4, b"source failed\n");
+    Ok(())
 }

@@ -13,6 +13,3 @@ mod reply;
 
 pub use message::{Message, read_message};
 pub use reply::{HttpReply, ReplyKind, write_reply};
-
-#[cfg(test)]
-mod tests;

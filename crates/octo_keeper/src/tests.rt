@@ -84,21 +84,46 @@ fn outcome(keeper: &MemoryKeeper, place: usize) -> Option<Outcome> {
     Some(keeper.tables()?.prints.as_slice().get(place)?.outcome)
 }
 
-// The first commit fails; an entry is put and dropped.
+fn puts_entry(
+    rt: &impl Abort,
+    alloc: Global,
+    keeper: &mut MemoryKeeper,
+) -> Result<(), KeeperFault> {
+    commits(alloc, keeper, Change::PutEntry(entry(rt)))
+}
+
+fn drops_entry(
+    rt: &impl Abort,
+    alloc: Global,
+    keeper: &mut MemoryKeeper,
+) -> Result<(), KeeperFault> {
+    let drop = Change::DropEntry {
+        user: Name::from_text("ana").expect(rt, "a long name"),
+        name: Name::from_text("job-1").expect(rt, "a long name"),
+    };
+    commits(alloc, keeper, drop)
+}
+
+// The first commit fails, and the second makes its change.
 #[test]
 fn ample(rt: HostRuntime) {
     let alloc = rt.alloc();
     let mut keeper = keeper(alloc, only(&rt, alloc, 1));
-    let failed = commits(alloc, &mut keeper, Change::PutEntry(entry(&rt)));
-    assert_eq!(rt; failed, Err(KeeperFault::Failed));
-    let put = commits(alloc, &mut keeper, Change::PutEntry(entry(&rt)));
-    assert_eq!(rt; put, Ok(()));
+    assert_eq!(rt;
+        puts_entry(&rt, alloc, &mut keeper),
+        Err(KeeperFault::Failed)
+    );
+    assert_eq!(rt; puts_entry(&rt, alloc, &mut keeper), Ok(()));
     assert!(rt; counts(alloc, &mut keeper) == Some((0, 1, 0)));
-    let drop = Change::DropEntry {
-        user: Name::from_text("ana").expect(&rt, "a long name"),
-        name: Name::from_text("job-1").expect(&rt, "a long name"),
-    };
-    assert_eq!(rt; commits(alloc, &mut keeper, drop), Ok(()));
+}
+
+// An entry is put and dropped.
+#[test]
+fn ample_entries(rt: HostRuntime) {
+    let alloc = rt.alloc();
+    let mut keeper = keeper(alloc, CallList::new(alloc));
+    assert_eq!(rt; puts_entry(&rt, alloc, &mut keeper), Ok(()));
+    assert_eq!(rt; drops_entry(&rt, alloc, &mut keeper), Ok(()));
     assert!(rt; counts(alloc, &mut keeper) == Some((0, 0, 0)));
 }
 
@@ -115,34 +140,53 @@ fn ample_users(rt: HostRuntime) {
     assert!(rt; counts(alloc, &mut keeper) == Some((1, 0, 0)));
 }
 
-// A print begins, is left for a copy of an entry, and that one ends.
-#[test]
-fn ample_prints(rt: HostRuntime) {
-    let alloc = rt.alloc();
+// A keeper in which a print began, and was left for one of a copy of an entry.
+fn with_two_prints(rt: &impl Abort, alloc: Global) -> MemoryKeeper {
     let mut keeper = keeper(alloc, CallList::new(alloc));
-    let put = commits(alloc, &mut keeper, Change::PutEntry(entry(&rt)));
-    assert_eq!(rt; put, Ok(()));
+    assert_eq!(rt; puts_entry(rt, alloc, &mut keeper), Ok(()));
     let first = Change::Begin {
         ended: None,
-        print: print(&rt, 1),
+        print: print(rt, 1),
         taken: None,
     };
     assert_eq!(rt; commits(alloc, &mut keeper, first), Ok(()));
     let second = Change::Begin {
         ended: Some(end_of(1, Outcome::Cancelled)),
-        print: print(&rt, 2),
-        taken: Some(entry(&rt)),
+        print: print(rt, 2),
+        taken: Some(entry(rt)),
     };
     assert_eq!(rt; commits(alloc, &mut keeper, second), Ok(()));
-    let end = commits(alloc, &mut keeper, Change::End(end_of(2, Outcome::Done)));
-    assert_eq!(rt; end, Ok(()));
+    keeper
+}
+
+// A print begins, is left for a copy of an entry, and that one ends.
+#[test]
+fn ample_prints(rt: HostRuntime) {
+    let mut keeper = with_two_prints(&rt, rt.alloc());
+    let end = Change::End(end_of(2, Outcome::Done));
+    assert_eq!(rt; commits(rt.alloc(), &mut keeper, end), Ok(()));
     assert!(rt; copies_left(&keeper) == Some(1));
     assert!(rt; outcome(&keeper, 0) == Some(Outcome::Cancelled));
     assert!(rt; outcome(&keeper, 1) == Some(Outcome::Done));
 }
 
-fn holds(alloc: Global, shelf: &mut MemoryShelf, file: &Name) -> bool {
-    match shelf.get(alloc, file) {
+fn file(rt: &impl Abort) -> Name {
+    Name::from_text("a.gcode").expect(rt, "a long name")
+}
+
+// A shelf with a file. The call with this number fails.
+fn shelf(rt: &impl Abort, alloc: Global, fails: u64) -> MemoryShelf {
+    let mut shelf = MemoryShelf::new(alloc, only(rt, alloc, fails));
+    assert_eq!(rt; shelf.put(alloc, &file(rt), b"G28\n"), Ok(()));
+    shelf
+}
+
+fn removes(rt: &impl Abort, alloc: Global, shelf: &mut MemoryShelf) -> Result<(), ShelfFault> {
+    shelf.remove(alloc, &file(rt))
+}
+
+fn holds(rt: &impl Abort, alloc: Global, shelf: &mut MemoryShelf) -> bool {
+    match shelf.get(alloc, &file(rt)) {
         Ok(Some(kept)) => kept.as_slice() == b"G28\n".as_slice(),
         _ => false,
     }
@@ -154,16 +198,22 @@ fn size_listed(alloc: Global, shelf: &mut MemoryShelf) -> Option<u64> {
     Some(list.as_slice().first()?.1)
 }
 
-// The second call fails.
+// The second call fails, which is to remove the file.
 #[test]
 fn ample_shelf(rt: HostRuntime) {
     let alloc = rt.alloc();
-    let mut shelf = MemoryShelf::new(alloc, only(&rt, alloc, 2));
-    let file = Name::from_text("a.gcode").expect(&rt, "a long name");
-    assert_eq!(rt; shelf.put(alloc, &file, b"G28\n"), Ok(()));
-    assert_eq!(rt; shelf.remove(alloc, &file), Err(ShelfFault::Failed));
-    assert!(rt; holds(alloc, &mut shelf, &file));
+    let mut shelf = shelf(&rt, alloc, 2);
+    assert_eq!(rt; removes(&rt, alloc, &mut shelf), Err(ShelfFault::Failed));
+    assert!(rt; holds(&rt, alloc, &mut shelf));
     assert!(rt; size_listed(alloc, &mut shelf) == Some(4));
-    assert_eq!(rt; shelf.remove(alloc, &file), Ok(()));
-    assert!(rt; !holds(alloc, &mut shelf, &file));
+}
+
+// The same, and the file is removed by the next call.
+#[test]
+fn removed_later(rt: HostRuntime) {
+    let alloc = rt.alloc();
+    let mut shelf = shelf(&rt, alloc, 2);
+    assert_eq!(rt; removes(&rt, alloc, &mut shelf), Err(ShelfFault::Failed));
+    assert_eq!(rt; removes(&rt, alloc, &mut shelf), Ok(()));
+    assert!(rt; !holds(&rt, alloc, &mut shelf));
 }

@@ -13,26 +13,24 @@ use std::test::Fail;
 use temp_rules::HotLine;
 
 /// Writes a report, and compares its text and its exit status.
-fn assert_report(
-    rt: &(impl Abort + Alloc<A = Global>),
-    report: &Report,
-    code: u8,
-    text: &[u8],
-) -> Result<(), Fail> {
-    let mut out = MemorySink::new(rt.alloc(), CallList::new(rt.alloc()));
-    assert!(rt; write_report(&mut out, report).is_ok());
-    assert_eq!(rt; out.written().unwrap_or(&[]), text);
+fn assert_report(rt: &(impl Abort + Alloc<A = Global>), report: Report, code: u8, text: &[u8]) {
     assert_eq!(rt; report.code(), code);
-    Ok(())
+    let mut out = MemorySink::new(rt.alloc(), CallList::new(rt.alloc()));
+    assert!(rt; write_report(&mut out, &report).is_ok());
+    assert_eq!(rt; out.written().unwrap_or(&[]), text);
 }
 
 #[test]
-fn prints_and_checks(rt: HostRuntime) -> Result<(), Fail> {
+fn prints(rt: HostRuntime) {
     let printed = Report::Printed {
         commands: 0,
         skipped: 0,
     };
-    assert_report(&rt, &printed, 0, b"done: 0 commands, 0 skipped\n")?;
+    assert_report(&rt, printed, 0, b"done: 0 commands, 0 skipped\n");
+}
+
+#[test]
+fn checks(rt: HostRuntime) {
     let checked = Report::Checked {
         commands: 3,
         skipped: 5,
@@ -40,11 +38,11 @@ fn prints_and_checks(rt: HostRuntime) -> Result<(), Fail> {
         bed: 60,
     };
     let text = b"commands 3\nskipped 5\nhottest tool 215\nhottest bed 60\n";
-    assert_report(&rt, &checked, 0, text)
+    assert_report(&rt, checked, 0, text);
 }
 
 #[test]
-fn measures(rt: HostRuntime) -> Result<(), Fail> {
+fn measures(rt: HostRuntime) {
     let measure = Measure {
         commands: 7,
         moves: 3,
@@ -65,152 +63,163 @@ fn measures(rt: HostRuntime) -> Result<(), Fail> {
     };
     let text =
         b"commands 7\nmoves 3\nfed 3.500000\ndrawn 1.000000\nX 10.000000 20.000000\nY 5.000000 5.000000\nZ -0.000001 0.200000\n";
-    assert_report(&rt, &Report::Measured(measure), 0, text)
+    assert_report(&rt, Report::Measured(measure), 0, text);
 }
 
 #[test]
-fn demos(rt: HostRuntime) -> Result<(), Fail> {
+fn demos(rt: HostRuntime) {
     let text = b"demo seed 1 commands 3\nexecuted 3\nsent 8\nfaults 2\nstatus 6\n";
     let demo = Report::Demo {
         text: bounded_text(text),
         status: 6,
     };
-    assert_report(&rt, &demo, 6, text)
+    assert_report(&rt, demo, 6, text);
 }
 
 #[test]
-fn files(rt: HostRuntime) -> Result<(), Fail> {
+fn rests(rt: HostRuntime) -> Result<(), Fail> {
     let text = b"G90\nM82\nG92 X0.000000 Y0.000000 Z0.000000 E0.000000\n";
     let rest = Report::Rest(Blob::from_slice(rt.alloc(), text)?);
-    assert_report(&rt, &rest, 0, text)?;
-    let too_long = Report::BadFile(FileFault::TooLong { line: 4 });
-    assert_report(&rt, &too_long, 3, b"file: line 4: too long\n")?;
-    let control = Report::BadFile(FileFault::ControlByte { line: 1 });
-    assert_report(&rt, &control, 3, b"file: line 1: control byte\n")?;
-    let large = Report::BadFile(FileFault::TooLarge { bytes: 67_108_865 });
-    assert_report(&rt, &large, 3, b"file: 67108865 bytes: too large\n")?;
-    assert_report(
-        &rt,
-        &Report::BadFile(FileFault::NoMemory),
-        11,
-        b"no memory\n",
-    )
+    assert_report(&rt, rest, 0, text);
+    Ok(())
 }
 
 #[test]
-fn refused_commands(rt: HostRuntime) -> Result<(), Fail> {
+fn files(rt: HostRuntime) {
+    let long = Report::BadFile(FileFault::TooLong { line: 4 });
+    assert_report(&rt, long, 3, b"file: line 4: too long\n");
+    let control = Report::BadFile(FileFault::ControlByte { line: 1 });
+    assert_report(&rt, control, 3, b"file: line 1: control byte\n");
+    let large = Report::BadFile(FileFault::TooLarge { bytes: 67_108_865 });
+    assert_report(&rt, large, 3, b"file: 67108865 bytes: too large\n");
+    let memory = Report::BadFile(FileFault::NoMemory);
+    assert_report(&rt, memory, 11, b"no memory\n");
+}
+
+#[test]
+fn hot_commands(rt: HostRuntime) {
     let hot = Report::TooHot(HotLine {
         line: 3,
         asked: 301,
         limit: 300,
     });
-    assert_report(&rt, &hot, 3, b"file: line 3: too hot: 301 over 300\n")?;
+    assert_report(&rt, hot, 3, b"file: line 3: too hot: 301 over 300\n");
+}
+
+#[test]
+fn refused_commands(rt: HostRuntime) {
     let inches = Report::BadMeasure(MeasureFault::Inches { line: 2 });
-    assert_report(&rt, &inches, 3, b"file: line 2: inches\n")?;
+    assert_report(&rt, inches, 3, b"file: line 2: inches\n");
     let far = Report::BadMeasure(MeasureFault::TooFar { line: 5 });
-    assert_report(&rt, &far, 3, b"file: line 5: too far\n")?;
-    assert_report(&rt, &Report::Past { count: 7 }, 3, b"file: 7 commands\n")
+    assert_report(&rt, far, 3, b"file: line 5: too far\n");
+    assert_report(&rt, Report::Past { count: 7 }, 3, b"file: 7 commands\n");
+}
+
+fn name(text: &str) -> Name {
+    Name::from_text(text).unwrap_or_default()
+}
+
+fn assert_refused(
+    rt: &(impl Abort + Alloc<A = Global>),
+    fault: SettingsFault,
+    code: u8,
+    text: &[u8],
+) {
+    assert_report(rt, Report::BadSettings(fault), code, text);
 }
 
 #[test]
-fn keys(rt: HostRuntime) -> Result<(), Fail> {
-    let missing = Report::BadSettings(SettingsFault::Missing {
-        key: Name::from_text("printer.ports").unwrap_or_default(),
-    });
-    assert_report(&rt, &missing, 7, b"settings: printer.ports: missing\n")?;
-    let kind = Report::BadSettings(SettingsFault::WrongKind {
-        key: Name::from_text("groups").unwrap_or_default(),
-    });
-    assert_report(&rt, &kind, 7, b"settings: groups: wrong kind\n")?;
-    let range = Report::BadSettings(SettingsFault::OutOfRange {
-        key: Name::from_text("limits.tool").unwrap_or_default(),
-    });
-    assert_report(&rt, &range, 7, b"settings: limits.tool: out of range\n")
+fn keys(rt: HostRuntime) {
+    let key = name("printer.ports");
+    let missing = SettingsFault::Missing { key };
+    assert_refused(&rt, missing, 7, b"settings: printer.ports: missing\n");
+    let key = name("groups");
+    let kind = SettingsFault::WrongKind { key };
+    assert_refused(&rt, kind, 7, b"settings: groups: wrong kind\n");
+    let key = name("limits.tool");
+    let range = SettingsFault::OutOfRange { key };
+    assert_refused(&rt, range, 7, b"settings: limits.tool: out of range\n");
 }
 
 #[test]
-fn settings(rt: HostRuntime) -> Result<(), Fail> {
-    let not_toml = Report::BadSettings(SettingsFault::NotToml);
-    assert_report(&rt, &not_toml, 7, b"settings: not toml\n")?;
-    let template = Report::BadSettings(SettingsFault::Template {
-        script: Point::Done,
-    });
-    assert_report(
-        &rt,
-        &template,
-        7,
-        b"settings: scripts.afterPrintDone: template\n",
-    )?;
-    let hot = Report::BadSettings(SettingsFault::TooHot {
+fn scripts(rt: HostRuntime) {
+    let script = Point::Done;
+    let template = SettingsFault::Template { script };
+    let text = b"settings: scripts.afterPrintDone: template\n";
+    assert_refused(&rt, template, 7, text);
+    let hot = SettingsFault::TooHot {
         script: Point::Started,
         line: 2,
-    });
-    let text = b"settings: scripts.beforePrintStarted: line 2: too hot\n";
-    assert_report(&rt, &hot, 7, text)?;
-    assert_report(
-        &rt,
-        &Report::BadSettings(SettingsFault::NoMemory),
-        11,
-        b"no memory\n",
-    )
-}
-
-#[test]
-fn session_ends(rt: HostRuntime) -> Result<(), Fail> {
-    let rows = [
-        (
-            SessionEnd::NoAnswer { silent: 5 },
-            b"session ended: no answer, 5 limits\n".as_slice(),
-        ),
-        (
-            SessionEnd::AskedBack { asked: 6, acked: 6 },
-            b"session ended: line 6 asked, 6 acknowledged\n",
-        ),
-        (
-            SessionEnd::AskedAhead {
-                asked: 11,
-                issued: 9,
-            },
-            b"session ended: line 11 asked, 9 issued\n",
-        ),
-        (
-            SessionEnd::Counts {
-                number: 8,
-                expected: 7,
-            },
-            b"session ended: ok for 8, 7 expected\n",
-        ),
-        (SessionEnd::Restarted, b"session ended: printer restarted\n"),
-        (
-            SessionEnd::NumbersUsed {
-                issued: 1_999_999_999,
-            },
-            b"session ended: 1999999999 lines\n",
-        ),
-    ];
-    for (end, text) in rows {
-        assert_report(&rt, &Report::Ended(end), 6, text)?;
-    }
-    Ok(())
-}
-
-#[test]
-fn others(rt: HostRuntime) -> Result<(), Fail> {
-    assert_report(&rt, &Report::BadWords, 2, b"octo: bad words\n")?;
-    assert_report(&rt, &Report::SourceFailed, 4, b"source failed\n")?;
-    assert_report(&rt, &Report::LinkFailed, 5, b"link failed\n")?;
-    let port = Report::NoPort {
-        port: Name::from_text("q").unwrap_or_default(),
     };
-    assert_report(&rt, &port, 5, b"port q is not listed\n")?;
+    let text = b"settings: scripts.beforePrintStarted: line 2: too hot\n";
+    assert_refused(&rt, hot, 7, text);
+}
+
+#[test]
+fn settings(rt: HostRuntime) {
+    assert_refused(&rt, SettingsFault::NotToml, 7, b"settings: not toml\n");
+    assert_refused(&rt, SettingsFault::NoMemory, 11, b"no memory\n");
+}
+
+/// The ends of a session by its own rules, each with its text.
+const ENDS: [(SessionEnd, &[u8]); 6] = [
+    (
+        SessionEnd::NoAnswer { silent: 5 },
+        b"session ended: no answer, 5 limits\n",
+    ),
+    (
+        SessionEnd::AskedBack { asked: 6, acked: 6 },
+        b"session ended: line 6 asked, 6 acknowledged\n",
+    ),
+    (
+        SessionEnd::AskedAhead {
+            asked: 11,
+            issued: 9,
+        },
+        b"session ended: line 11 asked, 9 issued\n",
+    ),
+    (
+        SessionEnd::Counts {
+            number: 8,
+            expected: 7,
+        },
+        b"session ended: ok for 8, 7 expected\n",
+    ),
+    (SessionEnd::Restarted, b"session ended: printer restarted\n"),
+    (
+        SessionEnd::NumbersUsed {
+            issued: 1_999_999_999,
+        },
+        b"session ended: 1999999999 lines\n",
+    ),
+];
+
+#[test]
+fn session_ends(rt: HostRuntime) {
+    for (end, text) in &ENDS {
+        assert_report(&rt, Report::Ended(*end), 6, text);
+    }
+}
+
+#[test]
+fn others(rt: HostRuntime) {
+    assert_report(&rt, Report::BadWords, 2, b"octo: bad words\n");
+    assert_report(&rt, Report::SourceFailed, 4, b"source failed\n");
+    assert_report(&rt, Report::LinkFailed, 5, b"link failed\n");
     let turns = Report::TurnsUsed { turns: 2 };
-    assert_report(&rt, &turns, 10, b"turns used: 2\n")?;
-    assert_report(&rt, &Report::NoMemory, 11, b"no memory\n")
+    assert_report(&rt, turns, 10, b"turns used: 2\n");
+    assert_report(&rt, Report::NoMemory, 11, b"no memory\n");
+}
+
+#[test]
+fn unknown_port(rt: HostRuntime) {
+    let unknown = Report::NoPort { port: name("q") };
+    assert_report(&rt, unknown, 5, b"port q is not listed\n");
 }
 
 /// The longest text but a file fits: each number of a measure has as many digits as its type allows.
 #[test]
-fn longest(rt: HostRuntime) -> Result<(), Fail> {
+fn longest(rt: HostRuntime) {
     let extent = Some(Extent {
         low: i128::MIN,
         high: i128::MIN,
@@ -226,5 +235,5 @@ fn longest(rt: HostRuntime) -> Result<(), Fail> {
     };
     let text =
         b"commands 4294967295\nmoves 4294967295\nfed -170141183460469231731687303715884.105728\ndrawn -170141183460469231731687303715884.105728\nX -170141183460469231731687303715884.105728 -170141183460469231731687303715884.105728\nY -170141183460469231731687303715884.105728 -170141183460469231731687303715884.105728\nZ -170141183460469231731687303715884.105728 -170141183460469231731687303715884.105728\n";
-    assert_report(&rt, &Report::Measured(measure), 0, text)
+    assert_report(&rt, Report::Measured(measure), 0, text);
 }

@@ -1,20 +1,22 @@
 //! Worked turns over a link in memory.
 ghost use Rattle.std.specs.Prelude.{◌≡◌, IfOk};
 
+mod failing;
+
 use super::*;
 use byte_text::Name;
 use desk_steps::{Limits, Outcome, Point, State};
 use gcode_lines::{one_command, read_commands};
 use job_desk::{Desk, Scripts};
-use octo_outside::{CallList, NameList};
+use octo_outside::{CallList, NameList, calls_of};
 use printer_link::{FateList, MemoryLink, Schedule};
 use send_window::Sender;
-use std::alloc::Global;
+use std::alloc::{AllocError, Global};
 use std::process::Abort;
 use std::test::Fail;
 
 /// What a user asks before a turn.
-#[derive(Clone, Copy, Debug)]
+#[derive(Clone, Copy)]
 enum Ask {
     Nothing,
     Pause,
@@ -22,7 +24,7 @@ enum Ask {
 }
 
 /// What a turn returns.
-#[derive(Clone, Copy, Debug)]
+#[derive(Clone, Copy)]
 enum Gives {
     /// No note.
     Nothing,
@@ -62,39 +64,6 @@ const RESUMED: [Row; 3] = [
     (Ask::Nothing, Gives::Done),
 ];
 
-/// The call of the link that fails, and the turns up to it.
-const FAILING: [(u64, &[Row]); 4] = [
-    (1, &[(Ask::Nothing, Gives::Finds(LinkFact::Failed))]),
-    (
-        2,
-        &[
-            (Ask::Nothing, Gives::Finds(LinkFact::Opened)),
-            (Ask::Nothing, Gives::Finds(LinkFact::Failed)),
-        ],
-    ),
-    (
-        3,
-        &[
-            (Ask::Nothing, Gives::Finds(LinkFact::Opened)),
-            (Ask::Nothing, Gives::Finds(LinkFact::Failed)),
-        ],
-    ),
-    (
-        4,
-        &[
-            (Ask::Nothing, Gives::Finds(LinkFact::Opened)),
-            (Ask::Nothing, Gives::Nothing),
-            (Ask::Nothing, Gives::Finds(LinkFact::Failed)),
-        ],
-    ),
-];
-
-/// The same in the turn after the start of a print.
-const FAILING_IN_PRINT: [(u64, Row); 2] = [
-    (5, (Ask::Nothing, Gives::Breaks(&[]))),
-    (6, (Ask::Nothing, Gives::Breaks(&["M107"]))),
-];
-
 impl Gives {
     fn fact(self) -> LinkFact {
         match self {
@@ -121,75 +90,89 @@ impl Gives {
     }
 }
 
+const SCRIPTS: [(Point, &str); 4] = [
+    (Point::Started, "M107"),
+    (Point::Started, "G92 E0"),
+    (Point::Paused, "G91"),
+    (Point::Resumed, "G90"),
+];
+
+fn add(rt: &impl Abort, scripts: &mut Scripts, point: Point, text: &str) {
+    match one_command(text.as_bytes()) {
+        Ok(text) => assert!(rt; scripts.add(point, &text).is_ok()),
+        Err(_) => panic!(rt; "no command"),
+    }
+}
+
 fn scripts(rt: &impl Abort, alloc: Global) -> Scripts {
     let mut scripts = Scripts::new(alloc);
-    for (point, text) in [
-        (Point::Started, "M107"),
-        (Point::Started, "G92 E0"),
-        (Point::Paused, "G91"),
-        (Point::Resumed, "G90"),
-    ] {
-        match one_command(text.as_bytes()) {
-            Ok(text) => assert!(rt; scripts.add(point, &text).is_ok()),
-            Err(_) => panic!(rt; "no command"),
-        }
+    for (point, text) in SCRIPTS {
+        add(rt, &mut scripts, point, text);
     }
     scripts
 }
 
 /// A session with a window of one line and these scripts, at which no print was started.
-fn new_session(rt: &impl Abort, alloc: Global) -> Result<Session, Fail>
+fn new_session(alloc: Global, scripts: Scripts) -> Result<Session, AllocError>
     ensures { IfOk result (λ session. session.desk.greatest ≡ 0) }
 {
     let limits = Limits {
         tool: 250,
         bed: 100,
     };
-    let desk = Desk::new(alloc, scripts(rt, alloc), limits, 5000)?;
+    let desk = Desk::new(alloc, scripts, limits, 5000)?;
     let sender = Sender::new(alloc, 1, 30000)?;
     Ok(Session::new(desk, sender))
 }
 
-/// A link to the port p that fails at one call, or at none.
-fn link_failing(rt: &impl Abort, alloc: Global, call: Option<u64>) -> Result<MemoryLink, Fail> {
+/// The listed ports: p alone.
+fn ports(alloc: Global) -> Result<NameList, Fail> {
+    let name = Name::of("p")?;
     let mut names = NameList::new(alloc);
-    names.push(Name::from_text("p").expect(rt, "a long name"))?;
-    let mut fail_at = CallList::new(alloc);
-    if let Some(call) = call {
-        fail_at.push(call)?;
-    }
-    let link = MemoryLink::new(
-        alloc,
-        Schedule {
-            names,
-            last: 4,
-            places: 4,
-            advanced: false,
-            fates: FateList::new(alloc),
-            slow: 0,
-            fail_at,
-            restart_at: CallList::new(alloc),
-        },
-    )?;
-    Ok(link)
+    names.push(name)?;
+    Ok(names)
 }
 
-/// Connects to a port and selects a file of one command.
-fn prepare(rt: &impl Abort, alloc: Global, session: &mut Session, port: &str) -> Result<(), Fail>
+/// A link to the port p that fails at these calls.
+fn link_failing(alloc: Global, calls: &[u64]) -> Result<MemoryLink, Fail> {
+    let schedule = Schedule {
+        names: ports(alloc)?,
+        last: 4,
+        places: 4,
+        advanced: false,
+        fates: FateList::new(alloc),
+        slow: 0,
+        fail_at: calls_of(alloc, calls)?,
+        restart_at: CallList::new(alloc),
+    };
+    Ok(MemoryLink::new(alloc, schedule)?)
+}
+
+fn connect(rt: &impl Abort, session: &mut Session, port: &str)
     ensures { session.new.desk.greatest ≡ session.old.desk.greatest }
 {
+    let port = Name::from_text(port).expect(rt, "a long name");
+    assert!(rt; session.connect(&port).is_ok());
+}
+
+/// Selects a file of one command.
+fn select(rt: &impl Abort, alloc: Global, session: &mut Session) -> Result<(), Fail>
+    ensures { session.new.desk.greatest ≡ session.old.desk.greatest }
+{
+    let name = Name::of("a.gcode")?;
     let job = read_commands(alloc, b"G28\n")?;
-    assert!(rt;
-        session
-            .connect(&Name::from_text(port).expect(rt, "a long name"))
-            .is_ok()
-    );
-    assert!(rt;
-        session
-            .select(&Name::from_text("a.gcode").expect(rt, "a long name"), job)
-            .is_ok()
-    );
+    assert!(rt; session.select(&name, job).is_ok());
     Ok(())
+}
+
+/// A session that begins to connect to a port, with a file of one command selected.
+fn session_to(rt: &impl Abort, alloc: Global, port: &str) -> Result<Session, Fail>
+    ensures { IfOk result (λ session. session.desk.greatest ≡ 0) }
+{
+    let mut session = new_session(alloc, scripts(rt, alloc))?;
+    connect(rt, &mut session, port);
+    select(rt, alloc, &mut session)?;
+    Ok(session)
 }
 
 fn turn(rt: &impl Abort, session: &mut Session, link: &mut MemoryLink) -> Turned
@@ -209,30 +192,33 @@ fn make(rt: &impl Abort, session: &mut Session, ask: Ask)
     }
 }
 
-fn check_note(rt: &impl Abort, note: &Note, gives: Gives) {
-    let texts = gives.texts();
-    assert_eq!(rt; note.fact, gives.fact());
-    assert_eq!(rt; note.issued.len(), texts.len(), "{gives:?}");
-    for (issued, text) in note.issued.iter().zip(texts) {
-        assert_eq!(rt; issued.text.as_slice(), text.as_bytes(), "{gives:?}");
+fn check_texts(rt: &impl Abort, lines: &[Issued], texts: &[&str]) {
+    assert_eq!(rt; lines.len(), texts.len());
+    for (line, text) in lines.iter().zip(texts) {
+        assert_eq!(rt; line.text.as_slice(), text.as_bytes());
     }
+}
+
+fn check_note(rt: &impl Abort, note: &Note, gives: Gives) {
+    assert_eq!(rt; note.fact, gives.fact());
+    check_texts(rt, note.issued.as_slice(), gives.texts());
 }
 
 fn check(rt: &impl Abort, turned: &Turned, gives: Gives) {
     let is_silent = matches!(gives, Gives::Nothing);
-    assert_eq!(rt; turned.note.is_none(), is_silent, "{gives:?}");
+    assert_eq!(rt; turned.note.is_none(), is_silent);
     if let Some(note) = &turned.note {
         check_note(rt, note, gives);
     }
-    assert_eq!(rt; turned.ending, gives.ending(), "{gives:?}");
+    assert_eq!(rt; turned.ending, gives.ending());
 }
 
 fn take(rt: &impl Abort, session: &mut Session, link: &mut MemoryLink, row: Row)
     ensures { session.new.desk.greatest ≡ session.old.desk.greatest }
 {
-    make(rt, session, row.0);
-    let turned = turn(rt, session, link);
-    check(rt, &turned, row.1);
+    let (ask, gives) = row;
+    make(rt, session, ask);
+    check(rt, &turn(rt, session, link), gives);
 }
 
 fn take_all(rt: &impl Abort, session: &mut Session, link: &mut MemoryLink, rows: &[Row])
@@ -245,17 +231,10 @@ fn take_all(rt: &impl Abort, session: &mut Session, link: &mut MemoryLink, rows:
 
 /// A session that is ready over this link, and whose first print was started.
 fn start_session(rt: &impl Abort, alloc: Global, link: &mut MemoryLink) -> Result<Session, Fail> {
-    let mut session = new_session(rt, alloc)?;
-    prepare(rt, alloc, &mut session, "p")?;
+    let mut session = session_to(rt, alloc, "p")?;
     take_all(rt, &mut session, link, &OPENING);
     assert!(rt; session.start(1).is_ok());
     Ok(session)
-}
-
-fn check_failed(rt: &impl Abort, session: &mut Session, link: &mut MemoryLink) {
-    assert_eq!(rt; session.desk().state(), State::Fault);
-    assert!(rt; !session.up() && !link.is_up());
-    take(rt, session, link, (Ask::Nothing, Gives::Nothing));
 }
 
 fn check_ran(rt: &impl Abort, link: &MemoryLink) -> Result<(), Fail> {
@@ -268,49 +247,18 @@ fn check_ran(rt: &impl Abort, link: &MemoryLink) -> Result<(), Fail> {
     Ok(())
 }
 
+fn pauses_and_resumes(rt: &impl Abort, session: &mut Session, link: &mut MemoryLink) {
+    take_all(rt, session, link, &PAUSED);
+    assert_eq!(rt; session.desk().state(), State::Paused);
+    take_all(rt, session, link, &RESUMED);
+    assert_eq!(rt; session.desk().state(), State::Operational);
+}
+
 /// Pausing after the first line lets the Started script end, and the Paused script follow.
 #[test]
 fn pause_and_resume(rt: HostRuntime) -> Result<(), Fail> {
-    let mut link = link_failing(&rt, rt.alloc(), None)?;
+    let mut link = link_failing(rt.alloc(), &[])?;
     let mut session = start_session(&rt, rt.alloc(), &mut link)?;
-    take_all(&rt, &mut session, &mut link, &PAUSED);
-    assert_eq!(rt; session.desk().state(), State::Paused);
-    take_all(&rt, &mut session, &mut link, &RESUMED);
-    assert_eq!(rt; session.desk().state(), State::Operational);
+    pauses_and_resumes(&rt, &mut session, &mut link);
     check_ran(&rt, &link)
-}
-
-#[test]
-fn failing_calls(rt: HostRuntime) -> Result<(), Fail> {
-    for (call, rows) in FAILING {
-        let mut link = link_failing(&rt, rt.alloc(), Some(call))?;
-        let mut session = new_session(&rt, rt.alloc())?;
-        prepare(&rt, rt.alloc(), &mut session, "p")?;
-        take_all(&rt, &mut session, &mut link, rows);
-        check_failed(&rt, &mut session, &mut link);
-    }
-    Ok(())
-}
-
-#[test]
-fn failing_calls_in_a_print(rt: HostRuntime) -> Result<(), Fail> {
-    for (call, row) in FAILING_IN_PRINT {
-        let mut link = link_failing(&rt, rt.alloc(), Some(call))?;
-        let mut session = start_session(&rt, rt.alloc(), &mut link)?;
-        take(&rt, &mut session, &mut link, row);
-        check_failed(&rt, &mut session, &mut link);
-    }
-    Ok(())
-}
-
-/// No call of a session takes memory; this one makes the parts that it needs, and dials a port that isn't listed.
-#[test]
-fn ample(rt: HostRuntime) -> Result<(), Fail> {
-    let mut link = link_failing(&rt, rt.alloc(), None)?;
-    let mut session = new_session(&rt, rt.alloc())?;
-    prepare(&rt, rt.alloc(), &mut session, "q")?;
-    let row = (Ask::Nothing, Gives::Finds(LinkFact::NoPort));
-    take(&rt, &mut session, &mut link, row);
-    check_failed(&rt, &mut session, &mut link);
-    Ok(())
 }

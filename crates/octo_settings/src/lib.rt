@@ -13,6 +13,3 @@ mod values;
 pub use fault::SettingsFault;
 pub use scripts::script_key;
 pub use settings::{Settings, read_settings};
-
-#[cfg(test)]
-mod tests;

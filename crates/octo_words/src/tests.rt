@@ -1,46 +1,50 @@
 //! Command lines, each a text whose arguments are separated by spaces.
-use crate::{Command, WordsFault, read_words};
+use crate::{Command, FilePath, WordsFault, read_words};
 use octo_outside::WordList;
-use std::alloc::Global;
+use std::alloc::{AllocError, Global};
 use std::process::Abort;
 use std::test::Fail;
 
-// The command of a command line.
-fn read(alloc: Global, line: &str) -> Result<Result<Command, WordsFault>, Fail> {
+fn word_list(alloc: Global, line: &str) -> Result<WordList, AllocError> {
     let mut words = WordList::new(alloc);
     if line != "" {
         for word in line.split(' ') {
             words.push(word)?;
         }
     }
+    Ok(words)
+}
+
+// The command of a command line.
+fn read(alloc: Global, line: &str) -> Result<Result<Command, WordsFault>, Fail> {
+    let words = word_list(alloc, line)?;
     Ok(read_words(alloc, &words))
 }
 
+fn or_none(path: &Option<FilePath>) -> &str {
+    path.as_ref().map_or("none", |path| path.as_str())
+}
+
 // A command with its operands and options in the order of its row.
-fn text_of(alloc: Global, command: &Command) -> Result<String, Fail> {
-    Ok(match command {
+fn text_of(alloc: Global, command: &Command) -> Result<String, AllocError> {
+    match command {
         Command::Print {
             port,
             file,
             turns,
             settings,
-        } => {
-            let settings = settings.as_ref().map_or("none", |path| path.as_str());
-            format!(in alloc;
-                "print {} {} {turns} {settings}",
-                port.as_str(),
-                file.as_str()
-            )?
-        }
+        } => format!(in alloc;
+            "print {} {} {turns} {}",
+            port.as_str(),
+            file.as_str(),
+            or_none(settings)
+        ),
         Command::Check { file, settings } => {
-            let settings = settings.as_ref().map_or("none", |path| path.as_str());
-            format!(in alloc; "check {} {settings}", file.as_str())?
+            format!(in alloc; "check {} {}", file.as_str(), or_none(settings))
         }
-        Command::Demo { seed, commands } => format!(in alloc; "demo {seed} {commands}")?,
-        Command::Measure { file } => format!(in alloc; "measure {}", file.as_str())?,
-        Command::Rest { file, command } => {
-            format!(in alloc; "rest {} {command}", file.as_str())?
-        }
+        Command::Demo { seed, commands } => format!(in alloc; "demo {seed} {commands}"),
+        Command::Measure { file } => format!(in alloc; "measure {}", file.as_str()),
+        Command::Rest { file, command } => format!(in alloc; "rest {} {command}", file.as_str()),
         Command::Serve {
             address,
             folder,
@@ -52,20 +56,23 @@ fn text_of(alloc: Global, command: &Command) -> Result<String, Fail> {
             folder.as_str(),
             database.as_str(),
             settings.as_str()
-        )?,
-    })
+        ),
+    }
+}
+
+// The command of a command line as its text, or why there is none.
+fn found(alloc: Global, line: &str) -> Result<String, Fail> {
+    match read(alloc, line)? {
+        Ok(command) => Ok(text_of(alloc, &command)?),
+        Err(fault) => Ok(format!(in alloc; "{fault}")?),
+    }
 }
 
 // Each line is read as the command on its right.
 fn reads(rt: &impl Abort, alloc: Global, rows: &[(&str, &str)]) -> Result<(), Fail> {
     for (line, wanted) in rows {
-        match read(alloc, line)? {
-            Ok(command) => {
-                let text = text_of(alloc, &command)?;
-                assert!(rt; text.as_str() == *wanted, "{line}: {text}");
-            }
-            Err(fault) => assert!(rt; false, "{line}: {fault}"),
-        }
+        let text = found(alloc, line)?;
+        assert!(rt; text.as_str() == *wanted, "{line}: {text}");
     }
     Ok(())
 }
@@ -73,10 +80,8 @@ fn reads(rt: &impl Abort, alloc: Global, rows: &[(&str, &str)]) -> Result<(), Fa
 // Each line is no command.
 fn refuses(rt: &impl Abort, alloc: Global, lines: &[&str]) -> Result<(), Fail> {
     for line in lines {
-        assert!(rt;
-            read(alloc, line)?.is_err_and(|fault| fault == WordsFault::BadWords),
-            "{line}"
-        );
+        let fault = read(alloc, line)?.err();
+        assert!(rt; fault == Some(WordsFault::BadWords), "{line}");
     }
     Ok(())
 }
@@ -222,32 +227,39 @@ fn operands_refused(rt: HostRuntime) -> Result<(), Fail> {
     refuses(&rt, rt.alloc(), lines.as_slice())
 }
 
-// A name of 100 bytes is taken.
+// A name of 100 bytes.
+fn longest_name(alloc: Global) -> Result<String, AllocError> {
+    "0123456789".repeat(alloc, 10)
+}
+
 #[test]
-fn longest_names(rt: HostRuntime) -> Result<(), Fail> {
-    let alloc = rt.alloc();
-    let name = "0123456789".repeat(alloc, 10)?;
-    for line in [
-        format!(in alloc; "print {name} a")?,
-        format!(in alloc; "serve {name} {name} {name} --settings s")?,
-    ] {
-        assert!(rt; read(alloc, line.as_str())?.is_ok());
-    }
+fn longest_port(rt: HostRuntime) -> Result<(), Fail> {
+    let name = longest_name(rt.alloc())?;
+    let line = format!(in rt.alloc(); "print {name} a")?;
+    assert!(rt; read(rt.alloc(), line.as_str())?.is_ok());
+    Ok(())
+}
+
+#[test]
+fn longest_operands(rt: HostRuntime) -> Result<(), Fail> {
+    let name = longest_name(rt.alloc())?;
+    let line = format!(in rt.alloc(); "serve {name} {name} {name} --settings s")?;
+    assert!(rt; read(rt.alloc(), line.as_str())?.is_ok());
     Ok(())
 }
 
 // A name of 101 bytes is refused.
 #[test]
 fn longer_names(rt: HostRuntime) -> Result<(), Fail> {
-    let alloc = rt.alloc();
-    let name = "0123456789".repeat(alloc, 10)?;
-    for line in [
-        format!(in alloc; "print {name}x a")?,
-        format!(in alloc; "serve {name}x f d --settings s")?,
-        format!(in alloc; "serve a {name}x d --settings s")?,
-        format!(in alloc; "serve a f {name}x --settings s")?,
+    let name = longest_name(rt.alloc())?;
+    for (before, after) in [
+        ("print", " a"),
+        ("serve", " f d --settings s"),
+        ("serve a", " d --settings s"),
+        ("serve a f", " --settings s"),
     ] {
-        refuses(&rt, alloc, &[line.as_str()])?;
+        let line = format!(in rt.alloc(); "{before} {name}x{after}")?;
+        refuses(&rt, rt.alloc(), &[line.as_str()])?;
     }
     Ok(())
 }

@@ -1,9 +1,11 @@
 //! Calls of a link in memory, each with what its printer executed.
 use super::*;
 use byte_text::{Line, Name, ReplyLine};
-use octo_outside::{CallList, NameList, calls_of};
-use std::alloc::{AllocError, Global};
+use octo_outside::{NameList, calls_of};
+use printer_model::ExecutedLine;
+use std::alloc::Global;
 use std::process::Abort;
+use std::test::Fail;
 
 // A call of a link with what it answers.
 #[derive(Clone, Copy)]
@@ -21,67 +23,85 @@ fn make_call(rt: &impl Abort, link: &mut MemoryLink, call: Call) {
             assert!(rt; !link.is_up());
             assert!(rt; link.dial(name) == want);
         }
-        Call::Send(text, want) => {
-            let line = Line::try_from(text.as_bytes()).expect(rt, "a short line");
-            assert!(rt; link.is_up() && line.len() <= 95);
-            assert!(rt; link.send(&line) == want);
-        }
+        Call::Send(text, want) => send(rt, link, text, want),
         Call::Hear(text) => check_recv(rt, link, Heard::Line, text),
         Call::Quiet => check_recv(rt, link, Heard::Nothing, ""),
         Call::HangUp => link.hang_up(),
     }
 }
 
-fn check_recv(rt: &impl Abort, link: &mut MemoryLink, want: Heard, text: &str) {
-    let mut reply = ReplyLine::new();
-    assert!(rt; link.is_up());
-    assert!(rt; link.recv(&mut reply) == Ok(want));
-    assert_eq!(rt; reply.as_slice(), text.as_bytes());
+fn make_calls(rt: &impl Abort, link: &mut MemoryLink, calls: &[Call]) {
+    for call in calls {
+        make_call(rt, link, *call);
+    }
 }
 
-fn call_list(rt: &impl Abort, alloc: Global, calls: &[u64]) -> CallList {
-    calls_of(alloc, calls).expect(rt, "no memory")
+fn send(rt: &impl Abort, link: &mut MemoryLink, text: &str, want: Result<(), LinkFault>) {
+    assert!(rt; link.is_up());
+    let line = Line::try_from(text.as_bytes()).expect(rt, "a short line");
+    assert!(rt; line.len() <= 95 && link.send(&line) == want);
 }
+
+fn check_recv(rt: &impl Abort, link: &mut MemoryLink, want: Heard, text: &str) {
+    assert!(rt; link.is_up());
+    let mut reply = ReplyLine::new();
+    assert!(rt; link.recv(&mut reply) == Ok(want) && reply.as_slice() == text.as_bytes());
+}
+
+// The listed ports: `p` alone.
+fn ports(alloc: Global) -> Result<NameList, Fail> {
+    let name = Name::of("p")?;
+    let mut names = NameList::new(alloc);
+    names.push(name)?;
+    Ok(names)
+}
+
+// What a link does at each call.
+#[derive(Clone, Copy)]
+struct Faults {
+    fates: &'static [Fate],
+    fail_at: &'static [u64],
+    restart_at: &'static [u64],
+}
+
+const NO_FAULTS: Faults = Faults {
+    fates: &[],
+    fail_at: &[],
+    restart_at: &[],
+};
 
 // A link to one listed port `p` and a printer of 4 buffer slots, whose last number is 4 at first.
-fn memory_link(
-    rt: &impl Abort,
-    alloc: Global,
-    fates: &[Fate],
-    fail_at: &[u64],
-    restart_at: &[u64],
-) -> MemoryLink {
-    let mut list = FateList::new(alloc);
-    for fate in fates {
-        list.push(*fate).expect(rt, "memory");
-    }
-    let mut names = NameList::new(alloc);
-    let name = Name::from_text("p").expect(rt, "a short name");
-    names.push(name).expect(rt, "memory");
+fn memory_link(alloc: Global, faults: Faults) -> Result<MemoryLink, Fail> {
     let schedule = Schedule {
-        names,
+        names: ports(alloc)?,
         last: 4,
         places: 4,
         advanced: false,
-        fates: list,
+        fates: FateList::from_items(Vec::from_slice(alloc, faults.fates)?),
         slow: 0,
-        fail_at: call_list(rt, alloc, fail_at),
-        restart_at: call_list(rt, alloc, restart_at),
+        fail_at: calls_of(alloc, faults.fail_at)?,
+        restart_at: calls_of(alloc, faults.restart_at)?,
     };
-    MemoryLink::new(alloc, schedule).expect(rt, "memory")
+    Ok(MemoryLink::new(alloc, schedule)?)
+}
+
+fn check_lines(rt: &impl Abort, lines: &[ExecutedLine], wanted: &[(u32, &str)]) {
+    assert_eq!(rt; lines.len(), wanted.len());
+    for (line, (number, text)) in lines.iter().zip(wanted) {
+        assert_eq!(rt; line.number, Some(*number));
+        assert_eq!(rt; line.text.as_slice(), text.as_bytes());
+    }
 }
 
 fn check_executed(rt: &impl Abort, link: &MemoryLink, session: u32, wanted: &[(u32, &str)]) {
-    let executed = link.executed(session).expect(rt, "memory");
-    assert_eq!(rt; executed.as_slice().len(), wanted.len());
-    for (ran, want) in executed.as_slice().iter().zip(wanted) {
-        assert_eq!(rt; ran.number, Some(want.0));
-        assert_eq!(rt; ran.text.as_slice(), want.1.as_bytes());
+    match link.executed(session) {
+        Ok(executed) => check_lines(rt, executed.as_slice(), wanted),
+        Err(_) => panic!(rt; "no memory"),
     }
 }
 
 // Two commands, and one more over the second link.
-const WHOLE: [Call; 12] = [
+const WHOLE: [Call; 13] = [
     Call::Dial("q", Err(LinkFault::NoPort)),
     Call::Dial("p", Ok(())),
     Call::Send("N0 M110 N1*124", Ok(())),
@@ -94,10 +114,11 @@ const WHOLE: [Call; 12] = [
     Call::HangUp,
     Call::Dial("p", Ok(())),
     Call::Send("N4 G28*23", Ok(())),
+    Call::Hear("ok"),
 ];
 
-// The second line is corrupted, the third lost; the tenth call fails.
-const LOSSES: [Call; 10] = [
+// The second line is corrupted, the third lost; the tenth call fails. A name that isn't listed beats a failing call.
+const LOSSES: [Call; 11] = [
     Call::Dial("p", Ok(())),
     Call::Send("N0 M110 N1*124", Ok(())),
     Call::Hear("ok"),
@@ -108,6 +129,7 @@ const LOSSES: [Call; 10] = [
     Call::Send("N2 G28*17", Ok(())),
     Call::Quiet,
     Call::Send("N2 G28*17", Err(LinkFault::Failed)),
+    Call::Dial("q", Err(LinkFault::NoPort)),
 ];
 
 // The printer restarts at the third receiving, with the second command on its way.
@@ -125,53 +147,51 @@ const RESTART: [Call; 10] = [
 ];
 
 #[test]
-fn printer_restarts(rt: HostRuntime) {
-    let mut link = memory_link(&rt, rt.alloc(), &[], &[], &[3]);
-    for call in RESTART {
-        make_call(&rt, &mut link, call);
-    }
+fn printer_restarts(rt: HostRuntime) -> Result<(), Fail> {
+    let faults = Faults {
+        restart_at: &[3],
+        ..NO_FAULTS
+    };
+    let mut link = memory_link(rt.alloc(), faults)?;
+    make_calls(&rt, &mut link, &RESTART);
     check_executed(&rt, &link, 1, &[(2, "G28")]);
+    Ok(())
 }
 
 #[test]
-fn link_follows_calls(rt: HostRuntime) {
-    let mut link = memory_link(&rt, rt.alloc(), &[], &[], &[]);
-    for call in WHOLE {
-        make_call(&rt, &mut link, call);
-    }
-    make_call(&rt, &mut link, Call::Hear("ok"));
+fn link_follows_calls(rt: HostRuntime) -> Result<(), Fail> {
+    let mut link = memory_link(rt.alloc(), NO_FAULTS)?;
+    make_calls(&rt, &mut link, &WHOLE);
     check_executed(&rt, &link, 0, &[]);
     check_executed(&rt, &link, 1, &[(2, "G28"), (3, "G1 X10")]);
     check_executed(&rt, &link, 2, &[(4, "G28")]);
-    assert_eq!(&rt; link.sends(), 4);
-    assert_eq!(&rt; link.losses(), 0);
+    assert_eq!(&rt; (link.sends(), link.losses()), (4, 0));
+    Ok(())
 }
 
 #[test]
-fn link_loses_and_fails(rt: HostRuntime) {
-    let mut link = memory_link(
-        &rt,
-        rt.alloc(),
-        &[Fate::Whole, Fate::Garbled, Fate::Lost],
-        &[10, 11],
-        &[],
-    );
-    for call in LOSSES {
-        make_call(&rt, &mut link, call);
-    }
-    // A name that isn't listed beats a failing call.
-    make_call(&rt, &mut link, Call::Dial("q", Err(LinkFault::NoPort)));
+fn link_loses_and_fails(rt: HostRuntime) -> Result<(), Fail> {
+    let faults = Faults {
+        fates: &[Fate::Whole, Fate::Garbled, Fate::Lost],
+        fail_at: &[10, 11],
+        ..NO_FAULTS
+    };
+    let mut link = memory_link(rt.alloc(), faults)?;
+    make_calls(&rt, &mut link, &LOSSES);
     check_executed(&rt, &link, 1, &[]);
-    assert_eq!(&rt; link.sends(), 3);
-    assert_eq!(&rt; link.losses(), 2);
+    assert_eq!(&rt; (link.sends(), link.losses()), (3, 2));
+    Ok(())
 }
 
 // Each call that allocates; allocation succeeds.
 #[test]
-fn ample(rt: HostRuntime) {
-    let link = memory_link(&rt, rt.alloc(), &[Fate::Lost], &[2], &[1]);
-    match link.executed(1) {
-        Ok(executed) => assert_eq!(&rt; executed.as_slice().len(), 0),
-        Err(AllocError) => assert!(&rt; false, "memory"),
-    }
+fn ample(rt: HostRuntime) -> Result<(), Fail> {
+    let faults = Faults {
+        fates: &[Fate::Lost],
+        fail_at: &[2],
+        restart_at: &[1],
+    };
+    let link = memory_link(rt.alloc(), faults)?;
+    check_executed(&rt, &link, 1, &[]);
+    Ok(())
 }

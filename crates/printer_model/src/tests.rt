@@ -1,6 +1,9 @@
 //! Worlds and printers, step by step: each event with what it changes, and the replies to lines.
+ghost use Rattle.std.specs.Prelude.{◌≤◌};
+
 use super::*;
 use byte_text::{Line, ReplyLine};
+use std::alloc::Global;
 use std::process::Abort;
 
 // A line of the outside.
@@ -55,16 +58,32 @@ fn event(rt: &impl Abort, step: Step) -> WorldEvent {
     }
 }
 
+fn check_front(rt: &impl Abort, world: &World, text: &str) {
+    match world.front_reply() {
+        Some(reply) => assert_eq!(rt; reply.as_slice(), text.as_bytes()),
+        None => panic!(rt; "no reply, where {text} is due"),
+    }
+}
+
 // Does a step, which happens or does not.
 fn perform(rt: &impl Abort, world: &mut World, step: Step, happens: bool) {
     if let Step::Hear(text) = step {
-        match world.front_reply() {
-            Some(reply) => assert_eq!(rt; reply.as_slice(), text.as_bytes()),
-            None => assert!(rt; false, "no reply, where {text} is due"),
-        }
+        check_front(rt, world, text);
     }
-    let happened = world.apply(&event(rt, step)).expect(rt, "memory");
-    assert_eq!(rt; happened, happens);
+    let event = event(rt, step);
+    assert!(rt; world.apply(&event) == Ok(happens));
+}
+
+// How many lines are run in these steps, at a printer with this number of buffer slots.
+fn count_run(rt: &impl Abort, alloc: Global, places: u8, steps: &[(Step, bool)]) -> usize
+    requires some { 1 ≤ places }
+    requires few { places ≤ 16 }
+{
+    let mut world = World::new(alloc, places, false);
+    for (step, happens) in steps {
+        perform(rt, &mut world, *step, *happens);
+    }
+    world.log().len()
 }
 
 // A printer that reads a wrong number, is full, and has its line asked again.
@@ -178,89 +197,82 @@ const RESTART: [(Step, bool); 19] = [
     (Step::Hear("ok"), true),
 ];
 
+// Each event that allocates.
+const ALLOCATING: [(Step, bool); 6] = [
+    (Step::Open(0), true),
+    (Step::Send("M105"), true),
+    (Step::Arrive, true),
+    (Step::Run, true),
+    (Step::Restart, true),
+    (Step::Chat("wait"), true),
+];
+
 #[test]
 fn world_follows_steps(rt: HostRuntime) {
-    let mut world = World::new(rt.alloc(), 4, false);
-    for (step, happens) in STEPS {
-        perform(&rt, &mut world, step, happens);
-    }
-    assert_eq!(&rt; world.log().len(), 3);
+    assert_eq!(&rt; count_run(&rt, rt.alloc(), 4, &STEPS), 3);
 }
 
 #[test]
 fn world_refuses_events(rt: HostRuntime) {
-    let mut world = World::new(rt.alloc(), 4, false);
-    for (step, happens) in REFUSALS {
-        perform(&rt, &mut world, step, happens);
-    }
-    assert_eq!(&rt; world.log().len(), 0);
+    assert_eq!(&rt; count_run(&rt, rt.alloc(), 4, &REFUSALS), 0);
 }
 
 #[test]
 fn printer_restarts(rt: HostRuntime) {
-    let mut world = World::new(rt.alloc(), 4, false);
-    for (step, happens) in RESTART {
-        perform(&rt, &mut world, step, happens);
-    }
-    assert_eq!(&rt; world.log().len(), 2);
+    assert_eq!(&rt; count_run(&rt, rt.alloc(), 4, &RESTART), 2);
 }
 
-// The printer runs its two waiting lines, and replies with their numbers and its free slots.
-fn check_replies(rt: &impl Abort, printer: &mut Printer) {
-    for (number, reply) in [(1, "ok N0 P15 B0"), (2, "ok N2 P15 B1")] {
-        let ran = printer.run_one().expect(rt, "a line that waits");
-        assert_eq!(rt; ran.number, Some(number));
-        assert_eq!(rt; ran.reply.as_slice(), reply.as_bytes());
-    }
+#[test]
+fn ample(rt: HostRuntime) {
+    assert_eq!(&rt; count_run(&rt, rt.alloc(), 1, &ALLOCATING), 1);
+}
+
+// What an idle printer with two buffer slots does with these lines.
+const ARRIVALS: [(&str, Taken); 6] = [
+    (
+        "N5 G28",
+        Taken::Refused {
+            reason: Reason::NoChecksum,
+            last: 4,
+        },
+    ),
+    (
+        "N0 M110 N1*125",
+        Taken::Refused {
+            reason: Reason::Mismatch,
+            last: 4,
+        },
+    ),
+    ("N0 M110 N1*124", Taken::Accepted),
+    (
+        "N3 G28*16",
+        Taken::Refused {
+            reason: Reason::WrongNumber,
+            last: 1,
+        },
+    ),
+    ("N2 G28*17", Taken::Accepted),
+    ("N3 G28*16", Taken::Full),
+];
+
+fn arrives(rt: &impl Abort, printer: &mut Printer, text: &str, want: Taken) {
+    let bytes = text.as_bytes();
+    assert!(rt; bytes.len() <= 95);
+    assert_eq!(rt; printer.arrive(bytes), want);
+}
+
+// The printer runs its next line, and replies with the line's number and its free slots.
+fn replies(rt: &impl Abort, printer: &mut Printer, number: u32, reply: &str) {
+    let ran = printer.run_one().expect(rt, "a line that waits");
+    assert!(rt; ran.number == Some(number) && ran.reply.as_slice() == reply.as_bytes());
 }
 
 #[test]
 fn printer_answers(rt: HostRuntime) {
     let mut printer = Printer::new(4, 2, true);
-    let full = Taken::Refused {
-        reason: Reason::NoChecksum,
-        last: 4,
-    };
-    for (text, want) in [
-        ("N5 G28", full),
-        (
-            "N0 M110 N1*125",
-            Taken::Refused {
-                reason: Reason::Mismatch,
-                last: 4,
-            },
-        ),
-        ("N0 M110 N1*124", Taken::Accepted),
-        (
-            "N3 G28*16",
-            Taken::Refused {
-                reason: Reason::WrongNumber,
-                last: 1,
-            },
-        ),
-        ("N2 G28*17", Taken::Accepted),
-        ("N3 G28*16", Taken::Full),
-    ] {
-        let bytes = text.as_bytes();
-        assert!(&rt; bytes.len() <= 95);
-        assert_eq!(&rt; printer.arrive(bytes), want);
+    for (text, want) in ARRIVALS {
+        arrives(&rt, &mut printer, text, want);
     }
-    check_replies(&rt, &mut printer);
-}
-
-// Each event that allocates, if allocation succeeds, and what was run.
-#[test]
-fn ample(rt: HostRuntime) {
-    let mut world = World::new(rt.alloc(), 1, false);
-    for step in [
-        Step::Open(0),
-        Step::Send("M105"),
-        Step::Arrive,
-        Step::Run,
-        Step::Restart,
-        Step::Chat("wait"),
-    ] {
-        let happened = world.apply(&event(&rt, step));
-        assert!(&rt; happened == Ok(true));
-    }
+    replies(&rt, &mut printer, 1, "ok N0 P15 B0");
+    replies(&rt, &mut printer, 2, "ok N2 P15 B1");
 }

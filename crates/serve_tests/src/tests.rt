@@ -7,7 +7,7 @@ mod real_rests;
 mod starts;
 
 use bench::Bench;
-use doors::{end_doors, gates, reply_at, served_count, status};
+use doors::{end_doors, gates, has_served, has_status, reply_at};
 
 const VERSION: &[u8] = b"GET /api/version HTTP/1.1\r\nX-Api-Key: root-key-0123456789\r\n\r\n";
 

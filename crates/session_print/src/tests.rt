@@ -1,16 +1,17 @@
 //! Whole prints over a link in memory.
-ghost use Rattle.std.specs.Prelude.{◌≡◌, ◌≤◌, false, IfOk};
+ghost use Rattle.std.specs.Prelude.{◌≡◌, false, IfOk};
 ghost use Rattle.printer_link.specs.Memory.{link_world};
 ghost use Rattle.session_print.specs.Ends.{IsNew};
 
 mod ends;
+mod scripts;
 
 use super::*;
 use byte_text::Name;
-use desk_steps::{Limits, Point};
-use gcode_lines::{one_command, read_commands};
+use desk_steps::Limits;
+use gcode_lines::read_commands;
 use job_desk::{Desk, Scripts};
-use octo_outside::{CallList, MemoryClock, NameList};
+use octo_outside::{CallList, MemoryClock, NameList, calls_of};
 use octo_session::{Session, SessionEnd};
 use printer_link::{Fate, FateList, MemoryLink, Schedule};
 use send_window::Sender;
@@ -37,37 +38,67 @@ struct Printed {
     link: MemoryLink,
 }
 
-fn fate_list(alloc: Global, fates: &[Fate]) -> Result<FateList, AllocError> {
-    let mut list = FateList::new(alloc);
-    for fate in fates {
-        list.push(*fate)?;
-    }
-    Ok(list)
+/// What is printed, and over which link.
+#[derive(Clone, Copy)]
+struct Asked {
+    file: &'static str,
+    /// How many milliseconds each rest of the clock adds.
+    rest: u64,
+    turns: u64,
+    /// Whether port p is listed.
+    listed: bool,
+    advanced: bool,
+    fates: &'static [Fate],
+    slow: u32,
+    fails_at: Option<u64>,
+    restarts_at: Option<u64>,
 }
 
-fn call(alloc: Global, number: u64) -> Result<CallList, AllocError> {
-    let mut calls = CallList::new(alloc);
-    calls.push(number)?;
-    Ok(calls)
-}
+/// One command over a line without faults.
+const PLAIN: Asked = Asked {
+    file: "G28\n",
+    rest: 1,
+    turns: 1_000,
+    listed: true,
+    advanced: false,
+    fates: &[],
+    slow: 0,
+    fails_at: None,
+    restarts_at: None,
+};
 
-/// A link to port p of a printer with four slots, whose last line had the number 4.
-fn schedule(rt: &impl Abort, alloc: Global, fates: &[Fate]) -> Result<Schedule, AllocError>
-    ensures { IfOk result (λ schedule. schedule.places ≡ 4) }
-{
+/// The listed ports: p, or none.
+fn ports(alloc: Global, listed: bool) -> Result<NameList, Fail> {
+    let name = Name::of("p")?;
     let mut names = NameList::new(alloc);
-    names.push(Name::from_text("p").expect(rt, "a long name"))?;
-    let fates = fate_list(alloc, fates)?;
-    Ok(Schedule {
-        names,
+    if listed {
+        names.push(name)?;
+    }
+    Ok(names)
+}
+
+fn calls(alloc: Global, call: Option<u64>) -> Result<CallList, AllocError> {
+    match call {
+        Some(number) => calls_of(alloc, &[number]),
+        None => Ok(CallList::new(alloc)),
+    }
+}
+
+/// A link to a printer with four slots, whose last line had the number 4.
+fn link_of(alloc: Global, asked: &Asked) -> Result<MemoryLink, Fail>
+    ensures { IfOk result (λ link. (link_world link).linked ≡ false) }
+{
+    let schedule = Schedule {
+        names: ports(alloc, asked.listed)?,
         last: 4,
         places: 4,
-        advanced: false,
-        fates,
-        slow: 0,
-        fail_at: CallList::new(alloc),
-        restart_at: CallList::new(alloc),
-    })
+        advanced: asked.advanced,
+        fates: FateList::from_items(Vec::from_slice(alloc, asked.fates)?),
+        slow: asked.slow,
+        fail_at: calls(alloc, asked.fails_at)?,
+        restart_at: calls(alloc, asked.restarts_at)?,
+    };
+    Ok(MemoryLink::new(alloc, schedule)?)
 }
 
 fn new_session(alloc: Global, scripts: Scripts) -> Result<Session, AllocError>
@@ -82,32 +113,32 @@ fn new_session(alloc: Global, scripts: Scripts) -> Result<Session, AllocError>
     Ok(Session::new(desk, sender))
 }
 
-/// Prints a file over port p; each rest of the clock adds this number of milliseconds.
-fn print(
-    rt: &impl Abort,
+/// Prints in this session, over port p of this link.
+fn print_over(
     alloc: Global,
-    schedule: Schedule,
-    file: &str,
-    rest: u64,
-    turns: u64,
-) -> Result<Printed, Fail>
-    requires some { 1 ≤ schedule.places }
-    requires few { schedule.places ≤ 16 }
+    session: &mut Session,
+    link: &mut MemoryLink,
+    asked: &Asked,
+) -> Result<PrintEnd, Fail>
+    requires new { IsNew session.old }
+    requires down { (link_world link.old).linked ≡ false }
 {
-    let mut link = MemoryLink::new(alloc, schedule)?;
-    let mut session = new_session(alloc, Scripts::new(alloc))?;
-    let mut clock = MemoryClock::new(0, rest);
-    let job = read_commands(alloc, file.as_bytes())?;
-    let end = run_print(
-        &mut session,
-        &mut link,
-        &mut clock,
-        &Name::from_text("p").expect(rt, "a long name"),
-        &Name::from_text("a.gcode").expect(rt, "a long name"),
-        job,
-        turns,
-    );
+    let port = Name::of("p")?;
+    let name = Name::of("a.gcode")?;
+    let job = read_commands(alloc, asked.file.as_bytes())?;
+    let mut clock = MemoryClock::new(0, asked.rest);
+    Ok(run_print(session, link, &mut clock, &port, &name, job, asked.turns))
+}
+
+fn print(alloc: Global, scripts: Scripts, asked: &Asked) -> Result<Printed, Fail> {
+    let mut session = new_session(alloc, scripts)?;
+    let mut link = link_of(alloc, asked)?;
+    let end = print_over(alloc, &mut session, &mut link, asked)?;
     Ok(Printed { end, link })
+}
+
+fn print_plainly(alloc: Global, asked: &Asked) -> Result<Printed, Fail> {
+    print(alloc, Scripts::new(alloc), asked)
 }
 
 /// What the printer ran are the first of these lines. Returns how many it ran.
@@ -126,201 +157,173 @@ fn check_first(rt: &impl Abort, link: &MemoryLink, texts: &[&str]) -> usize {
 
 /// How a print ended, the number of lines sent, the hello included, and the lines that the printer ran.
 fn check(rt: &impl Abort, printed: &Printed, end: PrintEnd, sends: u64, texts: &[&str]) {
-    assert_eq!(rt; printed.end, end);
-    assert_eq!(rt; printed.link.sends(), sends);
+    assert_eq!(rt; (printed.end, printed.link.sends()), (end, sends));
     assert!(rt; !printed.link.is_up());
     assert_eq!(rt; check_first(rt, &printed.link, texts), texts.len());
+}
+
+/// The same of a print without scripts.
+fn comes_to(
+    rt: &impl Abort,
+    alloc: Global,
+    asked: Asked,
+    end: PrintEnd,
+    sends: u64,
+    texts: &[&str],
+) -> Result<(), Fail> {
+    let printed = print_plainly(alloc, &asked)?;
+    check(rt, &printed, end, sends, texts);
+    Ok(())
 }
 
 /// A line without faults; seven turns are enough.
 #[test]
 fn whole(rt: HostRuntime) -> Result<(), Fail> {
-    let schedule = schedule(&rt, rt.alloc(), &[])?;
-    let printed = print(&rt, rt.alloc(), schedule, "G28\nG1 X10\n", 1, 7)?;
-    check(&rt, &printed, PrintEnd::Done, 3, &["G28", "G1 X10"]);
-    Ok(())
+    let asked = Asked {
+        file: "G28\nG1 X10\n",
+        turns: 7,
+        ..PLAIN
+    };
+    comes_to(
+        &rt,
+        rt.alloc(),
+        asked,
+        PrintEnd::Done,
+        3,
+        &["G28", "G1 X10"],
+    )
 }
 
 /// Six turns are one too few, though all was executed.
 #[test]
 fn turns_used(rt: HostRuntime) -> Result<(), Fail> {
-    let schedule = schedule(&rt, rt.alloc(), &[])?;
-    let printed = print(&rt, rt.alloc(), schedule, "G28\nG1 X10\n", 1, 6)?;
+    let asked = Asked {
+        file: "G28\nG1 X10\n",
+        turns: 6,
+        ..PLAIN
+    };
     let end = PrintEnd::TurnsUsed { turns: 6 };
-    check(&rt, &printed, end, 3, &["G28", "G1 X10"]);
-    Ok(())
+    comes_to(&rt, rt.alloc(), asked, end, 3, &["G28", "G1 X10"])
 }
 
 /// An empty file is printed too.
 #[test]
 fn empty(rt: HostRuntime) -> Result<(), Fail> {
-    let schedule = schedule(&rt, rt.alloc(), &[])?;
-    let printed = print(&rt, rt.alloc(), schedule, "", 1, 1_000)?;
-    check(&rt, &printed, PrintEnd::Done, 1, &[]);
-    Ok(())
+    let asked = Asked { file: "", ..PLAIN };
+    comes_to(&rt, rt.alloc(), asked, PrintEnd::Done, 1, &[])
 }
 
 /// The third line is lost: the last three are sent again, in a window of four lines.
 #[test]
 fn lost(rt: HostRuntime) -> Result<(), Fail> {
-    let schedule = schedule(&rt, rt.alloc(), &[W, W, L, W])?;
-    let printed = print(&rt, rt.alloc(), schedule, FOUR_LINES, 1, 1_000)?;
-    check(&rt, &printed, PrintEnd::Done, 8, &FOUR);
-    Ok(())
+    let asked = Asked {
+        file: FOUR_LINES,
+        fates: &[W, W, L, W],
+        ..PLAIN
+    };
+    comes_to(&rt, rt.alloc(), asked, PrintEnd::Done, 8, &FOUR)
 }
 
 /// A corrupted line is sent again.
 #[test]
 fn corrupted(rt: HostRuntime) -> Result<(), Fail> {
-    let schedule = schedule(&rt, rt.alloc(), &[W, G])?;
-    let printed = print(&rt, rt.alloc(), schedule, "G28\n", 1, 1_000)?;
-    check(&rt, &printed, PrintEnd::Done, 3, &["G28"]);
-    Ok(())
+    let asked = Asked {
+        fates: &[W, G],
+        ..PLAIN
+    };
+    comes_to(&rt, rt.alloc(), asked, PrintEnd::Done, 3, &["G28"])
 }
 
 /// A corrupted hello is sent again.
 #[test]
 fn hello_corrupted(rt: HostRuntime) -> Result<(), Fail> {
-    let schedule = schedule(&rt, rt.alloc(), &[G])?;
-    let printed = print(&rt, rt.alloc(), schedule, "G28\n", 1, 1_000)?;
-    check(&rt, &printed, PrintEnd::Done, 3, &["G28"]);
-    Ok(())
+    let asked = Asked {
+        fates: &[G],
+        ..PLAIN
+    };
+    comes_to(&rt, rt.alloc(), asked, PrintEnd::Done, 3, &["G28"])
 }
 
 /// A lost hello isn't sent again: nobody answers for five limits of 30 seconds.
 #[test]
 fn hello_lost(rt: HostRuntime) -> Result<(), Fail> {
-    let schedule = schedule(&rt, rt.alloc(), &[L])?;
-    let printed = print(&rt, rt.alloc(), schedule, "G28\n", 1_000, 1_000)?;
+    let asked = Asked {
+        fates: &[L],
+        rest: 1_000,
+        ..PLAIN
+    };
     let end = PrintEnd::Ended(SessionEnd::NoAnswer { silent: 5 });
-    check(&rt, &printed, end, 1, &[]);
-    Ok(())
+    comes_to(&rt, rt.alloc(), asked, end, 1, &[])
 }
 
 /// Losses and corrupted lines at a printer that runs a line at each third receiving.
 #[test]
 fn slow_printer(rt: HostRuntime) -> Result<(), Fail> {
-    let fates = [W, W, G, L, W, W, G];
-    let schedule = Schedule {
+    let asked = Asked {
+        file: "G28\nG1 X1\nG1 X2\nG1 X3\nG1 X4\nG1 X5\n",
+        fates: &[W, W, G, L, W, W, G],
         slow: 2,
-        ..schedule(&rt, rt.alloc(), &fates)?
+        ..PLAIN
     };
-    let file = "G28\nG1 X1\nG1 X2\nG1 X3\nG1 X4\nG1 X5\n";
-    let printed = print(&rt, rt.alloc(), schedule, file, 1, 1_000)?;
     let texts = ["G28", "G1 X1", "G1 X2", "G1 X3", "G1 X4", "G1 X5"];
-    check(&rt, &printed, PrintEnd::Done, 13, &texts);
-    Ok(())
+    comes_to(&rt, rt.alloc(), asked, PrintEnd::Done, 13, &texts)
 }
 
 /// Equal lines, numbered acknowledgements.
 #[test]
 fn numbered(rt: HostRuntime) -> Result<(), Fail> {
-    let schedule = Schedule {
+    let asked = Asked {
+        file: "G1 X1\nG1 X1\nG1 X1\nG1 X1\nG1 X1\n",
         advanced: true,
-        ..schedule(&rt, rt.alloc(), &[W, L, G, L, W])?
+        fates: &[W, L, G, L, W],
+        ..PLAIN
     };
-    let file = "G1 X1\nG1 X1\nG1 X1\nG1 X1\nG1 X1\n";
-    let printed = print(&rt, rt.alloc(), schedule, file, 1, 1_000)?;
-    check(&rt, &printed, PrintEnd::Done, 10, &["G1 X1"; 5]);
-    Ok(())
+    comes_to(&rt, rt.alloc(), asked, PrintEnd::Done, 10, &["G1 X1"; 5])
 }
 
 /// The sixth call of the link fails: the one for the first line.
 #[test]
 fn failing(rt: HostRuntime) -> Result<(), Fail> {
-    let schedule = Schedule {
-        fail_at: call(rt.alloc(), 6)?,
-        ..schedule(&rt, rt.alloc(), &[])?
+    let asked = Asked {
+        fails_at: Some(6),
+        ..PLAIN
     };
-    let printed = print(&rt, rt.alloc(), schedule, "G28\n", 1, 1_000)?;
-    check(&rt, &printed, PrintEnd::LinkFailed, 1, &[]);
-    Ok(())
+    comes_to(&rt, rt.alloc(), asked, PrintEnd::LinkFailed, 1, &[])
 }
 
 /// The printer restarts after its first line.
 #[test]
 fn restarted(rt: HostRuntime) -> Result<(), Fail> {
-    let schedule = Schedule {
-        restart_at: call(rt.alloc(), 5)?,
-        ..schedule(&rt, rt.alloc(), &[])?
+    let asked = Asked {
+        file: "G28\nG1 X10\n",
+        restarts_at: Some(5),
+        ..PLAIN
     };
-    let printed = print(&rt, rt.alloc(), schedule, "G28\nG1 X10\n", 1, 1_000)?;
     let end = PrintEnd::Ended(SessionEnd::Restarted);
-    check(&rt, &printed, end, 3, &["G28"]);
-    Ok(())
+    comes_to(&rt, rt.alloc(), asked, end, 3, &["G28"])
 }
 
 /// The third line is too hot: nothing is sent.
 #[test]
 fn too_hot(rt: HostRuntime) -> Result<(), Fail> {
-    let schedule = schedule(&rt, rt.alloc(), &[])?;
-    let file = "G28\nM104 S200\nM109 R260\n";
-    let printed = print(&rt, rt.alloc(), schedule, file, 1, 1_000)?;
+    let asked = Asked {
+        file: "G28\nM104 S200\nM109 R260\n",
+        ..PLAIN
+    };
     let end = PrintEnd::TooHot {
         line: 3,
         asked: 260,
         limit: 250,
     };
-    check(&rt, &printed, end, 0, &[]);
-    Ok(())
+    comes_to(&rt, rt.alloc(), asked, end, 0, &[])
 }
 
 /// The port isn't listed.
 #[test]
 fn no_port(rt: HostRuntime) -> Result<(), Fail> {
-    let schedule = Schedule {
-        names: NameList::new(rt.alloc()),
-        ..schedule(&rt, rt.alloc(), &[])?
+    let asked = Asked {
+        listed: false,
+        ..PLAIN
     };
-    let printed = print(&rt, rt.alloc(), schedule, "G28\n", 1, 1_000)?;
-    check(&rt, &printed, PrintEnd::NoPort, 0, &[]);
-    Ok(())
-}
-
-fn script(rt: &impl Abort, scripts: &mut Scripts, point: Point, text: &str) {
-    match one_command(text.as_bytes()) {
-        Ok(text) => assert!(rt; scripts.add(point, &text).is_ok()),
-        Err(_) => panic!(rt; "no command"),
-    }
-}
-
-/// A script of one line at each point of a print.
-fn all_scripts(rt: &impl Abort, alloc: Global) -> Scripts {
-    let mut scripts = Scripts::new(alloc);
-    for (point, text) in [
-        (Point::Connected, "M155 S0"),
-        (Point::Started, "M107"),
-        (Point::Done, "M84"),
-        (Point::Disconnect, "M140 S0"),
-    ] {
-        script(rt, &mut scripts, point, text);
-    }
-    scripts
-}
-
-/// Prints one command with these scripts.
-fn print_scripted(rt: &impl Abort, alloc: Global) -> Result<Printed, Fail> {
-    let mut session = new_session(alloc, all_scripts(rt, alloc))?;
-    let mut link = MemoryLink::new(alloc, schedule(rt, alloc, &[])?)?;
-    let mut clock = MemoryClock::new(0, 1);
-    let job = read_commands(alloc, b"G28\n")?;
-    let end = run_print(
-        &mut session,
-        &mut link,
-        &mut clock,
-        &Name::from_text("p").expect(rt, "a long name"),
-        &Name::from_text("a.gcode").expect(rt, "a long name"),
-        job,
-        1_000,
-    );
-    Ok(Printed { end, link })
-}
-
-/// Each script of a print has its place.
-#[test]
-fn scripts(rt: HostRuntime) -> Result<(), Fail> {
-    let printed = print_scripted(&rt, rt.alloc())?;
-    let texts = ["M155 S0", "M107", "G28", "M84", "M140 S0"];
-    check(&rt, &printed, PrintEnd::Done, 6, &texts);
-    Ok(())
+    comes_to(&rt, rt.alloc(), asked, PrintEnd::NoPort, 0, &[])
 }

@@ -22,12 +22,26 @@ fn read(
     text: &str,
     tail: &str,
 ) -> Result<Result<Settings, SettingsFault>, Fail> {
-    let mut whole = String::from_str(alloc, head)?;
-    whole.push_str("\n")?;
-    whole.push_str(text)?;
-    whole.push_str("\n")?;
-    whole.push_str(tail)?;
+    let whole = format!(in alloc; "{head}\n{text}\n{tail}")?;
     Ok(read_settings(alloc, whole.as_bytes()))
+}
+
+/// Whether such settings are read.
+fn is_read(alloc: Global, head: &str, text: &str, tail: &str) -> Result<bool, Fail> {
+    Ok(read(alloc, head, text, tail)?.is_ok())
+}
+
+/// Whether such settings have that fault.
+fn has_fault(
+    alloc: Global,
+    head: &str,
+    text: &str,
+    tail: &str,
+    why: Why,
+    wanted: &str,
+) -> Result<bool, Fail> {
+    let fault = read(alloc, head, text, tail)?.err();
+    Ok(fault.is_some_and(|fault| is_fault(&fault, why, wanted)))
 }
 
 /// A hundred bytes.
@@ -60,11 +74,8 @@ fn faults(
     cases: &[(&str, Why, &str)],
 ) -> Result<(), Fail> {
     for (text, why, wanted) in cases {
-        let fault = read(alloc, head, text, tail)?.err();
-        assert!(rt;
-            fault.is_some_and(|fault| is_fault(&fault, *why, wanted)),
-            "{text}"
-        );
+        let has = has_fault(alloc, head, text, tail, *why, wanted)?;
+        assert!(rt; has, "{text}");
     }
     Ok(())
 }

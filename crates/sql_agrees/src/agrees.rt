@@ -6,7 +6,7 @@ use octo_keeper::{Change, Keeper, MemoryKeeper, Tables};
 use octo_outside::CallList;
 use print_records::Outcome;
 use sql_keeper::SqlKeeper;
-use sqlite::MemStore;
+use sqlite::{Alter, MemStore};
 use std::alloc::Global;
 use std::test::Fail;
 
@@ -15,6 +15,29 @@ struct Pair {
     alloc: Global,
     memory: MemoryKeeper,
     database: SqlKeeper<MemStore>,
+}
+
+fn make<K: Keeper>(alloc: Global, keeper: &mut K, change: &Change) -> Result<(), Fail> {
+    match keeper.commit(alloc, change) {
+        Ok(()) => Ok(()),
+        Err(_) => Err("refused".into()),
+    }
+}
+
+fn rows_of<K: Keeper>(alloc: Global, keeper: &mut K) -> Result<Tables, Fail> {
+    match keeper.load(alloc) {
+        Ok(tables) => Ok(tables),
+        Err(_) => Err("no rows".into()),
+    }
+}
+
+// Both hold the same rows.
+fn compare<A: Keeper, B: Keeper>(alloc: Global, one: &mut A, other: &mut B) -> Result<(), Fail> {
+    let kept = rows_of(alloc, one)?;
+    if are_same(&kept, &rows_of(alloc, other)?) {
+        return Ok(());
+    }
+    Err("the rows differ".into())
 }
 
 impl Pair {
@@ -26,22 +49,12 @@ impl Pair {
         })
     }
 
-    // Both hold the same rows.
-    fn compare(&mut self) -> Result<(), Fail> {
-        let kept = self.memory.load(self.alloc).ok().ok_or("no tables")?;
-        let loaded = self.database.load(self.alloc).ok().ok_or("no rows")?;
-        if are_same(&kept, &loaded) {
-            return Ok(());
-        }
-        Err("the rows differ".into())
-    }
-
-    // Both make the change.
+    // Both make the change, and hold the same rows after it.
     fn make(&mut self, change: &Change) -> Result<(), Fail> {
         let alloc = self.alloc;
-        self.memory.commit(alloc, change).ok().ok_or("refused")?;
-        self.database.commit(alloc, change).ok().ok_or("refused")?;
-        self.compare()
+        make(alloc, &mut self.memory, change)?;
+        make(alloc, &mut self.database, change)?;
+        compare(alloc, &mut self.memory, &mut self.database)
     }
 
     fn put_user(
@@ -161,15 +174,29 @@ fn rest(pair: &mut Pair) -> Result<(), Fail> {
     pair.end(10, Outcome::Failed)
 }
 
+fn forty_changes(pair: &mut Pair) -> Result<(), Fail> {
+    users(pair)?;
+    queue(pair)?;
+    prints(pair)?;
+    last_copies(pair)?;
+    rest(pair)
+}
+
 #[test]
 fn sql_agrees(rt: HostRuntime) -> Result<(), Fail> {
     let mut pair = Pair::new(rt.alloc())?;
-    users(&mut pair)?;
-    queue(&mut pair)?;
-    prints(&mut pair)?;
-    last_copies(&mut pair)?;
-    rest(&mut pair)?;
+    forty_changes(&mut pair)?;
     again(pair)
+}
+
+fn adopted_again<S: Alter + Drop>(
+    alloc: Global,
+    database: SqlKeeper<S>,
+) -> Result<SqlKeeper<S>, Fail> {
+    match SqlKeeper::adopt(alloc, database.into_connection()) {
+        Ok(database) => Ok(database),
+        Err(_) => Err("not adopted".into()),
+    }
 }
 
 // The rows exist after the database is adopted again.
@@ -179,14 +206,7 @@ fn again(pair: Pair) -> Result<(), Fail> {
         memory,
         database,
     } = pair;
-    let connection = database.into_connection();
-    let database = SqlKeeper::adopt(alloc, connection)
-        .ok()
-        .ok_or("not adopted")?;
-    let mut pair = Pair {
-        alloc,
-        memory,
-        database,
-    };
-    pair.compare()
+    let mut database = adopted_again(alloc, database)?;
+    let mut memory = memory;
+    compare(alloc, &mut memory, &mut database)
 }

@@ -1,6 +1,8 @@
 //! What is read of one row of each table, and the text of a user's groups.
 use byte_text::Name;
-use print_records::Outcome;
+use octo_access::UserRow;
+use print_queue::QueueEntry;
+use print_records::{Outcome, PrintRow};
 use sql_rows::{entries_of, old_entries_of, prints_of, text_of_groups, upgrade, users_of};
 use sqlite::{Connection, Row};
 use std::alloc::Global;
@@ -21,25 +23,48 @@ fn rows_of(alloc: Global, sql: &str) -> Result<Vec<Row>, Fail> {
     Ok(connection.query_all(sql, &[])?)
 }
 
+// Whether a user is ana, who is active, with a digest of ones.
+fn is_ana(user: &UserRow) -> bool {
+    user.name.as_str() == "ana" && user.digest == [1; 32] && user.active
+}
+
 #[test]
 fn ample_users(rt: HostRuntime) -> Result<(), Fail> {
     let alloc = rt.alloc();
     let rows = rows_of(alloc, USER)?;
     let users = users_of(alloc, rows.as_slice()).ok().ok_or("no users")?;
-    let [ana] = users.as_slice() else {
+    let [user] = users.as_slice() else {
         return Err("not one user".into());
     };
-    assert_eq!(rt;
-        (ana.name.as_str(), ana.digest, ana.active),
-        ("ana", [1; 32], true)
-    );
-    assert_eq!(rt;
-        text_of_groups(alloc, ana.groups.as_slice())?.as_str(),
-        "users"
-    );
-    let two = [Name::of("users")?, Name::of("operators")?];
-    assert_eq!(rt; text_of_groups(alloc, &two)?.as_str(), "users operators");
+    assert!(rt; is_ana(user));
+    let text = text_of_groups(alloc, user.groups.as_slice())?;
+    assert_eq!(rt; text.as_str(), "users");
     Ok(())
+}
+
+#[test]
+fn ample_groups(rt: HostRuntime) -> Result<(), Fail> {
+    let two = [Name::of("users")?, Name::of("operators")?];
+    let text = text_of_groups(rt.alloc(), &two)?;
+    assert_eq!(rt; text.as_str(), "users operators");
+    Ok(())
+}
+
+// Whether there is one entry: ana's of this many copies and material, of which one copy is left.
+fn is_entry(entries: &[QueueEntry], copies: u8, material: &str) -> bool {
+    match entries {
+        [entry] => is_job(entry) && entry.copies == copies && entry.material.as_str() == material,
+        _ => false,
+    }
+}
+
+fn is_job(entry: &QueueEntry) -> bool {
+    entry.user.as_str() == "ana"
+        && entry.name.as_str() == "job-1"
+        && entry.file.as_str() == "a.gcode"
+        && entry.priority == 5
+        && entry.arrival == 3
+        && entry.left == 1
 }
 
 #[test]
@@ -47,20 +72,22 @@ fn ample_entries(rt: HostRuntime) -> Result<(), Fail> {
     let alloc = rt.alloc();
     let rows = rows_of(alloc, ENTRY)?;
     let entries = entries_of(alloc, rows.as_slice()).ok().ok_or("no entries")?;
-    let [entry] = entries.as_slice() else {
-        return Err("not one entry".into());
-    };
-    assert_eq!(rt;
-        (entry.user.as_str(), entry.name.as_str()),
-        ("ana", "job-1")
-    );
-    assert_eq!(rt;
-        (entry.file.as_str(), entry.material.as_str()),
-        ("a.gcode", "PLA")
-    );
-    assert_eq!(rt; (entry.priority, entry.arrival), (5, 3));
-    assert_eq!(rt; (entry.copies, entry.left), (2, 1));
+    assert!(rt; is_entry(entries.as_slice(), 2, "PLA"));
     Ok(())
+}
+
+// Whether there is one print: ana's of number 7 with 218 commands, which was cancelled.
+fn is_print(prints: &[PrintRow]) -> bool {
+    match prints {
+        [print] => {
+            print.user.as_str() == "ana"
+                && print.file.as_str() == "a.gcode"
+                && print.number == 7
+                && print.commands == 218
+                && print.outcome == Outcome::Cancelled
+        }
+        _ => false,
+    }
 }
 
 #[test]
@@ -68,15 +95,7 @@ fn ample_prints(rt: HostRuntime) -> Result<(), Fail> {
     let alloc = rt.alloc();
     let rows = rows_of(alloc, PRINT)?;
     let prints = prints_of(alloc, rows.as_slice()).ok().ok_or("no prints")?;
-    let [print] = prints.as_slice() else {
-        return Err("not one print".into());
-    };
-    assert_eq!(rt;
-        (print.user.as_str(), print.file.as_str()),
-        ("ana", "a.gcode")
-    );
-    assert_eq!(rt; (print.number, print.commands), (7, 218));
-    assert!(rt; print.outcome == Outcome::Cancelled);
+    assert!(rt; is_print(prints.as_slice()));
     Ok(())
 }
 
@@ -88,18 +107,6 @@ fn ample_upgrade(rt: HostRuntime) -> Result<(), Fail> {
         .ok()
         .ok_or("no old entries")?;
     let entries = upgrade(alloc, old.as_slice())?;
-    let [entry] = entries.as_slice() else {
-        return Err("not one entry".into());
-    };
-    assert_eq!(rt;
-        (entry.user.as_str(), entry.name.as_str()),
-        ("ana", "job-1")
-    );
-    assert_eq!(rt;
-        (entry.file.as_str(), entry.material.as_str()),
-        ("a.gcode", "any")
-    );
-    assert_eq!(rt; (entry.priority, entry.arrival), (5, 3));
-    assert_eq!(rt; (entry.copies, entry.left), (1, 1));
+    assert!(rt; is_entry(entries.as_slice(), 1, "any"));
     Ok(())
 }

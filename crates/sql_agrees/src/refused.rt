@@ -1,5 +1,6 @@
 //! Databases of other schemas, and rows that don't fit.
 use octo_keeper::{Keeper, KeeperFault};
+use print_queue::QueueEntry;
 use sql_keeper::{NotAdopted, SqlKeeper};
 use sqlite::{Alter, Connection, Error, MemStore};
 use std::alloc::Global;
@@ -23,6 +24,13 @@ fn run<S: Alter>(connection: &mut Connection<S>, sql: &str) -> Result<(), Error>
     connection.execute_batch(sql)
 }
 
+fn run_all<S: Alter>(connection: &mut Connection<S>, texts: &[&str]) -> Result<(), Error> {
+    for sql in texts {
+        run(connection, sql)?;
+    }
+    Ok(())
+}
+
 fn number<S: Alter>(connection: &mut Connection<S>, sql: &str) -> Result<i64, Error> {
     connection.query_row(sql, &[])?.get(0)
 }
@@ -30,9 +38,7 @@ fn number<S: Alter>(connection: &mut Connection<S>, sql: &str) -> Result<i64, Er
 // A database of the schema before with two entries.
 fn old_database(alloc: Global) -> Result<Connection<MemStore>, Fail> {
     let mut connection = Connection::open_in_memory(alloc)?;
-    for sql in [META, USERS, QUEUE, PRINTS, ROWS] {
-        run(&mut connection, sql)?;
-    }
+    run_all(&mut connection, &[META, USERS, QUEUE, PRINTS, ROWS])?;
     Ok(connection)
 }
 
@@ -50,53 +56,99 @@ fn fail_to_adopt<S: Alter + Drop>(
     }
 }
 
+// A keeper over a database of the schema before.
+fn upgraded(alloc: Global) -> Result<SqlKeeper<MemStore>, Fail> {
+    match SqlKeeper::adopt(alloc, old_database(alloc)?) {
+        Ok(keeper) => Ok(keeper),
+        Err(_) => Err("not adopted".into()),
+    }
+}
+
+// Whether these are the two entries, each with one copy, in the order of printing.
+fn are_both(entries: &[QueueEntry]) -> bool {
+    match entries {
+        [first, second] => {
+            first.file.as_str() == "b.gcode"
+                && (first.copies, first.left, first.arrival) == (1, 1, 1)
+                && second.material.as_str() == "any"
+                && second.arrival == 3
+        }
+        _ => false,
+    }
+}
+
 #[test]
 fn an_old_queue_is_upgraded(rt: HostRuntime) -> Result<(), Fail> {
-    let alloc = rt.alloc();
-    let adopted = SqlKeeper::adopt(alloc, old_database(alloc)?);
-    let mut keeper = adopted.ok().ok_or("not adopted")?;
-    let tables = keeper.load(alloc).ok().ok_or("no tables")?;
-    let [first, second] = tables.queue.as_slice() else {
-        return Err("not two entries".into());
-    };
-    assert_eq!(rt; first.file.as_str(), "b.gcode");
-    assert_eq!(rt; (first.copies, first.left, first.arrival), (1, 1, 1));
-    assert_eq!(rt; second.material.as_str(), "any");
-    assert_eq!(rt; second.arrival, 3);
-    let mut connection = keeper.into_connection();
-    assert_eq!(rt; number(&mut connection, "SELECT schema FROM meta")?, 2);
+    let mut keeper = upgraded(rt.alloc())?;
+    let tables = keeper.load(rt.alloc()).ok().ok_or("no tables")?;
+    assert!(rt; are_both(tables.queue.as_slice()));
+    Ok(())
+}
+
+// The schema is the next, without the table of the one before.
+#[test]
+fn an_old_schema_is_upgraded(rt: HostRuntime) -> Result<(), Fail> {
+    let mut connection = upgraded(rt.alloc())?.into_connection();
+    assert_eq!(rt; number(&mut connection, "SELECT schema FROM meta"), Ok(2));
     assert!(rt; run(&mut connection, "SELECT 1 FROM queue").is_err());
     Ok(())
 }
 
-// A row that doesn't fit: nothing is upgraded.
-#[test]
-fn an_old_row_out_of_range(rt: HostRuntime) -> Result<(), Fail> {
-    let alloc = rt.alloc();
+// A database of the schema before that wasn't adopted, since a row doesn't fit.
+fn out_of_range(alloc: Global) -> Result<Connection<MemStore>, Fail> {
     let mut database = old_database(alloc)?;
     run(
         &mut database,
         "UPDATE queue SET priority = 256 WHERE arrival = 3",
     )?;
-    let mut connection = fail_to_adopt(alloc, database)?;
-    assert_eq!(rt; number(&mut connection, "SELECT schema FROM meta")?, 1);
-    assert_eq!(rt; number(&mut connection, "SELECT count(*) FROM queue")?, 2);
+    fail_to_adopt(alloc, database)
+}
+
+// A row that doesn't fit: nothing is upgraded.
+#[test]
+fn an_old_row_out_of_range(rt: HostRuntime) -> Result<(), Fail> {
+    let mut connection = out_of_range(rt.alloc())?;
+    assert_eq!(rt; number(&mut connection, "SELECT schema FROM meta"), Ok(1));
+    assert_eq!(rt;
+        number(&mut connection, "SELECT count(*) FROM queue"),
+        Ok(2)
+    );
+    Ok(())
+}
+
+// Once the row fits, the database is adopted.
+#[test]
+fn an_old_row_mended(rt: HostRuntime) -> Result<(), Fail> {
+    let mut connection = out_of_range(rt.alloc())?;
     run(
         &mut connection,
         "UPDATE queue SET priority = 100 WHERE arrival = 3",
     )?;
-    assert!(rt; SqlKeeper::adopt(alloc, connection).is_ok());
+    assert!(rt; SqlKeeper::adopt(rt.alloc(), connection).is_ok());
     Ok(())
+}
+
+// A database of schema 3 that wasn't adopted.
+fn of_another_schema(alloc: Global) -> Result<Connection<MemStore>, Fail> {
+    let mut database = old_database(alloc)?;
+    run(&mut database, "UPDATE meta SET schema = 3")?;
+    fail_to_adopt(alloc, database)
 }
 
 #[test]
 fn another_schema_is_refused(rt: HostRuntime) -> Result<(), Fail> {
-    let alloc = rt.alloc();
-    let mut database = old_database(alloc)?;
-    run(&mut database, "UPDATE meta SET schema = 3")?;
-    let mut connection = fail_to_adopt(alloc, database)?;
-    assert_eq!(rt; number(&mut connection, "SELECT schema FROM meta")?, 3);
-    run(&mut connection, "BEGIN")?;
-    let _ = fail_to_adopt(alloc, connection)?;
+    let mut connection = of_another_schema(rt.alloc())?;
+    assert_eq!(rt; number(&mut connection, "SELECT schema FROM meta"), Ok(3));
+    Ok(())
+}
+
+// A database of the schema before is refused as long as a transaction is open.
+#[test]
+fn an_open_transaction_is_refused(rt: HostRuntime) -> Result<(), Fail> {
+    let mut database = old_database(rt.alloc())?;
+    run(&mut database, "BEGIN")?;
+    let mut connection = fail_to_adopt(rt.alloc(), database)?;
+    run(&mut connection, "ROLLBACK")?;
+    assert!(rt; SqlKeeper::adopt(rt.alloc(), connection).is_ok());
     Ok(())
 }

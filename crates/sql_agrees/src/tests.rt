@@ -1,6 +1,7 @@
 //! One change, and what is refused.
 use crate::rows::user;
-use octo_keeper::{Change, Keeper, KeeperFault};
+use byte_text::Name;
+use octo_keeper::{Change, Keeper, KeeperFault, Tables};
 use sql_keeper::SqlKeeper;
 use sqlite::{Connection, MemStore};
 use std::alloc::Global;
@@ -16,14 +17,42 @@ pub fn empty_keeper(alloc: Global) -> Result<SqlKeeper<MemStore>, Fail> {
     )
 }
 
+// ana, in two groups.
+fn change() -> Result<Change, Fail> {
+    Ok(Change::PutUser(user("ana", 1, &["users", "operators"], true)?))
+}
+
 #[test]
 fn ample(rt: HostRuntime) -> Result<(), Fail> {
-    let alloc = rt.alloc();
+    let change = change()?;
+    let mut keeper = empty_keeper(rt.alloc())?;
+    assert_eq!(rt; keeper.commit(rt.alloc(), &change), Ok(()));
+    assert_eq!(rt;
+        keeper.commit(rt.alloc(), &change),
+        Err(KeeperFault::Failed)
+    );
+    Ok(())
+}
+
+// What is loaded after a change.
+fn tables_after(alloc: Global, change: &Change) -> Result<Tables, Fail> {
     let mut keeper = empty_keeper(alloc)?;
-    let change = Change::PutUser(user("ana", 1, &["users", "operators"], true)?);
-    assert_eq!(rt; keeper.commit(alloc, &change), Ok(()));
-    assert_eq!(rt; keeper.commit(alloc, &change), Err(KeeperFault::Failed));
-    let tables = keeper.load(alloc).ok().ok_or("no tables")?;
+    if keeper.commit(alloc, change).is_err() {
+        return Err("refused".into());
+    }
+    Ok(keeper.load(alloc).ok().ok_or("no tables")?)
+}
+
+fn are_users_and_operators(groups: &[Name]) -> bool {
+    match groups {
+        [first, second] => first.as_str() == "users" && second.as_str() == "operators",
+        _ => false,
+    }
+}
+
+#[test]
+fn ample_tables(rt: HostRuntime) -> Result<(), Fail> {
+    let tables = tables_after(rt.alloc(), &change()?)?;
     let [ana] = tables.users.as_slice() else {
         return Err("not one user".into());
     };
@@ -31,9 +60,6 @@ fn ample(rt: HostRuntime) -> Result<(), Fail> {
         (ana.name.as_str(), ana.digest, ana.active),
         ("ana", [1; 32], true)
     );
-    let [first, second] = ana.groups.as_slice() else {
-        return Err("not two groups".into());
-    };
-    assert_eq!(rt; (first.as_str(), second.as_str()), ("users", "operators"));
+    assert!(rt; are_users_and_operators(ana.groups.as_slice()));
     Ok(())
 }

@@ -1,22 +1,16 @@
-//! Disks in memory that stop after a number of calls.
+//! Disks in memory that stop after a number of calls, and databases on them.
 use octo_keeper::{Keeper, Tables};
 use sql_keeper::SqlKeeper;
-use sqlite::{Connection, FileStore, Files, Options};
+use sqlite::{Alter, Connection, FileStore, Files, Options};
 use sqlite_disk::{Crash, Disk, Fuse, Memory};
 use std::alloc::Global;
 use std::test::Fail;
-
-/// A disk in memory that stops after its last call.
-pub type Stopping = Fuse<Memory>;
-
-/// A database on such disks.
-pub type Database = Connection<FileStore<Stopping>>;
 
 /// More calls than a test makes.
 const ALL: u64 = 1_000_000;
 
 /// An empty file and its log, one of which stops after this number of calls.
-pub fn files(alloc: Global, log_stops: bool, calls: u64) -> Files<Stopping> {
+pub fn files(alloc: Global, log_stops: bool, calls: u64) -> Files<Fuse<Memory>> {
     let (log, db) = if log_stops {
         (calls, ALL)
     } else {
@@ -29,7 +23,10 @@ pub fn files(alloc: Global, log_stops: bool, calls: u64) -> Files<Stopping> {
 }
 
 /// Opens the database; if a disk stops, the files are handed back.
-pub fn open(alloc: Global, files: Files<Stopping>) -> Result<Database, Files<Stopping>> {
+pub fn open<D: Disk + Drop>(
+    alloc: Global,
+    files: Files<D>,
+) -> Result<Connection<FileStore<D>>, Files<D>> {
     if !files.may_be_used() {
         return Err(files);
     }
@@ -40,12 +37,15 @@ pub fn open(alloc: Global, files: Files<Stopping>) -> Result<Database, Files<Sto
 }
 
 /// The files as the machine finds them after it stopped.
-pub fn files_after_stop(database: Database) -> Files<Stopping> {
+pub fn files_after_stop<D: Disk + Drop>(database: Connection<FileStore<D>>) -> Files<D> {
     database.into_store().close()
 }
 
 /// Opens the database after a stop, with disks that go on.
-pub fn open_again(alloc: Global, stopped: Files<Stopping>) -> Result<Database, Fail> {
+pub fn open_again<D: Crash + Drop>(
+    alloc: Global,
+    stopped: Files<D>,
+) -> Result<Connection<FileStore<D>>, Fail> {
     let mut files = stopped;
     files.log.crash();
     files.db.crash();
@@ -56,14 +56,14 @@ pub fn open_again(alloc: Global, stopped: Files<Stopping>) -> Result<Database, F
 }
 
 /// The tables of a database that is adopted again.
-pub fn tables_of(alloc: Global, database: Database) -> Result<Tables, Fail> {
+pub fn tables_of<S: Alter + Drop>(alloc: Global, database: Connection<S>) -> Result<Tables, Fail> {
     match SqlKeeper::adopt(alloc, database) {
         Ok(keeper) => load(alloc, keeper),
         Err(_) => Err("not adopted again".into()),
     }
 }
 
-fn load(alloc: Global, keeper: SqlKeeper<FileStore<Stopping>>) -> Result<Tables, Fail> {
+fn load<K: Keeper + Drop>(alloc: Global, keeper: K) -> Result<Tables, Fail> {
     let mut keeper = keeper;
     match keeper.load(alloc) {
         Ok(tables) => Ok(tables),

@@ -1,11 +1,12 @@
 //! A print that begins with a copy of an entry, on a disk that stops.
-use crate::disks::{Database, Stopping, files, files_after_stop, open, open_again, tables_of};
+use crate::disks::{files, files_after_stop, open, open_again, tables_of};
 use byte_text::Name;
 use octo_keeper::{Change, Keeper, Tables};
 use print_queue::QueueEntry;
 use print_records::{Outcome, PrintRow};
 use sql_keeper::SqlKeeper;
-use sqlite::{Alter, Files};
+use sqlite::{Connection, FileStore, Files};
+use sqlite_disk::{Crash, Disk};
 use std::alloc::Global;
 use std::test::Fail;
 
@@ -36,46 +37,45 @@ fn begin() -> Result<Change, Fail> {
     })
 }
 
-// How many of the two changes were made.
-fn make<S: Alter + Drop>(alloc: Global, keeper: &mut SqlKeeper<S>) -> Result<u8, Fail> {
-    if keeper.commit(alloc, &Change::PutEntry(entry()?)).is_err() {
-        return Ok(0);
-    }
-    if keeper.commit(alloc, &begin()?).is_err() {
-        return Ok(1);
-    }
-    Ok(2)
-}
-
-// A run, and how many of the two changes it made.
-#[derive(Drop)]
-struct Run {
-    made: u8,
-    files: Files<Stopping>,
-}
-
-fn stopped_run(alloc: Global, log_stops: bool, calls: u64) -> Result<Run, Fail> {
-    match open(alloc, files(alloc, log_stops, calls)) {
-        Ok(database) => made(alloc, database),
-        Err(files) => Ok(Run { made: 0, files }),
-    }
-}
-
-fn made(alloc: Global, database: Database) -> Result<Run, Fail> {
-    let mut keeper = match SqlKeeper::adopt(alloc, database) {
-        Ok(keeper) => keeper,
-        Err(refused) => {
-            return Ok(Run {
-                made: 0,
-                files: files_after_stop(refused.connection),
-            });
+// How many of the changes are made before one fails.
+fn make<K: Keeper>(alloc: Global, keeper: &mut K, changes: &[Change]) -> u8 {
+    let mut made: u8 = 0;
+    for change in changes {
+        if keeper.commit(alloc, change).is_err() {
+            return made;
         }
-    };
-    let made = make(alloc, &mut keeper)?;
-    Ok(Run {
-        made,
-        files: files_after_stop(keeper.into_connection()),
-    })
+        made = made.saturating_add(1);
+    }
+    made
+}
+
+// How many of the changes a run makes, and the files after it.
+fn run<D: Disk + Drop>(alloc: Global, files: Files<D>, changes: &[Change]) -> (u8, Files<D>) {
+    match open(alloc, files) {
+        Ok(database) => run_over(alloc, database, changes),
+        Err(files) => (0, files),
+    }
+}
+
+fn run_over<D: Disk + Drop>(
+    alloc: Global,
+    database: Connection<FileStore<D>>,
+    changes: &[Change],
+) -> (u8, Files<D>) {
+    match SqlKeeper::adopt(alloc, database) {
+        Ok(keeper) => run_with(alloc, keeper, changes),
+        Err(refused) => (0, files_after_stop(refused.connection)),
+    }
+}
+
+fn run_with<D: Disk + Drop>(
+    alloc: Global,
+    keeper: SqlKeeper<FileStore<D>>,
+    changes: &[Change],
+) -> (u8, Files<D>) {
+    let mut keeper = keeper;
+    let made = make(alloc, &mut keeper, changes);
+    (made, files_after_stop(keeper.into_connection()))
 }
 
 // How many of the two changes the rows show; 9 if they show a part of one.
@@ -88,12 +88,21 @@ fn changes_in(tables: &Tables) -> u8 {
     }
 }
 
+// How many of the two changes a run makes, and how many the rows show after it.
+fn made_and_shown<D: Crash + Drop>(
+    alloc: Global,
+    files: Files<D>,
+    changes: &[Change],
+) -> Result<(u8, u8), Fail> {
+    let (made, files) = run(alloc, files, changes);
+    let tables = tables_of(alloc, open_again(alloc, files)?)?;
+    Ok((made, changes_in(&tables)))
+}
+
 // The rows are those before the change that was stopped, or those after it.
-fn stop_at_each_call(alloc: Global, log_stops: bool) -> Result<(), Fail> {
+fn stop_at_each_call(alloc: Global, log_stops: bool, changes: &[Change]) -> Result<(), Fail> {
     for calls in 0..200 {
-        let Run { made, files } = stopped_run(alloc, log_stops, calls)?;
-        let tables = tables_of(alloc, open_again(alloc, files)?)?;
-        let shown = changes_in(&tables);
+        let (made, shown) = made_and_shown(alloc, files(alloc, log_stops, calls), changes)?;
         if shown < made || made.saturating_add(1) < shown {
             return Err("a change is lost or kept by half".into());
         }
@@ -106,10 +115,10 @@ fn stop_at_each_call(alloc: Global, log_stops: bool) -> Result<(), Fail> {
 
 #[test]
 fn the_log_stops(rt: HostRuntime) -> Result<(), Fail> {
-    stop_at_each_call(rt.alloc(), true)
+    stop_at_each_call(rt.alloc(), true, &[Change::PutEntry(entry()?), begin()?])
 }
 
 #[test]
 fn the_file_stops(rt: HostRuntime) -> Result<(), Fail> {
-    stop_at_each_call(rt.alloc(), false)
+    stop_at_each_call(rt.alloc(), false, &[Change::PutEntry(entry()?), begin()?])
 }

@@ -1,9 +1,10 @@
 //! A database of the schema before, whose disk stops while it is adopted.
-use crate::disks::{Database, Stopping, files, files_after_stop, open, open_again, tables_of};
+use crate::disks::{files, files_after_stop, open, open_again, tables_of};
 use octo_keeper::Tables;
 use print_queue::QueueEntry;
 use sql_keeper::SqlKeeper;
-use sqlite::{Alter, Connection, Error, Files};
+use sqlite::{Alter, Connection, Error, FileStore, Files};
+use sqlite_disk::{Crash, Disk};
 use std::alloc::Global;
 use std::test::Fail;
 
@@ -18,49 +19,38 @@ fn number<S: Alter>(database: &mut Connection<S>, sql: &str) -> Result<i64, Erro
     database.query_row(sql, &[])?.get(0)
 }
 
-// What became of a run: whether the rows of the schema before were written, and whether they were adopted.
-#[derive(Drop)]
-struct Run {
-    is_written: bool,
-    is_adopted: bool,
-    files: Files<Stopping>,
+// How far a run comes before its disk stops.
+#[derive(Clone, Copy, PartialEq, Eq)]
+enum Reached {
+    Nothing,
+    // The rows of the schema before are written.
+    Written,
+    Adopted,
 }
 
-fn stopped_run(alloc: Global, log_stops: bool, calls: u64) -> Run {
-    match open(alloc, files(alloc, log_stops, calls)) {
+// How far a run comes, and the files after it.
+fn run<D: Disk + Drop>(alloc: Global, files: Files<D>) -> (Reached, Files<D>) {
+    match open(alloc, files) {
         Ok(database) => write_then_adopt(alloc, database),
-        Err(files) => Run {
-            is_written: false,
-            is_adopted: false,
-            files,
-        },
+        Err(files) => (Reached::Nothing, files),
     }
 }
 
-fn write_then_adopt(alloc: Global, database: Database) -> Run {
+fn write_then_adopt<D: Disk + Drop>(
+    alloc: Global,
+    database: Connection<FileStore<D>>,
+) -> (Reached, Files<D>) {
     let mut database = database;
     if batch(&mut database, BEFORE) {
-        return adopt_written(alloc, database);
+        return adopt(alloc, database);
     }
-    Run {
-        is_written: false,
-        is_adopted: false,
-        files: files_after_stop(database),
-    }
+    (Reached::Nothing, files_after_stop(database))
 }
 
-fn adopt_written(alloc: Global, database: Database) -> Run {
+fn adopt<D: Disk + Drop>(alloc: Global, database: Connection<FileStore<D>>) -> (Reached, Files<D>) {
     match SqlKeeper::adopt(alloc, database) {
-        Ok(keeper) => Run {
-            is_written: true,
-            is_adopted: true,
-            files: files_after_stop(keeper.into_connection()),
-        },
-        Err(refused) => Run {
-            is_written: true,
-            is_adopted: false,
-            files: files_after_stop(refused.connection),
-        },
+        Ok(keeper) => (Reached::Adopted, files_after_stop(keeper.into_connection())),
+        Err(refused) => (Reached::Written, files_after_stop(refused.connection)),
     }
 }
 
@@ -94,32 +84,36 @@ fn has_both<S: Alter>(database: &mut Connection<S>, is_adopted: bool) -> Result<
     }
 }
 
-fn look(alloc: Global, run: Run) -> Result<(), Fail> {
-    let Run {
-        is_written,
-        is_adopted,
-        files,
-    } = run;
-    let mut database = open_again(alloc, files)?;
-    if !is_written {
-        return Ok(());
-    }
+// A database that has both rows, adopted again.
+fn look_at_rows<S: Alter + Drop>(
+    alloc: Global,
+    database: Connection<S>,
+    is_adopted: bool,
+) -> Result<(), Fail> {
+    let mut database = database;
     if !has_both(&mut database, is_adopted)? {
         return Err("rows are lost".into());
     }
-    if !are_both_upgraded(&tables_of(alloc, database)?) {
-        return Err("rows are changed".into());
+    if are_both_upgraded(&tables_of(alloc, database)?) {
+        return Ok(());
     }
-    Ok(())
+    Err("rows are changed".into())
+}
+
+// How far a run comes, whose database is opened and looked at after it.
+fn look_after_run<D: Crash + Drop>(alloc: Global, files: Files<D>) -> Result<Reached, Fail> {
+    let (reached, files) = run(alloc, files);
+    let database = open_again(alloc, files)?;
+    if reached != Reached::Nothing {
+        look_at_rows(alloc, database, reached == Reached::Adopted)?;
+    }
+    Ok(reached)
 }
 
 // The disk stops at each call, until a run ends without a stop.
 fn stop_at_each_call(alloc: Global, log_stops: bool) -> Result<(), Fail> {
     for calls in 0..200 {
-        let run = stopped_run(alloc, log_stops, calls);
-        let is_adopted = run.is_adopted;
-        look(alloc, run)?;
-        if is_adopted {
+        if look_after_run(alloc, files(alloc, log_stops, calls))? == Reached::Adopted {
             return Ok(());
         }
     }

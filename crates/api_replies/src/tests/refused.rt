@@ -4,117 +4,119 @@ use super::*;
 #[test]
 fn refusals(rt: HostRuntime) -> Result<(), Fail> {
     let alloc = rt.alloc();
-    for (answer, status, body) in [
-        (
-            Answer::Denied { permission: None },
-            403,
-            "{\"error\":\"Denied\",\"permission\":\"KEY\"}",
-        ),
-        (
-            Answer::Denied {
-                permission: Some(Permission::Print),
-            },
-            403,
-            "{\"error\":\"Denied\",\"permission\":\"PRINT\"}",
-        ),
-        (
-            Answer::BadGroup {
-                group: Name::of("nogroup")?,
-            },
-            400,
-            "{\"error\":\"BadGroup\",\"group\":\"nogroup\"}",
-        ),
-        (
-            Answer::KeyTaken {
-                name: Name::of("eve")?,
-            },
-            409,
-            "{\"error\":\"KeyTaken\",\"name\":\"eve\"}",
-        ),
-    ] {
-        shows(&rt, alloc, answer, status, body)?;
-    }
-    Ok(())
+    shows(
+        &rt,
+        alloc,
+        Answer::Denied { permission: None },
+        403,
+        "{\"error\":\"Denied\",\"permission\":\"KEY\"}",
+    )?;
+    shows(
+        &rt,
+        alloc,
+        Answer::Denied {
+            permission: Some(Permission::Print),
+        },
+        403,
+        "{\"error\":\"Denied\",\"permission\":\"PRINT\"}",
+    )?;
+    shows(
+        &rt,
+        alloc,
+        Answer::BadGroup {
+            group: Name::of("nogroup")?,
+        },
+        400,
+        "{\"error\":\"BadGroup\",\"group\":\"nogroup\"}",
+    )?;
+    shows(
+        &rt,
+        alloc,
+        Answer::KeyTaken {
+            name: Name::of("eve")?,
+        },
+        409,
+        "{\"error\":\"KeyTaken\",\"name\":\"eve\"}",
+    )
 }
 
 #[test]
 fn states_and_counts(rt: HostRuntime) -> Result<(), Fail> {
     let alloc = rt.alloc();
-    for (answer, status, body) in [
-        (
-            Answer::WrongState {
-                state: State::Printing,
-            },
-            409,
-            "{\"error\":\"WrongState\",\"state\":\"Printing\"}",
-        ),
-        (
-            Answer::Full { count: 64 },
-            409,
-            "{\"count\":64,\"error\":\"Full\"}",
-        ),
-    ] {
-        shows(&rt, alloc, answer, status, body)?;
-    }
-    Ok(())
+    shows(
+        &rt,
+        alloc,
+        Answer::WrongState {
+            state: State::Printing,
+        },
+        409,
+        "{\"error\":\"WrongState\",\"state\":\"Printing\"}",
+    )?;
+    shows(
+        &rt,
+        alloc,
+        Answer::Full { count: 64 },
+        409,
+        "{\"count\":64,\"error\":\"Full\"}",
+    )
 }
 
 #[test]
 fn file_refusals(rt: HostRuntime) -> Result<(), Fail> {
     let alloc = rt.alloc();
-    for (answer, status, body) in [
-        (
-            Answer::BadFile {
-                fault: FileFault::TooLong { line: 1 },
-            },
-            400,
-            "{\"error\":\"BadFile\",\"fault\":\"TooLong\",\"line\":1}",
-        ),
-        (
-            Answer::BadFile {
-                fault: FileFault::ControlByte { line: 7 },
-            },
-            400,
-            "{\"error\":\"BadFile\",\"fault\":\"ControlByte\",\"line\":7}",
-        ),
-        (
-            Answer::BadFile {
-                fault: FileFault::TooLarge { bytes: 67_108_865 },
-            },
-            400,
-            "{\"bytes\":67108865,\"error\":\"BadFile\",\"fault\":\"TooLarge\"}",
-        ),
-    ] {
-        shows(&rt, alloc, answer, status, body)?;
-    }
-    Ok(())
+    shows(
+        &rt,
+        alloc,
+        Answer::BadFile {
+            fault: FileFault::TooLong { line: 1 },
+        },
+        400,
+        "{\"error\":\"BadFile\",\"fault\":\"TooLong\",\"line\":1}",
+    )?;
+    shows(
+        &rt,
+        alloc,
+        Answer::BadFile {
+            fault: FileFault::ControlByte { line: 7 },
+        },
+        400,
+        "{\"error\":\"BadFile\",\"fault\":\"ControlByte\",\"line\":7}",
+    )?;
+    shows(
+        &rt,
+        alloc,
+        Answer::BadFile {
+            fault: FileFault::TooLarge { bytes: 67_108_865 },
+        },
+        400,
+        "{\"bytes\":67108865,\"error\":\"BadFile\",\"fault\":\"TooLarge\"}",
+    )
 }
 
 #[test]
 fn heat_refusals(rt: HostRuntime) -> Result<(), Fail> {
     let alloc = rt.alloc();
-    for (answer, status, body) in [
-        (
-            Answer::TooHot {
-                asked: 260,
-                limit: 250,
-            },
-            400,
-            "{\"asked\":260,\"error\":\"TooHot\",\"limit\":250}",
-        ),
-        (
-            Answer::TooHotLine {
-                line: 3,
-                asked: 260,
-                limit: 250,
-            },
-            409,
-            "{\"asked\":260,\"error\":\"TooHotLine\",\"limit\":250,\"line\":3}",
-        ),
-    ] {
-        shows(&rt, alloc, answer, status, body)?;
-    }
-    Ok(())
+    shows(
+        &rt,
+        alloc,
+        Answer::TooHot {
+            asked: 260,
+            limit: 250,
+        },
+        400,
+        "{\"asked\":260,\"error\":\"TooHot\",\"limit\":250}",
+    )?;
+    shows(
+        &rt,
+        alloc,
+        Answer::TooHotLine {
+            line: 3,
+            asked: 260,
+            limit: 250,
+        },
+        409,
+        "{\"asked\":260,\"error\":\"TooHotLine\",\"limit\":250,\"line\":3}",
+    )
 }
 
 #[test]

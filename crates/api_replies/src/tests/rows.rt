@@ -4,194 +4,213 @@ use api_direct::Direct;
 use octo_http::{HttpReply, write_reply};
 use octo_outside::{CallList, MemoryConn};
 
+// Whether a reply puts these bytes on a connection.
+fn is_written(alloc: Global, reply: &HttpReply, bytes: &str) -> Result<bool, AllocError> {
+    let mut conn = MemoryConn::new(alloc, b"", CallList::new(alloc), CallList::new(alloc))?;
+    let is_sent = write_reply(&mut conn, reply).is_ok();
+    Ok(is_sent && conn.written() == Some(bytes.as_bytes()))
+}
+
 // The bytes that a reply puts on a connection.
 fn puts(rt: &impl Abort, alloc: Global, reply: &HttpReply, bytes: &str) -> Result<(), Fail> {
-    let mut conn = MemoryConn::new(alloc, b"", CallList::new(alloc), CallList::new(alloc))?;
-    assert_eq!(rt; write_reply(&mut conn, reply), Ok(()));
-    assert!(rt; conn.written() == Some(bytes.as_bytes()));
+    assert!(rt; is_written(alloc, reply, bytes)?, "{bytes}");
     Ok(())
+}
+
+// The bytes that the reply to an answer puts on a connection.
+fn replies(rt: &impl Abort, alloc: Global, answer: Answer, bytes: &str) -> Result<(), Fail> {
+    let reply = to_bytes(alloc, answer)?;
+    puts(rt, alloc, &reply, bytes)
 }
 
 // A pause while printing, a restart while printing; too hot.
 #[test]
 fn jobs(rt: HostRuntime) -> Result<(), Fail> {
     let alloc = rt.alloc();
-    for (answer, bytes) in [
-        (
-            Answer::Accepted,
-            "HTTP/1.1 204 No Content\r\nConnection: close\r\n\r\n",
-        ),
-        (
-            Answer::WrongState {
-                state: State::Printing,
-            },
-            "HTTP/1.1 409 Conflict\r\nConnection: close\r\nContent-Length: 41\r\n\
+    replies(
+        &rt,
+        alloc,
+        Answer::Accepted,
+        "HTTP/1.1 204 No Content\r\nConnection: close\r\n\r\n",
+    )?;
+    replies(
+        &rt,
+        alloc,
+        Answer::WrongState {
+            state: State::Printing,
+        },
+        "HTTP/1.1 409 Conflict\r\nConnection: close\r\nContent-Length: 41\r\n\
 Content-Type: application/json\r\n\r\n{\"error\":\"WrongState\",\"state\":\"Printing\"}",
-        ),
-        (
-            Answer::TooHot {
-                asked: 260,
-                limit: 250,
-            },
-            "HTTP/1.1 400 Bad Request\r\nConnection: close\r\nContent-Length: 42\r\n\
+    )?;
+    replies(
+        &rt,
+        alloc,
+        Answer::TooHot {
+            asked: 260,
+            limit: 250,
+        },
+        "HTTP/1.1 400 Bad Request\r\nConnection: close\r\nContent-Length: 42\r\n\
 Content-Type: application/json\r\n\r\n{\"asked\":260,\"error\":\"TooHot\",\"limit\":250}",
-        ),
-        (
-            Answer::TooHotLine {
-                line: 3,
-                asked: 260,
-                limit: 250,
-            },
-            "HTTP/1.1 409 Conflict\r\nConnection: close\r\nContent-Length: 55\r\n\
+    )?;
+    replies(
+        &rt,
+        alloc,
+        Answer::TooHotLine {
+            line: 3,
+            asked: 260,
+            limit: 250,
+        },
+        "HTTP/1.1 409 Conflict\r\nConnection: close\r\nContent-Length: 55\r\n\
 Content-Type: application/json\r\n\r\n{\"asked\":260,\"error\":\"TooHotLine\",\"limit\":250,\"line\":3}",
-        ),
-    ] {
-        let reply = to_bytes(alloc, answer)?;
-        puts(&rt, alloc, &reply, bytes)?;
-    }
-    Ok(())
+    )
 }
 
 // A denied start, a caller without a key, a keeper that fails, out of memory.
 #[test]
 fn denials(rt: HostRuntime) -> Result<(), Fail> {
     let alloc = rt.alloc();
-    for (answer, bytes) in [
-        (
-            Answer::Denied {
-                permission: Some(Permission::Print),
-            },
-            "HTTP/1.1 403 Forbidden\r\nConnection: close\r\nContent-Length: 39\r\n\
+    replies(
+        &rt,
+        alloc,
+        Answer::Denied {
+            permission: Some(Permission::Print),
+        },
+        "HTTP/1.1 403 Forbidden\r\nConnection: close\r\nContent-Length: 39\r\n\
 Content-Type: application/json\r\n\r\n{\"error\":\"Denied\",\"permission\":\"PRINT\"}",
-        ),
-        (
-            Answer::Denied { permission: None },
-            "HTTP/1.1 403 Forbidden\r\nConnection: close\r\nContent-Length: 37\r\n\
+    )?;
+    replies(
+        &rt,
+        alloc,
+        Answer::Denied { permission: None },
+        "HTTP/1.1 403 Forbidden\r\nConnection: close\r\nContent-Length: 37\r\n\
 Content-Type: application/json\r\n\r\n{\"error\":\"Denied\",\"permission\":\"KEY\"}",
-        ),
-        (
-            Answer::KeeperFault,
-            "HTTP/1.1 503 Service Unavailable\r\nConnection: close\r\nContent-Length: 23\r\n\
+    )?;
+    replies(
+        &rt,
+        alloc,
+        Answer::KeeperFault,
+        "HTTP/1.1 503 Service Unavailable\r\nConnection: close\r\nContent-Length: 23\r\n\
 Content-Type: application/json\r\n\r\n{\"error\":\"KeeperFault\"}",
-        ),
-        (
-            Answer::NoMemory,
-            "HTTP/1.1 507 Insufficient Storage\r\nConnection: close\r\nContent-Length: 0\r\n\r\n",
-        ),
-    ] {
-        let reply = to_bytes(alloc, answer)?;
-        puts(&rt, alloc, &reply, bytes)?;
-    }
-    Ok(())
+    )?;
+    replies(
+        &rt,
+        alloc,
+        Answer::NoMemory,
+        "HTTP/1.1 507 Insufficient Storage\r\nConnection: close\r\nContent-Length: 0\r\n\r\n",
+    )
 }
 
 // An entry of the queue, another of its name, an empty list, the most entries.
 #[test]
 fn entries(rt: HostRuntime) -> Result<(), Fail> {
     let alloc = rt.alloc();
-    for (answer, bytes) in [
-        (
-            Answer::OneEntry { entry: entry()? },
-            "HTTP/1.1 201 Created\r\nConnection: close\r\nContent-Length: 96\r\n\
+    replies(
+        &rt,
+        alloc,
+        Answer::OneEntry { entry: entry()? },
+        "HTTP/1.1 201 Created\r\nConnection: close\r\nContent-Length: 96\r\n\
 Content-Type: application/json\r\n\r\n{\"copies\":1,\"file\":\"a.gcode\",\"left\":1,\"material\":\"any\",\"name\":\"job-1\",\"priority\":5,\"user\":\"ana\"}",
-        ),
-        (
-            Answer::NameTaken {
-                kept: Some(entry()?),
-            },
-            "HTTP/1.1 409 Conflict\r\nConnection: close\r\nContent-Length: 125\r\n\
+    )?;
+    replies(
+        &rt,
+        alloc,
+        Answer::NameTaken {
+            kept: Some(entry()?),
+        },
+        "HTTP/1.1 409 Conflict\r\nConnection: close\r\nContent-Length: 125\r\n\
 Content-Type: application/json\r\n\r\n{\"error\":\"NameTaken\",\"kept\":{\"copies\":1,\"file\":\"a.gcode\",\"left\":1,\"material\":\"any\",\"name\":\"job-1\",\"priority\":5,\"user\":\"ana\"}}",
-        ),
-        (
-            Answer::Entries {
-                entries: ShownEntryList::new(alloc),
-            },
-            "HTTP/1.1 200 OK\r\nConnection: close\r\nContent-Length: 14\r\n\
+    )?;
+    replies(
+        &rt,
+        alloc,
+        Answer::Entries {
+            entries: ShownEntryList::new(alloc),
+        },
+        "HTTP/1.1 200 OK\r\nConnection: close\r\nContent-Length: 14\r\n\
 Content-Type: application/json\r\n\r\n{\"entries\":[]}",
-        ),
-        (
-            Answer::Full { count: 64 },
-            "HTTP/1.1 409 Conflict\r\nConnection: close\r\nContent-Length: 27\r\n\
+    )?;
+    replies(
+        &rt,
+        alloc,
+        Answer::Full { count: 64 },
+        "HTTP/1.1 409 Conflict\r\nConnection: close\r\nContent-Length: 27\r\n\
 Content-Type: application/json\r\n\r\n{\"count\":64,\"error\":\"Full\"}",
-        ),
-    ] {
-        let reply = to_bytes(alloc, answer)?;
-        puts(&rt, alloc, &reply, bytes)?;
-    }
-    Ok(())
+    )
 }
 
 // An upload, and two whose print was not started.
 #[test]
 fn uploads(rt: HostRuntime) -> Result<(), Fail> {
     let alloc = rt.alloc();
-    for (answer, bytes) in [
-        (
-            Answer::Uploaded {
-                name: Name::of("a.gcode")?,
-                select: false,
-                print: false,
-            },
-            "HTTP/1.1 201 Created\r\nConnection: close\r\nContent-Length: 131\r\n\
+    replies(
+        &rt,
+        alloc,
+        Answer::Uploaded {
+            name: Name::of("a.gcode")?,
+            select: false,
+            print: false,
+        },
+        "HTTP/1.1 201 Created\r\nConnection: close\r\nContent-Length: 131\r\n\
 Content-Type: application/json\r\n\r\n{\"done\":true,\"effectivePrint\":false,\"effectiveSelect\":false,\"files\":{\"local\":{\"name\":\"a.gcode\",\"origin\":\"local\",\"path\":\"a.gcode\"}}}",
-        ),
-        (
-            Answer::Stored {
-                name: Name::of("a.gcode")?,
-                cause: StoredCause::KeeperFault,
-            },
-            "HTTP/1.1 503 Service Unavailable\r\nConnection: close\r\nContent-Length: 152\r\n\
+    )?;
+    replies(
+        &rt,
+        alloc,
+        Answer::Stored {
+            name: Name::of("a.gcode")?,
+            cause: StoredCause::KeeperFault,
+        },
+        "HTTP/1.1 503 Service Unavailable\r\nConnection: close\r\nContent-Length: 152\r\n\
 Content-Type: application/json\r\n\r\n{\"done\":true,\"effectivePrint\":false,\"effectiveSelect\":true,\"error\":\"KeeperFault\",\"files\":{\"local\":{\"name\":\"a.gcode\",\"origin\":\"local\",\"path\":\"a.gcode\"}}}",
-        ),
-        (
-            Answer::Stored {
-                name: Name::of("a.gcode")?,
-                cause: StoredCause::NoMemory,
-            },
-            "HTTP/1.1 507 Insufficient Storage\r\nConnection: close\r\nContent-Length: 149\r\n\
+    )?;
+    replies(
+        &rt,
+        alloc,
+        Answer::Stored {
+            name: Name::of("a.gcode")?,
+            cause: StoredCause::NoMemory,
+        },
+        "HTTP/1.1 507 Insufficient Storage\r\nConnection: close\r\nContent-Length: 149\r\n\
 Content-Type: application/json\r\n\r\n{\"done\":true,\"effectivePrint\":false,\"effectiveSelect\":true,\"error\":\"NoMemory\",\"files\":{\"local\":{\"name\":\"a.gcode\",\"origin\":\"local\",\"path\":\"a.gcode\"}}}",
-        ),
-    ] {
-        let reply = to_bytes(alloc, answer)?;
-        puts(&rt, alloc, &reply, bytes)?;
-    }
-    Ok(())
+    )
 }
 
 // A file that is printed, a shelf that fails, a download.
 #[test]
 fn files(rt: HostRuntime) -> Result<(), Fail> {
     let alloc = rt.alloc();
-    for (answer, bytes) in [
-        (
-            Answer::FileBusy,
-            "HTTP/1.1 409 Conflict\r\nConnection: close\r\nContent-Length: 20\r\n\
+    replies(
+        &rt,
+        alloc,
+        Answer::FileBusy,
+        "HTTP/1.1 409 Conflict\r\nConnection: close\r\nContent-Length: 20\r\n\
 Content-Type: application/json\r\n\r\n{\"error\":\"FileBusy\"}",
-        ),
-        (
-            Answer::ShelfFault,
-            "HTTP/1.1 503 Service Unavailable\r\nConnection: close\r\nContent-Length: 22\r\n\
+    )?;
+    replies(
+        &rt,
+        alloc,
+        Answer::ShelfFault,
+        "HTTP/1.1 503 Service Unavailable\r\nConnection: close\r\nContent-Length: 22\r\n\
 Content-Type: application/json\r\n\r\n{\"error\":\"ShelfFault\"}",
-        ),
-        (
-            Answer::Download {
-                bytes: Blob::from_slice(alloc, b"G28\nM140 S121\n")?,
-            },
-            "HTTP/1.1 200 OK\r\nConnection: close\r\nContent-Length: 14\r\n\
+    )?;
+    replies(
+        &rt,
+        alloc,
+        Answer::Download {
+            bytes: Blob::from_slice(alloc, b"G28\nM140 S121\n")?,
+        },
+        "HTTP/1.1 200 OK\r\nConnection: close\r\nContent-Length: 14\r\n\
 Content-Type: application/octet-stream\r\n\r\nG28\nM140 S121\n",
-        ),
-        (
-            Answer::Download {
-                bytes: Blob::new(alloc),
-            },
-            "HTTP/1.1 200 OK\r\nConnection: close\r\nContent-Length: 0\r\n\
+    )?;
+    replies(
+        &rt,
+        alloc,
+        Answer::Download {
+            bytes: Blob::new(alloc),
+        },
+        "HTTP/1.1 200 OK\r\nConnection: close\r\nContent-Length: 0\r\n\
 Content-Type: application/octet-stream\r\n\r\n",
-        ),
-    ] {
-        let reply = to_bytes(alloc, answer)?;
-        puts(&rt, alloc, &reply, bytes)?;
-    }
-    Ok(())
+    )
 }
 
 // Messages that are no request.
@@ -224,13 +243,23 @@ fn no_requests(rt: HostRuntime) -> Result<(), Fail> {
             "HTTP/1.1 507 Insufficient Storage\r\nConnection: close\r\nContent-Length: 0\r\n\r\n",
         ),
     ] {
-        let reply = direct_bytes(alloc, direct);
-        puts(&rt, alloc, &reply, bytes)?;
+        puts(&rt, alloc, &direct_bytes(alloc, direct), bytes)?;
     }
     Ok(())
 }
 
-// Messages with a fault; a peer that has gone gets no reply.
+// The bytes that the reply to a faulty message puts on a connection.
+fn fault_puts(
+    rt: &impl Abort,
+    alloc: Global,
+    fault: &MessageFault,
+    bytes: &str,
+) -> Result<(), Fail> {
+    let reply = fault_bytes(alloc, fault).ok_or("no reply")?;
+    puts(rt, alloc, &reply, bytes)
+}
+
+// Messages with a fault.
 #[test]
 fn faulty_messages(rt: HostRuntime) -> Result<(), Fail> {
     let alloc = rt.alloc();
@@ -260,10 +289,14 @@ fn faulty_messages(rt: HostRuntime) -> Result<(), Fail> {
             "HTTP/1.1 507 Insufficient Storage\r\nConnection: close\r\nContent-Length: 0\r\n\r\n",
         ),
     ] {
-        let reply = fault_bytes(alloc, &fault).ok_or("no reply")?;
-        puts(&rt, alloc, &reply, bytes)?;
+        fault_puts(&rt, alloc, &fault, bytes)?;
     }
-    assert!(rt; fault_bytes(alloc, &MessageFault::Ended).is_none());
-    assert!(rt; fault_bytes(alloc, &MessageFault::ReadFault).is_none());
     Ok(())
+}
+
+// A peer that has gone gets no reply.
+#[test]
+fn gone_peers(rt: HostRuntime) {
+    assert!(rt; fault_bytes(rt.alloc(), &MessageFault::Ended).is_none());
+    assert!(rt; fault_bytes(rt.alloc(), &MessageFault::ReadFault).is_none());
 }

@@ -2,21 +2,34 @@
 use super::*;
 
 #[test]
-fn connection(rt: HostRuntime) -> Result<(), Fail> {
-    let alloc = rt.alloc();
-    let version = "{\"api\":\"0.1\",\"server\":\"profile-1\",\"text\":\"OctoPrint profile-1\"}";
-    shows(&rt, alloc, Answer::Version, 200, version)?;
+fn version(rt: HostRuntime) -> Result<(), Fail> {
+    let body = "{\"api\":\"0.1\",\"server\":\"profile-1\",\"text\":\"OctoPrint profile-1\"}";
+    shows(&rt, rt.alloc(), Answer::Version, 200, body)
+}
+
+fn two_ports(alloc: Global) -> Result<NameList, Fail> {
     let mut ports = NameList::new(alloc);
     ports.push(Name::of("127.0.0.1:9")?)?;
     ports.push(Name::of("p")?)?;
+    Ok(ports)
+}
+
+#[test]
+fn connection(rt: HostRuntime) -> Result<(), Fail> {
+    let alloc = rt.alloc();
     let answer = Answer::Connection {
         port: Some(Name::of("p")?),
         state: State::Operational,
-        ports,
+        ports: two_ports(alloc)?,
     };
     let body =
         "{\"current\":{\"port\":\"p\",\"state\":\"Operational\"},\"options\":{\"ports\":[\"127.0.0.1:9\",\"p\"]}}";
-    shows(&rt, alloc, answer, 200, body)?;
+    shows(&rt, alloc, answer, 200, body)
+}
+
+#[test]
+fn no_connection(rt: HostRuntime) -> Result<(), Fail> {
+    let alloc = rt.alloc();
     let answer = Answer::Connection {
         port: None,
         state: State::Fault,
@@ -27,8 +40,7 @@ fn connection(rt: HostRuntime) -> Result<(), Fail> {
 }
 
 #[test]
-fn job(rt: HostRuntime) -> Result<(), Fail> {
-    let alloc = rt.alloc();
+fn no_job(rt: HostRuntime) -> Result<(), Fail> {
     let answer = Answer::Job {
         file: None,
         progress: None,
@@ -36,7 +48,11 @@ fn job(rt: HostRuntime) -> Result<(), Fail> {
     };
     let body =
         "{\"job\":{\"file\":{\"name\":null,\"origin\":null,\"size\":null}},\"progress\":{\"completion\":null,\"filepos\":null},\"state\":\"Offline\"}";
-    shows(&rt, alloc, answer, 200, body)?;
+    shows(&rt, rt.alloc(), answer, 200, body)
+}
+
+#[test]
+fn job(rt: HostRuntime) -> Result<(), Fail> {
     let answer = Answer::Job {
         file: Some(file()?),
         progress: Some(Progress {
@@ -47,7 +63,7 @@ fn job(rt: HostRuntime) -> Result<(), Fail> {
     };
     let body =
         "{\"job\":{\"file\":{\"name\":\"a.gcode\",\"origin\":\"local\",\"size\":19}},\"progress\":{\"completion\":66,\"filepos\":13},\"state\":\"Printing\"}";
-    shows(&rt, alloc, answer, 200, body)
+    shows(&rt, rt.alloc(), answer, 200, body)
 }
 
 #[test]
@@ -57,12 +73,22 @@ fn files(rt: HostRuntime) -> Result<(), Fail> {
         "{\"name\":\"a.gcode\",\"origin\":\"local\",\"path\":\"a.gcode\",\"size\":19,\"type\":\"machinecode\"}";
     shows(&rt, alloc, Answer::File { file: file()? }, 200, one)?;
     let files = ShownFileList::new(alloc);
-    shows(&rt, alloc, Answer::Files { files }, 200, "{\"files\":[]}")?;
-    let mut files = ShownFileList::new(alloc);
+    shows(&rt, alloc, Answer::Files { files }, 200, "{\"files\":[]}")
+}
+
+#[test]
+fn one_file(rt: HostRuntime) -> Result<(), Fail> {
+    let mut files = ShownFileList::new(rt.alloc());
     files.push(file()?)?;
     let body =
         "{\"files\":[{\"name\":\"a.gcode\",\"origin\":\"local\",\"path\":\"a.gcode\",\"size\":19,\"type\":\"machinecode\"}]}";
-    shows(&rt, alloc, Answer::Files { files }, 200, body)?;
+    shows(&rt, rt.alloc(), Answer::Files { files }, 200, body)
+}
+
+// An upload, and one whose print was not started.
+#[test]
+fn new_files(rt: HostRuntime) -> Result<(), Fail> {
+    let alloc = rt.alloc();
     let answer = Answer::Uploaded {
         name: Name::of("a.gcode")?,
         select: true,
@@ -123,12 +149,21 @@ fn queue(rt: HostRuntime) -> Result<(), Fail> {
         Answer::Entries { entries },
         200,
         "{\"entries\":[]}",
-    )?;
-    let mut entries = ShownEntryList::new(alloc);
+    )
+}
+
+#[test]
+fn one_entry(rt: HostRuntime) -> Result<(), Fail> {
+    let mut entries = ShownEntryList::new(rt.alloc());
     entries.push(entry()?)?;
     let body =
         "{\"entries\":[{\"copies\":1,\"file\":\"a.gcode\",\"left\":1,\"material\":\"any\",\"name\":\"job-1\",\"priority\":5,\"user\":\"ana\"}]}";
-    shows(&rt, alloc, Answer::Entries { entries }, 200, body)?;
+    shows(&rt, rt.alloc(), Answer::Entries { entries }, 200, body)
+}
+
+#[test]
+fn taken_names(rt: HostRuntime) -> Result<(), Fail> {
+    let alloc = rt.alloc();
     let kept = Some(entry()?);
     let body =
         "{\"error\":\"NameTaken\",\"kept\":{\"copies\":1,\"file\":\"a.gcode\",\"left\":1,\"material\":\"any\",\"name\":\"job-1\",\"priority\":5,\"user\":\"ana\"}}";
@@ -137,18 +172,21 @@ fn queue(rt: HostRuntime) -> Result<(), Fail> {
     shows(&rt, alloc, Answer::NameTaken { kept: None }, 409, body)
 }
 
-#[test]
-fn prints(rt: HostRuntime) -> Result<(), Fail> {
-    let alloc = rt.alloc();
-    let mut prints = ShownPrintList::new(alloc);
-    prints.push(ShownPrint {
+fn one_print() -> Result<ShownPrint, Fail> {
+    Ok(ShownPrint {
         number: 2,
         user: Name::of("ana")?,
         file: Name::of("a.gcode")?,
         commands: 3,
         outcome: Outcome::Done,
-    })?;
+    })
+}
+
+#[test]
+fn prints(rt: HostRuntime) -> Result<(), Fail> {
+    let mut prints = ShownPrintList::new(rt.alloc());
+    prints.push(one_print()?)?;
     let body =
         "{\"prints\":[{\"commands\":3,\"file\":\"a.gcode\",\"number\":2,\"outcome\":\"Done\",\"user\":\"ana\"}]}";
-    shows(&rt, alloc, Answer::Prints { prints }, 200, body)
+    shows(&rt, rt.alloc(), Answer::Prints { prints }, 200, body)
 }

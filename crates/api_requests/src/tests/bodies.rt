@@ -102,25 +102,34 @@ fn connections(rt: HostRuntime) -> Result<(), Fail> {
     Ok(())
 }
 
-// How many lines a body asks for, and how many bytes the last of them has.
-fn lines(alloc: Global, body: &[u8]) -> Result<(usize, usize), Fail> {
-    let message = message(alloc, Method::POST, "/api/printer/command", JSON, body)?;
-    let ask = to_request(alloc, message)?;
-    let Request::Lines { texts } = &ask.request else {
-        return Err("another request")?;
+// A POST of commands.
+fn commands_message(alloc: Global, body: &[u8]) -> Result<Message, Fail> {
+    message(alloc, Method::POST, "/api/printer/command", JSON, body)
+}
+
+// How many lines are asked for, and how many bytes the last of them has.
+fn line_counts(request: &Request) -> Option<(usize, usize)> {
+    let Request::Lines { texts } = request else {
+        return None;
     };
     match texts.as_slice() {
-        [.., last] => Ok((texts.as_slice().len(), last.len())),
-        [] => Err(Fail::from("no lines")),
+        [.., last] => Some((texts.as_slice().len(), last.len())),
+        [] => None,
     }
+}
+
+// How many lines a body asks for, and how many bytes the last of them has.
+fn lines(alloc: Global, body: &[u8]) -> Result<Option<(usize, usize)>, Fail> {
+    let ask = to_request(alloc, commands_message(alloc, body)?)?;
+    Ok(line_counts(&ask.request))
 }
 
 #[test]
 fn commands(rt: HostRuntime) -> Result<(), Fail> {
     let alloc = rt.alloc();
     let body = b"{\"commands\":[\"G28\",\"G1 \\u007f\"]}";
-    assert!(rt; lines(alloc, body)? == (2, 4));
-    assert!(rt; lines(alloc, b"{\"command\":\"\"}")? == (1, 0));
+    assert!(rt; lines(alloc, body)? == Some((2, 4)));
+    assert!(rt; lines(alloc, b"{\"command\":\"\"}")? == Some((1, 0)));
     let bodies = [
         "{\"commands\":[]}",
         "{\"commands\":[\"G28\",5]}",
@@ -146,12 +155,16 @@ fn many_lines(alloc: Global, count: u32) -> Result<Vec<u8>, Fail> {
 fn many_commands(rt: HostRuntime) -> Result<(), Fail> {
     let alloc = rt.alloc();
     let most = many_lines(alloc, 256)?;
-    assert!(rt; lines(alloc, most.as_slice())? == (256, 3));
+    assert!(rt; lines(alloc, most.as_slice())? == Some((256, 3)));
+    Ok(())
+}
+
+#[test]
+fn too_many_commands(rt: HostRuntime) -> Result<(), Fail> {
+    let alloc = rt.alloc();
     let more = many_lines(alloc, 257)?;
-    let path = "/api/printer/command";
-    let message = message(alloc, Method::POST, path, JSON, more.as_slice())?;
-    let answer = to_request(alloc, message);
-    assert!(rt; outcome(&answer) == "BadBody");
+    let message = commands_message(alloc, more.as_slice())?;
+    assert!(rt; outcome(&to_request(alloc, message)) == "BadBody");
     Ok(())
 }
 

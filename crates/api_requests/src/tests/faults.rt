@@ -1,5 +1,6 @@
 //! The order of faults.
 use super::*;
+use std::alloc::AllocError;
 
 // The name of what a message with a body that no form takes comes to.
 fn faulty(
@@ -113,13 +114,19 @@ fn long_json(rt: HostRuntime) -> Result<(), Fail> {
     Ok(())
 }
 
+// Lists within lists, 200 deep.
+fn nested_lists(alloc: Global) -> Result<String, AllocError> {
+    let open = "[".repeat(alloc, 200)?;
+    let close = "]".repeat(alloc, 200)?;
+    format!(in alloc; "{open}{close}")
+}
+
 // A body of 200 opening brackets, and one of lists whose brackets are closed.
 #[test]
 fn nested_json(rt: HostRuntime) -> Result<(), Fail> {
     let alloc = rt.alloc();
     let open = "[".repeat(alloc, 200)?;
-    let close = "]".repeat(alloc, 200)?;
-    let lists = format!(in alloc; "{open}{close}")?;
-    let bodies = [open.as_str(), lists.as_str()];
-    come_to(&rt, alloc, "/api/job", "BadBody", &bodies)
+    come_to(&rt, alloc, "/api/job", "BadBody", &[open.as_str()])?;
+    let lists = nested_lists(alloc)?;
+    come_to(&rt, alloc, "/api/job", "BadBody", &[lists.as_str()])
 }

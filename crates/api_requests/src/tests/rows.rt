@@ -1,25 +1,29 @@
 //! Bodies for the queue and the users.
 use super::*;
 
+// Whether this entry is to be put, with this priority and number of copies.
+fn is_entry(request: &Request, numbers: (u8, u8), of: &str) -> bool {
+    match request {
+        Request::PutEntry {
+            name,
+            file,
+            priority,
+            copies,
+            material,
+        } => {
+            name.as_str() == "job-1"
+                && file.as_str() == "a.gcode"
+                && (*priority, *copies) == numbers
+                && material.as_str() == of
+        }
+        _ => false,
+    }
+}
+
 // Whether a body asks for this entry.
 fn puts(alloc: Global, body: &str, numbers: (u8, u8), of: &str) -> Result<bool, Fail> {
     let ask = ask_of_post(alloc, "/api/queue", body)??;
-    let Request::PutEntry {
-        name,
-        file,
-        priority,
-        copies,
-        material,
-    } = &ask.request
-    else {
-        return Err("another request")?;
-    };
-    Ok(
-        name.as_str() == "job-1"
-            && file.as_str() == "a.gcode"
-            && (*priority, *copies) == numbers
-            && material.as_str() == of,
-    )
+    Ok(is_entry(&ask.request, numbers, of))
 }
 
 #[test]
@@ -50,24 +54,28 @@ fn no_entries(rt: HostRuntime) -> Result<(), Fail> {
     come_to(&rt, rt.alloc(), "/api/queue", "BadBody", &bodies)
 }
 
+// Whether the user eve is to be put, with her key and this number of groups.
+fn is_eve(request: &Request, count: usize, on: bool) -> bool {
+    match request {
+        Request::PutUser {
+            name,
+            key,
+            groups,
+            active,
+        } => {
+            name.as_str() == "eve"
+                && key.as_slice() == b"evekey0000000001".as_slice()
+                && groups.len() == count
+                && *active == on
+        }
+        _ => false,
+    }
+}
+
 // Whether a body asks for the user eve with her key and this number of groups.
 fn adds_eve(alloc: Global, body: &str, count: usize, on: bool) -> Result<bool, Fail> {
     let ask = ask_of_post(alloc, "/api/access/users", body)??;
-    let Request::PutUser {
-        name,
-        key,
-        groups,
-        active,
-    } = &ask.request
-    else {
-        return Err("another request")?;
-    };
-    Ok(
-        name.as_str() == "eve"
-            && key.as_slice() == b"evekey0000000001".as_slice()
-            && groups.len() == count
-            && *active == on,
-    )
+    Ok(is_eve(&ask.request, count, on))
 }
 
 #[test]
@@ -99,28 +107,38 @@ fn put(alloc: Global, body: &str) -> Result<Result<Ask, Direct>, Fail> {
     Ok(to_request(alloc, message))
 }
 
+// Of the changes of a user's key, groups and activity, those that are asked for.
+fn asked_changes(request: &Request) -> Option<(bool, bool, Option<bool>)> {
+    match request {
+        Request::ChangeUser {
+            key,
+            groups,
+            active,
+            ..
+        } => Some((key.is_some(), groups.is_some(), *active)),
+        _ => None,
+    }
+}
+
 // Of the changes of a user's key, groups and activity, those that a body asks for.
-fn changes_in(alloc: Global, body: &str) -> Result<(bool, bool, Option<bool>), Fail> {
+fn changes_in(alloc: Global, body: &str) -> Result<Option<(bool, bool, Option<bool>)>, Fail> {
     let ask = put(alloc, body)??;
-    let Request::ChangeUser {
-        key,
-        groups,
-        active,
-        ..
-    } = &ask.request
-    else {
-        return Err("another request")?;
-    };
-    Ok((key.is_some(), groups.is_some(), *active))
+    Ok(asked_changes(&ask.request))
 }
 
 #[test]
 fn changes(rt: HostRuntime) -> Result<(), Fail> {
     let alloc = rt.alloc();
-    assert!(rt; changes_in(alloc, "{}")? == (false, false, None));
-    let body = "{\"active\":false,\"groups\":[]}";
-    assert!(rt; changes_in(alloc, body)? == (false, true, Some(false)));
-    assert!(rt; changes_in(alloc, "{\"key\":\"evekey0000000001\"}")? == (true, false, None));
+    for (body, wanted) in [
+        ("{}", (false, false, None)),
+        (
+            "{\"active\":false,\"groups\":[]}",
+            (false, true, Some(false)),
+        ),
+        ("{\"key\":\"evekey0000000001\"}", (true, false, None)),
+    ] {
+        assert!(rt; changes_in(alloc, body)? == Some(wanted));
+    }
     Ok(())
 }
 
@@ -133,8 +151,7 @@ fn no_changes(rt: HostRuntime) -> Result<(), Fail> {
         "{\"key\":null}",
         "{\"active\":true,}",
     ] {
-        let answer = put(alloc, body)?;
-        assert!(rt; outcome(&answer) == "BadBody");
+        assert!(rt; outcome(&put(alloc, body)?) == "BadBody");
     }
     Ok(())
 }

@@ -1,37 +1,48 @@
 //! Uploads.
 use super::*;
+use std::alloc::AllocError;
 
-// What an upload of this filename asks.
-fn ask_of_upload(alloc: Global, filename: &str) -> Result<Result<Ask, Direct>, Fail> {
+// A form with a file of this name.
+fn upload_body(alloc: Global, filename: &str) -> Result<Vec<u8>, AllocError> {
     let mut body = Vec::from_slice(
         alloc,
         b"--XY\r\nContent-Disposition: form-data; name=\"file\"; filename=\"",
     )?;
     body.extend_from_slice(filename.as_bytes())?;
     body.extend_from_slice(b"\"\r\n\r\nG28 ; --XY\r\nG1 X10\n\r\n--XY--\r\n")?;
+    Ok(body)
+}
+
+// What an upload of this filename asks.
+fn ask_of_upload(alloc: Global, filename: &str) -> Result<Result<Ask, Direct>, Fail> {
+    let body = upload_body(alloc, filename)?;
     let path = "/api/files/local";
     let message = message(alloc, Method::POST, path, FORM, body.as_slice())?;
     Ok(to_request(alloc, message))
 }
 
+// Whether the file is to be stored under this name, and neither selected nor printed.
+fn is_file(request: &Request, wanted: &str) -> bool {
+    match request {
+        Request::PutFile {
+            name,
+            bytes,
+            select,
+            print,
+        } => {
+            name.as_str() == wanted
+                && bytes.as_slice() == b"G28 ; --XY\r\nG1 X10\n".as_slice()
+                && !*select
+                && !*print
+        }
+        _ => false,
+    }
+}
+
 // Whether an upload of this filename is stored under this name.
 fn stores(alloc: Global, filename: &str, wanted: &str) -> Result<bool, Fail> {
     let ask = ask_of_upload(alloc, filename)??;
-    let Request::PutFile {
-        name,
-        bytes,
-        select,
-        print,
-    } = &ask.request
-    else {
-        return Err("another request")?;
-    };
-    Ok(
-        name.as_str() == wanted
-            && bytes.as_slice() == b"G28 ; --XY\r\nG1 X10\n".as_slice()
-            && !*select
-            && !*print,
-    )
+    Ok(is_file(&ask.request, wanted))
 }
 
 #[test]
@@ -71,6 +82,13 @@ fn bad_names(rt: HostRuntime) -> Result<(), Fail> {
     ] {
         assert!(rt; upload(alloc, filename)? == "BadMedia");
     }
+    Ok(())
+}
+
+// The longest name, and one that is a byte longer.
+#[test]
+fn long_names(rt: HostRuntime) -> Result<(), Fail> {
+    let alloc = rt.alloc();
     let long =
         "aaaaaaaaaaaaaaaaaaaaaaaaaaaaaaaaaaaaaaaaaaaaaaaaaaaaaaaaaaaaaaaaaaaaaaaaaaaaaaaaaaaaaaaaaaaaaaa.gcode";
     assert!(rt; upload(alloc, &long[1..])? == "another request");

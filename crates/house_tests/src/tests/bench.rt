@@ -97,8 +97,13 @@ impl Bench {
         panic!(rt; "not in the state {state:?}");
     }
 
+    /// Asks, and sees this.
+    pub(super) fn sees(&mut self, rt: &impl Abort, key: &[u8], request: Request, wanted: Seen) {
+        assert!(rt; self.ask(rt, key, request) == wanted);
+    }
+
     pub(super) fn accepts(&mut self, rt: &impl Abort, key: &[u8], request: Request) {
-        assert!(rt; matches!(self.ask(rt, key, request), Seen::Accepted));
+        self.sees(rt, key, request, Seen::Accepted);
     }
 
     pub(super) fn connect(&mut self, rt: &impl Abort) {
@@ -129,6 +134,12 @@ impl Bench {
             print: false,
         };
         self.accepts(rt, ANA, request);
+    }
+
+    /// The first two records have these outcomes; `None` where there is no record.
+    pub(super) fn keeps(&self, rt: &impl Abort, first: Option<Outcome>, second: Option<Outcome>) {
+        assert_eq!(rt; self.kept_outcome(0), first);
+        assert_eq!(rt; self.kept_outcome(1), second);
     }
 
     /// The outcome of a kept record.

@@ -14,22 +14,15 @@ fn printing(rt: &impl Abort, alloc: Global) -> Bench {
     bench
 }
 
-/// Whether something was refused for the state.
-fn is_wrong(seen: Seen, wanted: State) -> bool {
-    match seen {
-        Seen::WrongState(state) => state == wanted,
-        _ => false,
-    }
-}
-
 // A request that isn't for the state while a print goes on.
 #[test]
 fn resume_and_restart_while_printing(rt: HostRuntime) {
     let mut bench = printing(&rt, rt.alloc());
     bench.accepts(&rt, ANA, Request::Resume);
     assert_eq!(rt; bench.state(), State::Printing);
-    assert!(rt; is_wrong(bench.ask(&rt, ANA, Request::Restart), State::Printing));
-    assert!(rt; is_wrong(bench.ask(&rt, ROOT, Request::Shutdown), State::Printing));
+    let wrong = Seen::WrongState(State::Printing);
+    bench.sees(&rt, ANA, Request::Restart, wrong);
+    bench.sees(&rt, ROOT, Request::Shutdown, wrong);
     bench.end();
 }
 
@@ -41,7 +34,8 @@ fn cancel_while_paused(rt: HostRuntime) {
     bench.accepts(&rt, ANA, Request::Pause);
     bench.turn_until(&rt, State::Paused);
     bench.accepts(&rt, ANA, Request::Cancel);
-    assert!(rt; is_wrong(bench.ask(&rt, ANA, Request::Cancel), State::Cancelling));
+    let wrong = Seen::WrongState(State::Cancelling);
+    bench.sees(&rt, ANA, Request::Cancel, wrong);
     bench.turn_until(&rt, State::Operational);
     assert_eq!(rt; bench.kept_outcome(0), Some(Outcome::Cancelled));
     bench.end();
@@ -54,46 +48,61 @@ fn restart_while_paused(rt: HostRuntime) {
     bench.accepts(&rt, ANA, Request::Toggle);
     bench.turn_until(&rt, State::Paused);
     bench.accepts(&rt, ANA, Request::Restart);
-    assert_eq!(rt; bench.kept_outcome(0), Some(Outcome::Cancelled));
-    assert_eq!(rt; bench.kept_outcome(1), Some(Outcome::Active));
+    bench.keeps(&rt, Some(Outcome::Cancelled), Some(Outcome::Active));
     bench.turn_until(&rt, State::Operational);
     assert_eq!(rt; bench.kept_outcome(1), Some(Outcome::Done));
     bench.end();
 }
 
-/// Asks to send a line.
-fn sends(bench: &mut Bench, rt: &impl Abort, alloc: Global, text: &[u8]) -> Seen {
+/// Asks to send a line, and sees this.
+fn sends(bench: &mut Bench, rt: &impl Abort, alloc: Global, text: &[u8], wanted: Seen) {
     let mut texts = ItemList::new(alloc);
     assert!(rt;
         texts
             .push(Blob::from_slice(alloc, text).expect(rt, "no memory"))
             .is_ok()
     );
-    bench.ask(rt, ANA, Request::Lines { texts })
+    bench.sees(rt, ANA, Request::Lines { texts }, wanted);
 }
 
-/// Whether something asked for that many degrees, above the limit of the tool.
-fn is_too_hot(seen: Seen, degrees: u64) -> bool {
-    match seen {
-        Seen::TooHot(asked, 250) => asked == degrees,
-        _ => false,
-    }
-}
-
-// Commands above the limit of the tool, 250 degrees.
+// Lines above the limit of the tool, 250 degrees, at it, and one that isn't a command.
 #[test]
 fn too_hot(rt: HostRuntime) {
     let mut bench = Bench::sound(&rt, rt.alloc());
     bench.connect(&rt);
-    assert!(rt; is_too_hot(sends(&mut bench, &rt, rt.alloc(), b"M109 R260"), 260));
-    assert!(rt; is_too_hot(sends(&mut bench, &rt, rt.alloc(), b"M104 S250.1"), 251));
-    let seen = sends(&mut bench, &rt, rt.alloc(), b"M104 S250");
-    assert!(rt; matches!(seen, Seen::Accepted));
-    let seen = sends(&mut bench, &rt, rt.alloc(), b"M117 M110 N9");
-    assert!(rt; matches!(seen, Seen::BadCommand));
+    sends(
+        &mut bench,
+        &rt,
+        rt.alloc(),
+        b"M109 R260",
+        Seen::TooHot(260, 250),
+    );
+    sends(
+        &mut bench,
+        &rt,
+        rt.alloc(),
+        b"M104 S250.1",
+        Seen::TooHot(251, 250),
+    );
+    sends(&mut bench, &rt, rt.alloc(), b"M104 S250", Seen::Accepted);
+    sends(
+        &mut bench,
+        &rt,
+        rt.alloc(),
+        b"M117 M110 N9",
+        Seen::BadCommand,
+    );
+    bench.end();
+}
+
+// The bed at its limit, 100 degrees, and the tool above its own.
+#[test]
+fn too_hot_tool(rt: HostRuntime) {
+    let mut bench = Bench::sound(&rt, rt.alloc());
+    bench.connect(&rt);
     bench.accepts(&rt, ANA, Request::HeatBed { degrees: 100 });
     let request = Request::HeatTool { degrees: 251 };
-    assert!(rt; is_too_hot(bench.ask(&rt, ANA, request), 251));
+    bench.sees(&rt, ANA, request, Seen::TooHot(251, 250));
     bench.end();
 }
 
@@ -102,12 +111,7 @@ fn too_hot_file(rt: HostRuntime) {
     let mut bench = Bench::sound(&rt, rt.alloc());
     bench.connect(&rt);
     bench.select(&rt, "a.gcode", b"G28\nG1 X10\nM109 R260\n");
-    assert!(rt;
-        matches!(
-            bench.ask(&rt, ANA, Request::Start),
-            Seen::TooHotLine(3, 260, 250)
-        )
-    );
+    bench.sees(&rt, ANA, Request::Start, Seen::TooHotLine(3, 260, 250));
     bench.end();
 }
 
@@ -115,19 +119,11 @@ fn too_hot_file(rt: HostRuntime) {
 #[test]
 fn denied(rt: HostRuntime) {
     let mut bench = Bench::sound(&rt, rt.alloc());
-    assert!(rt;
-        matches!(
-            bench.ask(&rt, EVE, Request::Start),
-            Seen::Denied(Some(Permission::Print))
-        )
-    );
-    assert!(rt;
-        matches!(
-            bench.ask(&rt, b"no-key-0123456789", Request::Start),
-            Seen::Denied(None)
-        )
-    );
-    assert!(rt; matches!(bench.ask(&rt, b"", Request::Version), Seen::Denied(None)));
+    let reader = Seen::Denied(Some(Permission::Print));
+    bench.sees(&rt, EVE, Request::Start, reader);
+    let unknown = Seen::Denied(None);
+    bench.sees(&rt, b"no-key-0123456789", Request::Start, unknown);
+    bench.sees(&rt, b"", Request::Version, unknown);
     bench.accepts(&rt, b"", Request::Leave);
     bench.end();
 }
@@ -138,7 +134,7 @@ fn failed_start(rt: HostRuntime) {
     let mut bench = Bench::failing(&rt, rt.alloc(), "any", &[2], &[]);
     bench.connect(&rt);
     bench.select(&rt, "a.gcode", b"G28\n");
-    assert!(rt; matches!(bench.ask(&rt, ANA, Request::Start), Seen::KeeperFault));
+    bench.sees(&rt, ANA, Request::Start, Seen::KeeperFault);
     assert_eq!(rt; bench.state(), State::Operational);
     assert_eq!(rt; bench.kept_outcome(0), None);
     bench.accepts(&rt, ANA, Request::Start);

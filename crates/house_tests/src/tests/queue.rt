@@ -24,12 +24,14 @@ fn put(
     bench.ask(rt, ANA, request)
 }
 
-/// Whether a list of the queue has that many entries.
-fn holds(bench: &mut Bench, rt: &impl Abort, key: &[u8], wanted: usize) -> bool {
-    match bench.ask(rt, key, Request::ListQueue) {
-        Seen::Entries(count) => count == wanted,
-        _ => false,
-    }
+/// Puts ana's entry job-1, one copy of any material, and sees this.
+fn puts(bench: &mut Bench, rt: &impl Abort, priority: u8, wanted: Seen) {
+    assert!(rt; put(bench, rt, "job-1", priority, 1, "any") == wanted);
+}
+
+/// A list of the queue has that many entries.
+fn holds(bench: &mut Bench, rt: &impl Abort, key: &[u8], wanted: usize) {
+    bench.sees(rt, key, Request::ListQueue, Seen::Entries(wanted));
 }
 
 // A put that is repeated changes nothing; another content is refused with the kept entry.
@@ -38,14 +40,12 @@ fn repeated_put(rt: HostRuntime) {
     let mut bench = Bench::sound(&rt, rt.alloc());
     bench.select(&rt, "a.gcode", b"G28\n");
     for _ in 0..2 {
-        let seen = put(&mut bench, &rt, "job-1", 5, 1, "any");
-        assert!(rt; matches!(seen, Seen::OneEntry(5, 1)));
+        puts(&mut bench, &rt, 5, Seen::OneEntry(5, 1));
     }
-    assert!(rt; holds(&mut bench, &rt, ANA, 1));
-    let seen = put(&mut bench, &rt, "job-1", 6, 1, "any");
-    assert!(rt; matches!(seen, Seen::NameTaken(Some(5))));
-    assert!(rt; holds(&mut bench, &rt, BEN, 0));
-    assert!(rt; holds(&mut bench, &rt, ROOT, 1));
+    holds(&mut bench, &rt, ANA, 1);
+    puts(&mut bench, &rt, 6, Seen::NameTaken(Some(5)));
+    holds(&mut bench, &rt, BEN, 0);
+    holds(&mut bench, &rt, ROOT, 1);
     bench.end();
 }
 
@@ -88,7 +88,7 @@ fn with_file(rt: &impl Abort, alloc: Global, material: &str) -> Bench {
 fn no_copies(rt: HostRuntime) {
     let mut petg = with_file(&rt, rt.alloc(), "PETG");
     put(&mut petg, &rt, "job-1", 5, 2, "PLA");
-    assert!(rt; matches!(petg.ask(&rt, BEN, Request::NextEntry), Seen::NoEntry));
+    petg.sees(&rt, BEN, Request::NextEntry, Seen::NoEntry);
     petg.end();
 }
 
@@ -97,14 +97,12 @@ fn no_copies(rt: HostRuntime) {
 fn copies(rt: HostRuntime) {
     let mut pla = with_file(&rt, rt.alloc(), "PLA");
     put(&mut pla, &rt, "job-1", 5, 2, "PLA");
-    let seen = pla.ask(&rt, BEN, Request::NextEntry);
-    assert!(rt; matches!(seen, Seen::TakenEntry(2)));
+    pla.sees(&rt, BEN, Request::NextEntry, Seen::TakenEntry(2));
     let seen = put(&mut pla, &rt, "job-1", 5, 2, "PLA");
     assert!(rt; matches!(seen, Seen::OneEntry(_, 1)));
     pla.turn_until(&rt, State::Operational);
-    let seen = pla.ask(&rt, BEN, Request::NextEntry);
-    assert!(rt; matches!(seen, Seen::TakenEntry(1)));
-    assert!(rt; holds(&mut pla, &rt, ANA, 0));
+    pla.sees(&rt, BEN, Request::NextEntry, Seen::TakenEntry(1));
+    holds(&mut pla, &rt, ANA, 0);
     pla.end();
 }
 
@@ -115,8 +113,8 @@ fn failed_next(rt: HostRuntime) {
     bench.connect(&rt);
     bench.select(&rt, "a.gcode", b"G28\n");
     put(&mut bench, &rt, "job-1", 5, 1, "any");
-    assert!(rt; matches!(bench.ask(&rt, BEN, Request::NextEntry), Seen::KeeperFault));
-    assert!(rt; holds(&mut bench, &rt, ANA, 1));
+    bench.sees(&rt, BEN, Request::NextEntry, Seen::KeeperFault);
+    holds(&mut bench, &rt, ANA, 1);
     let seen = bench.ask(&rt, BEN, Request::NextEntry);
     assert!(rt; matches!(seen, Seen::TakenEntry(_)));
     let seen = bench.ask(&rt, ANA, Request::ListPrints);
@@ -124,7 +122,8 @@ fn failed_next(rt: HostRuntime) {
     bench.end();
 }
 
-fn adds(bench: &mut Bench, rt: &impl Abort, alloc: Global, text: &str) -> Seen {
+/// Adds a user with tom's key, and sees this.
+fn adds(bench: &mut Bench, rt: &impl Abort, alloc: Global, text: &str, wanted: Seen) {
     let mut groups = arrayvec::ArrayVec::new();
     groups.push(Name::from_text("users").expect(rt, "a long name"));
     let request = Request::PutUser {
@@ -133,48 +132,51 @@ fn adds(bench: &mut Bench, rt: &impl Abort, alloc: Global, text: &str) -> Seen {
         groups,
         active: true,
     };
-    bench.ask(rt, ROOT, request)
+    bench.sees(rt, ROOT, request, wanted);
 }
 
-fn switches_off(bench: &mut Bench, rt: &impl Abort, text: &str) -> Seen {
+/// Switches tom off, and sees this.
+fn switches_off(bench: &mut Bench, rt: &impl Abort, wanted: Seen) {
     let request = Request::ChangeUser {
-        name: Name::from_text(text).expect(rt, "a long name"),
+        name: Name::from_text("tom").expect(rt, "a long name"),
         key: None,
         groups: None,
         active: Some(false),
     };
-    bench.ask(rt, ROOT, request)
+    bench.sees(rt, ROOT, request, wanted);
 }
 
-fn drops_own(bench: &mut Bench, rt: &impl Abort, entry: &str) -> Seen {
+/// Drops ana's entry job-1, and sees this.
+fn drops_own(bench: &mut Bench, rt: &impl Abort, wanted: Seen) {
     let request = Request::DropOwn {
-        name: Name::from_text(entry).expect(rt, "a long name"),
+        name: Name::from_text("job-1").expect(rt, "a long name"),
     };
-    bench.ask(rt, ANA, request)
+    bench.sees(rt, ANA, request, wanted);
 }
 
-/// Entries for which the commit fails are as before.
-fn fail_entries(bench: &mut Bench, rt: &impl Abort) {
-    assert!(rt; matches!(put(bench, rt, "job-1", 5, 1, "any"), Seen::KeeperFault));
-    assert!(rt; holds(bench, rt, ANA, 0));
-    put(bench, rt, "job-1", 5, 1, "any");
-    assert!(rt; matches!(drops_own(bench, rt, "job-1"), Seen::KeeperFault));
-    assert!(rt; holds(bench, rt, ANA, 1));
+// Entries for which the commit fails are as before.
+#[test]
+fn failed_entries(rt: HostRuntime) {
+    let mut bench = Bench::failing(&rt, rt.alloc(), "any", &[2, 4], &[]);
+    bench.select(&rt, "a.gcode", b"G28\n");
+    puts(&mut bench, &rt, 5, Seen::KeeperFault);
+    holds(&mut bench, &rt, ANA, 0);
+    put(&mut bench, &rt, "job-1", 5, 1, "any");
+    drops_own(&mut bench, &rt, Seen::KeeperFault);
+    holds(&mut bench, &rt, ANA, 1);
+    bench.end();
 }
 
-// Entries and users for which the commit fails are as before.
+// Users for which the commit fails are as before.
 #[test]
 fn failed_rows(rt: HostRuntime) {
-    let mut bench = Bench::failing(&rt, rt.alloc(), "any", &[2, 4, 5, 7], &[]);
-    bench.select(&rt, "a.gcode", b"G28\n");
-    fail_entries(&mut bench, &rt);
-    assert!(rt; matches!(adds(&mut bench, &rt, rt.alloc(), "tom"), Seen::KeeperFault));
-    let seen = adds(&mut bench, &rt, rt.alloc(), "tom");
-    assert!(rt; matches!(seen, Seen::User(true)));
-    assert!(rt; matches!(switches_off(&mut bench, &rt, "tom"), Seen::KeeperFault));
-    assert!(rt; matches!(switches_off(&mut bench, &rt, "tom"), Seen::Accepted));
-    let seen = bench.ask(&rt, b"tom-key-0123456789", Request::Version);
-    assert!(rt; matches!(seen, Seen::Denied(None)));
+    let mut bench = Bench::failing(&rt, rt.alloc(), "any", &[2, 4], &[]);
+    adds(&mut bench, &rt, rt.alloc(), "tom", Seen::KeeperFault);
+    adds(&mut bench, &rt, rt.alloc(), "tom", Seen::User(true));
+    switches_off(&mut bench, &rt, Seen::KeeperFault);
+    switches_off(&mut bench, &rt, Seen::Accepted);
+    let denied = Seen::Denied(None);
+    bench.sees(&rt, b"tom-key-0123456789", Request::Version, denied);
     bench.end();
 }
 
@@ -182,14 +184,8 @@ fn failed_rows(rt: HostRuntime) {
 #[test]
 fn refused_users(rt: HostRuntime) {
     let mut bench = Bench::sound(&rt, rt.alloc());
-    assert!(rt;
-        matches!(
-            adds(&mut bench, &rt, rt.alloc(), "ana"),
-            Seen::NameTaken(None)
-        )
-    );
-    assert!(rt; matches!(switches_off(&mut bench, &rt, "tom"), Seen::NoUser));
-    let seen = bench.ask(&rt, ROOT, Request::ListUsers);
-    assert!(rt; matches!(seen, Seen::Users(3)));
+    adds(&mut bench, &rt, rt.alloc(), "ana", Seen::NameTaken(None));
+    switches_off(&mut bench, &rt, Seen::NoUser);
+    bench.sees(&rt, ROOT, Request::ListUsers, Seen::Users(3));
     bench.end();
 }

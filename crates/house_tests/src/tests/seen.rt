@@ -6,7 +6,7 @@ use octo_asks::{Answer, Progress, ShownFile, ShownPrintList, StoredCause};
 use print_records::Outcome;
 
 /// An answer by its plain values: what tests compare, and of a list its length.
-#[derive(Clone, Copy)]
+#[derive(Clone, Copy, PartialEq, Eq)]
 pub(super) enum Seen {
     Accepted,
     /// The number of ports.

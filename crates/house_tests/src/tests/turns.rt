@@ -32,8 +32,7 @@ fn end_written_later(rt: HostRuntime) {
 fn end_written_by_a_start(rt: HostRuntime) {
     let mut bench = ended_bench(&rt, rt.alloc());
     bench.accepts(&rt, ANA, Request::Start);
-    assert_eq!(rt; bench.kept_outcome(0), Some(Outcome::Done));
-    assert_eq!(rt; bench.kept_outcome(1), Some(Outcome::Active));
+    bench.keeps(&rt, Some(Outcome::Done), Some(Outcome::Active));
     assert_eq!(rt; bench.unwritten(), None);
     bench.end();
 }
@@ -87,12 +86,7 @@ fn no_beginning(rt: HostRuntime) {
 #[test]
 fn ample(rt: HostRuntime) {
     let mut bench = Bench::sound(&rt, rt.alloc());
-    assert!(rt;
-        matches!(
-            bench.ask(&rt, ANA, Request::GetConnection),
-            Seen::Connection(1)
-        )
-    );
+    bench.sees(&rt, ANA, Request::GetConnection, Seen::Connection(1));
     bench.turn(&rt);
     bench.end();
 }

@@ -33,17 +33,17 @@ fn selects(bench: &mut Bench, rt: &impl Abort) -> Seen {
     bench.ask(rt, ANA, request)
 }
 
+/// Uploads the file, perhaps to print it, and sees this.
+fn uploads(bench: &mut Bench, rt: &impl Abort, text: &[u8], print: bool, wanted: Seen) {
+    assert!(rt; bench.upload(rt, "a.gcode", text, print) == wanted);
+}
+
 // An upload with the flag is selected and printed.
 #[test]
 fn upload_prints(rt: HostRuntime) {
     let mut bench = Bench::sound(&rt, rt.alloc());
     bench.connect(&rt);
-    assert!(rt;
-        matches!(
-            bench.upload(&rt, "a.gcode", b"G28\n", true),
-            Seen::Uploaded(true, true)
-        )
-    );
+    uploads(&mut bench, &rt, b"G28\n", true, Seen::Uploaded(true, true));
     bench.turn_until(&rt, State::Operational);
     assert_eq!(rt; bench.kept_outcome(0), Some(Outcome::Done));
     bench.end();
@@ -54,19 +54,15 @@ fn upload_prints(rt: HostRuntime) {
 fn stored_upload(rt: HostRuntime) {
     let mut bench = Bench::failing(&rt, rt.alloc(), "any", &[2], &[]);
     bench.connect(&rt);
-    assert!(rt;
-        matches!(
-            bench.upload(&rt, "a.gcode", b"G28\n", true),
-            Seen::Stored(StoredCause::KeeperFault)
-        )
+    uploads(
+        &mut bench,
+        &rt,
+        b"G28\n",
+        true,
+        Seen::Stored(StoredCause::KeeperFault),
     );
-    assert!(rt; matches!(bench.ask(&rt, ANA, Request::ListFiles), Seen::Files(1)));
-    assert!(rt;
-        matches!(
-            bench.ask(&rt, ANA, Request::GetJob),
-            Seen::Job(4, State::Operational)
-        )
-    );
+    bench.sees(&rt, ANA, Request::ListFiles, Seen::Files(1));
+    bench.sees(&rt, ANA, Request::GetJob, Seen::Job(4, State::Operational));
     bench.end();
 }
 
@@ -74,12 +70,7 @@ fn stored_upload(rt: HostRuntime) {
 #[test]
 fn upload_while_offline(rt: HostRuntime) {
     let mut bench = Bench::sound(&rt, rt.alloc());
-    assert!(rt;
-        matches!(
-            bench.upload(&rt, "a.gcode", b"G28\n", true),
-            Seen::Uploaded(true, false)
-        )
-    );
+    uploads(&mut bench, &rt, b"G28\n", true, Seen::Uploaded(true, false));
     bench.end();
 }
 
@@ -90,12 +81,7 @@ fn delete_printed(rt: HostRuntime) {
     bench.connect(&rt);
     bench.upload(&rt, "a.gcode", b"G28\n", true);
     assert!(rt; matches!(deletes(&mut bench, &rt), Seen::FileBusy));
-    assert!(rt;
-        matches!(
-            bench.upload(&rt, "a.gcode", b"G1 X1\n", false),
-            Seen::FileBusy
-        )
-    );
+    uploads(&mut bench, &rt, b"G1 X1\n", false, Seen::FileBusy);
     bench.turn_until(&rt, State::Operational);
     assert!(rt; matches!(deletes(&mut bench, &rt), Seen::Accepted));
     assert!(rt; matches!(downloads(&mut bench, &rt), Seen::NoFile));
@@ -116,21 +102,11 @@ fn failed_remove(rt: HostRuntime) {
 #[test]
 fn failed_put(rt: HostRuntime) {
     let mut bench = Bench::failing(&rt, rt.alloc(), "any", &[], &[2, 4]);
-    assert!(rt;
-        matches!(
-            bench.upload(&rt, "a.gcode", b"G28\n", true),
-            Seen::ShelfFault
-        )
-    );
+    uploads(&mut bench, &rt, b"G28\n", true, Seen::ShelfFault);
     assert!(rt; matches!(shows(&mut bench, &rt), Seen::NoFile));
     bench.upload(&rt, "a.gcode", b"G28\n", false);
     assert!(rt; matches!(selects(&mut bench, &rt), Seen::ShelfFault));
-    assert!(rt;
-        matches!(
-            bench.ask(&rt, ANA, Request::Start),
-            Seen::WrongState(State::Offline)
-        )
-    );
+    bench.sees(&rt, ANA, Request::Start, Seen::WrongState(State::Offline));
     bench.end();
 }
 
@@ -138,11 +114,12 @@ fn failed_put(rt: HostRuntime) {
 #[test]
 fn bad_file(rt: HostRuntime) {
     let mut bench = Bench::sound(&rt, rt.alloc());
-    assert!(rt;
-        matches!(
-            bench.upload(&rt, "a.gcode", b"G28\nG1\x07X\n", false),
-            Seen::BadFile(FileFault::ControlByte { line: 2 })
-        )
+    uploads(
+        &mut bench,
+        &rt,
+        b"G28\nG1\x07X\n",
+        false,
+        Seen::BadFile(FileFault::ControlByte { line: 2 }),
     );
     bench.end();
 }

@@ -28,8 +28,10 @@ fn at_most(
     fault: MessageFault,
 ) -> Result<(), Fail> {
     let (head, part, tail) = texts;
-    let most = repeated(alloc, head, part, count, tail)?;
-    reads(rt, alloc, &[(most.as_str(), body)])?;
+    {
+        let most = repeated(alloc, head, part, count, tail)?;
+        reads(rt, alloc, &[(most.as_str(), body)])?;
+    }
     let more = repeated(alloc, head, part, count.saturating_add(1), tail)?;
     refuses(rt, alloc, &[more.as_str()], fault)
 }
@@ -54,10 +56,14 @@ fn heads(rt: HostRuntime) -> Result<(), Fail> {
 #[test]
 fn heads_without_an_end(rt: HostRuntime) -> Result<(), Fail> {
     let alloc = rt.alloc();
-    let over = repeated(alloc, "X: ", "a", 16_365, "")?;
-    refuses(&rt, alloc, &[over.as_str()], MessageFault::HeadTooLarge)?;
-    let under = repeated(alloc, "X: ", "a", 16_363, "")?;
-    refuses(&rt, alloc, &[under.as_str()], MessageFault::Ended)
+    for (count, fault) in [
+        (16_365, MessageFault::HeadTooLarge),
+        (16_363, MessageFault::Ended),
+    ] {
+        let head = repeated(alloc, "X: ", "a", count, "")?;
+        refuses(&rt, alloc, &[head.as_str()], fault)?;
+    }
+    Ok(())
 }
 
 // A chunk's line of 1,024 bytes with its line end, and trailers of 16,384 bytes with the empty line.

@@ -8,13 +8,20 @@ use octo_outside::{CallList, MemoryConn, calls_of};
 use std::alloc::{AllocError, Global};
 use std::test::Fail;
 
+// Whether the upload is read.
+fn reads_upload(alloc: Global, conn: &mut ByteConn<MemoryConn>) -> Result<bool, MessageFault> {
+    let message = read_message(alloc, conn, PATIENCE)?;
+    Ok(
+        message.path.as_slice() == b"/api/files/local".as_slice()
+            && message.body.as_slice() == &UPLOAD[UPLOAD.len() - 142..],
+    )
+}
+
 #[test]
 fn upload(rt: HostRuntime) -> Result<(), Fail> {
     let alloc = rt.alloc();
     let mut conn = ByteConn::new(conn_of(alloc, UPLOAD)?);
-    let message = read_message(alloc, &mut conn, PATIENCE)?;
-    assert!(rt; message.path.as_slice() == b"/api/files/local".as_slice());
-    assert!(rt; message.body.as_slice() == &UPLOAD[UPLOAD.len() - 142..]);
+    assert!(rt; reads_upload(alloc, &mut conn)?);
     assert!(rt; conn.inner().written() == Some(LEAVE));
     Ok(())
 }

@@ -23,7 +23,7 @@ enum Call {
     Manual,
 }
 
-#[derive(Clone, Copy, Debug)]
+#[derive(Clone, Copy)]
 enum Step {
     Does(Call),
     Refuses(Call),
@@ -31,6 +31,8 @@ enum Step {
     Opens,
     Fails,
     Issues(&'static str, Tag),
+    /// A script's line of print 1.
+    Script(&'static str, Point),
     IssuesNothing,
     /// This number of the session's lines is acknowledged, which ends nothing.
     Acknowledges(u32),
@@ -41,10 +43,6 @@ enum Step {
 
 const G28: Step = Step::Issues("G28", Tag::Job { print: 1, index: 0 });
 
-const fn script(text: &'static str, point: Point) -> Step {
-    Step::Issues(text, Tag::Script { point, print: 1 })
-}
-
 fn add(rt: &impl Abort, scripts: &mut Scripts, point: Point, text: &str) {
     match one_command(text.as_bytes()) {
         Ok(text) => assert!(rt; scripts.add(point, &text).is_ok()),
@@ -52,31 +50,33 @@ fn add(rt: &impl Abort, scripts: &mut Scripts, point: Point, text: &str) {
     }
 }
 
-/// A desk with these scripts and a selected file of one command.
-fn desk_with(rt: &impl Abort, alloc: Global, lines: &[(Point, &str)]) -> Result<Desk, Fail> {
+fn scripts_of(rt: &impl Abort, alloc: Global, lines: &[(Point, &str)]) -> Scripts {
     let mut scripts = Scripts::new(alloc);
     for (point, text) in lines {
         add(rt, &mut scripts, *point, text);
     }
-    let mut desk = Desk::new(
-        alloc,
-        scripts,
-        Limits {
-            tool: 250,
-            bed: 100,
-        },
-        5000,
-    )?;
-    select(rt, alloc, &mut desk)?;
+    scripts
+}
+
+fn new_desk(alloc: Global, scripts: Scripts) -> Result<Desk, AllocError> {
+    let limits = Limits {
+        tool: 250,
+        bed: 100,
+    };
+    Desk::new(alloc, scripts, limits, 5000)
+}
+
+/// A desk with these scripts and a selected file of one command.
+fn desk_with(rt: &impl Abort, alloc: Global, lines: &[(Point, &str)]) -> Result<Desk, Fail> {
+    let mut desk = new_desk(alloc, scripts_of(rt, alloc, lines))?;
+    select(alloc, &mut desk)?;
     Ok(desk)
 }
 
-fn select(rt: &impl Abort, alloc: Global, desk: &mut Desk) -> Result<bool, Fail> {
+fn select(alloc: Global, desk: &mut Desk) -> Result<bool, Fail> {
+    let name = Name::of("a.gcode")?;
     let job = read_commands(alloc, b"G28\n")?;
-    Ok(
-        desk.select(&Name::from_text("a.gcode").expect(rt, "a long name"), job)
-            .is_ok(),
-    )
+    Ok(desk.select(&name, job).is_ok())
 }
 
 fn start(rt: &impl Abort, desk: &mut Desk) -> bool {
@@ -106,7 +106,7 @@ fn make(rt: &impl Abort, alloc: Global, desk: &mut Desk, call: Call) -> Result<b
     match call {
         Call::Connect => Ok(connect(rt, desk)),
         Call::Disconnect => Ok(disconnect(desk)),
-        Call::Select => select(rt, alloc, desk),
+        Call::Select => select(alloc, desk),
         Call::Start => Ok(start(rt, desk)),
         Call::Pause => Ok(desk.pause().is_ok()),
         Call::Resume => Ok(desk.resume().is_ok()),
@@ -138,20 +138,35 @@ fn acknowledge(rt: &impl Abort, desk: &mut Desk, acked: u32) -> Option<Ending> {
 fn issues(rt: &impl Abort, desk: &mut Desk, text: &str, tag: Tag) {
     match desk.pull(0) {
         Some(line) => {
-            assert_eq!(rt; line.text.as_slice(), text.as_bytes(), "{text}");
-            assert_eq!(rt; line.tag, tag, "{text}");
+            assert!(rt;
+                line.tag == tag && line.text.as_slice() == text.as_bytes(),
+                "{text}"
+            );
         }
         None => panic!(rt; "no line"),
     }
 }
 
+/// Makes a call that is accepted, or one that is refused.
+fn answers(
+    rt: &impl Abort,
+    alloc: Global,
+    desk: &mut Desk,
+    call: Call,
+    accepts: bool,
+) -> Result<(), Fail> {
+    assert_eq!(rt; make(rt, alloc, desk, call)?, accepts, "{call:?}");
+    Ok(())
+}
+
 fn take(rt: &impl Abort, alloc: Global, desk: &mut Desk, step: Step) -> Result<(), Fail> {
     match step {
-        Step::Does(call) => assert!(rt; make(rt, alloc, desk, call)?, "{call:?}"),
-        Step::Refuses(call) => assert!(rt; !make(rt, alloc, desk, call)?, "{call:?}"),
+        Step::Does(call) => answers(rt, alloc, desk, call, true)?,
+        Step::Refuses(call) => answers(rt, alloc, desk, call, false)?,
         Step::Opens => opens(rt, desk),
         Step::Fails => fails(rt, desk),
         Step::Issues(text, tag) => issues(rt, desk, text, tag),
+        Step::Script(text, point) => issues(rt, desk, text, Tag::Script { point, print: 1 }),
         Step::IssuesNothing => assert!(rt; desk.pull(0).is_none()),
         Step::Acknowledges(acked) => assert_eq!(rt; acknowledge(rt, desk, acked), None),
         Step::Ends(acked, outcome) => {
@@ -170,6 +185,30 @@ fn take_all(rt: &impl Abort, alloc: Global, desk: &mut Desk, steps: &[Step]) -> 
     Ok(())
 }
 
+const PAUSE_AND_RESUME: [Step; 21] = [
+    Step::Does(Call::Connect),
+    Step::Opens,
+    Step::Does(Call::Start),
+    Step::Script("M107", Point::Started),
+    Step::Acknowledges(1),
+    Step::Does(Call::Pause),
+    Step::Script("G92 E0", Point::Started),
+    Step::Acknowledges(2),
+    Step::Is(State::Pausing),
+    Step::Script("G91", Point::Paused),
+    Step::Is(State::Pausing),
+    Step::Acknowledges(3),
+    Step::Is(State::Paused),
+    Step::IssuesNothing,
+    Step::Does(Call::Resume),
+    Step::Script("G90", Point::Resumed),
+    G28,
+    Step::Is(State::Finishing),
+    Step::Acknowledges(4),
+    Step::Ends(5, Outcome::Done),
+    Step::Is(State::Operational),
+];
+
 /// A print that is paused after its first line goes on at the next line.
 #[test]
 fn pause_and_resume(rt: HostRuntime) -> Result<(), Fail> {
@@ -179,32 +218,27 @@ fn pause_and_resume(rt: HostRuntime) -> Result<(), Fail> {
         (Point::Paused, "G91"),
         (Point::Resumed, "G90"),
     ];
-    let steps = [
-        Step::Does(Call::Connect),
-        Step::Opens,
-        Step::Does(Call::Start),
-        script("M107", Point::Started),
-        Step::Acknowledges(1),
-        Step::Does(Call::Pause),
-        script("G92 E0", Point::Started),
-        Step::Acknowledges(2),
-        Step::Is(State::Pausing),
-        script("G91", Point::Paused),
-        Step::Is(State::Pausing),
-        Step::Acknowledges(3),
-        Step::Is(State::Paused),
-        Step::IssuesNothing,
-        Step::Does(Call::Resume),
-        script("G90", Point::Resumed),
-        G28,
-        Step::Is(State::Finishing),
-        Step::Acknowledges(4),
-        Step::Ends(5, Outcome::Done),
-        Step::Is(State::Operational),
-    ];
     let mut desk = desk_with(&rt, rt.alloc(), &scripts)?;
-    take_all(&rt, rt.alloc(), &mut desk, &steps)
+    take_all(&rt, rt.alloc(), &mut desk, &PAUSE_AND_RESUME)
 }
+
+const CANCEL_WHILE_PAUSING: [Step; 15] = [
+    Step::Does(Call::Connect),
+    Step::Opens,
+    Step::Does(Call::Start),
+    Step::Does(Call::Pause),
+    Step::Script("G91", Point::Paused),
+    Step::Does(Call::Cancel),
+    Step::Refuses(Call::Cancel),
+    Step::Script("G1 Z1", Point::Paused),
+    Step::Script("M84", Point::Cancelled),
+    Step::IssuesNothing,
+    Step::Acknowledges(2),
+    Step::Is(State::Cancelling),
+    Step::Ends(3, Outcome::Cancelled),
+    Step::Is(State::Operational),
+    Step::Refuses(Call::Cancel),
+];
 
 /// A cancel in the midst of a Paused script lets that script end first.
 #[test]
@@ -214,47 +248,34 @@ fn cancel_while_pausing(rt: HostRuntime) -> Result<(), Fail> {
         (Point::Paused, "G1 Z1"),
         (Point::Cancelled, "M84"),
     ];
-    let steps = [
-        Step::Does(Call::Connect),
-        Step::Opens,
-        Step::Does(Call::Start),
-        Step::Does(Call::Pause),
-        script("G91", Point::Paused),
-        Step::Does(Call::Cancel),
-        Step::Refuses(Call::Cancel),
-        script("G1 Z1", Point::Paused),
-        script("M84", Point::Cancelled),
-        Step::IssuesNothing,
-        Step::Acknowledges(2),
-        Step::Is(State::Cancelling),
-        Step::Ends(3, Outcome::Cancelled),
-        Step::Is(State::Operational),
-        Step::Refuses(Call::Cancel),
-    ];
     let mut desk = desk_with(&rt, rt.alloc(), &scripts)?;
-    take_all(&rt, rt.alloc(), &mut desk, &steps)
+    take_all(&rt, rt.alloc(), &mut desk, &CANCEL_WHILE_PAUSING)
 }
 
-/// The 65th line of a script is one too many, and each call that takes memory returns its value.
-#[test]
-fn ample(rt: HostRuntime) -> Result<(), Fail> {
-    let mut scripts = Scripts::new(rt.alloc());
+/// Scripts of which one has 64 lines.
+fn with_longest_script(rt: &impl Abort, alloc: Global) -> Scripts {
+    let mut scripts = Scripts::new(alloc);
     for _ in 0..64 {
-        add(&rt, &mut scripts, Point::Done, "M84");
+        add(rt, &mut scripts, Point::Done, "M84");
     }
-    assert!(rt; scripts.get(Point::Done, 63).is_some());
+    scripts
+}
+
+/// The 65th line of a script is one too many.
+#[test]
+fn longest_script(rt: HostRuntime) -> Result<(), Fail> {
     let line = one_command(b"M84")?;
+    let mut scripts = with_longest_script(&rt, rt.alloc());
+    assert!(rt; scripts.get(Point::Done, 63).is_some());
     assert_eq!(rt; scripts.add(Point::Done, &line), Err(AddFault::TooMany));
     assert_eq!(rt; scripts.add(Point::Paused, &line), Ok(()));
-    let desk = Desk::new(
-        rt.alloc(),
-        scripts,
-        Limits {
-            tool: 250,
-            bed: 100,
-        },
-        5000,
-    )?;
+    Ok(())
+}
+
+/// Each call that takes memory returns its value.
+#[test]
+fn ample(rt: HostRuntime) -> Result<(), Fail> {
+    let desk = new_desk(rt.alloc(), with_longest_script(&rt, rt.alloc()))?;
     assert_eq!(rt; desk.state(), State::Offline);
     Ok(())
 }

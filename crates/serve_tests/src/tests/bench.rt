@@ -45,10 +45,10 @@ impl Bench {
     pub(super) fn new(rt: &impl Abort, alloc: Global, lost: u32) -> Bench
         ensures fresh { IsFresh (session_of result.house) }
     {
+        let link = link_at(alloc, "p", fates(rt, alloc, lost)).expect(rt, "no memory");
         let mut keeper = keeper_of(alloc, no_rows(alloc), &[]).expect(rt, "no memory");
         let mut shelf = shelf_of(alloc, &[]).expect(rt, "no memory");
         let house = house_of(alloc, "any", 1_000, &mut keeper, &mut shelf).expect(rt, "no host");
-        let link = link_at(alloc, "p", fates(rt, alloc, lost)).expect(rt, "no memory");
         Bench {
             alloc,
             house,

@@ -20,14 +20,23 @@ pub(super) fn gates<R: Abort + Copy + Drop>(
     }
 }
 
-/// The status of a reply.
-pub(super) fn status(reply: &[u8]) -> &[u8] {
+// The status of a reply.
+fn status(reply: &[u8]) -> &[u8] {
     reply.get(9..12).unwrap_or(b"-")
 }
 
-/// How many connections were given back.
-pub(super) fn served_count(door: &MemoryDoor) -> usize {
-    door.served().unwrap_or(&[]).len()
+/// Whether the reply has this status.
+pub(super) fn has_status(reply: &[u8], wanted: &str) -> bool {
+    status(reply) == wanted.as_bytes()
+}
+
+/// Whether this number of connections was given back, each with a reply of status 200.
+pub(super) fn has_served(door: &MemoryDoor, count: usize) -> bool {
+    let conns = door.served().unwrap_or(&[]);
+    conns.len() == count
+        && conns
+            .iter()
+            .all(|conn| has_status(conn.written().unwrap_or(b""), "200"))
 }
 
 /// The reply to the connection at this place, counted from 0.

@@ -1,69 +1,86 @@
 //! Workers at work at once, and how a host ends.
 use super::*;
 use host_makers::door_of;
-use octo_doors::{Doors, MemoryDoor};
+use octo_doors::{Door, Doors, MemoryDoor};
 use std::alloc::Global;
 use std::process::Abort;
+use std::sync::Wait;
+use std::thread::Threads;
+use std::time::Clock;
+
+// Serves at these doors with a host whose link loses no line; returns the number of calls, and whether no door failed.
+fn serve_at<R: Threads + Wait + Abort + Clock + Copy + Send + Sync + Drop, D: Door + Send + Drop>(
+    rt: &R,
+    alloc: Global,
+    doors: &mut Doors<D>,
+) -> (u64, bool) {
+    let mut bench = Bench::new(rt, alloc, 0);
+    let served = bench.serve(rt, doors);
+    bench.end();
+    served
+}
 
 // The connection at one door is read only once that at another was answered, whichever workers they have.
 #[test]
 fn two_at_once(rt: HostRuntime) {
-    let mut bench = Bench::new(&rt, rt.alloc(), 0);
     let mut doors = gates(&rt, rt.alloc(), VERSION, VERSION);
-    assert_eq!(rt; bench.serve(&rt, &mut doors), (2, true));
-    assert!(rt; status(doors.a.reply()) == b"200".as_slice());
-    assert!(rt; status(doors.b.reply()) == b"200".as_slice());
+    let served = serve_at(&rt, rt.alloc(), &mut doors);
+    let first = has_status(doors.a.reply(), "200");
+    let second = has_status(doors.b.reply(), "200");
     end_doors(doors);
-    bench.end();
+    assert_eq!(rt; served, (2, true));
+    assert!(rt; first && second);
 }
 
 #[test]
 fn two_at_once_exchanged(rt: HostRuntime) {
-    let mut bench = Bench::new(&rt, rt.alloc(), 0);
     let Doors { a, b, c, d } = gates(&rt, rt.alloc(), VERSION, VERSION);
     let mut doors = Doors { a: b, b: a, c, d };
-    assert_eq!(rt; bench.serve(&rt, &mut doors), (2, true));
-    assert!(rt; status(doors.a.reply()) == b"200".as_slice());
-    assert!(rt; status(doors.b.reply()) == b"200".as_slice());
+    let served = serve_at(&rt, rt.alloc(), &mut doors);
+    let first = has_status(doors.a.reply(), "200");
+    let second = has_status(doors.b.reply(), "200");
     end_doors(doors);
-    bench.end();
+    assert_eq!(rt; served, (2, true));
+    assert!(rt; first && second);
 }
 
 // A shutdown that is accepted ends the host. The connection that waits meanwhile is refused, or left where it is if its worker
 // begins only afterwards.
 #[test]
 fn shutdown(rt: HostRuntime) {
-    let mut bench = Bench::new(&rt, rt.alloc(), 0);
     let mut doors = gates(&rt, rt.alloc(), VERSION, SHUTDOWN);
-    assert_eq!(rt; bench.serve(&rt, &mut doors), (1, true));
-    assert!(rt; status(doors.b.reply()) == b"204".as_slice());
+    let served = serve_at(&rt, rt.alloc(), &mut doors);
+    let accepted = has_status(doors.b.reply(), "204");
     let late = doors.a.reply();
-    assert!(rt; late.is_empty() || status(late) == b"503".as_slice());
+    let refused = late.is_empty() || has_status(late, "503");
     end_doors(doors);
-    bench.end();
+    assert_eq!(rt; served, (1, true));
+    assert!(rt; accepted);
+    assert!(rt; refused);
+}
+
+fn door(rt: &impl Abort, alloc: Global, inputs: &[&[u8]], fails: &[u64]) -> MemoryDoor {
+    door_of(alloc, inputs, fails).expect(rt, "no memory")
 }
 
 fn failing_doors(rt: &impl Abort, alloc: Global) -> Doors<MemoryDoor> {
     Doors {
-        a: door_of(alloc, &[VERSION, VERSION], &[]).expect(rt, "no memory"),
-        b: door_of(alloc, &[VERSION], &[1]).expect(rt, "no memory"),
-        c: door_of(alloc, &[], &[]).expect(rt, "no memory"),
-        d: door_of(alloc, &[VERSION], &[]).expect(rt, "no memory"),
+        a: door(rt, alloc, &[VERSION, VERSION], &[]),
+        b: door(rt, alloc, &[VERSION], &[1]),
+        c: door(rt, alloc, &[], &[]),
+        d: door(rt, alloc, &[VERSION], &[]),
     }
 }
 
 // A door whose first call fails: the others are served.
 #[test]
 fn failing_door(rt: HostRuntime) {
-    let mut bench = Bench::new(&rt, rt.alloc(), 0);
     let mut doors = failing_doors(&rt, rt.alloc());
-    assert_eq!(rt; bench.serve(&rt, &mut doors), (3, false));
-    assert_eq!(rt; served_count(&doors.a), 2);
-    assert!(rt; status(reply_at(&doors.a, 0)) == b"200".as_slice());
-    assert!(rt; status(reply_at(&doors.a, 1)) == b"200".as_slice());
-    assert_eq!(rt; served_count(&doors.b), 0);
-    assert_eq!(rt; served_count(&doors.d), 1);
-    assert!(rt; status(reply_at(&doors.d, 0)) == b"200".as_slice());
+    let served = serve_at(&rt, rt.alloc(), &mut doors);
+    let two = has_served(&doors.a, 2);
+    let none = has_served(&doors.b, 0);
+    let one = has_served(&doors.d, 1);
     end_doors(doors);
-    bench.end();
+    assert_eq!(rt; served, (3, false));
+    assert_eq!(rt; (two, none, one), (true, true, true));
 }

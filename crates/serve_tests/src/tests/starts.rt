@@ -22,18 +22,22 @@ const PRINTING: &[u8] =
 // More commands than a window holds.
 const FILE: &[u8] = b"G28\nG1 X5\nG1 X10\nG1 X15\nG1 X20\nG1 X25\nG1 X30\n";
 
+/// A request that puts a file and selects it.
+fn put_file(rt: &impl Abort, alloc: Global) -> Request {
+    Request::PutFile {
+        name: Name::from_text("a.gcode").expect(rt, "a long name"),
+        bytes: Blob::from_slice(alloc, FILE).expect(rt, "no memory"),
+        select: true,
+        print: false,
+    }
+}
+
 /// A host whose file is selected, and whose port is being connected.
 fn connecting(rt: &impl Abort, alloc: Global) -> Bench
     ensures fresh { IsFresh (session_of result.house) }
 {
     let mut bench = Bench::new(rt, alloc, 100);
-    let file = Request::PutFile {
-        name: Name::from_text("a.gcode").expect(rt, "a long name"),
-        bytes: Blob::from_slice(alloc, FILE).expect(rt, "no memory"),
-        select: true,
-        print: false,
-    };
-    bench.ask(rt, file);
+    bench.ask(rt, put_file(rt, alloc));
     bench.ask(rt, Request::Connect { port: None });
     bench
 }
@@ -55,7 +59,7 @@ fn starting_doors<R: Abort + Copy + Drop>(rt: &R, alloc: Global) -> Doors<LateDo
 }
 
 fn is_started(reply: &[u8]) -> bool {
-    status(reply) == b"204".as_slice()
+    has_status(reply, "204")
 }
 
 /// Whether one worker's print was started, and the other one found it started.
@@ -70,12 +74,15 @@ fn is_one_started(one: &[u8], two: &[u8]) -> bool {
 fn two_starts(rt: HostRuntime) {
     let mut bench = connecting(&rt, rt.alloc());
     let mut doors = starting_doors(&rt, rt.alloc());
-    assert_eq!(rt; bench.serve(&rt, &mut doors), (14, true));
+    let served = bench.serve(&rt, &mut doors);
     let first = doors.a.door();
-    let second = doors.b.door();
-    assert!(rt; is_one_started(reply_at(first, 10), reply_at(second, 0)));
-    assert!(rt; reply_at(first, 11).ends_with(b"\"state\":\"Printing\"}"));
-    assert!(rt; reply_at(first, 12).ends_with(PRINTING));
+    let started = is_one_started(reply_at(first, 10), reply_at(doors.b.door(), 0));
+    let printing = reply_at(first, 11).ends_with(b"\"state\":\"Printing\"}");
+    let refused = reply_at(first, 12).ends_with(PRINTING);
     end_doors(doors);
     bench.end();
+    assert_eq!(rt; served, (14, true));
+    assert!(rt; started);
+    assert!(rt; printing);
+    assert!(rt; refused);
 }

@@ -61,30 +61,30 @@ const CALLS: [Failing; 9] = [
 
 /// The link failed, and is down.
 fn check_failed(rt: &impl Abort, printed: &Printed) {
-    assert_eq!(rt; printed.end, PrintEnd::LinkFailed);
-    assert!(rt; !printed.link.is_up());
+    assert!(rt; printed.end == PrintEnd::LinkFailed && !printed.link.is_up());
 }
 
-/// Prints two lines over a link whose call of this number fails.
-fn print_failing(rt: &impl Abort, alloc: Global, number: u64) -> Result<Printed, Fail> {
-    let schedule = Schedule {
-        fail_at: call(alloc, number)?,
-        ..schedule(rt, alloc, &[])?
-    };
-    print(rt, alloc, schedule, "G28\nG1 X10\n", 1, 1_000)
+/// Two lines over a link whose call of this number fails.
+fn failing_at(number: u64) -> Asked {
+    Asked {
+        file: "G28\nG1 X10\n",
+        fails_at: Some(number),
+        ..PLAIN
+    }
+}
+
+fn check_row(rt: &impl Abort, printed: &Printed, row: Failing) {
+    check_failed(rt, printed);
+    let ran = check_first(rt, &printed.link, &["G28", "G1 X10"]);
+    assert_eq!(rt; (printed.link.sends(), ran), (row.sends, row.ran));
 }
 
 /// Each call of the link fails in turn.
 #[test]
 fn each_call_failing(rt: HostRuntime) -> Result<(), Fail> {
     for row in CALLS {
-        let printed = print_failing(&rt, rt.alloc(), row.call)?;
-        check_failed(&rt, &printed);
-        assert_eq!(rt; printed.link.sends(), row.sends);
-        assert_eq!(rt;
-            check_first(&rt, &printed.link, &["G28", "G1 X10"]),
-            row.ran
-        );
+        let printed = print_plainly(rt.alloc(), &failing_at(row.call))?;
+        check_row(&rt, &printed, row);
     }
     Ok(())
 }
@@ -92,31 +92,38 @@ fn each_call_failing(rt: HostRuntime) -> Result<(), Fail> {
 /// There is no tenth call.
 #[test]
 fn no_call_failing(rt: HostRuntime) -> Result<(), Fail> {
-    let printed = print_failing(&rt, rt.alloc(), 10)?;
-    check(&rt, &printed, PrintEnd::Done, 3, &["G28", "G1 X10"]);
-    Ok(())
+    let end = PrintEnd::Done;
+    comes_to(&rt, rt.alloc(), failing_at(10), end, 3, &["G28", "G1 X10"])
 }
 
-/// Prints four lines, the second of which is lost, over a link whose call of this number fails.
-fn print_losing(rt: &impl Abort, alloc: Global, number: u64) -> Result<Printed, Fail> {
-    let schedule = Schedule {
-        fail_at: call(alloc, number)?,
-        ..schedule(rt, alloc, &[W, W, L, W])?
-    };
-    print(rt, alloc, schedule, FOUR_LINES, 1, 1_000)
+/// Four lines, the second of which is lost, over a link whose call of this number fails.
+fn losing(number: u64) -> Asked {
+    Asked {
+        file: FOUR_LINES,
+        fates: &[W, W, L, W],
+        fails_at: Some(number),
+        ..PLAIN
+    }
+}
+
+/// Whether the print is done; if it isn't, its link failed.
+fn is_done(rt: &impl Abort, printed: &Printed) -> bool {
+    if printed.end == PrintEnd::Done {
+        check(rt, printed, PrintEnd::Done, 8, &FOUR);
+        return true;
+    }
+    check_failed(rt, printed);
+    check_first(rt, &printed.link, &FOUR);
+    false
 }
 
 /// Each call of the link fails in turn in a print that sends three lines again, until no call is left that could fail.
 #[test]
 fn each_call_failing_after_a_loss(rt: HostRuntime) -> Result<(), Fail> {
     for number in 1..=100 {
-        let printed = print_losing(&rt, rt.alloc(), number)?;
-        if printed.end == PrintEnd::Done {
-            check(&rt, &printed, PrintEnd::Done, 8, &FOUR);
+        if is_done(&rt, &print_plainly(rt.alloc(), &losing(number))?) {
             return Ok(());
         }
-        check_failed(&rt, &printed);
-        check_first(&rt, &printed.link, &FOUR);
     }
     Err("never done")?
 }
@@ -124,9 +131,13 @@ fn each_call_failing_after_a_loss(rt: HostRuntime) -> Result<(), Fail> {
 /// Three commands in 35 turns, by a clock whose every rest makes a poll for temperatures due.
 #[test]
 fn enough_turns(rt: HostRuntime) -> Result<(), Fail> {
-    let schedule = schedule(&rt, rt.alloc(), &[])?;
-    let file = "G28\nG1 X10\nG1 X20\n";
-    let printed = print(&rt, rt.alloc(), schedule, file, 6_000, 35)?;
+    let asked = Asked {
+        file: "G28\nG1 X10\nG1 X20\n",
+        rest: 6_000,
+        turns: 35,
+        ..PLAIN
+    };
+    let printed = print_plainly(rt.alloc(), &asked)?;
     assert_eq!(rt; printed.end, PrintEnd::Done);
     Ok(())
 }

@@ -47,6 +47,20 @@ fn ports(rt: HostRuntime) -> Result<(), Fail> {
     faults(&rt, rt.alloc(), "", ADMIN, &PORTS)
 }
 
+/// A value of a hundred bytes between these texts is read.
+fn hundred_read(
+    rt: &impl Abort,
+    alloc: Global,
+    head: &str,
+    before: &str,
+    after: &str,
+) -> Result<(), Fail> {
+    let text = format!(in alloc; "{before}{HUNDRED}{after}")?;
+    let read = is_read(alloc, head, text.as_str(), "")?;
+    assert!(rt; read, "{before}");
+    Ok(())
+}
+
 /// A value of a hundred bytes between these texts is read, and one of a byte more is out of range.
 fn hundred_at_most(
     rt: &impl Abort,
@@ -56,8 +70,7 @@ fn hundred_at_most(
     after: &str,
     key: &str,
 ) -> Result<(), Fail> {
-    let text = format!(in alloc; "{before}{HUNDRED}{after}")?;
-    assert!(rt; read(alloc, head, text.as_str(), "")?.is_ok(), "{key}");
+    hundred_read(rt, alloc, head, before, after)?;
     let longer = format!(in alloc; "{before}{HUNDRED}x{after}")?;
     faults(rt, alloc, head, "", &[(longer.as_str(), Why::Range, key)])
 }
@@ -193,17 +206,20 @@ fn settings_of(alloc: Global, length: usize) -> Result<String, Fail> {
     Ok(format!(in alloc; "{PRINTER_AND_ADMIN}#{rest}")?)
 }
 
-/// Settings of that many bytes are read, and those of one byte more aren't TOML.
-fn bytes_at_most(rt: &impl Abort, alloc: Global, most: usize) -> Result<(), Fail> {
-    let longest = settings_of(alloc, most)?;
-    assert_eq!(rt; longest.len(), most);
-    assert!(rt; read_settings(alloc, longest.as_bytes()).is_ok());
-    let long = settings_of(alloc, most.saturating_add(1))?;
-    assert!(rt; is_not_toml(alloc, long.as_bytes()));
+/// Settings may have 1,048,576 bytes.
+#[test]
+fn longest(rt: HostRuntime) -> Result<(), Fail> {
+    let settings = settings_of(rt.alloc(), 1_048_576)?;
+    assert_eq!(rt; settings.len(), 1_048_576);
+    let is_read = read_settings(rt.alloc(), settings.as_bytes()).is_ok();
+    assert!(rt; is_read);
     Ok(())
 }
 
+/// Those of one byte more aren't TOML.
 #[test]
 fn too_long(rt: HostRuntime) -> Result<(), Fail> {
-    bytes_at_most(&rt, rt.alloc(), 1_048_576)
+    let settings = settings_of(rt.alloc(), 1_048_577)?;
+    assert!(rt; is_not_toml(rt.alloc(), settings.as_bytes()));
+    Ok(())
 }

@@ -37,7 +37,7 @@ fn groups(rt: HostRuntime) -> Result<(), Fail> {
 fn many_groups(rt: HostRuntime) -> Result<(), Fail> {
     let alloc = rt.alloc();
     let head = format!(in alloc; "{IN_GROUPS}\n{MANY}")?;
-    assert!(rt; read(alloc, head.as_str(), "", ADMIN)?.is_ok());
+    assert!(rt; is_read(alloc, head.as_str(), "", ADMIN)?);
     faults(&rt, alloc, head.as_str(), ADMIN, &ONE_MORE)
 }
 
@@ -116,16 +116,25 @@ fn template_of(alloc: Global, scripts: &str) -> Result<Option<Point>, Fail> {
     }
 }
 
-// A script of 64 lines, and one of 65. The number of its lines is tested before them.
+/// A script of one line and that many more.
+fn script(alloc: Global, more: usize) -> Result<String, Fail> {
+    let more = ", 'M84'".repeat(alloc, more)?;
+    Ok(format!(in alloc; "afterPrintDone = ['{{%'{more}]")?)
+}
+
+// A script has at most 64 lines. Their number is tested before them.
+#[test]
+fn most_lines(rt: HostRuntime) -> Result<(), Fail> {
+    let most = script(rt.alloc(), 63)?;
+    assert_eq!(rt; template_of(rt.alloc(), most.as_str())?, Some(Point::Done));
+    Ok(())
+}
+
 #[test]
 fn many_lines(rt: HostRuntime) -> Result<(), Fail> {
-    let alloc = rt.alloc();
-    let more = ", 'M84'".repeat(alloc, 63)?;
-    let most = format!(in alloc; "afterPrintDone = ['{{%'{more}]")?;
-    assert_eq!(rt; template_of(alloc, most.as_str())?, Some(Point::Done));
-    let text = format!(in alloc; "afterPrintDone = ['{{%'{more}, 'M84']")?;
-    let long = [(text.as_str(), Why::Range, "scripts.afterPrintDone")];
-    faults(&rt, alloc, IN_SCRIPTS, ADMIN, &long)
+    let many = script(rt.alloc(), 64)?;
+    let long = [(many.as_str(), Why::Range, "scripts.afterPrintDone")];
+    faults(&rt, rt.alloc(), IN_SCRIPTS, ADMIN, &long)
 }
 
 /// Scripts of which a line has a template.
@@ -144,21 +153,22 @@ fn templates(rt: HostRuntime) -> Result<(), Fail> {
     Ok(())
 }
 
+/// The point and the line of a script that is too hot.
+fn hot_line(alloc: Global, head: &str, scripts: &str) -> Result<Option<(Point, u32)>, Fail> {
+    match read(alloc, head, ADMIN, scripts)?.err() {
+        Some(SettingsFault::TooHot { script, line }) => Ok(Some((script, line))),
+        _ => Ok(None),
+    }
+}
+
 // The limits are those of the settings; lines are counted from 1.
 #[test]
 fn too_hot(rt: HostRuntime) -> Result<(), Fail> {
     let scripts = "[scripts]\nafterPrintPaused = ['M104 S200']\n\
 afterPrintDone = ['G28', 'M104 S250', 'M109 R260']\n";
     let limits = "[printer]\nports = ['p']\n[limits]\ntool = 250";
-    let fault = read(rt.alloc(), limits, ADMIN, scripts)?.err();
-    let hot = matches!(
-        fault,
-        Some(SettingsFault::TooHot {
-            script: Point::Done,
-            line: 3
-        })
-    );
-    assert!(&rt; hot);
-    assert!(&rt; read(rt.alloc(), PRINTER, ADMIN, scripts)?.is_ok());
+    let hot = hot_line(rt.alloc(), limits, scripts)?;
+    assert!(&rt; matches!(hot, Some((Point::Done, 3))));
+    assert!(&rt; is_read(rt.alloc(), PRINTER, ADMIN, scripts)?);
     Ok(())
 }

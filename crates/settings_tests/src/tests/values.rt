@@ -4,6 +4,7 @@ use arrayvec::ArrayVec;
 use byte_text::Name;
 use job_desk::{Point, Scripts};
 use octo_access::{Permission, Policy, UserRow, digest_of};
+use std::alloc::Global;
 use std::process::Abort;
 use std::test::Fail;
 
@@ -108,19 +109,19 @@ key_sha256 = '3D6DC258F967781F8598C11AF4D699E0A7F3F5F52F6B1A0F0931150933A2D5AE'\
 
 #[test]
 fn admin(rt: HostRuntime) -> Result<(), Fail> {
-    let small = read(rt.alloc(), PRINTER, ADMIN, "")??;
-    assert!(&rt; have_root(&small, b"ana-key-0123456789"));
-    let capital = read(rt.alloc(), PRINTER, CAPITALS, "")??;
-    assert!(&rt; have_root(&capital, b"ana-key-0123456789"));
+    for admin in [ADMIN, CAPITALS] {
+        let settings = read(rt.alloc(), PRINTER, admin, "")??;
+        assert!(&rt; have_root(&settings, b"ana-key-0123456789"));
+    }
     Ok(())
 }
 
 /// An active user of one group.
 fn member(group: &str) -> Result<UserRow, Fail> {
     let mut groups = ArrayVec::new();
-    groups.push(Name::from_text(group).ok_or("a long name")?);
+    groups.push(Name::of(group)?);
     Ok(UserRow {
-        name: Name::from_text("ana").ok_or("a long name")?,
+        name: Name::of("ana")?,
         digest: [0; 32],
         groups,
         active: true,
@@ -143,10 +144,14 @@ fn assert_allowed(
 const GROUPS: &str =
     "[groups]\nprinters = ['PRINT', 'STATUS']\nselectors = ['FILES_SELECT']\nidle = []\n";
 
+fn policy_of(alloc: Global, groups: &str) -> Result<Policy, Fail> {
+    let settings = read(alloc, PRINTER, ADMIN, groups)??;
+    Ok(Policy::new(settings.groups, settings.admin))
+}
+
 #[test]
 fn groups(rt: HostRuntime) -> Result<(), Fail> {
-    let settings = read(rt.alloc(), PRINTER, ADMIN, GROUPS)??;
-    let policy = Policy::new(settings.groups, settings.admin);
+    let policy = policy_of(rt.alloc(), GROUPS)?;
     let rows = [
         ("printers", Permission::Print, true),
         ("printers", Permission::Control, false),
@@ -161,10 +166,14 @@ const SCRIPTS: &str =
 afterPrinterConnected = ['M115']\nbeforePrinterDisconnected = ['M18']\nafterPrintPaused = ['G91']\n\
 beforePrintResumed = ['G90']\nafterPrintCancelled = ['M104 S0']\n";
 
+fn scripts_of(alloc: Global, scripts: &str) -> Result<Scripts, Fail> {
+    Ok(read(alloc, PRINTER, ADMIN, scripts)??.scripts)
+}
+
 // Scripts are the commands of their lines; each is at its point.
 #[test]
 fn scripts(rt: HostRuntime) -> Result<(), Fail> {
-    let scripts = read(rt.alloc(), PRINTER, ADMIN, SCRIPTS)??.scripts;
+    let scripts = scripts_of(rt.alloc(), SCRIPTS)?;
     let rows: [(Point, &[&str]); 7] = [
         (Point::Started, &["M107"]),
         (Point::Done, &["M84", "G28"]),
@@ -177,5 +186,16 @@ fn scripts(rt: HostRuntime) -> Result<(), Fail> {
     for (point, wanted) in rows {
         has(&rt, &scripts, point, wanted);
     }
+    Ok(())
+}
+
+/// Each call that allocates; allocation succeeds.
+#[test]
+fn ample(rt: HostRuntime) -> Result<(), Fail> {
+    let text = b"[printer]\nports = ['p']\n[admin]\nname = 'root'\n\
+key_sha256 = '470dc872b1b47dac8456c9f0800583d1176d1a2f194b626000379d1d7d7fc920'\n\
+[groups]\nprinters = ['PRINT']\n[scripts]\nbeforePrintStarted = ['M107']\n";
+    let settings = read_settings(rt.alloc(), text)?;
+    assert_eq!(rt; settings.scripts.count(Point::Started), 1);
     Ok(())
 }

@@ -69,6 +69,13 @@ fn way_to(state: State) -> &'static [Step] {
     }
 }
 
+fn desk_in(rt: &impl Abort, alloc: Global, state: State) -> Result<Desk, Fail> {
+    let mut desk = desk_with(rt, alloc, &[])?;
+    take_all(rt, alloc, &mut desk, way_to(state))?;
+    assert_eq!(rt; desk.state(), state);
+    Ok(desk)
+}
+
 fn check_cell(
     rt: &impl Abort,
     alloc: Global,
@@ -76,13 +83,15 @@ fn check_cell(
     state: State,
     after: u8,
 ) -> Result<(), Fail> {
-    let mut desk = desk_with(rt, alloc, &[])?;
-    take_all(rt, alloc, &mut desk, way_to(state))?;
-    assert_eq!(rt; desk.state(), state);
+    let mut desk = desk_in(rt, alloc, state)?;
     let accepted = make(rt, alloc, &mut desk, call)?;
-    assert_eq!(rt; accepted, after != b'-', "{call:?} in {state:?}");
-    let expected = if accepted { after } else { letter(state) };
-    assert_eq!(rt; letter(desk.state()), expected, "{call:?} in {state:?}");
+    let is_refusal = after == b'-';
+    let expected = if is_refusal { letter(state) } else { after };
+    assert_eq!(rt;
+        (accepted, letter(desk.state())),
+        (!is_refusal, expected),
+        "{call:?} in {state:?}"
+    );
     Ok(())
 }
 

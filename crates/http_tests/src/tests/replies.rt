@@ -1,0 +1,47 @@
+//! A message with leave to send its body, and a reply.
+use super::cuts::UPLOAD;
+use super::{PATIENCE, conn_of, has_value, read};
+use octo_http::{HttpReply, ReplyKind, read_message, write_reply};
+use octo_outside::{Blob, MemoryConn};
+use std::alloc::{AllocError, Global};
+use std::test::Fail;
+
+#[test]
+fn message(rt: HostRuntime) -> Result<(), Fail> {
+    let message = read(rt.alloc(), UPLOAD)??;
+    assert!(rt; message.method.as_str() == "POST");
+    assert!(rt; message.path.as_slice() == b"/api/files/local".as_slice());
+    assert!(rt; message.sized && !message.encoded);
+    assert!(rt; has_value(&message.key, b"k"));
+    assert!(rt; has_value(&message.kind, b"multipart/form-data; boundary=XY"));
+    Ok(())
+}
+
+// How many bytes the body of the next message has.
+fn body_length(alloc: Global, conn: &mut MemoryConn) -> Result<usize, Fail> {
+    Ok(read_message(alloc, conn, PATIENCE)?.body.len())
+}
+
+// The reply that the printer is printing.
+fn is_printing(alloc: Global) -> Result<HttpReply, AllocError> {
+    let body = Blob::from_slice(alloc, b"{\"error\":\"WrongState\",\"state\":\"Printing\"}")?;
+    Ok(HttpReply {
+        status: 409,
+        kind: ReplyKind::Json,
+        body,
+    })
+}
+
+// The leave is written before the body is read, and the reply after it.
+#[test]
+fn leave_and_reply(rt: HostRuntime) -> Result<(), Fail> {
+    let alloc = rt.alloc();
+    let mut conn = conn_of(alloc, UPLOAD)?;
+    assert_eq!(rt; body_length(alloc, &mut conn)?, 142);
+    assert_eq!(rt; write_reply(&mut conn, &is_printing(alloc)?), Ok(()));
+    let written =
+        b"HTTP/1.1 100 Continue\r\n\r\nHTTP/1.1 409 Conflict\r\nConnection: close\r\nContent-Length: 41\r\n\
+Content-Type: application/json\r\n\r\n{\"error\":\"WrongState\",\"state\":\"Printing\"}";
+    assert!(rt; conn.written() == Some(written.as_slice()));
+    Ok(())
+}
