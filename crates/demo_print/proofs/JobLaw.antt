@@ -8,7 +8,7 @@ use Rattle.std.proofs.lemmas.List.{append_assoc, length-append}
 use Rattle.std.proofs.lemmas.List.Folds.{list_any-append}
 use Rattle.std.proofs.lemmas.Fmt.{length-decimal-le}
 use Rattle.byte_text.proofs.NumberLaws.{all_digits-decimal}
-use Rattle.gcode_lines.specs.Commands.{fault_at, file_line, first_fault, in_front, job_in, job_of, lines_of as file_lines, numbered, pieces_of, unless_fault}
+use Rattle.gcode_lines.specs.Commands.{fault_at, file_line, first_fault, job_in, job_of, lines_of as file_lines, numbered, pieces_of}
 use Rattle.gcode_lines.specs.Job.{JobData, most_bytes}
 use Rattle.gcode_lines.specs.Text.{begin_of, has_control, is_control, is_skipped, is_too_long, text_of}
 use Rattle.gcode_lines.specs.declared.fault.FileFault.{FileFault}

@@ -1,4 +1,4 @@
-use Rattle.std.proofs.Common.{◌≡◌, ◌∙◌, true, List, Option, Some, ap, sym, subst, true≢false}
+use Rattle.std.proofs.Common.{◌∙◌, List, Some, ap, sym, subst, true≢false}
 use Rattle.desk_steps.specs.Data.{Data, ScriptTexts}
 use Rattle.gcode_lines.specs.Job.{texts_of}
 use Rattle.job_desk.specs.Scripts.{no_scripts}

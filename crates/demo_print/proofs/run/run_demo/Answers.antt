@@ -1,4 +1,4 @@
-use Rattle.std.proofs.Common.{◌≡◌, ◌∙◌, ap, subst, refl, rules}
+use Rattle.std.proofs.Common.{◌∙◌, ap, subst, refl, rules}
 use Rattle.printer_link.specs.Memory.{MemoryLinkData, link_kind, new_link}
 use Rattle.demo_print.specs.Run.{IsPrint}
 use Rattle.demo_print.proofs.run.run_demo.Goals as goal
