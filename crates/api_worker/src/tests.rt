@@ -119,8 +119,8 @@ fn left_by(
     Ok((holds, statuses(alloc, &door)?))
 }
 
-// A worker with this host says whether its door held. It leaves replies of these statuses, and a number of asks that were
-// answered, of which it left with so many.
+// A worker with this host says whether its door held. It leaves replies of these statuses, a number of answered asks, and the
+// number that it left with.
 fn works(
     rt: &(impl Wait + Abort),
     alloc: Global,
