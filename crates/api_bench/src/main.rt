@@ -12,7 +12,7 @@ use answers::answer_of;
 use api_replies::to_bytes;
 use api_routes::Routes;
 use byte_text::whole_number;
-use messages::{is_request, pattern_of};
+use messages::{Pattern, is_request, pattern_of};
 use octo_outside::{WordList, arguments};
 use std::alloc::Global;
 
@@ -46,27 +46,48 @@ const REQUESTS: [&str; 12] = [
     "upload_30720",
 ];
 
+// Makes a reply of a kind, and returns how many bytes its body has.
+fn make_reply(alloc: Global, kind: &str) -> anyhow::Result<usize> {
+    let answer = answer_of(alloc, kind)?;
+    let reply = to_bytes(alloc, answer)?;
+    Ok(reply.body.len())
+}
+
 // Makes `count` replies of a kind, and returns how many bytes their bodies have.
 fn make_replies(alloc: Global, kind: &str, count: u64) -> anyhow::Result<u64> {
     let mut bytes: u64 = 0;
     for _ in 0..count {
-        let reply = to_bytes(alloc, answer_of(alloc, kind)?)?;
-        bytes = bytes.wrapping_add(reply.body.len() as u64);
+        bytes = bytes.wrapping_add(make_reply(alloc, kind)? as u64);
     }
     Ok(bytes)
 }
 
-// Reads `count` messages of a kind, and returns how many are requests.
-fn read_requests(alloc: Global, kind: &str, count: u64) -> anyhow::Result<u64> {
-    let routes = Routes::new(alloc)?;
-    let pattern = pattern_of(alloc, kind)?;
+// Reads `count` messages of a pattern by a table of routes, and returns how many are requests.
+fn count_requests(
+    alloc: Global,
+    routes: &Routes,
+    pattern: &Pattern,
+    count: u64,
+) -> anyhow::Result<u64> {
     let mut requests: u64 = 0;
     for _ in 0..count {
-        if is_request(alloc, &routes, &pattern)? {
+        if is_request(alloc, routes, pattern)? {
             requests = requests.wrapping_add(1);
         }
     }
     Ok(requests)
+}
+
+// Reads `count` messages of a pattern, and returns how many are requests.
+fn read_messages(alloc: Global, pattern: &Pattern, count: u64) -> anyhow::Result<u64> {
+    let routes = Routes::new(alloc)?;
+    count_requests(alloc, &routes, pattern, count)
+}
+
+// Reads `count` messages of a kind, and returns how many are requests.
+fn read_requests(alloc: Global, kind: &str, count: u64) -> anyhow::Result<u64> {
+    let pattern = pattern_of(alloc, kind)?;
+    read_messages(alloc, &pattern, count)
 }
 
 // Makes `count` replies of a kind.
@@ -85,7 +106,7 @@ fn show_requests(rt: HostRuntime, kind: &str, count: u64) -> anyhow::Result<()> 
 
 // Makes a reply of each kind.
 fn show_each_reply(rt: HostRuntime) -> anyhow::Result<()> {
-    for kind in REPLIES {
+    for kind in &REPLIES {
         show_replies(rt, kind, 1)?;
     }
     Ok(())
@@ -93,7 +114,7 @@ fn show_each_reply(rt: HostRuntime) -> anyhow::Result<()> {
 
 // Reads a message of each kind.
 fn show_each_request(rt: HostRuntime) -> anyhow::Result<()> {
-    for kind in REQUESTS {
+    for kind in &REQUESTS {
         show_requests(rt, kind, 1)?;
     }
     Ok(())

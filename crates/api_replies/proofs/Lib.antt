@@ -1,1 +1,2 @@
+pub mod Heaters
 pub mod Whole

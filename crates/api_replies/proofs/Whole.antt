@@ -1,60 +1,74 @@
 -- No value of a reply has a number with a fraction, so each has its text.
-use Rattle.std.proofs.Common.{◌≡◌, refl, ℕ, ℤ, pos, negsuc, Bool, false, ◌||◌, List, [], ◌∷◌, map, Option, Some, None}
-use Rattle.serde_json.specs.Data.{Data, string}
+use Rattle.std.proofs.Common.{◌≡◌, refl, ℕ, ℤ, pos, negsuc, Bool, false, true, ◌||◌, true≢false, List, [], ◌∷◌, Option, Some, None, Ordering, Less, Equal, Greater, nat_cmp}
+use Rattle.std.specs.Borrow.{Bor}
+use Rattle.std.specs.Cmp.Lexicographic.{slice_cmp}
+use Rattle.std.specs.Ordering.{match_ordering}
+use Rattle.serde_json.specs.Data.{Data, Members, no_members, member, put}
 use Rattle.serde_json.specs.Find.{of_integer, is_float}
-use Rattle.serde_json.specs.View.{items_of}
-use Rattle.serde_json.specs.Written.{has_float, items_have_float}
+use Rattle.serde_json.specs.Written.{has_float, members_have_float}
 use Rattle.desk_steps.specs.declared.state.State.{State}
-use Rattle.gcode_lines.specs.declared.fault.FileFault.{FileFault}
-use Rattle.gcode_lines.specs.declared.fault.FileFault.TheVariants as fault
 use Rattle.octo_asks.specs.declared.shown.ShownHeat.{ShownHeat}
 use Rattle.octo_asks.specs.declared.shown.ShownFile.{ShownFile}
-use Rattle.octo_asks.specs.declared.shown.ShownUser.{ShownUser}
-use Rattle.octo_asks.specs.declared.shown.ShownEntry.{ShownEntry}
-use Rattle.octo_asks.specs.declared.shown.ShownPrint.{ShownPrint}
 use Rattle.octo_asks.specs.declared.shown.Progress.{Progress}
-use Rattle.api_replies.specs.Items.{heat_data, file_data, user_data, entry_data, print_data}
-use Rattle.api_replies.specs.Pages.{connection_data, printer_data, job_data, list_data}
-use Rattle.api_replies.specs.Refusals.{bad_file_data, name_taken_data}
+use Rattle.api_replies.specs.Items.{heat_data}
+use Rattle.api_replies.specs.Pages.{connection_data, printer_data, job_data}
+use Rattle.api_replies.specs.Whole.{texts_whole}
+use Rattle.api_replies.specs.Objects.{primitive_data, with_rows}
+use Rattle.api_replies.specs.declared.objects.Primitive.{Primitive}
+use Rattle.api_replies.specs.declared.objects.Primitive.TheVariants as primitive
 
--- a list of values that have none
-list_whole : {A : Type 0} (data_of : A → Data) → ((x : A) → has_float (data_of x) ≡ false) → (xs : List A) → items_have_float (items_of (map data_of xs)) ≡ false
-list_whole data_of whole [] = refl
-list_whole data_of whole (x ∷ xs) = rw (whole x) (list_whole data_of whole xs)
+-- members in any order
+choice_whole : (o : Ordering) (a b c : Members) → members_have_float a ≡ false → members_have_float b ≡ false → members_have_float c ≡ false
+    → members_have_float (match_ordering o a b c) ≡ false
+choice_whole Less a b c first second third = first
+choice_whole Equal a b c first second third = second
+choice_whole Greater a b c first second third = third
 
--- texts
-pub texts_whole : (texts : List (List ℕ)) → items_have_float (items_of (map string texts)) ≡ false
-texts_whole texts = list_whole string (λ text. refl) texts
+first_none : (a b : Bool) → (a || b) ≡ false → a ≡ false
+first_none true b is = is
+first_none false b is = refl
+
+second_none : (a b : Bool) → (a || b) ≡ false → b ≡ false
+second_none true b is = absurd (true≢false is)
+second_none false b is = is
+
+-- the members with one more that has none
+pub put_whole : (name : List ℕ) (value : Data) (members : Members) → has_float value ≡ false → members_have_float members ≡ false
+    → members_have_float (put name value members) ≡ false
+put_whole name value no_members one rest = rw one refl
+put_whole name value (member k d ms) one rest =
+    let here = first_none (has_float d) (members_have_float ms) rest in
+    let later = second_none (has_float d) (members_have_float ms) rest in
+    choice_whole (slice_cmp nat_cmp name k) _ _ _ (rw (one, here) later) (rw one later) (rw here (put_whole name value ms one later))
 
 -- an integer
 integer_whole : (z : ℤ) → is_float (of_integer z) ≡ false
 integer_whole (pos n) = refl
 integer_whole (negsuc n) = refl
 
-pub user_whole : (user : ShownUser) → has_float (user_data user) ≡ false
-user_whole user = rw (texts_whole user.groups.items) refl
+primitive_whole : (value : Primitive) → has_float (primitive_data value) ≡ false
+primitive_whole primitive.Null = refl
+primitive_whole (primitive.Flag is_true) = refl
+primitive_whole (primitive.Count n) = refl
+primitive_whole (primitive.Whole z) = integer_whole z
+primitive_whole (primitive.Text text) = refl
 
--- lists under a name
-or_none : (b : Bool) → b ≡ false → (b || false) ≡ false
-or_none b is = rw is refl
+-- rows
+with_rows_whole : (rows : List (Bor (List ℕ) × Primitive)) (members : Members) → members_have_float members ≡ false
+    → members_have_float (with_rows rows members) ≡ false
+with_rows_whole [] before rest = rest
+with_rows_whole (row ∷ rows) before rest =
+    with_rows_whole rows (put row.0.now (primitive_data row.1) before) (put_whole row.0.now (primitive_data row.1) before (primitive_whole row.1) rest)
 
-pub files_whole : (name : List ℕ) (files : List ShownFile) → has_float (list_data name (map file_data files)) ≡ false
-files_whole name files = or_none _ (list_whole file_data (λ file. refl) files)
+pub rows_whole : (rows : List (Bor (List ℕ) × Primitive)) → members_have_float (with_rows rows no_members) ≡ false
+rows_whole rows = with_rows_whole rows no_members refl
 
-pub users_whole : (name : List ℕ) (users : List ShownUser) → has_float (list_data name (map user_data users)) ≡ false
-users_whole name users = or_none _ (list_whole user_data user_whole users)
-
-pub entries_whole : (name : List ℕ) (entries : List ShownEntry) → has_float (list_data name (map entry_data entries)) ≡ false
-entries_whole name entries = or_none _ (list_whole entry_data (λ entry. refl) entries)
-
-pub prints_whole : (name : List ℕ) (prints : List ShownPrint) → has_float (list_data name (map print_data prints)) ≡ false
-prints_whole name prints = or_none _ (list_whole print_data (λ print. refl) prints)
-
+-- pages
 pub connection_whole : (port : Option (List ℕ)) (state : State) (ports : List (List ℕ)) → has_float (connection_data port state ports) ≡ false
 connection_whole None state ports = rw (texts_whole ports) refl
 connection_whole (Some port) state ports = rw (texts_whole ports) refl
 
-pub heat_whole : (heat : ShownHeat) → has_float (heat_data heat) ≡ false
+heat_whole : (heat : ShownHeat) → has_float (heat_data heat) ≡ false
 heat_whole heat = rw (integer_whole heat.actual, integer_whole heat.target) refl
 
 pub printer_whole : (state : State) (tool bed : Option ShownHeat) → has_float (printer_data state tool bed) ≡ false
@@ -68,13 +82,3 @@ job_whole None None state = refl
 job_whole None (Some progress) state = refl
 job_whole (Some file) None state = refl
 job_whole (Some file) (Some progress) state = refl
-
-pub bad_file_whole : (why : FileFault) → has_float (bad_file_data why) ≡ false
-bad_file_whole (fault.TooLong line) = refl
-bad_file_whole (fault.ControlByte line) = refl
-bad_file_whole (fault.TooLarge bytes) = refl
-bad_file_whole fault.NoMemory = refl
-
-pub name_taken_whole : (kept : Option ShownEntry) → has_float (name_taken_data kept) ≡ false
-name_taken_whole None = refl
-name_taken_whole (Some entry) = refl

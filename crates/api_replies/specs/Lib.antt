@@ -1,5 +1,7 @@
-pub mod Texts
 pub mod Items
+pub mod Objects
 pub mod Pages
 pub mod Refusals
 pub mod Replies
+pub mod Texts
+pub mod Whole

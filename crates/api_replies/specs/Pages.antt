@@ -1,6 +1,6 @@
 -- What answers show, as JSON. Members are in the byte order of their names.
 use Rattle.std.specs.Prelude.{ℕ, Bool, true, false, List, codes, Option, Some, None}
-use Rattle.serde_json.specs.Data.{Data, null, string, boolean, array, object, Members, no_members, member}
+use Rattle.serde_json.specs.Data.{Data, null, string, boolean, array, object, Members, no_members, member, put}
 use Rattle.serde_json.specs.View.{items_of}
 use Rattle.desk_steps.specs.declared.state.State.{State}
 use Rattle.desk_steps.specs.declared.state.State.TheVariants as state
@@ -30,13 +30,15 @@ current_data port state = object (
     (member (codes "state") (string (state_text state))
     no_members))
 
+-- the ports to choose from
+abbrev pub options_data : List (List ℕ) → Data
+options_data ports = object (member (codes "ports") (texts_data ports) no_members)
+
 -- the connection
 abbrev pub connection_data : Option (List ℕ) → State → List (List ℕ) → Data
 connection_data port state ports = object (
     member (codes "current") (current_data port state)
-    (member (codes "options") (object (
-    member (codes "ports") (texts_data ports)
-    no_members))
+    (member (codes "options") (options_data ports)
     no_members))
 
 -- whether a flag is true in a state
@@ -95,10 +97,22 @@ flags_data state = object (
     (member (codes "sdReady") (boolean false)
     no_members))))))))))
 
+-- the state, and the flags that it has
+abbrev pub state_data : State → Data
+state_data state = object (
+    member (codes "flags") (flags_data state)
+    (member (codes "text") (string (state_text state))
+    no_members))
+
 -- a heater that was reported, before other members
 abbrev pub heater : List ℕ → Option ShownHeat → Members → Members
 heater name None rest = rest
 heater name (Some heat) rest = member name (heat_data heat) rest
+
+-- the members and a heater, if it was reported, in the byte order of the names
+abbrev pub with_heater : List ℕ → Option ShownHeat → Members → Members
+with_heater name None members = members
+with_heater name (Some heat) members = put name (heat_data heat) members
 
 -- the heaters that were reported
 abbrev pub heaters_data : Option ShownHeat → Option ShownHeat → Data
@@ -107,10 +121,7 @@ heaters_data tool bed = object (heater (codes "bed") bed (heater (codes "tool0")
 -- the printer
 abbrev pub printer_data : State → Option ShownHeat → Option ShownHeat → Data
 printer_data state tool bed = object (
-    member (codes "state") (object (
-    member (codes "flags") (flags_data state)
-    (member (codes "text") (string (state_text state))
-    no_members)))
+    member (codes "state") (state_data state)
     (member (codes "temperature") (heaters_data tool bed)
     no_members))
 
@@ -138,15 +149,20 @@ progress_data (Some progress) = object (
     (member (codes "filepos") (count progress.place)
     no_members))
 
+-- what a job prints
+abbrev pub printed_data : Option ShownFile → Data
+printed_data file = object (member (codes "file") (selected_data file) no_members)
+
+-- how far a job is: its progress and the state
+abbrev pub course_members : Option Progress → State → Members
+course_members progress state =
+    member (codes "progress") (progress_data progress)
+    (member (codes "state") (string (state_text state))
+    no_members)
+
 -- the job
 abbrev pub job_data : Option ShownFile → Option Progress → State → Data
-job_data file progress state = object (
-    member (codes "job") (object (
-    member (codes "file") (selected_data file)
-    no_members))
-    (member (codes "progress") (progress_data progress)
-    (member (codes "state") (string (state_text state))
-    no_members)))
+job_data file progress state = object (member (codes "job") (printed_data file) (course_members progress state))
 
 -- a list under a name
 abbrev pub list_data : List ℕ → List Data → Data

@@ -7,15 +7,13 @@
 mod direct;
 mod items;
 mod lists;
-mod named;
+mod objects;
 mod pages;
 mod printer;
 mod refusals;
 mod replies;
 mod texts;
+mod written;
 
 pub use direct::{direct_bytes, fault_bytes};
 pub use replies::to_bytes;
-
-#[cfg(test)]
-mod tests;

@@ -1,13 +1,17 @@
-//! The state of the printer and its temperatures as JSON. Source: OctoPrint's REST API, printer operations.
+//! The state of the printer and its temperatures. Source: OctoPrint's REST API, printer operations.
 ghost use Rattle.std.specs.Prelude.{◌≡◌, IfOk};
-ghost use Rattle.serde_json.specs.View.{view};
-ghost use Rattle.api_replies.specs.Pages.{is_closed_or_error, is_operational, flags_data, heaters_data, printer_data};
+ghost use Rattle.serde_json.specs.View.{view, members_view};
+ghost use Rattle.api_replies.specs.Pages.{is_closed_or_error, is_operational, flags_data, state_data, with_heater, heaters_data, printer_data};
+ghost use Rattle.api_replies.specs.Replies.{json_reply};
 
 use crate::items::heat_value;
+use crate::objects::{Members, Primitive, object_of, object_with, pair, with_member};
 use crate::texts::state_text;
+use crate::written::json_reply;
 use desk_steps::State;
 use octo_asks::ShownHeat;
-use serde_json::{Value, json};
+use octo_http::HttpReply;
+use serde_json::{Map, Value};
 use std::alloc::{AllocError, Global};
 
 fn is_closed_or_error(state: State) -> bool
@@ -32,21 +36,54 @@ fn is_operational(state: State) -> bool
 fn flags_value(alloc: Global, state: State) -> Result<Value, AllocError>
     ensures { IfOk result (λ value. view value ≡ flags_data state) }
 {
-    json!(in alloc; {
-        "cancelling": state == State::Cancelling,
-        "closedOrError": is_closed_or_error(state),
-        "error": state == State::Fault,
-        "finishing": state == State::Finishing,
-        "operational": is_operational(state),
-        "paused": state == State::Paused,
-        "pausing": state == State::Pausing,
-        "printing": state == State::Printing,
-        "ready": state == State::Operational,
-        "sdReady": false
-    })
+    object_of(
+        alloc,
+        &[
+            ("cancelling", Primitive::Flag(state == State::Cancelling)),
+            ("closedOrError", Primitive::Flag(is_closed_or_error(state))),
+            ("error", Primitive::Flag(state == State::Fault)),
+            ("finishing", Primitive::Flag(state == State::Finishing)),
+            ("operational", Primitive::Flag(is_operational(state))),
+            ("paused", Primitive::Flag(state == State::Paused)),
+            ("pausing", Primitive::Flag(state == State::Pausing)),
+            ("printing", Primitive::Flag(state == State::Printing)),
+            ("ready", Primitive::Flag(state == State::Operational)),
+            ("sdReady", Primitive::Flag(false)),
+        ],
+    )
+}
+
+// The state, and the flags that it has.
+fn state_value(alloc: Global, state: State) -> Result<Value, AllocError>
+    ensures { IfOk result (λ value. view value ≡ state_data state) }
+{
+    let flags = flags_value(alloc, state)?;
+    object_with(
+        alloc,
+        &[("text", Primitive::Text(state_text(state)))],
+        "flags",
+        flags,
+    )
+}
+
+// The members and a heater, if it was reported.
+fn with_heater(
+    alloc: Global,
+    members: Members,
+    name: &str,
+    heat: Option<ShownHeat>,
+) -> Result<Members, AllocError>
+    ensures { IfOk result (λ all. members_view all.entries
+        ≡ with_heater name.now heat (members_view members.entries)) }
+{
+    match heat {
+        Some(heat) => with_member(alloc, members, name, heat_value(alloc, heat)?),
+        None => Ok(members),
+    }
 }
 
 // The heaters that were reported.
+#[tactic(auto, using(crate::proofs::Heaters::heaters_in_order))]
 fn heaters_value(
     alloc: Global,
     tool: Option<ShownHeat>,
@@ -54,26 +91,12 @@ fn heaters_value(
 ) -> Result<Value, AllocError>
     ensures { IfOk result (λ value. view value ≡ heaters_data tool bed) }
 {
-    match (tool, bed) {
-        (Some(tool), Some(bed)) => {
-            let tool = heat_value(alloc, tool)?;
-            let bed = heat_value(alloc, bed)?;
-            json!(in alloc; {"bed": bed, "tool0": tool})
-        }
-        (Some(tool), None) => {
-            let tool = heat_value(alloc, tool)?;
-            json!(in alloc; {"tool0": tool})
-        }
-        (None, Some(bed)) => {
-            let bed = heat_value(alloc, bed)?;
-            json!(in alloc; {"bed": bed})
-        }
-        (None, None) => json!(in alloc; {}),
-    }
+    let members = with_heater(alloc, Map::new(alloc), "tool0", tool)?;
+    Ok(Value::Object(with_heater(alloc, members, "bed", bed)?))
 }
 
-/// The printer.
-pub(crate) fn printer_value(
+// The printer.
+fn printer_value(
     alloc: Global,
     state: State,
     tool: Option<ShownHeat>,
@@ -81,9 +104,21 @@ pub(crate) fn printer_value(
 ) -> Result<Value, AllocError>
     ensures { IfOk result (λ value. view value ≡ printer_data state tool bed) }
 {
-    let flags = flags_value(alloc, state)?;
+    let state = state_value(alloc, state)?;
     let heaters = heaters_value(alloc, tool, bed)?;
-    json!(in alloc; {
-        "state": {"flags": flags, "text": state_text(state)}, "temperature": heaters
-    })
+    pair(alloc, "state", state, "temperature", heaters)
+}
+
+/// The reply with the printer.
+#[tactic(auto, using(crate::proofs::Whole::printer_whole))]
+pub(crate) fn printer_reply(
+    alloc: Global,
+    state: State,
+    tool: Option<ShownHeat>,
+    bed: Option<ShownHeat>,
+) -> Result<HttpReply, AllocError>
+    ensures { IfOk result (λ reply. reply ≡ json_reply 200 (printer_data state tool bed)) }
+{
+    let value = printer_value(alloc, state, tool, bed)?;
+    json_reply(alloc, 200, value)
 }

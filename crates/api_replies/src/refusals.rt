@@ -1,100 +1,205 @@
-//! Refusals as JSON.
-ghost use Rattle.std.specs.Prelude.{◌≡◌, codes, IfOk};
+//! Refusals as replies.
+ghost use Rattle.std.specs.Prelude.{◌≡◌, codes, true, Some, IfOk};
 ghost use Rattle.gcode_lines.specs.declared.fault.FileFault.TheVariants as fault;
 ghost use Rattle.serde_json.specs.Data.{string, object, no_members, member, put as with_member};
-ghost use Rattle.serde_json.specs.View.{view};
-ghost use Rattle.api_replies.specs.Refusals.{refusal_data, bad_line_data, bad_file_data, too_hot_data, too_hot_line_data, name_taken_data, full_data};
+ghost use Rattle.api_replies.specs.Refusals.{bad_line_data, bad_file_data, too_hot_data, too_hot_line_data, name_taken_data, full_data};
+ghost use Rattle.api_replies.specs.Replies.{json_reply, refusal, reply_of, is_named, is_refusal};
 
-use crate::items::entry_value;
+use crate::direct::empty_reply;
+use crate::lists::ToJson;
+use crate::objects::Primitive;
+use crate::texts::{permission_text, state_text};
+use crate::written::{object_reply, object_reply_with};
 use gcode_lines::FileFault;
-use octo_asks::ShownEntry;
-use serde_json::{Value, json};
+use octo_asks::{Answer, ShownEntry};
+use octo_http::HttpReply;
 use std::alloc::{AllocError, Global};
 
-/// A refusal by its name alone.
-pub(crate) fn refusal_value(alloc: Global, name: &str) -> Result<Value, AllocError>
-    ensures { IfOk result (λ value. view value ≡ refusal_data name.now) }
+// A refusal by its name alone.
+fn refusal(alloc: Global, status: u16, name: &str) -> Result<HttpReply, AllocError>
+    ensures { IfOk result (λ reply. reply ≡ refusal status name.now) }
 {
-    json!(in alloc; {"error": name})
+    object_reply(alloc, status, &[("error", Primitive::Text(name))])
 }
 
-/// A refusal with a text that says more, under its key.
-pub(crate) fn noted_value(
+// A refusal with a text that says more, under its key.
+fn noted_refusal(
     alloc: Global,
+    status: u16,
     name: &str,
     key: &str,
     text: &str,
-) -> Result<Value, AllocError>
-    ensures { IfOk result (λ value. view value ≡ object (with_member key.now (string text.now)
-        (member (codes "error") (string name.now) no_members))) }
+) -> Result<HttpReply, AllocError>
+    ensures { IfOk result (λ reply. reply ≡ json_reply status (object (
+        with_member key.now (string text.now)
+        (member (codes "error") (string name.now) no_members)))) }
 {
-    json!(in alloc; {"error": name, key: text})
+    object_reply(
+        alloc,
+        status,
+        &[
+            ("error", Primitive::Text(name)),
+            (key, Primitive::Text(text)),
+        ],
+    )
 }
 
 // A line of a file that is refused.
-fn bad_line_value(alloc: Global, fault: &str, line: u32) -> Result<Value, AllocError>
-    ensures { IfOk result (λ value. view value ≡ bad_line_data fault.now line) }
+fn bad_line(alloc: Global, fault: &str, line: u32) -> Result<HttpReply, AllocError>
+    ensures { IfOk result (λ reply. reply ≡ json_reply 400 (bad_line_data fault.now line)) }
 {
-    json!(in alloc; {"error": "BadFile", "fault": fault, "line": line})
+    object_reply(
+        alloc,
+        400,
+        &[
+            ("error", Primitive::Text("BadFile")),
+            ("fault", Primitive::Text(fault)),
+            ("line", Primitive::Count(line.into())),
+        ],
+    )
 }
 
 // A file of too many bytes.
-fn too_large_value(alloc: Global, bytes: u64) -> Result<Value, AllocError>
-    ensures { IfOk result (λ value. view value ≡ bad_file_data (fault.TooLarge bytes)) }
+fn too_large(alloc: Global, bytes: u64) -> Result<HttpReply, AllocError>
+    ensures { IfOk result (λ reply. reply
+        ≡ json_reply 400 (bad_file_data (fault.TooLarge bytes))) }
 {
-    json!(in alloc; {"bytes": bytes, "error": "BadFile", "fault": "TooLarge"})
+    object_reply(
+        alloc,
+        400,
+        &[
+            ("bytes", Primitive::Count(bytes)),
+            ("error", Primitive::Text("BadFile")),
+            ("fault", Primitive::Text("TooLarge")),
+        ],
+    )
 }
 
-/// A file that has no job.
-pub(crate) fn bad_file_value(alloc: Global, fault: FileFault) -> Result<Value, AllocError>
-    ensures { IfOk result (λ value. view value ≡ bad_file_data fault) }
+// A file that has no job.
+fn bad_file(alloc: Global, fault: FileFault) -> Result<HttpReply, AllocError>
+    ensures { IfOk result (λ reply. reply ≡ json_reply 400 (bad_file_data fault)) }
 {
     match fault {
-        FileFault::TooLong { line } => bad_line_value(alloc, "TooLong", line),
-        FileFault::ControlByte { line } => bad_line_value(alloc, "ControlByte", line),
-        FileFault::TooLarge { bytes } => too_large_value(alloc, bytes),
-        FileFault::NoMemory => noted_value(alloc, "BadFile", "fault", "NoMemory"),
+        FileFault::TooLong { line } => bad_line(alloc, "TooLong", line),
+        FileFault::ControlByte { line } => bad_line(alloc, "ControlByte", line),
+        FileFault::TooLarge { bytes } => too_large(alloc, bytes),
+        FileFault::NoMemory => noted_refusal(alloc, 400, "BadFile", "fault", "NoMemory"),
     }
 }
 
-/// A command that is too hot.
-pub(crate) fn too_hot_value(alloc: Global, asked: u64, limit: u16) -> Result<Value, AllocError>
-    ensures { IfOk result (λ value. view value ≡ too_hot_data asked limit) }
+// A command that is too hot.
+fn too_hot(alloc: Global, asked: u64, limit: u16) -> Result<HttpReply, AllocError>
+    ensures { IfOk result (λ reply. reply ≡ json_reply 400 (too_hot_data asked limit)) }
 {
-    json!(in alloc; {"asked": asked, "error": "TooHot", "limit": limit})
+    object_reply(
+        alloc,
+        400,
+        &[
+            ("asked", Primitive::Count(asked)),
+            ("error", Primitive::Text("TooHot")),
+            ("limit", Primitive::Count(limit.into())),
+        ],
+    )
 }
 
-/// A file with a command that is too hot.
-pub(crate) fn too_hot_line_value(
-    alloc: Global,
-    line: u32,
-    asked: u64,
-    limit: u16,
-) -> Result<Value, AllocError>
-    ensures { IfOk result (λ value. view value ≡ too_hot_line_data line asked limit) }
+// A file with a command that is too hot.
+fn too_hot_line(alloc: Global, line: u32, asked: u64, limit: u16) -> Result<HttpReply, AllocError>
+    ensures { IfOk result (λ reply. reply ≡ json_reply 409 (too_hot_line_data line asked limit)) }
 {
-    json!(in alloc; {"asked": asked, "error": "TooHotLine", "limit": limit, "line": line})
+    object_reply(
+        alloc,
+        409,
+        &[
+            ("asked", Primitive::Count(asked)),
+            ("error", Primitive::Text("TooHotLine")),
+            ("limit", Primitive::Count(limit.into())),
+            ("line", Primitive::Count(line.into())),
+        ],
+    )
 }
 
-/// A name that is held, with the entry of the queue that holds it.
-pub(crate) fn name_taken_value(
-    alloc: Global,
-    kept: &Option<ShownEntry>,
-) -> Result<Value, AllocError>
-    ensures { IfOk result (λ value. view value ≡ name_taken_data kept.now) }
+// A name that is held by an entry of the queue.
+fn name_of_entry(alloc: Global, entry: &ShownEntry) -> Result<HttpReply, AllocError>
+    ensures { IfOk result (λ reply. reply ≡ json_reply 409 (name_taken_data (Some entry.now))) }
+{
+    let kept = entry.to_json(alloc)?;
+    object_reply_with(
+        alloc,
+        409,
+        &[("error", Primitive::Text("NameTaken"))],
+        "kept",
+        kept,
+    )
+}
+
+// A name that is held, with the entry of the queue that holds it.
+fn name_taken(alloc: Global, kept: &Option<ShownEntry>) -> Result<HttpReply, AllocError>
+    ensures { IfOk result (λ reply. reply ≡ json_reply 409 (name_taken_data kept.now)) }
 {
     match kept {
-        Some(entry) => {
-            let kept = entry_value(alloc, entry)?;
-            json!(in alloc; {"error": "NameTaken", "kept": kept})
-        }
-        None => refusal_value(alloc, "NameTaken"),
+        Some(entry) => name_of_entry(alloc, entry),
+        None => refusal(alloc, 409, "NameTaken"),
     }
 }
 
-/// A limit that is reached.
-pub(crate) fn full_value(alloc: Global, count: u32) -> Result<Value, AllocError>
-    ensures { IfOk result (λ value. view value ≡ full_data count) }
+// A limit that is reached.
+fn full(alloc: Global, count: u32) -> Result<HttpReply, AllocError>
+    ensures { IfOk result (λ reply. reply ≡ json_reply 409 (full_data count)) }
 {
-    json!(in alloc; {"count": count, "error": "Full"})
+    object_reply(
+        alloc,
+        409,
+        &[
+            ("count", Primitive::Count(count.into())),
+            ("error", Primitive::Text("Full")),
+        ],
+    )
+}
+
+// The reply to a refusal that has no fields.
+fn named_refusal(alloc: Global, answer: &Answer) -> Result<HttpReply, AllocError>
+    requires { is_named answer.now ≡ true }
+    ensures { IfOk result (λ reply. reply ≡ reply_of answer.now) }
+{
+    match answer {
+        Answer::BadPort => refusal(alloc, 400, "BadPort"),
+        Answer::BadCommand => refusal(alloc, 400, "BadCommand"),
+        Answer::NoFile => refusal(alloc, 404, "NoFile"),
+        Answer::NoUser => refusal(alloc, 404, "NoUser"),
+        Answer::NoEntry => refusal(alloc, 404, "NoEntry"),
+        Answer::NoneSelected => refusal(alloc, 409, "NoneSelected"),
+        Answer::FileBusy => refusal(alloc, 409, "FileBusy"),
+        Answer::ArrivalsUsed => refusal(alloc, 409, "ArrivalsUsed"),
+        Answer::KeeperFault => refusal(alloc, 503, "KeeperFault"),
+        Answer::ShelfFault => refusal(alloc, 503, "ShelfFault"),
+        Answer::Closed => refusal(alloc, 503, "Closed"),
+        Answer::NoMemory => Ok(empty_reply(alloc, 507)),
+        _ => unreachable!(),
+    }
+}
+
+/// The reply to a refusal.
+pub(crate) fn refusal_reply(alloc: Global, answer: &Answer) -> Result<HttpReply, AllocError>
+    requires { is_refusal answer.now ≡ true }
+    ensures { IfOk result (λ reply. reply ≡ reply_of answer.now) }
+{
+    match answer {
+        Answer::Denied { permission } => {
+            let permission = permission_text(*permission);
+            noted_refusal(alloc, 403, "Denied", "permission", permission)
+        }
+        Answer::BadGroup { group } => {
+            noted_refusal(alloc, 400, "BadGroup", "group", group.as_str())
+        }
+        Answer::BadFile { fault } => bad_file(alloc, *fault),
+        Answer::TooHot { asked, limit } => too_hot(alloc, *asked, *limit),
+        Answer::WrongState { state } => {
+            noted_refusal(alloc, 409, "WrongState", "state", state_text(*state))
+        }
+        Answer::TooHotLine { line, asked, limit } => too_hot_line(alloc, *line, *asked, *limit),
+        Answer::NameTaken { kept } => name_taken(alloc, kept),
+        Answer::KeyTaken { name } => noted_refusal(alloc, 409, "KeyTaken", "name", name.as_str()),
+        Answer::Full { count } => full(alloc, *count),
+        _ => named_refusal(alloc, answer),
+    }
 }

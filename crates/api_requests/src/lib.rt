@@ -14,6 +14,3 @@ mod user_bodies;
 
 pub use api_direct::Direct;
 pub use request::{request_by, to_request};
-
-#[cfg(test)]
-mod tests;

@@ -12,6 +12,3 @@ pub use ascii::{ascii_text, is_key};
 pub use place::Routes;
 pub use target::{Target, target_of};
 pub use wanted::{Form, Wanted, wanted_of};
-
-#[cfg(test)]
-mod tests;

@@ -9,6 +9,3 @@ mod serve;
 
 pub use at_door::worker;
 pub use serve::serve_conn;
-
-#[cfg(test)]
-mod tests;

@@ -67,6 +67,17 @@ impl Name {
         }
     }
 
+    /// The name of a text that isn't too long.
+    pub fn of_short(text: &str) -> Name
+        requires { length text.now ≤ MOST_NAME_BYTES }
+        ensures { result ≡ text.now }
+    {
+        match Name::from_text(text) {
+            Some(name) => name,
+            None => unreachable!(),
+        }
+    }
+
     /// The same name again; takes no memory.
     pub fn copy(&self) -> Name
         ensures { result ≡ self.now }

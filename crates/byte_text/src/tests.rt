@@ -71,6 +71,14 @@ fn letters_in_any_case(rt: HostRuntime) {
 }
 
 #[test]
+fn names(rt: HostRuntime) {
+    let name = Name::of_short("ana");
+    assert_eq!(rt; name.as_str(), "ana");
+    assert!(rt; name.copy().is(&name));
+    assert!(rt; !name.is(&Name::new()));
+}
+
+#[test]
 fn sendable_texts(rt: HostRuntime) {
     assert!(rt; is_sendable(b"G28"));
     assert!(rt; is_sendable(&[b'a'; 79]));

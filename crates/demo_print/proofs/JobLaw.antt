@@ -10,12 +10,12 @@ use Rattle.std.proofs.lemmas.Fmt.{length-decimal-le}
 use Rattle.byte_text.proofs.NumberLaws.{all_digits-decimal}
 use Rattle.gcode_lines.specs.Commands.{fault_at, file_line, first_fault, job_in, job_of, lines_of as file_lines, numbered, pieces_of}
 use Rattle.gcode_lines.specs.Job.{JobData, most_bytes}
-use Rattle.gcode_lines.specs.Text.{begin_of, has_control, is_control, is_skipped, is_too_long, text_of}
+use Rattle.gcode_lines.specs.Text.{begin_of, has_control, is_control, is_skipped, is_too_long, command_text}
 use Rattle.gcode_lines.specs.declared.fault.FileFault.{FileFault}
 use Rattle.gcode_lines.specs.declared.fault.FileFault.TheVariants.{TooLong, ControlByte, NoMemory}
-use Rattle.gcode_lines.proofs.TextCut.{IsPart-ends, IsPart-text_of}
+use Rattle.gcode_lines.proofs.TextCut.{IsPart-ends, IsPart-command_text}
 use Rattle.demo_print.specs.Draws.{draws, next_draw}
-use Rattle.demo_print.specs.File.{command_of, demo_file, lines_of}
+use Rattle.demo_print.specs.File.{command_of, demo_file, draw_lines}
 use Rattle.gcode_lines.proofs.Sendable.{line_feed_is_control}
 
 -- a short line without control bytes, and so without a line feed
@@ -59,23 +59,23 @@ command_plain draw = pick (draw % 4 == 0) (draw % 4 == 1) (draw % 4 == 2)
     pick false false false = named_plain (codes "G4 P") (draw % 50) refl refl least
 
 -- the text of a plain line is neither too long nor has it a control byte
-text_short : (line : List ℕ) → IsPlain line → is_too_long (text_of line) ≡ false
+text_short : (line : List ℕ) → IsPlain line → is_too_long (command_text line) ≡ false
 unfolding is_too_long
 text_short line plain =
-    let ends = IsPart-ends line (begin_of line) (text_of line) (IsPart-text_of line) in
+    let ends = IsPart-ends line (begin_of line) (command_text line) (IsPart-command_text line) in
     let few = plain.short in
-    le-ltb 79 (length (text_of line)) (omega (arith, ends, few))
+    le-ltb 79 (length (command_text line)) (omega (arith, ends, few))
 
-text_clean : (line : List ℕ) → IsPlain line → has_control (text_of line) ≡ false
+text_clean : (line : List ℕ) → IsPlain line → has_control (command_text line) ≡ false
 unfolding has_control
 text_clean line plain =
-    let part = IsPart-text_of line in
-    let whole : list_any is_control (part.front ++ (text_of line ++ part.back)) ≡ false = subst (λ (l : List ℕ). list_any is_control l ≡ false) part.joined plain.clean in
-    let behind = (or_parts _ _ (sym (list_any-append is_control part.front (text_of line ++ part.back)) ∙ whole)).1 in
-    (or_parts _ _ (sym (list_any-append is_control (text_of line) part.back) ∙ behind)).0
+    let part = IsPart-command_text line in
+    let whole : list_any is_control (part.front ++ (command_text line ++ part.back)) ≡ false = subst (λ (l : List ℕ). list_any is_control l ≡ false) part.joined plain.clean in
+    let behind = (or_parts _ _ (sym (list_any-append is_control part.front (command_text line ++ part.back)) ∙ whole)).1 in
+    (or_parts _ _ (sym (list_any-append is_control (command_text line) part.back) ∙ behind)).0
 
 plain_line : (line : List ℕ) (number place : ℕ) → IsPlain line → fault_at (file_line line number place) ≡ None
-plain_line line number place plain = split (is_skipped (text_of line)) (is_too_long (text_of line)) (has_control (text_of line)) (text_short line plain) (text_clean line plain)
+plain_line line number place plain = split (is_skipped (command_text line)) (is_too_long (command_text line)) (has_control (command_text line)) (text_short line plain) (text_clean line plain)
   where
     split : (skipped long control : Bool) → long ≡ false → control ≡ false
         → ◌≡◌ {A = Option FileFault} (cond skipped None (cond long (Some (TooLong number)) (cond control (Some (ControlByte number)) None))) None
@@ -95,19 +95,19 @@ first_piece (byte ∷ line) rest clean =
     let other : (byte == 10) ≡ false = line_feed_is_control byte parts.0 in
     rw (other, first_piece line rest parts.1) refl
 
-pieces_of_lines : (drawn : List ℕ) → pieces_of (lines_of drawn) ≡ map command_of drawn
+pieces_of_lines : (drawn : List ℕ) → pieces_of (draw_lines drawn) ≡ map command_of drawn
 pieces_of_lines [] = refl
 pieces_of_lines (draw ∷ drawn) =
-    ap pieces_of (append_assoc (command_of draw) (codes "\n") (lines_of drawn))
-    ∙ first_piece (command_of draw) (lines_of drawn) (command_plain draw).clean
+    ap pieces_of (append_assoc (command_of draw) (codes "\n") (draw_lines drawn))
+    ∙ first_piece (command_of draw) (draw_lines drawn) (command_plain draw).clean
     ∙ ap (λ (pieces : List (List ℕ)). command_of draw ∷ pieces) (pieces_of_lines drawn)
 
-lines_short : (drawn : List ℕ) → length (lines_of drawn) ≤ 25 * length drawn
+lines_short : (drawn : List ℕ) → length (draw_lines drawn) ≤ 25 * length drawn
 lines_short [] = omega arith
 lines_short (draw ∷ drawn) =
     let few = (command_plain draw).short in
     let rest = lines_short drawn in
-    omega (arith, few, rest, length-append (command_of draw ++ codes "\n") (lines_of drawn), length-append (command_of draw) (codes "\n"))
+    omega (arith, few, rest, length-append (command_of draw ++ codes "\n") (draw_lines drawn), length-append (command_of draw) (codes "\n"))
 
 draws_many : (number count : ℕ) → length (draws number count) ≡ count
 draws_many number zero = refl

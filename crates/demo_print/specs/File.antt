@@ -11,9 +11,9 @@ command_of draw =
     else codes "G4 P" ++ decimal (draw % 50)
 
 -- the lines of draws: the command of each, with its line end
-abbrev pub lines_of : List ℕ → List ℕ
-lines_of = flat_map (λ draw. command_of draw ++ codes "\n")
+abbrev pub draw_lines : List ℕ → List ℕ
+draw_lines = flat_map (λ draw. command_of draw ++ codes "\n")
 
 -- the file: a command for each of its draws
 abbrev pub demo_file : (seed commands : ℕ) → List ℕ
-demo_file seed commands = lines_of (draws seed commands)
+demo_file seed commands = draw_lines (draws seed commands)

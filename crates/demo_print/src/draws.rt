@@ -4,10 +4,10 @@ ghost use Rattle.demo_print.specs.Draws.{next_draw, upper_bits};
 
 use std::marker::Model;
 
-/// A linear congruential generator of 31 bits, seen as its number. Source: the example of `rand` in the C standard,
-/// ISO C 7.22.2.
+/// The numbers that a demo draws: a linear congruential generator of 31 bits, seen as its number. Source: the example of
+/// `rand` in the C standard, ISO C 7.22.2.
 #[derive(Drop)]
-pub(crate) struct Draws {
+pub struct Draws {
     number: u32,
 }
 
@@ -21,7 +21,7 @@ impl Model for Draws {
 
 impl Draws {
     /// The draws from a seed.
-    pub(crate) fn new(seed: u32) -> Draws
+    pub fn new(seed: u32) -> Draws
         ensures { result ≡ seed }
     {
         Draws { number: seed }
@@ -29,7 +29,7 @@ impl Draws {
 
     /// The next draw, below 32,768.
     #[tactic(auto, unfolding(crate::specs::Draws::next_draw))]
-    pub(crate) fn draw(&mut self) -> u32
+    pub fn draw(&mut self) -> u32
         ensures number { self.new ≡ next_draw self.old }
         ensures value { result ≡ upper_bits self.new }
     {

@@ -1,7 +1,7 @@
 //! The file of a demo.
 ghost use Rattle.std.specs.Prelude.{◌≡◌, ◌≤◌, ◌-◌, ◌++◌, codes, decimal, length, IfOk, OnOk};
 ghost use Rattle.demo_print.specs.Draws.{draws, number_after};
-ghost use Rattle.demo_print.specs.File.{command_of, lines_of, demo_file};
+ghost use Rattle.demo_print.specs.File.{command_of, draw_lines, demo_file};
 
 use crate::draws::Draws;
 use itoa::Buffer;
@@ -39,7 +39,7 @@ pub(crate) fn append_lines(
     numbers: &mut Draws,
     commands: u32,
 ) -> Result<(), AllocError>
-    ensures lines { OnOk result (file.new ≡ file.old ++ lines_of (draws numbers.old commands)) }
+    ensures lines { OnOk result (file.new ≡ file.old ++ draw_lines (draws numbers.old commands)) }
     ensures number { OnOk result (numbers.new ≡ number_after numbers.old commands) }
 {
     for _ in 0..commands {

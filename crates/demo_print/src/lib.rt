@@ -8,11 +8,9 @@ mod report;
 mod run;
 mod schedule;
 
+pub use draws::Draws;
 pub use file::{MOST_COMMANDS, demo_file};
 pub use job::demo_job;
 pub use report::{DemoCounts, SummaryText, summary};
 pub use run::{Demo, run_demo};
 pub use schedule::demo_schedule;
-
-#[cfg(test)]
-mod tests;

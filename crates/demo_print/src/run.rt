@@ -1,6 +1,5 @@
 //! The run of a demo.
-ghost use Rattle.std.specs.Prelude.{◌≡◌, ◌≤◌, length, false, [], IfOk};
-ghost use Rattle.byte_text.specs.declared.name.TheConstants.{MOST_NAME_BYTES};
+ghost use Rattle.std.specs.Prelude.{◌≡◌, ◌≤◌, false, [], IfOk};
 ghost use Rattle.desk_steps.specs.Data.{new_desk};
 ghost use Rattle.send_window.specs.Data.{new_sender, IsSound};
 ghost use Rattle.session_print.specs.Ends.{IsNew};
@@ -44,17 +43,6 @@ pub struct Demo {
     pub end: PrintEnd,
 }
 
-// A short name.
-fn name(text: &str) -> Name
-    requires { length text.now ≤ MOST_NAME_BYTES }
-    ensures { result ≡ text.now }
-{
-    match Name::from_text(text) {
-        Some(name) => name,
-        None => unreachable!(),
-    }
-}
-
 // A session without scripts.
 fn plain_session(alloc: Global) -> Result<Session, AllocError>
     ensures new { IfOk result IsNew }
@@ -81,8 +69,8 @@ fn print_over(alloc: Global, link: &mut MemoryLink, job: Job) -> Result<PrintEnd
         &mut session,
         link,
         &mut MemoryClock::new(0, REST),
-        &name("demo"),
-        &name("file"),
+        &Name::of_short("demo"),
+        &Name::of_short("file"),
         job,
         TURNS,
     ))

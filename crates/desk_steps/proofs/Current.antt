@@ -5,7 +5,7 @@ use Rattle.desk_steps.specs.Data.{ScriptTexts, Data, File, Line, script_lines, c
 use Rattle.desk_steps.specs.Table.{closing, connect_at, disconnect_at, select_at, drop_file_step, is_named, pause_at, resume_at, toggle_at, cancel_at, manual_at, add_manual}
 use Rattle.desk_steps.specs.Pull.{Drawn, draw_in_order, nothing, next_number, keep_number, issue, from_scripts, from_manual, from_poll, poll_is_due, from_file, draw_at, is_issued, settle_at, pull_step}
 use Rattle.desk_steps.specs.Course.{job_line}
-use Rattle.desk_steps.specs.Run.{lines_of}
+use Rattle.desk_steps.specs.Run.{print_lines}
 use Rattle.desk_steps.specs.declared.state.State.{State}
 use Rattle.desk_steps.specs.declared.state.State.TheVariants.{Offline, Connecting, Operational, Printing, Pausing, Paused, Cancelling, Finishing, Closing, Fault}
 use Rattle.desk_steps.specs.declared.state.Point.{Point}
@@ -40,7 +40,7 @@ pub record Current (p : ℕ) (commands : List (List ℕ)) (out : List Line) (scr
   pub is : greatest ≡ p
   pub active_is : active ≡ true
   pub texts_are : texts ≡ commands
-  pub stage : Stage scripts p commands state cursor waiting (out ++ lines_of p waiting)
+  pub stage : Stage scripts p commands state cursor waiting (out ++ print_lines p waiting)
 
 abbrev pub CurrentTo : ℕ → List (List ℕ) → List Line → Data → Type 0
 CurrentTo p commands out d = Current p commands out d.scripts d.state (commands_of d.file) d.greatest d.active d.cursor d.waiting
@@ -50,17 +50,17 @@ module _ (p : ℕ) (commands : List (List ℕ)) where
   At scripts state cursor waiting lines = Stage scripts p commands state cursor waiting lines
 
   stage_is : (out : List Line) (d : Data) (s : State) → d.state ≡ s → CurrentTo p commands out d →
-      At d.scripts s d.cursor d.waiting (out ++ lines_of p d.waiting)
-  stage_is out d s e h = subst (λ t. At d.scripts t d.cursor d.waiting (out ++ lines_of p d.waiting)) e h.stage
+      At d.scripts s d.cursor d.waiting (out ++ print_lines p d.waiting)
+  stage_is out d s e h = subst (λ t. At d.scripts t d.cursor d.waiting (out ++ print_lines p d.waiting)) e h.stage
 
   -- a state in which no print is going on
-  nowhere : (X : Type 0) (out : List Line) (d : Data) (s : State) → d.state ≡ s → (At d.scripts s d.cursor d.waiting (out ++ lines_of p d.waiting) → ⊥) →
+  nowhere : (X : Type 0) (out : List Line) (d : Data) (s : State) → d.state ≡ s → (At d.scripts s d.cursor d.waiting (out ++ print_lines p d.waiting) → ⊥) →
       CurrentTo p commands out d → X
   nowhere X out d s e none h = absurd (none (stage_is out d s e h))
 
   -- a script of the print joins the waiting lines
   joins : (at : Point) (out : List Line) (d : Data) (s : State) → CurrentTo p commands out d
-      → At d.scripts s d.cursor (d.waiting ++ script_lines d.scripts at d.greatest) ((out ++ lines_of p d.waiting) ++ script_lines d.scripts at p)
+      → At d.scripts s d.cursor (d.waiting ++ script_lines d.scripts at d.greatest) ((out ++ print_lines p d.waiting) ++ script_lines d.scripts at p)
       → Current p commands out d.scripts s (commands_of d.file) d.greatest d.active d.cursor (d.waiting ++ script_lines d.scripts at d.greatest)
   joins at out d s h new = record {
     is = h.is;
@@ -92,8 +92,8 @@ module _ (p : ℕ) (commands : List (List ℕ)) where
 
   pub begun : (out : List Line) (d : Data) → CurrentTo p commands out d → IsBegun d.scripts p commands out
   begun out d h =
-      let c = going d.scripts d.state d.cursor d.waiting (out ++ lines_of p d.waiting) h.stage in
-      record { end = c.0; rest = lines_of p d.waiting; course = c.1 }
+      let c = going d.scripts d.state d.cursor d.waiting (out ++ print_lines p d.waiting) h.stage in
+      record { end = c.0; rest = print_lines p d.waiting; course = c.1 }
 
   -- the end of the connection begins: the script that joins is no print's
   to_closing : nat_eq 0 p ≡ false → (out : List Line) (d : Data) → CurrentTo p commands out d → CurrentTo p commands out (closing d)
@@ -102,7 +102,7 @@ module _ (p : ℕ) (commands : List (List ℕ)) where
     active_is = h.active_is;
     texts_are = h.texts_are;
     stage =
-        let c = going d.scripts d.state d.cursor d.waiting (out ++ lines_of p d.waiting) h.stage in
+        let c = going d.scripts d.state d.cursor d.waiting (out ++ print_lines p d.waiting) h.stage in
         (c.0, subst (λ l. Course d.scripts p commands c.0 (out ++ l)) (sym (waits_other d.waiting d.scripts point.Disconnect p 0 z)) c.1);
   }
 
@@ -232,8 +232,8 @@ module _ (p : ℕ) (commands : List (List ℕ)) where
     active_is = h.active_is;
     texts_are = h.texts_are;
     stage =
-        let b : At d.scripts d.state d.cursor (line ∷ rest) (out ++ lines_of p (line ∷ rest)) =
-        subst (λ w. At d.scripts d.state d.cursor w (out ++ lines_of p w)) e h.stage in
+        let b : At d.scripts d.state d.cursor (line ∷ rest) (out ++ print_lines p (line ∷ rest)) =
+        subst (λ w. At d.scripts d.state d.cursor w (out ++ print_lines p w)) e h.stage in
         subst (λ l. At d.scripts d.state d.cursor rest l) (goes_over p out line rest) (stays d.scripts d.state d.cursor line rest _ b);
   })
 
@@ -261,14 +261,14 @@ module _ (p : ℕ) (commands : List (List ℕ)) where
     active_is = h.active_is;
     texts_are = h.texts_are;
     stage =
-        let b : Body d.scripts p commands d.cursor out = subst (λ l. Body d.scripts p commands d.cursor l) (ap (λ w. out ++ lines_of p w) w ∙ append-nil out)
+        let b : Body d.scripts p commands d.cursor out = subst (λ l. Body d.scripts p commands d.cursor l) (ap (λ w. out ++ print_lines p w) w ∙ append-nil out)
         (stage_is out d Printing e h) in
         let there : slice_get commands d.cursor ≡ Some text = ap (λ c. slice_get c d.cursor) (sym h.texts_are) ∙ t in
         let more : Body d.scripts p commands (suc d.cursor) (out ++ job_line p d.cursor text ∷ []) = command d.cursor text out b there in
-        let lines : (out ++ own p (job_line d.greatest d.cursor text)) ++ lines_of p d.waiting ≡ out ++ job_line p d.cursor text ∷ [] =
-        ap (λ w. (out ++ own p (job_line d.greatest d.cursor text)) ++ lines_of p w) w ∙ append-nil _ ∙ ap (λ l. out ++ l) (own_job d text h.is) in
+        let lines : (out ++ own p (job_line d.greatest d.cursor text)) ++ print_lines p d.waiting ≡ out ++ job_line p d.cursor text ∷ [] =
+        ap (λ w. (out ++ own p (job_line d.greatest d.cursor text)) ++ print_lines p w) w ∙ append-nil _ ∙ ap (λ l. out ++ l) (own_job d text h.is) in
         let next : suc d.cursor ≡ d.cursor + 1 = omega arith in
-        subst (λ s. At d.scripts s (d.cursor + 1) d.waiting ((out ++ own p (job_line d.greatest d.cursor text)) ++ lines_of p d.waiting)) (sym e)
+        subst (λ s. At d.scripts s (d.cursor + 1) d.waiting ((out ++ own p (job_line d.greatest d.cursor text)) ++ print_lines p d.waiting)) (sym e)
         (subst (λ l. Body d.scripts p commands (d.cursor + 1) l) (sym lines)
         (subst (λ n. Body d.scripts p commands n (out ++ job_line p d.cursor text ∷ [])) next more));
   })
@@ -290,10 +290,10 @@ module _ (p : ℕ) (commands : List (List ℕ)) where
 
   -- all commands were issued
   all_issued : (out : List Line) (d : Data) → is_issued d ≡ true → d.state ≡ Printing → CurrentTo p commands out d →
-      Body d.scripts p commands (length commands) (out ++ lines_of p d.waiting)
+      Body d.scripts p commands (length commands) (out ++ print_lines p d.waiting)
   all_issued out d t e h =
       let at_end : d.cursor ≡ length (commands_of d.file) = grind (arith, nat_tests) in
-      subst (λ n. Body d.scripts p commands n (out ++ lines_of p d.waiting)) (at_end ∙ ap length h.texts_are) (stage_is out d Printing e h)
+      subst (λ n. Body d.scripts p commands n (out ++ print_lines p d.waiting)) (at_end ∙ ap length h.texts_are) (stage_is out d Printing e h)
 
   settle_if : (out : List Line) (b : Bool) (d : Data) → is_issued d ≡ b → d.state ≡ Printing → CurrentTo p commands out d →
       CurrentTo p commands out (cond b (with_script point.Done d.greatest (record d { state = Finishing })) d)

@@ -6,7 +6,7 @@ use Rattle.desk_steps.specs.Table.{connect_at, disconnect_at, select_at, drop_fi
 use Rattle.desk_steps.specs.Pull.{Drawn, draw_in_order, nothing, next_number, keep_number, issue, from_scripts, from_manual, from_poll, poll_is_due, from_file, draw_at, is_issued, settle_at, pull_step}
 use Rattle.desk_steps.specs.Note.{Noted, after_ending, is_over, end_at, finish, leave, fail, ready_at, after_open, note_fact, note_step}
 use Rattle.desk_steps.specs.Course.{job_line}
-use Rattle.desk_steps.specs.Run.{is_of, lines_of}
+use Rattle.desk_steps.specs.Run.{is_of, print_lines}
 use Rattle.desk_steps.specs.declared.state.State.{State}
 use Rattle.desk_steps.specs.declared.state.State.TheVariants.{Offline, Connecting, Operational, Printing, Pausing, Paused, Cancelling, Finishing, Closing, Fault}
 use Rattle.desk_steps.specs.declared.state.Point.{Point}
@@ -35,7 +35,7 @@ IsIdle Fault = Unit {0}
 
 -- none of its lines waits, and the desk's print is another one, or over
 pub record Foreign (p : ℕ) (waiting : List Line) (greatest : ℕ) (active : Bool) (state : State) : Type 0 where
-  pub none : lines_of p waiting ≡ []
+  pub none : print_lines p waiting ≡ []
   pub other : (nat_eq greatest p ≡ false) ⊎ ((active ≡ false) × IsIdle state)
 
 abbrev pub ForeignTo : ℕ → Data → Type 0
@@ -87,7 +87,7 @@ module _ (p : ℕ) where
   foreign-drop_file name d f = choose_pair (is_named name d.file) _ _ (choose_pair d.active _ _ f f) f
 
   -- another print begins
-  pub foreign-printing : (q : ℕ) (d : Data) → nat_eq q p ≡ false → lines_of p d.waiting ≡ [] → ForeignTo p (printing q d)
+  pub foreign-printing : (q : ℕ) (d : Data) → nat_eq q p ≡ false → print_lines p d.waiting ≡ [] → ForeignTo p (printing q d)
   foreign-printing q d e none = record { none = waits_other d.waiting d.scripts point.Started p q e ∙ none; other = inl e }
 
   pub foreign-pause : (s : State) (d : Data) → d.state ≡ s → ForeignTo p d → ForeignTo p (pause_at s d).1
@@ -143,9 +143,9 @@ module _ (p : ℕ) where
   foreign-issue line d e f = (foreign-keep line.tag (next_number d.issued) (record d { issued = next_number d.issued }) f, e)
 
   -- the first of lines that are none of its
-  first_other : (line : Line) (lines : List Line) → lines_of p (line ∷ lines) ≡ [] → (is_of p line.tag ≡ false) × (lines_of p lines ≡ [])
+  first_other : (line : Line) (lines : List Line) → print_lines p (line ∷ lines) ≡ [] → (is_of p line.tag ≡ false) × (print_lines p lines ≡ [])
   first_other line lines e =
-      elim (is_of p line.tag) as (λ b. cond b (line ∷ lines_of p lines) (lines_of p lines) ≡ [] → (b ≡ false) × (lines_of p lines ≡ [])) [
+      elim (is_of p line.tag) as (λ b. cond b (line ∷ print_lines p lines) (print_lines p lines) ≡ [] → (b ≡ false) × (print_lines p lines ≡ [])) [
         | true ↦ λ h. absurd (cc h)
         | false ↦ λ h. (refl, h)
       ] e
@@ -153,7 +153,7 @@ module _ (p : ℕ) where
   foreign-scripts : (w : List Line) (d : Data) (next : Drawn) → d.waiting ≡ w → ForeignTo p d → ForeignDrawn next → ForeignDrawn (from_scripts w d next)
   foreign-scripts [] d next e f h = h
   foreign-scripts (line ∷ lines) d next e f h =
-      let first = first_other line lines (ap (λ w. lines_of p w) (sym e) ∙ f.none) in
+      let first = first_other line lines (ap (λ w. print_lines p w) (sym e) ∙ f.none) in
       foreign-issue line (record d { waiting = lines }) first.0 (record { none = first.1; other = f.other })
 
   foreign-from_manual : (m : List (List ℕ)) (d : Data) (next : Drawn) → ForeignTo p d → ForeignDrawn next → ForeignDrawn (from_manual m d next)

@@ -6,7 +6,7 @@ use Rattle.desk_steps.specs.Data.{ScriptTexts, Data, File, Line, script_lines, c
 use Rattle.desk_steps.specs.Table.{start_at, start_checked, start_file, restart_at, printing}
 use Rattle.desk_steps.specs.Pull.{pull_step}
 use Rattle.desk_steps.specs.Note.{note_step}
-use Rattle.desk_steps.specs.Run.{is_of, lines_of}
+use Rattle.desk_steps.specs.Run.{is_of, print_lines}
 use Rattle.desk_steps.specs.declared.state.State.{State}
 use Rattle.desk_steps.specs.declared.state.State.TheVariants.{Operational, Paused}
 use Rattle.desk_steps.specs.declared.state.Point.TheVariants as point
@@ -66,13 +66,13 @@ module _ (scripts : ScriptTexts) (p : ℕ) (positive : nat_eq 0 p ≡ false) whe
   moves run e s f c (inr (inr k)) = inr (inr (record { passed = subst (λ g. p ≤ g) (sym s.greatest) k.passed; foreign = f k.foreign; story = k.story }))
 
   -- this print begins
-  begins : (d : Data) → d.scripts ≡ scripts → lines_of p d.waiting ≡ [] → CurrentTo p (commands_of d.file) [] (printing p d)
+  begins : (d : Data) → d.scripts ≡ scripts → print_lines p d.waiting ≡ [] → CurrentTo p (commands_of d.file) [] (printing p d)
   begins d k none = record {
     is = refl;
     active_is = refl;
     texts_are = refl;
     stage =
-        let e : lines_of p (d.waiting ++ script_lines d.scripts point.Started p) ≡ script_lines d.scripts point.Started p =
+        let e : print_lines p (d.waiting ++ script_lines d.scripts point.Started p) ≡ script_lines d.scripts point.Started p =
         waits_own [] d.waiting d.scripts point.Started p p refl ∙ ap (λ l. l ++ script_lines d.scripts point.Started p) none in
         subst (λ l. Body d.scripts p (commands_of d.file) 0 l) (sym e) started;
   }
@@ -118,7 +118,7 @@ module _ (scripts : ScriptTexts) (p : ℕ) (positive : nat_eq 0 p ≡ false) whe
 
   -- a later print begins
   follows : (q : ℕ) (run : Run) (begun : List (List (List ℕ))) (fates : List Fate) (ends : List (ℕ × Fate)) → of_print p run.begun ≡ begun →
-      of_print p ends ≡ fates → p < q → lines_of p run.desk.waiting ≡ []
+      of_print p ends ≡ fates → p < q → print_lines p run.desk.waiting ≡ []
       → Story scripts p begun (pulled_of p run.pulled) fates
       → KnownOf (record run { desk = printing q run.desk; begun = run.begun ++ (q, commands_of run.desk.file) ∷ []; ends = ends })
   follows q run begun fates ends b f h none story =
@@ -135,7 +135,7 @@ module _ (scripts : ScriptTexts) (p : ℕ) (positive : nat_eq 0 p ≡ false) whe
       → KnownOf (record run { desk = printing q run.desk; begun = run.begun ++ (q, commands_of run.desk.file) ∷ [] })
   starts q run k rises s (inl c) = comes q run k rises run.ends refl c
   starts q run k rises s (inr (inl c)) = absurd (subst (λ t. Stage run.desk.scripts p c.commands t run.desk.cursor run.desk.waiting
-      (pulled_of p run.pulled ++ lines_of p run.desk.waiting)) s c.current.stage)
+      (pulled_of p run.pulled ++ print_lines p run.desk.waiting)) s c.current.stage)
   starts q run k rises s (inr (inr c)) = follows q run _ _ run.ends refl refl (omega (arith, c.passed)) c.foreign.none c.story
 
   stay : (run : Run) → KnownOf run → KnownOf (moved run.desk run)
@@ -165,9 +165,9 @@ module _ (scripts : ScriptTexts) (p : ℕ) (positive : nat_eq 0 p ≡ false) whe
       })
   restarts q run k rises s (inl c) = comes q run k rises _ (of_print-other p run.desk.greatest Left run.ends (below_test _ _ c.above)) c
   restarts q run k rises s (inr (inl c)) =
-      let stage = subst (λ t. Stage run.desk.scripts p c.commands t run.desk.cursor run.desk.waiting (pulled_of p run.pulled ++ lines_of p run.desk.waiting)) s
+      let stage = subst (λ t. Stage run.desk.scripts p c.commands t run.desk.cursor run.desk.waiting (pulled_of p run.pulled ++ print_lines p run.desk.waiting)) s
       c.current.stage in
-      let none : lines_of p run.desk.waiting ≡ [] = ap (λ w. lines_of p w) stage.3 in
+      let none : print_lines p run.desk.waiting ≡ [] = ap (λ w. print_lines p w) stage.3 in
       let whole : pulled_of p run.pulled ≡ stage.0 ++ script_lines run.desk.scripts point.Paused p =
       sym (ap (λ l. pulled_of p run.pulled ++ l) none ∙ append-nil _) ∙ stage.2 in
       let so : Course scripts p c.commands course.Paused (pulled_of p run.pulled) =

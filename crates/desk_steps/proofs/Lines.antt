@@ -3,7 +3,7 @@ use Rattle.std.proofs.Common.{◌≡◌, ℕ, ◌<◌, Bool, true, false, cond, 
 use Rattle.std.proofs.lemmas.Bool.Decides.{nat_tests}
 use Rattle.std.proofs.lemmas.List.{append-nil}
 use Rattle.desk_steps.specs.Data.{ScriptTexts, Line, tagged, texts_at, script_lines}
-use Rattle.desk_steps.specs.Run.{Pulled, is_of, lines_of, pulled_of, of_print}
+use Rattle.desk_steps.specs.Run.{Pulled, is_of, print_lines, pulled_of, of_print}
 use Rattle.desk_steps.specs.declared.state.State.{State}
 use Rattle.desk_steps.specs.declared.state.Point.{Point}
 use Rattle.desk_steps.specs.declared.state.Tag.TheVariants.{Script}
@@ -16,7 +16,7 @@ choose_append false x xs ys = refl
 pub choose_step : {X : Type 0} (b : Bool) (x : X) (xs ys zs : List X) → xs ≡ ys ++ zs → cond b (x ∷ xs) xs ≡ cond b (x ∷ ys) ys ++ zs
 choose_step b x xs ys zs e = ap (λ l. cond b (x ∷ l) l) e ∙ choose_append b x ys zs
 
-pub lines_of-append : (p : ℕ) (xs ys : List Line) → lines_of p (xs ++ ys) ≡ lines_of p xs ++ lines_of p ys
+pub lines_of-append : (p : ℕ) (xs ys : List Line) → print_lines p (xs ++ ys) ≡ print_lines p xs ++ print_lines p ys
 lines_of-append p [] ys = refl
 lines_of-append p (x ∷ xs) ys = choose_step (is_of p x.tag) x _ _ _ (lines_of-append p xs ys)
 
@@ -37,24 +37,24 @@ of_print-own p q x xs e = of_print-append p xs ((q, x) ∷ []) ∙ ap (λ (b : B
 
 -- what a pulled line adds to the lines of a print
 abbrev pub own : ℕ → Line → List Line
-own p line = lines_of p (line ∷ [])
+own p line = print_lines p (line ∷ [])
 
 pub pulled_of-push : (p : ℕ) (line : Line) (state : State) (xs : List Pulled) →
     pulled_of p (xs ++ record { line = line; state = state } ∷ []) ≡ pulled_of p xs ++ own p line
 pulled_of-push p line state xs = pulled_of-append p xs (record { line = line; state = state } ∷ [])
 
 -- the lines of a script all belong to its print
-all_own : (p q : ℕ) (point : Point) (texts : List (List ℕ)) → nat_eq q p ≡ true → lines_of p (tagged (Script point q) texts) ≡ tagged (Script point q) texts
+all_own : (p q : ℕ) (point : Point) (texts : List (List ℕ)) → nat_eq q p ≡ true → print_lines p (tagged (Script point q) texts) ≡ tagged (Script point q) texts
 all_own p q point [] e = refl
 all_own p q point (text ∷ texts) e =
-    let l : List Line = lines_of p (tagged (Script point q) texts) in
+    let l : List Line = print_lines p (tagged (Script point q) texts) in
     let here : Line = record { text = text; tag = Script point q } in
     ap (λ (b : Bool). cond b (here ∷ l) l) e ∙ ap (λ (m : List Line). here ∷ m) (all_own p q point texts e)
 
-none_own : (p q : ℕ) (point : Point) (texts : List (List ℕ)) → nat_eq q p ≡ false → lines_of p (tagged (Script point q) texts) ≡ []
+none_own : (p q : ℕ) (point : Point) (texts : List (List ℕ)) → nat_eq q p ≡ false → print_lines p (tagged (Script point q) texts) ≡ []
 none_own p q point [] e = refl
 none_own p q point (text ∷ texts) e =
-    let l : List Line = lines_of p (tagged (Script point q) texts) in
+    let l : List Line = print_lines p (tagged (Script point q) texts) in
     let here : Line = record { text = text; tag = Script point q } in
     ap (λ (b : Bool). cond b (here ∷ l) l) e ∙ none_own p q point texts e
 
@@ -67,28 +67,28 @@ below_test p q h = grind (arith, nat_tests)
 pub above_test : (p q : ℕ) → q < p → nat_eq p q ≡ false
 above_test p q h = grind (arith, nat_tests)
 
-pub script_own : (scripts : ScriptTexts) (point : Point) (p : ℕ) → lines_of p (script_lines scripts point p) ≡ script_lines scripts point p
+pub script_own : (scripts : ScriptTexts) (point : Point) (p : ℕ) → print_lines p (script_lines scripts point p) ≡ script_lines scripts point p
 script_own scripts point p = all_own p p point (texts_at point scripts) (same_test p)
 
-pub script_other : (scripts : ScriptTexts) (point : Point) (p q : ℕ) → nat_eq q p ≡ false → lines_of p (script_lines scripts point q) ≡ []
+pub script_other : (scripts : ScriptTexts) (point : Point) (p q : ℕ) → nat_eq q p ≡ false → print_lines p (script_lines scripts point q) ≡ []
 script_other scripts point p q e = none_own p q point (texts_at point scripts) e
 
 -- a script that joins the waiting lines
 pub waits_own : (out w : List Line) (scripts : ScriptTexts) (point : Point) (p q : ℕ) → q ≡ p →
-    out ++ lines_of p (w ++ script_lines scripts point q) ≡ (out ++ lines_of p w) ++ script_lines scripts point p
+    out ++ print_lines p (w ++ script_lines scripts point q) ≡ (out ++ print_lines p w) ++ script_lines scripts point p
 waits_own out w scripts point p q e =
-    ap (λ (k : ℕ). out ++ lines_of p (w ++ script_lines scripts point k)) e
+    ap (λ (k : ℕ). out ++ print_lines p (w ++ script_lines scripts point k)) e
     ∙ ap (λ (l : List Line). out ++ l) (lines_of-append p w (script_lines scripts point p)
-    ∙ ap (λ (l : List Line). lines_of p w ++ l) (script_own scripts point p))
-    ∙ sym (append_assoc out (lines_of p w) (script_lines scripts point p))
+    ∙ ap (λ (l : List Line). print_lines p w ++ l) (script_own scripts point p))
+    ∙ sym (append_assoc out (print_lines p w) (script_lines scripts point p))
 
 pub waits_other : (w : List Line) (scripts : ScriptTexts) (point : Point) (p q : ℕ) → nat_eq q p ≡ false →
-    lines_of p (w ++ script_lines scripts point q) ≡ lines_of p w
+    print_lines p (w ++ script_lines scripts point q) ≡ print_lines p w
 waits_other w scripts point p q e =
-    lines_of-append p w (script_lines scripts point q) ∙ ap (λ (l : List Line). lines_of p w ++ l) (script_other scripts point p q e)
-    ∙ append-nil (lines_of p w)
+    lines_of-append p w (script_lines scripts point q) ∙ ap (λ (l : List Line). print_lines p w ++ l) (script_other scripts point p q e)
+    ∙ append-nil (print_lines p w)
 
 -- a line that goes from the front of the waiting ones to the end of the pulled ones
-pub goes_over : (p : ℕ) (out : List Line) (line : Line) (rest : List Line) → out ++ lines_of p (line ∷ rest) ≡ (out ++ own p line) ++ lines_of p rest
+pub goes_over : (p : ℕ) (out : List Line) (line : Line) (rest : List Line) → out ++ print_lines p (line ∷ rest) ≡ (out ++ own p line) ++ print_lines p rest
 goes_over p out line rest =
-    ap (λ (l : List Line). out ++ l) (lines_of-append p (line ∷ []) rest) ∙ sym (append_assoc out (own p line) (lines_of p rest))
+    ap (λ (l : List Line). out ++ l) (lines_of-append p (line ∷ []) rest) ∙ sym (append_assoc out (own p line) (print_lines p rest))

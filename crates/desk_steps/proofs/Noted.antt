@@ -5,7 +5,7 @@ use Rattle.desk_steps.specs.Data.{ScriptTexts, Data, Line}
 use Rattle.desk_steps.specs.Pull.{settled}
 use Rattle.desk_steps.specs.Note.{Noted, after_ending, is_over, end_at, finish, fail, ready_at, after_open, note_fact, note_step}
 use Rattle.desk_steps.specs.Course.{job_line}
-use Rattle.desk_steps.specs.Run.{lines_of}
+use Rattle.desk_steps.specs.Run.{print_lines}
 use Rattle.desk_steps.specs.declared.state.State.{State}
 use Rattle.desk_steps.specs.declared.state.State.TheVariants.{Offline, Connecting, Operational, Pausing, Paused, Cancelling, Finishing, Fault}
 use Rattle.desk_steps.specs.declared.link_fact.LinkFact.{LinkFact}
@@ -38,24 +38,24 @@ module _ (p : ℕ) (commands : List (List ℕ)) (scripts : ScriptTexts) where
   abbrev pub IsNotedAs : LinkFact → List Line → Noted → Type 0
   IsNotedAs f out noted = NotedAs f out noted.0 noted.1
 
-  nothing_left : (out : List Line) (d : Data) → is_over d ≡ true → (d.waiting ≡ []) × (out ++ lines_of p d.waiting ≡ out)
+  nothing_left : (out : List Line) (d : Data) → is_over d ≡ true → (d.waiting ≡ []) × (out ++ print_lines p d.waiting ≡ out)
   nothing_left out d t =
-      let w = no_lines d.waiting (and_parts _ _ t).0 in (w, ap (λ w. out ++ lines_of p w) w ∙ append-nil out)
+      let w = no_lines d.waiting (and_parts _ _ t).0 in (w, ap (λ w. out ++ print_lines p w) w ∙ append-nil out)
 
   stage_of : (out : List Line) (d : Data) (s : State) → d.state ≡ s → d.scripts ≡ scripts → CurrentTo p commands out d →
-      Stage scripts p commands s d.cursor d.waiting (out ++ lines_of p d.waiting)
+      Stage scripts p commands s d.cursor d.waiting (out ++ print_lines p d.waiting)
   stage_of out d s e k h =
-      subst (λ t. Stage t p commands s d.cursor d.waiting (out ++ lines_of p d.waiting)) k
-      (subst (λ t. Stage d.scripts p commands t d.cursor d.waiting (out ++ lines_of p d.waiting)) e h.stage)
+      subst (λ t. Stage t p commands s d.cursor d.waiting (out ++ print_lines p d.waiting)) k
+      (subst (λ t. Stage d.scripts p commands t d.cursor d.waiting (out ++ print_lines p d.waiting)) e h.stage)
 
   free : (out : List Line) (d : Data) → d.waiting ≡ [] → Foreign p d.waiting d.greatest false Operational
-  free out d w = record { none = ap (λ w. lines_of p w) w; other = inr (refl, tt) }
+  free out d w = record { none = ap (λ w. print_lines p w) w; other = inr (refl, tt) }
 
   end_pause : (f : LinkFact) (out : List Line) (b : Bool) (d : Data) → is_over d ≡ b → d.state ≡ Pausing → d.scripts ≡ scripts → CurrentTo p commands out d →
       IsNotedAs f out (cond b (None, record d { state = Paused }) (None, d))
   end_pause f out false d t e k h = (k, h)
   end_pause f out true d t e k h =
-      let s = subst (λ t. Stage d.scripts p commands t d.cursor d.waiting (out ++ lines_of p d.waiting)) e h.stage in
+      let s = subst (λ t. Stage d.scripts p commands t d.cursor d.waiting (out ++ print_lines p d.waiting)) e h.stage in
       (k, record { is = h.is; active_is = h.active_is; texts_are = h.texts_are; stage = (s.0, s.1, s.2, (nothing_left out d t).0) })
 
   end_cancel : (f : LinkFact) (out : List Line) (b : Bool) (d : Data) → fate_of f outcome.Cancelled ≡ Stopped → is_over d ≡ b → d.state ≡ Cancelling →
@@ -98,7 +98,7 @@ module _ (p : ℕ) (commands : List (List ℕ)) (scripts : ScriptTexts) where
 
   current-ready : (out : List Line) (s : State) (moment : ℕ) (d : Data) → d.state ≡ s → d.scripts ≡ scripts → CurrentTo p commands out d →
       ((ready_at s moment d).scripts ≡ scripts) × CurrentTo p commands out (ready_at s moment d)
-  current-ready out Connecting moment d e k h = absurd (subst (λ t. Stage d.scripts p commands t d.cursor d.waiting (out ++ lines_of p d.waiting)) e h.stage)
+  current-ready out Connecting moment d e k h = absurd (subst (λ t. Stage d.scripts p commands t d.cursor d.waiting (out ++ print_lines p d.waiting)) e h.stage)
   current-ready out _ moment d e k h = (k, h)
 
   current-fact : (f : LinkFact) (out : List Line) (moment : ℕ) (d : Data) → d.scripts ≡ scripts → CurrentTo p commands out d →

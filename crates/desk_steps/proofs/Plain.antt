@@ -4,7 +4,7 @@ use Rattle.std.proofs.lemmas.List.{append-nil, take_all, take_at, take-take}
 use Rattle.desk_steps.specs.Data.{ScriptTexts, Line, tagged, texts_at, script_lines}
 use Rattle.desk_steps.specs.Course.{End, Open, Paused, Cancelled, Done, Body, started, command, round, Course, still_open, paused, cancelled, cancelled_paused, done, job_line}
 use Rattle.desk_steps.specs.Story.{IsBegun}
-use Rattle.desk_steps.specs.Plain.{is_job, is_script, part, numbered, repeated, first_scripts, CommandsInOrder, alone, behind_pause, ReadsPlainly}
+use Rattle.desk_steps.specs.Plain.{is_job, is_script, part, numbered, repeated, first_scripts, CommandsInOrder, alone, after_pause, ReadsPlainly}
 use Rattle.desk_steps.specs.declared.state.Point.{Point}
 use Rattle.desk_steps.specs.declared.state.Point.TheVariants as point
 use Rattle.desk_steps.specs.declared.state.Tag.{Tag}
@@ -134,7 +134,7 @@ module _ (scripts : ScriptTexts) (print : ℕ) (commands : List (List ℕ)) wher
         scripts_whole = record {
           rounds = s.0;
           last = script_lines scripts point.Paused print ++ script_lines scripts point.Cancelled print;
-          last_is = behind_pause;
+          last_is = after_pause;
           whole = scripts_behind point.Cancelled (lines ++ script_lines scripts point.Paused print)
               ∙ ap (λ (l : List Line). l ++ script_lines scripts point.Cancelled print)
               (scripts_behind point.Paused lines ∙ ap (λ (l : List Line). l ++ script_lines scripts point.Paused print) s.1)

@@ -57,7 +57,7 @@ pub record CommandsInOrder (print : ℕ) (commands : List (List ℕ)) (lines : L
 -- the scripts at an end are alone, or for a cancelled print after a whole Paused script
 pub data LastScripts (scripts : ScriptTexts) (print : ℕ) : End → List Line → Type 0 where
   alone : (end : End) → LastScripts scripts print end (last_scripts scripts print end)
-  behind_pause : LastScripts scripts print Cancelled (script_lines scripts point.Paused print ++ script_lines scripts point.Cancelled print)
+  after_pause : LastScripts scripts print Cancelled (script_lines scripts point.Paused print ++ script_lines scripts point.Cancelled print)
 
 -- each script is whole, in order
 pub record ScriptsWhole (scripts : ScriptTexts) (print : ℕ) (end : End) (lines : List Line) : Type 0 where

@@ -149,9 +149,9 @@ is_of print Manual = false
 is_of print Poll = false
 
 -- the lines of a print among lines
-abbrev pub lines_of : ℕ → List Line → List Line
-lines_of print [] = []
-lines_of print (line ∷ lines) = if is_of print line.tag then line ∷ lines_of print lines else lines_of print lines
+abbrev pub print_lines : ℕ → List Line → List Line
+print_lines print [] = []
+print_lines print (line ∷ lines) = if is_of print line.tag then line ∷ print_lines print lines else print_lines print lines
 
 -- the pulled lines of a print
 abbrev pub pulled_of : ℕ → List Pulled → List Line

@@ -7,7 +7,7 @@ use Rattle.std.proofs.lemmas.List.Elements.{All-nil, All-cons}
 use Rattle.byte_text.specs.Sendable.{IsSendable}
 use Rattle.gcode_lines.specs.declared.fault.FileFault.{FileFault}
 use Rattle.gcode_lines.specs.declared.fault.FileFault.TheVariants.{TooLong, ControlByte, TooLarge}
-use Rattle.gcode_lines.specs.Text.{text_of, is_too_long, has_control}
+use Rattle.gcode_lines.specs.Text.{command_text, is_too_long, has_control}
 use Rattle.gcode_lines.specs.Job.{most_bytes, texts_of, numbers_of, AllSendable}
 use Rattle.gcode_lines.specs.Commands.{FileLine, file_line, numbered, pieces_of, lines_of, is_skipped_line, fault_at, first_fault, commands_in, unless_fault, job_in, job_of}
 use Rattle.gcode_lines.proofs.Sendable.{sendable_text, short_from_test}
@@ -23,16 +23,16 @@ sound_by true control number sound = absurd cc
 sound_by false true number sound = absurd cc
 
 -- a line that is neither skipped nor at fault says what may be sent
-pub sendable_line : (line : FileLine) → is_skipped_line line ≡ false → fault_at line ≡ None → IsSendable (text_of line.bytes)
+pub sendable_line : (line : FileLine) → is_skipped_line line ≡ false → fault_at line ≡ None → IsSendable (command_text line.bytes)
 sendable_line line kept sound =
-    let tests = sound_by (is_too_long (text_of line.bytes)) (has_control (text_of line.bytes)) line.number (ap (λ t. fault_by t (is_too_long (text_of line.bytes)) (has_control (text_of line.bytes)) line.number) (sym kept) ∙ sound) in
+    let tests = sound_by (is_too_long (command_text line.bytes)) (has_control (command_text line.bytes)) line.number (ap (λ t. fault_by t (is_too_long (command_text line.bytes)) (has_control (command_text line.bytes)) line.number) (sym kept) ∙ sound) in
     sendable_text line.bytes kept tests.0 tests.1
 
 -- and its text is short
-pub short_line : (line : FileLine) → is_skipped_line line ≡ false → fault_at line ≡ None → length (text_of line.bytes) ≤ 79
+pub short_line : (line : FileLine) → is_skipped_line line ≡ false → fault_at line ≡ None → length (command_text line.bytes) ≤ 79
 short_line line kept sound =
-    let tests = sound_by (is_too_long (text_of line.bytes)) (has_control (text_of line.bytes)) line.number (ap (λ t. fault_by t (is_too_long (text_of line.bytes)) (has_control (text_of line.bytes)) line.number) (sym kept) ∙ sound) in
-    short_from_test (text_of line.bytes) tests.0
+    let tests = sound_by (is_too_long (command_text line.bytes)) (has_control (command_text line.bytes)) line.number (ap (λ t. fault_by t (is_too_long (command_text line.bytes)) (has_control (command_text line.bytes)) line.number) (sym kept) ∙ sound) in
+    short_from_test (command_text line.bytes) tests.0
 
 pub both_none : (first rest : Option FileFault) → option_or first rest ≡ None → (first ≡ None) × (rest ≡ None)
 both_none None rest e = (refl, e)
@@ -45,7 +45,7 @@ texts_in lines = map (λ c. c.text) (commands_in lines)
 sendable_by : (line : FileLine) (lines : List FileLine) (t : Bool) → is_skipped_line line ≡ t → fault_at line ≡ None → All IsSendable (texts_in lines) → All IsSendable (texts_in (line ∷ lines))
 sendable_by line lines true e sound rest = rw e rest
 sendable_by line lines false e sound rest =
-    rw e (All-cons IsSendable (text_of line.bytes) (texts_in lines) (sendable_line line e sound) rest)
+    rw e (All-cons IsSendable (command_text line.bytes) (texts_in lines) (sendable_line line e sound) rest)
 
 sendable_lines : (lines : List FileLine) → first_fault lines ≡ None → All IsSendable (texts_in lines)
 sendable_lines [] sound = All-nil IsSendable

@@ -4,13 +4,13 @@ use Rattle.std.specs.List.{All}
 use Rattle.std.proofs.lemmas.List.{get_or-take, length-take-le}
 use Rattle.std.proofs.lemmas.List.Elements.{All-nil, All-cons}
 use Rattle.std.proofs.lemmas.List.Sums.{suffix_len_is}
-use Rattle.gcode_lines.specs.Text.{text_of, begin_of}
+use Rattle.gcode_lines.specs.Text.{command_text, begin_of}
 use Rattle.gcode_lines.specs.Job.{Command, most_bytes, word_of}
 use Rattle.gcode_lines.specs.Commands.{FileLine, is_skipped_line, fault_at, commands_in, command_at}
 use Rattle.gcode_lines.specs.Packed.{line_start, command_in, EndsIn}
 use Rattle.gcode_lines.proofs.Decoded.{command_by, command_in-word, ends_word}
 use Rattle.gcode_lines.proofs.JobLaws.{short_line}
-use Rattle.gcode_lines.proofs.TextCut.{IsPart, IsPart-cut, IsPart-ends, IsPart-part, IsPart-text_of}
+use Rattle.gcode_lines.proofs.TextCut.{IsPart, IsPart-cut, IsPart-ends, IsPart-part, IsPart-command_text}
 
 -- a line of a file: its bytes are at its place, between line feeds
 pub record IsLineOf (file : List ℕ) (line : FileLine) : Type 0 where
@@ -39,9 +39,9 @@ line_start-in file line n is inside =
 -- the command of a line that is neither skipped nor at fault
 command_kept : (file : List ℕ) (line : FileLine) → IsLineOf file line → is_skipped_line line ≡ false → fault_at line ≡ None → (command_in file (word_of (command_at line)) ≡ command_at line) × EndsIn file (word_of (command_at line))
 command_kept file line is kept sound =
-    let text = text_of line.bytes in
+    let text = command_text line.bytes in
     let begin = begin_of line.bytes in
-    let part = IsPart-text_of line.bytes in
+    let part = IsPart-command_text line.bytes in
     let there = IsPart-part file line.place line.bytes begin text is.there part in
     let short = short_line line kept sound in
     let small = is.small in

@@ -10,7 +10,7 @@ use Rattle.std.specs.Char.{is_ascii_digit}
 use Rattle.byte_text.specs.Marks.{has_byte, has_m110}
 use Rattle.byte_text.specs.Sendable.{IsSendable}
 use Rattle.byte_text.specs.Chars.{is_space}
-use Rattle.gcode_lines.specs.Text.{is_mark, is_blank, is_control, without_front, without_end, trimmed, is_numbered, without_number, text_of, is_skipped, is_too_long, has_control}
+use Rattle.gcode_lines.specs.Text.{is_mark, is_blank, is_control, without_front, without_end, trimmed, is_numbered, without_number, command_text, is_skipped, is_too_long, has_control}
 
 pub list_any-take : (test : ℕ → Bool) (n : ℕ) (xs : List ℕ) → list_any test xs ≡ false → list_any test (take n xs) ≡ false
 list_any-take test zero xs h = refl
@@ -58,9 +58,9 @@ no_star-number text h =
     ]
 
 -- no text of a line has a star
-pub no_star-text_of : (line : List ℕ) → has_byte 42 (text_of line) ≡ false
-unfolding has_byte text_of
-no_star-text_of line = no_star-number _ (no_star-trimmed _ (no_star_in_front line))
+pub no_star-command_text : (line : List ℕ) → has_byte 42 (command_text line) ≡ false
+unfolding has_byte command_text
+no_star-command_text line = no_star-number _ (no_star-trimmed _ (no_star_in_front line))
 
 pub line_feed_is_control : (x : ℕ) → is_control x ≡ false → (x == 10) ≡ false
 line_feed_is_control x h = grind (arith, nat_tests)
@@ -86,16 +86,16 @@ unfolding is_skipped
 kept_from_parts text some other = or_from (length text == 0) (has_m110 text) some other
 
 -- what a line says may be sent if it is neither skipped nor refused
-pub sendable_text : (line : List ℕ) → is_skipped (text_of line) ≡ false → is_too_long (text_of line) ≡ false → has_control (text_of line) ≡ false → IsSendable (text_of line)
+pub sendable_text : (line : List ℕ) → is_skipped (command_text line) ≡ false → is_too_long (command_text line) ≡ false → has_control (command_text line) ≡ false → IsSendable (command_text line)
 sendable_text line kept short clean =
     record {
       some = some_from_kept _ kept;
       short = short_from_test _ short;
-      no_star = no_star-text_of line;
+      no_star = no_star-command_text line;
       no_line_feed = no_line_feed _ clean;
       no_m110 = no_m110_from_kept _ kept;
     }
 
 -- the same if both reasons to skip it were tested apart
-pub sendable_one : (line : List ℕ) → (length (text_of line) == 0) ≡ false → has_m110 (text_of line) ≡ false → is_too_long (text_of line) ≡ false → has_control (text_of line) ≡ false → IsSendable (text_of line)
-sendable_one line some other short clean = sendable_text line (kept_from_parts (text_of line) some other) short clean
+pub sendable_one : (line : List ℕ) → (length (command_text line) == 0) ≡ false → has_m110 (command_text line) ≡ false → is_too_long (command_text line) ≡ false → has_control (command_text line) ≡ false → IsSendable (command_text line)
+sendable_one line some other short clean = sendable_text line (kept_from_parts (command_text line) some other) short clean

@@ -6,7 +6,7 @@ use Rattle.std.proofs.lemmas.Bool.Decides.{nat_tests}
 use Rattle.byte_text.specs.Marks.{has_byte, has_m110}
 use Rattle.gcode_lines.specs.declared.fault.NotOne.{NotOne}
 use Rattle.gcode_lines.specs.declared.fault.NotOne.TheVariants.{LineEnd, Empty, HasM110, TooLong, ControlByte}
-use Rattle.gcode_lines.specs.Text.{is_numbered, without_front, without_end, trimmed, without_number, text_of, is_skipped, is_too_long, has_control}
+use Rattle.gcode_lines.specs.Text.{is_numbered, without_front, without_end, trimmed, without_number, command_text, is_skipped, is_too_long, has_control}
 use Rattle.gcode_lines.specs.Job.{most_bytes}
 use Rattle.gcode_lines.specs.Commands.{file_line, in_front, pieces_of, numbered, lines_of, job_of}
 use Rattle.gcode_lines.specs.Single.{single_of, single_job}
@@ -15,11 +15,11 @@ use Rattle.gcode_lines.proofs.Sendable.{kept_from_parts}
 -- the tests of a text that is one command
 record IsOne (line text : List ℕ) : Type 0 where
   whole : has_byte 10 line ≡ false
-  kept : is_skipped (text_of line) ≡ false
-  some : (length (text_of line) == 0) ≡ false
-  short : is_too_long (text_of line) ≡ false
-  clean : has_control (text_of line) ≡ false
-  same : text_of line ≡ text
+  kept : is_skipped (command_text line) ≡ false
+  some : (length (command_text line) == 0) ≡ false
+  short : is_too_long (command_text line) ≡ false
+  clean : has_control (command_text line) ≡ false
+  same : command_text line ≡ text
 
 -- the tests of a single line over plain variables
 abbrev single_by : Bool → Bool → Bool → Bool → Bool → List ℕ → Result (List ℕ) NotOne
@@ -49,19 +49,19 @@ all_false false false false false false found text e =
 is_one : (line text : List ℕ) → single_of line ≡ Ok text → IsOne line text
 unfolding single_of
 is_one line text e =
-    let tests = all_false (has_byte 10 line) (length (text_of line) == 0) (has_m110 (text_of line)) (is_too_long (text_of line)) (has_control (text_of line)) (text_of line) text e in
+    let tests = all_false (has_byte 10 line) (length (command_text line) == 0) (has_m110 (command_text line)) (is_too_long (command_text line)) (has_control (command_text line)) (command_text line) text e in
     record {
       whole = tests.feed_is;
-      kept = kept_from_parts (text_of line) tests.empty_is tests.m110_is;
+      kept = kept_from_parts (command_text line) tests.empty_is tests.m110_is;
       some = tests.empty_is;
       short = tests.long_is;
       clean = tests.control_is;
       same = tests.text_is;
     }
 
-text_of-nil : text_of [] ≡ []
-unfolding text_of without_number trimmed without_end without_front is_numbered
-text_of-nil = refl
+command_text-nil : command_text [] ≡ []
+unfolding command_text without_number trimmed without_end without_front is_numbered
+command_text-nil = refl
 
 pieces_of-whole : (byte : ℕ) (line : List ℕ) → list_any (λ b. b == 10) (byte ∷ line) ≡ false → pieces_of (byte ∷ line) ≡ (byte ∷ line) ∷ []
 pieces_of-whole byte [] whole = rw (or_parts (byte == 10) false whole).0 refl
@@ -69,9 +69,9 @@ pieces_of-whole byte (next ∷ line) whole =
     let parts = or_parts (byte == 10) (list_any (λ b. b == 10) (next ∷ line)) whole in
     rw parts.0 (ap (in_front byte) (pieces_of-whole next line parts.1))
 
-lines_of-whole : (line : List ℕ) → has_byte 10 line ≡ false → (length (text_of line) == 0) ≡ false → lines_of line ≡ file_line line 1 0 ∷ []
+lines_of-whole : (line : List ℕ) → has_byte 10 line ≡ false → (length (command_text line) == 0) ≡ false → lines_of line ≡ file_line line 1 0 ∷ []
 unfolding lines_of has_byte
-lines_of-whole [] whole some = absurd (let e : true ≡ false = rw text_of-nil at some in cc)
+lines_of-whole [] whole some = absurd (let e : true ≡ false = rw command_text-nil at some in cc)
 lines_of-whole (byte ∷ line) whole some = ap (numbered 1 0) (pieces_of-whole byte line whole)
 
 pub single_is_job : (line text : List ℕ) → length line ≤ most_bytes → single_of line ≡ Ok text → job_of line ≡ Ok (single_job line text)

@@ -6,7 +6,7 @@ use Rattle.std.proofs.Math.Seq.{take-append_seam, drop-append_seam}
 use Rattle.std.specs.Char.{is_ascii_digit}
 use Rattle.std.specs.List.{before_first, position_or_len, prefix_len, suffix_len}
 use Rattle.byte_text.specs.Chars.{is_space}
-use Rattle.gcode_lines.specs.Text.{is_mark, is_blank, without_front, without_end, trimmed, is_numbered, without_number, number_len, text_of, begin_of}
+use Rattle.gcode_lines.specs.Text.{is_mark, is_blank, without_front, without_end, trimmed, is_numbered, without_number, number_len, command_text, begin_of}
 
 -- a part of a list from a place on
 pub record IsPart (whole : List ℕ) (place : ℕ) (part : List ℕ) : Type 0 where
@@ -97,10 +97,10 @@ IsPart-trimmed bytes =
     rw none at (IsPart-part bytes (prefix_len is_blank bytes) rest 0 (trimmed bytes) (IsPart-drop (prefix_len is_blank bytes) bytes (prefix_len-le-length is_blank bytes)) (IsPart-take (length rest - suffix_len is_blank rest) rest))
 
 -- the text of a line in the line
-pub IsPart-text_of : (line : List ℕ) → IsPart line (begin_of line) (text_of line)
-unfolding text_of begin_of
-IsPart-text_of line =
-    let said = before_first is_mark line in
-    let begin = prefix_len is_blank said + number_len (trimmed said) in
+pub IsPart-command_text : (line : List ℕ) → IsPart line (begin_of line) (command_text line)
+unfolding command_text begin_of
+IsPart-command_text line =
+    let command = before_first is_mark line in
+    let begin = prefix_len is_blank command + number_len (trimmed command) in
     let none : 0 + begin ≡ begin = omega arith in
-    rw none at (IsPart-part line 0 said begin (without_number (trimmed said)) (IsPart-take (position_or_len is_mark line) line) (IsPart-part said (prefix_len is_blank said) (trimmed said) (number_len (trimmed said)) (without_number (trimmed said)) (IsPart-trimmed said) (IsPart-number (trimmed said))))
+    rw none at (IsPart-part line 0 command begin (without_number (trimmed command)) (IsPart-take (position_or_len is_mark line) line) (IsPart-part command (prefix_len is_blank command) (trimmed command) (number_len (trimmed command)) (without_number (trimmed command)) (IsPart-trimmed command) (IsPart-number (trimmed command))))

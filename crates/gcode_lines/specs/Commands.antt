@@ -4,7 +4,7 @@ use Rattle.std.specs.Option.{option_or}
 use Rattle.gcode_lines.specs.declared.fault.FileFault.{FileFault}
 use Rattle.gcode_lines.specs.declared.fault.FileFault.TheVariants.{TooLong, ControlByte, TooLarge}
 use Rattle.gcode_lines.specs.Job.{Command, JobData, most_bytes}
-use Rattle.gcode_lines.specs.Text.{text_of, begin_of, is_skipped, is_too_long, has_control}
+use Rattle.gcode_lines.specs.Text.{command_text, begin_of, is_skipped, is_too_long, has_control}
 
 -- a line of a file: its bytes, its number, and the place of its first byte
 pub record FileLine : Type 0 where
@@ -38,12 +38,12 @@ lines_of bytes = numbered 1 0 (pieces_of bytes)
 
 -- whether a line is skipped
 abbrev pub is_skipped_line : FileLine → Bool
-is_skipped_line line = is_skipped (text_of line.bytes)
+is_skipped_line line = is_skipped (command_text line.bytes)
 
 -- a line as a command
 abbrev pub command_at : FileLine → Command
 command_at line = record {
-  text = text_of line.bytes;
+  text = command_text line.bytes;
   line = line.number;
   place = line.place;
   begin = line.place + begin_of line.bytes;
@@ -53,8 +53,8 @@ command_at line = record {
 abbrev pub fault_at : FileLine → Option FileFault
 fault_at line =
     if is_skipped_line line then None
-    else (if is_too_long (text_of line.bytes) then Some (TooLong line.number)
-    else (if has_control (text_of line.bytes) then Some (ControlByte line.number) else None))
+    else (if is_too_long (command_text line.bytes) then Some (TooLong line.number)
+    else (if has_control (command_text line.bytes) then Some (ControlByte line.number) else None))
 
 -- the first fault of the lines
 abbrev pub first_fault : List FileLine → Option FileFault

@@ -4,7 +4,7 @@ use Rattle.byte_text.specs.Marks.{has_byte, has_m110}
 use Rattle.gcode_lines.specs.declared.fault.NotOne.{NotOne}
 use Rattle.gcode_lines.specs.declared.fault.NotOne.TheVariants.{LineEnd, Empty, HasM110, TooLong, ControlByte}
 use Rattle.gcode_lines.specs.Job.{Command, JobData}
-use Rattle.gcode_lines.specs.Text.{text_of, begin_of, is_too_long, has_control}
+use Rattle.gcode_lines.specs.Text.{command_text, begin_of, is_too_long, has_control}
 
 -- a text as a command, or the first of the rules that it breaks
 abbrev pub checked : List ℕ → Result (List ℕ) NotOne
@@ -15,7 +15,7 @@ checked text =
 
 -- a line that is read by itself: its text as a command, or why it is none
 unfoldable pub single_of : List ℕ → Result (List ℕ) NotOne
-single_of line = if has_byte 10 line then Err LineEnd else checked (text_of line)
+single_of line = if has_byte 10 line then Err LineEnd else checked (command_text line)
 
 -- a job of one command, in a file that is one line
 abbrev pub single_job : List ℕ → List ℕ → JobData

@@ -9,9 +9,9 @@ use Rattle.byte_text.specs.Marks.{has_m110}
 abbrev pub is_mark : ℕ → Bool
 is_mark byte = byte == 59 || byte == 42
 
--- a byte that ends what a line says: its line feed or a mark
-abbrev pub ends_said : ℕ → Bool
-ends_said byte = byte == 10 || is_mark byte
+-- a byte that ends a line's command: its line feed or a mark
+abbrev pub ends_command : ℕ → Bool
+ends_command byte = byte == 10 || is_mark byte
 
 -- a space, a tab or a carriage return
 abbrev pub is_blank : ℕ → Bool
@@ -38,9 +38,9 @@ unfoldable pub without_number : List ℕ → List ℕ
 without_number text =
     if is_numbered text then without_front is_space (without_front is_ascii_digit (drop 1 text)) else text
 
--- what a line says: without comment, checksum, blanks and line number
-unfoldable pub text_of : List ℕ → List ℕ
-text_of line = without_number (trimmed (before_first is_mark line))
+-- the text of a line's command: without comment, checksum, blanks and line number
+unfoldable pub command_text : List ℕ → List ℕ
+command_text line = without_number (trimmed (before_first is_mark line))
 
 -- how many bytes of a text are its line number and the spaces and tabs after it
 unfoldable pub number_len : List ℕ → ℕ

@@ -2,16 +2,16 @@
 ghost use Rattle.std.specs.Prelude.{◌≡◌, ℕ, ◌≤◌, List, [], ◌∷◌, length, Ok, IfOk, false};
 ghost use Rattle.std.specs.List.Sorted.{IsStrictlyIncreasing};
 ghost use Rattle.byte_text.specs.Sendable.{IsSendable};
-ghost use Rattle.gcode_lines.specs.Text.{text_of, is_skipped, is_too_long, has_control};
+ghost use Rattle.gcode_lines.specs.Text.{command_text, is_skipped, is_too_long, has_control};
 ghost use Rattle.gcode_lines.specs.Job.{most_bytes, texts_of, numbers_of, AllSendable};
 ghost use Rattle.gcode_lines.specs.Commands.{job_of};
 ghost use Rattle.gcode_lines.specs.Single.{single_of, single_job};
 
-/// What a line says may be sent if it is neither skipped nor refused.
+/// The text of a line's command may be sent if it is neither skipped nor refused.
 pub fn line_law()
-    ensures { (line : List ℕ) → is_skipped (text_of line) ≡ false
-        → is_too_long (text_of line) ≡ false → has_control (text_of line) ≡ false
-        → IsSendable (text_of line) }
+    ensures { (line : List ℕ) → is_skipped (command_text line) ≡ false
+        → is_too_long (command_text line) ≡ false → has_control (command_text line) ≡ false
+        → IsSendable (command_text line) }
 {}
 
 /// The commands of a file may be sent, and each is in a later line than the one before.

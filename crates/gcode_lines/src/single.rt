@@ -4,7 +4,7 @@ ghost use Rattle.byte_text.specs.Sendable.{IsSendable};
 ghost use Rattle.gcode_lines.specs.Single.{single_of};
 
 use crate::fault::NotOne;
-use crate::text::{has_control, is_too_long, text_from, text_of};
+use crate::text::{command_text, has_control, is_too_long, text_from};
 use byte_text::{Text, has_byte, has_m110};
 
 /// The one command of a line, read as a line of a file is. It takes no memory.
@@ -17,7 +17,7 @@ pub fn one_command(line: &[u8]) -> Result<Text, NotOne>
     if has_byte(line, b'\n') {
         return Err(NotOne::LineEnd);
     }
-    let text = text_of(line);
+    let text = command_text(line);
     if text.is_empty() {
         return Err(NotOne::Empty);
     }

@@ -7,7 +7,7 @@ ghost use Rattle.std.specs.Prelude.{◌≡◌, ◌+◌, ◌≤◌, ◌||◌, fal
 ghost use Rattle.std.specs.Bool.{OnTrue};
 ghost use Rattle.std.specs.List.{before_first, position_or_len, prefix_len, suffix_len};
 ghost use Rattle.byte_text.specs.Chars.{is_space};
-ghost use Rattle.gcode_lines.specs.Text.{is_mark, is_blank, is_control, is_numbered, is_skipped, is_too_long, is_odd, has_control, trimmed, without_number, text_of, begin_of};
+ghost use Rattle.gcode_lines.specs.Text.{is_mark, is_blank, is_control, is_numbered, is_skipped, is_too_long, is_odd, has_control, trimmed, without_number, command_text, begin_of};
 ghost use Rattle.std.specs.Char.{is_ascii_digit};
 
 use crate::line::Line;
@@ -129,28 +129,28 @@ pub(crate) struct TextAt<'a> {
     pub(crate) text: &'a [u8],
 }
 
-/// The text in what a line says: without blanks at both ends and line number.
-#[tactic(auto, unfolding(crate::specs::Text::text_of, crate::specs::Text::begin_of, crate::specs::Text::number_len))]
+/// The text of a line's command: without blanks at both ends and line number.
+#[tactic(auto, unfolding(crate::specs::Text::command_text, crate::specs::Text::begin_of, crate::specs::Text::number_len))]
 pub(crate) fn text_in(line: Line<'_>) -> TextAt<'_>
-    ensures text { result.text.now ≡ text_of line.entry.bytes.now }
+    ensures text { result.text.now ≡ command_text line.entry.bytes.now }
     ensures begin { result.begin ≡ begin_of line.entry.bytes.now }
     ensures fits { result.begin + length result.text.now ≤ length line.entry.bytes.now }
 {
-    let trimmed = trimmed(line.said);
+    let trimmed = trimmed(line.command);
     let text = without_number(trimmed);
     TextAt {
-        begin: blanks_in_front(line.said) + (trimmed.len() - text.len()),
+        begin: blanks_in_front(line.command) + (trimmed.len() - text.len()),
         text,
     }
 }
 
-/// The text of a line: what it says without comment, checksum, blanks and line number.
-pub(crate) fn text_of(line: &[u8]) -> &[u8]
-    ensures { result.now ≡ text_of line.now }
+/// The text of a line's command: without comment, checksum, blanks and line number.
+pub(crate) fn command_text(line: &[u8]) -> &[u8]
+    ensures { result.now ≡ command_text line.now }
 {
     let line = Line {
         bytes: line,
-        said: before_mark(line),
+        command: before_mark(line),
     };
     text_in(line).text
 }

@@ -58,9 +58,9 @@ written head job from = header_of head ++ drop from (texts_of job)
 heads-same : (job : JobData) (from i : ℕ) (head : Head) → IsHeadBefore job from head →
     head_of (take (3 + i) (written head job from)) ≡ head_of (take (from + i) (texts_of job))
 heads-same job from i head before =
-    let stands = before.stands in
+    let head_is = before.head_is in
     ap head_of (take-behind head (drop from (texts_of job)) i)
-    ∙ head_of-same (header_of head) (take from (texts_of job)) (take i (drop from (texts_of job))) (header-head head (near-head head before.near) ∙ stands)
+    ∙ head_of-same (header_of head) (take from (texts_of job)) (take i (drop from (texts_of job))) (header-head head (near-head head before.near) ∙ head_is)
     ∙ sym (ap head_of (take-add from i (texts_of job)))
 
 goes_on : (job : JobData) (from : ℕ) (head : Head) (rest : JobData) → IsHeadBefore job from head → texts_of rest ≡ written head job from → GoesOn job from rest

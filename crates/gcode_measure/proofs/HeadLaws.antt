@@ -33,9 +33,5 @@ pub measure_after : (measure : Measure) (from next : Head) (fed drawn : ℤ) (x 
 measure_after measure from next fed drawn x y z f d ex ey ez = rw (f, d, ex, ey, ez) refl
 
 -- one more gap keeps a sum in its bound
-pub sum_bound : (moves : ℕ) (sum gap : ℤ) → sum ≤ℤ pos (moves * 2000000000000) → gap ≤ℤ pos 2000000000000 → (sum +ℤ gap) ≤ℤ pos ((moves + 1) * 2000000000000)
-sum_bound moves sum gap high most = omega (arith, ints)
-
--- one more gap keeps a sum above 0
-pub sum_low : (sum gap : ℤ) → pos 0 ≤ℤ sum → pos 0 ≤ℤ gap → pos 0 ≤ℤ (sum +ℤ gap)
-sum_low sum gap low least = omega (arith, ints)
+pub sum_bound : (moves : ℕ) (sum next : ℤ) → sum ≤ℤ pos (moves * 2000000000000) → next ≤ℤ (sum +ℤ pos 2000000000000) → next ≤ℤ pos ((moves + 1) * 2000000000000)
+sum_bound moves sum next high most = omega (arith, ints)

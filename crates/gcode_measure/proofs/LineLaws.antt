@@ -5,14 +5,13 @@ use Rattle.std.specs.Option.{option_or}
 use Rattle.std.proofs.lemmas.Bool.{or_parts}
 use Rattle.std.proofs.lemmas.Bool.Decides.{nat_tests}
 use Rattle.std.proofs.lemmas.List.{append_assoc}
-use Rattle.byte_text.specs.Marks.{has_m110}
 use Rattle.gcode_lines.specs.declared.fault.FileFault.{FileFault}
 use Rattle.gcode_lines.specs.declared.fault.FileFault.TheVariants.{TooLarge}
 use Rattle.gcode_lines.specs.Job.{JobData, most_bytes, texts_of}
 use Rattle.gcode_lines.specs.Commands.{FileLine, file_line, in_front, pieces_of, numbered, lines_of, is_skipped_line, fault_at, first_fault, unless_fault, job_in as lines_job, job_of}
-use Rattle.gcode_lines.specs.Text.{text_of, is_skipped, is_too_long, is_control, has_control, is_numbered}
+use Rattle.gcode_lines.specs.Text.{command_text, is_skipped, is_too_long, is_control, has_control, is_numbered}
 use Rattle.gcode_measure.specs.Rest.{line_of, text_of_lines}
-use Rattle.gcode_measure.proofs.PlainLaws.{IsPlain, plain-text_of, text_of-plain, without_number-bare, text_of-behind}
+use Rattle.gcode_measure.proofs.PlainLaws.{IsPlain, plain-command_text, command_text-plain, without_number-bare, command_text-after}
 use Rattle.gcode_lines.proofs.JobLaws.{fault_by, sound_by, both_none, texts_in}
 use Rattle.gcode_lines.proofs.Sendable.{list_any-weaker, line_feed_is_control, some_from_kept}
 
@@ -28,11 +27,11 @@ pub record IsCommand (text : List ℕ) : Type 0 where
   pub short : is_too_long text ≡ false
   pub clean : has_control text ≡ false
 
-command-of_line : (line : FileLine) → is_skipped_line line ≡ false → fault_at line ≡ None → IsCommand (text_of line.bytes)
+command-of_line : (line : FileLine) → is_skipped_line line ≡ false → fault_at line ≡ None → IsCommand (command_text line.bytes)
 command-of_line line kept sound =
-    let tests = sound_by (is_too_long (text_of line.bytes)) (has_control (text_of line.bytes)) line.number
-    (ap (λ t. fault_by t (is_too_long (text_of line.bytes)) (has_control (text_of line.bytes)) line.number) (sym kept) ∙ sound) in
-    record { plain = plain-text_of line.bytes tests.1; kept = kept; short = tests.0; clean = tests.1 }
+    let tests = sound_by (is_too_long (command_text line.bytes)) (has_control (command_text line.bytes)) line.number
+    (ap (λ t. fault_by t (is_too_long (command_text line.bytes)) (has_control (command_text line.bytes)) line.number) (sym kept) ∙ sound) in
+    record { plain = plain-command_text line.bytes tests.1; kept = kept; short = tests.0; clean = tests.1 }
 
 commands_by : (line : FileLine) (lines : List FileLine) (t : Bool) → is_skipped_line line ≡ t → fault_at line ≡ None → Each IsCommand (texts_in lines) →
     Each IsCommand (texts_in (line ∷ lines))
@@ -95,17 +94,17 @@ one_lines (text ∷ texts) each =
     let first = each.0 in
     (one_line-by text (is_numbered text) (one_line-text text first.clean), one_lines texts each.1)
 
-says_by : (text : List ℕ) (t : Bool) → is_numbered text ≡ t → IsCommand text → text_of (cond t (codes "N0 " ++ text) text) ≡ text
-says_by text true e command = text_of-behind text (some_from_kept text command.kept) e command.plain
-says_by text false e command = text_of-plain text command.plain ∙ without_number-bare text e
+says_by : (text : List ℕ) (t : Bool) → is_numbered text ≡ t → IsCommand text → command_text (cond t (codes "N0 " ++ text) text) ≡ text
+says_by text true e command = command_text-after text (some_from_kept text command.kept) e command.plain
+says_by text false e command = command_text-plain text command.plain ∙ without_number-bare text e
 
 -- the line of a command says that command
-pub text_of-line_of : (text : List ℕ) → IsCommand text → text_of (line_of text) ≡ text
-text_of-line_of text command = says_by text (is_numbered text) refl command
+pub command_text-line_of : (text : List ℕ) → IsCommand text → command_text (line_of text) ≡ text
+command_text-line_of text command = says_by text (is_numbered text) refl command
 
 fault-of_line : (text : List ℕ) (number place : ℕ) → IsCommand text → fault_at (file_line (line_of text) number place) ≡ None
 fault-of_line text number place command =
-    let says = text_of-line_of text command in
+    let says = command_text-line_of text command in
     let short = command.short in
     let clean = command.clean in
     ap (λ t. fault_by (is_skipped t) (is_too_long t) (has_control t) number) says
@@ -119,15 +118,15 @@ fault-of_lines number place (text ∷ texts) each =
     ap (λ f. option_or f (first_fault (numbered (number + 1) (place + length (line_of text) + 1) (map line_of texts)))) (fault-of_line text number place each.0)
     ∙ fault-of_lines (number + 1) (place + length (line_of text) + 1) texts each.1
 
-texts-by : (line : FileLine) (lines : List FileLine) → is_skipped_line line ≡ false → texts_in (line ∷ lines) ≡ text_of line.bytes ∷ texts_in lines
+texts-by : (line : FileLine) (lines : List FileLine) → is_skipped_line line ≡ false → texts_in (line ∷ lines) ≡ command_text line.bytes ∷ texts_in lines
 texts-by line lines e = rw e refl
 
 texts-of_lines : (number place : ℕ) (texts : List (List ℕ)) → Each IsCommand texts → texts_in (numbered number place (map line_of texts)) ≡ texts
 texts-of_lines number place [] each = refl
 texts-of_lines number place (text ∷ texts) each =
     let first = each.0 in
-    let says = text_of-line_of text each.0 in
-    let kept : is_skipped (text_of (line_of text)) ≡ false = ap is_skipped says ∙ first.kept in
+    let says = command_text-line_of text each.0 in
+    let kept : is_skipped (command_text (line_of text)) ≡ false = ap is_skipped says ∙ first.kept in
     texts-by (file_line (line_of text) number place) (numbered (number + 1) (place + length (line_of text) + 1) (map line_of texts)) kept
     ∙ ap (λ t. t ∷ texts_in (numbered (number + 1) (place + length (line_of text) + 1) (map line_of texts))) says
     ∙ ap (λ rest. text ∷ rest) (texts-of_lines (number + 1) (place + length (line_of text) + 1) texts each.1)

@@ -132,16 +132,16 @@ pub HasRun-more : (job : JobData) (i : ℕ) (head : Head) (measure : Measure) (t
     fault_by text line next ≡ None → next ≡ head_then head text → grown ≡ measure_then measure text head next → HasRun job (i + 1) next grown
 HasRun-more job i head measure text line next grown run within is at sound after adds =
     let more = texts-more job.commands i text within is in
-    let stands : next ≡ head_of (take i (texts_of job) ++ text ∷ []) = after ∙ ap (λ h. head_then h text) run.heads
+    let head_is : next ≡ head_of (take i (texts_of job) ++ text ∷ []) = after ∙ ap (λ h. head_then h text) run.heads
     ∙ sym (head_of-push (take i (texts_of job)) text) in
     record {
       fault = run.fault ∙ first_fault-from job.commands i text line within is at
-          ∙ ap (λ h. option_or (fault_by text line h) (first_fault (take i (texts_of job) ++ text ∷ []) (drop (i + 1) job.commands))) (sym stands)
+          ∙ ap (λ h. option_or (fault_by text line h) (first_fault (take i (texts_of job) ++ text ∷ []) (drop (i + 1) job.commands))) (sym head_is)
           ∙ ap (λ f. option_or f (first_fault (take i (texts_of job) ++ text ∷ []) (drop (i + 1) job.commands))) sound
           ∙ ap (λ before. first_fault before (drop (i + 1) job.commands)) (sym more);
-      heads = stands ∙ ap head_of (sym more);
+      heads = head_is ∙ ap head_of (sym more);
       measures = adds ∙ ap (λ m. measure_then m text head next) run.measures ∙ ap (λ h. measure_then (measured (take i (texts_of job))) text h next) run.heads
-          ∙ ap (measure_then (measured (take i (texts_of job))) text (head_of (take i (texts_of job)))) stands
+          ∙ ap (measure_then (measured (take i (texts_of job))) text (head_of (take i (texts_of job)))) head_is
           ∙ sym (measured-push (take i (texts_of job)) text) ∙ ap measured (sym more);
     }
 

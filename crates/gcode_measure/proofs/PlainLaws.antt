@@ -9,8 +9,8 @@ use Rattle.std.proofs.lemmas.List.Folds.{list_any_none}
 use Rattle.std.proofs.lemmas.List.Sums.{fails_before_first, suffix_len-le-length}
 use Rattle.std.proofs.Math.Seq.{take-append_seam, drop-append_seam, take-length}
 use Rattle.byte_text.specs.Chars.{is_space}
-use Rattle.gcode_lines.specs.Text.{is_mark, is_blank, is_control, without_front, without_end, trimmed, is_numbered, without_number, text_of, has_control}
-use Rattle.gcode_lines.proofs.Sendable.{list_any-take, list_any-drop, list_any-weaker}
+use Rattle.gcode_lines.specs.Text.{is_mark, is_blank, is_control, without_front, without_end, trimmed, is_numbered, without_number, command_text, has_control}
+use Rattle.gcode_lines.proofs.Sendable.{list_any-take, list_any-drop}
 
 -- if all pass one test, none passes another that excludes it
 pub list_any-excluded : (all any : ℕ → Bool) → ((x : ℕ) → all x ≡ true → any x ≡ false) → (xs : List ℕ) → list_all all xs ≡ true → list_any any xs ≡ false
@@ -130,9 +130,9 @@ plain-number text true plain control =
 plain-number text false plain control = plain
 
 -- what a line says without a control byte is plain
-pub plain-text_of : (line : List ℕ) → has_control (text_of line) ≡ false → IsPlain (text_of line)
-unfolding text_of without_number has_control
-plain-text_of line control =
+pub plain-command_text : (line : List ℕ) → has_control (command_text line) ≡ false → IsPlain (command_text line)
+unfolding command_text without_number has_control
+plain-command_text line control =
     plain-number (trimmed (before_first is_mark line)) (is_numbered (trimmed (before_first is_mark line)))
     (plain-trimmed (before_first is_mark line) (no_mark_in_front line)) control
 
@@ -152,9 +152,9 @@ trimmed-plain text plain =
     ∙ take-length text
 
 -- a line of a plain text says it, but for its line number
-pub text_of-plain : (text : List ℕ) → IsPlain text → text_of text ≡ without_number text
-unfolding text_of
-text_of-plain text plain =
+pub command_text-plain : (text : List ℕ) → IsPlain text → command_text text ≡ without_number text
+unfolding command_text
+command_text-plain text plain =
     ap (λ n. without_number (trimmed (take n text))) (before_first-all text plain.mark)
     ∙ ap (λ t. without_number (trimmed t)) (take-length text)
     ∙ ap without_number (trimmed-plain text plain)
@@ -163,8 +163,8 @@ pub without_number-bare : (text : List ℕ) → is_numbered text ≡ false → w
 unfolding without_number
 without_number-bare text bare = ap (λ t. cond t (without_front is_space (without_front is_ascii_digit (drop 1 text))) text) bare
 
-plain-behind : (text : List ℕ) → 1 ≤ length text → IsPlain text → IsPlain (codes "N0 " ++ text)
-plain-behind text some plain =
+plain-after : (text : List ℕ) → 1 ≤ length text → IsPlain text → IsPlain (codes "N0 " ++ text)
+plain-after text some plain =
     record { mark = plain.mark; front = refl; back = suffix_len-longer is_blank (codes "N0 ") text some plain.back }
 
 numbered_front : (text : List ℕ) → is_numbered text ≡ true → prefix_len is_space text ≡ 0
@@ -174,12 +174,12 @@ numbered_front (x ∷ xs) h =
     let n = (and_parts (x == 78) _ h).0 in
     prefix_len-cons_zero is_space x xs (grind (arith, nat_tests))
 
-without_number-behind : (text : List ℕ) → prefix_len is_space text ≡ 0 → without_number (codes "N0 " ++ text) ≡ text
+without_number-after : (text : List ℕ) → prefix_len is_space text ≡ 0 → without_number (codes "N0 " ++ text) ≡ text
 unfolding without_number without_front is_numbered
-without_number-behind text h =
+without_number-after text h =
     ap (λ n. drop (1 + n) (32 ∷ text)) h
 
 -- a command after a line number of its own is that command
-pub text_of-behind : (text : List ℕ) → 1 ≤ length text → is_numbered text ≡ true → IsPlain text → text_of (codes "N0 " ++ text) ≡ text
-text_of-behind text some numbered plain =
-    text_of-plain (codes "N0 " ++ text) (plain-behind text some plain) ∙ without_number-behind text (numbered_front text numbered)
+pub command_text-after : (text : List ℕ) → 1 ≤ length text → is_numbered text ≡ true → IsPlain text → command_text (codes "N0 " ++ text) ≡ text
+command_text-after text some numbered plain =
+    command_text-plain (codes "N0 " ++ text) (plain-after text some plain) ∙ without_number-after text (numbered_front text numbered)

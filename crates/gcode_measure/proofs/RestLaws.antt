@@ -20,11 +20,11 @@ texts_in commands = map (λ c. c.text) commands
 -- what a pass over commands holds after the first of them
 pub record HasHead (commands : List Command) (i : ℕ) (head : Head) : Type 0 where
   pub sound : first_fault [] commands ≡ first_fault (take i (texts_in commands)) (drop i commands)
-  pub stands : head ≡ head_of (take i (texts_in commands))
+  pub head_is : head ≡ head_of (take i (texts_in commands))
   pub near : has_far head ≡ false
 
 pub HasHead-start : (commands : List Command) (head : Head) → head ≡ head_of [] → has_far head ≡ false → HasHead commands 0 head
-HasHead-start commands head e near = record { sound = refl; stands = e; near = near }
+HasHead-start commands head e near = record { sound = refl; head_is = e; near = near }
 
 -- a part of a command of the first ones, read in all
 part-of_first : {A : Type 0} (part : Command → A) (commands : List Command) (from i : ℕ) (value d : A) → i < from → value ≡ get_or (map part commands) i d →
@@ -41,7 +41,7 @@ HasHead-refused : (commands : List Command) (i : ℕ) (head : Head) (text : List
     fault_by text line (head_then head text) ≡ Some refused → first_fault [] commands ≡ Some refused
 HasHead-refused commands i head text line refused run within is at found =
     let next : head_of (after_text commands i text) ≡ head_then head text = head_of-push (take i (texts_in commands)) text
-    ∙ ap (λ h. head_then h text) (sym run.stands) in
+    ∙ ap (λ h. head_then h text) (sym run.head_is) in
     run.sound ∙ first_fault-from commands i text line within is at
     ∙ ap (λ h. option_or (fault_by text line h) (first_fault (after_text commands i text) (drop (i + 1) commands))) next
     ∙ ap (λ f. option_or f (first_fault (after_text commands i text) (drop (i + 1) commands))) found
@@ -52,15 +52,15 @@ HasHead-next : (commands : List Command) (i : ℕ) (head : Head) (text : List �
     has_far next ≡ false → HasHead commands (i + 1) next
 HasHead-next commands i head text line next run within is at after sound near =
     let more = texts-more commands i text within is in
-    let stands : next ≡ head_of (after_text commands i text) = after ∙ ap (λ h. head_then h text) run.stands
+    let head_is : next ≡ head_of (after_text commands i text) = after ∙ ap (λ h. head_then h text) run.head_is
     ∙ sym (head_of-push (take i (texts_in commands)) text) in
     record {
       sound =
           run.sound ∙ first_fault-from commands i text line within is at
-          ∙ ap (λ h. option_or (fault_by text line h) (first_fault (after_text commands i text) (drop (i + 1) commands))) (sym stands)
+          ∙ ap (λ h. option_or (fault_by text line h) (first_fault (after_text commands i text) (drop (i + 1) commands))) (sym head_is)
           ∙ ap (λ f. option_or f (first_fault (after_text commands i text) (drop (i + 1) commands))) sound
           ∙ ap (λ before. first_fault before (drop (i + 1) commands)) (sym more);
-      stands = stands ∙ ap head_of (sym more);
+      head_is = head_is ∙ ap head_of (sym more);
       near = near;
     }
 
@@ -89,7 +89,7 @@ HasHead-end job from i head run whole past =
     let none : drop i (take from job.commands) ≡ [] = drop_all i (take from job.commands) (omega arith) in
     record {
       sound = run.sound ∙ ap (first_fault (take i (texts_in (take from job.commands)))) none;
-      stands = run.stands ∙ ap head_of (all ∙ sym (take-map (λ (c : Command). c.text) from job.commands));
+      head_is = run.head_is ∙ ap head_of (all ∙ sym (take-map (λ (c : Command). c.text) from job.commands));
       near = run.near;
     }
 
@@ -115,5 +115,5 @@ unfolding rest_of rest_text
 rest_of-sound job from head text within before is =
     let test : nat_lt (length job.commands) from ≡ false = grind (arith, nat_tests) in
     let sound = before.sound in
-    let stands = before.stands in
-    rw (test, sound) (ap Ok (sym (is ∙ ap (λ h. text_of_lines (rest_lines h (drop from (texts_of job)))) stands)))
+    let head_is = before.head_is in
+    rw (test, sound) (ap Ok (sym (is ∙ ap (λ h. text_of_lines (rest_lines h (drop from (texts_of job)))) head_is)))

@@ -20,7 +20,7 @@ use Rattle.octo_outside.specs.Lists.{with_line_feed}
 -- a head is where the commands before one leave it: none of them is refused, and no axis is too far
 pub record IsHeadBefore (job : JobData) (from : ℕ) (head : Head) : Type 0 where
   pub sound : first_fault [] (take from job.commands) ≡ None
-  pub stands : head ≡ head_of (take from (texts_of job))
+  pub head_is : head ≡ head_of (take from (texts_of job))
   pub near : has_far head ≡ false
 
 -- the command that sets the mode of X, Y and Z, and of E with them

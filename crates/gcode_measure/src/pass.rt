@@ -34,15 +34,17 @@ fn gap(from: i128, to: i128) -> i128
     (to - from).max(0)
 }
 
-/// A sum of gaps with one more.
-fn added(sum: i128, gap: i128) -> i128
+/// A sum of gaps with the one of two positions.
+fn with_gap(sum: i128, from: i128, to: i128) -> i128
     requires low { pos 0 ≤ℤ sum }
     requires high { sum ≤ℤ pos 200000000000000000000 }
-    requires gap_low { pos 0 ≤ℤ gap }
-    requires gap_high { gap ≤ℤ pos 2000000000000 }
-    ensures { result ≡ sum +ℤ gap }
+    requires near { is_far from ≡ false }
+    requires also_near { is_far to ≡ false }
+    ensures value { result ≡ sum +ℤ pos (int_gap from to) }
+    ensures low { pos 0 ≤ℤ result }
+    ensures high { result ≤ℤ (sum +ℤ pos 2000000000000) }
 {
-    sum + gap
+    sum + gap(from, to)
 }
 
 /// The measure with one more move.
@@ -57,8 +59,8 @@ fn with_move(measure: &Measure, from: &Head, next: &Head) -> Measure
     Measure {
         commands: measure.commands + 1,
         moves: measure.moves + 1,
-        fed: added(measure.fed, gap(from.e, next.e)),
-        drawn: added(measure.drawn, gap(next.e, from.e)),
+        fed: with_gap(measure.fed, from.e, next.e),
+        drawn: with_gap(measure.drawn, next.e, from.e),
         x: Some(widened(measure.x, next.x)),
         y: Some(widened(measure.y, next.y)),
         z: Some(widened(measure.z, next.z)),

@@ -63,8 +63,8 @@ fn read_magnitude(bytes: &[u8]) -> Option<Magnitude<'_>>
         (λ n. magnitude_at bytes.now ≡ Some (record { micro = n.micro; rest = n.rest.now })) }
     ensures bound { IfSome result (λ n. n.micro ≤ 9000001000000000000) }
 {
-    let (whole, behind) = split_digits(bytes);
-    let (decimals, rest) = split_decimals(behind);
+    let (whole, after) = split_digits(bytes);
+    let (decimals, rest) = split_decimals(after);
     if whole.is_empty() && decimals.is_empty() {
         return None;
     }

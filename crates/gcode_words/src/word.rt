@@ -28,12 +28,12 @@ impl<'a> Iterator for Words<'a> {
     ghost remaining = { item_count words_left };
 
     fn next(&mut self) -> Option<CodeWord> {
-        while let [first, behind @ ..] = self.rest {
-            self.rest = behind;
+        while let [first, after @ ..] = self.rest {
+            self.rest = after;
             if first.is_ascii_alphabetic() {
                 return Some(CodeWord {
                     letter: first.to_ascii_uppercase(),
-                    micro: read_value(behind),
+                    micro: read_value(after),
                 });
             }
         }

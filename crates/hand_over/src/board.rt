@@ -1,6 +1,10 @@
 //! The table that the four workers and the house share.
 //! Word 0 is the note word: 0 while the host runs, 1 once it has ended. Word w + 1 is the word of worker w: 0 idle, 1 asked,
 //! 2 answered. Slot w is worker w's.
+ghost use Rattle.std.specs.Prelude.{◌≡◌, ◌∷◌, Option, Some};
+ghost use Rattle.atomic_table.specs.Table.{rest};
+ghost use Rattle.hand_over.specs.declared.board.Letter.{Letter};
+
 use atomic_table::{Seat, Shared, Table, TableRule};
 use desk_steps::Note;
 use octo_asks::{Answer, Ask, Entry, Given};
@@ -77,3 +81,14 @@ pub(crate) type Board = Table<Option<Letter>, View, (), HandOver, Global>;
 pub(crate) type Words = Shared<Option<Letter>, View, (), HandOver>;
 
 pub(crate) type Place = Seat<Option<Letter>, View>;
+
+/// Writes a letter into the slot that the seat took last.
+pub(crate) fn write_letter(words: &Words, seat: &mut Place, slot: usize, letter: Letter)
+    requires table { seat.old.table_id ≡ words.now.table_id }
+    requires taken { (held : Option Letter)
+        × (seat.old.me.1 ≡ (slot, held) ∷ rest seat.old.me.1) }
+    ensures table { seat.new.table_id ≡ seat.old.table_id }
+    ensures written { seat.new.me ≡ (seat.old.me.0, (slot, Some letter) ∷ rest seat.old.me.1) }
+{
+    words.exchange(seat, slot, Some(letter));
+}

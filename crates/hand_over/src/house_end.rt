@@ -3,7 +3,7 @@ ghost use Rattle.std.specs.Prelude.{◌≡◌, ◌<◌, false, Some, None, IsSom
 ghost use Rattle.hand_over.specs.Steps.{ask_in};
 ghost use Rattle.hand_over.specs.Ends.{AfterHouseLook};
 
-use crate::board::{Board, Letter, Place};
+use crate::board::{Board, Letter, Place, write_letter};
 use crate::plays::{Look, PutAnswer, PutClose, PutNote};
 use desk_steps::Note;
 use octo_asks::{Answer, Ask, Counter, Next};
@@ -122,8 +122,8 @@ impl Counter for HouseEnd {
         } }
     {
         let words = &self.table.shared;
-        let letter = Some(Letter::Answered(moment, answer));
-        words.exchange(&mut self.seat, worker as usize, letter);
+        let letter = Letter::Answered(moment, answer);
+        write_letter(words, &mut self.seat, worker as usize, letter);
         words.store::<PutAnswer>(&mut self.seat, worker as usize + 1, 2);
     }
 

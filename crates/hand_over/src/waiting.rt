@@ -7,7 +7,7 @@ ghost use Rattle.hand_over.specs.Views.{worker_of};
 ghost use Rattle.hand_over.specs.Steps.{at_stage, answer_in};
 ghost use Rattle.hand_over.specs.Ends.{IsSized, SitsAt, HasFound, IsWorker, IsResting, IsWaiting, AfterTake, AfterLook, AfterAsk};
 
-use crate::board::{Letter, Place, Words};
+use crate::board::{Letter, Place, Words, write_letter};
 use crate::plays::{LookForAnswer, LookForClose, PutAsk, PutIdle, TakeSlot};
 use octo_asks::{Answer, Ask, Closed};
 use std::sync::Wait;
@@ -32,7 +32,7 @@ pub(crate) fn put_ask(words: &Words, seat: &mut Place, number: usize, ask: Ask)
     ensures asked { seat.new.me ≡ (at_stage seat.old.me.0 (Waiting ask), []) }
 {
     words.load::<TakeSlot>(seat, number + 1);
-    words.exchange(seat, number, Some(Letter::Asked(ask)));
+    write_letter(words, seat, number, Letter::Asked(ask));
     words.store::<PutAsk>(seat, number + 1, 1);
 }
 

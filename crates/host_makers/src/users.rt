@@ -1,5 +1,6 @@
 //! Users, the admin, and tables of users.
-ghost use Rattle.std.specs.Prelude.{◌≡◌, [], ◌∷◌, codes, IfSome};
+ghost use Rattle.std.specs.Prelude.{◌≡◌, ◌≤◌, [], ◌∷◌, codes, length, IfSome};
+ghost use Rattle.byte_text.specs.declared.name.TheConstants.{MOST_NAME_BYTES};
 ghost use Rattle.host_makers.specs.Objects.{user_of, root_policy, users_alone};
 
 use arrayvec::ArrayVec;
@@ -20,29 +21,31 @@ pub const BEN: &[u8] = b"ben-key-0123456789";
 /// The key of eve, who may only read.
 pub const EVE: &[u8] = b"eve-key-0123456789";
 
-/// An active user of one group.
-pub fn user(text: &str, key: &[u8], group: &str) -> Option<UserRow>
-    ensures { IfSome result (λ user. user ≡ user_of text.now key.now group.now) }
+/// An active user of one group. Takes no memory.
+fn user(text: &str, key: &[u8], group: &str) -> UserRow
+    requires name { length text.now ≤ MOST_NAME_BYTES }
+    requires group { length group.now ≤ MOST_NAME_BYTES }
+    ensures { result ≡ user_of text.now key.now group.now }
 {
     let mut groups = ArrayVec::new();
-    groups.push(Name::from_text(group)?);
-    Some(UserRow {
-        name: Name::from_text(text)?,
+    groups.push(Name::of_short(group));
+    UserRow {
+        name: Name::of_short(text),
         digest: digest_of(key),
         groups,
         active: true,
-    })
+    }
 }
 
-/// The groups that are built in, and the admin root.
-pub fn policy(alloc: Global) -> Option<Policy>
-    ensures { IfSome result (λ policy. policy ≡ root_policy ROOT.now) }
+/// The groups that are built in, and the admin root. Takes no memory.
+pub fn policy(alloc: Global) -> Policy
+    ensures { result ≡ root_policy ROOT.now }
 {
     let admin = Admin {
-        name: Name::from_text("root")?,
+        name: Name::of_short("root"),
         digest: digest_of(ROOT),
     };
-    Some(Policy::new(Groups::new(alloc), Some(admin)))
+    Policy::new(Groups::new(alloc), Some(admin))
 }
 
 /// Tables without a row.
@@ -60,8 +63,8 @@ pub fn three_users(alloc: Global) -> Option<Tables>
         ∷ user_of (codes "eve") EVE.now (codes "readonly") ∷ [])) }
 {
     let mut tables = no_rows(alloc);
-    tables.users.push(user("ana", ANA, "users")?).ok()?;
-    tables.users.push(user("ben", BEN, "users")?).ok()?;
-    tables.users.push(user("eve", EVE, "readonly")?).ok()?;
+    tables.users.push(user("ana", ANA, "users")).ok()?;
+    tables.users.push(user("ben", BEN, "users")).ok()?;
+    tables.users.push(user("eve", EVE, "readonly")).ok()?;
     Some(tables)
 }

@@ -61,8 +61,8 @@ send_gives_none line w _ is = absurd is
 sent_received : (line : List ℕ) (w : WorldData) (added : List WorldEvent) → IsSend line w added → received_from w added ≡ []
 sent_received line w added is =
     subst (λ (events : List WorldEvent). received_from w events ≡ []) (sym is.is)
-    (none_between w is.before is.sent is.behind (received_from-free w is.before is.free_before) (send_gives_none line (world_from w is.before) is.sent is.line_is)
-    (λ v. received_from-free v is.behind is.free_behind))
+    (none_between w is.before is.sent is.after (received_from-free w is.before is.free_before) (send_gives_none line (world_from w is.before) is.sent is.line_is)
+    (λ v. received_from-free v is.after is.free_after))
 
 given_received : (next : Option Outgoing) (w : WorldData) (added : List WorldEvent) → IsGiven next w added → received_from w added ≡ []
 given_received None w added is = absurd is
@@ -93,10 +93,10 @@ loss_received w added is =
     let mid = world_from w is.before in
     let after = world_from w (is.before ++ is.failing) in
     subst (λ (events : List WorldEvent). received_from w events ≡ []) (sym is.is)
-    (none_then w (is.before ++ is.failing ++ is.behind) (event.Closed ∷ [])
-    (none_then w (is.before ++ is.failing) is.behind
+    (none_then w (is.before ++ is.failing ++ is.after) (event.Closed ∷ [])
+    (none_then w (is.before ++ is.failing) is.after
     (none_then w is.before is.failing (received_from-free w is.before is.free_before) (failing_received mid mid is.failing is.may_send))
-    (received_from-free after is.behind is.free_behind)) refl)
+    (received_from-free after is.after is.free_after)) refl)
 
 hang_up_received : (was_up : Bool) (w : WorldData) (added : List WorldEvent) → IsHangUp was_up w added → received_from w added ≡ []
 hang_up_received true w added is = subst (λ (events : List WorldEvent). received_from w events ≡ []) (sym is.0) refl
@@ -109,10 +109,10 @@ heard_received bytes w added is =
     let got : received_by mid event.Recv ≡ bytes ∷ [] =
     ap (λ (b : Bool). if b then front_line mid.down else []) is.linked ∙ (ap front_line is.front ∙ ap (λ (reply : List ℕ). reply ∷ []) (sym is.whole)) in
     subst (λ (events : List WorldEvent). received_from w events ≡ bytes ∷ []) (sym is.is)
-    (received_from-append w is.before (event.Recv ∷ is.behind)
-    ∙ (ap (λ (lines : List (List ℕ)). lines ++ received_from mid (event.Recv ∷ is.behind)) (received_from-free w is.before is.free_before)
-    ∙ (ap (λ (lines : List (List ℕ)). lines ++ received_from (world_from mid (event.Recv ∷ [])) is.behind) got
-    ∙ ap (λ (lines : List (List ℕ)). bytes ∷ lines) (received_from-free (world_from mid (event.Recv ∷ [])) is.behind is.free_behind))))
+    (received_from-append w is.before (event.Recv ∷ is.after)
+    ∙ (ap (λ (lines : List (List ℕ)). lines ++ received_from mid (event.Recv ∷ is.after)) (received_from-free w is.before is.free_before)
+    ∙ (ap (λ (lines : List (List ℕ)). lines ++ received_from (world_from mid (event.Recv ∷ [])) is.after) got
+    ∙ ap (λ (lines : List (List ℕ)). bytes ∷ lines) (received_from-free (world_from mid (event.Recv ∷ [])) is.after is.free_after))))
 
 -- what a step receives by what it adds to the recorded history
 step_received : (step : Step) (s : SenderData) (w : WorldData) (added : List WorldEvent) → IsDone step s w added → received_from w added ≡ heard_by step

@@ -4,7 +4,7 @@ use Rattle.std.proofs.lemmas.List.{length-map}
 use Rattle.std.proofs.lemmas.List.Elements.{All-nil, All-cons, All-head, All-tail}
 use Rattle.desk_steps.specs.Data.{Data, Line, new_desk}
 use Rattle.desk_steps.specs.Note.{note_step, first_fact}
-use Rattle.desk_steps.specs.Run.{Fate, fate_of, DeskCall, Pull, Note, new_run, run_of, lines_of, pulled_of, of_print, MayCall}
+use Rattle.desk_steps.specs.Run.{Fate, fate_of, DeskCall, Pull, Note, new_run, run_of, print_lines, pulled_of, of_print, MayCall}
 use Rattle.desk_steps.specs.Story.{Story, HasStories}
 use Rattle.desk_steps.specs.declared.issued.Issued.{Issued}
 use Rattle.desk_steps.specs.declared.issued.Note as declared_note
@@ -146,7 +146,7 @@ keeps_scripts scripts limits poll_ms h s e l =
     subst (λ d. HasStories scripts (run_of (calls_of_all h s) (new_run d))) (sym e) (every_run scripts limits poll_ms (calls_of_all h s) (may_run (calls_of_all h s) (new_run (new_desk scripts limits poll_ms)) (subst (λ d. MayAll (calls_of_all h s) d) e j.0))) in
     record {
       stories = λ print positive. (
-          let same : pulled_of print (run_in h s).pulled ≡ trace print h = of_pulled print (run_in h s).pulled ∙ ap (λ lines. lines_of print lines) (pulled_all (calls_of_all h s) (new_run s.known.desk) ∙ j.1) in
+          let same : pulled_of print (run_in h s).pulled ≡ trace print h = of_pulled print (run_in h s).pulled ∙ ap (λ lines. print_lines print lines) (pulled_all (calls_of_all h s) (new_run s.known.desk) ∙ j.1) in
           subst (λ lines. Story scripts print (of_print print (run_in h s).begun) lines (of_print print (run_in h s).ends)) same (t.stories print positive)
           );
       only_printing = t.only_printing;

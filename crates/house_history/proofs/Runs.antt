@@ -5,7 +5,7 @@ use Rattle.desk_steps.specs.Data.{Data, Line}
 use Rattle.desk_steps.specs.Note.{note_step}
 use Rattle.desk_steps.specs.Pull.{pull_step}
 use Rattle.desk_steps.specs.Table.{start_at, restart_at}
-use Rattle.desk_steps.specs.Run.{DeskCall, Connect, Disconnect, Select, DropFile, Start, Restart, Pause, Resume, Toggle, Cancel, Manually, Pull, Note, Pulled, Run, after, after_start, after_restart, after_pull, after_note, run_of, MayCall, MayCallAll, is_of, lines_of, pulled_of}
+use Rattle.desk_steps.specs.Run.{DeskCall, Connect, Disconnect, Select, DropFile, Start, Restart, Pause, Resume, Toggle, Cancel, Manually, Pull, Note, Pulled, Run, after, after_start, after_restart, after_pull, after_note, run_of, MayCall, MayCallAll, is_of, print_lines, pulled_of}
 use Rattle.desk_steps.specs.declared.link_fact.LinkFact.{LinkFact}
 use Rattle.desk_steps.specs.declared.state.State.{State}
 use Rattle.desk_steps.specs.declared.state.Refusal.{Refusal}
@@ -120,11 +120,11 @@ pulled_all (call ∷ calls) run =
     ∙ ap (λ l. l ++ lines_pulled calls (desk_after call run.desk)) (pulled_call call run)
     ∙ with-more (line_pulled call run.desk) (pulled_lines run) (lines_pulled calls (desk_after call run.desk))
 
-of-more : (print : ℕ) (one : Pulled) (all : List Pulled) (b : Bool) → is_of print one.line.tag ≡ b → pulled_of print all ≡ lines_of print (map (λ (x : Pulled). x.line) all) → pulled_of print (one ∷ all) ≡ lines_of print (map (λ (x : Pulled). x.line) (one ∷ all))
+of-more : (print : ℕ) (one : Pulled) (all : List Pulled) (b : Bool) → is_of print one.line.tag ≡ b → pulled_of print all ≡ print_lines print (map (λ (x : Pulled). x.line) all) → pulled_of print (one ∷ all) ≡ print_lines print (map (λ (x : Pulled). x.line) (one ∷ all))
 of-more print one all true e h = rw e (ap (λ l. one.line ∷ l) h)
 of-more print one all false e h = rw e h
 
 -- the pulled lines of a print are those among all that were pulled
-pub of_pulled : (print : ℕ) (all : List Pulled) → pulled_of print all ≡ lines_of print (map (λ (x : Pulled). x.line) all)
+pub of_pulled : (print : ℕ) (all : List Pulled) → pulled_of print all ≡ print_lines print (map (λ (x : Pulled). x.line) all)
 of_pulled print [] = refl
 of_pulled print (one ∷ all) = of-more print one all (is_of print one.line.tag) refl (of_pulled print all)

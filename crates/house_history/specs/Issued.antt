@@ -4,7 +4,7 @@ use Rattle.std.specs.List.{take_while}
 use Rattle.desk_steps.specs.declared.link_fact.LinkFact.{LinkFact}
 use Rattle.desk_steps.specs.declared.link_fact.LinkFact.TheVariants as fact
 use Rattle.desk_steps.specs.Data.{Line}
-use Rattle.desk_steps.specs.Run.{lines_of}
+use Rattle.desk_steps.specs.Run.{print_lines}
 use Rattle.desk_steps.specs.declared.state.Tag.{Tag}
 use Rattle.desk_steps.specs.declared.state.Tag.TheVariants.{Script, Job, Manual, Poll}
 use Rattle.octo_asks.specs.History.{History}
@@ -56,4 +56,4 @@ job_part print lines = filter (λ (line : Line). is_job_of print line.tag) lines
 
 -- the issued script lines and file commands of a print
 abbrev pub trace : ℕ → History → List Line
-trace print history = lines_of print (issued_in history)
+trace print history = print_lines print (issued_in history)

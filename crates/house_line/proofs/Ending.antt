@@ -14,7 +14,7 @@ use Rattle.octo_asks.specs.History.{History}
 use Rattle.octo_asks.specs.declared.entry.Entry.TheVariants as entry
 use Rattle.lossy_line.specs.Tied.{IsTied}
 use Rattle.lossy_line.proofs.Tying.{opened_tied}
-use Rattle.house_line.specs.Sessions.{sessions, texts_of, most_in, acked_in}
+use Rattle.house_line.specs.Sessions.{sessions, session_texts, most_in, acked_in}
 use Rattle.house_line.specs.Timeline.{Timeline, events_of}
 use Rattle.house_line.specs.Tied.{Tied, WasTied, AreTied}
 use Rattle.house_line.specs.InStep.{AreCalls, IsUnmade, IsCurrent, AreInStep}
@@ -41,7 +41,7 @@ module _ (kind : LinkKind) (front : List WorldEvent) where
     counted = i.counted;
     former = i.former;
     few = i.few;
-    current = same_current kind (sessions h) (texts_of (sessions h) h) (acked_in (sessions h) h) past x y sender up i.current;
+    current = same_current kind (sessions h) (session_texts (sessions h) h) (acked_in (sessions h) h) past x y sender up i.current;
     open_as = i.open_as ∙ sym up;
     so_far = i.so_far;
   }
@@ -116,24 +116,24 @@ module _ (kind : LinkKind) (front : List WorldEvent) where
           entry_tied kind front h entry.Close (past ++ added) tied (λ end ends. absurd (cc ends))
           (longer_so_far kind front h past added i.counted (λ shut. quiet) i.so_far)
         where
-          texts_now : texts_of (sessions h) (h ++ entry.Close ∷ []) ≡ texts_of (sessions h) h
-          texts_now = texts-last h entry.Close refl ∙ append-nil (texts_of (sessions h) h)
+          texts_now : session_texts (sessions h) (h ++ entry.Close ∷ []) ≡ session_texts (sessions h) h
+          texts_now = texts-last h entry.Close refl ∙ append-nil (session_texts (sessions h) h)
 
           each : (s : ℕ) → 1 ≤ s → (s < sessions h) ⊎ (s ≡ sessions h) →
               ((n : ℕ) (texts : List (List ℕ)) (acked : ℕ) → 1 ≤ n → IsCurrent kind n texts acked past x
               → IsTied kind texts acked (past ++ added) (opens past)) →
-              IsTied kind (texts_of s (h ++ entry.Close ∷ [])) (acked_in s (h ++ entry.Close ∷ [])) (past ++ added) (opens front + s)
+              IsTied kind (session_texts s (h ++ entry.Close ∷ [])) (acked_in s (h ++ entry.Close ∷ [])) (past ++ added) (opens front + s)
           each s some (inl below) last =
               earlier_tied kind front h entry.Close (past ++ added) s below
-              (tied_before kind (texts_of s h) (acked_in s h) past added (opens front + s) (omega (arith, i.counted, below)) (i.former s some below))
+              (tied_before kind (session_texts s h) (acked_in s h) past added (opens front + s) (omega (arith, i.counted, below)) (i.former s some below))
           each s some (inr same) last =
-              subst (λ (k : ℕ). IsTied kind (texts_of k (h ++ entry.Close ∷ [])) (acked_in k (h ++ entry.Close ∷ [])) (past ++ added) (opens front + k))
+              subst (λ (k : ℕ). IsTied kind (session_texts k (h ++ entry.Close ∷ [])) (acked_in k (h ++ entry.Close ∷ [])) (past ++ added) (opens front + k))
               (sym same)
               (subst (λ (l : List (List ℕ)). IsTied kind l (acked_in (sessions h) (h ++ entry.Close ∷ [])) (past ++ added) (opens front + sessions h))
               (sym texts_now)
-              (subst (λ (a : ℕ). IsTied kind (texts_of (sessions h) h) a (past ++ added) (opens front + sessions h)) (sym (acked-last h entry.Close refl))
-              (subst (λ (k : ℕ). IsTied kind (texts_of (sessions h) h) (acked_in (sessions h) h) (past ++ added) k) i.counted
-              (last (sessions h) (texts_of (sessions h) h) (acked_in (sessions h) h) (omega (arith, same, some)) i.current))))
+              (subst (λ (a : ℕ). IsTied kind (session_texts (sessions h) h) a (past ++ added) (opens front + sessions h)) (sym (acked-last h entry.Close refl))
+              (subst (λ (k : ℕ). IsTied kind (session_texts (sessions h) h) (acked_in (sessions h) h) (past ++ added) k) i.counted
+              (last (sessions h) (session_texts (sessions h) h) (acked_in (sessions h) h) (omega (arith, same, some)) i.current))))
 
       by : (up : Bool) → x.up ≡ up → IsHangUp up (world_in kind past) added → AreTied kind front (h ++ entry.Close ∷ []) (past ++ added)
       by true is hung =
@@ -154,7 +154,7 @@ module _ (kind : LinkKind) (front : List WorldEvent) where
           down : 1 ≤ sessions h → (world_in kind (past ++ added)).linked ≡ false
           down some =
               ap (λ (es : List WorldEvent). (world_in kind es).linked) (sym all)
-              ∙ current_open kind (sessions h) (texts_of (sessions h) h) (acked_in (sessions h) h) past x some i.current ∙ is
+              ∙ current_open kind (sessions h) (session_texts (sessions h) h) (acked_in (sessions h) h) past x some i.current ∙ is
 
           last : (n : ℕ) (texts : List (List ℕ)) (acked : ℕ) → 1 ≤ n → IsCurrent kind n texts acked past x
               → IsTied kind texts acked (past ++ added) (opens past)

@@ -10,7 +10,7 @@ use Rattle.octo_asks.specs.declared.entry.Entry.{Entry}
 use Rattle.octo_asks.specs.declared.entry.Entry.TheVariants as entry
 use Rattle.house_history.specs.Issued.{is_opened, is_opening, lines_at, issued_in}
 use Rattle.house_history.specs.Legal.{up_after}
-use Rattle.house_line.specs.Sessions.{sessions, entries_of, texts_of, most_in, acked_at, acked_after, acked_in, open_at, open_after, is_open}
+use Rattle.house_line.specs.Sessions.{sessions, entries_of, session_texts, most_in, acked_at, acked_after, acked_in, open_at, open_after, is_open}
 use Rattle.house_line.proofs.Entries.{sessions-append, entries-before, entries-last, entries-ended, entries-new, issued_in-append, acked_after-append, open_after-append}
 
 pub below_or : (s n : ℕ) → s < suc n → (s < n) ⊎ (s ≡ n)
@@ -25,7 +25,7 @@ below_or (suc s) (suc n) below = by (below_or s n (omega arith))
 
 module _ (h : History) (e : Entry) where
   -- what each session before the last one issued and has acknowledged
-  pub texts-before : (es : History) (session : ℕ) → session < sessions h → texts_of session (h ++ es) ≡ texts_of session h
+  pub texts-before : (es : History) (session : ℕ) → session < sessions h → session_texts session (h ++ es) ≡ session_texts session h
   texts-before es session before = ap (λ (part : History). texts_in (issued_in part)) (entries-before session h es before)
 
   pub acked-before : (es : History) (session : ℕ) → session < sessions h → acked_in session (h ++ es) ≡ acked_in session h
@@ -40,7 +40,7 @@ module _ (h : History) (e : Entry) where
       counted : (b : Bool) → is_opened e ≡ false → sessions (e ∷ []) ≡ 0
       counted b is = rw is refl
 
-  pub texts-last : is_opened e ≡ false → texts_of (sessions h) (h ++ e ∷ []) ≡ texts_of (sessions h) h ++ texts_in (lines_at e)
+  pub texts-last : is_opened e ≡ false → session_texts (sessions h) (h ++ e ∷ []) ≡ session_texts (sessions h) h ++ texts_in (lines_at e)
   texts-last other =
       ap (λ (part : History). texts_in (issued_in part)) (entries-last (sessions h) h e refl other)
       ∙ ap texts_in (issued_in-append (entries_of (sessions h) h) (e ∷ [])
@@ -58,13 +58,13 @@ module _ (h : History) (e : Entry) where
       let one : sessions (e ∷ []) ≡ 1 = rw opens refl in
       omega (arith, sessions-append h (e ∷ []), one)
 
-  pub texts-ended : is_opened e ≡ true → texts_of (sessions h) (h ++ e ∷ []) ≡ texts_of (sessions h) h
+  pub texts-ended : is_opened e ≡ true → session_texts (sessions h) (h ++ e ∷ []) ≡ session_texts (sessions h) h
   texts-ended opens = ap (λ (part : History). texts_in (issued_in part)) (entries-ended (sessions h) h e refl opens)
 
   pub acked-ended : is_opened e ≡ true → acked_in (sessions h) (h ++ e ∷ []) ≡ acked_in (sessions h) h
   acked-ended opens = ap (λ (part : History). acked_after part 0) (entries-ended (sessions h) h e refl opens)
 
-  pub texts-new : is_opened e ≡ true → texts_of (suc (sessions h)) (h ++ e ∷ []) ≡ []
+  pub texts-new : is_opened e ≡ true → session_texts (suc (sessions h)) (h ++ e ∷ []) ≡ []
   texts-new opens = ap (λ (part : History). texts_in (issued_in part)) (entries-new (sessions h) h e refl opens)
 
   pub acked-new : is_opened e ≡ true → acked_in (suc (sessions h)) (h ++ e ∷ []) ≡ 0
@@ -101,31 +101,31 @@ shut_after (e ∷ es) none = by (λ rest. shut_after es rest) (is_opened e) refl
         ap (λ (b : Bool). open_after es b) (shut_at e is) ∙ rest (sym same ∙ none)
 
 -- how many lines each session issued at most, with an entry more
-pub few_other : (h : History) (e : Entry) → is_opened e ≡ false → ((s : ℕ) → s ≤ sessions h → length (texts_of s h) ≤ most_in s) →
-    length (texts_of (sessions h) (h ++ e ∷ [])) ≤ most_in (sessions h) → (s : ℕ) → s ≤ sessions (h ++ e ∷ []) → length (texts_of s (h ++ e ∷ [])) ≤ most_in s
+pub few_other : (h : History) (e : Entry) → is_opened e ≡ false → ((s : ℕ) → s ≤ sessions h → length (session_texts s h) ≤ most_in s) →
+    length (session_texts (sessions h) (h ++ e ∷ [])) ≤ most_in (sessions h) → (s : ℕ) → s ≤ sessions (h ++ e ∷ []) → length (session_texts s (h ++ e ∷ [])) ≤ most_in s
 few_other h e other few last s most = by (below_or s (sessions h) (omega (arith, most, sessions-other h e other)))
   where
-    by : (s < sessions h) ⊎ (s ≡ sessions h) → length (texts_of s (h ++ e ∷ [])) ≤ most_in s
+    by : (s < sessions h) ⊎ (s ≡ sessions h) → length (session_texts s (h ++ e ∷ [])) ≤ most_in s
     by (inl below) = subst (λ (l : List (List ℕ)). length l ≤ most_in s) (sym (texts-before h e (e ∷ []) s below)) (few s (omega (arith, below)))
-    by (inr same) = subst (λ (k : ℕ). length (texts_of k (h ++ e ∷ [])) ≤ most_in k) (sym same) last
+    by (inr same) = subst (λ (k : ℕ). length (session_texts k (h ++ e ∷ [])) ≤ most_in k) (sym same) last
 
-pub few_open : (h : History) (e : Entry) → is_opened e ≡ true → ((s : ℕ) → s ≤ sessions h → length (texts_of s h) ≤ most_in s) →
-    (s : ℕ) → s ≤ sessions (h ++ e ∷ []) → length (texts_of s (h ++ e ∷ [])) ≤ most_in s
+pub few_open : (h : History) (e : Entry) → is_opened e ≡ true → ((s : ℕ) → s ≤ sessions h → length (session_texts s h) ≤ most_in s) →
+    (s : ℕ) → s ≤ sessions (h ++ e ∷ []) → length (session_texts s (h ++ e ∷ [])) ≤ most_in s
 few_open h e opens few s most = by (below_or s (suc (sessions h)) (omega (arith, most, sessions-opened h e opens)))
   where
-    old : (s < sessions h) ⊎ (s ≡ sessions h) → length (texts_of s (h ++ e ∷ [])) ≤ most_in s
+    old : (s < sessions h) ⊎ (s ≡ sessions h) → length (session_texts s (h ++ e ∷ [])) ≤ most_in s
     old (inl below) = subst (λ (l : List (List ℕ)). length l ≤ most_in s) (sym (texts-before h e (e ∷ []) s below)) (few s (omega (arith, below)))
     old (inr same) =
-        subst (λ (k : ℕ). length (texts_of k (h ++ e ∷ [])) ≤ most_in k) (sym same)
+        subst (λ (k : ℕ). length (session_texts k (h ++ e ∷ [])) ≤ most_in k) (sym same)
         (subst (λ (l : List (List ℕ)). length l ≤ most_in (sessions h)) (sym (texts-ended h e opens)) (few (sessions h) (omega arith)))
 
-    by : (s < suc (sessions h)) ⊎ (s ≡ suc (sessions h)) → length (texts_of s (h ++ e ∷ [])) ≤ most_in s
+    by : (s < suc (sessions h)) ⊎ (s ≡ suc (sessions h)) → length (session_texts s (h ++ e ∷ [])) ≤ most_in s
     by (inl below) = old (below_or s (sessions h) below)
     by (inr same) =
-        subst (λ (k : ℕ). length (texts_of k (h ++ e ∷ [])) ≤ most_in k) (sym same)
+        subst (λ (k : ℕ). length (session_texts k (h ++ e ∷ [])) ≤ most_in k) (sym same)
         (subst (λ (l : List (List ℕ)). length l ≤ most_in (suc (sessions h))) (sym (texts-new h e opens)) (omega arith))
 
 -- an empty history issued nothing
-pub few_none : (s : ℕ) → length (texts_of s []) ≤ most_in s
+pub few_none : (s : ℕ) → length (session_texts s []) ≤ most_in s
 few_none zero = omega arith
 few_none (suc s) = omega arith

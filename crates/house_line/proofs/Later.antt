@@ -15,7 +15,7 @@ use Rattle.send_window.proofs.OwnOks.{counts_next}
 use Rattle.octo_asks.specs.History.{History}
 use Rattle.lossy_wires.specs.Traces.{replies_from, IsSendFit, AreSendsFit}
 use Rattle.lossy_line.specs.Tied.{world_before, IsTied}
-use Rattle.house_line.specs.Sessions.{sessions, texts_of, acked_in}
+use Rattle.house_line.specs.Sessions.{sessions, session_texts, acked_in}
 use Rattle.house_line.specs.Tied.{Tied, IsAbove, AreAbove}
 use Rattle.house_line.proofs.Entries.{sessions-append}
 use Rattle.lossy_line.proofs.Former.{pred_less}
@@ -41,7 +41,7 @@ session_past past more s is some =
     let here : till s (past ++ more) ≡ past ++ till 0 more = ap (λ (n : ℕ). till n (past ++ more)) is ∙ till_past past more in
     let whole : till s past ≡ past = till-all s past (omega (arith, is)) in
     let part = till-IsFront (pred s) past in
-    let within : length (till (pred s) past) ≤ length past = omega (arith, ap length part.is, length-append (till (pred s) past) part.behind) in
+    let within : length (till (pred s) past) ≤ length past = omega (arith, ap length part.is, length-append (till (pred s) past) part.after) in
     ap (λ (es : List WorldEvent). drop (length es) (till s (past ++ more))) before
     ∙ ap (drop (length (till (pred s) past))) here
     ∙ drop-append-le (length (till (pred s) past)) past (till 0 more) within
@@ -90,13 +90,13 @@ above_all issued acked (event ∷ events) replies w below fits = (
 -- what is sent in the last session of a history, after this number of its lines was acknowledged, is above those
 pub later_above : (kind : LinkKind) (front : List WorldEvent) (first later : History) (so_far since : List WorldEvent) → 1 ≤ sessions first →
     Tied kind front (first ++ later) (so_far ++ since) → Tied kind front first so_far →
-    AreAbove (texts_of (sessions first) (first ++ later)) (acked_in (sessions first) first) (till 0 since)
+    AreAbove (session_texts (sessions first) (first ++ later)) (acked_in (sessions first) first) (till 0 since)
 later_above kind front first later so_far since some t then_tied =
     let n : ℕ = sessions first in
     let s : ℕ = opens front + n in
-    let issued : List (List ℕ) = texts_of n (first ++ later) in
+    let issued : List (List ℕ) = session_texts n (first ++ later) in
     let here : IsTied kind issued (acked_in n (first ++ later)) (so_far ++ since) s = t.each n some (omega (arith, sessions-append first later)) in
-    let part : IsTied kind (texts_of n first) (acked_in n first) so_far s = then_tied.each n some (omega arith) in
+    let part : IsTied kind (session_texts n first) (acked_in n first) so_far s = then_tied.each n some (omega arith) in
     let is : s ≡ opens so_far = sym then_tied.counted in
     let before : till (pred s) (so_far ++ since) ≡ till (pred s) so_far =
     till-append (pred s) so_far since (omega (arith, pred_less s (omega (arith, some)), is))

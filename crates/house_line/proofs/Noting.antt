@@ -25,7 +25,7 @@ use Rattle.lossy_line.specs.Linked.{opened}
 use Rattle.lossy_line.specs.Tied.{IsTied, IsEndCaused}
 use Rattle.lossy_line.proofs.Promised.{turn_caused, ends_talking}
 use Rattle.lossy_line.proofs.Turned.{IsTurned, talks_up}
-use Rattle.house_line.specs.Sessions.{sessions, texts_of, most_in, acked_in, is_open, end_of}
+use Rattle.house_line.specs.Sessions.{sessions, session_texts, most_in, acked_in, is_open, end_of}
 use Rattle.house_line.specs.InStep.{IsCurrent, TiedSoFar, AreInStep}
 use Rattle.house_line.proofs.Grown.{below_or, few_other, few_open, texts-before, acked-before, sessions-other, texts-last, acked-last, sessions-opened, texts-ended, acked-ended, texts-new, acked-new, open-after}
 use Rattle.house_line.proofs.Turns.{turn_stays, turn_opens, turn_shut}
@@ -66,7 +66,7 @@ module _ (moment : ℕ) (kind : LinkKind) (x y : SessionData) (got : Got) (f : L
 
   -- an end has its cause
   caused_turn : (end : SessionEnd) → f ≡ fact.Ended end → IsEndCaused kind end (past ++ added)
-  caused_turn end is = by (sessions h) (texts_of (sessions h) h) (acked_in (sessions h) h) i.current
+  caused_turn end is = by (sessions h) (session_texts (sessions h) h) (acked_in (sessions h) h) i.current
     where
       by : (n : ℕ) (issued : List (List ℕ)) (acked : ℕ) → IsCurrent kind n issued acked past x → IsEndCaused kind end (past ++ added)
       by zero issued acked u =
@@ -92,23 +92,23 @@ module _ (moment : ℕ) (kind : LinkKind) (x y : SessionData) (got : Got) (f : L
     noted_other : is_opening note.fact ≡ false → AreInStep kind front (h ++ e ∷ []) (past ++ added) y
     noted_other other =
         let n : sessions (h ++ e ∷ []) ≡ sessions h = sessions-other h e other in
-        let l = turn_stays moment kind x y got f texts front past added (sessions h) (λ s. texts_of s h) (λ s. acked_in s h) note.acked
+        let l = turn_stays moment kind x y got f texts front past added (sessions h) (λ s. session_texts s h) (λ s. acked_in s h) note.acked
         (λ is. other_fact note.fact other (its_fact ∙ is)) t its_acked (leaves_of kind front h past x i)
         in
         let counted : opens (past ++ added) ≡ opens front + sessions (h ++ e ∷ []) = omega (arith, l.counted, n) in
         let former = λ (s : ℕ) (some : 1 ≤ s) (below : s < sessions (h ++ e ∷ [])).
         earlier_tied kind front h e (past ++ added) s (omega (arith, below, n)) (l.former s some (omega (arith, below, n)))
         in
-        let texts_now : texts_of (sessions h) (h ++ e ∷ []) ≡ texts_of (sessions h) h ++ texts =
-        texts-last h e other ∙ ap (λ (l : List (List ℕ)). texts_of (sessions h) h ++ l) its_texts
+        let texts_now : session_texts (sessions h) (h ++ e ∷ []) ≡ session_texts (sessions h) h ++ texts =
+        texts-last h e other ∙ ap (λ (l : List (List ℕ)). session_texts (sessions h) h ++ l) its_texts
         in
         let few = few_other h e other i.few (subst (λ (l : List (List ℕ)). length l ≤ most_in (sessions h)) (sym texts_now) l.few) in
-        let current : IsCurrent kind (sessions (h ++ e ∷ [])) (texts_of (sessions (h ++ e ∷ [])) (h ++ e ∷ []))
+        let current : IsCurrent kind (sessions (h ++ e ∷ [])) (session_texts (sessions (h ++ e ∷ [])) (h ++ e ∷ []))
         (acked_in (sessions (h ++ e ∷ [])) (h ++ e ∷ [])) (past ++ added) y =
-        subst (λ (k : ℕ). IsCurrent kind k (texts_of k (h ++ e ∷ [])) (acked_in k (h ++ e ∷ [])) (past ++ added) y) (sym n)
-        (current_as kind (sessions h) (sessions h) (texts_of (sessions h) h ++ texts) (texts_of (sessions h) (h ++ e ∷ [])) note.acked
+        subst (λ (k : ℕ). IsCurrent kind k (session_texts k (h ++ e ∷ [])) (acked_in k (h ++ e ∷ [])) (past ++ added) y) (sym n)
+        (current_as kind (sessions h) (sessions h) (session_texts (sessions h) h ++ texts) (session_texts (sessions h) (h ++ e ∷ [])) note.acked
         (acked_in (sessions h) (h ++ e ∷ []))
-        (past ++ added) y refl (sym (texts-last h e other ∙ ap (λ (l : List (List ℕ)). texts_of (sessions h) h ++ l) its_texts))
+        (past ++ added) y refl (sym (texts-last h e other ∙ ap (λ (l : List (List ℕ)). session_texts (sessions h) h ++ l) its_texts))
         (sym (acked-last h e other)) l.current)
         in
         in_step_by kind front h e (past ++ added) y counted former few current open_now caused_now along
@@ -117,7 +117,7 @@ module _ (moment : ℕ) (kind : LinkKind) (x y : SessionData) (got : Got) (f : L
     noted_opened : (note.acked ≡ 0) → is_opening note.fact ≡ true → AreInStep kind front (h ++ e ∷ []) (past ++ added) y
     noted_opened none_acked opens_now =
         let n : sessions (h ++ e ∷ []) ≡ suc (sessions h) = sessions-opened h e opens_now in
-        let l = turn_opens moment kind x y got f texts front past added (sessions h) (λ s. texts_of s h) (λ s. acked_in s h) note.acked
+        let l = turn_opens moment kind x y got f texts front past added (sessions h) (λ s. session_texts s h) (λ s. acked_in s h) note.acked
         (sym its_fact ∙ opened_fact note.fact opens_now) t its_acked (leaves_of kind front h past x i)
         in
         let counted : opens (past ++ added) ≡ opens front + sessions (h ++ e ∷ []) = omega (arith, l.counted, n) in
@@ -125,28 +125,28 @@ module _ (moment : ℕ) (kind : LinkKind) (x y : SessionData) (got : Got) (f : L
         earlier s some (below_or s (sessions h) (omega (arith, below, n))) (l.former s some (omega (arith, below, n)))
         in
         let few = few_open h e opens_now i.few in
-        let current : IsCurrent kind (sessions (h ++ e ∷ [])) (texts_of (sessions (h ++ e ∷ [])) (h ++ e ∷ []))
+        let current : IsCurrent kind (sessions (h ++ e ∷ [])) (session_texts (sessions (h ++ e ∷ [])) (h ++ e ∷ []))
         (acked_in (sessions (h ++ e ∷ [])) (h ++ e ∷ [])) (past ++ added) y =
-        subst (λ (k : ℕ). IsCurrent kind k (texts_of k (h ++ e ∷ [])) (acked_in k (h ++ e ∷ [])) (past ++ added) y) (sym n)
-        (current_as kind (suc (sessions h)) (suc (sessions h)) [] (texts_of (suc (sessions h)) (h ++ e ∷ [])) note.acked
+        subst (λ (k : ℕ). IsCurrent kind k (session_texts k (h ++ e ∷ [])) (acked_in k (h ++ e ∷ [])) (past ++ added) y) (sym n)
+        (current_as kind (suc (sessions h)) (suc (sessions h)) [] (session_texts (suc (sessions h)) (h ++ e ∷ [])) note.acked
         (acked_in (suc (sessions h)) (h ++ e ∷ []))
         (past ++ added) y refl (sym (texts-new h e opens_now)) (none_acked ∙ sym (acked-new h e opens_now)) l.current)
         in
         in_step_by kind front h e (past ++ added) y counted former few current open_now caused_now along
       where
-        texts_now : (s : ℕ) → (s < sessions h) ⊎ (s ≡ sessions h) → texts_of s (h ++ e ∷ []) ≡ texts_of s h
+        texts_now : (s : ℕ) → (s < sessions h) ⊎ (s ≡ sessions h) → session_texts s (h ++ e ∷ []) ≡ session_texts s h
         texts_now s (inl below) = texts-before h e (e ∷ []) s below
-        texts_now s (inr same) = subst (λ (k : ℕ). texts_of k (h ++ e ∷ []) ≡ texts_of k h) (sym same) (texts-ended h e opens_now)
+        texts_now s (inr same) = subst (λ (k : ℕ). session_texts k (h ++ e ∷ []) ≡ session_texts k h) (sym same) (texts-ended h e opens_now)
 
         acked_now : (s : ℕ) → (s < sessions h) ⊎ (s ≡ sessions h) → acked_in s (h ++ e ∷ []) ≡ acked_in s h
         acked_now s (inl below) = acked-before h e (e ∷ []) s below
         acked_now s (inr same) = subst (λ (k : ℕ). acked_in k (h ++ e ∷ []) ≡ acked_in k h) (sym same) (acked-ended h e opens_now)
 
-        earlier : (s : ℕ) → 1 ≤ s → (s < sessions h) ⊎ (s ≡ sessions h) → IsTied kind (texts_of s h) (acked_in s h) (past ++ added) (opens front + s) →
-            IsTied kind (texts_of s (h ++ e ∷ [])) (acked_in s (h ++ e ∷ [])) (past ++ added) (opens front + s)
+        earlier : (s : ℕ) → 1 ≤ s → (s < sessions h) ⊎ (s ≡ sessions h) → IsTied kind (session_texts s h) (acked_in s h) (past ++ added) (opens front + s) →
+            IsTied kind (session_texts s (h ++ e ∷ [])) (acked_in s (h ++ e ∷ [])) (past ++ added) (opens front + s)
         earlier s some at tied =
             subst (λ (l : List (List ℕ)). IsTied kind l (acked_in s (h ++ e ∷ [])) (past ++ added) (opens front + s)) (sym (texts_now s at))
-            (subst (λ (a : ℕ). IsTied kind (texts_of s h) a (past ++ added) (opens front + s)) (sym (acked_now s at)) tied)
+            (subst (λ (a : ℕ). IsTied kind (session_texts s h) a (past ++ added) (opens front + s)) (sym (acked_now s at)) tied)
 
     -- a turn with this note
     pub noted_step : (note.fact ≡ fact.Opened → note.acked ≡ 0) → AreInStep kind front (h ++ e ∷ []) (past ++ added) y
@@ -163,9 +163,9 @@ module _ (moment : ℕ) (kind : LinkKind) (x y : SessionData) (got : Got) (f : L
       other : f ≡ fact.Opened → ⊥
       other is = (let no : fact.Quiet ≡ fact.Opened = sym quiet ∙ is in absurd (cc))
 
-      stays : (n : ℕ) → sessions h ≡ n → IsCurrent kind n (texts_of n h) (acked_in n h) past x → AreInStep kind front h (past ++ added) y
+      stays : (n : ℕ) → sessions h ≡ n → IsCurrent kind n (session_texts n h) (acked_in n h) past x → AreInStep kind front h (past ++ added) y
       stays n is c =
-          let l = turn_stays moment kind x y got f texts front past added (sessions h) (λ s. texts_of s h) (λ s. acked_in s h) y.sender.acked other t refl
+          let l = turn_stays moment kind x y got f texts front past added (sessions h) (λ s. session_texts s h) (λ s. acked_in s h) y.sender.acked other t refl
           (leaves_of kind front h past x i)
           in
           record {
@@ -177,9 +177,9 @@ module _ (moment : ℕ) (kind : LinkKind) (x y : SessionData) (got : Got) (f : L
             so_far = along;
           }
         where
-          last : (n : ℕ) → IsCurrent kind n (texts_of n h) (acked_in n h) past x → IsCurrent kind n (texts_of n h ++ texts) y.sender.acked (past ++ added) y →
-              IsCurrent kind n (texts_of n h) (acked_in n h) (past ++ added) y
+          last : (n : ℕ) → IsCurrent kind n (session_texts n h) (acked_in n h) past x → IsCurrent kind n (session_texts n h ++ texts) y.sender.acked (past ++ added) y →
+              IsCurrent kind n (session_texts n h) (acked_in n h) (past ++ added) y
           last zero c d = d
           last (suc n) c d =
-              current_as kind (suc n) (suc n) (texts_of (suc n) h ++ texts) (texts_of (suc n) h) y.sender.acked (acked_in (suc n) h) (past ++ added) y refl
-              (ap (λ (l : List (List ℕ)). texts_of (suc n) h ++ l) none ∙ append-nil (texts_of (suc n) h)) (same ∙ c.1) d
+              current_as kind (suc n) (suc n) (session_texts (suc n) h ++ texts) (session_texts (suc n) h) y.sender.acked (acked_in (suc n) h) (past ++ added) y refl
+              (ap (λ (l : List (List ℕ)). session_texts (suc n) h ++ l) none ∙ append-nil (session_texts (suc n) h)) (same ∙ c.1) d

@@ -15,7 +15,7 @@ use Rattle.octo_asks.specs.declared.entry.Entry.{Entry}
 use Rattle.house_history.specs.Issued.{is_opened, lines_at}
 use Rattle.lossy_line.specs.Tied.{IsTied, IsEndCaused}
 use Rattle.lossy_line.proofs.Tying.{opened_tied}
-use Rattle.house_line.specs.Sessions.{sessions, texts_of, most_in, acked_at, acked_in, open_at, open_after, is_open, end_at, end_after}
+use Rattle.house_line.specs.Sessions.{sessions, session_texts, most_in, acked_at, acked_in, open_at, open_after, is_open, end_at, end_after}
 use Rattle.house_line.specs.Timeline.{Entered, Timeline, history_of, events_of, past_after}
 use Rattle.house_line.specs.Tied.{Tied, WasTied, AreTied}
 use Rattle.house_line.specs.InStep.{IsCurrent, TiedSoFar, AreInStep}
@@ -28,7 +28,7 @@ use Rattle.lossy_line.proofs.Promised.{same_opened}
 
 -- the sessions of a history and its link, as they are in step
 pub leaves_of : (kind : LinkKind) (front : List WorldEvent) (h : History) (past : List WorldEvent) (x : SessionData) → AreInStep kind front h past x →
-    Leaves kind front (sessions h) (λ s. texts_of s h) (λ s. acked_in s h) (texts_of (sessions h) h) (acked_in (sessions h) h) past x
+    Leaves kind front (sessions h) (λ s. session_texts s h) (λ s. acked_in s h) (session_texts (sessions h) h) (acked_in (sessions h) h) past x
 leaves_of kind front h past x i = record { counted = i.counted; former = i.former; current = i.current; few = i.few (sessions h) (omega arith) }
 
 -- the link is up exactly if the current session is
@@ -39,15 +39,15 @@ current_open kind (suc n) texts acked past x some c = c.0.open_as
 
 -- then they are tied
 pub tied_by : (kind : LinkKind) (front : List WorldEvent) (h : History) (past : List WorldEvent) (x : SessionData) → opens past ≡ opens front + sessions h →
-    ((s : ℕ) → 1 ≤ s → s < sessions h → IsTied kind (texts_of s h) (acked_in s h) past (opens front + s)) →
-    ((s : ℕ) → s ≤ sessions h → length (texts_of s h) ≤ most_in s) → IsCurrent kind (sessions h) (texts_of (sessions h) h) (acked_in (sessions h) h) past x →
+    ((s : ℕ) → 1 ≤ s → s < sessions h → IsTied kind (session_texts s h) (acked_in s h) past (opens front + s)) →
+    ((s : ℕ) → s ≤ sessions h → length (session_texts s h) ≤ most_in s) → IsCurrent kind (sessions h) (session_texts (sessions h) h) (acked_in (sessions h) h) past x →
     is_open h ≡ x.up → Tied kind front h past
 tied_by kind front h past x counted former few current open_now =
     record {
       counted = counted;
       each = λ s some most. each s some (below_or s (sessions h) (omega (arith, most)));
       few = few;
-      open_as = λ some. current_open kind (sessions h) (texts_of (sessions h) h) (acked_in (sessions h) h) past x some current ∙ sym open_now;
+      open_as = λ some. current_open kind (sessions h) (session_texts (sessions h) h) (acked_in (sessions h) h) past x some current ∙ sym open_now;
     }
   where
     last : (n : ℕ) (texts : List (List ℕ)) (acked : ℕ) → 1 ≤ n → opens past ≡ opens front + n → IsCurrent kind n texts acked past x →
@@ -57,11 +57,11 @@ tied_by kind front h past x counted former few current open_now =
         subst (λ (a : ℕ). IsTied kind texts a past (opens front + suc n)) c.1
         (subst (λ (k : ℕ). IsTied kind texts x.sender.acked past k) count (opened_tied kind texts x past c.0))
 
-    each : (s : ℕ) → 1 ≤ s → (s < sessions h) ⊎ (s ≡ sessions h) → IsTied kind (texts_of s h) (acked_in s h) past (opens front + s)
+    each : (s : ℕ) → 1 ≤ s → (s < sessions h) ⊎ (s ≡ sessions h) → IsTied kind (session_texts s h) (acked_in s h) past (opens front + s)
     each s some (inl below) = former s some below
     each s some (inr same) =
-        subst (λ (k : ℕ). IsTied kind (texts_of k h) (acked_in k h) past (opens front + k)) (sym same)
-        (last (sessions h) (texts_of (sessions h) h) (acked_in (sessions h) h) (omega (arith, same, some)) counted current)
+        subst (λ (k : ℕ). IsTied kind (session_texts k h) (acked_in k h) past (opens front + k)) (sym same)
+        (last (sessions h) (session_texts (sessions h) h) (acked_in (sessions h) h) (omega (arith, same, some)) counted current)
 
 pub tied_now : (kind : LinkKind) (front : List WorldEvent) (h : History) (past : List WorldEvent) (x : SessionData) → AreInStep kind front h past x
     → Tied kind front h past
@@ -168,18 +168,18 @@ so_far_of kind front h past t = record {
 
 -- the sessions before the last one stay tied, if an entry more is noted
 pub earlier_tied : (kind : LinkKind) (front : List WorldEvent) (h : History) (e : Entry) (past : List WorldEvent) (s : ℕ) → s < sessions h →
-    IsTied kind (texts_of s h) (acked_in s h) past (opens front + s) →
-    IsTied kind (texts_of s (h ++ e ∷ [])) (acked_in s (h ++ e ∷ [])) past (opens front + s)
+    IsTied kind (session_texts s h) (acked_in s h) past (opens front + s) →
+    IsTied kind (session_texts s (h ++ e ∷ [])) (acked_in s (h ++ e ∷ [])) past (opens front + s)
 earlier_tied kind front h e past s below tied =
     subst (λ (l : List (List ℕ)). IsTied kind l (acked_in s (h ++ e ∷ [])) past (opens front + s)) (sym (texts-before h e (e ∷ []) s below))
-    (subst (λ (a : ℕ). IsTied kind (texts_of s h) a past (opens front + s)) (sym (acked-before h e (e ∷ []) s below)) tied)
+    (subst (λ (a : ℕ). IsTied kind (session_texts s h) a past (opens front + s)) (sym (acked-before h e (e ∷ []) s below)) tied)
 
 -- an entry more keeps a host in step, if its sessions are as they should be then
 pub in_step_by : (kind : LinkKind) (front : List WorldEvent) (h : History) (e : Entry) (past : List WorldEvent) (y : SessionData) →
     opens past ≡ opens front + sessions (h ++ e ∷ []) →
-    ((s : ℕ) → 1 ≤ s → s < sessions (h ++ e ∷ []) → IsTied kind (texts_of s (h ++ e ∷ [])) (acked_in s (h ++ e ∷ [])) past (opens front + s)) →
-    ((s : ℕ) → s ≤ sessions (h ++ e ∷ []) → length (texts_of s (h ++ e ∷ [])) ≤ most_in s) →
-    IsCurrent kind (sessions (h ++ e ∷ [])) (texts_of (sessions (h ++ e ∷ [])) (h ++ e ∷ [])) (acked_in (sessions (h ++ e ∷ [])) (h ++ e ∷ [])) past y →
+    ((s : ℕ) → 1 ≤ s → s < sessions (h ++ e ∷ []) → IsTied kind (session_texts s (h ++ e ∷ [])) (acked_in s (h ++ e ∷ [])) past (opens front + s)) →
+    ((s : ℕ) → s ≤ sessions (h ++ e ∷ []) → length (session_texts s (h ++ e ∷ [])) ≤ most_in s) →
+    IsCurrent kind (sessions (h ++ e ∷ [])) (session_texts (sessions (h ++ e ∷ [])) (h ++ e ∷ [])) (acked_in (sessions (h ++ e ∷ [])) (h ++ e ∷ [])) past y →
     is_open (h ++ e ∷ []) ≡ y.up → ((end : SessionEnd) → end_at e ≡ Some end → IsEndCaused kind end past) → TiedSoFar kind front h past →
     AreInStep kind front (h ++ e ∷ []) past y
 in_step_by kind front h e past y counted former few current open_now caused so_far = record {
@@ -215,15 +215,15 @@ module _ (kind : LinkKind) (front : List WorldEvent) (h : History) (past : List 
       ((was : Bool) → open_at e was ≡ was) → y.sender ≡ x.sender → y.up ≡ x.up → AreInStep kind front h past x → AreInStep kind front (h ++ e ∷ []) past y
   still_step e other endless silent same_acked same_open sender up i =
       let n : sessions (h ++ e ∷ []) ≡ sessions h = sessions-other h e other in
-      let texts : texts_of (sessions h) (h ++ e ∷ []) ≡ texts_of (sessions h) h =
-      texts-last h e other ∙ ap (λ (l : List (List ℕ)). texts_of (sessions h) h ++ l) (ap texts_in silent) ∙ append-nil (texts_of (sessions h) h)
+      let texts : session_texts (sessions h) (h ++ e ∷ []) ≡ session_texts (sessions h) h =
+      texts-last h e other ∙ ap (λ (l : List (List ℕ)). session_texts (sessions h) h ++ l) (ap texts_in silent) ∙ append-nil (session_texts (sessions h) h)
       in
       let counted : opens past ≡ opens front + sessions (h ++ e ∷ []) = omega (arith, i.counted, n) in
       let former = λ (s : ℕ) (some : 1 ≤ s) (below : s < sessions (h ++ e ∷ [])).
       earlier_tied kind front h e past s (omega (arith, below, n)) (i.former s some (omega (arith, below, n)))
       in
       let few = few_other h e other i.few (subst (λ (l : List (List ℕ)). length l ≤ most_in (sessions h)) (sym texts) (i.few (sessions h) (omega arith))) in
-      let current = now (sessions h) (sessions (h ++ e ∷ [])) (sym n) (texts_of (sessions h) h) (acked_in (sessions h) h) texts
+      let current = now (sessions h) (sessions (h ++ e ∷ [])) (sym n) (session_texts (sessions h) h) (acked_in (sessions h) h) texts
       (acked-last h e other) i.current in
       let open_now : is_open (h ++ e ∷ []) ≡ y.up = open-after h e ∙ same_open (is_open h) ∙ i.open_as ∙ sym up in
       in_step_by kind front h e past y counted former few current open_now
@@ -233,13 +233,13 @@ module _ (kind : LinkKind) (front : List WorldEvent) (h : History) (past : List 
       acked_same zero texts acked c some = absurd (omega arith)
       acked_same (suc n) texts acked c some = same_acked acked c.1
 
-      now : (n m : ℕ) → n ≡ m → (texts : List (List ℕ)) (acked : ℕ) → texts_of n (h ++ e ∷ []) ≡ texts → acked_in n (h ++ e ∷ []) ≡ acked_at e acked →
-          IsCurrent kind n texts acked past x → IsCurrent kind m (texts_of m (h ++ e ∷ [])) (acked_in m (h ++ e ∷ [])) past y
+      now : (n m : ℕ) → n ≡ m → (texts : List (List ℕ)) (acked : ℕ) → session_texts n (h ++ e ∷ []) ≡ texts → acked_in n (h ++ e ∷ []) ≡ acked_at e acked →
+          IsCurrent kind n texts acked past x → IsCurrent kind m (session_texts m (h ++ e ∷ [])) (acked_in m (h ++ e ∷ [])) past y
       now zero m same texts acked texts_are acked_is c =
-          subst (λ (k : ℕ). IsCurrent kind k (texts_of k (h ++ e ∷ [])) (acked_in k (h ++ e ∷ [])) past y) same
+          subst (λ (k : ℕ). IsCurrent kind k (session_texts k (h ++ e ∷ [])) (acked_in k (h ++ e ∷ [])) past y) same
           (same_current kind zero texts acked past x y sender up c)
       now (suc n) m same texts acked texts_are acked_is c =
-          subst (λ (k : ℕ). IsCurrent kind k (texts_of k (h ++ e ∷ [])) (acked_in k (h ++ e ∷ [])) past y) same
-          (current_as kind (suc n) (suc n) texts (texts_of (suc n) (h ++ e ∷ [])) acked (acked_in (suc n) (h ++ e ∷ [])) past y refl (sym texts_are)
+          subst (λ (k : ℕ). IsCurrent kind k (session_texts k (h ++ e ∷ [])) (acked_in k (h ++ e ∷ [])) past y) same
+          (current_as kind (suc n) (suc n) texts (session_texts (suc n) (h ++ e ∷ [])) acked (acked_in (suc n) (h ++ e ∷ [])) past y refl (sym texts_are)
           (sym (acked_is ∙ same_acked acked c.1))
           (same_current kind (suc n) texts acked past x y sender up c))

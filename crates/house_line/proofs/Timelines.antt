@@ -47,13 +47,13 @@ split (f ∷ t) e (g ∷ first) later is = by (split t e first later (cc)) (cc)
 -- a timeline in two, if its history is
 pub record IsIn (t : Timeline) (first later : History) : Type 0 where
   pub front : Timeline
-  pub behind : Timeline
-  pub is : t ≡ front ++ behind
+  pub after : Timeline
+  pub is : t ≡ front ++ after
   pub first_is : history_of front ≡ first
-  pub later_is : history_of behind ≡ later
+  pub later_is : history_of after ≡ later
 
 pub taken_in : (t : Timeline) (first later : History) → history_of t ≡ first ++ later → IsIn t first later
-taken_in t [] later is = record { front = []; behind = t; is = refl; first_is = refl; later_is = is }
+taken_in t [] later is = record { front = []; after = t; is = refl; first_is = refl; later_is = is }
 taken_in [] (e ∷ first) later is = absurd (cc is)
 taken_in (x ∷ t) (e ∷ first) later is =
     let same : x.entry ≡ e = cc is in
@@ -61,7 +61,7 @@ taken_in (x ∷ t) (e ∷ first) later is =
     let i = taken_in t first later more in
     record {
       front = x ∷ i.front;
-      behind = i.behind;
+      after = i.after;
       is = ap (λ (es : Timeline). x ∷ es) i.is;
       first_is = ap (λ (h : History). x.entry ∷ h) i.first_is ∙ ap (λ (k : Entry). k ∷ first) same;
       later_is = i.later_is;

@@ -9,7 +9,7 @@ use Rattle.octo_asks.specs.History.{History}
 use Rattle.octo_asks.specs.declared.entry.Entry.TheVariants as entry
 use Rattle.lossy_line.specs.Linked.{IsOpened}
 use Rattle.lossy_line.specs.Tied.{IsTied}
-use Rattle.house_line.specs.Sessions.{sessions, texts_of, most_in, acked_in, is_open}
+use Rattle.house_line.specs.Sessions.{sessions, session_texts, most_in, acked_in, is_open}
 use Rattle.house_line.specs.Timeline.{Timeline, history_of, events_of, past_after}
 use Rattle.house_line.specs.Tied.{AreTied, WasTied}
 
@@ -46,10 +46,10 @@ pub record AreInStep (kind : LinkKind) (front : List WorldEvent) (history : Hist
   pub counted : opens past ≡ opens front + sessions history
   -- the sessions before the last one are tied
   pub former : (session : ℕ) → 1 ≤ session → session < sessions history
-      → IsTied kind (texts_of session history) (acked_in session history) past (opens front + session)
-  pub few : (session : ℕ) → session ≤ sessions history → length (texts_of session history) ≤ most_in session
+      → IsTied kind (session_texts session history) (acked_in session history) past (opens front + session)
+  pub few : (session : ℕ) → session ≤ sessions history → length (session_texts session history) ≤ most_in session
   -- the last one is the host's
-  pub current : IsCurrent kind (sessions history) (texts_of (sessions history) history)
+  pub current : IsCurrent kind (sessions history) (session_texts (sessions history) history)
       (acked_in (sessions history) history) past x
   pub open_as : is_open history ≡ x.up
   pub so_far : TiedSoFar kind front history past

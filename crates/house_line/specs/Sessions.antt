@@ -22,8 +22,8 @@ abbrev pub entries_of : ℕ → History → History
 entries_of session history = take_while (λ e. not (is_opened e)) (after_opening session history)
 
 -- the texts of the lines that a session issued
-abbrev pub texts_of : ℕ → History → List (List ℕ)
-texts_of session history = texts_in (issued_of session history)
+abbrev pub session_texts : ℕ → History → List (List ℕ)
+session_texts session history = texts_in (issued_of session history)
 
 -- how many lines a session may issue: as many as it has numbers for, and none before the first session
 abbrev pub most_in : ℕ → ℕ

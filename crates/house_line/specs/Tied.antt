@@ -12,7 +12,7 @@ use Rattle.send_window.specs.declared.session_end.SessionEnd.{SessionEnd}
 use Rattle.octo_asks.specs.History.{History}
 use Rattle.lossy_wires.specs.Traces.{IsLineAbove}
 use Rattle.lossy_line.specs.Tied.{IsTied, IsEndCaused}
-use Rattle.house_line.specs.Sessions.{sessions, texts_of, most_in, acked_in, is_open, last_end}
+use Rattle.house_line.specs.Sessions.{sessions, session_texts, most_in, acked_in, is_open, last_end}
 use Rattle.house_line.specs.Timeline.{Timeline, history_of, events_of, past_after}
 
 -- Session by session a history is tied to what happened on its link since an earlier history of the link: what the printer
@@ -23,9 +23,9 @@ pub record Tied (kind : LinkKind) (front : List WorldEvent) (history : History) 
   -- the link was made once for each session
   pub counted : opens past ≡ opens front + sessions history
   pub each : (session : ℕ) → 1 ≤ session → session ≤ sessions history
-      → IsTied kind (texts_of session history) (acked_in session history) past (opens front + session)
+      → IsTied kind (session_texts session history) (acked_in session history) past (opens front + session)
   -- a session issues at most as many lines as it has numbers for, and none is issued before the first
-  pub few : (session : ℕ) → session ≤ sessions history → length (texts_of session history) ≤ most_in session
+  pub few : (session : ℕ) → session ≤ sessions history → length (session_texts session history) ≤ most_in session
   -- once a link was made, it is up exactly if a session is open: after the note of an end it is down
   pub open_as : 1 ≤ sessions history → (world_in kind past).linked ≡ is_open history
 

@@ -2,7 +2,7 @@
 use Rattle.std.proofs.Common.{◌≡◌, inl, inr, ℕ, ◌≤◌, Bool, false, nat_eq, List, [], ◌∷◌, ◌++◌, length, Option, None, Some, refl, sym, ◌∙◌, ap, subst, append-nil, append_assoc, arith}
 use Rattle.std.proofs.lemmas.List.{length-append}
 use Rattle.desk_steps.specs.Data.{ScriptTexts, Data, Line}
-use Rattle.desk_steps.specs.Run.{Fate, Run, after, run_of, lines_of, pulled_of, of_print, DeskCall, Note, MayCallAll}
+use Rattle.desk_steps.specs.Run.{Fate, Run, after, run_of, print_lines, pulled_of, of_print, DeskCall, Note, MayCallAll}
 use Rattle.desk_steps.specs.Story.{Story, never, going, finished, stopped, left, unplugged, broken}
 use Rattle.desk_steps.specs.declared.state.State.TheVariants.{Connecting}
 use Rattle.desk_steps.specs.declared.link_fact.LinkFact.TheVariants as fact
@@ -83,7 +83,7 @@ module _ (scripts : ScriptTexts) (p : ℕ) (positive : nat_eq 0 p ≡ false) whe
   pub record Passes (f : Fate) (calls : List DeskCall) (run : Run) (lines : List Line) : Type 0 where
     pub held : Held scripts p positive (run_of calls run) (lines ++ lines_pulled calls run.desk)
     pub ends : of_print p (run_of calls run).ends ≡ f ∷ []
-    pub none : lines_of p (lines_pulled calls run.desk) ≡ []
+    pub none : print_lines p (lines_pulled calls run.desk) ≡ []
 
   drawn_first : (line : Option Line) (rest : List Line) → with_line line rest ≡ drawn_lines line ++ rest
   drawn_first None rest = refl
@@ -107,9 +107,9 @@ module _ (scripts : ScriptTexts) (p : ℕ) (positive : nat_eq 0 p ≡ false) whe
       record {
         held = subst (λ (x : List Line). Held scripts p positive (run_of calls next) x) (sym draws.whole) last.held;
         ends = last.ends;
-        none = ap (λ (x : List Line). lines_of p x) (drawn_first (line_pulled call run.desk) rest)
+        none = ap (λ (x : List Line). print_lines p x) (drawn_first (line_pulled call run.desk) rest)
             ∙ none_both p (drawn_lines (line_pulled call run.desk)) rest (none_pulled scripts p positive call run.desk foreign)
-            (ap (λ (d : Data). lines_of p (lines_pulled calls d)) (sym draws.desk) ∙ last.none);
+            (ap (λ (d : Data). print_lines p (lines_pulled calls d)) (sym draws.desk) ∙ last.none);
       }
 
   pub acked_calls : (calls : List DeskCall) (d : Data) → ArePlain calls d → d.acked ≤ (desk_after_all calls d).acked
@@ -120,7 +120,7 @@ module _ (scripts : ScriptTexts) (p : ℕ) (positive : nat_eq 0 p ≡ false) whe
   pub connecting_foreign : (run : Run) → run.desk.state ≡ Connecting → KnownOf scripts p positive run → ForeignTo p run.desk
   connecting_foreign run is (inl k) = k.foreign
   connecting_foreign run is (inr (inl k)) =
-      absurd (subst (λ t. Stage run.desk.scripts p k.commands t run.desk.cursor run.desk.waiting (pulled_of p run.pulled ++ lines_of p run.desk.waiting)) is
+      absurd (subst (λ t. Stage run.desk.scripts p k.commands t run.desk.cursor run.desk.waiting (pulled_of p run.pulled ++ print_lines p run.desk.waiting)) is
       k.current.stage)
   connecting_foreign run is (inr (inr k)) = k.foreign
 
@@ -141,11 +141,11 @@ module _ (scripts : ScriptTexts) (p : ℕ) (positive : nat_eq 0 p ≡ false) whe
       by : IsClear scripts p positive run → KnownOf scripts p positive run → pulled_of p run.pulled ≡ []
       by clear (inl k) = k.no_line
       by clear (inr (inl k)) =
-          absurd (subst (λ t. Stage run.desk.scripts p k.commands t run.desk.cursor run.desk.waiting (pulled_of p run.pulled ++ lines_of p run.desk.waiting)) is
+          absurd (subst (λ t. Stage run.desk.scripts p k.commands t run.desk.cursor run.desk.waiting (pulled_of p run.pulled ++ print_lines p run.desk.waiting)) is
           k.current.stage)
       by (inl none) (inr (inr k)) = never_pulled _ _ _ k.story none
       by (inr (inl g)) (inr (inr k)) =
-          absurd (subst (λ t. Stage run.desk.scripts p g.commands t run.desk.cursor run.desk.waiting (pulled_of p run.pulled ++ lines_of p run.desk.waiting)) is
+          absurd (subst (λ t. Stage run.desk.scripts p g.commands t run.desk.cursor run.desk.waiting (pulled_of p run.pulled ++ print_lines p run.desk.waiting)) is
           g.current.stage)
       by (inr (inr some)) (inr (inr k)) = absurd (some no_fate)
 

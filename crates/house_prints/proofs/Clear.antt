@@ -6,7 +6,7 @@ use Rattle.desk_steps.specs.Data.{ScriptTexts, Data, File, Line, commands_of}
 use Rattle.desk_steps.specs.Table.{printing, start_checked, start_file, start_at, restart_at}
 use Rattle.desk_steps.specs.Pull.{pull_step}
 use Rattle.desk_steps.specs.Note.{note_step}
-use Rattle.desk_steps.specs.Run.{Fate, Left, fate_of, Run, after, after_start, after_restart, after_pull, after_note, lines_of, pulled_of, of_print, DeskCall, Connect, Disconnect, Select, DropFile, Start, Restart, Pause, Resume, Toggle, Cancel, Manually, Pull, Note, MayCall}
+use Rattle.desk_steps.specs.Run.{Fate, Left, fate_of, Run, after, after_start, after_restart, after_pull, after_note, print_lines, pulled_of, of_print, DeskCall, Connect, Disconnect, Select, DropFile, Start, Restart, Pause, Resume, Toggle, Cancel, Manually, Pull, Note, MayCall}
 use Rattle.desk_steps.specs.declared.state.State.{State}
 use Rattle.desk_steps.specs.declared.state.State.TheVariants.{Operational, Paused}
 use Rattle.desk_steps.specs.declared.link_fact.LinkFact.{LinkFact}
@@ -100,7 +100,7 @@ module _ (scripts : ScriptTexts) (p : ℕ) (positive : nat_eq 0 p ≡ false) whe
 
       nowhere : {X : Type 0} → run.desk.state ≡ Operational → X
       nowhere is =
-          absurd (subst (λ t. Stage run.desk.scripts p k.commands t run.desk.cursor run.desk.waiting (pulled_of p run.pulled ++ lines_of p run.desk.waiting)) is
+          absurd (subst (λ t. Stage run.desk.scripts p k.commands t run.desk.cursor run.desk.waiting (pulled_of p run.pulled ++ print_lines p run.desk.waiting)) is
           k.current.stage)
 
       going_start : (s : State) (q : ℕ) → run.desk.state ≡ s → Next (after_start q (start_at s q run.desk) run)

@@ -6,7 +6,7 @@ use Rattle.desk_steps.specs.Endings.{EndsAs, IsEnding}
 use Rattle.desk_steps.specs.Table.{start_at, restart_at}
 use Rattle.desk_steps.specs.Pull.{pull_step}
 use Rattle.desk_steps.specs.Note.{note_step}
-use Rattle.desk_steps.specs.Run.{Fate, Left, fate_of, cancelled_by, Run, after, after_restart, after_note, lines_of, pulled_of, of_print, DeskCall, Connect, Disconnect, Select, DropFile, Start, Restart, Pause, Resume, Toggle, Cancel, Manually, Pull, Note}
+use Rattle.desk_steps.specs.Run.{Fate, Left, fate_of, cancelled_by, Run, after, after_restart, after_note, print_lines, pulled_of, of_print, DeskCall, Connect, Disconnect, Select, DropFile, Start, Restart, Pause, Resume, Toggle, Cancel, Manually, Pull, Note}
 use Rattle.desk_steps.specs.declared.state.State.{State}
 use Rattle.desk_steps.specs.declared.state.State.TheVariants.{Offline, Connecting, Operational, Printing, Pausing, Paused, Cancelling, Finishing, Closing, Fault}
 use Rattle.desk_steps.specs.declared.link_fact.LinkFact.{LinkFact}
@@ -51,13 +51,13 @@ module _ (scripts : ScriptTexts) (p : ℕ) (positive : nat_eq 0 p ≡ false) whe
   module _ (run : Run) (lines : List Line) (is_open : Bool)
       (k : Going scripts p positive run.desk (of_print p run.begun) (pulled_of p run.pulled) (of_print p run.ends)) (m : Marked p run.desk lines) where
     -- once the number of its last line is acknowledged all its lines are
-    all_acked : (acked : ℕ) → run.desk.print_line ≤ acked → lines_of p (drop acked lines) ≡ []
+    all_acked : (acked : ℕ) → run.desk.print_line ≤ acked → print_lines p (drop acked lines) ≡ []
     all_acked acked below = none_later p run.desk.print_line acked lines below (m.marked k.current.is)
 
     own_end : nat_eq run.desk.greatest p ≡ true
     own_end = subst (λ (g : ℕ). nat_eq g p ≡ true) (sym k.current.is) (same_test p)
 
-    cancelled_so : (f : LinkFact) (acked : ℕ) → lines_of p (drop acked lines) ≡ [] ⊎ (f ≡ fact.Closed)
+    cancelled_so : (f : LinkFact) (acked : ℕ) → print_lines p (drop acked lines) ≡ [] ⊎ (f ≡ fact.Closed)
         → LeftSo scripts p positive (cancelled_by f) acked lines (up_after f is_open)
     cancelled_so fact.Closed acked so = refl
     cancelled_so fact.Quiet acked (inr is) = absurd (cc is)
@@ -68,7 +68,7 @@ module _ (scripts : ScriptTexts) (p : ℕ) (positive : nat_eq 0 p ≡ false) whe
     cancelled_so (fact.Ended end) acked (inr is) = absurd (cc is)
     cancelled_so _ acked (inl so) = so
 
-    acknowledged : (acked : ℕ) (f : LinkFact) → (f ≡ fact.Opened → ⊥) → (f ≡ fact.Opened) ⊎ (run.desk.print_line ≤ acked) → lines_of p (drop acked lines) ≡ []
+    acknowledged : (acked : ℕ) (f : LinkFact) → (f ≡ fact.Opened → ⊥) → (f ≡ fact.Opened) ⊎ (run.desk.print_line ≤ acked) → print_lines p (drop acked lines) ≡ []
     acknowledged acked f other (inl is) = absurd (other is)
     acknowledged acked f other (inr below) = all_acked acked below
 

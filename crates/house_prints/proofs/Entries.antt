@@ -1,7 +1,7 @@
 -- A print over the entries of a legal history.
 use Rattle.std.proofs.Common.{◌≡◌, ℕ, zero, suc, ◌<◌, ◌≤◌, Bool, true, false, cond, List, [], ◌∷◌, ◌++◌, refl, sym, ◌∙◌, ap, subst, append-nil, arith}
 use Rattle.desk_steps.specs.Data.{Line}
-use Rattle.desk_steps.specs.Run.{lines_of}
+use Rattle.desk_steps.specs.Run.{print_lines}
 use Rattle.desk_steps.proofs.Lines.{lines_of-append}
 use Rattle.octo_asks.specs.History.{History}
 use Rattle.octo_asks.specs.declared.entry.Entry.{Entry}
@@ -65,72 +65,72 @@ place (suc k) (suc n) = by (place k n)
     by (later above) = later (omega arith)
 
 module _ (p : ℕ) (h : History) (e : Entry) where
-  lines_whole : lines_of p (issued_in (h ++ e ∷ [])) ≡ lines_of p (issued_in h) ++ lines_of p (lines_at e)
-  lines_whole = ap (λ (l : List Line). lines_of p l) (issued-whole h e) ∙ lines_of-append p (issued_in h) (lines_at e)
+  lines_whole : print_lines p (issued_in (h ++ e ∷ [])) ≡ print_lines p (issued_in h) ++ print_lines p (lines_at e)
+  lines_whole = ap (λ (l : List Line). print_lines p l) (issued-whole h e) ∙ lines_of-append p (issued_in h) (lines_at e)
 
   -- the print goes on living in the last session
   pub lives_on : is_opened e ≡ false → LivesIn p h (sessions h) → LivesIn p (h ++ e ∷ []) (sessions h)
   lives_on other l = record {
     alone = λ k off. alone k off (place k (sessions h));
-    all = lines_whole ∙ ap (λ (x : List Line). x ++ lines_of p (lines_at e)) l.all ∙ sym (lines_of-append p (issued_of (sessions h) h) (lines_at e))
-        ∙ ap (λ (x : List Line). lines_of p x) (sym (issued-last h e other));
+    all = lines_whole ∙ ap (λ (x : List Line). x ++ print_lines p (lines_at e)) l.all ∙ sym (lines_of-append p (issued_of (sessions h) h) (lines_at e))
+        ∙ ap (λ (x : List Line). print_lines p x) (sym (issued-last h e other));
   }
     where
-      alone : (k : ℕ) → (k ≡ sessions h → ⊥) → Place k (sessions h) → lines_of p (issued_of k (h ++ e ∷ [])) ≡ []
-      alone k off (earlier below) = ap (λ (x : List Line). lines_of p x) (issued-before h e (e ∷ []) k below) ∙ l.alone k off
+      alone : (k : ℕ) → (k ≡ sessions h → ⊥) → Place k (sessions h) → print_lines p (issued_of k (h ++ e ∷ [])) ≡ []
+      alone k off (earlier below) = ap (λ (x : List Line). print_lines p x) (issued-before h e (e ∷ []) k below) ∙ l.alone k off
       alone k off (here same) = absurd (off same)
-      alone k off (later above) = ap (λ (x : List Line). lines_of p x) (issued-beyond k (h ++ e ∷ []) (omega (arith, above, sessions-other h e other)))
+      alone k off (later above) = ap (λ (x : List Line). print_lines p x) (issued-beyond k (h ++ e ∷ []) (omega (arith, above, sessions-other h e other)))
 
   -- a print of which no session gets a line more lives where it lived
-  lives_kept : (home : ℕ) → lines_of p (lines_at e) ≡ [] → ((k : ℕ) → lines_of p (issued_of k (h ++ e ∷ [])) ≡ lines_of p (issued_of k h)) →
+  lives_kept : (home : ℕ) → print_lines p (lines_at e) ≡ [] → ((k : ℕ) → print_lines p (issued_of k (h ++ e ∷ [])) ≡ print_lines p (issued_of k h)) →
       LivesIn p h home → LivesIn p (h ++ e ∷ []) home
   lives_kept home none kept l = record {
     alone = λ k off. kept k ∙ l.alone k off;
-    all = lines_whole ∙ ap (λ (x : List Line). lines_of p (issued_in h) ++ x) none ∙ append-nil (lines_of p (issued_in h)) ∙ l.all ∙ sym (kept home);
+    all = lines_whole ∙ ap (λ (x : List Line). print_lines p (issued_in h) ++ x) none ∙ append-nil (print_lines p (issued_in h)) ∙ l.all ∙ sym (kept home);
   }
 
   -- a print that has ended lives where it lived
-  pub lives_past : is_opened e ≡ false → (home : ℕ) → home ≤ sessions h → lines_of p (lines_at e) ≡ [] → LivesIn p h home → LivesIn p (h ++ e ∷ []) home
+  pub lives_past : is_opened e ≡ false → (home : ℕ) → home ≤ sessions h → print_lines p (lines_at e) ≡ [] → LivesIn p h home → LivesIn p (h ++ e ∷ []) home
   lives_past other home within none l = lives_kept home none (λ k. kept k (place k (sessions h))) l
     where
-      kept : (k : ℕ) → Place k (sessions h) → lines_of p (issued_of k (h ++ e ∷ [])) ≡ lines_of p (issued_of k h)
-      kept k (earlier below) = ap (λ (x : List Line). lines_of p x) (issued-before h e (e ∷ []) k below)
+      kept : (k : ℕ) → Place k (sessions h) → print_lines p (issued_of k (h ++ e ∷ [])) ≡ print_lines p (issued_of k h)
+      kept k (earlier below) = ap (λ (x : List Line). print_lines p x) (issued-before h e (e ∷ []) k below)
       kept k (here same) =
-          subst (λ (n : ℕ). lines_of p (issued_of n (h ++ e ∷ [])) ≡ lines_of p (issued_of n h)) (sym same)
-          (ap (λ (x : List Line). lines_of p x) (issued-last h e other) ∙ lines_of-append p (issued_of (sessions h) h) (lines_at e)
-          ∙ ap (λ (x : List Line). lines_of p (issued_of (sessions h) h) ++ x) none ∙ append-nil (lines_of p (issued_of (sessions h) h)))
+          subst (λ (n : ℕ). print_lines p (issued_of n (h ++ e ∷ [])) ≡ print_lines p (issued_of n h)) (sym same)
+          (ap (λ (x : List Line). print_lines p x) (issued-last h e other) ∙ lines_of-append p (issued_of (sessions h) h) (lines_at e)
+          ∙ ap (λ (x : List Line). print_lines p (issued_of (sessions h) h) ++ x) none ∙ append-nil (print_lines p (issued_of (sessions h) h)))
       kept k (later above) =
-          ap (λ (x : List Line). lines_of p x)
+          ap (λ (x : List Line). print_lines p x)
           (issued-beyond k (h ++ e ∷ []) (omega (arith, above, sessions-other h e other)) ∙ sym (issued-beyond k h above))
 
   -- the same if a session is opened
-  pub lives_opened : is_opened e ≡ true → (home : ℕ) → lines_of p (lines_at e) ≡ [] → LivesIn p h home → LivesIn p (h ++ e ∷ []) home
+  pub lives_opened : is_opened e ≡ true → (home : ℕ) → print_lines p (lines_at e) ≡ [] → LivesIn p h home → LivesIn p (h ++ e ∷ []) home
   lives_opened opens home none l = lives_kept home none (λ k. kept k (place k (sessions h))) l
     where
-      kept : (k : ℕ) → Place k (sessions h) → lines_of p (issued_of k (h ++ e ∷ [])) ≡ lines_of p (issued_of k h)
-      kept k (earlier below) = ap (λ (x : List Line). lines_of p x) (issued-before h e (e ∷ []) k below)
+      kept : (k : ℕ) → Place k (sessions h) → print_lines p (issued_of k (h ++ e ∷ [])) ≡ print_lines p (issued_of k h)
+      kept k (earlier below) = ap (λ (x : List Line). print_lines p x) (issued-before h e (e ∷ []) k below)
       kept k (here same) =
-          subst (λ (n : ℕ). lines_of p (issued_of n (h ++ e ∷ [])) ≡ lines_of p (issued_of n h)) (sym same)
-          (ap (λ (x : List Line). lines_of p x) (issued-ended h e opens))
+          subst (λ (n : ℕ). print_lines p (issued_of n (h ++ e ∷ [])) ≡ print_lines p (issued_of n h)) (sym same)
+          (ap (λ (x : List Line). print_lines p x) (issued-ended h e opens))
       kept k (later above) = new (place k (suc (sessions h)))
         where
-          new : Place k (suc (sessions h)) → lines_of p (issued_of k (h ++ e ∷ [])) ≡ lines_of p (issued_of k h)
+          new : Place k (suc (sessions h)) → print_lines p (issued_of k (h ++ e ∷ [])) ≡ print_lines p (issued_of k h)
           new (earlier below) = absurd (omega (arith, above, below))
           new (here same) =
-              ap (λ (x : List Line). lines_of p x)
+              ap (λ (x : List Line). print_lines p x)
               (ap (λ (n : ℕ). issued_of n (h ++ e ∷ [])) same ∙ issued-new h e opens ∙ sym (issued-beyond k h above))
           new (later past) =
-              ap (λ (x : List Line). lines_of p x)
+              ap (λ (x : List Line). print_lines p x)
               (issued-beyond k (h ++ e ∷ []) (omega (arith, past, sessions-opened h e opens)) ∙ sym (issued-beyond k h above))
 
   -- a print without lines lives in any session
-  pub lives_nowhere : lines_of p (issued_in (h ++ e ∷ [])) ≡ [] → (home : ℕ) → LivesIn p (h ++ e ∷ []) home → (other : ℕ) → LivesIn p (h ++ e ∷ []) other
+  pub lives_nowhere : print_lines p (issued_in (h ++ e ∷ [])) ≡ [] → (home : ℕ) → LivesIn p (h ++ e ∷ []) home → (other : ℕ) → LivesIn p (h ++ e ∷ []) other
   lives_nowhere none home l other = record {
     alone = λ k off. nothing k (place k home);
     all = none ∙ sym (nothing other (place other home));
   }
     where
-      nothing : (k : ℕ) → Place k home → lines_of p (issued_of k (h ++ e ∷ [])) ≡ []
+      nothing : (k : ℕ) → Place k home → print_lines p (issued_of k (h ++ e ∷ [])) ≡ []
       nothing k (earlier below) = l.alone k (λ same. (omega (arith, below, same)))
-      nothing k (here same) = ap (λ (n : ℕ). lines_of p (issued_of n (h ++ e ∷ []))) same ∙ sym l.all ∙ none
+      nothing k (here same) = ap (λ (n : ℕ). print_lines p (issued_of n (h ++ e ∷ []))) same ∙ sym l.all ∙ none
       nothing k (later above) = l.alone k (λ same. (omega (arith, above, same)))

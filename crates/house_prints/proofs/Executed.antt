@@ -3,7 +3,7 @@ use Rattle.std.proofs.Common.{◌≡◌, inl, inr, ℕ, zero, suc, ◌+◌, ◌<
 use Rattle.std.proofs.lemmas.List.{length-map, take-append-drop}
 use Rattle.std.proofs.lemmas.List.Elements.{All-nil, All-cons, All-weaker}
 use Rattle.desk_steps.specs.Data.{ScriptTexts, Line}
-use Rattle.desk_steps.specs.Run.{Fate, Finished, lines_of, of_print}
+use Rattle.desk_steps.specs.Run.{Fate, Finished, print_lines, of_print}
 use Rattle.desk_steps.specs.Story.{Story, never, going, finished, stopped, left, unplugged, broken}
 use Rattle.link_history.specs.Executed.{opens}
 use Rattle.printer_model.specs.declared.event.WorldEvent.{WorldEvent}
@@ -19,7 +19,7 @@ use Rattle.house_history.specs.Outcomes.{outcome_by, HasOutcome}
 use Rattle.house_history.specs.Scripts.{run_in}
 use Rattle.house_history.proofs.Histories.{keeps_scripts, keeps_outcomes}
 use Rattle.lossy_line.specs.Tied.{IsTied}
-use Rattle.house_line.specs.Sessions.{sessions, texts_of, acked_in, most_in}
+use Rattle.house_line.specs.Sessions.{sessions, session_texts, acked_in, most_in}
 use Rattle.house_line.specs.Timeline.{Timeline, history_of, events_of, past_after}
 use Rattle.house_line.specs.Tied.{Tied, WasTied, AreTied}
 use Rattle.house_line.proofs.Timelines.{history_of-append, past_after-append, taken_in}
@@ -36,14 +36,14 @@ most_within : (n : ℕ) → most_in n ≤ 1999999999
 most_within zero = omega arith
 most_within (suc n) = omega arith
 
-issued_length : (k : ℕ) (h : History) → length (texts_of k h) ≡ length (issued_of k h)
+issued_length : (k : ℕ) (h : History) → length (session_texts k h) ≡ length (issued_of k h)
 issued_length k h = length-map (issued_of k h) (λ (line : Line). line.text)
 
 pub short_of : (kind : LinkKind) (front : List WorldEvent) (h : History) (past : List WorldEvent) → AreTied kind front h past → IsShort h
 short_of kind front h past t first later is =
     let i = taken_in t.timeline first later (sym t.history_is ∙ is) in
     let tied : Tied kind front first (past_after front i.front) =
-    subst (λ (x : History). Tied kind front x (past_after front i.front)) i.first_is (t.throughout i.front i.behind i.is).tied
+    subst (λ (x : History). Tied kind front x (past_after front i.front)) i.first_is (t.throughout i.front i.after i.is).tied
     in
     omega (arith, tied.few (sessions first) (omega arith), most_within (sessions first), issued_length (sessions first) first)
 
@@ -105,7 +105,7 @@ in_order kind front s h past run first later is p some commands began =
 
 -- a print that is done has ended so
 done_ended : (p : ℕ) (h : History) (fates : List Fate) → fates ≡ Finished ∷ [] → Lives p h fates →
-    (home : ℕ) × (home ≤ sessions h) × LivesIn p h home × (lines_of p (drop (acked_in home h) (issued_of home h)) ≡ [])
+    (home : ℕ) × (home ≤ sessions h) × LivesIn p h home × (print_lines p (drop (acked_in home h) (issued_of home h)) ≡ [])
 done_ended p h fates is (inl u) = absurd (let no : Finished ∷ [] ≡ [] = sym is ∙ u.no_fate in cc no)
 done_ended p h fates is (inr o) =
     let same : o.fate ≡ Finished = head_same o.fate Finished (sym o.is ∙ is) in
@@ -113,11 +113,11 @@ done_ended p h fates is (inr o) =
 
 -- its lines were executed: they are among those that are acknowledged
 executed_all : (kind : LinkKind) (front : List WorldEvent) (p home : ℕ) (h : History) (past : List WorldEvent) → Tied kind front h past → home ≤ sessions h →
-    lines_of p (drop (acked_in home h) (issued_of home h)) ≡ [] → lines_of p (drop (executed_in kind front past home) (issued_of home h)) ≡ []
+    print_lines p (drop (acked_in home h) (issued_of home h)) ≡ [] → print_lines p (drop (executed_in kind front past home) (issued_of home h)) ≡ []
 executed_all kind front p zero h past t within none =
     none_past p (executed_in kind front past 0) (issued_of 0 h) (omega (arith, t.few 0 (omega arith), issued_length 0 h))
 executed_all kind front p (suc home) h past t within none =
-    let tied : IsTied kind (texts_of (suc home) h) (acked_in (suc home) h) past (opens front + suc home) = t.each (suc home) (omega arith) within in
+    let tied : IsTied kind (session_texts (suc home) h) (acked_in (suc home) h) past (opens front + suc home) = t.each (suc home) (omega arith) within in
     none_later p (acked_in (suc home) h) (executed_in kind front past (suc home)) (issued_of (suc home) h) tied.acked_run none
 
 pub done_whole : (kind : LinkKind) (front : List WorldEvent) (s : Standing) (h : History) (past : List WorldEvent) (run : IsRun kind front s h past) →
@@ -133,7 +133,7 @@ done_whole kind front s h past run first later is p some ends =
     let home : ℕ = at.0 in
     let story = (keeps_scripts scripts s.known.desk.limits s.known.desk.poll_ms now s run.begins.new t.legal).stories p some in
     let whole : IsWhole p scripts (of_print p (run_in now s).begun) (trace p now) = story_done p scripts _ _ _ story ends in
-    let executed : lines_of p (lines_executed kind front so_far home now) ≡ trace p now =
+    let executed : print_lines p (lines_executed kind front so_far home now) ≡ trace p now =
     all_before p (executed_in kind front so_far home) (issued_of home now) (executed_all kind front p home now so_far t.was.tied at.1 at.3) ∙ sym at.2.all
     in
     record {

@@ -3,7 +3,7 @@ use Rattle.std.proofs.Common.{zero, suc, ◌≡◌, ◌⊎◌, inl, inr, ℕ, �
 use Rattle.desk_steps.specs.Data.{ScriptTexts, Data, new_desk}
 use Rattle.desk_steps.specs.Issued.{line_of}
 use Rattle.desk_steps.specs.Note.{after_ending, note_step, first_fact}
-use Rattle.desk_steps.specs.Run.{Fate, Run, after, run_of, new_run, lines_of, of_print, DeskCall, Note, MayCallAll}
+use Rattle.desk_steps.specs.Run.{Fate, Run, after, run_of, new_run, print_lines, of_print, DeskCall, Note, MayCallAll}
 use Rattle.desk_steps.specs.declared.issued.Note as declared_note
 use Rattle.desk_steps.specs.declared.link_fact.LinkFact.{LinkFact}
 use Rattle.desk_steps.specs.declared.link_fact.LinkFact.TheVariants as fact
@@ -94,7 +94,7 @@ module _ (scripts : ScriptTexts) (p : ℕ) (positive : nat_eq 0 p ≡ false) whe
 
   -- a print that had ended
   abbrev Stays : History → Run → Fate → ℕ → ℕ → Type 0
-  Stays h run f home a = (of_print p run.ends ≡ f ∷ []) × LivesIn p h home × (lines_of p (drop a (issued_of home h)) ≡ [])
+  Stays h run f home a = (of_print p run.ends ≡ f ∷ []) × LivesIn p h home × (print_lines p (drop a (issued_of home h)) ≡ [])
 
   stays_kind : (h : History) (e : Entry) (run : Run) (calls : List DeskCall) → Kind h e run calls → Tells scripts p positive h run → Short (h ++ e ∷ []) →
       (f : Fate) (home a : ℕ) → home ≤ sessions h → Stays h run f home a → Stays (h ++ e ∷ []) (run_of calls run) f home a
@@ -198,16 +198,16 @@ module _ (scripts : ScriptTexts) (p : ℕ) (positive : nat_eq 0 p ≡ false) whe
       (sym (run_append (calls_at e t) (calls_of_all es (after_entry e t)) run)) rest)
 
   stays_all : (es h : History) (t : Standing) (run : Run) → Follows h t run → Legal es t → IsShort (h ++ es) → (f : Fate) (home a : ℕ) → home ≤ sessions h →
-      Stays h run f home a → LivesIn p (h ++ es) home × (lines_of p (drop a (issued_of home (h ++ es))) ≡ [])
+      Stays h run f home a → LivesIn p (h ++ es) home × (print_lines p (drop a (issued_of home (h ++ es))) ≡ [])
   stays_all [] h t run fo legal short f home a within s =
-      subst (λ (x : History). LivesIn p x home × (lines_of p (drop a (issued_of home x)) ≡ [])) (sym (append-nil h)) (s.1, s.2)
+      subst (λ (x : History). LivesIn p x home × (print_lines p (drop a (issued_of home x)) ≡ [])) (sym (append-nil h)) (s.1, s.2)
   stays_all (e ∷ es) h t run fo legal short f home a within s =
       let more : History = h ++ e ∷ [] in
       let whole : more ++ es ≡ h ++ e ∷ es = append_assoc h (e ∷ []) es in
       let steps = steps_of h t run fo e legal.0 in
       let few = short more es (sym whole) in
       let next = next_follows h t run fo e steps few in
-      subst (λ (x : History). LivesIn p x home × (lines_of p (drop a (issued_of home x)) ≡ [])) whole
+      subst (λ (x : History). LivesIn p x home × (print_lines p (drop a (issued_of home x)) ≡ [])) whole
       (stays_all es more (after_entry e t) (run_of (calls_at e t) run) next legal.1 (λ first later is. short first later (sym whole ∙ is)) f home a
       (omega (arith, within, sessions-append h (e ∷ []))) (stays_kind h e run (calls_at e t) steps.kind fo.tells few f home a within s))
 
@@ -238,7 +238,7 @@ module _ (scripts : ScriptTexts) (limits : Limits) (poll_ms : ℕ) (p : ℕ) (so
     });
   }
     where
-      none_issued : (k : ℕ) → lines_of p (issued_of k []) ≡ []
+      none_issued : (k : ℕ) → print_lines p (issued_of k []) ≡ []
       none_issued zero = refl
       none_issued (suc k) = refl
 
@@ -248,8 +248,8 @@ module _ (scripts : ScriptTexts) (limits : Limits) (poll_ms : ℕ) (p : ℕ) (so
 
   -- and over what follows, once it has ended
   pub stays_in : (first later : History) → Legal (first ++ later) s → IsShort (first ++ later) → (f : Fate) (home a : ℕ) → home ≤ sessions first →
-      of_print p (run_in first s).ends ≡ f ∷ [] → LivesIn p first home → lines_of p (drop a (issued_of home first)) ≡ [] →
-      LivesIn p (first ++ later) home × (lines_of p (drop a (issued_of home (first ++ later))) ≡ [])
+      of_print p (run_in first s).ends ≡ f ∷ [] → LivesIn p first home → print_lines p (drop a (issued_of home first)) ≡ [] →
+      LivesIn p (first ++ later) home × (print_lines p (drop a (issued_of home (first ++ later))) ≡ [])
   stays_in first later legal short f home a within after_ending l none =
       let parts = legal_first first later s legal in
       let begun = follows_all scripts p positive_is first [] s (new_run s.known.desk) begins_so parts.0

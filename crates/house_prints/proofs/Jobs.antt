@@ -3,7 +3,7 @@ use Rattle.std.proofs.Common.{◌≡◌, ℕ, zero, suc, ◌+◌, Bool, true, fa
 use Rattle.std.proofs.lemmas.List.Elements.{filter-append}
 use Rattle.desk_steps.specs.Course.{job_line, Body, started, command, round, End, Paused, Cancelled, Done, Course, still_open, paused, cancelled, cancelled_paused, done}
 use Rattle.desk_steps.specs.Data.{ScriptTexts, Line, script_lines, tagged, texts_at}
-use Rattle.desk_steps.specs.Run.{Fate, Finished, is_of, lines_of}
+use Rattle.desk_steps.specs.Run.{Fate, Finished, is_of, print_lines}
 use Rattle.desk_steps.specs.Story.{IsBegun, Story, never, going, finished, stopped, left, unplugged, broken}
 use Rattle.desk_steps.specs.declared.state.Point.{Point}
 use Rattle.desk_steps.specs.declared.state.Point.TheVariants as point
@@ -25,17 +25,17 @@ module _ (p : ℕ) where
   job_of_own _ other = refl
 
   -- the file commands among the lines of the print are those among all
-  pub jobs_own : (lines : List Line) → job_part p (lines_of p lines) ≡ job_part p lines
+  pub jobs_own : (lines : List Line) → job_part p (print_lines p lines) ≡ job_part p lines
   jobs_own [] = refl
   jobs_own (line ∷ lines) = by (jobs_own lines) (is_of p line.tag) refl
     where
-      by : job_part p (lines_of p lines) ≡ job_part p lines → (b : Bool) → is_of p line.tag ≡ b
-          → job_part p (lines_of p (line ∷ lines)) ≡ job_part p (line ∷ lines)
+      by : job_part p (print_lines p lines) ≡ job_part p lines → (b : Bool) → is_of p line.tag ≡ b
+          → job_part p (print_lines p (line ∷ lines)) ≡ job_part p (line ∷ lines)
       by rest true is =
-          ap (λ (b : Bool). job_part p (cond b (line ∷ lines_of p lines) (lines_of p lines))) is
+          ap (λ (b : Bool). job_part p (cond b (line ∷ print_lines p lines) (print_lines p lines))) is
           ∙ ap (λ (x : List Line). cond (is_job_of p line.tag) (line ∷ x) x) rest
       by rest false is =
-          ap (λ (b : Bool). job_part p (cond b (line ∷ lines_of p lines) (lines_of p lines))) is ∙ rest
+          ap (λ (b : Bool). job_part p (cond b (line ∷ print_lines p lines) (print_lines p lines))) is ∙ rest
           ∙ sym (ap (λ (b : Bool). cond b (line ∷ job_part p lines) (job_part p lines)) (job_of_own line.tag is))
 
   -- a script has none

@@ -4,7 +4,7 @@ use Rattle.temp_rules.specs.declared.job.HotLine.{HotLine}
 use Rattle.temp_rules.specs.Hot.{first_hot_of}
 use Rattle.desk_steps.specs.Data.{Data, File, Line}
 use Rattle.desk_steps.specs.Table.{connect_at, disconnect_at, select_at, drop_file_step, is_named, start_checked, start_file, start_at, restart_at, printing, pause_at, resume_at, toggle_at, cancel_at, manual_at, add_manual}
-use Rattle.desk_steps.specs.Run.{lines_of, DeskCall, Connect, Disconnect, Select, DropFile, Start, Restart, Pause, Resume, Toggle, Cancel, Manually, Pull, Note, MayCall}
+use Rattle.desk_steps.specs.Run.{print_lines, DeskCall, Connect, Disconnect, Select, DropFile, Start, Restart, Pause, Resume, Toggle, Cancel, Manually, Pull, Note, MayCall}
 use Rattle.desk_steps.specs.declared.state.State.{State}
 use Rattle.desk_steps.specs.declared.state.State.TheVariants.{Offline, Connecting, Operational, Printing, Pausing, Paused, Cancelling, Finishing, Closing, Fault}
 use Rattle.house_verdicts.specs.Desk.{desk_after}
@@ -94,9 +94,9 @@ pub record Marked (p : ℕ) (d : Data) (lines : List Line) : Type 0 where
   -- all lines of the session are counted
   pub counted : d.issued ≡ length lines
   -- a print to come has none
-  pub ahead : d.greatest < p → lines_of p lines ≡ []
+  pub ahead : d.greatest < p → print_lines p lines ≡ []
   -- the last print's are at most the number that the desk keeps
-  pub marked : d.greatest ≡ p → lines_of p (drop d.print_line lines) ≡ []
+  pub marked : d.greatest ≡ p → print_lines p (drop d.print_line lines) ≡ []
   -- while it is paused all are acknowledged, and none waits
   pub paused : d.state ≡ Paused → (d.waiting ≡ []) × (d.print_line ≤ d.acked)
 
@@ -104,7 +104,7 @@ pub marked_same : (p : ℕ) (d e : Data) (lines : List Line) → IsSame d e → 
 marked_same p d e lines s m = record {
   counted = s.issued ∙ m.counted;
   ahead = λ below. m.ahead (subst (λ g. g < p) s.greatest below);
-  marked = λ is. ap (λ (n : ℕ). lines_of p (drop n lines)) s.line ∙ m.marked (sym s.greatest ∙ is);
+  marked = λ is. ap (λ (n : ℕ). print_lines p (drop n lines)) s.line ∙ m.marked (sym s.greatest ∙ is);
   paused = λ is. (let was = s.paused is in let h = m.paused was.0 in (was.1 ∙ h.0, omega (arith, h.1, s.line, s.acked)));
 }
 

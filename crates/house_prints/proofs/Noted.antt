@@ -4,7 +4,7 @@ use Rattle.std.proofs.lemmas.Bool.Decides.{nat_tests}
 use Rattle.desk_steps.specs.Data.{Data, Line, with_script, moment_after}
 use Rattle.desk_steps.specs.Pull.{settled}
 use Rattle.desk_steps.specs.Note.{Noted, is_over, end_at, after_ending, finish, leave, fail, ready_at, after_open, note_fact, note_step}
-use Rattle.desk_steps.specs.Run.{lines_of}
+use Rattle.desk_steps.specs.Run.{print_lines}
 use Rattle.desk_steps.specs.declared.state.State.{State}
 use Rattle.desk_steps.specs.declared.state.State.TheVariants.{Offline, Connecting, Operational, Pausing, Paused, Cancelling, Finishing, Fault}
 use Rattle.desk_steps.specs.declared.state.Point.TheVariants as point
@@ -98,7 +98,7 @@ module _ (p : ℕ) (positive : nat_eq 0 p ≡ false) where
   marked_after d e acked lines later a m = record {
     counted = a.issued ∙ m.counted;
     ahead = λ below. m.ahead (subst (λ g. g < p) a.greatest below);
-    marked = λ is. ap (λ (n : ℕ). lines_of p (drop n lines)) a.line ∙ m.marked (sym a.greatest ∙ is);
+    marked = λ is. ap (λ (n : ℕ). print_lines p (drop n lines)) a.line ∙ m.marked (sym a.greatest ∙ is);
     paused = λ is. by (a.paused is);
   }
     where

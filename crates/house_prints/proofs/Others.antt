@@ -4,7 +4,7 @@ use Rattle.desk_steps.specs.Data.{ScriptTexts, Data, Line}
 use Rattle.desk_steps.specs.Table.{start_at, restart_at}
 use Rattle.desk_steps.specs.Pull.{pull_step}
 use Rattle.desk_steps.specs.Note.{note_step}
-use Rattle.desk_steps.specs.Run.{Fate, Left, Unplugged, Broken, Run, after, after_start, after_restart, after_pull, after_note, lines_of, pulled_of, of_print, DeskCall, Connect, Disconnect, Select, DropFile, Start, Restart, Pause, Resume, Toggle, Cancel, Manually, Pull, Note, MayCall}
+use Rattle.desk_steps.specs.Run.{Fate, Left, Unplugged, Broken, Run, after, after_start, after_restart, after_pull, after_note, print_lines, pulled_of, of_print, DeskCall, Connect, Disconnect, Select, DropFile, Start, Restart, Pause, Resume, Toggle, Cancel, Manually, Pull, Note, MayCall}
 use Rattle.desk_steps.specs.declared.state.Refusal.{Refusal}
 use Rattle.desk_steps.specs.declared.state.State.{State}
 use Rattle.desk_steps.specs.declared.state.State.TheVariants.{Paused}
@@ -40,14 +40,14 @@ module _ (scripts : ScriptTexts) (p : ℕ) (positive : nat_eq 0 p ≡ false) whe
   abbrev pub LeftSo : Fate → ℕ → List Line → Bool → Type 0
   LeftSo Unplugged acked lines is_open = is_open ≡ false
   LeftSo Broken acked lines is_open = is_open ≡ false
-  LeftSo _ acked lines is_open = lines_of p (drop acked lines) ≡ []
+  LeftSo _ acked lines is_open = print_lines p (drop acked lines) ≡ []
 
   -- the print hasn't ended, or has ended so
   abbrev pub Status : List Fate → ℕ → List Line → Bool → Type 0
   Status fates acked lines is_open = (fates ≡ []) ⊎ ((f : Fate) × (fates ≡ f ∷ []) × LeftSo f acked lines is_open)
 
   -- it stays so
-  pub left_on : (f : Fate) (acked later : ℕ) (lines more : List Line) (was now : Bool) → acked ≤ later → lines_of p more ≡ [] → (was ≡ false → now ≡ false) →
+  pub left_on : (f : Fate) (acked later : ℕ) (lines more : List Line) (was now : Bool) → acked ≤ later → print_lines p more ≡ [] → (was ≡ false → now ≡ false) →
       LeftSo f acked lines was → LeftSo f later (lines ++ more) now
   left_on Unplugged acked later lines more was now below none shut l = shut l
   left_on Broken acked later lines more was now below none shut l = shut l
@@ -105,12 +105,12 @@ module _ (scripts : ScriptTexts) (p : ℕ) (positive : nat_eq 0 p ≡ false) whe
   shut_call (Note acked f moment) d plain was is = ap (λ (b : Bool). up_after f b) is ∙ shut_by f plain.0
   shut_call _ d plain was is = is
 
-  none_drawn : (line : Option Line) → IsNotOf p line → lines_of p (drawn_lines line) ≡ []
+  none_drawn : (line : Option Line) → IsNotOf p line → print_lines p (drawn_lines line) ≡ []
   none_drawn None other = refl
   none_drawn (Some line) other = own_none p line other
 
   -- what a foreign print sees of a call: none of its lines, and no end
-  pub none_pulled : (call : DeskCall) (d : Data) → ForeignTo p d → lines_of p (drawn_lines (line_pulled call d)) ≡ []
+  pub none_pulled : (call : DeskCall) (d : Data) → ForeignTo p d → print_lines p (drawn_lines (line_pulled call d)) ≡ []
   none_pulled (Pull moment) d f = none_drawn (pull_step moment d).0 (foreign-pull p moment d f).1
   none_pulled _ d f = refl
 

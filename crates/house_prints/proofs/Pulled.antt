@@ -5,7 +5,7 @@ use Rattle.std.proofs.lemmas.Bool.Decides.{nat_tests}
 use Rattle.desk_steps.specs.Data.{Data, Line, with_script, moment_after}
 use Rattle.desk_steps.specs.Pull.{Drawn, draw_in_order, nothing, next_number, keep_number, issue, from_scripts, from_manual, from_poll, poll_is_due, from_file, draw_at, is_issued, settle_at, settled, pull_step}
 use Rattle.desk_steps.specs.Course.{job_line}
-use Rattle.desk_steps.specs.Run.{is_of, lines_of}
+use Rattle.desk_steps.specs.Run.{is_of, print_lines}
 use Rattle.desk_steps.specs.declared.state.State.{State}
 use Rattle.desk_steps.specs.declared.state.State.TheVariants.{Offline, Connecting, Printing, Paused, Finishing, Closing, Fault}
 use Rattle.desk_steps.specs.declared.state.Point.{Point}
@@ -150,7 +150,7 @@ module _ (p : ℕ) (positive : nat_eq 0 p ≡ false) where
     counted = w.issued ∙ m.counted ∙ sym (ap length (append-nil lines));
     ahead = λ below. none_both p lines [] (m.ahead (subst (λ g. g < p) w.greatest below)) refl;
     marked = λ is. (
-        ap (λ (n : ℕ). lines_of p (drop n (lines ++ []))) w.marks ∙ none_more p d.print_line lines [] (m.marked (sym w.greatest ∙ is)) refl);
+        ap (λ (n : ℕ). print_lines p (drop n (lines ++ []))) w.marks ∙ none_more p d.print_line lines [] (m.marked (sym w.greatest ∙ is)) refl);
     paused = λ is. (
         let was : d.state ≡ Paused = sym w.state ∙ is in let h = m.paused was in let q = w.quiet was h.0 in (q.0, omega (arith, h.1, q.1, w.acked)));
   }
@@ -168,7 +168,7 @@ module _ (p : ℕ) (positive : nat_eq 0 p ≡ false) where
     marked = λ is. elim w.marks [
       | inl now ↦ none_past p e.print_line (lines ++ line ∷ [])
           (omega (arith, now, one_more d.issued (omega (arith, m.counted, few, length-append lines (line ∷ []))), m.counted, length-append lines (line ∷ [])))
-      | inr same ↦ ap (λ (n : ℕ). lines_of p (drop n (lines ++ line ∷ []))) same.0
+      | inr same ↦ ap (λ (n : ℕ). print_lines p (drop n (lines ++ line ∷ []))) same.0
           ∙ none_more p d.print_line lines (line ∷ []) (m.marked (sym w.greatest ∙ is)) (own_none p line same.1)
     ];
     paused = λ is. (

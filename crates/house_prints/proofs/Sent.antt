@@ -4,7 +4,7 @@ use Rattle.std.specs.List.{list_any}
 use Rattle.marlin_frame.specs.Frame.{frame_of}
 use Rattle.marlin_frame.specs.Numbering.{wire_number}
 use Rattle.desk_steps.specs.Data.{ScriptTexts, Line}
-use Rattle.desk_steps.specs.Run.{Fate, Finished, Stopped, Left, Unplugged, Broken, is_of, lines_of, of_print}
+use Rattle.desk_steps.specs.Run.{Fate, Finished, Stopped, Left, Unplugged, Broken, is_of, print_lines, of_print}
 use Rattle.session_steps.specs.Turn.{texts_in}
 use Rattle.printer_model.specs.World.{is_send}
 use Rattle.link_history.specs.Executed.{opens, till}
@@ -17,7 +17,7 @@ use Rattle.house_history.specs.Issued.{issued_of}
 use Rattle.house_history.specs.Legal.{Standing}
 use Rattle.house_history.specs.Scripts.{run_in}
 use Rattle.lossy_wires.specs.Traces.{IsLineAbove}
-use Rattle.house_line.specs.Sessions.{sessions, texts_of, acked_in, is_open}
+use Rattle.house_line.specs.Sessions.{sessions, session_texts, acked_in, is_open}
 use Rattle.house_line.specs.Timeline.{history_of, events_of, past_after}
 use Rattle.house_line.specs.Tied.{Tied, WasTied, IsAbove, AreAbove}
 use Rattle.house_line.proofs.Grown.{shut_after}
@@ -33,23 +33,23 @@ use Rattle.byte_text.proofs.ListLaws.{head_same}
 use Rattle.std.proofs.lemmas.Bool.{or_parts}
 
 -- a line past a place after which none is the print's
-other_past : (p a : ℕ) (lines : List Line) (i : ℕ) (line : Line) → a ≤ i → slice_get lines i ≡ Some line → lines_of p (drop a lines) ≡ []
+other_past : (p a : ℕ) (lines : List Line) (i : ℕ) (line : Line) → a ≤ i → slice_get lines i ≡ Some line → print_lines p (drop a lines) ≡ []
     → is_of p line.tag ≡ false
 other_past p a [] i line past found none = absurd (cc found)
 other_past p zero (first ∷ lines) zero line past found none =
     let same : first ≡ line = cc in
     subst (λ (l : Line). is_of p l.tag ≡ false) same (by (is_of p first.tag) refl none)
   where
-    by : (b : Bool) → is_of p first.tag ≡ b → lines_of p (first ∷ lines) ≡ [] → is_of p first.tag ≡ false
+    by : (b : Bool) → is_of p first.tag ≡ b → print_lines p (first ∷ lines) ≡ [] → is_of p first.tag ≡ false
     by false is none = is
     by true is none =
-        absurd (let no : first ∷ lines_of p lines ≡ [] = sym (ap (λ (b : Bool). cond b (first ∷ lines_of p lines) (lines_of p lines)) is) ∙ none in cc no)
+        absurd (let no : first ∷ print_lines p lines ≡ [] = sym (ap (λ (b : Bool). cond b (first ∷ print_lines p lines) (print_lines p lines)) is) ∙ none in cc no)
 other_past p zero (first ∷ lines) (suc i) line past found none = other_past p zero lines i line (omega arith) found (rest (is_of p first.tag) refl none)
   where
-    rest : (b : Bool) → is_of p first.tag ≡ b → lines_of p (first ∷ lines) ≡ [] → lines_of p lines ≡ []
-    rest false is none = sym (ap (λ (b : Bool). cond b (first ∷ lines_of p lines) (lines_of p lines)) is) ∙ none
+    rest : (b : Bool) → is_of p first.tag ≡ b → print_lines p (first ∷ lines) ≡ [] → print_lines p lines ≡ []
+    rest false is none = sym (ap (λ (b : Bool). cond b (first ∷ print_lines p lines) (print_lines p lines)) is) ∙ none
     rest true is none =
-        absurd (let no : first ∷ lines_of p lines ≡ [] = sym (ap (λ (b : Bool). cond b (first ∷ lines_of p lines) (lines_of p lines)) is) ∙ none in cc no)
+        absurd (let no : first ∷ print_lines p lines ≡ [] = sym (ap (λ (b : Bool). cond b (first ∷ print_lines p lines) (print_lines p lines)) is) ∙ none in cc no)
 other_past p (suc a) (first ∷ lines) zero line past found none = absurd (omega (arith, past))
 other_past p (suc a) (first ∷ lines) (suc i) line past found none = other_past p a lines i line (omega (arith, past)) found none
 
@@ -64,7 +64,7 @@ text_at [] i text found = absurd (cc found)
 text_at (first ∷ lines) zero text found = record { line = first; its = refl; text_is = (let same : first.text ≡ text = cc in same) }
 text_at (first ∷ lines) (suc i) text found = (let rest = text_at lines i text found in record { line = rest.line; its = rest.its; text_is = rest.text_is })
 
-module _ (p a : ℕ) (lines : List Line) (none : lines_of p (drop a lines) ≡ []) where
+module _ (p a : ℕ) (lines : List Line) (none : print_lines p (drop a lines) ≡ []) where
   line_other : (bytes : List ℕ) → IsLineAbove (texts_in lines) a bytes → IsLineOfOther p lines bytes
   line_other bytes l =
       let at : IsTextAt lines (l.place - 1) l.text = text_at lines (l.place - 1) l.text l.its.found in
@@ -102,7 +102,7 @@ events_unsent p lines (event ∷ events) none =
 -- how far a print's lines go in the session that it lives in
 record IsPast (p : ℕ) (first : History) (home : ℕ) : Type 0 where
   reach : ℕ
-  none : lines_of p (drop reach (issued_of home first)) ≡ []
+  none : print_lines p (drop reach (issued_of home first)) ≡ []
   how : ((reach ≡ acked_in home first)) ⊎ ((home < sessions first) ⊎ (is_open first ≡ false))
 
 past_of : (p : ℕ) (first : History) (f : Fate) (home : ℕ) → LeavesSo p f home first → IsPast p first home
@@ -158,20 +158,20 @@ sent_no_more kind front s h past run first more is p some fate ends =
     shut w n closed = events_unsent p (issued_of n whole) (till 0 since) (w.unsent closed)
 
     -- the last session, if none of its lines after those acknowledged is the print's
-    last : IsThen kind front s first more → (n : ℕ) → sessions now ≡ n → lines_of p (drop (acked_in n now) (issued_of n whole)) ≡ [] →
+    last : IsThen kind front s first more → (n : ℕ) → sessions now ≡ n → print_lines p (drop (acked_in n now) (issued_of n whole)) ≡ [] →
         AreSentOther p (issued_of n whole) (till 0 since)
     last t zero is none = shut t.was zero (shut_after now is)
     last t (suc n) is none =
-        let above : AreAbove (texts_of (sessions now) whole) (acked_in (sessions now) now) (till 0 since) =
+        let above : AreAbove (session_texts (sessions now) whole) (acked_in (sessions now) now) (till 0 since) =
         later_above kind front now (history_of more) so_far since (omega (arith, is)) t.tied_all t.was.tied
         in
         let there : AreAbove (texts_in (issued_of (suc n) whole)) (acked_in (suc n) now) (till 0 since) =
-        subst (λ (k : ℕ). AreAbove (texts_of k whole) (acked_in k now) (till 0 since)) is above
+        subst (λ (k : ℕ). AreAbove (session_texts k whole) (acked_in k now) (till 0 since)) is above
         in
         events_other p (acked_in (suc n) now) (issued_of (suc n) whole) none (till 0 since) there
 
     by : IsThen kind front s first more → (home : ℕ) → Place home (sessions now) → home ≤ sessions now → LivesIn p whole home →
-        (so : IsPast p now home) → lines_of p (drop so.reach (issued_of home whole)) ≡ [] → AreSentOther p (issued_of (sessions now) whole) (till 0 since)
+        (so : IsPast p now home) → print_lines p (drop so.reach (issued_of home whole)) ≡ [] → AreSentOther p (issued_of (sessions now) whole) (till 0 since)
     by t home (earlier below) within l so none =
         last t (sessions now) refl
         (none_dropped p (acked_in (sessions now) now) (issued_of (sessions now) whole)
@@ -181,16 +181,16 @@ sent_no_more kind front s h past run first more is p some fate ends =
       where
         how : ((so.reach ≡ acked_in home now)) ⊎ ((home < sessions now) ⊎ (is_open now ≡ false)) → AreSentOther p (issued_of home whole) (till 0 since)
         how (inl acked) =
-            last t home (sym same) (subst (λ (b : ℕ). lines_of p (drop b (issued_of home whole)) ≡ []) acked none)
+            last t home (sym same) (subst (λ (b : ℕ). print_lines p (drop b (issued_of home whole)) ≡ []) acked none)
         how (inr (inl below)) = absurd (omega (arith, below, same))
         how (inr (inr closed)) = shut t.was home closed
 
     -- a session of which no line is the print's
-    later_session : Tied kind front whole (so_far ++ since) → (n : ℕ) → 1 ≤ n → n ≤ sessions whole → lines_of p (issued_of n whole) ≡ [] →
+    later_session : Tied kind front whole (so_far ++ since) → (n : ℕ) → 1 ≤ n → n ≤ sessions whole → print_lines p (issued_of n whole) ≡ [] →
         AreSentOther p (issued_of n whole) (events_of_session (opens front + n) (so_far ++ since))
     later_session tied n some most none =
         events_other p 0 (issued_of n whole) none (events_of_session (opens front + n) (so_far ++ since))
-        (issued_above kind (texts_of n whole) (acked_in n whole) (so_far ++ since) (opens front + n) (tied.each n some most))
+        (issued_above kind (session_texts n whole) (acked_in n whole) (so_far ++ since) (opens front + n) (tied.each n some most))
 
 pub true_end : (kind : LinkKind) (front : List WorldEvent) (s : Standing) (h : History) (past : List WorldEvent) (run : IsRun kind front s h past) →
     EachEndIsTrue kind front run.tied.timeline

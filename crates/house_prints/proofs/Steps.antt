@@ -1,7 +1,7 @@
 -- What an entry of a legal history makes of a print.
 use Rattle.std.proofs.Common.{◌≡◌, ◌⊎◌, inl, inr, ℕ, suc, ◌<◌, ◌≤◌, Bool, true, false, nat_eq, List, [], ◌∷◌, ◌++◌, length, map, drop, sym, ◌∙◌, ap, subst, append-nil, arith}
 use Rattle.desk_steps.specs.Data.{ScriptTexts, Data, Line}
-use Rattle.desk_steps.specs.Run.{Fate, Finished, Stopped, Left, Unplugged, Broken, Run, Pulled, after, run_of, lines_of, of_print, DeskCall, Note, MayCallAll}
+use Rattle.desk_steps.specs.Run.{Fate, Finished, Stopped, Left, Unplugged, Broken, Run, Pulled, after, run_of, print_lines, of_print, DeskCall, Note, MayCallAll}
 use Rattle.desk_steps.specs.declared.link_fact.LinkFact.TheVariants as fact
 use Rattle.desk_steps.specs.declared.state.State.TheVariants.{Connecting}
 use Rattle.octo_asks.specs.History.{History}
@@ -75,27 +75,27 @@ module _ (scripts : ScriptTexts) (p : ℕ) (positive : nat_eq 0 p ≡ false) whe
     ends_so : (f : Fate) → LeftSo scripts p positive f (run_of calls run).desk.acked (issued_of (sessions h) h ++ lines_pulled calls run.desk)
         (open_by_all scripts p positive calls (is_open h)) →
         LeavesSo p f (sessions more) more
-    ends_so Finished l = ap (λ (n : ℕ). lines_of p (drop n (issued_of (sessions more) more))) (sym acked_now)
-        ∙ ap (λ (x : List Line). lines_of p (drop (run_of calls run).desk.acked x)) now ∙ l
-    ends_so Stopped l = ap (λ (n : ℕ). lines_of p (drop n (issued_of (sessions more) more))) (sym acked_now)
-        ∙ ap (λ (x : List Line). lines_of p (drop (run_of calls run).desk.acked x)) now ∙ l
-    ends_so Left l = ap (λ (n : ℕ). lines_of p (drop n (issued_of (sessions more) more))) (sym acked_now)
-        ∙ ap (λ (x : List Line). lines_of p (drop (run_of calls run).desk.acked x)) now ∙ l
+    ends_so Finished l = ap (λ (n : ℕ). print_lines p (drop n (issued_of (sessions more) more))) (sym acked_now)
+        ∙ ap (λ (x : List Line). print_lines p (drop (run_of calls run).desk.acked x)) now ∙ l
+    ends_so Stopped l = ap (λ (n : ℕ). print_lines p (drop n (issued_of (sessions more) more))) (sym acked_now)
+        ∙ ap (λ (x : List Line). print_lines p (drop (run_of calls run).desk.acked x)) now ∙ l
+    ends_so Left l = ap (λ (n : ℕ). print_lines p (drop n (issued_of (sessions more) more))) (sym acked_now)
+        ∙ ap (λ (x : List Line). print_lines p (drop (run_of calls run).desk.acked x)) now ∙ l
     ends_so Unplugged l = inr (shut_now l)
     ends_so Broken l = inr (shut_now l)
 
     -- a print that had ended
-    stays_settled : (home : ℕ) → Place home (sessions h) → home ≤ sessions h → lines_of p (lines_at e) ≡ [] →
-        lines_of p (drop (acked_in home h) (issued_of home h)) ≡ [] → lines_of p (drop (acked_in home more) (issued_of home more)) ≡ []
+    stays_settled : (home : ℕ) → Place home (sessions h) → home ≤ sessions h → print_lines p (lines_at e) ≡ [] →
+        print_lines p (drop (acked_in home h) (issued_of home h)) ≡ [] → print_lines p (drop (acked_in home more) (issued_of home more)) ≡ []
     stays_settled home (earlier below) within none l =
-        ap (λ (n : ℕ). lines_of p (drop n (issued_of home more))) (acked-before h e (e ∷ []) home below)
-        ∙ ap (λ (x : List Line). lines_of p (drop (acked_in home h) x)) (issued-before h e (e ∷ []) home below) ∙ l
+        ap (λ (n : ℕ). print_lines p (drop n (issued_of home more))) (acked-before h e (e ∷ []) home below)
+        ∙ ap (λ (x : List Line). print_lines p (drop (acked_in home h) x)) (issued-before h e (e ∷ []) home below) ∙ l
     stays_settled home (here same) within none l =
-        subst (λ (n : ℕ). lines_of p (drop (acked_in n more) (issued_of n more)) ≡ []) (sym same)
-        (ap (λ (x : List Line). lines_of p (drop (acked_in (sessions h) more) x)) (issued-last h e other)
+        subst (λ (n : ℕ). print_lines p (drop (acked_in n more) (issued_of n more)) ≡ []) (sym same)
+        (ap (λ (x : List Line). print_lines p (drop (acked_in (sessions h) more) x)) (issued-last h e other)
         ∙ none_later p (acked_in (sessions h) h) (acked_in (sessions h) more) (issued_of (sessions h) h ++ lines_at e) acked_later
         (none_more p (acked_in (sessions h) h) (issued_of (sessions h) h) (lines_at e)
-        (subst (λ (n : ℕ). lines_of p (drop (acked_in n h) (issued_of n h)) ≡ []) same l) none))
+        (subst (λ (n : ℕ). print_lines p (drop (acked_in n h) (issued_of n h)) ≡ []) same l) none))
     stays_settled home (later above) within none l = absurd (omega (arith, above, within))
 
     stays_closed : (home : ℕ) → (home < sessions h) ⊎ (is_open h ≡ false) → (home < sessions more) ⊎ (is_open more ≡ false)
@@ -103,7 +103,7 @@ module _ (scripts : ScriptTexts) (p : ℕ) (positive : nat_eq 0 p ≡ false) whe
     stays_closed home (inr shut) =
         inr (open-after h e ∙ ap (λ (b : Bool). open_at e b) shut ∙ shut_after (e ∷ []) (omega (arith, sessions-append h (e ∷ []), same_count)))
 
-    stays_so : (f : Fate) (home : ℕ) → home ≤ sessions h → lines_of p (lines_at e) ≡ [] → LeavesSo p f home h → LeavesSo p f home more
+    stays_so : (f : Fate) (home : ℕ) → home ≤ sessions h → print_lines p (lines_at e) ≡ [] → LeavesSo p f home h → LeavesSo p f home more
     stays_so Unplugged home within none l = stays_closed home l
     stays_so Broken home within none l = stays_closed home l
     stays_so _ home within none l = stays_settled home (place home (sessions h)) within none l
@@ -134,7 +134,7 @@ module _ (scripts : ScriptTexts) (p : ℕ) (positive : nat_eq 0 p ≡ false) whe
         let passed : Passes scripts p positive o.fate calls run (issued_of (sessions h) h) =
         passes_calls scripts p positive o.fate calls run (issued_of (sessions h) h) may plain short t.held o.is
         in
-        let none : lines_of p (lines_at e) ≡ [] = ap (λ (x : List Line). lines_of p x) (sym lines) ∙ passed.none in
+        let none : print_lines p (lines_at e) ≡ [] = ap (λ (x : List Line). print_lines p x) (sym lines) ∙ passed.none in
         record {
           pulled = whole;
           held = subst (λ (x : List Line). Held scripts p positive (run_of calls run) x) (sym now) passed.held;
@@ -158,21 +158,21 @@ module _ (scripts : ScriptTexts) (p : ℕ) (positive : nat_eq 0 p ≡ false) whe
 
     -- a print that had ended: it lives where it lived, and no later line is its own
     pub stays_ended : (f : Fate) → of_print p run.ends ≡ f ∷ [] → (home : ℕ) → home ≤ sessions h → LivesIn p h home → (a : ℕ)
-        → lines_of p (drop a (issued_of home h)) ≡ [] →
-        (of_print p (run_of calls run).ends ≡ f ∷ []) × LivesIn p more home × (lines_of p (drop a (issued_of home more)) ≡ [])
+        → print_lines p (drop a (issued_of home h)) ≡ [] →
+        (of_print p (run_of calls run).ends ≡ f ∷ []) × LivesIn p more home × (print_lines p (drop a (issued_of home more)) ≡ [])
     stays_ended f is home within l a none =
         let passed : Passes scripts p positive f calls run (issued_of (sessions h) h) =
         passes_calls scripts p positive f calls run (issued_of (sessions h) h) may plain short t.held is
         in
-        let none_here : lines_of p (lines_at e) ≡ [] = ap (λ (x : List Line). lines_of p x) (sym lines) ∙ passed.none in
+        let none_here : print_lines p (lines_at e) ≡ [] = ap (λ (x : List Line). print_lines p x) (sym lines) ∙ passed.none in
         (passed.ends, lives_past p h e other home within none_here l, kept none_here (place home (sessions h)))
       where
-        kept : lines_of p (lines_at e) ≡ [] → Place home (sessions h) → lines_of p (drop a (issued_of home more)) ≡ []
-        kept none_here (earlier below) = ap (λ (x : List Line). lines_of p (drop a x)) (issued-before h e (e ∷ []) home below) ∙ none
+        kept : print_lines p (lines_at e) ≡ [] → Place home (sessions h) → print_lines p (drop a (issued_of home more)) ≡ []
+        kept none_here (earlier below) = ap (λ (x : List Line). print_lines p (drop a x)) (issued-before h e (e ∷ []) home below) ∙ none
         kept none_here (here same) =
-            subst (λ (n : ℕ). lines_of p (drop a (issued_of n more)) ≡ []) (sym same)
-            (ap (λ (x : List Line). lines_of p (drop a x)) (issued-last h e other)
-            ∙ none_more p a (issued_of (sessions h) h) (lines_at e) (subst (λ (n : ℕ). lines_of p (drop a (issued_of n h)) ≡ []) same none) none_here)
+            subst (λ (n : ℕ). print_lines p (drop a (issued_of n more)) ≡ []) (sym same)
+            (ap (λ (x : List Line). print_lines p (drop a x)) (issued-last h e other)
+            ∙ none_more p a (issued_of (sessions h) h) (lines_at e) (subst (λ (n : ℕ). print_lines p (drop a (issued_of n h)) ≡ []) same none) none_here)
         kept none_here (later above) = absurd (omega (arith, above, within))
 
   -- an entry that opens one
@@ -187,19 +187,19 @@ module _ (scripts : ScriptTexts) (p : ℕ) (positive : nat_eq 0 p ≡ false) whe
     one_more : sessions after_it ≡ suc (sessions h)
     one_more = sessions-opened h e opens
 
-    none_issued : lines_of p (lines_at e) ≡ []
-    none_issued = ap (λ (x : List Line). lines_of p x) silent
+    none_issued : print_lines p (lines_at e) ≡ []
+    none_issued = ap (λ (x : List Line). print_lines p x) silent
 
-    settled_past : (home : ℕ) → Place home (sessions h) → home ≤ sessions h → lines_of p (drop (acked_in home h) (issued_of home h)) ≡ [] →
-        lines_of p (drop (acked_in home after_it) (issued_of home after_it)) ≡ []
+    settled_past : (home : ℕ) → Place home (sessions h) → home ≤ sessions h → print_lines p (drop (acked_in home h) (issued_of home h)) ≡ [] →
+        print_lines p (drop (acked_in home after_it) (issued_of home after_it)) ≡ []
     settled_past home (earlier below) within l =
-        ap (λ (n : ℕ). lines_of p (drop n (issued_of home after_it))) (acked-before h e (e ∷ []) home below)
-        ∙ ap (λ (x : List Line). lines_of p (drop (acked_in home h) x)) (issued-before h e (e ∷ []) home below) ∙ l
+        ap (λ (n : ℕ). print_lines p (drop n (issued_of home after_it))) (acked-before h e (e ∷ []) home below)
+        ∙ ap (λ (x : List Line). print_lines p (drop (acked_in home h) x)) (issued-before h e (e ∷ []) home below) ∙ l
     settled_past home (here same) within l =
-        subst (λ (n : ℕ). lines_of p (drop (acked_in n after_it) (issued_of n after_it)) ≡ []) (sym same)
-        (ap (λ (n : ℕ). lines_of p (drop n (issued_of (sessions h) after_it))) (acked-ended h e opens)
-        ∙ ap (λ (x : List Line). lines_of p (drop (acked_in (sessions h) h) x)) (issued-ended h e opens)
-        ∙ subst (λ (n : ℕ). lines_of p (drop (acked_in n h) (issued_of n h)) ≡ []) same l)
+        subst (λ (n : ℕ). print_lines p (drop (acked_in n after_it) (issued_of n after_it)) ≡ []) (sym same)
+        (ap (λ (n : ℕ). print_lines p (drop n (issued_of (sessions h) after_it))) (acked-ended h e opens)
+        ∙ ap (λ (x : List Line). print_lines p (drop (acked_in (sessions h) h) x)) (issued-ended h e opens)
+        ∙ subst (λ (n : ℕ). print_lines p (drop (acked_in n h) (issued_of n h)) ≡ []) same l)
     settled_past home (later above) within l = absurd (omega (arith, above, within))
 
     leaves_past : (f : Fate) (home : ℕ) → home ≤ sessions h → LeavesSo p f home h → LeavesSo p f home after_it
@@ -210,12 +210,12 @@ module _ (scripts : ScriptTexts) (p : ℕ) (positive : nat_eq 0 p ≡ false) whe
     opened_lives : Lives p h (of_print p run.ends) → Lives p after_it (of_print p next.ends)
     opened_lives (inl u) =
         let ends = ends_opened scripts p positive acked moment run (connecting_foreign scripts p positive run is t.held.known) in
-        let none : lines_of p (issued_in h) ≡ [] =
-        ap (λ (x : List Line). lines_of p x) (sym t.pulled) ∙ sym (of_pulled p run.pulled)
+        let none : print_lines p (issued_in h) ≡ [] =
+        ap (λ (x : List Line). print_lines p x) (sym t.pulled) ∙ sym (of_pulled p run.pulled)
         ∙ connecting_none scripts p positive run (issued_of (sessions h) h) is u.no_fate t.held
         in
-        let nothing : lines_of p (issued_in after_it) ≡ [] =
-        ap (λ (x : List Line). lines_of p x) (issued-whole h e ∙ ap (λ (x : List Line). issued_in h ++ x) silent ∙ append-nil (issued_in h)) ∙ none
+        let nothing : print_lines p (issued_in after_it) ≡ [] =
+        ap (λ (x : List Line). print_lines p x) (issued-whole h e ∙ ap (λ (x : List Line). issued_in h ++ x) silent ∙ append-nil (issued_in h)) ∙ none
         in
         inl (record {
           no_fate = ends ∙ u.no_fate;
@@ -245,17 +245,17 @@ module _ (scripts : ScriptTexts) (p : ℕ) (positive : nat_eq 0 p ≡ false) whe
         }
 
     pub opened_ended : (f : Fate) → of_print p run.ends ≡ f ∷ [] → (home : ℕ) → home ≤ sessions h → LivesIn p h home → (a : ℕ)
-        → lines_of p (drop a (issued_of home h)) ≡ [] →
-        (of_print p next.ends ≡ f ∷ []) × LivesIn p after_it home × (lines_of p (drop a (issued_of home after_it)) ≡ [])
+        → print_lines p (drop a (issued_of home h)) ≡ [] →
+        (of_print p next.ends ≡ f ∷ []) × LivesIn p after_it home × (print_lines p (drop a (issued_of home after_it)) ≡ [])
     opened_ended f ended_so home within l a none = (
       ends_opened scripts p positive acked moment run (connecting_foreign scripts p positive run is t.held.known) ∙ ended_so,
       lives_opened p h e opens home none_issued l,
       kept (place home (sessions h)),
     )
       where
-        kept : Place home (sessions h) → lines_of p (drop a (issued_of home after_it)) ≡ []
-        kept (earlier below) = ap (λ (x : List Line). lines_of p (drop a x)) (issued-before h e (e ∷ []) home below) ∙ none
+        kept : Place home (sessions h) → print_lines p (drop a (issued_of home after_it)) ≡ []
+        kept (earlier below) = ap (λ (x : List Line). print_lines p (drop a x)) (issued-before h e (e ∷ []) home below) ∙ none
         kept (here same) =
-            subst (λ (n : ℕ). lines_of p (drop a (issued_of n after_it)) ≡ []) (sym same)
-            (ap (λ (x : List Line). lines_of p (drop a x)) (issued-ended h e opens) ∙ subst (λ (n : ℕ). lines_of p (drop a (issued_of n h)) ≡ []) same none)
+            subst (λ (n : ℕ). print_lines p (drop a (issued_of n after_it)) ≡ []) (sym same)
+            (ap (λ (x : List Line). print_lines p (drop a x)) (issued-ended h e opens) ∙ subst (λ (n : ℕ). print_lines p (drop a (issued_of n h)) ≡ []) same none)
         kept (later above) = absurd (omega (arith, above, within))

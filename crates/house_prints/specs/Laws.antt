@@ -2,7 +2,7 @@
 use Rattle.std.specs.Prelude.{◌≡◌, ◌⊎◌, ℕ, ◌+◌, ◌<◌, ◌≤◌, true, false, List, [], ◌∷◌, ◌++◌, length, take, slice_get, Some, All}
 use Rattle.desk_steps.specs.Course.{Done, Course}
 use Rattle.desk_steps.specs.Data.{ScriptTexts, Data, Line, new_desk}
-use Rattle.desk_steps.specs.Run.{Fate, Finished, is_of, lines_of, of_print}
+use Rattle.desk_steps.specs.Run.{Fate, Finished, is_of, print_lines, of_print}
 use Rattle.marlin_frame.specs.Frame.{frame_of, fails}
 use Rattle.marlin_frame.specs.Numbering.{wire_number, hello_frame}
 use Rattle.link_history.specs.Executed.{opens, till}
@@ -73,8 +73,8 @@ pub record IsExecutedWhole (kind : LinkKind) (scripts : ScriptTexts) (front past
   pub home : ℕ
   pub lives : LivesIn print history home
   pub course : Course scripts print commands Done (trace print history)
-  pub acknowledged : lines_of print (take (acked_in home history) (issued_of home history)) ≡ trace print history
-  pub executed : lines_of print (lines_executed kind front past home history) ≡ trace print history
+  pub acknowledged : print_lines print (take (acked_in home history) (issued_of home history)) ≡ trace print history
+  pub executed : print_lines print (lines_executed kind front past home history) ≡ trace print history
   pub jobs : jobs_executed print kind front past home history ≡ jobs_from print 0 commands
 
 -- so it was when a timeline had come so far

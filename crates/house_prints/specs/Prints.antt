@@ -1,18 +1,18 @@
 -- Where a print lives in a history, and what its end leaves.
 use Rattle.std.specs.Prelude.{◌≡◌, ◌⊎◌, ℕ, ◌<◌, ◌≤◌, false, List, [], ◌∷◌, drop}
-use Rattle.desk_steps.specs.Run.{Fate, Finished, Stopped, Left, Unplugged, Broken, lines_of}
+use Rattle.desk_steps.specs.Run.{Fate, Finished, Stopped, Left, Unplugged, Broken, print_lines}
 use Rattle.octo_asks.specs.History.{History}
 use Rattle.house_history.specs.Issued.{issued_of, trace}
 use Rattle.house_line.specs.Sessions.{sessions, acked_in, is_open}
 
 -- a print lives in one session: all its script lines and file commands were issued in it
 pub record LivesIn (print : ℕ) (history : History) (home : ℕ) : Type 0 where
-  pub alone : (session : ℕ) → (session ≡ home → ⊥) → lines_of print (issued_of session history) ≡ []
-  pub all : trace print history ≡ lines_of print (issued_of home history)
+  pub alone : (session : ℕ) → (session ≡ home → ⊥) → print_lines print (issued_of session history) ≡ []
+  pub all : trace print history ≡ print_lines print (issued_of home history)
 
 -- all of them are acknowledged: none is after the acknowledged lines of its session
 abbrev pub IsAcknowledged : ℕ → ℕ → History → Type 0
-IsAcknowledged print home history = lines_of print (drop (acked_in home history) (issued_of home history)) ≡ []
+IsAcknowledged print home history = print_lines print (drop (acked_in home history) (issued_of home history)) ≡ []
 
 -- the session is closed
 abbrev pub IsClosed : ℕ → History → Type 0

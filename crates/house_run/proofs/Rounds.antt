@@ -21,7 +21,7 @@ use Rattle.house_counts.specs.Temps.{NotesTemps}
 use Rattle.house_counts.proofs.Counting.{counted_then, asks_counted, turns_counted, end_counted}
 use Rattle.house_counts.proofs.Hearing.{temps_then, temps_end, temps_of_asks}
 use Rattle.house_counts.proofs.Showing.{uses_shows, round_shows, end_shows}
-use Rattle.house_run.specs.Runs.{stands, begins, Leads}
+use Rattle.house_run.specs.Runs.{stands_with, begins, Leads}
 
 -- one round more of counted faults
 pub counted_round : (first before mid after : Option History) (moment k l m n s t u x y z : ℕ) (listed : List ℕ → Bool) (session : SessionData) (calls calls' : Option ℕ)
@@ -47,7 +47,7 @@ counted_end first after last k n s u x z z' sooner same adds =
 -- one round more of a link that is used
 pub uses_round : (kind kind' : LinkKind) → kind' ≡ kind → (start_house house house' : House) (m moment : ℕ) → m ≤ moment
     → (calls0 calls calls' : Option ℕ) (keeper keeper' shelf shelf' link link' : ℕ) (first before mid after : Option History) (start files held : Option (List ShelfFile))
-    → Walks first before start files (begins start_house) (stands house m)
+    → Walks first before start files (begins start_house) (stands_with house m)
     → Shows first before start (begins start_house) (UsesLink kind.listed calls0 calls)
     → Leads before mid files held moment house house'
     → Became before mid (λ _ added. AsksAt moment keeper keeper' shelf shelf' added)
@@ -56,9 +56,9 @@ pub uses_round : (kind kind' : LinkKind) → kind' ≡ kind → (start_house hou
 uses_round kind kind' same start_house house house' m moment below calls0 calls calls' keeper keeper' shelf shelf' link link' first before mid after start files held
     walks uses leads asks turns =
     let Turns_of : LinkKind → Type 0 = λ k. Became mid after (λ _ added. TurnsAt moment k.listed (session_of house') calls calls' link link' added) in
-    uses_shows kind.listed calls0 calls calls' first before after start files (begins start_house) (stands house m) walks uses
-    (round_shows kind.listed (session_of house') calls calls' moment keeper keeper' shelf shelf' link link' before mid after files held (stands house m)
-    (stands house' moment) (leads m below)
+    uses_shows kind.listed calls0 calls calls' first before after start files (begins start_house) (stands_with house m) walks uses
+    (round_shows kind.listed (session_of house') calls calls' moment keeper keeper' shelf shelf' link link' before mid after files held (stands_with house m)
+    (stands_with house' moment) (leads m below)
     (λ held s at. (ap (λ (k : Known). k.desk) at.known_is ∙ at.desk, at.up)) asks (subst Turns_of same turns))
 
 pub uses_end : (listed : List ℕ → Bool) (calls0 calls calls' : Option ℕ) → calls' ≡ calls → (first after last : Option History) (start held : Option (List ShelfFile))

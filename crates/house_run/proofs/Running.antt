@@ -18,17 +18,17 @@ use Rattle.octo_house.specs.State.{known_of, session_of}
 use Rattle.octo_house.specs.Turned.{Turns}
 use Rattle.house_run.specs.declared.tally.Asked.{Asked}
 use Rattle.house_run.specs.declared.tally.Tally.{Tally}
-use Rattle.house_run.specs.Runs.{stands, begins, RunIsOver, Leads, IsFresh, IsOver}
+use Rattle.house_run.specs.Runs.{stands_with, begins, RunIsOver, Leads, IsFresh, IsOver}
 use Rattle.house_run.specs.Tallies.{tally_of, AreOf, tally_after, is_over}
 use Rattle.house_run.proofs.Noting.{Knows}
 use Rattle.house_run.proofs.Tallying.{tally_grows, tally_over}
 
 -- a host that begins
 pub begin_walks : (house : House) (past : Option History) (files : Option (List ShelfFile)) → IsFresh (session_of house)
-    → Walks past past files files (begins house) (stands house 0)
+    → Walks past past files files (begins house) (stands_with house 0)
 begin_walks house past files fresh =
-    walks_none past past files files (begins house) (stands house 0) refl refl
-    (λ held s is. subst (λ (t : Standing). stands house 0 held t) (sym is) (record {
+    walks_none past past files files (begins house) (stands_with house 0) refl refl
+    (λ held s is. subst (λ (t : Standing). stands_with house 0 held t) (sym is) (record {
       window = refl;
       limit = refl;
       known_is = refl;
@@ -45,17 +45,17 @@ begin_walks house past files fresh =
 
 -- a round: asks are answered, and then a turn is taken
 pub walks_round : (first before mid after : Option History) (start was held : Option (List ShelfFile)) (host old asked new : House) (at moment : ℕ)
-    → at ≤ moment → Walks first before start was (begins host) (stands old at) → Leads before mid was held moment old asked
-    → Walks mid after held held (stands asked moment) (stands new moment) → Walks first after start held (begins host) (stands new moment)
+    → at ≤ moment → Walks first before start was (begins host) (stands_with old at) → Leads before mid was held moment old asked
+    → Walks mid after held held (stands_with asked moment) (stands_with new moment) → Walks first after start held (begins host) (stands_with new moment)
 walks_round first before mid after start was held host old asked new at moment below led answers turns =
-    walks_then first mid after start held held (begins host) (stands asked moment) (stands new moment)
-    (walks_then first before mid start was held (begins host) (stands old at) (stands asked moment) led (answers at below)) turns
+    walks_then first mid after start held held (begins host) (stands_with asked moment) (stands_with new moment)
+    (walks_then first before mid start was held (begins host) (stands_with old at) (stands_with asked moment) led (answers at below)) turns
 
 -- the end
 pub end_walks : (house : House) (past past' : Option History) (files : Option (List ShelfFile)) (moment : ℕ) → Adds past past' (entry.Close ∷ [])
-    → Walks past past' files files (stands house moment) (RunIsOver house)
+    → Walks past past' files files (stands_with house moment) (RunIsOver house)
 end_walks house past past' files moment adds =
-    walks_one past past' files files (stands house moment) (RunIsOver house) entry.Close adds
+    walks_one past past' files files (stands_with house moment) (RunIsOver house) entry.Close adds
     (λ was was_is. (
       was,
       was_is,

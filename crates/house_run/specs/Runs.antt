@@ -20,13 +20,13 @@ use Rattle.house_prints.specs.Laws.{IsBeginning}
 use Rattle.house_run.specs.Tallies.{counted}
 
 -- a history and these files have led to this host
-abbrev pub stands : House → ℕ → List ShelfFile → Standing → Type 0
-stands house moment files s = StandsAt s (known_of house) (session_of house) files moment false
+abbrev pub stands_with : House → ℕ → List ShelfFile → Standing → Type 0
+stands_with house moment files s = StandsAt s (known_of house) (session_of house) files moment false
 
 -- the history grew by legal entries, which lead from each place of one host to one of another, at moments up to this one
 abbrev pub Leads : (past past' : Option History) → (files files' : Option (List ShelfFile)) → ℕ → House → House → Type 0
 Leads past past' files files' moment old new =
-    (before : ℕ) → before ≤ moment → Walks past past' files files' (stands old before) (stands new moment)
+    (before : ℕ) → before ≤ moment → Walks past past' files files' (stands_with old before) (stands_with new moment)
 
 -- the session of a host that has just begun
 pub record IsFresh (session : SessionData) : Type 0 where

@@ -22,15 +22,15 @@ code_of NotOpened = 9
 code_of NoMemory = 11
 
 -- the tables are written before they count as shown
-abbrev pub text_of : ToolEnd → List ℕ
-text_of Shown = []
-text_of (Added prints) = codes "added " ++ decimal prints ++ codes " prints\n"
-text_of BadWords = codes "usage: keeper_tool FILE [prints N]\n"
-text_of NumbersUsed = codes "the numbers of prints are used up\n"
-text_of KeeperFailed = codes "the database failed, or its rows don't fit\n"
-text_of OutputFailed = []
-text_of NotOpened = codes "not opened: no database, another schema, or in use\n"
-text_of NoMemory = codes "no memory\n"
+abbrev pub end_text : ToolEnd → List ℕ
+end_text Shown = []
+end_text (Added prints) = codes "added " ++ decimal prints ++ codes " prints\n"
+end_text BadWords = codes "usage: keeper_tool FILE [prints N]\n"
+end_text NumbersUsed = codes "the numbers of prints are used up\n"
+end_text KeeperFailed = codes "the database failed, or its rows don't fit\n"
+end_text OutputFailed = []
+end_text NotOpened = codes "not opened: no database, another schema, or in use\n"
+end_text NoMemory = codes "no memory\n"
 
 -- the end after a fault of the keeper
 abbrev pub end_of : KeeperFault → ToolEnd

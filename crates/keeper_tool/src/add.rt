@@ -2,7 +2,6 @@
 ghost use Rattle.std.specs.Prelude.{◌≡◌, ◌≢◌, ◌<◌, ◌≤◌, ◌+◌, ℕ, true, length, IfSome, OnOk, OnErr, IsErrOf, MatchOption};
 ghost use Rattle.std.specs.Option.{option_map};
 ghost use Rattle.byte_text.specs.Number.{most_u32};
-ghost use Rattle.byte_text.specs.declared.name.TheConstants.{MOST_NAME_BYTES};
 ghost use Rattle.octo_outside.specs.Recorded.{Counts};
 ghost use Rattle.octo_keeper.specs.declared.keeper.KeeperFault.TheVariants as fault;
 ghost use Rattle.keeper_tool.specs.declared.end.ToolEnd.TheVariants as end;
@@ -15,24 +14,14 @@ use octo_keeper::{Change, Keeper, KeeperFault};
 use print_records::{Outcome, PrintRow};
 use std::alloc::Global;
 
-fn name(text: &'static str) -> Name
-    requires { length text.now ≤ MOST_NAME_BYTES }
-    ensures { result ≡ text.now }
-{
-    match Name::from_text(text) {
-        Some(name) => name,
-        None => unreachable!(),
-    }
-}
-
 // The record of a finished print.
 fn finished_row(number: u32) -> PrintRow
     ensures { result ≡ finished_row number }
 {
     PrintRow {
         number,
-        user: name("ana"),
-        file: name("hollow_box.gcode"),
+        user: Name::of_short("ana"),
+        file: Name::of_short("hollow_box.gcode"),
         commands: 218,
         outcome: Outcome::Done,
     }

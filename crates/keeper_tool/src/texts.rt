@@ -1,7 +1,7 @@
 //! The text of an end, and writing it.
 ghost use Rattle.std.specs.Prelude.{◌≡◌, ◌++◌, codes, decimal, OnOk, OnErr, IsErr};
 ghost use Rattle.octo_outside.specs.Recorded.{Adds, AddsPrefix, Counts};
-ghost use Rattle.keeper_tool.specs.Ends.{text_of};
+ghost use Rattle.keeper_tool.specs.Ends.{end_text};
 
 use crate::end::ToolEnd;
 use arrayvec::ArrayVec;
@@ -19,8 +19,8 @@ fn added_text(prints: u32) -> EndText
     text
 }
 
-fn text_of(end: ToolEnd) -> EndText
-    ensures { result.items ≡ text_of end }
+fn end_text(end: ToolEnd) -> EndText
+    ensures { result.items ≡ end_text end }
 {
     match end {
         ToolEnd::Shown | ToolEnd::OutputFailed => EndText::new(),
@@ -35,10 +35,10 @@ fn text_of(end: ToolEnd) -> EndText
 
 /// Writes the text of an end; after a failed call a prefix of it was written.
 pub fn write_end<O: Sink>(out: &mut O, end: ToolEnd) -> Result<(), Failed>
-    ensures ok { OnOk result (Adds (O.written out.old) (O.written out.new) (text_of end)) }
-    ensures err { OnErr result (AddsPrefix (O.written out.old) (O.written out.new) (text_of end)) }
+    ensures ok { OnOk result (Adds (O.written out.old) (O.written out.new) (end_text end)) }
+    ensures err { OnErr result (AddsPrefix (O.written out.old) (O.written out.new) (end_text end)) }
     ensures counts { Counts (IsErr result) (O.faults out.old) (O.faults out.new) }
 {
-    let text = text_of(end);
+    let text = end_text(end);
     write_all(out, text.as_slice())
 }

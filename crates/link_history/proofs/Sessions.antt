@@ -74,15 +74,15 @@ executed-append places advanced past added s over =
 
 -- what comes up to the end of a session is a front part of the recorded history
 pub record IsFront (front whole : List WorldEvent) : Type 0 where
-  pub behind : List WorldEvent
-  pub is : whole ≡ front ++ behind
+  pub after : List WorldEvent
+  pub is : whole ≡ front ++ after
 
 more_front : (event : WorldEvent) {front whole : List WorldEvent} → IsFront front whole → IsFront (event ∷ front) (event ∷ whole)
-more_front event part = record { behind = part.behind; is = ap (λ (es : List WorldEvent). event ∷ es) part.is }
+more_front event part = record { after = part.after; is = ap (λ (es : List WorldEvent). event ∷ es) part.is }
 
 pub till-IsFront : (s : ℕ) (past : List WorldEvent) → IsFront (till s past) past
-till-IsFront s [] = record { behind = []; is = refl }
-till-IsFront zero (Opened last ∷ past) = record { behind = Opened last ∷ past; is = refl }
+till-IsFront s [] = record { after = []; is = refl }
+till-IsFront zero (Opened last ∷ past) = record { after = Opened last ∷ past; is = refl }
 till-IsFront (suc s) (Opened last ∷ past) = more_front (Opened last) (till-IsFront s past)
 till-IsFront s (Send line ∷ past) = more_front (Send line) (till-IsFront s past)
 till-IsFront s (Arrive ∷ past) = more_front Arrive (till-IsFront s past)
@@ -97,10 +97,10 @@ till-IsFront s (Closed ∷ past) = more_front Closed (till-IsFront s past)
 -- the log of a front part is a front part of the log
 pub front-Grew : (places : ℕ) (advanced : Bool) (front whole : List WorldEvent) → IsFront front whole → Grew (world_of places advanced front).log (world_of places advanced whole).log
 front-Grew places advanced front whole part =
-    let same : world_of places advanced whole ≡ world_from (world_of places advanced front) part.behind =
-    ap (world_of places advanced) part.is ∙ world_of-append places advanced front part.behind
+    let same : world_of places advanced whole ≡ world_from (world_of places advanced front) part.after =
+    ap (world_of places advanced) part.is ∙ world_of-append places advanced front part.after
     in
-    let grew : Grew (world_of places advanced front).log (world_from (world_of places advanced front) part.behind).log = world_from-Grew (world_of places advanced front) part.behind in
+    let grew : Grew (world_of places advanced front).log (world_from (world_of places advanced front) part.after).log = world_from-Grew (world_of places advanced front) part.after in
     record { added = grew.added; is = ap (λ (w : WorldData). w.log) same ∙ grew.is }
 
 -- what a log that grew has after its old length

@@ -12,7 +12,7 @@ events_of_session s past = drop (length (till (pred s) past)) (till s past)
 -- the line at the front of a wire, if there is one
 abbrev pub front_line : List (List ℕ) → List (List ℕ)
 front_line [] = []
-front_line (reply ∷ behind) = reply ∷ []
+front_line (reply ∷ rest) = reply ∷ []
 
 -- the reply lines that the host receives by an event
 abbrev pub received_by : WorldData → WorldEvent → List (List ℕ)

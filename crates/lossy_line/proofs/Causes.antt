@@ -82,9 +82,9 @@ known_front start issued s made rest first bytes is m starts begins =
     let E : List (List ℕ) → Type 0 = λ l. Each (IsStartKnown (rest ++ is.before)) l in
     let known : IsStartKnown (rest ++ is.before) is.reply = (subst E is.front before).0 in
     let so : list_any is_restart (rest ++ is.before) ≡ true = known (ap heard_in (sym is.whole) ∙ begins) in
-    let all : rest ++ first ≡ (rest ++ is.before) ++ Recv ∷ is.behind = ap (λ (es : List WorldEvent). rest ++ es) is.is ∙ sym (append_assoc rest is.before (Recv ∷ is.behind)) in
-    ap (list_any is_restart) all ∙ list_any-append is_restart (rest ++ is.before) (Recv ∷ is.behind)
-    ∙ or_left (list_any is_restart (rest ++ is.before)) (list_any is_restart (Recv ∷ is.behind)) so
+    let all : rest ++ first ≡ (rest ++ is.before) ++ Recv ∷ is.after = ap (λ (es : List WorldEvent). rest ++ es) is.is ∙ sym (append_assoc rest is.before (Recv ∷ is.after)) in
+    ap (list_any is_restart) all ∙ list_any-append is_restart (rest ++ is.before) (Recv ∷ is.after)
+    ∙ or_left (list_any is_restart (rest ++ is.before)) (list_any is_restart (Recv ∷ is.after)) so
 
 module _ (moment : ℕ) (is_prompt : Bool) (found : LinkFact) (texts : List (List ℕ)) (count : ℕ) (start : List Logged) (made : WorldData) (issued : List (List ℕ)) (s : SenderData) (rest : List WorldEvent) where
   silence_at : (first : List WorldEvent) → s.ended ≡ None → IsSilence (world_from made rest) first → IsQuiet (sends_since 0 rest) s →

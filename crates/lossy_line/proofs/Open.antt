@@ -67,7 +67,7 @@ given_up : (next : Option Outgoing) (w : WorldData) (added : List WorldEvent) �
 given_up None w added given = absurd given
 given_up (Some next) w added given =
     let U : List WorldEvent → Type 0 = λ es. (world_from w es).linked ≡ w.linked in
-    subst U (sym given.is) (sent_around w _ given.before given.behind given.sent given.line_is given.free_before given.free_behind)
+    subst U (sym given.is) (sent_around w _ given.before given.after given.sent given.line_is given.free_before given.free_after)
 
 closed_last : (w : WorldData) (events : List WorldEvent) → (world_from w (events ++ Closed ∷ [])).linked ≡ false
 closed_last w events = ap (λ (v : WorldData). v.linked) (world_from-push w events Closed) ∙ closed_after (world_from w events)
@@ -82,13 +82,13 @@ step_up finds_no_port s w added is = ap (λ (es : List WorldEvent). (world_from 
 step_up fails_to_dial s w added is = world_from-linked w added (runs-free added is)
 step_up (hears bytes) s w added is =
     ap (λ (es : List WorldEvent). (world_from w es).linked) is.is
-    ∙ around w is.before is.behind Recv is.free_before is.free_behind (λ v. after_event (λ u. u.linked ≡ v.linked) v Recv refl (λ _. refl))
+    ∙ around w is.before is.after Recv is.free_before is.free_after (λ v. after_event (λ u. u.linked ≡ v.linked) v Recv refl (λ _. refl))
 step_up listens s w added is = world_from-linked w added is.free
 step_up fails_to_receive s w added is = ap (λ (es : List WorldEvent). (world_from w es).linked) is.is ∙ closed_last w is.before
 step_up ticks s w added is = ap (λ (es : List WorldEvent). (world_from w es).linked) is
 step_up (issues text) s w added is = ap (λ (es : List WorldEvent). (world_from w es).linked) is
 step_up gives s w added is = given_up (next_of s) w added is
-step_up fails_to_send s w added is = ap (λ (es : List WorldEvent). (world_from w es).linked) is.is ∙ closed_last w (is.before ++ is.failing ++ is.behind)
+step_up fails_to_send s w added is = ap (λ (es : List WorldEvent). (world_from w es).linked) is.is ∙ closed_last w (is.before ++ is.failing ++ is.after)
 step_up (hangs_up true) s w added is = ap (λ (es : List WorldEvent). (world_from w es).linked) is.0 ∙ closed_after w
 step_up (hangs_up false) s w added is = ap (λ (es : List WorldEvent). (world_from w es).linked) is
 

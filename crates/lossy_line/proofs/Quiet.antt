@@ -50,12 +50,12 @@ since_given : (since : ℕ) (next : Option Outgoing) (w : WorldData) (added : Li
 since_given since None w added given = absurd given
 since_given since (Some next) w added given =
     let S : List WorldEvent → Type 0 = λ es. sends_since since es ≡ since + 1 in
-    subst S (sym given.is) (since_sent since (bytes_of_outgoing next) given.before given.behind given.sent given.line_is given.free_before given.free_behind)
+    subst S (sym given.is) (since_sent since (bytes_of_outgoing next) given.before given.after given.sent given.line_is given.free_before given.free_after)
 
 pub since_heard : (since : ℕ) (bytes : List ℕ) (w : WorldData) (added : List WorldEvent) → IsHeard bytes w added → sends_since since added ≡ 0
 since_heard since bytes w added is =
     let S : List WorldEvent → Type 0 = λ es. sends_since since es ≡ 0 in
-    subst S (sym is.is) (sends_since-append since is.before (Recv ∷ is.behind) ∙ sends_since-free 0 is.behind is.free_behind)
+    subst S (sym is.is) (sends_since-append since is.before (Recv ∷ is.after) ∙ sends_since-free 0 is.after is.free_after)
 
 -- what a sender owes after a step, and that it's sound
 pub record Owes (since : ℕ) (s : SenderData) : Type 0 where

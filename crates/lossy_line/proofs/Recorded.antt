@@ -9,7 +9,7 @@ use Rattle.printer_link.specs.Link.{LinkKind, world_in}
 use Rattle.send_window.specs.Sending.{next_of}
 use Rattle.session_steps.specs.Data.{SessionData, IsSession, doing}
 use Rattle.session_steps.specs.Found.{can_find, up_after}
-use Rattle.session_steps.specs.Turn.{IsTurn, IsTurnByNote, IsSpent, fact_of, lines_of, texts_in}
+use Rattle.session_steps.specs.Turn.{IsTurn, IsTurnByNote, IsSpent, fact_of, note_lines, texts_in}
 use Rattle.session_steps.specs.declared.found.Turned.{Turned}
 use Rattle.session_steps.proofs.Noting.{noted_fact, noted_lines}
 use Rattle.lossy_line.specs.Issuing.{issued_in}
@@ -77,27 +77,27 @@ module _ (moment : ℕ) (kind : LinkKind) (old_past new_past : Option (List Worl
 
   pub turn_linked : IsTurn moment kind old_past new_past old_calls new_calls old new turned → IsKept moment old new turned →
       (issued : List (List ℕ)) → LinkedAs kind old_past issued old →
-      LinkedAs kind new_past (issued_in (fact_of turned.note) (texts_in (lines_of turned.note)) issued) new
+      LinkedAs kind new_past (issued_in (fact_of turned.note) (texts_in (note_lines turned.note)) issued) new
   turn_linked t k issued linked now is =
       let by = turned_by t k now is in
       let L : List WorldEvent → Type 0 = λ es. IsLinked kind (issued_in t.found (texts_in t.lines) issued) new es in
       let F : LinkFact → Type 0 = λ f. IsLinked kind (issued_in f (texts_in t.lines) issued) new now in
       let X : List Line → Type 0 = λ l. IsLinked kind (issued_in (fact_of turned.note) (texts_in l) issued) new now in
       let found : fact_of turned.note ≡ t.found = noted_fact turned.note moment old.sender.acked new.sender.acked t.lines t.got t.found t.none t.some in
-      let lines : lines_of turned.note ≡ t.lines = noted_lines turned.note moment old.sender.acked new.sender.acked t.lines t.got t.found t.none t.some in
+      let lines : note_lines turned.note ≡ t.lines = noted_lines turned.note moment old.sender.acked new.sender.acked t.lines t.got t.found t.none t.some in
       subst X (sym lines) (subst F (sym found) (subst L (sym by.3) (turn_links moment kind old new t.got t.found (texts_in t.lines) issued by.0 by.1 by.4 (linked by.0 by.2))))
 
   -- a link was made before, or is made
   pub turn_opened : IsTurn moment kind old_past new_past old_calls new_calls old new turned → IsKept moment old new turned →
       (issued : List (List ℕ)) → IsOpening kind old_past issued old (fact_of turned.note) →
-      OpenedAs kind new_past (issued_in (fact_of turned.note) (texts_in (lines_of turned.note)) issued) new
+      OpenedAs kind new_past (issued_in (fact_of turned.note) (texts_in (note_lines turned.note)) issued) new
   turn_opened t k issued opening_so now is =
       let by = turned_by t k now is in
       let L : List WorldEvent → Type 0 = λ es. IsOpened kind (issued_in t.found (texts_in t.lines) issued) new es in
       let F : LinkFact → Type 0 = λ f. IsOpened kind (issued_in f (texts_in t.lines) issued) new now in
       let X : List Line → Type 0 = λ l. IsOpened kind (issued_in (fact_of turned.note) (texts_in l) issued) new now in
       let found : fact_of turned.note ≡ t.found = noted_fact turned.note moment old.sender.acked new.sender.acked t.lines t.got t.found t.none t.some in
-      let lines : lines_of turned.note ≡ t.lines = noted_lines turned.note moment old.sender.acked new.sender.acked t.lines t.got t.found t.none t.some in
+      let lines : note_lines turned.note ≡ t.lines = noted_lines turned.note moment old.sender.acked new.sender.acked t.lines t.got t.found t.none t.some in
       subst X (sym lines) (subst F (sym found) (subst L (sym by.3) (opened_or by.0 by.1 by.2 t found by.4 opening_so)))
     where
       opened_or : (past added : List WorldEvent) → old_past ≡ Some past → (t : IsTurn moment kind old_past new_past old_calls new_calls old new turned) →
@@ -109,9 +109,9 @@ module _ (moment : ℕ) (kind : LinkKind) (old_past new_past : Option (List Worl
   -- then the last session is tied
   pub turn_tied : IsTurn moment kind old_past new_past old_calls new_calls old new turned → IsKept moment old new turned →
       (issued : List (List ℕ)) → IsOpening kind old_past issued old (fact_of turned.note) →
-      TiedAs kind new_past (issued_in (fact_of turned.note) (texts_in (lines_of turned.note)) issued) new
+      TiedAs kind new_past (issued_in (fact_of turned.note) (texts_in (note_lines turned.note)) issued) new
   turn_tied t k issued opening_so now is =
-      opened_tied kind (issued_in (fact_of turned.note) (texts_in (lines_of turned.note)) issued) new now (turn_opened t k issued opening_so now is)
+      opened_tied kind (issued_in (fact_of turned.note) (texts_in (note_lines turned.note)) issued) new now (turn_opened t k issued opening_so now is)
 
   pub turn_former_tied : IsTurn moment kind old_past new_past old_calls new_calls old new turned → IsKept moment old new turned →
       fact_of turned.note ≡ fact.Opened → (issued : List (List ℕ)) → LinkedAs kind old_past issued old →

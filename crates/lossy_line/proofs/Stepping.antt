@@ -56,8 +56,8 @@ module _ (start : List Logged) (issued : List (List ℕ)) (moment : ℕ) (s : Se
       IsTallied replies s → Leads start issued issued (hear_step (kind_of bytes) moment s) w replies added
   hears_leads bytes added running is m tallied =
       let L : List WorldEvent → Type 0 = λ es. Leads start issued issued (hear_step (kind_of bytes) moment s) w replies es in
-      let B : List ℕ → Type 0 = λ b. Leads start issued issued (hear_step (kind_of b) moment s) w replies (is.before ++ Recv ∷ is.behind) in
-      subst L (sym is.is) (subst B (sym is.whole) (around (hear_step (kind_of is.reply) moment s) is.before (Recv ∷ []) is.behind is.free_before is.free_behind m tallied
+      let B : List ℕ → Type 0 = λ b. Leads start issued issued (hear_step (kind_of b) moment s) w replies (is.before ++ Recv ∷ is.after) in
+      subst L (sym is.is) (subst B (sym is.whole) (around (hear_step (kind_of is.reply) moment s) is.before (Recv ∷ []) is.after is.free_before is.free_after m tallied
       (λ met told. leads_recv start issued moment s (world_from w is.before) (replies ++ replies_from w is.before) is.reply is.rest is.linked running is.front met told)))
 
   sent_leads : (next : Outgoing) (before behind : List WorldEvent) (event : WorldEvent) → next_of s ≡ Some next →
@@ -82,7 +82,7 @@ module _ (start : List Logged) (issued : List (List ℕ)) (moment : ℕ) (s : Se
   given_leads None added is given m tallied = absurd given
   given_leads (Some next) added is given m tallied =
       let L : List WorldEvent → Type 0 = λ es. Leads start issued issued (frame_step moment s) w replies es in
-      subst L (sym given.is) (sent_leads next given.before given.behind given.sent is given.line_is given.sends given.free_before given.free_behind m tallied)
+      subst L (sym given.is) (sent_leads next given.before given.after given.sent is given.line_is given.sends given.free_before given.free_after m tallied)
 
   -- a sending fails: nothing went out, or a line that fails
   lost_leads : (next : Outgoing) (before failing behind : List WorldEvent) → next_of s ≡ Some next →
@@ -149,8 +149,8 @@ module _ (start : List Logged) (issued : List (List ℕ)) (moment : ℕ) (s : Se
   plain_leads fails_to_send added plain allowed is m tallied =
       let L : List WorldEvent → Type 0 = λ es. Leads start issued issued (frame_step moment s) w replies es in
       let some = some-if-true (next_of s) allowed in
-      subst L (sym (is.is ∙ regroup is.before is.failing is.behind))
-      (lost_leads some.0 is.before is.failing is.behind some.1 is.may_send is.free_before is.free_behind is.linked m tallied)
+      subst L (sym (is.is ∙ regroup is.before is.failing is.after))
+      (lost_leads some.0 is.before is.failing is.after some.1 is.may_send is.free_before is.free_after is.linked m tallied)
   plain_leads (hangs_up true) added plain allowed is m tallied =
       let L : List WorldEvent → Type 0 = λ es. Leads start issued issued s w replies es in
       subst L (sym is.0) (leads_closed start issued s w replies is.1 m tallied)

@@ -4,7 +4,7 @@ ghost use Rattle.octo_outside.specs.Recorded.{Counts};
 ghost use Rattle.desk_steps.specs.declared.link_fact.LinkFact.TheVariants as fact;
 ghost use Rattle.printer_link.specs.Link.{RoseBy};
 ghost use Rattle.session_steps.specs.Data.{doing, is_calling};
-ghost use Rattle.session_steps.specs.Turn.{fact_of, lines_of, texts_in, IsTurn, IsTurnByNote};
+ghost use Rattle.session_steps.specs.Turn.{fact_of, note_lines, texts_in, IsTurn, IsTurnByNote};
 ghost use Rattle.session_steps.specs.declared.found.Doing.TheVariants as now_doing;
 ghost use Rattle.lossy_line.specs.Issuing.{issued_in};
 ghost use Rattle.lossy_line.specs.Linked.{LinkedAs, OpenedAs, IsOpening};
@@ -26,18 +26,18 @@ pub fn turn_over_link<L: Link>(session: &mut Session, link: &mut L, moment: u64)
     ensures linked { (issued : List (List ℕ))
         → LinkedAs (L.kind link.old) (L.past link.old) issued session.old
         → LinkedAs (L.kind link.new) (L.past link.new)
-        (issued_in (fact_of result.note) (texts_in (lines_of result.note)) issued) session.new }
+        (issued_in (fact_of result.note) (texts_in (note_lines result.note)) issued) session.new }
 
     // Once a link is made, each session of the history is tied to its issued lines: the last one, and in a turn that
     // makes a later link the one before it.
     ensures opened { (issued : List (List ℕ))
         → IsOpening (L.kind link.old) (L.past link.old) issued session.old (fact_of result.note)
         → OpenedAs (L.kind link.new) (L.past link.new)
-        (issued_in (fact_of result.note) (texts_in (lines_of result.note)) issued) session.new }
+        (issued_in (fact_of result.note) (texts_in (note_lines result.note)) issued) session.new }
     ensures tied { (issued : List (List ℕ))
         → IsOpening (L.kind link.old) (L.past link.old) issued session.old (fact_of result.note)
         → TiedAs (L.kind link.new) (L.past link.new)
-        (issued_in (fact_of result.note) (texts_in (lines_of result.note)) issued) session.new }
+        (issued_in (fact_of result.note) (texts_in (note_lines result.note)) issued) session.new }
     ensures former { fact_of result.note ≡ fact.Opened
         → (issued : List (List ℕ)) → LinkedAs (L.kind link.old) (L.past link.old) issued session.old
         → FormerTiedAs (L.kind link.new) (L.past link.old) (L.past link.new) issued session.old }

@@ -317,7 +317,7 @@ heard_meets start issued moment s w line rest a way on running front sh n first 
         queue = sh.queue;
         log = sh.log;
         up = sh.up;
-        down = ap (λ (l : List (List ℕ)). map heard_in (drop 1 l)) front ∙ first.behind;
+        down = ap (λ (l : List (List ℕ)). map heard_in (drop 1 l)) front ∙ first.after;
       };
       numbers = record {
         sound = hears_sound (kind_of line) moment s n.sound;

@@ -177,7 +177,7 @@ pub record IsFirst (line : List ℕ) (down : List (List ℕ)) (way : List Answer
   pub rest : List Answer
   pub is : way ≡ answer ∷ rest
   pub heard : heard_in line ≡ reply_to answer
-  pub behind : map heard_in down ≡ replies_on (rest_of answer rest)
+  pub after : map heard_in down ≡ replies_on (rest_of answer rest)
 
 split : (x : Answer) (way : List Answer) → replies_on (x ∷ way) ≡ reply_to x ∷ replies_on (rest_of x way)
 split (greeting_ok named) way = refl
@@ -194,4 +194,4 @@ first_of_way line down (x ∷ way) e =
     let both : heard_in line ∷ map heard_in down ≡ reply_to x ∷ replies_on (rest_of x way) = e ∙ split x way in
     let one : heard_in line ≡ reply_to x = cc in
     let others : map heard_in down ≡ replies_on (rest_of x way) = cc in
-    record { answer = x; rest = way; is = refl; heard = one; behind = others }
+    record { answer = x; rest = way; is = refl; heard = one; after = others }

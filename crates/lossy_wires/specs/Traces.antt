@@ -41,13 +41,13 @@ pub record IsLineAbove (issued : List (List ℕ)) (acked : ℕ) (bytes : List �
 
 -- the host sent the hello or a line above those acknowledged; or a line failed, and the link is closed next
 abbrev pub IsSendFit : List (List ℕ) → ℕ → List ℕ → List WorldEvent → Type 0
-IsSendFit issued acked bytes behind =
-    (bytes ≡ hello_frame) ⊎ (IsLineAbove issued acked bytes ⊎ ((fails bytes ≡ true) × (closes_next behind ≡ true)))
+IsSendFit issued acked bytes later =
+    (bytes ≡ hello_frame) ⊎ (IsLineAbove issued acked bytes ⊎ ((fails bytes ≡ true) × (closes_next later ≡ true)))
 
 -- if the event is a line that the host sent, it is such a line
 abbrev pub IsEventFit : List (List ℕ) → ℕ → WorldEvent → List WorldEvent → Type 0
-IsEventFit issued acked (Send line) behind = IsSendFit issued acked line.items behind
-IsEventFit issued acked _ behind = Unit {0}
+IsEventFit issued acked (Send line) later = IsSendFit issued acked line.items later
+IsEventFit issued acked _ later = Unit {0}
 
 -- each line sent by these events is, by the replies received before it
 abbrev pub AreSendsFit : List (List ℕ) → List Reply → WorldData → List WorldEvent → Type 0

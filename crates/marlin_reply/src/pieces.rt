@@ -111,11 +111,11 @@ fn read_whole(text: &[u8]) -> Option<u32>
 fn read_field(text: &[u8], letter: u8) -> Option<u32>
     ensures { result ≡ field_at letter text.now }
 {
-    let (first, behind) = text.split_first()?;
+    let (first, after) = text.split_first()?;
     if *first != letter {
         return None;
     }
-    read_whole(first_piece(behind))
+    read_whole(first_piece(after))
 }
 
 /// The number of the first piece that is this letter and a number.

@@ -22,8 +22,8 @@ fn read_text(text: &[u8]) -> Reply
 {
     if is_ok(text) {
         read_ok(text)
-    } else if let Some(behind) = text.strip_prefix(b"Resend:") {
-        read_resend(leading_digits(skip_spaces(behind)))
+    } else if let Some(after) = text.strip_prefix(b"Resend:") {
+        read_resend(leading_digits(skip_spaces(after)))
     } else if is_start(text) {
         Reply::Start
     } else {

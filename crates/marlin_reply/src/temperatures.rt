@@ -25,8 +25,8 @@ fn find_heat(text: &[u8], mark: &[u8]) -> Option<Heat>
     ensures { result ≡ heat_of mark.now text.now }
 {
     for start in PieceStarts::new(text) {
-        if let Some(behind) = start.strip_prefix(mark) {
-            return read_heat(behind);
+        if let Some(after) = start.strip_prefix(mark) {
+            return read_heat(after);
         }
     }
     None
@@ -46,8 +46,8 @@ fn read_target(actual: i64, text: &[u8]) -> Option<Heat>
     ensures { result ≡ target_at actual text.now }
 {
     match text {
-        [b'/', behind @ ..] => {
-            let target = read_number(behind)?;
+        [b'/', after @ ..] => {
+            let target = read_number(after)?;
             Some(Heat {
                 actual,
                 target: target.micro,

@@ -11,7 +11,7 @@ use Rattle.std.proofs.lemmas.Bool.Decides.{nat_tests}
 use Rattle.octo_outside.specs.Memory.{one_more, is_listed}
 use Rattle.marlin_sim.specs.declared.plan.SimPlan.{SimPlan}
 use Rattle.marlin_sim.specs.Plan.{is_place, IsPlan}
-use Rattle.marlin_sim.specs.Lines.{ends_line, but_last, whole_lines, cut, arriving, planned, behind, LinesData, to_come}
+use Rattle.marlin_sim.specs.Lines.{ends_line, but_last, whole_lines, cut, arriving, planned, with_begun, LinesData, to_come}
 use Rattle.byte_text.proofs.ListLaws.{take_once}
 
 -- cutting makes at least one piece
@@ -42,31 +42,31 @@ all_others : (x : ℕ) (xs : List ℕ) → All (λ b. ends_line b ≡ false) (x 
 all_others x xs all k d within = all (suc k) d (omega arith)
 
 -- a byte before pieces
-but_last-onto : (byte : ℕ) (first : List ℕ) (pieces : List (List ℕ)) → but_last (onto_first byte (first ∷ pieces)) ≡ behind (byte ∷ []) (but_last (first ∷ pieces))
+but_last-onto : (byte : ℕ) (first : List ℕ) (pieces : List (List ℕ)) → but_last (onto_first byte (first ∷ pieces)) ≡ with_begun (byte ∷ []) (but_last (first ∷ pieces))
 but_last-onto byte first [] = refl
 but_last-onto byte first (next ∷ pieces) = refl
 
 -- bytes before lines, in two parts
-behind-behind : (front more : List ℕ) (lines : List (List ℕ)) → behind front (behind more lines) ≡ behind (front ++ more) lines
-behind-behind front more [] = refl
-behind-behind front more (line ∷ lines) = ap (λ (l : List ℕ). l ∷ lines) (sym (append_assoc front more line))
+with_begun-twice : (front more : List ℕ) (lines : List (List ℕ)) → with_begun front (with_begun more lines) ≡ with_begun (front ++ more) lines
+with_begun-twice front more [] = refl
+with_begun-twice front more (line ∷ lines) = ap (λ (l : List ℕ). l ∷ lines) (sym (append_assoc front more line))
 
 -- no bytes before lines
-pub behind-none : (lines : List (List ℕ)) → behind [] lines ≡ lines
-behind-none [] = refl
-behind-none (line ∷ lines) = refl
+pub with_begun-none : (lines : List (List ℕ)) → with_begun [] lines ≡ lines
+with_begun-none [] = refl
+with_begun-none (line ∷ lines) = refl
 
 -- bytes without a line feed begin a line
-pub whole_begun : (piece more : List ℕ) → All (λ b. ends_line b ≡ false) piece → whole_lines (piece ++ more) ≡ behind piece (whole_lines more)
-whole_begun [] more none = sym (behind-none (whole_lines more))
+pub whole_begun : (piece more : List ℕ) → All (λ b. ends_line b ≡ false) piece → whole_lines (piece ++ more) ≡ with_begun piece (whole_lines more)
+whole_begun [] more none = sym (with_begun-none (whole_lines more))
 whole_begun (byte ∷ piece) more none =
     let some = split_some (piece ++ more) in
     ap but_last (slice_split-cons_no ends_line byte (piece ++ more) (all_first byte piece none))
     ∙ ap (λ (p : List (List ℕ)). but_last (onto_first byte p)) some.2
     ∙ but_last-onto byte some.0 some.1
-    ∙ ap (λ (p : List (List ℕ)). behind (byte ∷ []) (but_last p)) (sym some.2)
-    ∙ ap (behind (byte ∷ [])) (whole_begun piece more (all_others byte piece none))
-    ∙ behind-behind (byte ∷ []) piece (whole_lines more)
+    ∙ ap (λ (p : List (List ℕ)). with_begun (byte ∷ []) (but_last p)) (sym some.2)
+    ∙ ap (with_begun (byte ∷ [])) (whole_begun piece more (all_others byte piece none))
+    ∙ with_begun-twice (byte ∷ []) piece (whole_lines more)
 
 -- a line that was cut before more was added
 cut-cut : (begun more : List ℕ) → cut (cut begun ++ more) ≡ cut (begun ++ more)
@@ -87,7 +87,7 @@ cut-room begun bytes short =
     ∙ sym (take-append-add begun bytes (95 - length begun))
     ∙ ap (λ n. take n (begun ++ bytes)) all
 
-planned-cut : (plan : SimPlan) (n : ℕ) (begun : List ℕ) (lines : List (List ℕ)) → planned plan n (behind (cut begun) lines) ≡ planned plan n (behind begun lines)
+planned-cut : (plan : SimPlan) (n : ℕ) (begun : List ℕ) (lines : List (List ℕ)) → planned plan n (with_begun (cut begun) lines) ≡ planned plan n (with_begun begun lines)
 planned-cut plan n begun [] = refl
 planned-cut plan n begun (line ∷ lines) = ap (λ (l : List ℕ). arriving plan n l ++ planned plan (suc n) lines) (cut-cut begun line)
 
@@ -96,8 +96,8 @@ pub begun_comes : (plan : SimPlan) (l : LinesData) (piece more : List ℕ) → A
 begun_comes plan l piece more none =
     ap (λ (p : List (List ℕ)). l.waiting ++ p)
     (planned-cut plan (suc l.received) (l.begun ++ piece) (whole_lines more)
-    ∙ ap (planned plan (suc l.received)) (sym (behind-behind l.begun piece (whole_lines more)))
-    ∙ ap (λ (w : List (List ℕ)). planned plan (suc l.received) (behind l.begun w)) (sym (whole_begun piece more none)))
+    ∙ ap (planned plan (suc l.received)) (sym (with_begun-twice l.begun piece (whole_lines more)))
+    ∙ ap (λ (w : List (List ℕ)). planned plan (suc l.received) (with_begun l.begun w)) (sym (whole_begun piece more none)))
 
 -- a number above all places is not listed
 not_listed : (places : List ℕ) (n : ℕ) → list_all is_place places ≡ true → 4294967295 < n → is_listed places n ≡ false
@@ -130,7 +130,7 @@ planned-counted plan r lines is =
 pub ended_comes : (plan : SimPlan) (l : LinesData) (piece more : List ℕ) → IsPlan plan → All (λ b. ends_line b ≡ false) piece → to_come plan (record { waiting = l.waiting ++ arriving plan (one_more l.received) (cut (l.begun ++ piece)); begun = []; received = one_more l.received }) more ≡ to_come plan l (piece ++ 10 ∷ more)
 ended_comes plan l piece more is none =
     let first = arriving plan (one_more l.received) (cut (l.begun ++ piece)) in
-    append_assoc l.waiting first (planned plan (suc (one_more l.received)) (behind [] (whole_lines more)))
-    ∙ ap (λ (p : List (List ℕ)). l.waiting ++ (first ++ planned plan (suc (one_more l.received)) p)) (behind-none (whole_lines more))
+    append_assoc l.waiting first (planned plan (suc (one_more l.received)) (with_begun [] (whole_lines more)))
+    ∙ ap (λ (p : List (List ℕ)). l.waiting ++ (first ++ planned plan (suc (one_more l.received)) p)) (with_begun-none (whole_lines more))
     ∙ ap (λ (p : List (List ℕ)). l.waiting ++ p) (planned-counted plan l.received ((l.begun ++ piece) ∷ whole_lines more) is)
-    ∙ ap (λ (w : List (List ℕ)). l.waiting ++ planned plan (suc l.received) (behind l.begun w)) (sym (whole_next piece more none))
+    ∙ ap (λ (w : List (List ℕ)). l.waiting ++ planned plan (suc l.received) (with_begun l.begun w)) (sym (whole_next piece more none))

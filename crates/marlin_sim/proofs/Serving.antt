@@ -11,26 +11,26 @@ use Rattle.marlin_sim.specs.declared.end.SimEnd.TheVariants as end
 use Rattle.marlin_sim.specs.declared.serve.Next.{Next}
 use Rattle.marlin_sim.specs.declared.serve.Next.TheVariants as next
 use Rattle.marlin_sim.specs.declared.plan.SimPlan.{SimPlan}
-use Rattle.marlin_sim.specs.Lines.{to_come, planned, behind, whole_lines}
-use Rattle.marlin_sim.proofs.Coming.{behind-none}
+use Rattle.marlin_sim.specs.Lines.{to_come, planned, with_begun, whole_lines}
+use Rattle.marlin_sim.proofs.Coming.{with_begun-none}
 use Rattle.marlin_sim.specs.Run.{start_text, IsRunOf, world_at, written_text}
 use Rattle.marlin_sim.specs.Sim.{new_sim, SimData, FollowsModel, Keeps}
 use Rattle.marlin_sim.specs.Served.{Outside, outside, IsServed, IsDone, IsLost, Serves, Going, Breaks, After, Finishes, Ending, Outcome, IsUsed}
 
 -- an addition, and then the first bytes of another
 prefix_then : (old mid new : Option (List ℕ)) (front behind all : List ℕ) → Adds old mid front → AddsPrefix mid new behind → front ++ behind ≡ all → AddsPrefix old new all
-prefix_then old mid new front behind all first second whole =
-    became_then old mid new (λ _ added. added ≡ front) (λ _ added. (n : ℕ) × (added ≡ take n behind)) (λ _ added. (n : ℕ) × (added ≡ take n all)) first second
+prefix_then old mid new front with_begun all first second whole =
+    became_then old mid new (λ _ added. added ≡ front) (λ _ added. (n : ℕ) × (added ≡ take n with_begun)) (λ _ added. (n : ℕ) × (added ≡ take n all)) first second
     (λ _ added more is prefix. (
       length front + prefix.0,
-      ap (λ (l : List ℕ). l ++ more) is ∙ ap (λ (l : List ℕ). front ++ l) prefix.1 ∙ sym (take-append-add front behind prefix.0) ∙ ap (take (length front + prefix.0)) whole,
+      ap (λ (l : List ℕ). l ++ more) is ∙ ap (λ (l : List ℕ). front ++ l) prefix.1 ∙ sym (take-append-add front with_begun prefix.0) ∙ ap (take (length front + prefix.0)) whole,
     ))
 
 -- an addition is the first bytes of what it begins
 prefix_of : (old new : Option (List ℕ)) (front behind all : List ℕ) → Adds old new front → all ≡ front ++ behind → AddsPrefix old new all
-prefix_of old new front behind all grew whole =
+prefix_of old new front with_begun all grew whole =
     became_so old new (λ _ added. added ≡ front) (λ _ added. (n : ℕ) × (added ≡ take n all)) grew
-    (λ _ added is. (length front, is ∙ sym (take-append_seam front behind) ∙ ap (take (length front)) (sym whole)))
+    (λ _ added is. (length front, is ∙ sym (take-append_seam front with_begun) ∙ ap (take (length front)) (sym whole)))
 
 -- the world of what is recorded
 world_followed : (plan : SimPlan) (input rest : List ℕ) (s : SimData) (wrote printed : List ℕ) → FollowsModel plan input rest s wrote printed → WorldData
@@ -250,7 +250,7 @@ new_serves plan input left wrote printed follows =
         steps = refl;
         log = [];
         down = [];
-        is = ap (λ (lines : List (List ℕ)). world_at (new_sim plan).printer [] (planned plan 1 lines) []) (sym (behind-none (whole_lines input)));
+        is = ap (λ (lines : List (List ℕ)). world_at (new_sim plan).printer [] (planned plan 1 lines) []) (sym (with_begun-none (whole_lines input)));
         wrote_is = append-nil start_text;
         printed_is = refl;
       };

@@ -14,7 +14,7 @@ use Rattle.printer_model.specs.declared.printer.Taken.{Taken}
 use Rattle.printer_model.specs.declared.printer.Taken.TheVariants.{Full}
 use Rattle.printer_model.proofs.Laws.{happens, world_from-push}
 use Rattle.marlin_sim.specs.declared.plan.SimPlan.{SimPlan}
-use Rattle.marlin_sim.specs.Lines.{LinesData, to_come, planned, behind, whole_lines}
+use Rattle.marlin_sim.specs.Lines.{LinesData, to_come, planned, with_begun, whole_lines}
 use Rattle.marlin_sim.specs.Run.{is_step, first_world, world_at, start_text, printed_line}
 use Rattle.marlin_sim.specs.Sim.{SimData, FollowsModel, Keeps, Arrived, HasRun, AfterRunning, work}
 use Rattle.octo_outside.specs.Lists.{with_line_feed}
@@ -56,7 +56,7 @@ pub arrived_follows : (plan : SimPlan) (input rest wrote printed : List ℕ) (ol
 arrived_follows plan input rest wrote printed old new a t =
     let Follows : SimData → Type 0 = λ s. FollowsModel plan input rest s wrote printed in
     let taken = take_line old.printer a.line in
-    let later = planned plan (suc old.lines.received) (behind old.lines.begun (whole_lines rest)) in
+    let later = planned plan (suc old.lines.received) (with_begun old.lines.begun (whole_lines rest)) in
     let up : to_come plan old.lines rest ≡ a.line ∷ (drop 1 old.lines.waiting ++ later) = ap (λ (l : List (List ℕ)). l ++ later) a.first in
     subst Follows (sym a.is)
     (record {

@@ -42,10 +42,10 @@ abbrev pub planned : SimPlan → ℕ → List (List ℕ) → List (List ℕ)
 planned plan n [] = []
 planned plan n (line ∷ lines) = arriving plan n (cut line) ++ planned plan (suc n) lines
 
--- the first line with bytes before it
-abbrev pub behind : List ℕ → List (List ℕ) → List (List ℕ)
-behind begun [] = []
-behind begun (line ∷ lines) = (begun ++ line) ∷ lines
+-- lines whose first began with these bytes
+abbrev pub with_begun : List ℕ → List (List ℕ) → List (List ℕ)
+with_begun begun [] = []
+with_begun begun (line ∷ lines) = (begun ++ line) ∷ lines
 
 -- lines on their way: those that wait to arrive, the beginning of the next one, and how many were received
 pub record LinesData : Type 0 where
@@ -55,4 +55,4 @@ pub record LinesData : Type 0 where
 
 -- all that is to arrive, if these bytes are still to be received
 abbrev pub to_come : SimPlan → LinesData → List ℕ → List (List ℕ)
-to_come plan l bytes = l.waiting ++ planned plan (suc l.received) (behind l.begun (whole_lines bytes))
+to_come plan l bytes = l.waiting ++ planned plan (suc l.received) (with_begun l.begun (whole_lines bytes))

@@ -181,9 +181,9 @@ impl Lines {
             → to_come plan.now self.new more ≡ to_come plan.now self.old (bytes.now ++ more)) }
     {
         let mut rest = bytes;
-        while let Some((piece, behind)) = split_at_first(rest, b'\n') {
+        while let Some((piece, after)) = split_at_first(rest, b'\n') {
             self.end_line(plan, piece)?;
-            rest = behind;
+            rest = after;
         }
         self.begin(rest);
         Ok(())

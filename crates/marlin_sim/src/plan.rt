@@ -1,7 +1,7 @@
 //! The plan of a simulation, as the arguments name it.
-ghost use Rattle.std.specs.Prelude.{◌≡◌, map, IfOk, IfSome};
+ghost use Rattle.std.specs.Prelude.{◌≡◌, Some, map, IfOk, IfSome};
 ghost use Rattle.std.specs.List.{slice_split};
-ghost use Rattle.marlin_sim.specs.Plan.{place_in, count_in, is_comma, places_above, places_in, is_address, plan_of, IsPlan};
+ghost use Rattle.marlin_sim.specs.Plan.{place_in, count_in, is_comma, places_above, places_in, is_address, plan_with, plan_of, IsPlan};
 
 use byte_text::number_in;
 use octo_outside::{CallList, WordList};
@@ -80,6 +80,32 @@ fn read_count(word: &str) -> Option<u8>
     }
 }
 
+// The plan of its numbers and of two words that list lines: those to drop and those to corrupt.
+fn plan_with(
+    alloc: Global,
+    last: u32,
+    places: u8,
+    drop: &str,
+    garble: &str,
+) -> Result<Option<SimPlan>, AllocError>
+    ensures { IfOk result (λ plan. plan
+        ≡ plan_with (Some last) (Some places) (places_in drop.now) (places_in garble.now)) }
+{
+    let Some(drop) = read_places(alloc, drop)? else {
+        return Ok(None);
+    };
+    let Some(garble) = read_places(alloc, garble)? else {
+        return Ok(None);
+    };
+    Ok(Some(SimPlan {
+        last,
+        places,
+        drop,
+        garble,
+        turns: TURNS,
+    }))
+}
+
 // The plan that the arguments are.
 fn plan_in(alloc: Global, words: &WordList) -> Result<Option<SimPlan>, AllocError>
     ensures { IfOk result (λ plan. plan ≡ plan_of words.now) }
@@ -93,19 +119,7 @@ fn plan_in(alloc: Global, words: &WordList) -> Result<Option<SimPlan>, AllocErro
     let Some(places) = read_count(words.get(2)) else {
         return Ok(None);
     };
-    let Some(drop) = read_places(alloc, words.get(3))? else {
-        return Ok(None);
-    };
-    let Some(garble) = read_places(alloc, words.get(4))? else {
-        return Ok(None);
-    };
-    Ok(Some(SimPlan {
-        last,
-        places,
-        drop,
-        garble,
-        turns: TURNS,
-    }))
+    plan_with(alloc, last, places, words.get(3), words.get(4))
 }
 
 // Whether a word may be an address: 1 to 100 bytes.

@@ -164,11 +164,8 @@ fn go_on<C: Conn, O: Sink>(conn: &mut C, out: &mut O, sim: &mut Sim) -> Next
     ensures sink { Counts (result ≡ next.SinkFailed) (O.faults out.old) (O.faults out.new) }
 {
     match step_and_reply(conn, out, sim) {
-        Next::On => Next::On,
         Next::Over => Next::On,
-        Next::ConnFailed => Next::ConnFailed,
-        Next::SinkFailed => Next::SinkFailed,
-        Next::NoMemory => Next::NoMemory,
+        next => next,
     }
 }
 

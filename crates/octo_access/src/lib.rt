@@ -18,6 +18,3 @@ pub use policy::Policy;
 pub use refusal::UserRefusal;
 pub use row::{Admin, Digest, UserList, UserRow, copy_names, digest_of};
 pub use users::Users;
-
-#[cfg(test)]
-mod tests;

@@ -14,7 +14,7 @@ use Rattle.octo_words.specs.Words.{command_of}
 use Rattle.octo_words.specs.declared.command.Command.{Command}
 use Rattle.octo_words.specs.declared.command.Command.TheVariants as command
 use Rattle.octo_report.specs.Status.{code_of}
-use Rattle.octo_report.specs.Texts.{text_of}
+use Rattle.octo_report.specs.Texts.{report_text}
 use Rattle.octo_report.specs.declared.report.Report.{Report}
 use Rattle.octo_report.specs.declared.report.Report.TheVariants as report
 use Rattle.octo_files.specs.Checks.{check_report}
@@ -62,7 +62,7 @@ pub record IsSummary (seed commands : ℕ) (r : Report) : Type 0 where
   pub demo : Demo
   pub run : IsDemo seed commands demo
   pub code : code_of r ≡ status_of demo.end
-  pub text : text_of r ≡ summary_of seed commands (counts_of demo.link) (status_of demo.end)
+  pub text : report_text r ≡ summary_of seed commands (counts_of demo.link) (status_of demo.end)
 
 -- what a command that doesn't serve reports; only a print adds to the history of the link
 abbrev pub Reports : LinkKind → Option Files → Seen → Command → Report → Type 0

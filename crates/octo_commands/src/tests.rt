@@ -62,6 +62,32 @@ fn files(rt: &impl Abort, alloc: Global, row: &Row) -> MemorySource {
     files
 }
 
+// Doors, at the first of which connections with these inputs come.
+fn doors(alloc: Global, inputs: &[&[u8]]) -> Option<Doors<MemoryDoor>> {
+    Some(Doors {
+        a: door_of(alloc, inputs, &[])?,
+        b: door_of(alloc, &[], &[])?,
+        c: door_of(alloc, &[], &[])?,
+        d: door_of(alloc, &[], &[])?,
+    })
+}
+
+/// Where a host keeps what it has, and where it is called.
+#[derive(Drop)]
+struct HostParts {
+    keeper: MemoryKeeper,
+    shelf: MemoryShelf,
+    doors: Doors<MemoryDoor>,
+}
+
+fn host_parts(alloc: Global, inputs: &[&[u8]]) -> Option<HostParts> {
+    Some(HostParts {
+        keeper: keeper_of(alloc, no_rows(alloc), &[])?,
+        shelf: shelf_of(alloc, &[])?,
+        doors: doors(alloc, inputs)?,
+    })
+}
+
 /// What a command works with.
 #[derive(Drop)]
 struct Bench {
@@ -69,9 +95,7 @@ struct Bench {
     link: MemoryLink,
     out: MemorySink,
     clock: MemoryClock,
-    keeper: MemoryKeeper,
-    shelf: MemoryShelf,
-    doors: Doors<MemoryDoor>,
+    host: HostParts,
 }
 
 impl Bench {
@@ -84,14 +108,7 @@ impl Bench {
             link: link(rt, alloc, row),
             out: MemorySink::new(alloc, calls(alloc, row.sink_fails).expect(rt, "no memory")),
             clock: MemoryClock::new(0, 1),
-            keeper: keeper_of(alloc, no_rows(alloc), &[]).expect(rt, "no memory"),
-            shelf: shelf_of(alloc, &[]).expect(rt, "no memory"),
-            doors: Doors {
-                a: door_of(alloc, row.inputs, &[]).expect(rt, "no memory"),
-                b: door_of(alloc, &[], &[]).expect(rt, "no memory"),
-                c: door_of(alloc, &[], &[]).expect(rt, "no memory"),
-                d: door_of(alloc, &[], &[]).expect(rt, "no memory"),
-            },
+            host: host_parts(alloc, row.inputs).expect(rt, "no memory"),
         }
     }
 
@@ -111,9 +128,9 @@ impl Bench {
             &mut self.link,
             &mut self.out,
             &mut self.clock,
-            &mut self.keeper,
-            &mut self.shelf,
-            &mut self.doors,
+            &mut self.host.keeper,
+            &mut self.host.shelf,
+            &mut self.host.doors,
         )
     }
 
@@ -169,23 +186,44 @@ const UNSENT: Row = Row {
     ..DONE
 };
 
-// The executed lines are these, each as its text and a line feed.
-fn assert_executed(rt: &impl Abort, alloc: Global, link: &MemoryLink, wanted: &[u8]) {
+// The executed lines, each as its text and a line feed; none without memory.
+fn executed(alloc: Global, link: &MemoryLink) -> Option<Vec<u8>> {
+    let lines = link.executed(1).ok()?;
     let mut texts = Vec::new(alloc);
-    match link.executed(1) {
-        Ok(lines) => {
-            for line in lines.as_slice() {
-                assert!(rt; texts.extend_from_slice(line.text.as_slice()).is_ok());
-                assert!(rt; texts.push(b'\n').is_ok());
-            }
-        }
-        Err(_) => panic!(rt; "no memory"),
+    for line in lines.as_slice() {
+        texts.extend_from_slice(line.text.as_slice()).ok()?;
+        texts.push(b'\n').ok()?;
     }
+    Some(texts)
+}
+
+fn assert_executed(rt: &impl Abort, alloc: Global, link: &MemoryLink, wanted: &[u8]) {
+    let texts = executed(alloc, link).expect(rt, "no memory");
     assert_eq!(rt; texts.as_slice(), wanted);
 }
 
 fn code_of(status: Status) -> u8 {
     status.code
+}
+
+// The exit status of a row's command on a bench.
+fn code_on<R: Threads + Wait + Clone + Send + Sync + Drop + Abort>(
+    rt: &R,
+    alloc: Global,
+    bench: &mut Bench,
+    row: &Row,
+) -> u8
+    requires { (link_world bench.old.link).linked ≡ false }
+{
+    let words = word_list(rt, alloc, row.words);
+    code_of(bench.carry_out(rt, alloc, &words))
+}
+
+// A command left this of the row on its bench.
+fn assert_left(rt: &impl Abort, alloc: Global, bench: &Bench, row: &Row) {
+    assert_eq!(rt; bench.out.written().unwrap_or(&[]), row.text);
+    assert_executed(rt, alloc, &bench.link, row.executed);
+    assert_eq!(rt; bench.link.sends(), row.sends);
 }
 
 // A command by a row.
@@ -194,14 +232,11 @@ fn assert_row<R: Threads + Wait + Clone + Send + Sync + Drop + Abort>(
     alloc: Global,
     row: &Row,
 ) {
-    let words = word_list(rt, alloc, row.words);
     let mut bench = Bench::of(rt, alloc, row);
-    let code = code_of(bench.carry_out(rt, alloc, &words));
-    assert_eq!(rt; code, row.code);
-    assert_eq!(rt; bench.out.written().unwrap_or(&[]), row.text);
-    assert_executed(rt, alloc, &bench.link, row.executed);
-    assert_eq!(rt; bench.link.sends(), row.sends);
+    let code = code_on(rt, alloc, &mut bench, row);
+    assert_left(rt, alloc, &bench, row);
     bench.end();
+    assert_eq!(rt; code, row.code);
 }
 
 #[test]

@@ -11,6 +11,3 @@ pub use checking::check_file;
 pub use jobs::read_job;
 pub use measuring::{measure_file, rest_of_file};
 pub use settings::read_settings_of;
-
-#[cfg(test)]
-mod tests;

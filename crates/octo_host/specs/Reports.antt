@@ -4,7 +4,7 @@ use Rattle.octo_house.specs.declared.faults.BeginFault.{BeginFault}
 use Rattle.octo_house.specs.declared.faults.BeginFault.TheVariants as begin
 use Rattle.octo_report.specs.declared.report.Report.TheVariants as report
 use Rattle.octo_report.specs.Status.{code_of}
-use Rattle.octo_report.specs.Texts.{text_of}
+use Rattle.octo_report.specs.Texts.{report_text}
 use Rattle.octo_host.specs.declared.report.HostReport.{HostReport}
 use Rattle.octo_host.specs.declared.report.HostReport.TheVariants as host
 
@@ -26,7 +26,7 @@ host_text (host.Served calls) = calls_text calls
 host_text (host.DoorFailed calls) = calls_text calls ++ codes "door failed\n"
 host_text host.KeeperFailed = codes "keeper failed\n"
 host_text host.ShelfFailed = codes "shelf failed\n"
-host_text (host.Command report) = text_of report
+host_text (host.Command report) = report_text report
 
 -- why a host didn't begin
 abbrev pub begin_fault_report : BeginFault → HostReport

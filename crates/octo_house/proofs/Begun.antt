@@ -40,9 +40,16 @@ kept-begun loaded tables host same sound read users queue =
     }
 
 -- the names of the files
-pub names-begun : (listed : List (List ℕ × ℕ)) (names : List (List ℕ)) (files : List ShelfFile) → listed ≡ sizes_of files
+names-begun : (listed : List (List ℕ × ℕ)) (names : List (List ℕ)) (files : List ShelfFile) → listed ≡ sizes_of files
     → names ≡ map (λ (one : List ℕ × ℕ). one.0) listed → names ≡ names_of files
 names-begun listed names files listed-is names-are = names-are ∙ ap (map (λ (one : List ℕ × ℕ). one.0)) listed-is ∙ names-sized files
+
+-- the same, if the shelf records the files
+pub names-held : (held : Option (List ShelfFile)) (listed : List (List ℕ × ℕ)) (names : List (List ℕ))
+    → IfSome held (λ (files : List ShelfFile). listed ≡ sizes_of files) → names ≡ map (λ (one : List ℕ × ℕ). one.0) listed
+    → IfSome held (λ (files : List ShelfFile). names ≡ names_of files)
+names-held None listed names same names-are = same
+names-held (Some files) listed names same names-are = names-begun listed names files same names-are
 
 -- its records keep their numbers
 number-read : (k : ℕ) (d : PrintRow) (rows : List PrintRow) → k < length rows → (get_or (map row_read rows) k d).number ≡ (get_or rows k d).number

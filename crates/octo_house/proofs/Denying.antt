@@ -1,5 +1,6 @@
 -- An ask is denied exactly if its verdict denies it.
 use Rattle.std.proofs.Common.{◌≡◌, ◌⊎◌, inl, inr, ◌↔◌, Bool, true, false, List, [], Option, None, Some, refl, sym, ap, ◌∙◌, subst}
+use Rattle.std.specs.Prelude.{if◌then◌else◌}
 use Rattle.std.proofs.lemmas.Bool.{false≢true}
 use Rattle.octo_access.specs.Rights.{caller}
 use Rattle.octo_access.specs.declared.permission.Permission.{Permission}
@@ -12,19 +13,29 @@ use Rattle.octo_asks.specs.declared.request.Ask.{Ask}
 use Rattle.house_verdicts.specs.Access.{is_denied, Accessed, free, nobody, lacks, may}
 use Rattle.house_verdicts.specs.Answers.{verdict, request_verdict, lacking}
 use Rattle.house_verdicts.specs.Known.{Known}
-use Rattle.house_verdicts.specs.Verdict.{Verdict, May, gives, answer_in}
+use Rattle.house_verdicts.specs.Verdict.{Verdict, May, IsDone, gives, answer_in, is_fault, files_after}
 use Rattle.house_verdicts.proofs.Denied.{access}
 use Rattle.octo_house.specs.Answered.{asks_files}
 use Rattle.octo_house.specs.Groups.{is_reading}
 use Rattle.octo_house.proofs.Fileless.{request-unasked}
 
--- verdict and answer deny it
-pub both-deny : (x : Answer) (v : Verdict) (q p : Option Permission) → x ≡ answer.Denied q → v ≡ gives (answer.Denied q)
-    → (x ≡ answer.Denied p) ↔ (v ≡ gives (answer.Denied p))
-both-deny x v q p says gave =
-    (λ is. gave ∙ ap (λ (a : Answer). gives a) (sym says ∙ is), λ is. says ∙ ap (λ (w : Verdict). answer_in w) (sym gave ∙ is))
+-- a verdict that is this answer denies it exactly if the answer does
+pub gives-denial : (x : Answer) (v : Verdict) (p : Option Permission) → v ≡ gives x → (x ≡ answer.Denied p) ↔ (v ≡ gives (answer.Denied p))
+gives-denial x v p gave = (λ is. gave ∙ ap (λ (a : Answer). gives a) is, λ is. ap (λ (w : Verdict). answer_in w) (sym gave ∙ is))
 
--- or neither does
+either : {A : Type 0} (b : Bool) (a : A) → (if b then a else a) ≡ a
+either true a = refl
+either false a = refl
+
+-- it changes nothing
+pub gives-done : (x : Answer) (v : Verdict) (k : Known) → v ≡ gives x → IsDone v x k k
+gives-done x v k gave = subst (λ (w : Verdict). IsDone w x k k) (sym gave) (record { may = inr refl; leaves = sym (either (is_fault x) k) })
+
+-- nor the files
+pub gives-files : (x : Answer) (v : Verdict) (files : List ShelfFile) → v ≡ gives x → files ≡ files_after v x files
+gives-files x v files gave = subst (λ (w : Verdict). files ≡ files_after w x files) (sym gave) (sym (either (is_fault x) files))
+
+-- neither verdict nor answer denies it
 pub neither-denies : (x : Answer) (v : Verdict) (p : Option Permission) → is_denied x ≡ false → (v ≡ gives (answer.Denied p) → ⊥)
     → (x ≡ answer.Denied p) ↔ (v ≡ gives (answer.Denied p))
 neither-denies x v p plain other =

@@ -1,12 +1,13 @@
 -- What a host begins with.
-use Rattle.std.specs.Prelude.{◌≡◌, ℕ, List, Option, None, Some}
+use Rattle.std.specs.Prelude.{◌≡◌, ℕ, List, Option, None, Some, IfSome}
 use Rattle.octo_access.specs.declared.policy.Policy.{Policy}
-use Rattle.octo_keeper.specs.Tables.{AreNumbered}
+use Rattle.octo_keeper.specs.Tables.{AreNumbered, AreSound}
 use Rattle.octo_keeper.specs.declared.shelf.ShelfFile.{ShelfFile}
 use Rattle.octo_keeper.specs.declared.tables.Tables.{Tables}
 use Rattle.session_steps.specs.Data.{SessionData}
 use Rattle.house_history.specs.Begins.{Begins}
 use Rattle.house_history.specs.Noted.{no_temps}
+use Rattle.house_tables.specs.Data.{TablesData, IsReadFrom}
 use Rattle.octo_house.specs.declared.house.House.{House}
 use Rattle.octo_house.specs.State.{known_of}
 
@@ -25,3 +26,10 @@ abbrev pub BeginsOn : SessionData → Policy → List (List ℕ) → List ℕ �
 BeginsOn session policy ports material kept held house =
     (tables : Tables) → kept ≡ Some tables → (files : List ShelfFile) → held ≡ Some files →
     Begins session.desk.scripts session.desk.limits session.desk.poll_ms policy ports material tables files (known_of house)
+
+-- a new host's tables, read from sound ones: those that the keeper keeps, if it records them
+pub record IsLoaded (kept : Option Tables) (t : TablesData) : Type 0 where
+  pub loaded : Tables
+  pub same : IfSome kept (λ tables. loaded ≡ tables)
+  pub sound : AreSound loaded
+  pub read : IsReadFrom loaded t

@@ -3,6 +3,7 @@ pub mod State
 pub mod Groups
 pub mod Beginning
 pub mod Answered
+pub mod Asking
 pub mod Taken
 pub mod Storing
 pub mod Turned

@@ -19,6 +19,3 @@ pub use memory_keeper::MemoryKeeper;
 pub use memory_shelf::MemoryShelf;
 pub use shelf::{FileList, Shelf, ShelfFault, ShelfFile};
 pub use tables::{Change, Tables};
-
-#[cfg(test)]
-mod tests;

@@ -13,8 +13,6 @@ mod memory_source;
 mod sink;
 mod source;
 mod system_clock;
-#[cfg(test)]
-mod tests;
 mod types;
 
 pub use blob::{Blob, append_line};

@@ -32,24 +32,24 @@ abbrev pub turns_text : ℕ → List ℕ
 turns_text turns = codes "turns used: " ++ decimal turns ++ codes "\n"
 
 -- the printed text
-abbrev pub text_of : Report → List ℕ
-text_of (report.Printed commands skipped) = printed_text commands skipped
-text_of (report.Checked commands skipped tool bed) = checked_text commands skipped tool bed
-text_of (report.Measured measure) = measure_text measure
-text_of (report.Rest text) = text
-text_of (report.Demo text status) = text.items
-text_of report.BadWords = codes "octo: bad words\n"
-text_of (report.BadSettings fault) = settings_text fault
-text_of (report.BadFile fault) = file_text fault
-text_of (report.TooHot hot) = hot_text hot
-text_of (report.BadMeasure fault) = measure_fault_text fault
-text_of (report.Past count) = past_text count
-text_of report.SourceFailed = codes "source failed\n"
-text_of report.LinkFailed = codes "link failed\n"
-text_of (report.NoPort port) = port_text port
-text_of (report.Ended end) = end_text end
-text_of (report.TurnsUsed turns) = turns_text turns
-text_of report.NoMemory = codes "no memory\n"
+abbrev pub report_text : Report → List ℕ
+report_text (report.Printed commands skipped) = printed_text commands skipped
+report_text (report.Checked commands skipped tool bed) = checked_text commands skipped tool bed
+report_text (report.Measured measure) = measure_text measure
+report_text (report.Rest text) = text
+report_text (report.Demo text status) = text.items
+report_text report.BadWords = codes "octo: bad words\n"
+report_text (report.BadSettings fault) = settings_text fault
+report_text (report.BadFile fault) = file_text fault
+report_text (report.TooHot hot) = hot_text hot
+report_text (report.BadMeasure fault) = measure_fault_text fault
+report_text (report.Past count) = past_text count
+report_text report.SourceFailed = codes "source failed\n"
+report_text report.LinkFailed = codes "link failed\n"
+report_text (report.NoPort port) = port_text port
+report_text (report.Ended end) = end_text end
+report_text (report.TurnsUsed turns) = turns_text turns
+report_text report.NoMemory = codes "no memory\n"
 
 -- whether a report is a file
 abbrev pub is_rest : Report → Bool

@@ -9,6 +9,3 @@ mod writing;
 
 pub use report::Report;
 pub use writing::write_report;
-
-#[cfg(test)]
-mod tests;

@@ -1,7 +1,7 @@
 //! The text of each report but the file that goes on at a command.
 ghost use Rattle.std.specs.Prelude.{◌≡◌, ◌++◌, [], codes, decimal, false};
 ghost use Rattle.gcode_measure.specs.Shown.{measure_text};
-ghost use Rattle.octo_report.specs.Texts.{printed_text, checked_text, port_text, past_text, turns_text, is_rest, text_of};
+ghost use Rattle.octo_report.specs.Texts.{printed_text, checked_text, port_text, past_text, turns_text, is_rest, report_text};
 
 use crate::faults::{put_end, put_file, put_hot, put_measure_fault, put_settings};
 use crate::page::{Page, append_whole};
@@ -72,7 +72,7 @@ fn put_turns(page: &mut Page, turns: u64)
 pub(crate) fn put_report(page: &mut Page, report: &Report)
     requires empty { page.old.items ≡ [] }
     requires short { is_rest report.now ≡ false }
-    ensures { page.new.items ≡ text_of report.now }
+    ensures { page.new.items ≡ report_text report.now }
 {
     match report {
         Report::Printed { commands, skipped } => put_printed(page, *commands, *skipped),

@@ -1,7 +1,7 @@
 //! Writing a report.
 ghost use Rattle.std.specs.Prelude.{◌≡◌, [], false, OnOk, OnErr, IsErr};
 ghost use Rattle.octo_outside.specs.Recorded.{Adds, AddsPrefix, Counts};
-ghost use Rattle.octo_report.specs.Texts.{is_rest, text_of};
+ghost use Rattle.octo_report.specs.Texts.{is_rest, report_text};
 
 use crate::page::Page;
 use crate::report::Report;
@@ -13,9 +13,9 @@ fn write_page<O: Sink>(out: &mut O, report: &Report) -> Result<(), Failed>
     requires { is_rest report.now ≡ false }
 
     // what is written
-    ensures ok { OnOk result (Adds (O.written out.old) (O.written out.new) (text_of report.now)) }
+    ensures ok { OnOk result (Adds (O.written out.old) (O.written out.new) (report_text report.now)) }
     ensures err { OnErr result
-        (AddsPrefix (O.written out.old) (O.written out.new) (text_of report.now)) }
+        (AddsPrefix (O.written out.old) (O.written out.new) (report_text report.now)) }
 
     // faults
     ensures counts { Counts (IsErr result) (O.faults out.old) (O.faults out.new) }
@@ -28,9 +28,9 @@ fn write_page<O: Sink>(out: &mut O, report: &Report) -> Result<(), Failed>
 /// Writes the text of a report without taking memory; after a failed call a prefix of it was written.
 pub fn write_report<O: Sink>(out: &mut O, report: &Report) -> Result<(), Failed>
     // what is written
-    ensures ok { OnOk result (Adds (O.written out.old) (O.written out.new) (text_of report.now)) }
+    ensures ok { OnOk result (Adds (O.written out.old) (O.written out.new) (report_text report.now)) }
     ensures err { OnErr result
-        (AddsPrefix (O.written out.old) (O.written out.new) (text_of report.now)) }
+        (AddsPrefix (O.written out.old) (O.written out.new) (report_text report.now)) }
 
     // faults
     ensures counts { Counts (IsErr result) (O.faults out.old) (O.faults out.new) }

@@ -1,5 +1,5 @@
 -- A list read item by item: what was read so far, and the items that are left.
-use Rattle.std.proofs.Common.{◌≡◌, ℕ, ◌+◌, List, [], ◌∷◌, ◌++◌, drop, Option, Some, None, Result, Ok, Err, refl, ap, ◌∙◌, sym, append_assoc, append-nil, suc, zero, arith}
+use Rattle.std.proofs.Common.{◌≡◌, ℕ, ◌+◌, List, [], ◌∷◌, ◌++◌, drop, Some, Result, Ok, Err, refl, ap, sym, append_assoc, append-nil, suc, zero, arith}
 use Rattle.std.specs.List.{slice_get}
 use Rattle.octo_settings.specs.Values.{and_then, each_from}
 use Rattle.octo_settings.specs.declared.fault.SettingsFault.{SettingsFault}

@@ -1,4 +1,5 @@
 pub mod Each
+pub mod Items
 pub mod Lines
 pub mod NameBytes
 pub mod ScriptsSound

@@ -1,5 +1,5 @@
 -- Groups and scripts read one after the other, and marks in a line.
-use Rattle.std.proofs.Common.{◌≡◌, ℕ, ◌+◌, ◌<◌, ◌≤◌, ◌==◌, Bool, true, false, ◌||◌, List, [], ◌∷◌, ◌++◌, length, drop, get_or, Option, Some, None, Result, Ok, Err, ◌⊎◌, inl, inr, refl, ap, subst, ◌∙◌, sym, arith, nat_eq, cond, codes, suc}
+use Rattle.std.proofs.Common.{◌≡◌, ℕ, ◌+◌, ◌<◌, ◌≤◌, ◌==◌, Bool, true, false, ◌||◌, List, [], ◌∷◌, ◌++◌, length, drop, Option, Result, Ok, Err, ◌⊎◌, inl, inr, refl, ap, subst, ◌∙◌, sym, arith, nat_eq, cond, codes, suc}
 use Rattle.std.proofs.lemmas.List.{drop_more, at_drop_more, drop_all, take_rest, length-append}
 use Rattle.std.proofs.lemmas.Bool.Decides.{nat_tests}
 use Rattle.std.specs.List.{starts_with}
@@ -97,13 +97,8 @@ contains-end mark bytes i past = ap (contains_text mark) (drop_all i bytes past)
 pub ruleset contains_steps = (contains-at, contains-end, take_rest)
 
 -- why a group isn't read, and what it is
-pub group-unnamed : (name : List ℕ) (value : Data) (groups : List GroupData) (fault : SettingsFault) (b : Bool) → is_new_name groups name ≡ b → cond b (Ok name) (Err (OutOfRange (codes "groups"))) ≡ Err fault → with_group name value groups ≡ Err fault
-group-unnamed name value groups fault true is h = absurd (cc)
-group-unnamed name value groups fault false is h = rw is (cc)
-
-pub group-named : (name found : List ℕ) (groups : List GroupData) (b : Bool) → is_new_name groups name ≡ b → ◌≡◌ {A = Result (List ℕ) SettingsFault} (cond b (Ok name) (Err (OutOfRange (codes "groups")))) (Ok found) → (is_new_name groups name ≡ true) × (found ≡ name)
-group-named name found groups true is h = (is, cc)
-group-named name found groups false is h = absurd (cc)
+pub group-unnamed : (name : List ℕ) (value : Data) (groups : List GroupData) (fault : SettingsFault) → is_new_name groups name ≡ false → fault ≡ OutOfRange (codes "groups") → with_group name value groups ≡ Err fault
+group-unnamed name value groups fault taken is = rw (taken, is) refl
 
 pub group-err : (name key : List ℕ) (value : Data) (groups : List GroupData) (fault : SettingsFault) → is_new_name groups name ≡ true → key ≡ group_key name → permissions_of key value ≡ Err fault → with_group name value groups ≡ Err fault
 group-err name key value groups fault new is h = rw (new, ← is, h) refl

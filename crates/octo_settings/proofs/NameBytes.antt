@@ -1,11 +1,10 @@
 -- Names are ASCII.
-use Rattle.std.proofs.Common.{◌≡◌, ℕ, ◌+◌, ◌<◌, ◌≤◌, suc, zero, Bool, true, false, List, [], ◌∷◌, ◌++◌, length, take, codes, refl, arith, min, ap}
+use Rattle.std.proofs.Common.{◌≡◌, ℕ, ◌<◌, suc, zero, true, List, [], ◌∷◌, ◌++◌, length, take, codes, refl, arith, min, ap}
 use Rattle.std.proofs.lemmas.Bool.{and_parts}
 use Rattle.std.proofs.lemmas.Bool.Decides.{nat_tests}
-use Rattle.std.specs.List.{list_all, slice_index}
+use Rattle.std.specs.List.{list_all}
 use Rattle.std.specs.Str.{IsAscii}
 use Rattle.octo_access.specs.Names.{is_name_byte}
-use Rattle.octo_settings.specs.Groups.{group_key}
 
 ascii-byte : (byte : ℕ) → is_name_byte byte ≡ true → byte < 128
 ascii-byte byte h = grind (arith, nat_tests)

@@ -8,7 +8,7 @@ use Rattle.desk_steps.specs.Data.{ScriptTexts, texts_at}
 use Rattle.desk_steps.specs.declared.state.Point.{Point}
 use Rattle.desk_steps.specs.declared.state.Point.TheVariants as point
 use Rattle.gcode_lines.specs.Single.{single_of}
-use Rattle.gcode_lines.specs.Text.{text_of, is_too_long, has_control}
+use Rattle.gcode_lines.specs.Text.{command_text, is_too_long, has_control}
 use Rattle.gcode_lines.specs.declared.fault.NotOne.{NotOne}
 use Rattle.gcode_lines.specs.declared.fault.NotOne.TheVariants.{LineEnd, Empty, HasM110, TooLong, ControlByte}
 use Rattle.gcode_lines.proofs.Sendable.{sendable_one}
@@ -18,7 +18,7 @@ use Rattle.temp_rules.specs.declared.limits.Limits.{Limits}
 use Rattle.temp_rules.specs.declared.limits.TooHot.{TooHot as HotFault}
 use Rattle.octo_settings.specs.Scripts.{script_name, script_key, is_template, cool, command_in, command_of, with_lines, with_texts, with_script, scripts_at, scripts_of, all_points}
 use Rattle.octo_settings.specs.Sound.{IsScriptLine, AreScripts}
-use Rattle.octo_settings.specs.Values.{and_then, section, texts_of}
+use Rattle.octo_settings.specs.Values.{and_then, section, text_values}
 use Rattle.octo_settings.specs.declared.fault.SettingsFault.{SettingsFault}
 use Rattle.octo_settings.specs.declared.fault.SettingsFault.TheVariants.{OutOfRange, Template}
 
@@ -30,22 +30,22 @@ made (Err fault) next y h = absurd (cc)
 
 -- the one command of a line may be sent
 one-sendable : (line text : List ℕ) (ends empty sets long control : Bool)
-    → has_byte 10 line ≡ ends → (length (text_of line) == 0) ≡ empty → has_m110 (text_of line) ≡ sets → is_too_long (text_of line) ≡ long →
-    has_control (text_of line) ≡ control
+    → has_byte 10 line ≡ ends → (length (command_text line) == 0) ≡ empty → has_m110 (command_text line) ≡ sets → is_too_long (command_text line) ≡ long →
+    has_control (command_text line) ≡ control
     → ◌≡◌ {A = Result (List ℕ) NotOne} (cond ends (Err LineEnd) (cond empty (Err Empty)
-    (cond sets (Err HasM110) (cond long (Err TooLong) (cond control (Err ControlByte) (Ok (text_of line))))))) (Ok text)
+    (cond sets (Err HasM110) (cond long (Err TooLong) (cond control (Err ControlByte) (Ok (command_text line))))))) (Ok text)
     → IsSendable text
 one-sendable line text true empty sets long control a b c d e h = absurd (cc)
 one-sendable line text false true sets long control a b c d e h = absurd (cc)
 one-sendable line text false false true long control a b c d e h = absurd (cc)
 one-sendable line text false false false true control a b c d e h = absurd (cc)
 one-sendable line text false false false false true a b c d e h = absurd (cc)
-one-sendable line text false false false false false a b c d e h = let same : text_of line ≡ text = cc in subst IsSendable same (sendable_one line b c d e)
+one-sendable line text false false false false false a b c d e h = let same : command_text line ≡ text = cc in subst IsSendable same (sendable_one line b c d e)
 
 single-sendable : (line text : List ℕ) → single_of line ≡ Ok text → IsSendable text
 unfolding single_of
 single-sendable line text h =
-    one-sendable line text (has_byte 10 line) (length (text_of line) == 0) (has_m110 (text_of line)) (is_too_long (text_of line)) (has_control (text_of line))
+    one-sendable line text (has_byte 10 line) (length (command_text line) == 0) (has_m110 (command_text line)) (is_too_long (command_text line)) (has_control (command_text line))
     refl refl refl refl refl h
 
 -- the command of a script's line is a line as scripts have them
@@ -195,7 +195,7 @@ script-sound : (limits : Limits) (p : Point) (value : Option Data) (s next : Scr
     AreSound limits next
 script-sound limits p None s next h sound = let same : s ≡ next = cc in subst (AreSound limits) same sound
 script-sound limits p (Some value) s next h sound =
-    let m = made (texts_of (script_key p) value) (λ lines. with_texts limits p lines s) next h in
+    let m = made (text_values (script_key p) value) (λ lines. with_texts limits p lines s) next h in
     texts-by limits p m.0 s next (nat_le (length (texts_at p s) + length m.0) 64) m.2 sound
 
 scripts-sound : (limits : Limits) (entries : Members) (points : List Point) (s next : ScriptTexts) → scripts_at limits entries points s ≡ Ok next →

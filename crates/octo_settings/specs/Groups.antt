@@ -5,7 +5,7 @@ use Rattle.octo_access.specs.Groups.{GroupData, most_groups, is_known}
 use Rattle.octo_access.specs.Names.{is_name}
 use Rattle.octo_access.specs.Permissions.{permission_named}
 use Rattle.octo_access.specs.declared.permission.Permission.{Permission}
-use Rattle.octo_settings.specs.Values.{and_then, each, in_range, section, texts_of, members_list}
+use Rattle.octo_settings.specs.Values.{and_then, each, in_range, section, text_values, members_list}
 use Rattle.octo_settings.specs.declared.fault.SettingsFault.{SettingsFault}
 use Rattle.octo_settings.specs.declared.fault.SettingsFault.TheVariants.{OutOfRange}
 
@@ -19,7 +19,7 @@ permission_of key text = in_range key (permission_named text)
 
 -- the permissions of a list of names
 abbrev pub permissions_of : List ℕ → Data → Result (List Permission) SettingsFault
-permissions_of key value = and_then (texts_of key value) (each (permission_of key))
+permissions_of key value = and_then (text_values key value) (each (permission_of key))
 
 -- whether a text may name one more group: it is a name, and there is no group of that name
 abbrev pub is_new_name : List GroupData → List ℕ → Bool

@@ -11,7 +11,7 @@ use Rattle.job_desk.specs.Scripts.{most_script_lines, no_scripts, with_text}
 use Rattle.temp_rules.specs.Hot.{hot_of}
 use Rattle.temp_rules.specs.declared.limits.Limits.{Limits}
 use Rattle.temp_rules.specs.declared.limits.TooHot.{TooHot as HotFault}
-use Rattle.octo_settings.specs.Values.{and_then, section, texts_of}
+use Rattle.octo_settings.specs.Values.{and_then, section, text_values}
 use Rattle.octo_settings.specs.declared.fault.SettingsFault.{SettingsFault}
 use Rattle.octo_settings.specs.declared.fault.SettingsFault.TheVariants.{OutOfRange, Template, TooHot}
 
@@ -66,7 +66,7 @@ with_texts limits p lines scripts =
 -- the scripts with one of the settings, if it isn't missing
 abbrev pub with_script : Limits → Point → Option Data → ScriptTexts → Result ScriptTexts SettingsFault
 with_script limits p None scripts = Ok scripts
-with_script limits p (Some value) scripts = and_then (texts_of (script_key p) value) (λ lines. with_texts limits p lines scripts)
+with_script limits p (Some value) scripts = and_then (text_values (script_key p) value) (λ lines. with_texts limits p lines scripts)
 
 -- the scripts of settings, one after the other
 abbrev pub scripts_at : Limits → Members → List Point → ScriptTexts → Result ScriptTexts SettingsFault

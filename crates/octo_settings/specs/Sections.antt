@@ -1,12 +1,12 @@
 -- The sections of settings: the printer, its limits, the admin, and how long serving is patient.
-use Rattle.std.specs.Prelude.{ℕ, Bool, ◌&&◌, nat_le, if◌then◌else◌, List, length, codes, Option, None, Some, Result, Ok, Err}
+use Rattle.std.specs.Prelude.{ℕ, ◌&&◌, nat_le, if◌then◌else◌, List, length, codes, Option, None, Some, Result, Ok, Err}
 use Rattle.toml.specs.Data.{Data, Members, get_member}
 use Rattle.hex.specs.Hex.{decode_sized}
 use Rattle.hex.specs.declared.error.FromHexError.{FromHexError}
 use Rattle.octo_access.specs.Names.{name_of}
 use Rattle.octo_access.specs.declared.row.Admin.{Admin}
 use Rattle.temp_rules.specs.declared.limits.Limits.{Limits}
-use Rattle.octo_settings.specs.Values.{and_then, each, in_range, section, whole, text_of, required_text, texts_of}
+use Rattle.octo_settings.specs.Values.{and_then, each, in_range, section, whole, text_value, required_text, text_values}
 use Rattle.octo_settings.specs.declared.fault.SettingsFault.{SettingsFault}
 use Rattle.octo_settings.specs.declared.fault.SettingsFault.TheVariants.{Missing, OutOfRange}
 use Rattle.octo_settings.specs.declared.sections.Printer.{Printer}
@@ -22,12 +22,12 @@ ports_in key texts = if nat_le 1 (length texts) && nat_le (length texts) 16 then
 -- the ports, which may not be missing
 abbrev pub ports_of : List ℕ → Option Data → Result (List (List ℕ)) SettingsFault
 ports_of key None = Err (Missing key)
-ports_of key (Some value) = and_then (texts_of key value) (ports_in key)
+ports_of key (Some value) = and_then (text_values key value) (ports_in key)
 
 -- a material's name, `any` if it is missing
 abbrev pub material_of : List ℕ → Option Data → Result (List ℕ) SettingsFault
 material_of key None = Ok (codes "any")
-material_of key (Some value) = and_then (text_of key value) (λ text. in_range key (name_of text))
+material_of key (Some value) = and_then (text_value key value) (λ text. in_range key (name_of text))
 
 -- the printer of a table
 abbrev pub printer_in : Members → Result Printer SettingsFault

@@ -1,5 +1,5 @@
 -- What a sender, a desk and a print may rely on, whichever settings were read.
-use Rattle.std.specs.Prelude.{◌≡◌, ℕ, ◌≤◌, List, Option, None, All}
+use Rattle.std.specs.Prelude.{◌≡◌, ℕ, ◌≤◌, List, None, All}
 use Rattle.byte_text.specs.Sendable.{IsSendable}
 use Rattle.desk_steps.specs.Data.{ScriptTexts, texts_at}
 use Rattle.desk_steps.specs.declared.state.Point.{Point}

@@ -1,6 +1,6 @@
 -- Values of a TOML document as settings have them: whole numbers in a range, texts, lists of texts.
-use Rattle.std.specs.Prelude.{◌≡◌, ℕ, ◌+◌, ℤ, pos, negsuc, Bool, ◌&&◌, nat_le, if◌then◌else◌, List, [], ◌∷◌, ◌⊎◌, Option, None, Some, Result, Ok, Err, MatchResult}
-use Rattle.toml.specs.Data.{Data, string, integer, float, boolean, datetime, array, table, Items, no_items, item, Members, no_members, member}
+use Rattle.std.specs.Prelude.{◌≡◌, ℕ, ◌+◌, pos, negsuc, ◌&&◌, nat_le, if◌then◌else◌, List, [], ◌∷◌, ◌⊎◌, Option, None, Some, Result, Ok, Err, MatchResult}
+use Rattle.toml.specs.Data.{Data, string, integer, array, table, Items, no_items, item, Members, no_members, member}
 use Rattle.octo_settings.specs.declared.fault.SettingsFault.{SettingsFault}
 use Rattle.octo_settings.specs.declared.fault.SettingsFault.TheVariants.{Missing, WrongKind, OutOfRange, NoMemory}
 
@@ -46,19 +46,19 @@ whole key least most default (Some (integer (negsuc n))) = Err (OutOfRange key)
 whole key least most default (Some _) = Err (WrongKind key)
 
 -- a value that has to be a text
-abbrev pub text_of : List ℕ → Data → Result (List ℕ) SettingsFault
-text_of key (string text) = Ok text
-text_of key _ = Err (WrongKind key)
+abbrev pub text_value : List ℕ → Data → Result (List ℕ) SettingsFault
+text_value key (string text) = Ok text
+text_value key _ = Err (WrongKind key)
 
 -- a text that may not be missing
 abbrev pub required_text : List ℕ → Option Data → Result (List ℕ) SettingsFault
 required_text key None = Err (Missing key)
-required_text key (Some value) = text_of key value
+required_text key (Some value) = text_value key value
 
 -- a value that has to be a list of texts
-abbrev pub texts_of : List ℕ → Data → Result (List (List ℕ)) SettingsFault
-texts_of key (array items) = each (text_of key) (items_list items)
-texts_of key _ = Err (WrongKind key)
+abbrev pub text_values : List ℕ → Data → Result (List (List ℕ)) SettingsFault
+text_values key (array items) = each (text_value key) (items_list items)
+text_values key _ = Err (WrongKind key)
 
 -- what a reading that yields a value or none yields, none being out of range
 abbrev pub in_range : {A : Type 0} → List ℕ → Option A → Result A SettingsFault

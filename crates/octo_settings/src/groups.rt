@@ -1,9 +1,9 @@
 //! The groups of settings.
-ghost use Rattle.std.specs.Prelude.{◌≡◌, ◌≤◌, ◌<◌, ◌⊎◌, [], length, true, codes, if◌then◌else◌, MatchResult, Ok, Err};
+ghost use Rattle.std.specs.Prelude.{◌≡◌, ◌≤◌, ◌<◌, ◌⊎◌, ◌∷◌, ◌++◌, [], length, true, false, codes, IfErr, OnOk, MatchResult, Ok, Err};
 ghost use Rattle.std.specs.List.{list_all};
 ghost use Rattle.byte_text.specs.declared.name.TheConstants.{MOST_NAME_BYTES};
 ghost use Rattle.toml.specs.View.{view, table_view};
-ghost use Rattle.octo_access.specs.Groups.{most_groups};
+ghost use Rattle.octo_access.specs.Groups.{is_known, most_groups};
 ghost use Rattle.octo_access.specs.Names.{is_name_byte};
 ghost use Rattle.octo_settings.specs.Groups.{group_key, permission_of, permissions_of, is_new_name, with_group, with_groups, groups_in, groups_of};
 ghost use Rattle.octo_settings.specs.Seen.{data_of_value};
@@ -79,14 +79,56 @@ fn read_permissions(
     read_permission_list(alloc, key, &texts)
 }
 
+/// A text as the name of one more group.
 fn new_name(groups: &Groups, name: &str) -> Result<Name, SettingsFault>
-    ensures { result ≡ (if is_new_name groups.now name.now then Ok name.now
-        else Err (OutOfRange (codes "groups"))) }
+    ensures { MatchResult result
+        (λ new. (is_new_name groups.now name.now ≡ true) × (new ≡ name.now))
+        (λ fault. (is_new_name groups.now name.now ≡ false)
+        × (fault ≡ OutOfRange (codes "groups"))) }
 {
     match read_name(name) {
         Some(name) if !groups.is_known(&name) => Ok(name),
         _ => Err(out_of_range("groups")),
     }
+}
+
+/// Adds a new group, which has a place.
+fn add_group(
+    groups: &mut Groups,
+    name: &Name,
+    permissions: &[Permission],
+) -> Result<(), SettingsFault>
+    requires room { length groups.old < most_groups }
+    requires new { is_known groups.old name.now ≡ false }
+    ensures ok { OnOk result
+        (groups.new ≡ groups.old
+        ++ record { name = name.now; permissions = permissions.now } ∷ []) }
+    ensures err { IfErr result (λ fault. fault ≡ NoMemory) }
+{
+    match groups.add(name, permissions) {
+        Ok(()) => Ok(()),
+        Err(GroupFault::NoMemory) => Err(SettingsFault::NoMemory),
+        Err(_) => unreachable!(),
+    }
+}
+
+/// Adds the group of a new name, which has a place.
+fn read_new_group(
+    alloc: Global,
+    name: &Name,
+    value: &Value,
+    groups: &mut Groups,
+) -> Result<(), SettingsFault>
+    requires room { length groups.old < most_groups }
+    requires new { is_new_name groups.old name.now ≡ true }
+    ensures { MatchResult result
+        (λ _. with_group name.now (view value.now) groups.old ≡ Ok groups.new)
+        (λ fault. (fault ≡ NoMemory)
+        ⊎ (with_group name.now (view value.now) groups.old ≡ Err fault)) }
+{
+    let key = group_key(name);
+    let permissions = read_permissions(alloc, key.as_str(), value)?;
+    add_group(groups, name, permissions.as_slice())
 }
 
 fn read_group(
@@ -102,13 +144,7 @@ fn read_group(
         ⊎ (with_group name.now (view value.now) groups.old ≡ Err fault)) }
 {
     let name = new_name(groups, name)?;
-    let key = group_key(&name);
-    let permissions = read_permissions(alloc, key.as_str(), value)?;
-    match groups.add(&name, permissions.as_slice()) {
-        Ok(()) => Ok(()),
-        Err(GroupFault::NoMemory) => Err(SettingsFault::NoMemory),
-        Err(_) => unreachable!(),
-    }
+    read_new_group(alloc, &name, value, groups)
 }
 
 fn read_group_list(alloc: Global, table: &Table) -> Result<Groups, SettingsFault>

@@ -5,6 +5,7 @@ ghost use Rattle.byte_text.specs.Sendable.{IsSendable};
 ghost use Rattle.byte_text.specs.declared.name.TheConstants.{MOST_NAME_BYTES};
 ghost use Rattle.desk_steps.specs.Data.{texts_at};
 ghost use Rattle.job_desk.specs.Scripts.{most_script_lines, no_scripts};
+ghost use Rattle.toml.specs.Data.{get_member};
 ghost use Rattle.octo_settings.specs.Scripts.{script_name, script_key, all_points, is_template, command_of, with_lines, with_texts, with_script, scripts_at, scripts_of};
 ghost use Rattle.octo_settings.specs.Seen.{members_or, data_of_value};
 ghost use Rattle.octo_settings.specs.Values.{Reads};
@@ -155,19 +156,22 @@ fn add_texts(
     add_lines(limits, point, lines, scripts)
 }
 
+/// Adds the script of a point to the scripts, if the table has one.
 fn read_script(
     alloc: Global,
     limits: &Limits,
+    table: Option<&Table>,
     point: Point,
-    value: Option<&Value>,
     scripts: &mut Scripts,
 ) -> Result<(), SettingsFault>
     ensures { MatchResult result
-        (λ _. with_script limits.now point (data_of_value value.entry) scripts.old ≡ Ok scripts.new)
+        (λ _. with_script limits.now point
+        (get_member (script_name point) (members_or table.entry)) scripts.old ≡ Ok scripts.new)
         (λ fault. (fault ≡ NoMemory)
-        ⊎ (with_script limits.now point (data_of_value value.entry) scripts.old ≡ Err fault)) }
+        ⊎ (with_script limits.now point
+        (get_member (script_name point) (members_or table.entry)) scripts.old ≡ Err fault)) }
 {
-    let Some(value) = value else {
+    let Some(value) = at(table, script_name(point)) else {
         return Ok(());
     };
     let lines = read_texts(alloc, script_key(point), value)?;
@@ -184,8 +188,7 @@ fn read_scripts_at(
 {
     let mut scripts = Scripts::new(alloc);
     for point in points {
-        let value = at(table, script_name(*point));
-        read_script(alloc, limits, *point, value, &mut scripts)?;
+        read_script(alloc, limits, table, *point, &mut scripts)?;
     }
     Ok(scripts)
 }

@@ -2,7 +2,7 @@
 ghost use Rattle.std.specs.Prelude.{◌≤◌, length};
 ghost use Rattle.byte_text.specs.declared.name.TheConstants.{MOST_NAME_BYTES};
 ghost use Rattle.toml.specs.View.{view, items_view};
-ghost use Rattle.octo_settings.specs.Values.{Reads, text_of, each, items_list, texts_of};
+ghost use Rattle.octo_settings.specs.Values.{Reads, text_value, each, items_list, text_values};
 
 use crate::fault::{SettingsFault, wrong_kind};
 use octo_outside::WordList;
@@ -12,7 +12,7 @@ use toml::Value;
 /// Copies of texts.
 fn copy_texts(alloc: Global, key: &str, items: &[Value]) -> Result<WordList, SettingsFault>
     requires { length key.now ≤ MOST_NAME_BYTES }
-    ensures { Reads result (each (text_of key.now) (items_list (items_view items.now))) }
+    ensures { Reads result (each (text_value key.now) (items_list (items_view items.now))) }
 {
     let mut texts = WordList::new(alloc);
     for item in items {
@@ -29,7 +29,7 @@ fn copy_texts(alloc: Global, key: &str, items: &[Value]) -> Result<WordList, Set
 /// A value as a list of texts.
 pub(crate) fn read_texts(alloc: Global, key: &str, value: &Value) -> Result<WordList, SettingsFault>
     requires { length key.now ≤ MOST_NAME_BYTES }
-    ensures { Reads result (texts_of key.now (view value.now)) }
+    ensures { Reads result (text_values key.now (view value.now)) }
 {
     let Value::Array(items) = value else {
         return Err(wrong_kind(key));

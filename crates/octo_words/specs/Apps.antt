@@ -1,7 +1,10 @@
 -- The literal command line of the host: its commands, their operands and their options.
 use Rattle.std.specs.Prelude.{List, [], ◌∷◌, fold, codes, true, Some}
+use Rattle.std.specs.Borrow.{Bor}
 use Rattle.clap.specs.Words.{App, Rule, Text, new_app, new_rule, with_rule, with_subcommand}
 use Rattle.clap.specs.declared.builder.action.ArgAction.TheVariants.{Set}
+use Rattle.octo_words.specs.declared.apps.Kind.{Kind}
+use Rattle.octo_words.specs.declared.apps.Kind.TheVariants.{Operand, Optional, Needed}
 
 -- an argument that has its place and must be given
 abbrev pub operand : Text → Rule
@@ -14,6 +17,16 @@ option id = record (new_rule id) { long = Some id; action = Some Set }
 -- an option `--id VALUE` that must be given
 abbrev pub needed_option : Text → Rule
 needed_option id = record (new_rule id) { long = Some id; required = true; action = Some Set }
+
+-- an argument that is given in this way
+abbrev pub rule_of_kind : Kind → Text → Rule
+rule_of_kind Operand id = operand id
+rule_of_kind Optional id = option id
+rule_of_kind Needed id = needed_option id
+
+-- a command with one more argument
+abbrev pub with_argument : App → Kind × Bor Text → App
+with_argument app argument = with_rule app (rule_of_kind argument.0 argument.1.now)
 
 -- a command of that name with those arguments
 abbrev pub command_app : Text → List Rule → App

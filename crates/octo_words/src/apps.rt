@@ -1,8 +1,8 @@
-//! The command line over `clap`: one function a command.
-ghost use Rattle.std.specs.Prelude.{◌≡◌, false, true, IfOk};
-ghost use Rattle.clap.specs.Words.{app_of, rule_of};
+//! The command line over `clap`: a table of arguments a command.
+ghost use Rattle.std.specs.Prelude.{◌≡◌, false, true, fold, IfOk};
+ghost use Rattle.clap.specs.Words.{App, app_of, new_app, rule_of, with_subcommand};
 ghost use Rattle.clap.specs.declared.builder.command.Command.TheViews.{out-Command};
-ghost use Rattle.octo_words.specs.Apps.{operand, option, needed_option, print_app, check_app, demo_app, measure_app, rest_app, serve_app, bare_app, printing_app, octo_app};
+ghost use Rattle.octo_words.specs.Apps.{operand, option, needed_option, rule_of_kind, with_argument, print_app, check_app, demo_app, measure_app, rest_app, serve_app, bare_app, printing_app, octo_app};
 
 use clap::{Arg, ArgAction, Command};
 use std::alloc::{AllocError, Global};
@@ -34,60 +34,115 @@ fn needed_option<'a>(alloc: Global, id: &'a str) -> Arg<'a>
         .action(ArgAction::Set)
 }
 
+/// How an argument is given.
+#[derive(Clone, Copy)]
+enum Kind {
+    /// At its place, always.
+    Operand,
+    /// As an option, which may be left out.
+    Optional,
+    /// As an option, always.
+    Needed,
+}
+
+fn argument<'a>(alloc: Global, kind: Kind, id: &'a str) -> Arg<'a>
+    ensures rule { rule_of result ≡ rule_of_kind kind id.entry.now }
+    ensures local { result.global ≡ false }
+{
+    match kind {
+        Kind::Operand => operand(alloc, id),
+        Kind::Optional => option(alloc, id),
+        Kind::Needed => needed_option(alloc, id),
+    }
+}
+
+// A command with these arguments, in their order.
+fn command<'a>(
+    alloc: Global,
+    name: &'a str,
+    arguments: &[(Kind, &'a str)],
+) -> Result<Command<'a>, AllocError>
+    ensures app { IfOk result (λ c.
+        app_of c ≡ fold with_argument (new_app name.entry.now) arguments.now) }
+    ensures local { IfOk result (λ c. (out-Command c).has_globals ≡ false) }
+{
+    let mut command = Command::new(alloc, name);
+    for (kind, id) in arguments {
+        command = command.arg(argument(alloc, *kind, id))?;
+    }
+    Ok(command)
+}
+
 fn print_app<'a>(alloc: Global) -> Result<Command<'a>, AllocError>
     ensures app { IfOk result (λ c. app_of c ≡ print_app) }
     ensures local { IfOk result (λ c. (out-Command c).has_globals ≡ false) }
 {
-    Command::new(alloc, "print")
-        .arg(operand(alloc, "port"))?
-        .arg(operand(alloc, "file"))?
-        .arg(option(alloc, "turns"))?
-        .arg(option(alloc, "settings"))
+    command(
+        alloc,
+        "print",
+        &[
+            (Kind::Operand, "port"),
+            (Kind::Operand, "file"),
+            (Kind::Optional, "turns"),
+            (Kind::Optional, "settings"),
+        ],
+    )
 }
 
 fn check_app<'a>(alloc: Global) -> Result<Command<'a>, AllocError>
     ensures app { IfOk result (λ c. app_of c ≡ check_app) }
     ensures local { IfOk result (λ c. (out-Command c).has_globals ≡ false) }
 {
-    Command::new(alloc, "check")
-        .arg(operand(alloc, "file"))?
-        .arg(option(alloc, "settings"))
+    command(
+        alloc,
+        "check",
+        &[(Kind::Operand, "file"), (Kind::Optional, "settings")],
+    )
 }
 
 fn demo_app<'a>(alloc: Global) -> Result<Command<'a>, AllocError>
     ensures app { IfOk result (λ c. app_of c ≡ demo_app) }
     ensures local { IfOk result (λ c. (out-Command c).has_globals ≡ false) }
 {
-    Command::new(alloc, "demo")
-        .arg(operand(alloc, "seed"))?
-        .arg(operand(alloc, "commands"))
+    command(
+        alloc,
+        "demo",
+        &[(Kind::Operand, "seed"), (Kind::Operand, "commands")],
+    )
 }
 
 fn measure_app<'a>(alloc: Global) -> Result<Command<'a>, AllocError>
     ensures app { IfOk result (λ c. app_of c ≡ measure_app) }
     ensures local { IfOk result (λ c. (out-Command c).has_globals ≡ false) }
 {
-    Command::new(alloc, "measure").arg(operand(alloc, "file"))
+    command(alloc, "measure", &[(Kind::Operand, "file")])
 }
 
 fn rest_app<'a>(alloc: Global) -> Result<Command<'a>, AllocError>
     ensures app { IfOk result (λ c. app_of c ≡ rest_app) }
     ensures local { IfOk result (λ c. (out-Command c).has_globals ≡ false) }
 {
-    Command::new(alloc, "rest")
-        .arg(operand(alloc, "file"))?
-        .arg(operand(alloc, "command"))
+    command(
+        alloc,
+        "rest",
+        &[(Kind::Operand, "file"), (Kind::Operand, "command")],
+    )
 }
 
 fn serve_app<'a>(alloc: Global) -> Result<Command<'a>, AllocError>
     ensures app { IfOk result (λ c. app_of c ≡ serve_app) }
     ensures local { IfOk result (λ c. (out-Command c).has_globals ≡ false) }
 {
-    Command::new(alloc, "serve")
-        .arg(operand(alloc, "address"))?
-        .arg(operand(alloc, "folder"))?
-        .arg(operand(alloc, "database"))?
-        .arg(needed_option(alloc, "settings"))
+    command(
+        alloc,
+        "serve",
+        &[
+            (Kind::Operand, "address"),
+            (Kind::Operand, "folder"),
+            (Kind::Operand, "database"),
+            (Kind::Needed, "settings"),
+        ],
+    )
 }
 
 // The program without its commands.
@@ -103,22 +158,33 @@ fn bare_app<'a>(alloc: Global) -> Command<'a>
         .subcommand_required(true)
 }
 
+// A program with one more command, unless memory ran out for either.
+fn with_command<'a>(
+    program: Result<Command<'a>, AllocError>,
+    command: Result<Command<'a>, AllocError>,
+) -> Result<Command<'a>, AllocError>
+    requires { IfOk command (λ c. (out-Command c).has_globals ≡ false) }
+    ensures { (before app : App) → IfOk program.entry (λ c. app_of c ≡ before)
+        → IfOk command.entry (λ c. app_of c ≡ app)
+        → IfOk result (λ c. app_of c ≡ with_subcommand before app.top) }
+{
+    program?.subcommand(command?)
+}
+
 // The program with the commands that print and check.
 fn printing_app<'a>(alloc: Global) -> Result<Command<'a>, AllocError>
     ensures { IfOk result (λ c. app_of c ≡ printing_app) }
 {
-    bare_app(alloc)
-        .subcommand(print_app(alloc)?)?
-        .subcommand(check_app(alloc)?)?
-        .subcommand(demo_app(alloc)?)
+    let program = with_command(Ok(bare_app(alloc)), print_app(alloc));
+    let program = with_command(program, check_app(alloc));
+    with_command(program, demo_app(alloc))
 }
 
 /// The program with all its commands.
 pub(crate) fn octo_app<'a>(alloc: Global) -> Result<Command<'a>, AllocError>
     ensures { IfOk result (λ c. app_of c ≡ octo_app) }
 {
-    printing_app(alloc)?
-        .subcommand(measure_app(alloc)?)?
-        .subcommand(rest_app(alloc)?)?
-        .subcommand(serve_app(alloc)?)
+    let program = with_command(printing_app(alloc), measure_app(alloc));
+    let program = with_command(program, rest_app(alloc));
+    with_command(program, serve_app(alloc))
 }

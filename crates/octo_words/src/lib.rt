@@ -9,6 +9,3 @@ mod read;
 
 pub use command::{Command, FilePath, WordsFault};
 pub use read::read_words;
-
-#[cfg(test)]
-mod tests;

@@ -26,7 +26,7 @@ pub record IsIssue (d e : Data) : Type 0 where
   pub limits : e.limits ≡ d.limits
   pub file : e.file ≡ d.file
   pub manual : e.manual ≡ d.manual
-  pub stands : standing e ≡ standing d
+  pub same_standing : standing e ≡ standing d
   pub poll_at : e.poll_at ≡ d.poll_at
   pub poll_ms : e.poll_ms ≡ d.poll_ms
   pub number : e.issued ≡ next_number d.issued
@@ -39,7 +39,7 @@ issue_script true d = record {
   limits = refl;
   file = refl;
   manual = refl;
-  stands = refl;
+  same_standing = refl;
   poll_at = refl;
   poll_ms = refl;
   number = refl;
@@ -50,7 +50,7 @@ issue_script false d = record {
   limits = refl;
   file = refl;
   manual = refl;
-  stands = refl;
+  same_standing = refl;
   poll_at = refl;
   poll_ms = refl;
   number = refl;
@@ -64,7 +64,7 @@ issue_tag (Job print index) d = record {
   limits = refl;
   file = refl;
   manual = refl;
-  stands = refl;
+  same_standing = refl;
   poll_at = refl;
   poll_ms = refl;
   number = refl;
@@ -75,7 +75,7 @@ issue_tag Manual d = record {
   limits = refl;
   file = refl;
   manual = refl;
-  stands = refl;
+  same_standing = refl;
   poll_at = refl;
   poll_ms = refl;
   number = refl;
@@ -86,18 +86,18 @@ issue_tag Poll d = record {
   limits = refl;
   file = refl;
   manual = refl;
-  stands = refl;
+  same_standing = refl;
   poll_at = refl;
   poll_ms = refl;
   number = refl;
   print = inl refl;
 }
 
-pub issue_stands : (line : Line) (d : Data) → standing (issue line d).1 ≡ standing d
-issue_stands line d = (issue_tag line.tag d).stands
+pub issue_same_standing : (line : Line) (d : Data) → standing (issue line d).1 ≡ standing d
+issue_same_standing line d = (issue_tag line.tag d).same_standing
 
 pub issue_state : (line : Line) (d : Data) → (issue line d).1.state ≡ d.state
-issue_state line d = ap (λ (s : Standing). s.state) (issue_tag line.tag d).stands
+issue_state line d = ap (λ (s : Standing). s.state) (issue_tag line.tag d).same_standing
 
 long : (issued : List (List ℕ)) (text : List ℕ) → length (issued ++ text ∷ []) ≡ length issued + 1
 long issued text = length-append issued (text ∷ [])
@@ -144,12 +144,12 @@ module _ (p : PrintData) where
         file_is = i.file ∙ file;
         no_manual = i.manual ∙ manual;
         lines = lines;
-        phase = subst (λ s. Phase p s lines) (sym i.stands) h;
+        phase = subst (λ s. Phase p s lines) (sym i.same_standing) h;
         sent = sent;
-        parted = ap (λ (s : Standing). sent ++ s.waiting) i.stands ∙ parted;
+        parted = ap (λ (s : Standing). sent ++ s.waiting) i.same_standing ∙ parted;
         woven = woven;
         counted = counts_on d (issue line d).1 issued line.text i counted;
-        acknowledged = λ off. absurd (online (sym (ap (λ (s : Standing). s.state) i.stands) ∙ off));
+        acknowledged = λ off. absurd (online (sym (ap (λ (s : Standing). s.state) i.same_standing) ∙ off));
       }
 
   scripts_first : (w : List Line) (d : Data) (next : Drawn) (issued : List (List ℕ)) → d.waiting ≡ w → (d.state ≡ Offline → ⊥)

@@ -22,7 +22,7 @@ use Rattle.print_course.specs.Progress.{after_pull}
 use Rattle.print_course.specs.Remaining.{remaining_at, remaining, is_giving, planned_tag, planned_in}
 use Rattle.print_course.proofs.Weaves.{get_below}
 use Rattle.print_course.proofs.Phases.{in_plan, finishing_of, connecting_of, impossible}
-use Rattle.print_course.proofs.Pulling.{issue_stands, file_commands, issued_all, draws}
+use Rattle.print_course.proofs.Pulling.{issue_same_standing, file_commands, issued_all, draws}
 use Rattle.print_course.proofs.Noting.{acked_more, ends, opens, hears, ready_from, nothing_sent, not_offline}
 
 -- The plan's lines aren't polls.
@@ -88,13 +88,13 @@ module _ (p : PrintData) where
   scripts_fall [] d issued next e gives h others = others e
   scripts_fall (line ∷ rest) d issued next e gives h others =
       let now : Data = record d { waiting = rest } in
-      let stands : remaining p (standing (issue line now).1) ≡ remaining p (standing now) = ap (remaining p) (issue_stands line now) in
+      let same_standing : remaining p (standing (issue line now).1) ≡ remaining p (standing now) = ap (remaining p) (issue_same_standing line now) in
       let one : planned_tag line.tag ≡ 1 = waiting_planned p d issued line rest h e in
       let less : remaining p (standing now) + 1 ≡ remaining_at p d.state d.greatest d.cursor (suc (length rest)) =
       one_less p d.state d.greatest d.cursor (length rest) gives in
       let same : remaining_at p d.state d.greatest d.cursor (suc (length rest)) ≡ remaining p (standing d) =
       ap (λ (w : List Line). remaining_at p d.state d.greatest d.cursor (length w)) (sym e) in
-      omega (arith, stands, one, less, same)
+      omega (arith, same_standing, one, less, same)
 
   manual_falls : (m : List (List ℕ)) (d : Data) (next : Drawn) → m ≡ [] → Falls p d next → Falls p d (from_manual m d next)
   manual_falls [] d next e h = h
@@ -104,9 +104,9 @@ module _ (p : PrintData) where
       → Falls p d (cond b (issue (record { text = codes "M105"; tag = Poll }) (record d { poll_at = at })) next)
   poll_falls false at d next h = h
   poll_falls true at d next h =
-      let stands : remaining p (standing (issue (record { text = codes "M105"; tag = Poll }) (record d { poll_at = at })).1) ≡ remaining p
-      (standing d) = ap (remaining p) (issue_stands (record { text = codes "M105"; tag = Poll }) (record d { poll_at = at })) in
-      omega (arith, stands)
+      let same_standing : remaining p (standing (issue (record { text = codes "M105"; tag = Poll }) (record d { poll_at = at })).1) ≡ remaining p
+      (standing d) = ap (remaining p) (issue_same_standing (record { text = codes "M105"; tag = Poll }) (record d { poll_at = at })) in
+      omega (arith, same_standing)
 
   none_falls : (d : Data) → Falls p d (nothing d)
   none_falls d = omega arith
@@ -126,15 +126,15 @@ module _ (p : PrintData) where
       ap (λ (l : List (List ℕ)). slice_get l d.cursor) (sym (file_commands p d h.file_is)) ∙ e in
       let below : d.cursor + 1 ≤ length (print_commands p) = get_below (print_commands p) d.cursor text there in
       let now : Data = record d { cursor = d.cursor + 1 } in
-      let stands : remaining p (standing (issue (job_line d.greatest d.cursor text) now).1) ≡ remaining p (standing now) =
-      ap (remaining p) (issue_stands (job_line d.greatest d.cursor text) now) in
+      let same_standing : remaining p (standing (issue (job_line d.greatest d.cursor text) now).1) ≡ remaining p (standing now) =
+      ap (remaining p) (issue_same_standing (job_line d.greatest d.cursor text) now) in
       let after : remaining p (standing now) ≡ length d.waiting +
       (length (print_commands p) - (d.cursor + 1)) + length p.scripts.done + length p.scripts.disconnect =
       ap (λ s. remaining_at p s d.greatest (d.cursor + 1) (length d.waiting)) at in
       let before : remaining p (standing d) ≡ length d.waiting +
       (length (print_commands p) - d.cursor) + length p.scripts.done + length p.scripts.disconnect =
       ap (λ s. remaining_at p s d.greatest d.cursor (length d.waiting)) at in
-      omega (arith, stands, after, before, below)
+      omega (arith, same_standing, after, before, below)
 
   draw_falls : (s : State) (moment : ℕ) (d : Data) (issued : List (List ℕ)) → d.state ≡ s → IsUnderway p d issued → Falls p d (draw_at s moment d)
   draw_falls Operational moment d issued at h = talk_falls moment d issued (nothing d) (ap is_giving at) h (λ none. none_falls d)

@@ -20,7 +20,7 @@ use Rattle.printer_model.specs.declared.event.WorldEvent.{WorldEvent}
 use Rattle.session_steps.specs.Data.{SessionData, IsSession, is_connecting, doing}
 use Rattle.session_steps.specs.DeskTurn.{Pulls, last_noted, IsNoted}
 use Rattle.session_steps.specs.Found.{Got, unasked, lost, nothing as silence, whole, can_find, may_issue}
-use Rattle.session_steps.specs.Turn.{fact_of, lines_of, IsTurn, IsDeskTurn, texts_in}
+use Rattle.session_steps.specs.Turn.{fact_of, note_lines, IsTurn, IsDeskTurn, texts_in}
 use Rattle.session_steps.specs.declared.found.Doing.{Doing}
 use Rattle.session_steps.specs.declared.found.Doing.TheVariants.{Dialling, HangingUp, UsingLink, Resting}
 use Rattle.session_steps.proofs.Desk.{noted_greatest}
@@ -288,10 +288,10 @@ module _ (p : PrintData) where
       (old new : SessionData) (turned : Turned) (issued : List (List ℕ)) → IsSession old → can_find (doing old) (fact_of turned.note) ≡ true
       → (fact_of turned.note ≡ fact.Opened) ⊎ (old.sender.acked ≤ new.sender.acked)
       → IsTurn moment kind old_past new_past old_calls new_calls old new turned → IsUnderway p old.desk issued
-      → IsTurnOf p (fact_of turned.note) (lines_of turned.note) issued old.desk turned.ending new.desk
+      → IsTurnOf p (fact_of turned.note) (note_lines turned.note) issued old.desk turned.ending new.desk
   turn-underway moment kind old_past new_past old_calls new_calls old new turned issued joined can not_fallen t h =
       let found : fact_of turned.note ≡ t.found = noted_fact turned.note moment old.sender.acked new.sender.acked t.lines t.got t.found t.none t.some in
-      let lines : lines_of turned.note ≡ t.lines = noted_lines turned.note moment old.sender.acked new.sender.acked t.lines t.got t.found t.none t.some in
+      let lines : note_lines turned.note ≡ t.lines = noted_lines turned.note moment old.sender.acked new.sender.acked t.lines t.got t.found t.none t.some in
       let may : can_find (doing old) t.found ≡ true = subst (λ f. can_find (doing old) f ≡ true) found can in
       let more : begins t.found ≡ false → old.desk.acked ≤ new.sender.acked = λ e.
       (elim not_fallen [
@@ -303,5 +303,5 @@ module _ (p : PrintData) where
       let s : Suits (first_fact t.found) new.sender.acked old.desk = suits (doing old) t.found old new.sender.acked refl may more in
       let so : IsTurnOf p t.found t.lines issued old.desk turned.ending new.desk =
       desk_turn (doing old) moment new.sender.acked t.found t.lines issued old.desk turned.ending new.desk may s more none t.desk h in
-      subst (λ f. IsTurnOf p f (lines_of turned.note) issued old.desk turned.ending new.desk) (sym found)
+      subst (λ f. IsTurnOf p f (note_lines turned.note) issued old.desk turned.ending new.desk) (sym found)
       (subst (λ l. IsTurnOf p t.found l issued old.desk turned.ending new.desk) (sym lines) so)

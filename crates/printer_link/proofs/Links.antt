@@ -111,11 +111,11 @@ send_past l mid new line fate mid_is new_is open_now short =
     (record {
       before = [];
       sent = Send line;
-      behind = harm_events fate (length (link_world l).up) line;
+      after = harm_events fate (length (link_world l).up) line;
       is = refl;
       line_is = refl;
       free_before = refl;
-      free_behind = harm_free fate (length (link_world l).up) line;
+      free_after = harm_free fate (length (link_world l).up) line;
       sends = can_send (link_world l) line open_now short;
     })
 
@@ -125,7 +125,7 @@ send_failed l mid late new mid_is late_is new_is open_now =
     grows_by l (Closed ∷ []) new.story.past IsSendLoss
     (ap (λ (n : MemoryLinkData). n.story.past) (new_is ∙ ap after_fault (late_is ∙ mid_is))
     ∙ ap (λ (es : List WorldEvent). l.story.past ++ es) (closing_open (link_world l) open_now))
-    (record { before = []; failing = []; behind = []; is = refl; may_send = tt; free_before = refl; free_behind = refl; linked = open_now })
+    (record { before = []; failing = []; after = []; is = refl; may_send = tt; free_before = refl; free_after = refl; linked = open_now })
 
 due_run_free : (due : Bool) (w : WorldData) → list_all is_free (due_run due w) ≡ true
 due_run_free false w = refl
@@ -176,14 +176,14 @@ heard_grows l new restarts due into was open_now =
     (record {
       before = before_reply restarts due (link_world l);
       reply = into;
-      rest = was.front.behind;
-      behind = [];
+      rest = was.front.rest;
+      after = [];
       is = refl;
       front = was.front.is;
       linked = before_linked restarts due (link_world l) open_now;
       whole = refl;
       free_before = before_free restarts due (link_world l);
-      free_behind = refl;
+      free_after = refl;
     })
 
 -- a line that was received
@@ -209,7 +209,7 @@ received_up l first mid new restarts due into Line first_is mid_is received open
     let was : LinkHeard restarts due into (asked l) new = from_asked l mid new restarts due into Line (asked_is l first mid first_is mid_is) received in
     ap (λ (n : MemoryLinkData). (link_world n).linked) was.is
     ∙ ap (λ (w : WorldData). w.linked) (grown_world l (before_reply restarts due (link_world l) ++ Recv ∷ []))
-    ∙ received_linked restarts due (link_world l) was.front.behind into was.front.is open_now
+    ∙ received_linked restarts due (link_world l) was.front.rest into was.front.is open_now
 received_up l first mid new restarts due into Nothing first_is mid_is received open_now =
     let was : LinkQuiet restarts due (asked l) new = from_asked l mid new restarts due into Nothing (asked_is l first mid first_is mid_is) received in
     ap (λ (n : MemoryLinkData). (link_world n).linked) was.is

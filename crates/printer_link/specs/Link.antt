@@ -64,11 +64,11 @@ IsSendOf bytes _ = ⊥
 pub record IsSend (line : List ℕ) (w : WorldData) (added : List WorldEvent) : Type 0 where
   pub before : List WorldEvent
   pub sent : WorldEvent
-  pub behind : List WorldEvent
-  pub is : added ≡ before ++ sent ∷ behind
+  pub after : List WorldEvent
+  pub is : added ≡ before ++ sent ∷ after
   pub line_is : IsSendOf line sent
   pub free_before : list_all is_free before ≡ true
-  pub free_behind : list_all is_free behind ≡ true
+  pub free_after : list_all is_free after ≡ true
   pub sends : can_happen (world_from w before) sent ≡ true
 
 -- a reply is received whole, and round it only what the line and the printer do
@@ -76,13 +76,13 @@ pub record IsHeard (into : List ℕ) (w : WorldData) (added : List WorldEvent) :
   pub before : List WorldEvent
   pub reply : List ℕ
   pub rest : List (List ℕ)
-  pub behind : List WorldEvent
-  pub is : added ≡ before ++ Recv ∷ behind
+  pub after : List WorldEvent
+  pub is : added ≡ before ++ Recv ∷ after
   pub front : (world_from w before).down ≡ reply ∷ rest
   pub linked : (world_from w before).linked ≡ true
   pub whole : into ≡ reply
   pub free_before : list_all is_free before ≡ true
-  pub free_behind : list_all is_free behind ≡ true
+  pub free_after : list_all is_free after ≡ true
 
 -- nothing could be received, after what the line and the printer do
 pub record IsSilence (w : WorldData) (added : List WorldEvent) : Type 0 where
@@ -111,12 +111,12 @@ MaySendFailing w _ = ⊥
 pub record IsSendLoss (w : WorldData) (added : List WorldEvent) : Type 0 where
   pub before : List WorldEvent
   pub failing : List WorldEvent
-  pub behind : List WorldEvent
-  pub is : added ≡ before ++ failing ++ behind ++ Closed ∷ []
+  pub after : List WorldEvent
+  pub is : added ≡ before ++ failing ++ after ++ Closed ∷ []
   pub may_send : MaySendFailing (world_from w before) failing
   pub free_before : list_all is_free before ≡ true
-  pub free_behind : list_all is_free behind ≡ true
-  pub linked : (world_from w (before ++ failing ++ behind)).linked ≡ true
+  pub free_after : list_all is_free after ≡ true
+  pub linked : (world_from w (before ++ failing ++ after)).linked ≡ true
 
 -- the link is closed if it was up, and nothing else
 abbrev pub IsHangUp : Bool → WorldData → List WorldEvent → Type 0
@@ -141,7 +141,7 @@ dial_events w last = replicate (length w.printer.queue) Run ++ Opened last ∷ [
 -- what arrives of a wire to the printer, in order, until the queue is full
 abbrev pub arrivals : WorldData → List (List ℕ) → List WorldEvent
 arrivals w [] = []
-arrivals w (line ∷ behind) = if is_full w.printer then [] else Arrive ∷ arrivals (happen w Arrive) behind
+arrivals w (line ∷ rest) = if is_full w.printer then [] else Arrive ∷ arrivals (happen w Arrive) rest
 
 -- one run, if it is due and something waits
 abbrev pub due_run : Bool → WorldData → List WorldEvent

@@ -57,15 +57,15 @@ judged last line =
     else if fails line then Err Mismatch
     else Ok (numbered_entry line)
 
--- the last number after an entry
-abbrev pub last_behind : ℕ → Option ℕ → ℕ
-last_behind last None = last
-last_behind last (Some number) = number
+-- an entry's line number, or the former last number if it has none
+abbrev pub number_or : ℕ → Option ℕ → ℕ
+number_or last None = last
+number_or last (Some number) = number
 
 -- a refusal changes nothing
 abbrev pub take_judged : PrinterData → Result Entry Reason → Taken × PrinterData
 take_judged p (Ok entry) =
-    (Accepted, record p { last = last_behind p.last entry.number; queue = p.queue ++ entry ∷ [] })
+    (Accepted, record p { last = number_or p.last entry.number; queue = p.queue ++ entry ∷ [] })
 take_judged p (Err reason) = (Refused reason p.last, p)
 
 -- the printer takes a line; a full one doesn't look at it
@@ -74,7 +74,7 @@ take_line p line = if is_full p then (Full, p) else take_judged p (judged p.last
 
 -- the last number after an entry was run: a text with M110 sets it again
 unfoldable pub last_after : ℕ → Entry → ℕ
-last_after last entry = if has_m110 entry.text then last_behind last entry.number else last
+last_after last entry = if has_m110 entry.text then number_or last entry.number else last
 
 -- the reply after an entry ran; the free buffer slots are counted while it still waits
 abbrev pub ran_line : PrinterData → Entry → RanLine
@@ -88,7 +88,7 @@ ran_line p entry =
 -- the front of a queue is run
 abbrev pub run_queue : PrinterData → List Entry → Option RanLine × PrinterData
 run_queue p [] = (None, p)
-run_queue p (entry ∷ behind) = (Some (ran_line p entry), record p { last = last_after p.last entry; queue = behind })
+run_queue p (entry ∷ rest) = (Some (ran_line p entry), record p { last = last_after p.last entry; queue = rest })
 
 -- the printer runs the front of its queue
 abbrev pub run_front : PrinterData → Option RanLine × PrinterData

@@ -105,12 +105,12 @@ can_happen w Closed = w.linked
 
 -- the printer took the front of the wire to it
 abbrev pub after_arrival : WorldData → List (List ℕ) → Taken × PrinterData → WorldData
-after_arrival w behind taken = record w { printer = taken.1; up = behind; down = w.down ++ taken_replies taken.0 }
+after_arrival w rest taken = record w { printer = taken.1; up = rest; down = w.down ++ taken_replies taken.0 }
 
 -- the front of the wire to the printer arrives
 abbrev pub arrive_front : WorldData → List (List ℕ) → WorldData
 arrive_front w [] = w
-arrive_front w (line ∷ behind) = after_arrival w behind (take_line w.printer line)
+arrive_front w (line ∷ rest) = after_arrival w rest (take_line w.printer line)
 
 -- a reply line on the wire from the printer, if a link is made
 abbrev pub down_with_reply : WorldData → List ℕ → List (List ℕ)
@@ -127,8 +127,8 @@ after_restart w = record w { printer = printer_after_restart w.printer; down = w
 
 -- a reply is at the front of the wire from the printer
 pub record IsFrontReply (reply : List ℕ) (down : List (List ℕ)) : Type 0 where
-  pub behind : List (List ℕ)
-  pub is : down ≡ reply ∷ behind
+  pub rest : List (List ℕ)
+  pub is : down ≡ reply ∷ rest
 
 -- what an event does if it can happen
 abbrev pub happen : WorldData → WorldEvent → WorldData

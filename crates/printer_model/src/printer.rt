@@ -5,7 +5,7 @@
 ghost use Rattle.std.specs.Prelude.{◌≡◌, ◌≤◌, ◌+◌, ◌-◌, List, [], ◌∷◌, length, Option, drop};
 ghost use Rattle.byte_text.specs.declared.texts.TheConstants.{MOST_LINE_BYTES};
 ghost use Rattle.printer_model.specs.Replies.{run_reply};
-ghost use Rattle.printer_model.specs.Printer.{is_full, judged, is_out_of_turn, last_behind, last_after, numbered_entry, plain_entry, printer_after_restart, run_front, take_line};
+ghost use Rattle.printer_model.specs.Printer.{is_full, judged, is_out_of_turn, number_or, last_after, numbered_entry, plain_entry, printer_after_restart, run_front, take_line};
 
 use crate::replies::run_reply;
 use arrayvec::ArrayVec;

@@ -14,7 +14,7 @@ use Rattle.send_window.specs.Data.{SenderData}
 use Rattle.session_steps.specs.Data.{SessionData, IsSession, doing, port_of}
 use Rattle.session_steps.specs.Found.{unasked, lost, is_got, may_have_issued, can_find, ready_after}
 use Rattle.session_steps.specs.Steps.{Step, after_steps, AreAllowed, AreAdded, Takes, turn_steps}
-use Rattle.session_steps.specs.Turn.{IsTurn, IsDeskTurn, fact_of, lines_of, texts_in}
+use Rattle.session_steps.specs.Turn.{IsTurn, IsDeskTurn, fact_of, note_lines, texts_in}
 use Rattle.session_steps.specs.declared.found.Doing.{Doing}
 use Rattle.session_steps.specs.declared.found.Doing.TheVariants.{Dialling, HangingUp, UsingLink}
 use Rattle.session_steps.specs.declared.found.Turned.{Turned}
@@ -120,7 +120,7 @@ module _ (moment at poll_ms : ℕ) (kind : LinkKind) (old_past new_past : Option
   pub course_of : (p : PrintData) (issued : List (List ℕ)) → IsUnderway p old.desk issued →
       IsTurnOf p h.turn.found h.turn.lines issued old.desk turned.ending mid.desk
   course_of p issued course =
-      let lines : lines_of turned.note ≡ h.turn.lines = noted_lines turned.note moment old.sender.acked mid.sender.acked h.turn.lines h.turn.got h.turn.found h.turn.none h.turn.some in
+      let lines : note_lines turned.note ≡ h.turn.lines = noted_lines turned.note moment old.sender.acked mid.sender.acked h.turn.lines h.turn.got h.turn.found h.turn.none h.turn.some in
       let F : LinkFact → Type 0 = λ f. IsTurnOf p f h.turn.lines issued old.desk turned.ending mid.desk in
       let L : List Line → Type 0 = λ l. IsTurnOf p (fact_of turned.note) l issued old.desk turned.ending mid.desk in
       subst F its_fact (subst L lines

@@ -76,9 +76,9 @@ sent_alone bytes w Closed of can = absurd of
 pub sent_promptly : (bytes : List ℕ) (w : WorldData) (added : List WorldEvent) → IsSend bytes w added →
     (sent : WorldEvent) → added ≡ sent ∷ [] → IsSendOf bytes sent → HasSent bytes w (world_from w added)
 sent_promptly bytes w added is sent only of =
-    let none : is.before ≡ [] = alone sent is.before is.sent is.behind (sym only ∙ is.is) in
+    let none : is.before ≡ [] = alone sent is.before is.sent is.after (sym only ∙ is.is) in
     let same : sent ≡ is.sent =
-    ap (λ (l : List WorldEvent). slice_index_or l 0 Closed) (sym only ∙ is.is ∙ ap (λ (l : List WorldEvent). l ++ is.sent ∷ is.behind) none)
+    ap (λ (l : List WorldEvent). slice_index_or l 0 Closed) (sym only ∙ is.is ∙ ap (λ (l : List WorldEvent). l ++ is.sent ∷ is.after) none)
     in
     let C : WorldEvent → Type 0 = λ e. can_happen w e ≡ true in
     let can : can_happen w sent ≡ true = subst C (sym same) (ap (λ (l : List WorldEvent). can_happen (world_from w l) is.sent) (sym none) ∙ is.sends) in

@@ -29,7 +29,7 @@ hello_idle moment s w i = tick_idle moment s i.running (ap (λ (d : Option ℕ).
 -- before the hello is sent nothing is received
 pub hello_unheard : (bytes : List ℕ) (s : SenderData) (w : WorldData) (first : List WorldEvent) → IsGreeting [] true s w → IsHeard bytes w first →
     first ≡ recv_events true w → ⊥
-hello_unheard bytes s w first i is prompt = never_empty is.before Recv is.behind (sym (prompt ∙ none_yet true s w i) ∙ is.is)
+hello_unheard bytes s w first i is prompt = never_empty is.before Recv is.after (sym (prompt ∙ none_yet true s w i) ∙ is.is)
 
 -- and the session doesn't end
 pub hello_goes_on : (moment : ℕ) (s : SenderData) (w : WorldData) → IsGreeting [] true s w → end_by nothing moment s ≡ None

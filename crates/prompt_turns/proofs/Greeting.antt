@@ -177,7 +177,7 @@ pub greeting_heard : (moment : ℕ) (bytes : List ℕ) (s : SenderData) (w : Wor
     IsHeard bytes w added → added ≡ recv_events true w → HasBegun moment bytes s (world_from w added)
 greeting_heard moment bytes s w added i is prompt =
     let h = greets s w i in
-    let first : h.first ≡ is.before = split_free h.first [] is.before is.behind h.free is.free_before (sym h.is ∙ sym prompt ∙ is.is) in
+    let first : h.first ≡ is.before = split_free h.first [] is.before is.after h.free is.free_before (sym h.is ∙ sym prompt ∙ is.is) in
     let same : h.reply ≡ is.reply = head_of h.reply is.reply [] is.rest (sym h.front ∙ ap (λ (es : List WorldEvent). (world_from w es).down) first ∙ is.front) in
     let R : List ℕ → Type 0 = λ b. IsRunReply b 0 in
     let heard : IsRunReply bytes 0 = subst R (same ∙ sym is.whole) h.heard in

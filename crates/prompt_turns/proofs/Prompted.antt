@@ -141,7 +141,7 @@ module _ (moment : ℕ) (texts : List (List ℕ)) (count : ℕ) (s : SenderData)
       }
 
   heard_none : (bytes : List ℕ) (first : List WorldEvent) → s.acked ≡ s.issued → IsHeard bytes w first → first ≡ recv_events true w → ⊥
-  heard_none bytes first none is prompt = never_empty is.before Recv is.behind (sym (prompt ∙ none_waits none) ∙ is.is)
+  heard_none bytes first none is prompt = never_empty is.before Recv is.after (sym (prompt ∙ none_waits none) ∙ is.is)
 
   counted_below : (s.acked < s.issued) ⊎ (s.acked ≡ s.issued)
   counted_below = by_held s.held refl

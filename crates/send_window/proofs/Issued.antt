@@ -8,7 +8,7 @@ use Rattle.send_window.specs.declared.session_end.SessionEnd.{SessionEnd}
 use Rattle.send_window.specs.Data.{SenderData, sender_after_dial}
 use Rattle.send_window.specs.Hearing.{tick_step, heard_reply, unless_ended}
 use Rattle.send_window.specs.Sending.{push_step}
-use Rattle.send_window.specs.Session.{Step, hears, ticks, issues, gives, after_step, after_steps, texts_of, HoldsIssued}
+use Rattle.send_window.specs.Session.{Step, hears, ticks, issues, gives, after_step, after_steps, texts_issued, HoldsIssued}
 
 reply_holds : (heard_line : Reply) (moment : ℕ) (s : SenderData) (texts : List (List ℕ)) → HoldsIssued texts s → HoldsIssued texts (heard_reply heard_line moment s)
 reply_holds heard_line moment s texts holds =
@@ -35,27 +35,27 @@ issues_hold text s texts holds = record {
 none_added : (s : SenderData) (texts : List (List ℕ)) → HoldsIssued texts s → HoldsIssued (texts ++ []) s
 none_added s texts holds = rw (append-nil texts) holds
 
-pub step_holds : (step : Step) (s : SenderData) (texts : List (List ℕ)) → HoldsIssued texts s → HoldsIssued (texts ++ texts_of (step ∷ [])) (after_step step s)
+pub step_holds : (step : Step) (s : SenderData) (texts : List (List ℕ)) → HoldsIssued texts s → HoldsIssued (texts ++ texts_issued (step ∷ [])) (after_step step s)
 step_holds (hears heard_line moment) s texts holds =
     none_added _ texts (unless_ended_holds s.ended (heard_reply heard_line moment s) s texts (reply_holds heard_line moment s texts holds) holds)
 step_holds (ticks moment) s texts holds = none_added _ texts (ticks_hold moment s texts holds)
 step_holds (issues text) s texts holds = issues_hold text s texts holds
 step_holds (gives moment) s texts holds = none_added _ texts (gives_hold moment s texts holds)
 
-texts_first : (step : Step) (steps : List Step) → texts_of (step ∷ steps) ≡ texts_of (step ∷ []) ++ texts_of steps
+texts_first : (step : Step) (steps : List Step) → texts_issued (step ∷ steps) ≡ texts_issued (step ∷ []) ++ texts_issued steps
 texts_first (hears heard_line moment) steps = refl
 texts_first (ticks moment) steps = refl
 texts_first (issues text) steps = refl
 texts_first (gives moment) steps = refl
 
 -- more steps add what they issue
-pub steps_hold : (steps : List Step) (s : SenderData) (texts : List (List ℕ)) → HoldsIssued texts s → HoldsIssued (texts ++ texts_of steps) (after_steps steps s)
+pub steps_hold : (steps : List Step) (s : SenderData) (texts : List (List ℕ)) → HoldsIssued texts s → HoldsIssued (texts ++ texts_issued steps) (after_steps steps s)
 steps_hold [] s texts holds = none_added s texts holds
 steps_hold (step ∷ steps) s texts holds =
     let P : List (List ℕ) → Type 0 = λ all. HoldsIssued all (after_steps steps (after_step step s)) in
-    let one_by_one : (texts ++ texts_of (step ∷ [])) ++ texts_of steps ≡ texts ++ texts_of (step ∷ steps) =
-    append_assoc texts (texts_of (step ∷ [])) (texts_of steps) ∙ sym (ap (λ (more : List (List ℕ)). texts ++ more) (texts_first step steps)) in
-    subst P one_by_one (steps_hold steps (after_step step s) (texts ++ texts_of (step ∷ [])) (step_holds step s texts holds))
+    let one_by_one : (texts ++ texts_issued (step ∷ [])) ++ texts_issued steps ≡ texts ++ texts_issued (step ∷ steps) =
+    append_assoc texts (texts_issued (step ∷ [])) (texts_issued steps) ∙ sym (ap (λ (more : List (List ℕ)). texts ++ more) (texts_first step steps)) in
+    subst P one_by_one (steps_hold steps (after_step step s) (texts ++ texts_issued (step ∷ [])) (step_holds step s texts holds))
 
-pub session_holds : (steps : List Step) (s : SenderData) → HoldsIssued (texts_of steps) (after_steps steps (sender_after_dial s))
+pub session_holds : (steps : List Step) (s : SenderData) → HoldsIssued (texts_issued steps) (after_steps steps (sender_after_dial s))
 session_holds steps s = steps_hold steps (sender_after_dial s) [] (record { count = refl; rest = refl; acked_issued = omega arith })

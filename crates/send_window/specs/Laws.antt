@@ -9,7 +9,7 @@ use Rattle.marlin_frame.specs.Numbering.{wire_number}
 use Rattle.send_window.specs.Data.{SenderData, IsSound, new_sender, sender_after_dial, most_lines}
 use Rattle.send_window.specs.Hearing.{later, hear_step, tick_step, is_past}
 use Rattle.send_window.specs.Sending.{hello, line, next_of, room_of, push_step, frame_step, IsFramable}
-use Rattle.send_window.specs.Session.{Step, hears, ticks, issues, gives, after_step, after_steps, IsAllowed, AreAllowed, replies_of, texts_of, HoldsIssued, IsSince, WaitsSince}
+use Rattle.send_window.specs.Session.{Step, hears, ticks, issues, gives, after_step, after_steps, IsAllowed, AreAllowed, replies_of, texts_issued, HoldsIssued, IsSince, WaitsSince}
 use Rattle.send_window.specs.Counting.{is_ok, is_resend, is_pending, own_oks, acked_of, AreAwaited, IsInTurn, AreInTurn, traffic_of, IsSilent, IsQuiet, OwesLine}
 
 -- a new sender is sound, a session begins so, and no step breaks it
@@ -23,8 +23,8 @@ StaysSound =
 abbrev pub HoldsLines : Type 0
 HoldsLines =
     ((step : Step) (s : SenderData) (texts : List (List ℕ)) →
-    HoldsIssued texts s → HoldsIssued (texts ++ texts_of (step ∷ [])) (after_step step s))
-    × ((steps : List Step) (s : SenderData) → HoldsIssued (texts_of steps) (after_steps steps (sender_after_dial s)))
+    HoldsIssued texts s → HoldsIssued (texts ++ texts_issued (step ∷ [])) (after_step step s))
+    × ((steps : List Step) (s : SenderData) → HoldsIssued (texts_issued steps) (after_steps steps (sender_after_dial s)))
 
 -- a line to be sent is an issued one above acked, at its own place, and the session is ready
 pub record IsUnacknowledged (texts : List (List ℕ)) (s : SenderData) (place : ℕ) (text : List ℕ) : Type 0 where

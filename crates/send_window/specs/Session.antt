@@ -45,12 +45,12 @@ replies_of (issues text ∷ steps) = replies_of steps
 replies_of (gives moment ∷ steps) = replies_of steps
 
 -- the texts that were issued in these steps
-abbrev pub texts_of : List Step → List (List ℕ)
-texts_of [] = []
-texts_of (hears heard_line moment ∷ steps) = texts_of steps
-texts_of (ticks moment ∷ steps) = texts_of steps
-texts_of (issues text ∷ steps) = text ∷ texts_of steps
-texts_of (gives moment ∷ steps) = texts_of steps
+abbrev pub texts_issued : List Step → List (List ℕ)
+texts_issued [] = []
+texts_issued (hears heard_line moment ∷ steps) = texts_issued steps
+texts_issued (ticks moment ∷ steps) = texts_issued steps
+texts_issued (issues text ∷ steps) = text ∷ texts_issued steps
+texts_issued (gives moment ∷ steps) = texts_issued steps
 
 -- the sender holds the issued lines above acked
 pub record HoldsIssued (texts : List (List ℕ)) (s : SenderData) : Type 0 where

@@ -16,7 +16,7 @@ use Rattle.session_steps.specs.Data.{SessionData, IsSession, doing, port_of}
 use Rattle.session_steps.specs.DeskTurn.{IsNoted}
 use Rattle.session_steps.specs.Found.{is_got, may_have_issued, can_find, up_after, ready_after}
 use Rattle.session_steps.specs.Steps.{after_steps, turn_steps}
-use Rattle.session_steps.specs.Turn.{IsTurn, IsDeskTurn, fact_of, lines_of, texts_in}
+use Rattle.session_steps.specs.Turn.{IsTurn, IsDeskTurn, fact_of, note_lines, texts_in}
 use Rattle.session_steps.specs.declared.found.Doing.{Doing}
 use Rattle.session_steps.specs.declared.found.Doing.TheVariants.{Dialling, HangingUp, UsingLink, Resting}
 use Rattle.session_steps.specs.declared.found.Turned.{Turned}
@@ -89,12 +89,12 @@ module _ (moment : ℕ) (kind : LinkKind) (old_past new_past : Option (List Worl
 
   -- the course of the turn
   course : (issued : List (List ℕ)) → IsUnderway p old.desk issued →
-      IsTurnOf p (fact_of turned.note) (lines_of turned.note) issued old.desk turned.ending mid.desk
+      IsTurnOf p (fact_of turned.note) (note_lines turned.note) issued old.desk turned.ending mid.desk
   course issued h0 = turn-underway p moment kind old_past new_past old_calls new_calls old mid turned issued h.kept.before h.kept.finds h.not_fallen h.turn h0
 
   underway : (issued : List (List ℕ)) → IsUnderway p old.desk issued → IsUnderway p mid.desk (issued_in h.turn.found texts issued)
   underway issued h0 =
-      let F : LinkFact → Type 0 = λ f. IsUnderway p mid.desk (issued_in f (texts_in (lines_of turned.note)) issued) in
+      let F : LinkFact → Type 0 = λ f. IsUnderway p mid.desk (issued_in f (texts_in (note_lines turned.note)) issued) in
       let L : List Line → Type 0 = λ l. IsUnderway p mid.desk (issued_in h.turn.found (texts_in l) issued) in
       subst L (noted_lines turned.note moment old.sender.acked mid.sender.acked h.turn.lines h.turn.got h.turn.found h.turn.none h.turn.some)
       (subst F its_fact (course issued h0).underway)

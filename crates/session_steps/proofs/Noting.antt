@@ -19,7 +19,7 @@ use Rattle.session_steps.specs.Data.{SessionData, IsSession, doing}
 use Rattle.session_steps.specs.DeskTurn.{IsNoted, IsQuietTurn, IsTurnEnding}
 use Rattle.session_steps.specs.Found.{Got, unasked, lost, nothing, whole, can_find, temps_in, ready_after}
 use Rattle.session_steps.specs.Steps.{after_steps, issuing, sends, issues_then_sends, clock_steps, dial_steps, steps_over_link, turn_steps}
-use Rattle.session_steps.specs.Turn.{IsDeskTurn, IsNoteOf, IsNoteOn, IsTurn, IsUneventful, fact_of, lines_of, texts_in}
+use Rattle.session_steps.specs.Turn.{IsDeskTurn, IsNoteOf, IsNoteOn, IsTurn, IsUneventful, fact_of, note_lines, texts_in}
 use Rattle.session_steps.specs.declared.found.Doing.{Doing}
 use Rattle.session_steps.specs.declared.found.Doing.TheVariants.{Dialling, HangingUp, UsingLink, Resting}
 use Rattle.session_steps.specs.declared.found.Turned.{Turned}
@@ -36,7 +36,7 @@ noted_fact (Some note) moment before acked lines got found none some = some.its_
 
 pub noted_lines : (note : Option Note) (moment before acked : ℕ) (lines : List Line) (got : Got) (found : LinkFact) →
     (note ≡ None) ↔ IsUneventful lines before acked got found → IfSome note (λ n. IsNoteOf moment acked lines got found n) →
-    lines_of note ≡ lines
+    note_lines note ≡ lines
 noted_lines None moment before acked lines got found none some = sym (none.0 refl).no_line
 noted_lines (Some note) moment before acked lines got found none some = some.its_lines
 

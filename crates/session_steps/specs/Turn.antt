@@ -27,9 +27,9 @@ fact_of None = fact.Quiet
 fact_of (Some note) = note.fact
 
 -- the lines that a turn issued: none if it made no note
-abbrev pub lines_of : Option Note → List Line
-lines_of None = []
-lines_of (Some note) = map line_of note.issued.items
+abbrev pub note_lines : Option Note → List Line
+note_lines None = []
+note_lines (Some note) = map line_of note.issued.items
 
 -- whether no call of the link failed
 abbrev pub is_unbroken : LinkFact → Bool
@@ -120,7 +120,7 @@ pub record IsTurnByNote (moment : ℕ) (kind : LinkKind) (old new : SessionData)
   pub ready : (fact_of turned.note ≡ fact.Ready) ↔ ((old.sender.ready ≡ false) × (new.sender.ready ≡ true))
   pub ready_is : new.sender.ready ≡ ready_after (fact_of turned.note) old.sender.ready
   -- in the turn in which the hello is acknowledged nothing is issued; a quiet turn leaves nothing to issue or send
-  pub silent : fact_of turned.note ≡ fact.Ready → lines_of turned.note ≡ []
+  pub silent : fact_of turned.note ≡ fact.Ready → note_lines turned.note ≡ []
   pub sent : fact_of turned.note ≡ fact.Ready → next_of new.sender ≡ None
   pub spent : new.up ≡ true → fact_of turned.note ≡ fact.Quiet → IsSpent moment new.desk new.sender
   -- the count of acknowledged lines falls only if a link is made, to 0

@@ -2,7 +2,7 @@
 ghost use Rattle.std.specs.Prelude.{◌≡◌, ◌↔◌, ℕ, List, [], map, None, IfSome};
 ghost use Rattle.desk_steps.specs.Issued.{line_of};
 ghost use Rattle.session_steps.specs.Found.{got_of, is_whole, temps_kept};
-ghost use Rattle.session_steps.specs.Turn.{fact_of, lines_of, IsKeptIn, IsStill};
+ghost use Rattle.session_steps.specs.Turn.{fact_of, note_lines, IsKeptIn, IsStill};
 
 use arrayvec::ArrayVec;
 use desk_steps::{Ending, Issued, LinkFact, Note};
@@ -90,7 +90,7 @@ pub fn turned_of(found: Found, moment: u64, before: u32, acked: u32) -> Turned
     ensures none { (result.note ≡ None) ↔ IsStill found before acked }
     ensures some { IfSome result.note (λ note. IsKeptIn found moment acked note) }
     ensures fact { fact_of result.note ≡ found.fact }
-    ensures lines { lines_of result.note ≡ map line_of found.issued.items }
+    ensures lines { note_lines result.note ≡ map line_of found.issued.items }
     ensures ending { result.ending ≡ found.ending }
     ensures heard { (bytes : List ℕ) → result.heard ≡ is_whole (got_of found.received bytes) }
 {

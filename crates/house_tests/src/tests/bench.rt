@@ -2,7 +2,7 @@
 use super::seen::{Seen, seen_of};
 use byte_text::Name;
 use desk_steps::State;
-use host_makers::{ANA, house_of, keeper_of, link_at, shelf_of, three_users};
+use host_makers::{ANA, house_of, keeper_of, kept_outcome, link_at, shelf_of, three_users};
 use octo_asks::{Ask, Request};
 use octo_house::House;
 use octo_keeper::{KeeperFault, MemoryKeeper, MemoryShelf};
@@ -144,9 +144,6 @@ impl Bench {
 
     /// The outcome of a kept record.
     pub(super) fn kept_outcome(&self, place: usize) -> Option<Outcome> {
-        match self.keeper.tables() {
-            Some(tables) => Some(tables.prints.as_slice().get(place)?.outcome),
-            None => None,
-        }
+        kept_outcome(&self.keeper, place)
     }
 }

@@ -1,5 +1,5 @@
 //! How asks are answered.
-ghost use Rattle.std.specs.Prelude.{◌≡◌, ◌↔◌, ◌≤◌, List, Option, true, false};
+ghost use Rattle.std.specs.Prelude.{◌≡◌, ◌↔◌, ◌≤◌, List, Option, true, false, MatchResult};
 ghost use Rattle.octo_access.specs.declared.permission.Permission.{Permission};
 ghost use Rattle.octo_asks.specs.declared.answer.Answer.TheVariants as answer;
 ghost use Rattle.octo_keeper.specs.declared.shelf.ShelfFile.{ShelfFile};
@@ -10,6 +10,7 @@ ghost use Rattle.house_verdicts.specs.Answers.{verdict, request_verdict, lacking
 ghost use Rattle.house_verdicts.specs.Rows.{put_entry_verdict};
 ghost use Rattle.house_verdicts.specs.Verdict.{gives};
 ghost use Rattle.octo_house.specs.Answered.{Answers, AnswersOn, Shelves, IsUntouched, AskDone, KeeperDone};
+ghost use Rattle.octo_house.specs.Asking.{IsPermitted, IsTurnedAway};
 ghost use Rattle.octo_house.specs.Groups.{is_edit, is_row, is_reading};
 ghost use Rattle.octo_house.specs.State.{known_of};
 
@@ -47,19 +48,31 @@ impl House {
         ensures rest { AskDone K.tables K.faults S.files S.faults
             keeper.old keeper.new shelf.old shelf.new result self.old self.new }
     {
+        match self.permitted(&ask) {
+            Ok(user) => self.answer(keeper, shelf, &user, &ask.request),
+            Err(answer) => answer,
+        }
+    }
+
+    // The user who asks and may. Else the answer: nothing is needed, the key is nobody's, or a permission is lacking.
+    fn permitted(&self, ask: &Ask) -> Result<UserRow, Answer>
+        ensures { MatchResult result
+            (λ user. IsPermitted ask.now (known_of self.now) user)
+            (λ answer. IsTurnedAway ask.now (known_of self.now) answer) }
+    {
         let permissions = needed(&ask.request);
         if permissions.as_slice().is_empty() {
-            return Answer::Accepted;
+            return Err(Answer::Accepted);
         }
         let Some(user) = self.tables.caller(&self.policy, ask.key.as_slice()) else {
-            return Answer::Denied { permission: None };
+            return Err(Answer::Denied { permission: None });
         };
-        if let Some(permission) = self.lacking(&user, permissions.as_slice()) {
-            return Answer::Denied {
+        match self.lacking(&user, permissions.as_slice()) {
+            Some(permission) => Err(Answer::Denied {
                 permission: Some(permission),
-            };
+            }),
+            None => Ok(user),
         }
-        self.answer(keeper, shelf, &user, &ask.request)
     }
 
     // The first of the permissions that a user lacks.

@@ -1,13 +1,14 @@
 //! A host begins.
-ghost use Rattle.std.specs.Prelude.{◌≡◌, ℕ, false, length, Some, IfOk, IsErrOf};
+ghost use Rattle.std.specs.Prelude.{◌≡◌, ℕ, false, length, Some, IfOk, IfSome, IsErrOf};
 ghost use Rattle.octo_outside.specs.Recorded.{Counts};
 ghost use Rattle.desk_steps.specs.Data.{new_desk};
 ghost use Rattle.octo_keeper.specs.declared.tables.Tables.{Tables};
 ghost use Rattle.send_window.specs.Data.{new_sender};
-ghost use Rattle.octo_house.specs.Beginning.{IsMadeOf, BeginsOn};
+ghost use Rattle.octo_house.specs.Beginning.{IsMadeOf, BeginsOn, IsLoaded};
 ghost use Rattle.octo_access.specs.Rows.{IsUserTable};
 ghost use Rattle.print_queue.specs.Lawful.{IsLawful};
 ghost use Rattle.house_tables.specs.Kept.{IsKept};
+ghost use Rattle.house_verdicts.specs.Known.{names_of};
 ghost use Rattle.octo_house.specs.State.{IsListed};
 ghost use Rattle.octo_house.specs.declared.faults.BeginFault.TheVariants as fault;
 
@@ -63,31 +64,77 @@ impl House {
         ensures shelf { Counts (IsErrOf result fault.ShelfFailed)
             (S.faults shelf.old) (S.faults shelf.new) }
     {
-        let tables = match keeper.load(alloc) {
-            Ok(tables) => tables,
-            Err(fault) => return Err(of_keeper(fault)),
-        };
-        let files = match shelf.list(alloc) {
-            Ok(files) => files,
-            Err(fault) => return Err(of_shelf(fault)),
-        };
-        let Ok(names) = names_in(alloc, files.as_slice()) else {
-            return Err(BeginFault::NoMemory);
-        };
-        Ok(House {
-            desk: HostDesk {
-                alloc,
-                session,
-                ports,
-                temps: Temps {
-                    tool: None,
-                    bed: None,
+        match read_kept(alloc, keeper, shelf) {
+            Ok((tables, names)) => Ok(House {
+                desk: HostDesk {
+                    alloc,
+                    session,
+                    ports,
+                    temps: Temps {
+                        tool: None,
+                        bed: None,
+                    },
                 },
-            },
-            policy,
-            material,
-            tables: HostTables::new(alloc, tables),
-            names,
-        })
+                policy,
+                material,
+                tables,
+                names,
+            }),
+            Err(fault) => Err(fault),
+        }
     }
+}
+
+// The tables of a new host, by what the keeper keeps.
+fn load_tables<K: Keeper>(alloc: Global, keeper: &mut K) -> Result<HostTables, BeginFault>
+    ensures read { IfOk result (IsLoaded (K.tables keeper.old)) }
+    ensures tables { K.tables keeper.new ≡ K.tables keeper.old }
+    ensures keeper { Counts (IsErrOf result fault.KeeperFailed)
+        (K.faults keeper.old) (K.faults keeper.new) }
+    ensures other { IsErrOf result fault.ShelfFailed → ⊥ }
+{
+    match keeper.load(alloc) {
+        Ok(tables) => Ok(HostTables::new(alloc, tables)),
+        Err(fault) => Err(of_keeper(fault)),
+    }
+}
+
+// The names of the files that the shelf holds.
+fn list_names<S: Shelf>(alloc: Global, shelf: &mut S) -> Result<Vec<Name>, BeginFault>
+    ensures names { IfOk result (λ names.
+        IfSome (S.files shelf.old) (λ held. names.items ≡ names_of held)) }
+    ensures files { S.files shelf.new ≡ S.files shelf.old }
+    ensures shelf { Counts (IsErrOf result fault.ShelfFailed)
+        (S.faults shelf.old) (S.faults shelf.new) }
+    ensures other { IsErrOf result fault.KeeperFailed → ⊥ }
+{
+    let files = match shelf.list(alloc) {
+        Ok(files) => files,
+        Err(fault) => return Err(of_shelf(fault)),
+    };
+    match names_in(alloc, files.as_slice()) {
+        Ok(names) => Ok(names),
+        Err(_) => Err(BeginFault::NoMemory),
+    }
+}
+
+// The tables of a new host and the names of its files, by what keeper and shelf hold.
+fn read_kept<K: Keeper, S: Shelf>(
+    alloc: Global,
+    keeper: &mut K,
+    shelf: &mut S,
+) -> Result<(HostTables, Vec<Name>), BeginFault>
+    ensures read { IfOk result (λ read. IsLoaded (K.tables keeper.old) read.0) }
+    ensures names { IfOk result (λ read.
+        IfSome (S.files shelf.old) (λ held. read.1.items ≡ names_of held)) }
+    ensures tables { K.tables keeper.new ≡ K.tables keeper.old }
+    ensures files { S.files shelf.new ≡ S.files shelf.old }
+    ensures keeper { Counts (IsErrOf result fault.KeeperFailed)
+        (K.faults keeper.old) (K.faults keeper.new) }
+    ensures shelf { Counts (IsErrOf result fault.ShelfFailed)
+        (S.faults shelf.old) (S.faults shelf.new) }
+{
+    let tables = load_tables(alloc, keeper)?;
+    let names = list_names(alloc, shelf)?;
+    Ok((tables, names))
 }

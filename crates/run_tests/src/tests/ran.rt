@@ -3,7 +3,7 @@ ghost use Rattle.std.specs.Prelude.{◌≡◌};
 ghost use Rattle.octo_asks.specs.Memory.{new_counter};
 
 use super::seen::{Seen, SeenEntry, entry_of};
-use host_makers::{house_of, keeper_of, link_at, no_rows, shelf_of};
+use host_makers::{house_of, keeper_of, kept_outcome, link_at, no_rows, shelf_of};
 use house_run::run;
 use octo_asks::{AskList, Entry, MemoryCounter};
 use octo_house::House;
@@ -100,10 +100,7 @@ impl Ran {
 
     /// The outcome of a kept record.
     pub(super) fn kept_outcome(&self, place: usize) -> Option<Outcome> {
-        match self.keeper.tables() {
-            Some(tables) => Some(tables.prints.as_slice().get(place)?.outcome),
-            None => None,
-        }
+        kept_outcome(&self.keeper, place)
     }
 
     pub(super) fn unwritten(&self) -> Option<(u32, KeeperFault)> {

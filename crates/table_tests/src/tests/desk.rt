@@ -49,18 +49,28 @@ fn is_accepted(answer: Answer) -> bool {
     matches!(answer, Answer::Accepted)
 }
 
-// A desk that is connected, takes a line and heats.
+/// A desk that is connected.
+fn ready_desk(rt: &impl Abort, alloc: Global) -> HostDesk {
+    let mut desk = desk(rt, alloc);
+    let mut link = link_at(alloc, "p", FateList::new(alloc)).expect(rt, "no memory");
+    assert!(rt; is_accepted(desk.connect(&None)));
+    make_ready(rt, &mut desk, &mut link);
+    desk
+}
+
+// A desk that is connected, without a file.
 #[test]
 fn ample_desk(rt: HostRuntime) {
-    let mut desk = desk(&rt, rt.alloc());
-    let mut link = link_at(rt.alloc(), "p", FateList::new(rt.alloc())).expect(&rt, "no memory");
-    assert!(rt; is_accepted(desk.connect(&None)));
-    make_ready(&rt, &mut desk, &mut link);
+    let desk = ready_desk(&rt, rt.alloc());
     assert!(rt; connection_of(&desk) == Some((1, State::Operational)));
-    assert!(rt;
-        is_accepted(desk.lines(&[Blob::from_slice(rt.alloc(), b"M105").expect(&rt, "no memory")]))
-    );
-    assert!(rt; is_accepted(desk.heat_tool(200)));
-    assert!(rt; is_accepted(desk.heat_bed(60)));
     assert!(rt; matches!(desk.job(), Answer::Job { file: None, .. }));
+}
+
+// A desk that is connected takes a line and heats.
+#[test]
+fn ample_commands(rt: HostRuntime) {
+    let lines = [Blob::from_slice(rt.alloc(), b"M105").expect(&rt, "no memory")];
+    let mut desk = ready_desk(&rt, rt.alloc());
+    assert!(rt; is_accepted(desk.lines(&lines)));
+    assert!(rt; is_accepted(desk.heat_tool(200)) && is_accepted(desk.heat_bed(60)));
 }

@@ -25,6 +25,14 @@ fn begin_with(names: &[Name], count: usize, first: &str) -> bool {
     }
 }
 
+/// Whether the names' copy begins with the same.
+fn is_copied(alloc: Global, names: &[Name]) -> bool {
+    match copy_names(alloc, names) {
+        Ok(copy) => begin_with(copy.as_slice(), 2, "a.gcode"),
+        Err(_) => false,
+    }
+}
+
 // Names of files, in their order.
 #[test]
 fn ample_names(rt: HostRuntime) {
@@ -37,10 +45,7 @@ fn ample_names(rt: HostRuntime) {
     };
     grow_names(&rt, &mut names, "a.gcode");
     assert!(rt; begin_with(&names, 2, "a.gcode"));
-    match copy_names(rt.alloc(), &names) {
-        Ok(copy) => assert!(rt; begin_with(copy.as_slice(), 2, "a.gcode")),
-        Err(_) => panic!(rt; "no memory"),
-    }
+    assert!(rt; is_copied(rt.alloc(), &names));
 }
 
 /// The size of the only file that is shown.
@@ -67,7 +72,7 @@ fn outcome_shown(alloc: Global, rows: &[PrintRow]) -> Option<Outcome> {
     Some(list.as_slice().first()?.outcome)
 }
 
-// A file, a user, an entry and a print as they are shown.
+// A file, a user and an entry as they are shown.
 #[test]
 fn ample_shown(rt: HostRuntime) {
     assert!(rt;
@@ -78,6 +83,11 @@ fn ample_shown(rt: HostRuntime) {
     );
     assert!(rt; active_shown(&rt, rt.alloc()) == Some(true));
     assert!(rt; copies_shown(&rt, rt.alloc()) == Some(3));
+}
+
+// A print that was added to an empty list, as it is shown.
+#[test]
+fn ample_shown_print(rt: HostRuntime) {
     let mut rows = Vec::new(rt.alloc());
     assert!(rt; reserve_print(&mut rows).is_ok());
     add_print(&mut rows, print(&rt));

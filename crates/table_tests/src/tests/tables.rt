@@ -3,6 +3,7 @@ ghost use Rattle.std.specs.Prelude.{◌≡◌, None};
 
 use super::makers::{entry, keeper};
 use byte_text::Name;
+use host_makers::kept_outcome;
 use house_tables::HostTables;
 use octo_access::{Groups, Policy};
 use octo_asks::Answer;
@@ -122,14 +123,6 @@ fn begins<K: Keeper>(rt: &impl Abort, tables: &mut HostTables, keeper: &mut K) -
     tables.begin_print(keeper, None, row, None).is_ok()
 }
 
-/// The outcome of the first record that is kept.
-fn kept_outcome(keeper: &MemoryKeeper) -> Option<Outcome> {
-    match keeper.tables() {
-        Some(tables) => Some(tables.prints.as_slice().first()?.outcome),
-        None => None,
-    }
-}
-
 // A print begins and ends.
 #[test]
 fn ample_prints(rt: HostRuntime) {
@@ -143,5 +136,5 @@ fn ample_prints(rt: HostRuntime) {
         outcome: Outcome::Done,
     };
     tables.note_end(&mut keeper, Some(ending));
-    assert!(rt; kept_outcome(&keeper) == Some(Outcome::Done));
+    assert!(rt; kept_outcome(&keeper, 0) == Some(Outcome::Done));
 }

@@ -1,10 +1,10 @@
 use Rattle.std.proofs.Common.{◌≡◌, ◌-◌, ◌++◌}
 use Rattle.demo_print.specs.Draws.{draws, number_after}
-use Rattle.demo_print.specs.File.{lines_of}
+use Rattle.demo_print.specs.File.{draw_lines}
 use Rattle.demo_print.proofs.file.append_lines.Given as goal
 
 abbrev pub invariant-loop : goal.invariant-loop
 invariant-loop l = record {
-  lines : l.initial.file ++ lines_of (draws l.initial.numbers l.commands) ≡ l.file ++ lines_of (draws l.numbers (l.commands - l.counter));
+  lines : l.initial.file ++ draw_lines (draws l.initial.numbers l.commands) ≡ l.file ++ draw_lines (draws l.numbers (l.commands - l.counter));
   number : number_after l.initial.numbers l.commands ≡ number_after l.numbers (l.commands - l.counter);
 }

@@ -26,7 +26,7 @@ returns c =
       ended = λ why ended. (said.ended why ended).caused;
       same_kind = said.kind;
       down = said.down;
-      listed = λ is none. absurd (true≢false (sym (ap kind.listed c.name.ensures ∙ is) ∙ (said.no_port.0 none).unlisted));
+      listed = λ is none. absurd (true≢false (sym (ap kind.listed c.of_short.ensures ∙ is) ∙ (said.no_port.0 none).unlisted));
       cool = subst (λ limits. IsTooHot (first_hot_of limits c.args.job.commands) end) (ap (λ (d : Data). d.limits) made) said.too_hot;
       used = λ turns is. (said.used turns is).0;
     }

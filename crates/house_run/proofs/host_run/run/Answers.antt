@@ -4,7 +4,7 @@ use Rattle.octo_outside.specs.Recorded.{Became}
 use Rattle.octo_house.specs.State.{session_of}
 use Rattle.house_walks.proofs.Walking.{walks_then}
 use Rattle.house_run.specs.declared.tally.Tally.{Tally}
-use Rattle.house_run.specs.Runs.{stands, begins, RunIsOver}
+use Rattle.house_run.specs.Runs.{stands_with, begins, RunIsOver}
 use Rattle.house_run.specs.Tallies.{tally_of}
 use Rattle.house_counts.proofs.Counting.{none_counted}
 use Rattle.house_counts.proofs.Hearing.{temps_none}
@@ -98,7 +98,7 @@ returns-then-is_over-clause-history g c =
     let start = g.S.Shelf.files c.args.shelf.now in
     let held = g.S.Shelf.files c.answer_next-asked.new.shelf in
     let moment = c.max-moment.result in
-    walks_then first after last start held held (begins c.args.house.now) (stands c.take_turn-heard.new.house moment) (RunIsOver c.take_turn-heard.new.house)
+    walks_then first after last start held held (begins c.args.house.now) (stands_with c.take_turn-heard.new.house moment) (RunIsOver c.take_turn-heard.new.house)
     (walks_round first before mid after start (g.S.Shelf.files c.loop.shelf) held c.args.house.now c.loop.house c.answer_next-asked.new.house
     c.take_turn-heard.new.house c.loop.moment moment (omega (arith, c.max-moment.ensures)) c.loop.invariant.leads c.answer_next-asked.ensures.leads
     (c.take_turn-heard.ensures.leads held moment (omega arith)))
@@ -168,7 +168,7 @@ returns-then-is_over-clause-link_use g c =
     let a = c.answer_next-asked.ensures in
     let t = c.take_turn-heard.ensures in
     uses_end kind.listed (g.L.Link.calls c.args.link.now) (g.L.Link.calls c.take_turn-heard.new.link) (g.L.Link.calls c.hang_up.new.self) c.hang_up.ensures.calls
-    first after (g.C.Counter.past c.close.new.self) start held (begins c.args.house.now) (stands c.take_turn-heard.new.house moment)
+    first after (g.C.Counter.past c.close.new.self) start held (begins c.args.house.now) (stands_with c.take_turn-heard.new.house moment)
     (walks_round first before mid after start (g.S.Shelf.files c.loop.shelf) held c.args.house.now c.loop.house c.answer_next-asked.new.house
     c.take_turn-heard.new.house c.loop.moment moment (omega (arith, c.max-moment.ensures)) i.leads a.leads (t.leads held moment (omega arith)))
     (uses_round kind (g.L.Link.kind c.loop.link) i.kind c.args.house.now c.loop.house c.answer_next-asked.new.house c.loop.moment moment

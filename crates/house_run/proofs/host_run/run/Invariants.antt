@@ -9,7 +9,7 @@ use Rattle.house_line.specs.InStep.{InStep}
 use Rattle.house_tables.specs.Kept.{KeepsRows}
 use Rattle.house_walks.specs.Walks.{Walks}
 use Rattle.octo_house.specs.State.{IsListed, session_of, tables_of}
-use Rattle.house_run.specs.Runs.{stands, begins}
+use Rattle.house_run.specs.Runs.{stands_with, begins}
 use Rattle.house_run.specs.Tallies.{tally_of}
 use Rattle.house_run.proofs.host_run.run.Given as goal
 
@@ -17,7 +17,7 @@ use Rattle.house_run.proofs.host_run.run.Given as goal
 abbrev pub invariant-loop : goal.invariant-loop
 invariant-loop g l = record {
   leads : Walks (g.C.Counter.past l.initial.counter) (g.C.Counter.past l.counter) (g.S.Shelf.files l.initial.shelf) (g.S.Shelf.files l.shelf)
-      (begins l.initial.house) (stands l.house l.moment);
+      (begins l.initial.house) (stands_with l.house l.moment);
   counted : Became (g.C.Counter.past l.initial.counter) (g.C.Counter.past l.counter) (λ _ added. tally_of added ≡ l.tally);
   kept : KeepsRows (g.K.Keeper.tables l.initial.keeper) (g.K.Keeper.tables l.keeper) (tables_of l.initial.house) (tables_of l.house);
   faults : Became (g.C.Counter.past l.initial.counter) (g.C.Counter.past l.counter) (λ _ added. AreCounted (g.K.Keeper.faults l.initial.keeper) (g.K.Keeper.faults l.keeper)

@@ -1,4 +1,4 @@
-use Rattle.std.proofs.Common.{◌≡◌, ◌≤◌, ◌<◌, length, refl, arith, inr, sym, ◌∙◌, nat_le, true, false}
+use Rattle.std.proofs.Common.{◌≡◌, length, refl, arith, inr, sym, ◌∙◌, nat_le, true, false}
 use Rattle.std.proofs.lemmas.Bool.Decides.{nat_tests}
 use Rattle.toml.specs.View.{table_view}
 use Rattle.octo_access.specs.Groups.{most_groups}

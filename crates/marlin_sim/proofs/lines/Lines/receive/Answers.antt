@@ -8,7 +8,7 @@ loop-piece-preserved c more =
     let plan = c.args.plan.now in
     let old = c.loop-piece.self in
     let piece = c.in-Some.piece.now in
-    let behind = c.in-Some.behind.now in
+    let behind = c.in-Some.after.now in
     let whole : (c.loop-piece.rest.now ++ more) ≡ piece ++ 10 ∷ (behind ++ more) = ap (λ (l : List ℕ). l ++ more) c.in-Some.ensures.0 ∙ append_assoc piece (10 ∷ behind) more in
     ap (λ (l : LinesData). to_come plan l (behind ++ more)) c.in_ok-end_line.ensures
     ∙ ended_comes plan old piece (behind ++ more) c.requires c.in-Some.ensures.1

@@ -1,8 +1,0 @@
-use Rattle.std.proofs.Common.{◌≡◌, map, take}
-use Rattle.serde_json.specs.View.{view}
-use Rattle.serde_json.specs.Data.{string}
-use Rattle.api_replies.proofs.lists.text_list.Given as goal
-
--- the values so far are those of the first items
-abbrev pub invariant-loop-text : goal.invariant-loop-text
-invariant-loop-text l = map view l.list.items ≡ map string (take l.text-index l.texts)

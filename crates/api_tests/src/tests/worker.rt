@@ -1,0 +1,300 @@
+//! A worker at a door in memory, whose asks are answered by a list of answers.
+ghost use Rattle.std.specs.Prelude.{None, All, IfOk};
+ghost use Rattle.octo_asks.specs.Place.{no_place};
+ghost use Rattle.octo_doors.specs.Memory.{IsUntouched};
+
+use super::conn_of;
+use api_routes::Routes;
+use api_worker::{serve_conn, worker};
+use octo_asks::{Answer, Ask, Asker, Closed, Request};
+use octo_doors::{ConnList, MemoryDoor};
+use octo_outside::{CallList, MemoryConn, calls_of};
+use std::alloc::{AllocError, Global};
+use std::process::Abort;
+use std::sync::Wait;
+use std::test::Fail;
+
+// An asker whose host ends after a number of asks; it counts those that were answered, and those with which a worker left.
+#[derive(Drop)]
+struct Host {
+    open_for: u32,
+    answered: u32,
+    left: u32,
+    saw_close: bool,
+}
+
+impl Host {
+    fn open_for(asks: u32) -> Host {
+        Host {
+            open_for: asks,
+            answered: 0,
+            left: 0,
+            saw_close: false,
+        }
+    }
+}
+
+// What the host answers to a request.
+fn answer_to(request: &Request) -> Answer {
+    match request {
+        Request::Version => Answer::Version,
+        Request::PutFile { name, .. } => Answer::Uploaded {
+            name: name.copy(),
+            select: false,
+            print: false,
+        },
+        Request::Leave => Answer::Accepted,
+        _ => Answer::NoFile,
+    }
+}
+
+// How many leaves a request is: one or none.
+fn leaves(request: &Request) -> u32 {
+    match request {
+        Request::Leave => 1,
+        _ => 0,
+    }
+}
+
+impl Asker for Host {
+    ghost place = { λ _. no_place };
+
+    ghost mine = { λ _. None };
+
+    ghost saw_close = { λ h. h.saw_close };
+
+    fn ask(&mut self, ask: Ask) -> Result<Answer, Closed> {
+        if self.open_for == 0 {
+            self.saw_close = true;
+            return Err(Closed);
+        }
+        self.open_for -= 1;
+        self.answered = self.answered.wrapping_add(1);
+        self.left = self.left.wrapping_add(leaves(&ask.request));
+        Ok(answer_to(&ask.request))
+    }
+
+    fn closed(&mut self) -> bool {
+        self.saw_close
+    }
+}
+
+const VERSION: &[u8] = b"GET /api/version HTTP/1.1\r\nHost: a\r\n\r\n";
+
+const VERSION_REPLY: &[u8] = b"HTTP/1.1 200 OK\r\nConnection: close\r\nContent-Length: 63\r\n\
+Content-Type: application/json\r\n\r\n\
+{\"api\":\"0.1\",\"server\":\"profile-1\",\"text\":\"OctoPrint profile-1\"}";
+
+// An upload that waits for leave to send its body.
+const UPLOAD: &[u8] = b"POST /api/files/local HTTP/1.1\r\nExpect: 100-continue\r\n\
+Content-Type: multipart/form-data; boundary=XY\r\nContent-Length: 142\r\n\r\n\
+--XY\r\nContent-Disposition: form-data; name=\"file\"; filename=\"a.gcode\"\r\n\
+Content-Type: application/octet-stream\r\n\r\nG28 ; --XY\r\nG1 X10\n\r\n--XY--\r\n";
+
+// The leave, and the reply.
+const UPLOAD_REPLY: &[u8] = b"HTTP/1.1 100 Continue\r\n\r\n\
+HTTP/1.1 201 Created\r\nConnection: close\r\nContent-Length: 131\r\n\
+Content-Type: application/json\r\n\r\n\
+{\"done\":true,\"effectivePrint\":false,\"effectiveSelect\":false,\"files\":{\"local\":\
+{\"name\":\"a.gcode\",\"origin\":\"local\",\"path\":\"a.gcode\"}}}";
+
+// A door that never fails, at which these connections arrive.
+fn door_of(alloc: Global, conns: ConnList) -> MemoryDoor
+    requires { All IsUntouched conns }
+{
+    MemoryDoor::new(alloc, conns, CallList::new(alloc), CallList::new(alloc))
+}
+
+// One more connection with this input.
+fn with_conn(alloc: Global, conns: ConnList, input: &[u8]) -> Result<ConnList, AllocError>
+    requires { All IsUntouched conns }
+    ensures { IfOk result (λ all. All IsUntouched all) }
+{
+    let mut conns = conns;
+    conns.push(conn_of(alloc, input)?)?;
+    Ok(conns)
+}
+
+// The statuses of the replies at a door, in order; none for a connection without one.
+fn statuses(alloc: Global, door: &MemoryDoor) -> Result<Vec<u8>, AllocError> {
+    let mut texts = Vec::new(alloc);
+    for conn in door.served().unwrap_or(&[]) {
+        let written = conn.written().unwrap_or(b"");
+        texts.extend_from_slice(written.get(9..12).unwrap_or(b"-"))?;
+        texts.push(b' ')?;
+    }
+    Ok(texts)
+}
+
+// Whether the door of a worker with this host held, and the statuses of the replies at it.
+fn left_by(
+    rt: &(impl Wait + Abort),
+    alloc: Global,
+    door: MemoryDoor,
+    host: &mut Host,
+) -> Result<(bool, Vec<u8>), AllocError> {
+    let mut door = door;
+    let holds = worker(rt, alloc, &mut door, host, 3);
+    Ok((holds, statuses(alloc, &door)?))
+}
+
+// A worker with this host says whether its door held. It leaves replies of these statuses, a number of answered asks, and the
+// number that it left with.
+fn works(
+    rt: &(impl Wait + Abort),
+    alloc: Global,
+    door: MemoryDoor,
+    host: Host,
+    wanted: (bool, &[u8], (u32, u32)),
+) -> Result<(), Fail> {
+    let mut host = host;
+    let (holds, replies) = left_by(rt, alloc, door, &mut host)?;
+    let asks = (host.answered, host.left);
+    assert_eq!(rt; (holds, replies.as_slice(), asks), wanted);
+    Ok(())
+}
+
+// A request, an unknown path, no request, a peer that goes away after the target of its message, and a request.
+fn five_conns(alloc: Global) -> Result<ConnList, AllocError>
+    ensures { IfOk result (λ all. All IsUntouched all) }
+{
+    let conns = with_conn(alloc, ConnList::new(alloc), VERSION)?;
+    let conns = with_conn(alloc, conns, b"GET /api/nothing HTTP/1.1\r\n\r\n")?;
+    let conns = with_conn(alloc, conns, b"what is this\r\n\r\n")?;
+    let conns = with_conn(alloc, conns, b"GET /api/version HT")?;
+    with_conn(alloc, conns, VERSION)
+}
+
+// A peer that goes away after the target of its message gets no reply.
+#[test]
+fn replies_and_leaves(rt: HostRuntime) -> Result<(), Fail> {
+    let alloc = rt.alloc();
+    let quiet_at = calls_of(alloc, &[2])?;
+    let door = MemoryDoor::new(alloc, five_conns(alloc)?, quiet_at, CallList::new(alloc));
+    let wanted = (true, b"200 404 400 - 200 ".as_slice(), (3, 1));
+    works(&rt, alloc, door, Host::open_for(10), wanted)
+}
+
+// Once the host has ended, the connection at hand is answered so, and no other one is accepted.
+#[test]
+fn a_host_that_ends(rt: HostRuntime) -> Result<(), Fail> {
+    let alloc = rt.alloc();
+    let conns = with_conn(alloc, ConnList::new(alloc), VERSION)?;
+    let conns = with_conn(alloc, conns, VERSION)?;
+    let conns = with_conn(alloc, conns, VERSION)?;
+    let door = door_of(alloc, conns);
+    let wanted = (true, b"200 503 ".as_slice(), (1, 0));
+    works(&rt, alloc, door, Host::open_for(1), wanted)
+}
+
+// The second accept fails: the worker leaves, and says that its door failed.
+#[test]
+fn a_door_that_fails(rt: HostRuntime) -> Result<(), Fail> {
+    let alloc = rt.alloc();
+    let fail_at = calls_of(alloc, &[2])?;
+    let conns = with_conn(alloc, ConnList::new(alloc), VERSION)?;
+    let conns = with_conn(alloc, conns, VERSION)?;
+    let door = MemoryDoor::new(alloc, conns, CallList::new(alloc), fail_at);
+    let wanted = (false, b"200 ".as_slice(), (2, 1));
+    works(&rt, alloc, door, Host::open_for(10), wanted)
+}
+
+// A connection with this input; of its calls, these find nothing and these fail.
+fn faulty_conn(
+    alloc: Global,
+    input: &[u8],
+    quiet: &[u64],
+    failing: &[u64],
+) -> Result<ConnList, AllocError>
+    ensures { IfOk result (λ all. All IsUntouched all) }
+{
+    let quiet_at = calls_of(alloc, quiet)?;
+    let conn = MemoryConn::new(alloc, input, quiet_at, calls_of(alloc, failing)?)?;
+    let mut conns = ConnList::new(alloc);
+    conns.push(conn)?;
+    Ok(conns)
+}
+
+// A peer that sends half a message and then nothing is answered that it is too slow.
+#[test]
+fn a_slow_peer(rt: HostRuntime) -> Result<(), Fail> {
+    let alloc = rt.alloc();
+    let conns = faulty_conn(alloc, VERSION, &[1, 2, 3], &[])?;
+    let door = door_of(alloc, conns);
+    let wanted = (true, b"408 ".as_slice(), (1, 1));
+    works(&rt, alloc, door, Host::open_for(10), wanted)
+}
+
+// A door with an upload, of whose connection this call fails, and another message.
+fn upload_door(alloc: Global, number: u64) -> Result<MemoryDoor, AllocError> {
+    let conns = faulty_conn(alloc, UPLOAD, &[], &[number])?;
+    let conns = with_conn(alloc, conns, VERSION)?;
+    Ok(door_of(alloc, conns))
+}
+
+// The door after a worker that served an upload, of whose connection this call failed, and another message.
+fn serve_upload(rt: &(impl Wait + Abort), alloc: Global, number: u64) -> Result<MemoryDoor, Fail> {
+    let mut door = upload_door(alloc, number)?;
+    let mut host = Host::open_for(10);
+    let holds = worker(rt, alloc, &mut door, &mut host, 3);
+    assert_eq!(rt; (holds, host.left), (true, 1));
+    Ok(door)
+}
+
+// How many bytes were written to an upload's connection, if they are the first of the leave and the reply, and the next
+// connection has its whole reply.
+fn upload_written(door: &MemoryDoor) -> Option<usize> {
+    let Some([upload, version]) = door.served() else {
+        return None;
+    };
+    let written = upload.written().unwrap_or(b"none");
+    if UPLOAD_REPLY.starts_with(written) && version.written() == Some(VERSION_REPLY) {
+        return Some(written.len());
+    }
+    None
+}
+
+// Each call of an upload's connection fails in turn, until no call is left that could fail: what was written are the first
+// bytes of the leave and the reply, and the next connection has its whole reply.
+#[test]
+fn each_call_of_an_upload_failing(rt: HostRuntime) -> Result<(), Fail> {
+    for number in 1..=100 {
+        let written = upload_written(&serve_upload(&rt, rt.alloc(), number)?);
+        assert!(rt; written.is_some(), "at call {number}");
+        if written == Some(UPLOAD_REPLY.len()) {
+            return Ok(());
+        }
+    }
+    Err("no whole reply")?
+}
+
+// Whether a message is replied to, with this table of routes or with none.
+fn serves(alloc: Global, routes: Option<&Routes>, host: &mut Host) -> Result<bool, AllocError> {
+    let mut conn = conn_of(alloc, VERSION)?;
+    let is_open = serve_conn(alloc, routes, &mut conn, host, 3);
+    let written = conn.written().unwrap_or(b"");
+    Ok(is_open && written.get(9..12).unwrap_or(b"-") == b"200".as_slice())
+}
+
+// Two messages are replied to, the one with a table of routes and the other without.
+fn serves_two(
+    rt: &impl Abort,
+    alloc: Global,
+    routes: &Routes,
+    host: &mut Host,
+) -> Result<(), Fail> {
+    assert!(rt; serves(alloc, Some(routes), host)?);
+    assert!(rt; serves(alloc, None, host)?);
+    Ok(())
+}
+
+// The calls that take memory, each once: two connections, with and without a table of routes, and then one at a door.
+#[test]
+fn ample(rt: HostRuntime) -> Result<(), Fail> {
+    let alloc = rt.alloc();
+    let mut host = Host::open_for(4);
+    serves_two(&rt, alloc, &Routes::new(alloc)?, &mut host)?;
+    let conns = with_conn(alloc, ConnList::new(alloc), VERSION)?;
+    let door = door_of(alloc, conns);
+    works(&rt, alloc, door, host, (true, b"200 ".as_slice(), (4, 1)))
+}

@@ -1,0 +1,2 @@
+//! Whole prints over links in memory.
+mod demos;
