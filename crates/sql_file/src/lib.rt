@@ -3,37 +3,16 @@
 
 ghost use Rattle.std.specs.Prelude.{◌≡◌, codes, None, IfOk, IsErrOf};
 ghost use Rattle.sqlite.specs.Files.{file_state};
-ghost use Rattle.sqlite.specs.Held.{state};
 ghost use Rattle.sqlite.specs.State.{HasCleanDisk};
 ghost use Rattle.octo_keeper.specs.declared.keeper.KeeperFault.TheVariants as fault;
 
 use byte_text::Name;
 use octo_keeper::KeeperFault;
 use sql_keeper::{SqlKeeper, fault_of};
-use sqlite::{Alter, Connection, File, FileStore};
-use std::alloc::Global;
+use sqlite::{Connection, File, FileStore};
 
 /// What keeps the tables of a host in a database file and the log beside it.
 pub type FileKeeper = SqlKeeper<FileStore<File>>;
-
-// A keeper over a connection, whatever its store is; no query is cut short that wasn't before.
-fn keeper_over<S: Alter + Drop>(
-    alloc: Global,
-    connection: Connection<S>,
-) -> Result<SqlKeeper<S>, KeeperFault>
-    ensures fresh { IfOk result (λ keeper. keeper.faults ≡ 0) }
-    ensures clean { IfOk result (λ keeper. HasCleanDisk (state S.Store keeper.connection)
-        → HasCleanDisk (state S.Store connection)) }
-    ensures shielded { IfOk result (λ keeper. (state S.Store connection).IsShielded
-        → (state S.Store keeper.connection).IsShielded) }
-    ensures limit { IfOk result (λ keeper.
-        keeper.connection.step_limit ≡ connection.step_limit) }
-{
-    match SqlKeeper::adopt(alloc, connection) {
-        Ok(keeper) => Ok(keeper),
-        Err(refused) => Err(refused.fault),
-    }
-}
 
 /// Opens the database file of that path and adopts it; a missing file is made. The file is locked until the keeper
 /// is dropped: another program that has it open is a fault, and so are a path that is no database and `:memory:`.
@@ -48,9 +27,13 @@ pub fn open_keeper(rt: &HostRuntime, path: &Name) -> Result<FileKeeper, KeeperFa
     ensures unlimited { IfOk result (λ keeper. keeper.connection.step_limit ≡ None) }
     ensures memory { path.now ≡ codes ":memory:" → IsErrOf result fault.Failed }
 {
-    match Connection::open(rt, path.as_str()) {
-        Ok(connection) => keeper_over(rt.alloc(), connection),
-        Err(error) => Err(fault_of(error)),
+    let connection = match Connection::open(rt, path.as_str()) {
+        Ok(connection) => connection,
+        Err(error) => return Err(fault_of(error)),
+    };
+    match SqlKeeper::adopt(rt.alloc(), connection) {
+        Ok(keeper) => Ok(keeper),
+        Err(refused) => Err(refused.fault),
     }
 }
 
