@@ -77,7 +77,7 @@ Reports kind files h (command.Rest file from) r =
     Given files file r (λ bytes. IsRestReport from bytes r) × (h.now ≡ h.first)
 Reports kind files h (command.Serve address folder database settings) r = ⊥
 
--- a print that is reported with no answer waited five limits of its settings, by a clock that showed this moment first
+-- a print that is reported with no answer waited five limits of its settings, by a clock that showed `began` before and `now` after
 abbrev pub HasWaitedFor : Option Files → Option ℕ → Option ℕ → Command → Report → Type 0
 HasWaitedFor files began now (command.Print port file turns settings) r =
     (count : ℕ) → r ≡ report.Ended (NoAnswer count) → WaitedBySettings files settings count began now
@@ -98,7 +98,7 @@ pub record AreAside (old new : Around) : Type 0 where
   pub shelf : new.shelf ≡ old.shelf
   pub doors : new.doors ≡ old.doors
 
--- what arguments come to: they are no command, or theirs is carried out, or serves; or memory runs out before
+-- what arguments come to: memory runs out before a command is known; they are no command; or their command is carried out, or serves
 pub data Comes (words : List (List ℕ)) (files : Option Files) (old new : Around) (r : HostReport) (known : Option HistoryData) : Type 0 where
   out_of_memory : r ≡ host.Command report.NoMemory → new ≡ old → known ≡ None → Comes words files old new r known
   no_command : r ≡ host.Command report.BadWords → command_of words ≡ None → new ≡ old → known ≡ None → Comes words files old new r known

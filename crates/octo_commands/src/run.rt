@@ -94,6 +94,7 @@ fn carry_out<F: Source, L: Link, T: Clock>(
     ensures waited { HasWaitedFor (F.files files.old) (T.moment clock.old) (T.moment clock.new)
         command.now result }
     ensures output { code_of result ≢ 8 }
+    ensures down { L.up link.new ≡ false }
     ensures kind { L.kind link.new ≡ L.kind link.old }
     ensures recorded { is_some (L.past link.new) ≡ is_some (L.past link.old) }
     ensures files { F.files files.new ≡ F.files files.old }
@@ -171,6 +172,7 @@ fn run<
         (at link.old clock.old keeper.old shelf.old doors.old)
         (at link.new clock.new keeper.new shelf.new doors.new) result.report }
     ensures output { host_code result.report ≢ 8 }
+    ensures down { L.up link.new ≡ false }
     ensures kind { L.kind link.new ≡ L.kind link.old }
     ensures recorded { is_some (L.past link.new) ≡ is_some (L.past link.old) }
     ensures files { F.files files.new ≡ F.files files.old }
@@ -195,8 +197,8 @@ fn run<
 /// `check`, `demo`, `measure`, `rest` or `serve`, as `octo_words` reads them. The status is the report's, or 8 if the output
 /// failed.
 ///
-/// The keeper, the shelf and the doors are those of `serve`; what it says of the database, the folder and the address was used to
-/// make them. It waits for connections, and for an end that may never come. Every other command returns.
+/// Only `serve` uses the keeper, the shelf and the doors. The caller has made them of the database, the folder and the address that
+/// the arguments name. `serve` waits for connections, and may never end; every other command returns.
 pub fn octo<
     R: Threads + Wait + Clone + Send + Sync + Drop,
     F: Source,
@@ -220,7 +222,8 @@ pub fn octo<
 ) -> Status
     requires { L.up link.old ≡ false }
 
-    // What the arguments come to is written, each failure by its cause.
+    // The arguments come to a report `r`, and each failure in it has its cause. It is written, or the output failed. `at` is what
+    // link, clock, keeper, shelf and doors show.
     ensures comes { let at = around (link_state L.kind L.past L.calls L.up L.faults) T.moment
         (keeper_state K.tables K.faults) (shelf_state S.files S.faults)
         (door_state D.coming D.served D.faults) in
@@ -238,6 +241,9 @@ pub fn octo<
         (L.faults link.old) (L.faults link.new) (T.moment clock.new))
         → Steady (F.faults files.old) (F.faults files.new)
         → Steady (O.faults out.old) (O.faults out.new) → (result.code ≡ 0) ⊎ (result.code ≡ 11) }
+
+    // The link is down again.
+    ensures down { L.up link.new ≡ false }
 
     // What stays, and counts.
     ensures kind { L.kind link.new ≡ L.kind link.old }

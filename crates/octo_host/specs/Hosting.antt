@@ -36,7 +36,7 @@ pub record Around : Type 0 where
   pub shelf : ShelfState
   pub doors : Doors DoorState
 
--- the same by the meanings of each kind
+-- the same, made of five objects by what their types say of them
 abbrev pub around : {L T K S D : Type 0} → (L → LinkState) → (T → Option ℕ) → (K → KeeperState) → (S → ShelfState) → (D → DoorState)
     → L → T → K → S → Doors D → Around
 around link_state moment keeper_state shelf_state door_state link clock keeper shelf doors = record {

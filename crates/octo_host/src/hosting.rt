@@ -119,6 +119,7 @@ fn serve_by<
         (at link.new clock.new keeper.new shelf.new doors.new)
         result.report }
     ensures refusal { (why : Report) → result.report ≡ host.Command why → why ≡ report.NoMemory }
+    ensures down { L.up link.new ≡ false }
     ensures kind { L.kind link.new ≡ L.kind link.old }
     ensures recorded { is_some (L.past link.new) ≡ is_some (L.past link.old) }
 {
@@ -179,7 +180,8 @@ pub fn host<
     ensures refusal { (why : Report) → result.report ≡ host.Command why
         → is_settings_refusal why ≡ true }
 
-    // The link: what no call changes, and whether its history is recorded.
+    // The link: it is down, what no call changes, and whether its history is recorded.
+    ensures down { L.up link.new ≡ false }
     ensures kind { L.kind link.new ≡ L.kind link.old }
     ensures recorded { is_some (L.past link.new) ≡ is_some (L.past link.old) }
 

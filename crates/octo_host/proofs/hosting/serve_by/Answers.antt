@@ -103,3 +103,6 @@ returns-clause-serves g c =
       doors = ap (door_states doors_at) s.doors;
       later = record { link = omega (arith, link_faults); keeper = omega (arith, keeper_faults, e.keeper.later); shelf = omega (arith, shelf_faults, e.shelf.later) };
     })
+
+pub returns-in-Ok-serve-clause-down : goal.returns-in-Ok-serve-clause-down
+returns-in-Ok-serve-clause-down g c = c.in-Ok-serve.ensures.ok.ran.down
