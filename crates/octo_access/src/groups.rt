@@ -1,5 +1,5 @@
 //! Groups of users: those that are built in, and those that the settings name.
-ghost use Rattle.std.specs.Prelude.{◌≡◌, ◌≤◌, ◌++◌, ◌↔◌, [], ◌∷◌, length, true, false, is_some, OnOk, OnErr, Err};
+ghost use Rattle.std.specs.Prelude.{◌≡◌, ◌≤◌, ◌++◌, ◌↔◌, [], ◌∷◌, length, true, false, OnOk, OnErr, Err};
 ghost use Rattle.std.specs.List.{position_or_len};
 ghost use Rattle.std.specs.Option.{option_copied};
 ghost use Rattle.octo_access.specs.Groups.{most_groups, built_in, is_group, added_permissions, permissions_of, is_known, group_grants};
@@ -84,13 +84,6 @@ fn built_in(name: &Name) -> Option<&'static [Permission]>
         "guests" => Some(&[]),
         _ => None,
     }
-}
-
-/// Whether a group of that name is built in.
-pub fn is_built_in(name: &Name) -> bool
-    ensures { result ≡ is_some (built_in name.now) }
-{
-    built_in(name).is_some()
 }
 
 impl Groups {

@@ -11,7 +11,7 @@ mod refusal;
 mod row;
 mod users;
 
-pub use groups::{GroupFault, Groups, is_built_in};
+pub use groups::{GroupFault, Groups};
 pub use names::{is_name_byte, read_name};
 pub use permission::Permission;
 pub use policy::Policy;
