@@ -52,10 +52,10 @@ fn add(files: &mut Vec<(Name, u64)>, file: (Name, u64)) -> Result<(), AllocError
     Ok(())
 }
 
-/// The files of a folder with their sizes, by name. Passed over is all that isn't a regular file with the name of a file on a
-/// shelf; a name that isn't UTF-8 is a fault.
+// The files of a folder with their sizes, by name. Passed over is all that isn't a regular file with the name of a file on a
+// shelf; a name that isn't UTF-8 is a fault.
 #[tactic(auto, using(crate::proofs::Listed::none_listed))]
-pub fn list_files<R: Files + AllocGlobal + Clone + Drop>(
+pub(crate) fn list_files<R: Files + AllocGlobal + Clone + Drop>(
     rt: &R,
     folder: &Name,
 ) -> Result<FileList, ShelfFault>
