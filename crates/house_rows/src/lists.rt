@@ -16,7 +16,7 @@ use print_records::PrintRow;
 use std::alloc::{AllocError, Global};
 
 /// The most prints that are shown.
-const MOST_PRINTS: usize = 100;
+const MOST_SHOWN_PRINTS: usize = 100;
 
 /// The same names again.
 pub fn copy_names(alloc: Global, names: &[Name]) -> Result<NameList, AllocError>
@@ -101,7 +101,7 @@ pub fn shown_prints(
         ≡ map shown_print (take 100 (reverse (filter (is_print_of user.now) rows.now)))) }
 {
     let mut list = ShownPrintList::new(alloc);
-    let mut free = MOST_PRINTS;
+    let mut free = MOST_SHOWN_PRINTS;
     let mut left = rows.len();
     while free > 0 && left > 0 {
         left -= 1;
