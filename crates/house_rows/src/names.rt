@@ -38,7 +38,7 @@ fn place_for(names: &[Name], name: &Name) -> usize
         .count()
 }
 
-/// The names in a list of files with their sizes.
+/// The names in a list of files with their sizes in bytes. Fails if out of memory.
 pub fn names_in(alloc: Global, files: &[(Name, u64)]) -> Result<Vec<Name>, AllocError>
     ensures { IfOk result (λ names. names.items ≡ map (λ file. file.0) files.now) }
 {
@@ -49,7 +49,7 @@ pub fn names_in(alloc: Global, files: &[(Name, u64)]) -> Result<Vec<Name>, Alloc
     Ok(names)
 }
 
-/// Makes room for one more name, unless memory runs out.
+/// Makes room for one more name. Fails if out of memory.
 pub fn reserve_name(names: &mut Vec<Name>) -> Result<(), AllocError>
     ensures items { names.new.items ≡ names.old.items }
     ensures room { OnOk result (vec_len names.new < vec_capacity names.new) }

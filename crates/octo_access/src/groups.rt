@@ -97,7 +97,8 @@ impl Groups {
         }
     }
 
-    /// Adds a group after the others. After a fault the groups are as before.
+    /// Adds a group after the others. Fails if there is one of that name, if 16 were added, or if out of memory; then the groups
+    /// are as before.
     pub fn add(&mut self, name: &Name, permissions: &[Permission]) -> Result<(), GroupFault>
         ensures ok { OnOk result
             (self.new ≡ self.old

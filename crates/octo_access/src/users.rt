@@ -139,7 +139,7 @@ impl Users {
         self.by_digest(policy, &digest_of(key))
     }
 
-    /// Adds a user. After a refusal the users are as before.
+    /// Adds a user. Refused for the first reason of `UserRefusal` that applies, or if out of memory; then the users are as before.
     pub fn put(&mut self, row: &UserRow, policy: &Policy) -> Result<(), UserRefusal>
         ensures exact { MatchResult result
             (λ _. put_refusal policy.now row.now self.old ≡ None)
@@ -156,7 +156,8 @@ impl Users {
     }
 
     /// Puts a row in the place of the one that has its name, and returns the former one. It may be in groups that don't
-    /// exist and that the former one was in. After a refusal the users are as before. Takes no memory.
+    /// exist and that the former one was in. Refused for the first reason of `UserRefusal` that applies; then the users are as
+    /// before. Takes no memory.
     pub fn change(&mut self, row: &UserRow, policy: &Policy) -> Result<UserRow, UserRefusal>
         ensures exact { MatchResult result
             (λ former. (change_refusal policy.now row.now self.old ≡ None)

@@ -121,7 +121,7 @@ fn copy_named(request: &Request) -> Request
 }
 
 impl Request {
-    /// The same request again.
+    /// The same request again. Fails if out of memory.
     pub fn copy(&self, alloc: Global) -> Result<Request, AllocError>
         ensures { IfOk result (λ copy. copy ≡ self.now) }
     {
@@ -168,7 +168,7 @@ impl Request {
 }
 
 impl Ask {
-    /// The ask of a caller with this key.
+    /// The ask of a caller with this key. Fails if out of memory.
     pub fn of(alloc: Global, key: &[u8], request: Request) -> Result<Ask, AllocError>
         ensures { IfOk result (λ ask. ask ≡ record { key = key.now; request = request }) }
     {
@@ -178,7 +178,7 @@ impl Ask {
         })
     }
 
-    /// The same ask again.
+    /// The same ask again. Fails if out of memory.
     pub fn copy(&self, alloc: Global) -> Result<Ask, AllocError>
         ensures { IfOk result (λ copy. copy ≡ self.now) }
     {

@@ -30,7 +30,7 @@ fn place_of_name(rows: &[UserRow], name: &Name) -> usize
         .count()
 }
 
-/// Adds a user in the place of its name.
+/// Adds a user in the place of its name. Fails if out of memory.
 pub fn put_user(rows: &mut Vec<UserRow>, row: &UserRow) -> Result<(), AllocError>
     ensures ok { OnOk result (rows.new.items ≡ with_row row.now rows.old.items) }
     ensures err { OnErr result (rows.new.items ≡ rows.old.items) }
@@ -66,7 +66,7 @@ fn place_of_entry(rows: &[QueueEntry], entry: &QueueEntry) -> usize
     rows.iter().take_while(|row| row.is_before(entry)).count()
 }
 
-/// Adds an entry in its place in the order.
+/// Adds an entry in its place in the order. Fails if out of memory.
 pub fn put_entry(rows: &mut Vec<QueueEntry>, entry: &QueueEntry) -> Result<(), AllocError>
     ensures ok { OnOk result (rows.new.items ≡ insert_row entry.now rows.old.items) }
     ensures err { OnErr result (rows.new.items ≡ rows.old.items) }
@@ -126,7 +126,7 @@ pub fn end_print(rows: &mut [PrintRow], ending: Ending)
     }
 }
 
-/// Adds a print after the end of another one, if that is due.
+/// Adds a print after the end of another one, if that is due. Fails if out of memory.
 pub fn begin_print(
     rows: &mut Vec<PrintRow>,
     ended: Option<Ending>,

@@ -40,7 +40,7 @@ fn place_after(files: &[ShelfFile], name: &Name) -> usize
         .count()
 }
 
-/// The names of the files with their sizes.
+/// The names of the files with their sizes in bytes. Fails if out of memory.
 pub fn copy_sizes(alloc: Global, files: &[ShelfFile]) -> Result<FileList, AllocError>
     ensures { IfOk result (λ list. list ≡ sizes_of files.now) }
 {
@@ -51,7 +51,7 @@ pub fn copy_sizes(alloc: Global, files: &[ShelfFile]) -> Result<FileList, AllocE
     Ok(list)
 }
 
-/// The bytes of a file, if there is one of that name.
+/// The bytes of a file, if there is one of that name. Fails if out of memory.
 #[tactic(auto, using(std::proofs::lemmas::List::Folds::find_at, std::proofs::lemmas::Option::slice_get_past, std::proofs::lemmas::Option::slice_get_read))]
 pub fn bytes_at(alloc: Global, files: &[ShelfFile], name: &Name) -> Result<Option<Blob>, AllocError>
     ensures { IfOk result (λ bytes. bytes ≡ bytes_of name.now files.now) }
@@ -84,7 +84,7 @@ fn add_file(files: &mut Vec<ShelfFile>, file: ShelfFile) -> Result<(), AllocErro
     Ok(())
 }
 
-/// Sets the bytes of a name; without memory the files stay.
+/// Sets the bytes of a name. Fails if out of memory; then the files stay.
 pub fn put_file(
     alloc: Global,
     files: &mut Vec<ShelfFile>,

@@ -41,7 +41,7 @@ fn old_entry_of(row: &Row) -> Option<OldEntry>
     })
 }
 
-/// The entries of rows of the schema before; a row that holds none is a fault.
+/// The entries of rows of the schema before; a row that holds none is a fault. Fails as well if out of memory.
 pub fn old_entries_of(alloc: Global, rows: &[Row]) -> Result<Vec<OldEntry>, KeeperFault>
     ensures ok { IfOk result (λ entries. map old_entry_row entries.items ≡ rows.now) }
     ensures failed { IsErrOf result fault.Failed → ¬ All HoldsOldEntry rows.now }
@@ -82,7 +82,7 @@ fn upgrade_entry(old: &OldEntry) -> QueueEntry
     }
 }
 
-/// The entries in the same order, each as one copy of any material.
+/// The entries in the same order, each as one copy of any material. Fails if out of memory.
 pub fn upgrade(alloc: Global, rows: &[OldEntry]) -> Result<EntryList, AllocError>
     ensures { IfOk result (λ entries. entries ≡ map upgraded rows.now) }
 {

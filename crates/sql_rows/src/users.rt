@@ -26,7 +26,7 @@ fn add_spaced(text: &mut String, names: &[Name]) -> Result<(), AllocError>
     Ok(())
 }
 
-/// The names of groups, with one space between each two.
+/// The names of groups, with one space between each two. Fails if out of memory.
 pub fn text_of_groups(alloc: Global, groups: &[Name]) -> Result<String, AllocError>
     ensures { IfOk result (λ text. string_bytes text ≡ joined groups.now) }
 {
@@ -87,7 +87,7 @@ fn user_of(row: &Row) -> Option<UserRow>
     })
 }
 
-/// The users of rows; a row that holds none is a fault.
+/// The users of rows; a row that holds none is a fault. Fails as well if out of memory.
 pub fn users_of(alloc: Global, rows: &[Row]) -> Result<UserList, KeeperFault>
     ensures ok { IfOk result (λ users. map user_row users ≡ rows.now) }
     ensures groups { IfOk result (All HasGroups) }

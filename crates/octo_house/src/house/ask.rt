@@ -22,8 +22,9 @@ use octo_keeper::{Keeper, Shelf};
 use print_queue::QueueEntry;
 
 impl House {
-    /// Answers an ask: the first refusal that applies, or what is done. A fault changes nothing, nor does running out of memory, but
-    /// that a stored file stays stored. The moment, in milliseconds, is the answer's in the history.
+    /// Answers an ask: the first refusal that applies, or what is done. If the keeper or the shelf fails, or memory runs out,
+    /// nothing changes, except that a file that was stored already stays stored. The moment, in milliseconds, is the answer's in
+    /// the history.
     pub fn ask<K: Keeper, S: Shelf>(
         &mut self,
         keeper: &mut K,
