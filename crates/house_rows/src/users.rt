@@ -6,13 +6,12 @@ ghost use Rattle.sha2.specs.Sha256.{sha256};
 ghost use Rattle.house_verdicts.specs.Rows.{new_user};
 ghost use Rattle.house_rows.specs.Users.{changed};
 
-use arrayvec::ArrayVec;
 use byte_text::Name;
-use octo_access::{Digest, UserRow, copy_names, digest_of};
+use octo_access::{Digest, GroupNames, UserRow, copy_names, digest_of};
 use octo_outside::Blob;
 
 /// A new user with this key.
-pub fn new_user(name: &Name, key: &Blob, groups: &ArrayVec<Name, 8>, active: bool) -> UserRow
+pub fn new_user(name: &Name, key: &Blob, groups: &GroupNames, active: bool) -> UserRow
     ensures { result ≡ new_user name.now key.now groups.now active }
 {
     UserRow {
@@ -32,7 +31,7 @@ fn digest_or(key: &Option<Blob>, former: &Digest) -> Digest
     }
 }
 
-fn groups_or(groups: &Option<ArrayVec<Name, 8>>, former: &ArrayVec<Name, 8>) -> ArrayVec<Name, 8>
+fn groups_or(groups: &Option<GroupNames>, former: &GroupNames) -> GroupNames
     ensures { result ≡ unwrap_or groups.now former.now }
 {
     match groups {
@@ -45,7 +44,7 @@ fn groups_or(groups: &Option<ArrayVec<Name, 8>>, former: &ArrayVec<Name, 8>) -> 
 pub fn changed_user(
     former: &UserRow,
     key: &Option<Blob>,
-    groups: &Option<ArrayVec<Name, 8>>,
+    groups: &Option<GroupNames>,
     active: Option<bool>,
 ) -> UserRow
     ensures { result ≡ changed former.now key.now groups.now active }
@@ -90,7 +89,7 @@ pub fn nobody(name: &Name) -> UserRow
     UserRow {
         name: name.copy(),
         digest: [0; 32],
-        groups: ArrayVec::new(),
+        groups: GroupNames::new(),
         active: true,
     }
 }

@@ -16,5 +16,5 @@ pub use names::{is_name_byte, read_name};
 pub use permission::Permission;
 pub use policy::Policy;
 pub use refusal::UserRefusal;
-pub use row::{Admin, Digest, UserList, UserRow, copy_names, digest_of};
+pub use row::{Admin, Digest, GroupNames, UserList, UserRow, copy_names, digest_of};
 pub use users::Users;

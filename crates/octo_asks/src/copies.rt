@@ -3,9 +3,8 @@ ghost use Rattle.std.specs.Prelude.{◌≡◌, false, Some, None, IfOk};
 ghost use Rattle.octo_asks.specs.Copies.{has_fields, has_blobs};
 
 use crate::{Ask, BlobList, Request};
-use arrayvec::ArrayVec;
 use byte_text::Name;
-use octo_access::copy_names;
+use octo_access::{GroupNames, copy_names};
 use octo_outside::Blob;
 use std::alloc::{AllocError, Global};
 
@@ -43,7 +42,7 @@ fn copy_port(port: &Option<Name>) -> Option<Name>
     }
 }
 
-fn copy_groups(groups: &Option<ArrayVec<Name, 8>>) -> Option<ArrayVec<Name, 8>>
+fn copy_groups(groups: &Option<GroupNames>) -> Option<GroupNames>
     ensures { result ≡ groups.now }
 {
     match groups {

@@ -9,7 +9,7 @@ ghost use Rattle.sql_rows.specs.Rows.{joined, spaced, user_row};
 use crate::reading::{digest_at, flag_at, name_at, text_at};
 use arrayvec::ArrayVec;
 use byte_text::Name;
-use octo_access::{UserList, UserRow};
+use octo_access::{GroupNames, UserList, UserRow};
 use octo_keeper::KeeperFault;
 use sqlite::Row;
 use sqlite::types::ValueRef;
@@ -53,7 +53,7 @@ pub fn user_values<'a>(user: &'a UserRow, groups: &'a str) -> [ValueRef<'a>; 4]
 }
 
 // The names of groups of such a text; at most eight, none of them empty.
-fn groups_of(text: &str) -> Option<ArrayVec<Name, 8>>
+fn groups_of(text: &str) -> Option<GroupNames>
     ensures { MatchOption result ((groups : List (List ℕ)) → ¬ IsTextOf groups text.now)
         (λ groups. IsTextOf groups.items text.now) }
 {
