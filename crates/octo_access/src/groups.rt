@@ -12,7 +12,7 @@ use std::marker::Model;
 use thiserror::Error;
 
 /// The most groups that aren't built in.
-const MOST_GROUPS: usize = 16;
+pub const MOST_GROUPS: usize = 16;
 
 /// What the group `users` has.
 const USERS_HAVE: [Permission; 9] = [

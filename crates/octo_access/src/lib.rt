@@ -11,7 +11,8 @@ mod refusal;
 mod row;
 mod users;
 
-pub use groups::{GroupFault, Groups};
+pub use checks::MOST_USERS;
+pub use groups::{GroupFault, Groups, MOST_GROUPS};
 pub use names::{is_name_byte, read_name};
 pub use permission::Permission;
 pub use policy::Policy;

@@ -7,8 +7,8 @@ mod queue;
 mod refusal;
 mod rows;
 
-pub use entry::{EntryList, QueueEntry};
-pub use queue::Queue;
+pub use entry::{EntryList, MOST_COPIES, MOST_PRIORITY, QueueEntry};
+pub use queue::{MOST_ENTRIES, Queue};
 pub use refusal::{Put, QueueRefusal};
 pub use rows::place_of;
 

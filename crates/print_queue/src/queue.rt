@@ -7,7 +7,7 @@ use std::alloc::{AllocError, Global};
 use std::marker::Model;
 
 /// The most entries that a user may have.
-const MOST_ENTRIES: usize = 64;
+pub const MOST_ENTRIES: usize = 64;
 
 /// The entries that wait to be printed: greatest priority first, then least arrival.
 #[derive(Drop)]
