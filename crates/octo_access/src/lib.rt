@@ -6,6 +6,7 @@ mod groups;
 mod names;
 mod order;
 mod permission;
+mod places;
 mod policy;
 mod refusal;
 mod row;
@@ -13,8 +14,9 @@ mod users;
 
 pub use checks::MOST_USERS;
 pub use groups::{GroupFault, Groups, MOST_GROUPS};
-pub use names::{is_name_byte, read_name};
+pub use names::{is_among, is_name_byte, read_name};
 pub use permission::Permission;
+pub use places::{place_for_name, place_of_name};
 pub use policy::Policy;
 pub use refusal::UserRefusal;
 pub use row::{Admin, Digest, GroupNames, UserList, UserRow, copy_names, digest_of};

@@ -44,7 +44,7 @@ pub(crate) fn are_same(name: &Name, other: &Name) -> bool
 }
 
 /// Whether a name is among others.
-pub(crate) fn is_among(name: &Name, names: &[Name]) -> bool
+pub fn is_among(name: &Name, names: &[Name]) -> bool
     ensures { result ≡ is_among name.now names.now }
 {
     names.iter().any(|other| are_same(other, name))

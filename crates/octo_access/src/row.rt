@@ -66,7 +66,8 @@ impl UserRow {
         }
     }
 
-    pub(crate) fn is_named(&self, name: &Name) -> bool
+    /// Whether the user has that name.
+    pub fn is_named(&self, name: &Name) -> bool
         ensures { result ≡ is_named name.now self.now }
     {
         are_same(&self.name, name)

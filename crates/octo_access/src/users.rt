@@ -7,7 +7,8 @@ ghost use Rattle.octo_access.specs.Rights.{is_caller, caller_of, caller};
 ghost use Rattle.octo_access.specs.declared.refusal.UserRefusal.TheVariants as refusal;
 ghost use Rattle.octo_access.specs.Rows.{is_before, is_named, has_digest, row_named, with_row, without, replaced, IsUserList, IsUserTable};
 
-use crate::order::{is_before, put_in_order};
+use crate::order::put_in_order;
+use crate::places::{place_for_name, place_of_name};
 use crate::policy::Policy;
 use crate::refusal::UserRefusal;
 use crate::row::{Digest, UserList, UserRow, digest_of};
@@ -68,10 +69,7 @@ impl Users {
         ensures place { result ≡ position_or_len (is_named name.now) self.now }
         ensures within { result ≤ length self.now }
     {
-        self.rows
-            .iter()
-            .take_while(|row| !row.is_named(name))
-            .count()
+        place_of_name(self.rows(), name)
     }
 
     /// The place of the user with that key, the number of users if there is none.
@@ -101,10 +99,7 @@ impl Users {
         ensures place { result ≡ prefix_len (λ r. is_before r.name name.now) self.now }
         ensures within { result ≤ length self.now }
     {
-        self.rows
-            .iter()
-            .take_while(|row| is_before(row, name))
-            .count()
+        place_for_name(self.rows(), name)
     }
 
     /// The active user with that key.

@@ -70,7 +70,7 @@ fn count_named(rows: &[UserRow], row: &UserRow) -> usize
     ensures { result ≡ count_by (is_named row.now.name) rows.now }
 {
     rows.iter()
-        .filter(|other| other.name.as_bytes() == row.name.as_bytes())
+        .filter(|other| other.is_named(&row.name))
         .count()
 }
 

@@ -10,7 +10,7 @@ mod rows;
 pub use entry::{EntryList, MOST_COPIES, MOST_PRIORITY, QueueEntry};
 pub use queue::{MOST_ENTRIES, Queue};
 pub use refusal::{Put, QueueRefusal};
-pub use rows::place_of;
+pub use rows::{place_for, place_of};
 
 #[cfg(test)]
 mod tests;

@@ -1,6 +1,6 @@
 //! The queue.
 use crate::order::sort;
-use crate::rows::{count_of, last_arrival, place_after, place_for, place_of};
+use crate::rows::{count_of, last_arrival, place_for, place_of, place_of_fitting};
 use crate::{EntryList, Put, QueueEntry, QueueRefusal};
 use byte_text::Name;
 use std::alloc::{AllocError, Global};
@@ -135,7 +135,7 @@ impl Queue {
         let Ok(()) = self.entries.reserve(1) else {
             return Err(QueueRefusal::NoMemory);
         };
-        let place = place_after(&self.entries, &entry);
+        let place = place_for(&self.entries, &entry);
         let _ = self.entries.insert(place, entry.copy());
         Ok(Put { entry, fresh: true })
     }
@@ -196,7 +196,7 @@ impl Queue {
             self.entries[place] = entry;
             return;
         }
-        let place = place_after(&self.entries, &entry);
+        let place = place_for(&self.entries, &entry);
         let _ = self.entries.insert(place, entry);
     }
 
@@ -207,7 +207,7 @@ impl Queue {
         ensures next { NextOf self.now.rows material.now result }
         ensures first { result ≡ find (fits material.now) self.now.rows }
     {
-        let place = place_for(&self.entries, material);
+        let place = place_of_fitting(&self.entries, material);
         if place == self.entries.len() {
             return None;
         }

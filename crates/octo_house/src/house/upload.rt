@@ -21,8 +21,7 @@ use byte_text::Name;
 use desk_steps::{Limits, State};
 use gcode_lines::{Job, read_commands};
 use house_rows::{
-    add_name, answer_of_refusal, answer_of_shelf_fault, bad_file, is_among, may_select,
-    reserve_name,
+    add_name, answer_of_refusal, answer_of_shelf_fault, bad_file, may_select, reserve_name,
 };
 use octo_access::{Permission, UserRow};
 use octo_asks::{Answer, StoredCause};
@@ -124,7 +123,7 @@ impl House {
             × (full ≡ answer.Full (shown_count (length self.now.names.items)))) }
     {
         let held = self.names.len();
-        if !is_among(&self.names, name) && held >= MOST_FILES {
+        if !self.holds(name) && held >= MOST_FILES {
             return Err(Answer::Full {
                 count: held.min(u32::MAX as usize) as u32,
             });
