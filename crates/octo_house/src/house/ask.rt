@@ -15,6 +15,7 @@ ghost use Rattle.octo_house.specs.Groups.{is_edit, is_row, is_reading};
 ghost use Rattle.octo_house.specs.State.{known_of};
 
 use super::House;
+use super::upload::Wanted;
 use house_rows::asked_entry;
 use octo_access::{Permission, UserRow};
 use octo_asks::{Answer, Ask, Request, needed};
@@ -157,7 +158,13 @@ impl House {
                 bytes,
                 select,
                 print,
-            } => self.put_file(keeper, shelf, user, name, bytes.as_slice(), *select, *print),
+            } => {
+                let asked = Wanted {
+                    select: *select,
+                    print: *print,
+                };
+                self.put_file(keeper, shelf, user, name, bytes.as_slice(), asked)
+            }
             Request::SelectFile { name, print: true } => {
                 self.print_named(keeper, shelf, &user.name, name)
             }
