@@ -93,10 +93,7 @@ impl Admin {
         ensures { result ≡ admin_row self.now }
     {
         let mut groups = ArrayVec::new();
-        match Name::from_text("admins") {
-            Some(admins) => groups.push(admins),
-            None => unreachable!(),
-        }
+        groups.push(Name::of_short("admins"));
         UserRow {
             name: self.name.copy(),
             digest: self.digest,

@@ -1,5 +1,5 @@
 //! The queue of the schema before, which knew neither copies nor materials.
-ghost use Rattle.std.specs.Prelude.{◌≡◌, codes, map, MatchOption, IfOk, IsErrOf};
+ghost use Rattle.std.specs.Prelude.{◌≡◌, map, MatchOption, IfOk, IsErrOf};
 ghost use Rattle.std.specs.List.{All};
 ghost use Rattle.octo_keeper.specs.declared.keeper.KeeperFault.TheVariants as fault;
 ghost use Rattle.sql_rows.specs.Holds.{HoldsOldEntry};
@@ -9,7 +9,7 @@ ghost use Rattle.sql_rows.specs.Upgrade.{upgraded};
 use crate::reading::{name_at, u8_at, u32_at};
 use byte_text::Name;
 use octo_keeper::KeeperFault;
-use print_queue::{EntryList, QueueEntry};
+use print_queue::{EntryList, QueueEntry, any_material};
 use sqlite::Row;
 use std::alloc::{AllocError, Global};
 
@@ -56,16 +56,6 @@ pub fn old_entries_of(alloc: Global, rows: &[Row]) -> Result<Vec<OldEntry>, Keep
     Ok(entries)
 }
 
-// The material that fits every printer.
-fn any() -> Name
-    ensures { result ≡ codes "any" }
-{
-    match Name::from_text("any") {
-        Some(any) => any,
-        None => unreachable!(),
-    }
-}
-
 // The entry as one copy of any material.
 fn upgrade_entry(old: &OldEntry) -> QueueEntry
     ensures { result ≡ upgraded old.now }
@@ -77,7 +67,7 @@ fn upgrade_entry(old: &OldEntry) -> QueueEntry
         priority: old.priority,
         copies: 1,
         left: 1,
-        material: any(),
+        material: any_material(),
         arrival: old.arrival,
     }
 }
