@@ -31,10 +31,10 @@ const USERS_HAVE: [Permission; 9] = [
 #[derive(Clone, Copy, Debug, PartialEq, Eq, Error)]
 pub enum GroupFault {
     /// A group of that name exists, or is built in.
-    #[error("a group of that name exists")]
+    #[error("group: the name is taken")]
     Taken,
     /// There are 16 groups.
-    #[error("over 16 groups")]
+    #[error("groups: over 16")]
     TooMany,
     /// Out of memory.
     #[error("out of memory")]

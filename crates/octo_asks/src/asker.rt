@@ -4,7 +4,7 @@ use thiserror::Error;
 
 /// The host has ended, and never took the ask.
 #[derive(Clone, Copy, Debug, PartialEq, Eq, Error)]
-#[error("the host has ended")]
+#[error("host: it has ended")]
 pub struct Closed;
 
 /// A worker's place at the counter.

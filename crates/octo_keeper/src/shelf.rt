@@ -8,7 +8,7 @@ use thiserror::Error;
 #[derive(Clone, Copy, Debug, PartialEq, Eq, Error)]
 pub enum ShelfFault {
     /// It failed, and its count of faults rose.
-    #[error("the files failed")]
+    #[error("files: the shelf failed")]
     Failed,
     /// Out of memory.
     #[error("out of memory")]
