@@ -7,6 +7,7 @@ use api_routes::is_key;
 use byte_text::Name;
 use file_names::read_file_name;
 use octo_access::read_name;
+use print_queue::any_material;
 use serde_json::Value;
 
 /// A text.
@@ -97,7 +98,7 @@ pub(crate) fn material_at(body: &Value) -> Option<Name>
 {
     match body.get("material") {
         Some(found) => as_name(found),
-        None => Name::from_text("any"),
+        None => Some(any_material()),
     }
 }
 

@@ -7,8 +7,8 @@ ghost use Rattle.api_requests.specs.Bodies.{as_groups};
 
 use crate::Direct;
 use crate::fields::as_name;
-use arrayvec::ArrayVec;
 use byte_text::Name;
+use octo_access::GroupNames;
 use octo_asks::BlobList;
 use octo_outside::Blob;
 use serde_json::Value;
@@ -29,11 +29,11 @@ fn items_in(found: &Value, least: usize, most: usize) -> Option<&[Value]>
 }
 
 // The names, if each value is one.
-fn names_in(values: &[Value]) -> Option<ArrayVec<Name, 8>>
+fn names_in(values: &[Value]) -> Option<GroupNames>
     requires { length values.now ≤ 8 }
     ensures { option_map (λ names. names.items) result ≡ all_of as_name (items_view values.now) }
 {
-    let mut names = ArrayVec::new();
+    let mut names = GroupNames::new();
     for value in values {
         names.push(as_name(value)?);
     }
@@ -41,7 +41,7 @@ fn names_in(values: &[Value]) -> Option<ArrayVec<Name, 8>>
 }
 
 /// Up to 8 groups.
-pub(crate) fn as_groups(found: &Value) -> Option<ArrayVec<Name, 8>>
+pub(crate) fn as_groups(found: &Value) -> Option<GroupNames>
     ensures { result ≡ as_groups (view found.now) }
 {
     names_in(items_in(found, 0, 8)?)

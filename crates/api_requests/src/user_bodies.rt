@@ -8,8 +8,8 @@ ghost use Rattle.api_requests.specs.Bodies.{as_groups, optional, user_asked, cha
 use crate::Direct;
 use crate::fields::{as_key, flag_at, name_at};
 use crate::lists::as_groups;
-use arrayvec::ArrayVec;
 use byte_text::Name;
+use octo_access::GroupNames;
 use octo_asks::Request;
 use octo_outside::Blob;
 use serde_json::Value;
@@ -20,7 +20,7 @@ use std::alloc::Global;
 struct NewUser<'a> {
     name: Name,
     key: &'a str,
-    groups: ArrayVec<Name, 8>,
+    groups: GroupNames,
     active: bool,
 }
 
@@ -75,7 +75,7 @@ fn optional_key(body: &Value) -> Option<Option<&str>>
 }
 
 // A change's groups, which may be missing.
-fn optional_groups(body: &Value) -> Option<Option<ArrayVec<Name, 8>>>
+fn optional_groups(body: &Value) -> Option<Option<GroupNames>>
     ensures { result ≡ optional as_groups (get (codes "groups") (view body.now)) }
 {
     match body.get("groups") {
@@ -104,7 +104,7 @@ fn optional_active(body: &Value) -> Option<Option<bool>>
 #[derive(Drop)]
 struct UserChange<'a> {
     key: Option<&'a str>,
-    groups: Option<ArrayVec<Name, 8>>,
+    groups: Option<GroupNames>,
     active: Option<bool>,
 }
 

@@ -1,8 +1,11 @@
 //! Names: of a port, a file, a user, a group, a material or a queue entry.
 ghost use Rattle.std.specs.Prelude.{◌≡◌, ◌<◌, ◌≤◌, ◌↔◌, ◌^◌, ℕ, List, [], length, IsTrue, MatchOption, MatchResult};
 ghost use Rattle.std.specs.List.{All};
+ghost use Rattle.std.specs.Cmp.Lexicographic.{slice_cmp};
+ghost use Rattle.std.specs.Ordering.{is_lt, nat_cmp};
 
 use arrayvec::ArrayString;
+use std::cmp::Ordering;
 use std::marker::Model;
 
 /// How many bytes a name has at most.
@@ -90,6 +93,13 @@ impl Name {
         ensures { IsTrue result ↔ (self.now ≡ other.now) }
     {
         self.text == other.text
+    }
+
+    /// Whether its bytes come before those of the other, in the order of bytes.
+    pub fn is_before(&self, other: &Name) -> bool
+        ensures { result ≡ is_lt (slice_cmp nat_cmp self.now other.now) }
+    {
+        self.as_bytes().cmp(other.as_bytes()) == Ordering::Less
     }
 
     /// The name as a text of at most 100 bytes.

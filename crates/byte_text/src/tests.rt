@@ -76,6 +76,10 @@ fn names(rt: HostRuntime) {
     assert_eq!(rt; name.as_str(), "ana");
     assert!(rt; name.copy().is(&name));
     assert!(rt; !name.is(&Name::new()));
+    let other = Name::of_short("anb");
+    assert!(rt; name.is_before(&other));
+    assert!(rt; !other.is_before(&name));
+    assert!(rt; !name.is_before(&name));
 }
 
 #[test]

@@ -47,7 +47,7 @@ pub fn read_file_name(text: &str) -> Option<Name>
     ensures { result ≡ file_name_of text.now }
 {
     if is_file_name(text) {
-        return read_name(text);
+        return Name::from_text(text);
     }
     None
 }

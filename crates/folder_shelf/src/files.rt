@@ -18,8 +18,8 @@ use std::{fs, io};
 /// The most bytes of a file that is read.
 const MOST_BYTES: usize = 67_108_864;
 
-/// The fault of a failed call of the system: out of memory only if the system says so.
-pub fn fault_of(error: &io::Error) -> ShelfFault
+// The fault of a failed call of the system: out of memory only if the system says so.
+pub(crate) fn fault_of(error: &io::Error) -> ShelfFault
     ensures { (result ≡ fault.NoMemory) ↔ (error_kind error.now ≡ ErrorKind.OutOfMemory) }
 {
     match error.kind() {
@@ -55,8 +55,8 @@ fn read_bytes<R: Files + AllocGlobal + Clone + Drop>(
     }
 }
 
-/// The bytes of a file, `None` if the folder has none of that name.
-pub fn read_file<R: Files + AllocGlobal + Clone + Drop>(
+// The bytes of a file, `None` if the folder has none of that name.
+pub(crate) fn read_file<R: Files + AllocGlobal + Clone + Drop>(
     alloc: Global,
     rt: &R,
     folder: &Name,
@@ -94,9 +94,9 @@ fn replace<R: Files>(rt: &R, part: &str, path: &str, bytes: &[u8]) -> io::Result
     fs::rename(rt, part, path)
 }
 
-/// Sets the bytes of a file: a new one is written beside it, synced and renamed, and then the folder is synced. Until the
-/// rename the former file exists, also after a full disk.
-pub fn write_file<R: Files>(
+// Sets the bytes of a file: a new one is written beside it, synced and renamed, and then the folder is synced. Until the
+// rename the former file exists, also after a full disk.
+pub(crate) fn write_file<R: Files>(
     rt: &R,
     folder: &Name,
     name: &Name,
@@ -120,8 +120,8 @@ pub fn write_file<R: Files>(
     }
 }
 
-/// Takes the file of that name out, if the folder has it.
-pub fn remove_file<R: Files>(rt: &R, folder: &Name, name: &Name) -> Result<(), ShelfFault>
+// Takes the file of that name out, if the folder has it.
+pub(crate) fn remove_file<R: Files>(rt: &R, folder: &Name, name: &Name) -> Result<(), ShelfFault>
     ensures other { is_file_name name.now ≡ false → IsOk result }
 {
     if !is_file_name(name.as_str()) {

@@ -10,7 +10,6 @@ use byte_text::Name;
 use file_names::is_file_name;
 use octo_keeper::{FileList, ShelfFault};
 use std::alloc::{AllocError, Global};
-use std::cmp::Ordering;
 use std::fs;
 use std::fs::DirEntry;
 use std::rt::Files;
@@ -32,14 +31,14 @@ fn file_of<R: Files>(entry: &DirEntry<R>) -> Result<Option<(Name, u64)>, ShelfFa
     }
 }
 
-// How many files come before a name.
-fn place_of(files: &[(Name, u64)], name: &Name) -> usize
+// The place for a file of that name: how many files come before it, by the bytes of their names.
+fn place_for(files: &[(Name, u64)], name: &Name) -> usize
     ensures place { result ≡ prefix_len (λ file. is_before file.0 name.now) files.now }
     ensures within { result ≤ length files.now }
 {
     files
         .iter()
-        .take_while(|file| file.0.as_bytes().cmp(name.as_bytes()) == Ordering::Less)
+        .take_while(|file| file.0.is_before(name))
         .count()
 }
 
@@ -47,15 +46,15 @@ fn place_of(files: &[(Name, u64)], name: &Name) -> usize
 fn add(files: &mut Vec<(Name, u64)>, file: (Name, u64)) -> Result<(), AllocError>
     ensures { OnOk result (files.new.items ≡ with_listed file files.old.items) }
 {
-    let place = place_of(files, &file.0);
+    let place = place_for(files, &file.0);
     files.insert(place, file)?;
     Ok(())
 }
 
-/// The files of a folder with their sizes, by name. Passed over is all that isn't a regular file with the name of a file on a
-/// shelf; a name that isn't UTF-8 is a fault.
+// The files of a folder with their sizes, by name. Passed over is all that isn't a regular file with the name of a file on a
+// shelf; a name that isn't UTF-8 is a fault.
 #[tactic(auto, using(crate::proofs::Listed::none_listed))]
-pub fn list_files<R: Files + AllocGlobal + Clone + Drop>(
+pub(crate) fn list_files<R: Files + AllocGlobal + Clone + Drop>(
     rt: &R,
     folder: &Name,
 ) -> Result<FileList, ShelfFault>

@@ -5,14 +5,14 @@ ghost use Rattle.folder_shelf.specs.Paths.{path_in};
 use arrayvec::ArrayString;
 use byte_text::Name;
 
-/// The path of a file: a folder and a name, of at most 100 bytes each, and an ending.
-pub type FilePath = ArrayString<206>;
+// The path of a file: a folder and a name, of at most 100 bytes each, and an ending.
+pub(crate) type FilePath = ArrayString<206>;
 
-/// What the name of a file that isn't written whole yet ends with.
-pub const PART: &str = ".part";
+// What the name of a file that isn't written whole yet ends with.
+pub(crate) const PART: &str = ".part";
 
-/// The path of a file in a folder, with an ending of at most five bytes.
-pub fn path_in(folder: &Name, name: &Name, ending: &str) -> FilePath
+// The path of a file in a folder, with an ending of at most five bytes.
+pub(crate) fn path_in(folder: &Name, name: &Name, ending: &str) -> FilePath
     requires { length ending.now ≤ 5 }
     ensures { result.bytes ≡ path_in folder.now name.now ending.now }
 {

@@ -99,7 +99,7 @@ impl HostDesk {
         answer_of_call(self.session.pause())
     }
 
-    /// Goes on with a paused print.
+    /// Resumes a paused print.
     pub fn resume(&mut self) -> Answer
         ensures done { Faces resume_verdict result self.old self.new }
         ensures apart { IsApart self.old.session self.new.session }
@@ -108,7 +108,7 @@ impl HostDesk {
         answer_of_call(self.session.resume())
     }
 
-    /// Pauses a print that goes on, and goes on with one that is paused.
+    /// Pauses a print in Printing, resumes one in Paused.
     pub fn toggle(&mut self) -> Answer
         ensures done { Faces toggle_verdict result self.old self.new }
         ensures apart { IsApart self.old.session self.new.session }

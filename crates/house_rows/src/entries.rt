@@ -5,13 +5,7 @@ ghost use Rattle.print_queue.specs.Lawful.{IsWholeRow};
 ghost use Rattle.house_verdicts.specs.Rows.{asked_entry};
 
 use byte_text::Name;
-use print_queue::{QueueEntry, place_of};
-
-/// The greatest priority.
-const MOST_PRIORITY: u8 = 100;
-
-/// The most copies.
-const MOST_COPIES: u8 = 100;
+use print_queue::{MOST_COPIES, MOST_PRIORITY, QueueEntry, place_of};
 
 /// The entry that is asked for: a priority above 100 counts as 100, and copies as the nearest number from 1 to 100.
 pub fn asked_entry(

@@ -44,7 +44,7 @@ pub fn progress(issued: usize, job: &Job) -> Progress
     }
 }
 
-/// Refuses a job with a command that is too hot.
+/// Refuses a job with a command that is too hot, as `TooHotLine`.
 pub fn check_job(job: &Job, limits: &Limits) -> Result<(), Refusal>
     ensures { (print : ℕ) (d : Data)
         → result ≡ (start_checked (first_hot_of limits.now job.now.commands) print d).0 }

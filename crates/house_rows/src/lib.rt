@@ -18,7 +18,7 @@ pub use entries::{asked_entry, has_entry};
 pub use files::{bad_file, read_bytes, read_job};
 pub use jobs::{check_job, progress};
 pub use lists::{copy_names, shown_entries, shown_files, shown_prints, shown_users};
-pub use names::{add_name, drop_name, is_among, names_in, port_for, reserve_name};
+pub use names::{add_name, drop_name, names_in, port_for, reserve_name};
 pub use prints::{add_print, new_row, read_prints, reserve_print};
 pub use refusals::{
     answer_of_keeper_fault, answer_of_queue_refusal, answer_of_refusal, answer_of_shelf_fault,

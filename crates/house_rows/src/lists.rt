@@ -16,9 +16,9 @@ use print_records::PrintRow;
 use std::alloc::{AllocError, Global};
 
 /// The most prints that are shown.
-const MOST_PRINTS: usize = 100;
+const MOST_SHOWN_PRINTS: usize = 100;
 
-/// The same names again.
+/// The same names again. Fails if out of memory.
 pub fn copy_names(alloc: Global, names: &[Name]) -> Result<NameList, AllocError>
     ensures { IfOk result (λ list. list ≡ names.now) }
 {
@@ -29,7 +29,7 @@ pub fn copy_names(alloc: Global, names: &[Name]) -> Result<NameList, AllocError>
     Ok(list)
 }
 
-/// Files as they are shown, by their names and sizes in bytes.
+/// Files as they are shown, by their names and sizes in bytes. Fails if out of memory.
 pub fn shown_files(alloc: Global, files: &[(Name, u64)]) -> Result<ShownFileList, AllocError>
     ensures { IfOk result (λ list. list ≡ map (λ file. file_shown file.0 file.1) files.now) }
 {
@@ -43,7 +43,7 @@ pub fn shown_files(alloc: Global, files: &[(Name, u64)]) -> Result<ShownFileList
     Ok(list)
 }
 
-/// Users as they are shown.
+/// Users as they are shown. Fails if out of memory.
 pub fn shown_users(alloc: Global, rows: &[UserRow]) -> Result<ShownUserList, AllocError>
     ensures { IfOk result (λ list. list ≡ map shown_user rows.now) }
 {
@@ -64,7 +64,7 @@ fn is_entry_of(entry: &QueueEntry, user: &Option<Name>) -> bool
     }
 }
 
-/// The entries of a user, or of all users, as they are shown.
+/// The entries of a user, or of all users, as they are shown. Fails if out of memory.
 pub fn shown_entries(
     alloc: Global,
     rows: &[QueueEntry],
@@ -91,7 +91,7 @@ fn is_print_of(row: &PrintRow, user: &Option<Name>) -> bool
     }
 }
 
-/// The prints of a user, or of all users, as they are shown: newest first, at most 100.
+/// The prints of a user, or of all users, as they are shown: newest first, at most 100. Fails if out of memory.
 pub fn shown_prints(
     alloc: Global,
     rows: &[PrintRow],
@@ -101,7 +101,7 @@ pub fn shown_prints(
         ≡ map shown_print (take 100 (reverse (filter (is_print_of user.now) rows.now)))) }
 {
     let mut list = ShownPrintList::new(alloc);
-    let mut free = MOST_PRINTS;
+    let mut free = MOST_SHOWN_PRINTS;
     let mut left = rows.len();
     while free > 0 && left > 0 {
         left -= 1;

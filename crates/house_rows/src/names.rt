@@ -1,44 +1,27 @@
 //! Names of files and ports.
 ghost use Rattle.std.specs.Prelude.{◌≡◌, ◌<◌, ◌≤◌, length, map, insert, vec_len, Some, None, IfOk, IsOk, OnOk, OnErr};
 ghost use Rattle.std.specs.Vec.{vec_capacity};
-ghost use Rattle.std.specs.List.{list_any, prefix_len};
-ghost use Rattle.std.specs.Str.{bytes_eq};
+ghost use Rattle.std.specs.List.{prefix_len};
 ghost use Rattle.octo_access.specs.Rows.{is_before};
 ghost use Rattle.house_verdicts.specs.Known.{with_name, without_name};
 ghost use Rattle.house_verdicts.specs.Prints.{port_for};
 
 use byte_text::Name;
+use octo_access::is_among;
 use std::alloc::{AllocError, Global};
-use std::cmp::Ordering;
 
-/// Whether a name is among others.
-pub fn is_among(names: &[Name], name: &Name) -> bool
-    ensures { result ≡ list_any (λ n. bytes_eq n name.now) names.now }
-{
-    names
-        .iter()
-        .any(|other| other.as_bytes() == name.as_bytes())
-}
-
-// Whether a name comes before another, by their bytes.
-fn is_before(name: &Name, other: &Name) -> bool
-    ensures { result ≡ is_before name.now other.now }
-{
-    name.as_bytes().cmp(other.as_bytes()) == Ordering::Less
-}
-
-// How many names come before another.
+// The place for a name: how many names come before it, by their bytes.
 fn place_for(names: &[Name], name: &Name) -> usize
     ensures place { result ≡ prefix_len (λ n. is_before n name.now) names.now }
     ensures within { result ≤ length names.now }
 {
     names
         .iter()
-        .take_while(|other| is_before(other, name))
+        .take_while(|other| other.is_before(name))
         .count()
 }
 
-/// The names in a list of files with their sizes.
+/// The names in a list of files with their sizes in bytes. Fails if out of memory.
 pub fn names_in(alloc: Global, files: &[(Name, u64)]) -> Result<Vec<Name>, AllocError>
     ensures { IfOk result (λ names. names.items ≡ map (λ file. file.0) files.now) }
 {
@@ -49,7 +32,7 @@ pub fn names_in(alloc: Global, files: &[(Name, u64)]) -> Result<Vec<Name>, Alloc
     Ok(names)
 }
 
-/// Makes room for one more name, unless memory runs out.
+/// Makes room for one more name. Fails if out of memory.
 pub fn reserve_name(names: &mut Vec<Name>) -> Result<(), AllocError>
     ensures items { names.new.items ≡ names.old.items }
     ensures room { OnOk result (vec_len names.new < vec_capacity names.new) }
@@ -106,7 +89,7 @@ pub fn port_for(port: &Option<Name>, ports: &[Name]) -> Option<Name>
 fn named_port(port: &Name, ports: &[Name]) -> Option<Name>
     ensures { result ≡ port_for (Some port.now) ports.now }
 {
-    if is_among(ports, port) {
+    if is_among(port, ports) {
         return Some(port.copy());
     }
     None

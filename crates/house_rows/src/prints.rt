@@ -45,7 +45,7 @@ pub fn new_row(number: u32, user: &Name, file: &Name, commands: u32) -> PrintRow
     }
 }
 
-/// Makes room for one more record, unless memory runs out.
+/// Makes room for one more record. Fails if out of memory.
 pub fn reserve_print(rows: &mut Vec<PrintRow>) -> Result<(), AllocError>
     ensures items { rows.new.items ≡ rows.old.items }
     ensures room { OnOk result (vec_len rows.new < vec_capacity rows.new) }

@@ -1,18 +1,16 @@
 //! Users as requests name them.
-ghost use Rattle.std.specs.Prelude.{◌≡◌, ◌≤◌, true, [], length, replicate, option_map, unwrap_or};
-ghost use Rattle.std.specs.List.{position_or_len};
-ghost use Rattle.octo_access.specs.Rows.{row_named, is_named};
+ghost use Rattle.std.specs.Prelude.{◌≡◌, true, [], replicate, option_map, unwrap_or};
+ghost use Rattle.octo_access.specs.Rows.{row_named};
 ghost use Rattle.sha2.specs.Sha256.{sha256};
 ghost use Rattle.house_verdicts.specs.Rows.{new_user};
 ghost use Rattle.house_rows.specs.Users.{changed};
 
-use arrayvec::ArrayVec;
 use byte_text::Name;
-use octo_access::{Digest, UserRow, copy_names, digest_of};
+use octo_access::{Digest, GroupNames, UserRow, copy_names, digest_of, place_of_name};
 use octo_outside::Blob;
 
 /// A new user with this key.
-pub fn new_user(name: &Name, key: &Blob, groups: &ArrayVec<Name, 8>, active: bool) -> UserRow
+pub fn new_user(name: &Name, key: &Blob, groups: &GroupNames, active: bool) -> UserRow
     ensures { result ≡ new_user name.now key.now groups.now active }
 {
     UserRow {
@@ -32,7 +30,7 @@ fn digest_or(key: &Option<Blob>, former: &Digest) -> Digest
     }
 }
 
-fn groups_or(groups: &Option<ArrayVec<Name, 8>>, former: &ArrayVec<Name, 8>) -> ArrayVec<Name, 8>
+fn groups_or(groups: &Option<GroupNames>, former: &GroupNames) -> GroupNames
     ensures { result ≡ unwrap_or groups.now former.now }
 {
     match groups {
@@ -45,7 +43,7 @@ fn groups_or(groups: &Option<ArrayVec<Name, 8>>, former: &ArrayVec<Name, 8>) -> 
 pub fn changed_user(
     former: &UserRow,
     key: &Option<Blob>,
-    groups: &Option<ArrayVec<Name, 8>>,
+    groups: &Option<GroupNames>,
     active: Option<bool>,
 ) -> UserRow
     ensures { result ≡ changed former.now key.now groups.now active }
@@ -58,22 +56,12 @@ pub fn changed_user(
     }
 }
 
-// The place of the user of that name, the number of users if there is none.
-fn place_of(rows: &[UserRow], name: &Name) -> usize
-    ensures place { result ≡ position_or_len (is_named name.now) rows.now }
-    ensures within { result ≤ length rows.now }
-{
-    rows.iter()
-        .take_while(|row| row.name.as_bytes() != name.as_bytes())
-        .count()
-}
-
 /// The user of that name.
 #[tactic(auto, using(std::proofs::lemmas::List::Folds::find_at, std::proofs::lemmas::Option::slice_get_past, std::proofs::lemmas::Option::slice_get_read))]
 pub fn user_named(rows: &[UserRow], name: &Name) -> Option<UserRow>
     ensures { result ≡ row_named name.now rows.now }
 {
-    let place = place_of(rows, name);
+    let place = place_of_name(rows, name);
     if place == rows.len() {
         return None;
     }
@@ -90,7 +78,7 @@ pub fn nobody(name: &Name) -> UserRow
     UserRow {
         name: name.copy(),
         digest: [0; 32],
-        groups: ArrayVec::new(),
+        groups: GroupNames::new(),
         active: true,
     }
 }

@@ -108,7 +108,7 @@ impl HostTables {
         self.prints.len()
     }
 
-    /// Refuses one more record of a print if there are 100,000.
+    /// Refuses one more record of a print as `Full` if there are 100,000.
     pub fn check_room(&self) -> Result<(), Answer>
         ensures { MatchResult result
             (λ _. has_room_for self.now.prints ≡ true)

@@ -12,7 +12,7 @@ use crate::users::Users;
 use byte_text::Name;
 
 /// The most users of a table.
-const MOST_USERS: usize = 1_000;
+pub const MOST_USERS: usize = 1_000;
 
 impl Users {
     /// The user of that name.

@@ -1,5 +1,5 @@
 //! Groups of users: those that are built in, and those that the settings name.
-ghost use Rattle.std.specs.Prelude.{◌≡◌, ◌≤◌, ◌++◌, ◌↔◌, [], ◌∷◌, length, true, false, is_some, OnOk, OnErr, Err};
+ghost use Rattle.std.specs.Prelude.{◌≡◌, ◌≤◌, ◌++◌, ◌↔◌, [], ◌∷◌, length, true, false, OnOk, OnErr, Err};
 ghost use Rattle.std.specs.List.{position_or_len};
 ghost use Rattle.std.specs.Option.{option_copied};
 ghost use Rattle.octo_access.specs.Groups.{most_groups, built_in, is_group, added_permissions, permissions_of, is_known, group_grants};
@@ -12,7 +12,7 @@ use std::marker::Model;
 use thiserror::Error;
 
 /// The most groups that aren't built in.
-const MOST_GROUPS: usize = 16;
+pub const MOST_GROUPS: usize = 16;
 
 /// What the group `users` has.
 const USERS_HAVE: [Permission; 9] = [
@@ -31,10 +31,10 @@ const USERS_HAVE: [Permission; 9] = [
 #[derive(Clone, Copy, Debug, PartialEq, Eq, Error)]
 pub enum GroupFault {
     /// A group of that name exists, or is built in.
-    #[error("a group of that name exists")]
+    #[error("group: the name is taken")]
     Taken,
     /// There are 16 groups.
-    #[error("over 16 groups")]
+    #[error("groups: over 16")]
     TooMany,
     /// Out of memory.
     #[error("out of memory")]
@@ -86,13 +86,6 @@ fn built_in(name: &Name) -> Option<&'static [Permission]>
     }
 }
 
-/// Whether a group of that name is built in.
-pub fn is_built_in(name: &Name) -> bool
-    ensures { result ≡ is_some (built_in name.now) }
-{
-    built_in(name).is_some()
-}
-
 impl Groups {
     /// No groups but those that are built in. Takes no memory.
     pub fn new(alloc: Global) -> Groups
@@ -104,7 +97,8 @@ impl Groups {
         }
     }
 
-    /// Adds a group after the others. After a fault the groups are as before.
+    /// Adds a group after the others. Fails if there is one of that name, if 16 were added, or if out of memory; then the groups
+    /// are as before.
     pub fn add(&mut self, name: &Name, permissions: &[Permission]) -> Result<(), GroupFault>
         ensures ok { OnOk result
             (self.new ≡ self.old

@@ -5,10 +5,7 @@ ghost use Rattle.std.specs.Str.{bytes_eq};
 ghost use Rattle.octo_access.specs.Changes.{is_among};
 ghost use Rattle.octo_access.specs.Names.{is_name_byte, is_name, name_of};
 
-use byte_text::Name;
-
-/// The most bytes of a name.
-const MOST_BYTES: usize = 100;
+use byte_text::{MOST_NAME_BYTES, Name};
 
 /// Whether a name may have the byte: a letter, a digit or one of `.`, `_`, `-`, `(`, `)`, `+`.
 pub fn is_name_byte(byte: u8) -> bool
@@ -26,7 +23,7 @@ fn are_name_bytes(bytes: &[u8]) -> bool
 fn is_name(text: &str) -> bool
     ensures { result ≡ is_name text.now }
 {
-    !text.is_empty() && text.len() <= MOST_BYTES && are_name_bytes(text.as_bytes())
+    !text.is_empty() && text.len() <= MOST_NAME_BYTES && are_name_bytes(text.as_bytes())
 }
 
 /// A text as a name: 1 to 100 letters, digits and `.`, `_`, `-`, `(`, `)`, `+`.
@@ -47,7 +44,7 @@ pub(crate) fn are_same(name: &Name, other: &Name) -> bool
 }
 
 /// Whether a name is among others.
-pub(crate) fn is_among(name: &Name, names: &[Name]) -> bool
+pub fn is_among(name: &Name, names: &[Name]) -> bool
     ensures { result ≡ is_among name.now names.now }
 {
     names.iter().any(|other| are_same(other, name))

@@ -1,11 +1,10 @@
 //! Users in the order of their names.
 ghost use Rattle.std.specs.Prelude.{◌≡◌, MatchBool, IsPermutation};
-ghost use Rattle.octo_access.specs.Rows.{is_before, IsByName};
+ghost use Rattle.octo_access.specs.Rows.{IsByName};
 ghost use Rattle.std.specs.Ordering.{nat_cmp};
 ghost use Rattle.std.specs.Cmp.Lexicographic.{slice_cmp};
 
 use crate::row::UserRow;
-use byte_text::Name;
 use std::cmp::Ordering;
 
 /// The order of two users: the order of the bytes of their names.
@@ -15,19 +14,12 @@ fn compared(row: &UserRow, other: &UserRow) -> Ordering
     row.name.as_bytes().cmp(other.name.as_bytes())
 }
 
-/// Whether a user's name comes before a name.
-pub(crate) fn is_before(row: &UserRow, name: &Name) -> bool
-    ensures { result ≡ is_before row.now.name name.now }
-{
-    row.name.as_bytes().cmp(name.as_bytes()) == Ordering::Less
-}
-
 /// Whether users are in the order of their names.
 fn are_by_name(rows: &[UserRow]) -> bool
     ensures { MatchBool result (IsByName rows.now) (¬ (IsByName rows.now)) }
 {
     for place in 1..rows.len() {
-        if is_before(&rows[place], &rows[place - 1].name) {
+        if rows[place].name.is_before(&rows[place - 1].name) {
             return false;
         }
     }

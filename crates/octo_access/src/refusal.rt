@@ -6,19 +6,19 @@ use thiserror::Error;
 #[derive(Debug, Drop, Error)]
 pub enum UserRefusal {
     /// He would be in a group that doesn't exist; the first such group.
-    #[error("no such group")]
+    #[error("user: group {}: no such group", .group.as_str())]
     BadGroup { group: Name },
     /// There is no user of that name to be changed.
-    #[error("no such user")]
+    #[error("user: no such user")]
     NoUser,
     /// The admin or a user has that name.
-    #[error("the name is taken")]
+    #[error("user: the name is taken")]
     NameTaken,
     /// The admin or another user has that key; his name.
-    #[error("the key is taken")]
+    #[error("user: key: it is the key of {}", .name.as_str())]
     KeyTaken { name: Name },
     /// There are 1,000 users.
-    #[error("{count} users")]
+    #[error("users: {count}, the most")]
     Full { count: u32 },
     /// Out of memory.
     #[error("out of memory")]

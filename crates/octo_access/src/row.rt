@@ -13,12 +13,15 @@ use sha2::{Digest as _, Sha256};
 /// The SHA-256 of a user's key. Source: FIPS 180-4.
 pub type Digest = [u8; 32];
 
+/// The names of a user's groups, at most 8.
+pub type GroupNames = ArrayVec<Name, 8>;
+
 /// A user as a row of a table: what he is called, his key's digest, his groups, and whether he may do anything at all.
 #[derive(Debug, Drop)]
 pub struct UserRow {
     pub name: Name,
     pub digest: Digest,
-    pub groups: ArrayVec<Name, 8>,
+    pub groups: GroupNames,
     pub active: bool,
 }
 
@@ -40,7 +43,7 @@ pub fn digest_of(key: &[u8]) -> Digest
 }
 
 /// The same names again; takes no memory.
-pub fn copy_names(names: &ArrayVec<Name, 8>) -> ArrayVec<Name, 8>
+pub fn copy_names(names: &GroupNames) -> GroupNames
     ensures { result ≡ names.now }
 {
     let mut copy = ArrayVec::new();
@@ -63,7 +66,8 @@ impl UserRow {
         }
     }
 
-    pub(crate) fn is_named(&self, name: &Name) -> bool
+    /// Whether the user has that name.
+    pub fn is_named(&self, name: &Name) -> bool
         ensures { result ≡ is_named name.now self.now }
     {
         are_same(&self.name, name)
@@ -89,10 +93,7 @@ impl Admin {
         ensures { result ≡ admin_row self.now }
     {
         let mut groups = ArrayVec::new();
-        match Name::from_text("admins") {
-            Some(admins) => groups.push(admins),
-            None => unreachable!(),
-        }
+        groups.push(Name::of_short("admins"));
         UserRow {
             name: self.name.copy(),
             digest: self.digest,

@@ -7,7 +7,8 @@ ghost use Rattle.octo_access.specs.Rights.{is_caller, caller_of, caller};
 ghost use Rattle.octo_access.specs.declared.refusal.UserRefusal.TheVariants as refusal;
 ghost use Rattle.octo_access.specs.Rows.{is_before, is_named, has_digest, row_named, with_row, without, replaced, IsUserList, IsUserTable};
 
-use crate::order::{is_before, put_in_order};
+use crate::order::put_in_order;
+use crate::places::{place_for_name, place_of_name};
 use crate::policy::Policy;
 use crate::refusal::UserRefusal;
 use crate::row::{Digest, UserList, UserRow, digest_of};
@@ -68,10 +69,7 @@ impl Users {
         ensures place { result ≡ position_or_len (is_named name.now) self.now }
         ensures within { result ≤ length self.now }
     {
-        self.rows
-            .iter()
-            .take_while(|row| !row.is_named(name))
-            .count()
+        place_of_name(self.rows(), name)
     }
 
     /// The place of the user with that key, the number of users if there is none.
@@ -101,10 +99,7 @@ impl Users {
         ensures place { result ≡ prefix_len (λ r. is_before r.name name.now) self.now }
         ensures within { result ≤ length self.now }
     {
-        self.rows
-            .iter()
-            .take_while(|row| is_before(row, name))
-            .count()
+        place_for_name(self.rows(), name)
     }
 
     /// The active user with that key.
@@ -139,7 +134,7 @@ impl Users {
         self.by_digest(policy, &digest_of(key))
     }
 
-    /// Adds a user. After a refusal the users are as before.
+    /// Adds a user. Refused for the first reason of `UserRefusal` that applies, or if out of memory; then the users are as before.
     pub fn put(&mut self, row: &UserRow, policy: &Policy) -> Result<(), UserRefusal>
         ensures exact { MatchResult result
             (λ _. put_refusal policy.now row.now self.old ≡ None)
@@ -156,7 +151,8 @@ impl Users {
     }
 
     /// Puts a row in the place of the one that has its name, and returns the former one. It may be in groups that don't
-    /// exist and that the former one was in. After a refusal the users are as before. Takes no memory.
+    /// exist and that the former one was in. Refused for the first reason of `UserRefusal` that applies; then the users are as
+    /// before. Takes no memory.
     pub fn change(&mut self, row: &UserRow, policy: &Policy) -> Result<UserRow, UserRefusal>
         ensures exact { MatchResult result
             (λ former. (change_refusal policy.now row.now self.old ≡ None)

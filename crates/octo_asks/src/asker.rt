@@ -4,7 +4,7 @@ use thiserror::Error;
 
 /// The host has ended, and never took the ask.
 #[derive(Clone, Copy, Debug, PartialEq, Eq, Error)]
-#[error("the host has ended")]
+#[error("host: it has ended")]
 pub struct Closed;
 
 /// A worker's place at the counter.
@@ -22,7 +22,7 @@ pub trait Asker {
     /// Whether it saw that the host has ended.
     ghost saw_close: { Self → Bool };
 
-    /// Asks, and waits for the answer.
+    /// Asks, and waits for the answer. Fails if the host has ended.
     fn ask(&mut self, ask: Ask) -> Result<Answer, Closed>
         ensures ok { IfOk result (λ answer. Finishes ask answer (mine self.old) (mine self.new)) }
         ensures err { OnErr result (mine self.new ≡ mine self.old) }

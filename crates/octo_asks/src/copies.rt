@@ -3,9 +3,8 @@ ghost use Rattle.std.specs.Prelude.{◌≡◌, false, Some, None, IfOk};
 ghost use Rattle.octo_asks.specs.Copies.{has_fields, has_blobs};
 
 use crate::{Ask, BlobList, Request};
-use arrayvec::ArrayVec;
 use byte_text::Name;
-use octo_access::copy_names;
+use octo_access::{GroupNames, copy_names};
 use octo_outside::Blob;
 use std::alloc::{AllocError, Global};
 
@@ -43,7 +42,7 @@ fn copy_port(port: &Option<Name>) -> Option<Name>
     }
 }
 
-fn copy_groups(groups: &Option<ArrayVec<Name, 8>>) -> Option<ArrayVec<Name, 8>>
+fn copy_groups(groups: &Option<GroupNames>) -> Option<GroupNames>
     ensures { result ≡ groups.now }
 {
     match groups {
@@ -121,7 +120,7 @@ fn copy_named(request: &Request) -> Request
 }
 
 impl Request {
-    /// The same request again.
+    /// The same request again. Fails if out of memory.
     pub fn copy(&self, alloc: Global) -> Result<Request, AllocError>
         ensures { IfOk result (λ copy. copy ≡ self.now) }
     {
@@ -168,7 +167,7 @@ impl Request {
 }
 
 impl Ask {
-    /// The ask of a caller with this key.
+    /// The ask of a caller with this key. Fails if out of memory.
     pub fn of(alloc: Global, key: &[u8], request: Request) -> Result<Ask, AllocError>
         ensures { IfOk result (λ ask. ask ≡ record { key = key.now; request = request }) }
     {
@@ -178,7 +177,7 @@ impl Ask {
         })
     }
 
-    /// The same ask again.
+    /// The same ask again. Fails if out of memory.
     pub fn copy(&self, alloc: Global) -> Result<Ask, AllocError>
         ensures { IfOk result (λ copy. copy ≡ self.now) }
     {

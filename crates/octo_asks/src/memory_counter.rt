@@ -55,7 +55,7 @@ fn with_copies(alloc: Global, asks: AskList) -> Result<VecDeque<Asked>, AllocErr
 }
 
 impl MemoryCounter {
-    /// A counter that returns these asks in order.
+    /// A counter that returns these asks in order. Fails if out of memory.
     pub fn new(alloc: Global, asks: AskList) -> Result<MemoryCounter, AllocError>
         ensures { IfOk result (λ counter. counter ≡ new_counter asks) }
     {

@@ -1,6 +1,6 @@
 //! What a print host is asked.
-use arrayvec::ArrayVec;
 use byte_text::Name;
+use octo_access::GroupNames;
 use octo_outside::{Blob, ItemList};
 
 /// Texts or keys in a list.
@@ -87,14 +87,14 @@ pub enum Request {
     PutUser {
         name: Name,
         key: Blob,
-        groups: ArrayVec<Name, 8>,
+        groups: GroupNames,
         active: bool,
     },
     /// To change of a user what is given.
     ChangeUser {
         name: Name,
         key: Option<Blob>,
-        groups: Option<ArrayVec<Name, 8>>,
+        groups: Option<GroupNames>,
         active: Option<bool>,
     },
     /// The caller's entries of the queue, all entries for one with the permission ADMIN.

@@ -2,10 +2,9 @@
 ghost use Rattle.std.specs.Prelude.{◌≡◌};
 ghost use Rattle.octo_asks.specs.Shown.{whole_degrees, shown_heat, shown_user, shown_entry, shown_print};
 
-use arrayvec::ArrayVec;
 use byte_text::Name;
 use marlin_reply::Heat;
-use octo_access::UserRow;
+use octo_access::{GroupNames, UserRow};
 use octo_outside::ItemList;
 use print_queue::QueueEntry;
 use print_records::{Outcome, PrintRow};
@@ -36,7 +35,7 @@ pub struct Progress {
 #[derive(Drop)]
 pub struct ShownUser {
     pub name: Name,
-    pub groups: ArrayVec<Name, 8>,
+    pub groups: GroupNames,
     pub active: bool,
 }
 

@@ -6,7 +6,7 @@ use arrayvec::ArrayVec;
 use byte_text::Name;
 use desk_steps::{LinkFact, Note};
 use marlin_reply::Heat;
-use octo_access::{Permission, UserRow};
+use octo_access::{GroupNames, Permission, UserRow};
 use octo_outside::Blob;
 use print_queue::QueueEntry;
 use print_records::{Outcome, PrintRow};
@@ -14,8 +14,8 @@ use std::alloc::{AllocError, Global};
 use std::process::Abort;
 use std::test::Fail;
 
-fn names(text: &str) -> Result<ArrayVec<Name, 8>, Fail> {
-    let mut list = ArrayVec::new();
+fn names(text: &str) -> Result<GroupNames, Fail> {
+    let mut list = GroupNames::new();
     list.push(Name::of(text)?);
     Ok(list)
 }

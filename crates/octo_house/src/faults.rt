@@ -9,10 +9,10 @@ use thiserror::Error;
 #[derive(Clone, Copy, Debug, PartialEq, Eq, Error)]
 pub enum BeginFault {
     /// The keeper failed, and its count of faults rose.
-    #[error("the tables can't be read")]
+    #[error("tables: they can't be read")]
     KeeperFailed,
     /// The shelf failed, and its count of faults rose.
-    #[error("the files can't be listed")]
+    #[error("files: they can't be listed")]
     ShelfFailed,
     /// Out of memory.
     #[error("out of memory")]

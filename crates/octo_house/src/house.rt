@@ -13,9 +13,8 @@ mod upload;
 
 use byte_text::Name;
 use house_desk::HostDesk;
-use house_rows::is_among;
 use house_tables::HostTables;
-use octo_access::Policy;
+use octo_access::{Policy, is_among};
 use octo_keeper::KeeperFault;
 use octo_session::Session;
 
@@ -50,7 +49,7 @@ impl House {
     fn holds(&self, name: &Name) -> bool
         ensures { result ≡ is_held name.now (known_of self.now) }
     {
-        is_among(&self.names, name)
+        is_among(name, &self.names)
     }
 
     /// The session with the printer.

@@ -7,8 +7,8 @@ ghost use Rattle.octo_keeper.specs.Tables.{AreSound};
 ghost use Rattle.octo_keeper.specs.Sound.{are_apart, are_numbered_from, are_sound, is_alone, is_apart, is_queue, is_user_list, is_whole, is_within};
 
 use crate::Tables;
-use octo_access::UserRow;
-use print_queue::QueueEntry;
+use octo_access::{MOST_USERS, UserRow};
+use print_queue::{MOST_COPIES, MOST_ENTRIES, QueueEntry};
 use print_records::PrintRow;
 
 fn is_apart(a: &QueueEntry, b: &QueueEntry) -> bool
@@ -39,13 +39,13 @@ fn are_apart(rows: &[QueueEntry]) -> bool
 fn is_whole(row: &QueueEntry) -> bool
     ensures { result ≡ is_whole row.now }
 {
-    1 <= row.left && row.left <= row.copies && row.copies <= 100
+    1 <= row.left && row.left <= row.copies && row.copies <= MOST_COPIES
 }
 
 fn is_within(rows: &[QueueEntry], row: &QueueEntry) -> bool
     ensures { result ≡ is_within rows.now row.now }
 {
-    rows.iter().filter(|other| other.is_of(&row.user)).count() <= 64
+    rows.iter().filter(|other| other.is_of(&row.user)).count() <= MOST_ENTRIES
 }
 
 fn are_whole(rows: &[QueueEntry]) -> bool
@@ -70,7 +70,7 @@ fn count_named(rows: &[UserRow], row: &UserRow) -> usize
     ensures { result ≡ count_by (is_named row.now.name) rows.now }
 {
     rows.iter()
-        .filter(|other| other.name.as_bytes() == row.name.as_bytes())
+        .filter(|other| other.is_named(&row.name))
         .count()
 }
 
@@ -97,7 +97,7 @@ fn are_alone(rows: &[UserRow]) -> bool
 fn is_user_list(rows: &[UserRow]) -> bool
     ensures { result ≡ is_user_list rows.now }
 {
-    rows.len() <= 1_000 && are_alone(rows)
+    rows.len() <= MOST_USERS && are_alone(rows)
 }
 
 fn are_numbered(rows: &[PrintRow]) -> bool

@@ -6,7 +6,7 @@ use print_queue::{EntryList, QueueEntry};
 use print_records::{PrintList, PrintRow};
 use std::alloc::{AllocError, Global};
 
-/// A copy of users.
+/// A copy of users. Fails if out of memory.
 pub fn copy_users(alloc: Global, rows: &[UserRow]) -> Result<UserList, AllocError>
     ensures { IfOk result (λ list. list ≡ rows.now) }
 {
@@ -17,7 +17,7 @@ pub fn copy_users(alloc: Global, rows: &[UserRow]) -> Result<UserList, AllocErro
     Ok(list)
 }
 
-/// A copy of entries.
+/// A copy of entries. Fails if out of memory.
 pub fn copy_entries(alloc: Global, rows: &[QueueEntry]) -> Result<EntryList, AllocError>
     ensures { IfOk result (λ list. list ≡ rows.now) }
 {
@@ -28,7 +28,7 @@ pub fn copy_entries(alloc: Global, rows: &[QueueEntry]) -> Result<EntryList, All
     Ok(list)
 }
 
-/// A copy of records of prints.
+/// A copy of records of prints. Fails if out of memory.
 pub fn copy_prints(alloc: Global, rows: &[PrintRow]) -> Result<PrintList, AllocError>
     ensures { IfOk result (λ list. list ≡ rows.now) }
 {

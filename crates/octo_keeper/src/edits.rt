@@ -1,41 +1,21 @@
 //! The edits of the tables in memory.
-ghost use Rattle.std.specs.Prelude.{◌≡◌, ◌≤◌, ◌++◌, ◌∷◌, [], map, filter, not, length, OnOk, OnErr};
-ghost use Rattle.std.specs.List.{prefix_len};
-ghost use Rattle.octo_access.specs.Rows.{is_before, with_row};
-ghost use Rattle.print_queue.specs.Rows.{is_before as is_printed_before};
+ghost use Rattle.std.specs.Prelude.{◌≡◌, ◌++◌, ◌∷◌, [], map, filter, not, OnOk, OnErr};
+ghost use Rattle.octo_access.specs.Rows.{with_row};
 ghost use Rattle.print_queue.specs.Rows.{insert_row, without, without_copy};
 ghost use Rattle.octo_keeper.specs.Tables.{ended_row, with_user, with_end, with_due_end, user_set, lowered};
 
 use byte_text::Name;
-use octo_access::UserRow;
-use print_queue::QueueEntry;
+use octo_access::{UserRow, place_for_name};
+use print_queue::{QueueEntry, place_for};
 use print_records::{Ending, PrintRow};
 use std::alloc::AllocError;
-use std::cmp::Ordering;
 
-// Whether a user's name comes before a name, by their bytes.
-fn is_user_before(row: &UserRow, name: &Name) -> bool
-    ensures { result ≡ is_before row.now.name name.now }
-{
-    row.name.as_bytes().cmp(name.as_bytes()) == Ordering::Less
-}
-
-// How many users come before a name.
-fn place_of_name(rows: &[UserRow], name: &Name) -> usize
-    ensures place { result ≡ prefix_len (λ row. is_before row.name name.now) rows.now }
-    ensures within { result ≤ length rows.now }
-{
-    rows.iter()
-        .take_while(|row| is_user_before(row, name))
-        .count()
-}
-
-/// Adds a user in the place of its name.
+/// Adds a user in the place of its name. Fails if out of memory.
 pub fn put_user(rows: &mut Vec<UserRow>, row: &UserRow) -> Result<(), AllocError>
     ensures ok { OnOk result (rows.new.items ≡ with_row row.now rows.old.items) }
     ensures err { OnErr result (rows.new.items ≡ rows.old.items) }
 {
-    let place = place_of_name(rows, &row.name);
+    let place = place_for_name(rows, &row.name);
     rows.insert(place, row.copy())?;
     Ok(())
 }
@@ -44,7 +24,7 @@ pub fn put_user(rows: &mut Vec<UserRow>, row: &UserRow) -> Result<(), AllocError
 fn set_user(held: &mut UserRow, row: &UserRow)
     ensures { held.new ≡ user_set row.now held.old }
 {
-    if held.name.as_bytes() == row.name.as_bytes() {
+    if held.is_named(&row.name) {
         *held = row.copy();
     }
 }
@@ -58,20 +38,12 @@ pub fn set_users(rows: &mut [UserRow], row: &UserRow)
     }
 }
 
-// How many entries are printed before another.
-fn place_of_entry(rows: &[QueueEntry], entry: &QueueEntry) -> usize
-    ensures place { result ≡ prefix_len (λ row. is_printed_before row entry.now) rows.now }
-    ensures within { result ≤ length rows.now }
-{
-    rows.iter().take_while(|row| row.is_before(entry)).count()
-}
-
-/// Adds an entry in its place in the order.
+/// Adds an entry in its place in the order. Fails if out of memory.
 pub fn put_entry(rows: &mut Vec<QueueEntry>, entry: &QueueEntry) -> Result<(), AllocError>
     ensures ok { OnOk result (rows.new.items ≡ insert_row entry.now rows.old.items) }
     ensures err { OnErr result (rows.new.items ≡ rows.old.items) }
 {
-    let place = place_of_entry(rows, entry);
+    let place = place_for(rows, entry);
     rows.insert(place, entry.copy())?;
     Ok(())
 }
@@ -126,7 +98,7 @@ pub fn end_print(rows: &mut [PrintRow], ending: Ending)
     }
 }
 
-/// Adds a print after the end of another one, if that is due.
+/// Adds a print after the end of another one, if that is due. Fails if out of memory.
 pub fn begin_print(
     rows: &mut Vec<PrintRow>,
     ended: Option<Ending>,

@@ -9,7 +9,6 @@ use crate::{FileList, ShelfFile};
 use byte_text::Name;
 use octo_outside::Blob;
 use std::alloc::{AllocError, Global};
-use std::cmp::Ordering;
 
 // The place of the file of that name, the number of files if there is none.
 fn place_of(files: &[ShelfFile], name: &Name) -> usize
@@ -22,25 +21,18 @@ fn place_of(files: &[ShelfFile], name: &Name) -> usize
         .count()
 }
 
-// Whether a file's name comes before a name, by their bytes.
-fn is_file_before(file: &ShelfFile, name: &Name) -> bool
-    ensures { result ≡ is_before file.now.name name.now }
-{
-    file.name.as_bytes().cmp(name.as_bytes()) == Ordering::Less
-}
-
-// How many files come before a name.
-fn place_after(files: &[ShelfFile], name: &Name) -> usize
+// The place for a file of that name: how many files come before it, by the bytes of their names.
+fn place_for(files: &[ShelfFile], name: &Name) -> usize
     ensures place { result ≡ prefix_len (λ file. is_before file.name name.now) files.now }
     ensures within { result ≤ length files.now }
 {
     files
         .iter()
-        .take_while(|file| is_file_before(file, name))
+        .take_while(|file| file.name.is_before(name))
         .count()
 }
 
-/// The names of the files with their sizes.
+/// The names of the files with their sizes in bytes. Fails if out of memory.
 pub fn copy_sizes(alloc: Global, files: &[ShelfFile]) -> Result<FileList, AllocError>
     ensures { IfOk result (λ list. list ≡ sizes_of files.now) }
 {
@@ -51,7 +43,7 @@ pub fn copy_sizes(alloc: Global, files: &[ShelfFile]) -> Result<FileList, AllocE
     Ok(list)
 }
 
-/// The bytes of a file, if there is one of that name.
+/// The bytes of a file, if there is one of that name. Fails if out of memory.
 #[tactic(auto, using(std::proofs::lemmas::List::Folds::find_at, std::proofs::lemmas::Option::slice_get_past, std::proofs::lemmas::Option::slice_get_read))]
 pub fn bytes_at(alloc: Global, files: &[ShelfFile], name: &Name) -> Result<Option<Blob>, AllocError>
     ensures { IfOk result (λ bytes. bytes ≡ bytes_of name.now files.now) }
@@ -79,12 +71,12 @@ fn add_file(files: &mut Vec<ShelfFile>, file: ShelfFile) -> Result<(), AllocErro
     ensures err { OnErr result (files.new.items ≡ files.old.items) }
     ensures room { vec_len files.old < vec_capacity files.old → IsOk result }
 {
-    let place = place_after(files, &file.name);
+    let place = place_for(files, &file.name);
     files.insert(place, file)?;
     Ok(())
 }
 
-/// Sets the bytes of a name; without memory the files stay.
+/// Sets the bytes of a name. Fails if out of memory; then the files stay.
 pub fn put_file(
     alloc: Global,
     files: &mut Vec<ShelfFile>,

@@ -7,7 +7,7 @@ use thiserror::Error;
 #[derive(Clone, Copy, Debug, PartialEq, Eq, Error)]
 pub enum KeeperFault {
     /// It failed, and its count of faults rose.
-    #[error("the tables failed")]
+    #[error("tables: the keeper failed")]
     Failed,
     /// Out of memory.
     #[error("out of memory")]

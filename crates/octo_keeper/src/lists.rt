@@ -22,7 +22,7 @@ fn take_rows<T: Drop>(alloc: Global, list: &mut ItemList<T>) -> Vec<T>
     mem::replace(list, ItemList::new(alloc)).into_items()
 }
 
-/// Adds a user in the place of its name.
+/// Adds a user in the place of its name. Fails if out of memory.
 pub fn add_user(alloc: Global, list: &mut UserList, row: &UserRow) -> Result<(), AllocError>
     ensures ok { OnOk result (list.new ≡ with_row row.now list.old) }
     ensures err { OnErr result (list.new ≡ list.old) }
@@ -42,7 +42,7 @@ pub fn set_user(alloc: Global, list: &mut UserList, row: &UserRow)
     *list = UserList::from_items(rows);
 }
 
-/// Adds an entry in its place in the order.
+/// Adds an entry in its place in the order. Fails if out of memory.
 pub fn add_entry(alloc: Global, list: &mut EntryList, entry: &QueueEntry) -> Result<(), AllocError>
     ensures ok { OnOk result (list.new ≡ insert_row entry.now list.old) }
     ensures err { OnErr result (list.new ≡ list.old) }
@@ -74,7 +74,7 @@ pub fn start_copy(alloc: Global, list: &mut EntryList, taken: &Option<QueueEntry
     *list = EntryList::from_items(rows);
 }
 
-/// Adds a print after the end of another one, if that is due.
+/// Adds a print after the end of another one, if that is due. Fails if out of memory.
 pub fn add_print(
     alloc: Global,
     list: &mut PrintList,

@@ -79,10 +79,7 @@ impl Keeper for MemoryKeeper {
             self.calls.fail();
             return Err(KeeperFault::Failed);
         }
-        match self.tables.copy(alloc) {
-            Ok(tables) => Ok(tables),
-            Err(_) => Err(KeeperFault::NoMemory),
-        }
+        Ok(self.tables.copy(alloc)?)
     }
 
     fn commit(&mut self, alloc: Global, change: &Change) -> Result<(), KeeperFault>
@@ -99,9 +96,7 @@ impl Keeper for MemoryKeeper {
             self.calls.fail();
             return Err(KeeperFault::Failed);
         }
-        match self.tables.change(alloc, change) {
-            Ok(()) => Ok(()),
-            Err(_) => Err(KeeperFault::NoMemory),
-        }
+        self.tables.change(alloc, change)?;
+        Ok(())
     }
 }

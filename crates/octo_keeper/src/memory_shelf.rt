@@ -62,10 +62,7 @@ impl Shelf for MemoryShelf {
             self.calls.fail();
             return Err(ShelfFault::Failed);
         }
-        match copy_sizes(alloc, &self.files) {
-            Ok(list) => Ok(list),
-            Err(_) => Err(ShelfFault::NoMemory),
-        }
+        Ok(copy_sizes(alloc, &self.files)?)
     }
 
     fn get(&mut self, alloc: Global, name: &Name) -> Result<Option<Blob>, ShelfFault>
@@ -82,10 +79,7 @@ impl Shelf for MemoryShelf {
             self.calls.fail();
             return Err(ShelfFault::Failed);
         }
-        match bytes_at(alloc, &self.files, name) {
-            Ok(bytes) => Ok(bytes),
-            Err(_) => Err(ShelfFault::NoMemory),
-        }
+        Ok(bytes_at(alloc, &self.files, name)?)
     }
 
     fn put(&mut self, alloc: Global, name: &Name, bytes: &[u8]) -> Result<(), ShelfFault>
@@ -102,10 +96,8 @@ impl Shelf for MemoryShelf {
             self.calls.fail();
             return Err(ShelfFault::Failed);
         }
-        match put_file(alloc, &mut self.files, name, bytes) {
-            Ok(()) => Ok(()),
-            Err(_) => Err(ShelfFault::NoMemory),
-        }
+        put_file(alloc, &mut self.files, name, bytes)?;
+        Ok(())
     }
 
     fn remove(&mut self, _alloc: Global, name: &Name) -> Result<(), ShelfFault>

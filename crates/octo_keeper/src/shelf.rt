@@ -8,7 +8,7 @@ use thiserror::Error;
 #[derive(Clone, Copy, Debug, PartialEq, Eq, Error)]
 pub enum ShelfFault {
     /// It failed, and its count of faults rose.
-    #[error("the files failed")]
+    #[error("files: the shelf failed")]
     Failed,
     /// Out of memory.
     #[error("out of memory")]
@@ -61,7 +61,7 @@ pub trait Shelf {
     /// How many calls failed.
     ghost faults: { Self → ℕ };
 
-    /// The names of all files with their sizes, by name.
+    /// The names of all files with their sizes in bytes, by name.
     fn list(&mut self, alloc: Global) -> Result<FileList, ShelfFault>
         ensures ok { IfOk result (λ list. IfSome (files self.old) (λ held. list ≡ sizes_of held)) }
         ensures stays { files self.new ≡ files self.old }

@@ -61,7 +61,7 @@ impl Tables {
         }
     }
 
-    /// The same tables again.
+    /// The same tables again. Fails if out of memory.
     pub fn copy(&self, alloc: Global) -> Result<Tables, AllocError>
         ensures { IfOk result (λ copy. copy ≡ self.now) }
     {

@@ -16,13 +16,10 @@ use crate::texts::read_texts;
 use crate::values::read_section;
 use arrayvec::ArrayVec;
 use byte_text::{Name, append};
-use octo_access::{GroupFault, Groups, Permission, read_name};
+use octo_access::{GroupFault, Groups, MOST_GROUPS, Permission, read_name};
 use octo_outside::{ItemList, WordList};
 use std::alloc::Global;
 use toml::{Table, Value};
-
-/// The most groups.
-const MOST_GROUPS: usize = 16;
 
 /// The most bytes of a group's name that are part of its key.
 const MOST_OF_NAME: usize = 93;

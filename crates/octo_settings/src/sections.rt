@@ -1,5 +1,5 @@
 //! The sections of settings: the printer, its limits, the admin, and how long serving is patient.
-ghost use Rattle.std.specs.Prelude.{◌≡◌, ◌≤◌, length, codes};
+ghost use Rattle.std.specs.Prelude.{◌≡◌, ◌≤◌, length};
 ghost use Rattle.byte_text.specs.declared.name.TheConstants.{MOST_NAME_BYTES};
 ghost use Rattle.hex.specs.Hex.{decode_sized};
 ghost use Rattle.octo_access.specs.Names.{name_of};
@@ -8,13 +8,13 @@ ghost use Rattle.octo_settings.specs.Seen.{members_or, data_of_value};
 ghost use Rattle.octo_settings.specs.Values.{Reads, each, in_range};
 
 use crate::fault::{SettingsFault, missing, out_of_range, wrong_kind};
-use crate::names::text_name;
 use crate::texts::read_texts;
 use crate::values::{at, read_section, read_whole};
 use byte_text::Name;
 use hex::FromHex;
 use octo_access::{Admin, Digest, read_name};
 use octo_outside::{NameList, WordList};
+use print_queue::any_material;
 use std::alloc::Global;
 use temp_rules::Limits;
 use toml::{Table, Value};
@@ -98,13 +98,6 @@ fn read_material(key: &str, value: Option<&Value>) -> Result<Name, SettingsFault
         Some(Value::String(text)) => read_named(key, text.as_str()),
         Some(_) => Err(wrong_kind(key)),
     }
-}
-
-/// The material of a printer that takes every entry.
-pub(crate) fn any_material() -> Name
-    ensures { result ≡ codes "any" }
-{
-    text_name("any")
 }
 
 fn read_printer_in(alloc: Global, table: Option<&Table>) -> Result<Printer, SettingsFault>

@@ -9,12 +9,13 @@ ghost use Rattle.octo_settings.specs.declared.fault.SettingsFault.TheVariants.{N
 use crate::fault::SettingsFault;
 use crate::groups::read_groups;
 use crate::scripts::read_scripts;
-use crate::sections::{any_material, read_admin, read_limits, read_patience, read_printer};
+use crate::sections::{read_admin, read_limits, read_patience, read_printer};
 use crate::values::at;
 use byte_text::Name;
 use job_desk::Scripts;
 use octo_access::{Admin, Groups};
 use octo_outside::NameList;
+use print_queue::any_material;
 use std::alloc::Global;
 use std::str;
 use temp_rules::Limits;

@@ -1,7 +1,12 @@
 //! An entry of the queue.
 use byte_text::Name;
 use octo_outside::ItemList;
-use std::cmp::Ordering;
+
+/// The greatest priority of an entry.
+pub const MOST_PRIORITY: u8 = 100;
+
+/// The most copies of an entry.
+pub const MOST_COPIES: u8 = 100;
 
 /// An entry of the queue: a file that a user wants printed, some copies of it, on a printer that holds a material.
 #[derive(Debug, Drop)]

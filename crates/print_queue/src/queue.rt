@@ -1,13 +1,13 @@
 //! The queue.
 use crate::order::sort;
-use crate::rows::{count_of, last_arrival, place_after, place_for, place_of};
+use crate::rows::{count_of, last_arrival, place_for, place_of, place_of_fitting};
 use crate::{EntryList, Put, QueueEntry, QueueRefusal};
 use byte_text::Name;
 use std::alloc::{AllocError, Global};
 use std::marker::Model;
 
 /// The most entries that a user may have.
-const MOST_ENTRIES: usize = 64;
+pub const MOST_ENTRIES: usize = 64;
 
 /// The entries that wait to be printed: greatest priority first, then least arrival.
 #[derive(Drop)]
@@ -69,7 +69,8 @@ impl Queue {
     }
 
     /// Adds an entry with all its copies left, whose arrival is the greatest that is held plus 1. If this user has an equal
-    /// entry of this name, it is returned as it is held, and nothing changes.
+    /// entry of this name, it is returned as it is held, and nothing changes. Refused if an unequal entry has the name, if the
+    /// user has 64, if the greatest number of arrival is in use, or if out of memory; then nothing changes either.
     #[tactic(auto, using(std::proofs::lemmas::List::Folds::find_at, std::proofs::lemmas::Option::slice_get_past, std::proofs::lemmas::Option::slice_get_read))]
     pub fn put(
         &mut self,
@@ -134,12 +135,13 @@ impl Queue {
         let Ok(()) = self.entries.reserve(1) else {
             return Err(QueueRefusal::NoMemory);
         };
-        let place = place_after(&self.entries, &entry);
+        let place = place_for(&self.entries, &entry);
         let _ = self.entries.insert(place, entry.copy());
         Ok(Put { entry, fresh: true })
     }
 
-    /// Takes this user's entry of this name out, with all its copies. It can be put back without memory.
+    /// Takes this user's entry of this name out, with all its copies. It can be put back without memory. Refused as `NoEntry` if
+    /// there is none.
     #[tactic(auto, using(std::proofs::lemmas::List::Folds::find_at, std::proofs::lemmas::Option::slice_get_past, std::proofs::lemmas::Option::slice_get_read))]
     pub fn remove(&mut self, user: &Name, name: &Name) -> Result<QueueEntry, QueueRefusal>
         ensures answer { result
@@ -159,7 +161,7 @@ impl Queue {
     }
 
     /// Starts one copy of this user's entry of this name, and returns the entry as it was before. After its last copy the
-    /// entry is gone. It can be put back without memory.
+    /// entry is gone. It can be put back without memory. Refused as `NoEntry` if there is none.
     #[tactic(auto, using(std::proofs::lemmas::List::Folds::find_at, std::proofs::lemmas::Option::slice_get_past, std::proofs::lemmas::Option::slice_get_read))]
     pub fn take(&mut self, user: &Name, name: &Name) -> Result<QueueEntry, QueueRefusal>
         ensures answer { result
@@ -194,7 +196,7 @@ impl Queue {
             self.entries[place] = entry;
             return;
         }
-        let place = place_after(&self.entries, &entry);
+        let place = place_for(&self.entries, &entry);
         let _ = self.entries.insert(place, entry);
     }
 
@@ -205,14 +207,14 @@ impl Queue {
         ensures next { NextOf self.now.rows material.now result }
         ensures first { result ≡ find (fits material.now) self.now.rows }
     {
-        let place = place_for(&self.entries, material);
+        let place = place_of_fitting(&self.entries, material);
         if place == self.entries.len() {
             return None;
         }
         Some(self.entries[place].copy())
     }
 
-    /// The entries of a user, or of all users, in their order.
+    /// The entries of a user, or of all users, in their order. Fails if out of memory.
     pub fn own(&self, user: Option<&Name>) -> Result<EntryList, AllocError>
         ensures rows { IfOk result
             (λ list. list ≡ filter (is_of (option_map (λ u. u.now) user.entry)) self.now.rows) }

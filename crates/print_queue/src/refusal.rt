@@ -15,16 +15,16 @@ pub struct Put {
 #[derive(Debug, Drop, Error)]
 pub enum QueueRefusal {
     /// The user holds an entry of this name with another file, priority, number of copies or material.
-    #[error("another entry has this name")]
+    #[error("queue: entry {}: another one has this name", .kept.name.as_str())]
     NameTaken { kept: QueueEntry },
     /// The user holds no entry of this name.
-    #[error("no such entry")]
+    #[error("queue: no such entry")]
     NoEntry,
     /// The user holds this number of entries, the most.
-    #[error("the user has the most entries")]
+    #[error("queue: {count} entries of the user, the most")]
     Full { count: u32 },
     /// The greatest number of arrival is in use.
-    #[error("no number of arrival is left")]
+    #[error("queue: no number of arrival is left")]
     ArrivalsUsed,
     /// Out of memory.
     #[error("out of memory")]

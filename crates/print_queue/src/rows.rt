@@ -17,15 +17,15 @@ pub fn place_of(rows: &[QueueEntry], user: &Name, name: &Name) -> usize
 }
 
 /// The place of the first entry that fits, the number of rows if none does.
-pub fn place_for(rows: &[QueueEntry], material: &Name) -> usize
+pub fn place_of_fitting(rows: &[QueueEntry], material: &Name) -> usize
     ensures place { result ≡ position_or_len (fits material.now) rows.now }
     ensures within { result ≤ length rows.now }
 {
     rows.iter().take_while(|row| !row.fits(material)).count()
 }
 
-/// How many rows are printed before an entry.
-pub fn place_after(rows: &[QueueEntry], entry: &QueueEntry) -> usize
+/// The place for an entry: how many rows are printed before it.
+pub fn place_for(rows: &[QueueEntry], entry: &QueueEntry) -> usize
     ensures place { result ≡ prefix_len (λ row. is_before row entry.now) rows.now }
     ensures within { result ≤ length rows.now }
 {

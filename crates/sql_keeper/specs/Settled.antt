@@ -7,7 +7,7 @@ use Rattle.sqlite.specs.Held.{Held, state}
 use Rattle.sqlite.specs.State.{Shows}
 use Rattle.print_queue.specs.declared.entry.QueueEntry.{QueueEntry}
 use Rattle.sql_rows.specs.declared.old_queue.OldEntry.{OldEntry}
-use Rattle.sql_keeper.specs.declared.schema.TheConstants.{META, SELECT_SCHEMA, USERS, ENTRIES, PRINTS, INSERT_SCHEMA, SELECT_OLD_QUEUE, DROP_OLD_QUEUE, UPDATE_SCHEMA}
+use Rattle.sql_keeper.specs.declared.schema.TheConstants.{CREATE_META, SELECT_SCHEMA, CREATE_USERS, CREATE_ENTRIES, CREATE_PRINTS, INSERT_SCHEMA, SELECT_OLD_QUEUE, DROP_OLD_QUEUE, UPDATE_SCHEMA}
 use Rattle.sql_keeper.specs.Loads.{Found, Misread, Unread}
 use Rattle.sql_rows.specs.Holds.{HoldsOldEntry}
 use Rattle.sql_rows.specs.Rows.{old_entry_row}
@@ -20,11 +20,11 @@ plain text = with_values text []
 
 -- the tables of an empty database
 abbrev pub tables_made : List Statement
-tables_made = plain USERS.now ∷ plain ENTRIES.now ∷ plain PRINTS.now ∷ plain INSERT_SCHEMA.now ∷ []
+tables_made = plain CREATE_USERS.now ∷ plain CREATE_ENTRIES.now ∷ plain CREATE_PRINTS.now ∷ plain INSERT_SCHEMA.now ∷ []
 
 -- these entries, one by one, in the table that has the place of the queue of the schema before
 abbrev pub queue_moved : List QueueEntry → List Statement
-queue_moved entries = plain ENTRIES.now ∷ map entry_put entries ++ plain DROP_OLD_QUEUE.now ∷ plain UPDATE_SCHEMA.now ∷ []
+queue_moved entries = plain CREATE_ENTRIES.now ∷ map entry_put entries ++ plain DROP_OLD_QUEUE.now ∷ plain UPDATE_SCHEMA.now ∷ []
 
 -- the entries of that queue
 abbrev pub queue_upgraded : List OldEntry → List Statement
@@ -69,7 +69,7 @@ module _ {S : Type 0} (g : Ghosts S) where
     pub made : Held S
     pub read : Held S
     pub number : ℤ
-    pub meta : RanInTurn g (plain META.now ∷ []) old made
+    pub meta : RanInTurn g (plain CREATE_META.now ∷ []) old made
     pub found : FoundNumber number made read
     pub settled : SettledFrom number read new
 
@@ -101,8 +101,8 @@ module _ {S : Type 0} (g : Ghosts S) where
   -- its table can't be made, or that fails
   abbrev pub FailsToSettle : Held S → Held S → Type 0
   FailsToSettle old new =
-      FailsInTurn g (plain META.now ∷ []) old new
-      ⊎ ((made : Held S) × RanInTurn g (plain META.now ∷ []) old made × FailsAtNumber made new)
+      FailsInTurn g (plain CREATE_META.now ∷ []) old new
+      ⊎ ((made : Held S) × RanInTurn g (plain CREATE_META.now ∷ []) old made × FailsAtNumber made new)
 
   -- why a database isn't adopted
   abbrev pub FailsToAdopt : Held S → Held S → Type 0

@@ -11,8 +11,8 @@ ghost use Rattle.octo_keeper.specs.declared.keeper.KeeperFault.TheVariants as fa
 use crate::entries::put_entry;
 use crate::fault::fault_of;
 use crate::schema::{
-    DROP_OLD_QUEUE, ENTRIES, INSERT_SCHEMA, META, PRINTS, SCHEMA, SCHEMA_BEFORE, SELECT_OLD_QUEUE,
-    SELECT_SCHEMA, UPDATE_SCHEMA, USERS,
+    CREATE_ENTRIES, CREATE_META, CREATE_PRINTS, CREATE_USERS, DROP_OLD_QUEUE, FORMER_SCHEMA_NUMBER,
+    INSERT_SCHEMA, SCHEMA_NUMBER, SELECT_OLD_QUEUE, SELECT_SCHEMA, UPDATE_SCHEMA,
 };
 use crate::statement;
 use octo_keeper::KeeperFault;
@@ -81,9 +81,9 @@ fn make_tables<S: Alter>(transaction: &mut Transaction<'_, S>) -> Result<(), Kee
         (FailsInTurn S.Store tables_made)
         transaction.old.conn.now transaction.new.conn.now }
 {
-    run(transaction, USERS)?;
-    run(transaction, ENTRIES)?;
-    run(transaction, PRINTS)?;
+    run(transaction, CREATE_USERS)?;
+    run(transaction, CREATE_ENTRIES)?;
+    run(transaction, CREATE_PRINTS)?;
     run(transaction, INSERT_SCHEMA)
 }
 
@@ -121,7 +121,7 @@ fn move_queue<S: Alter>(
         (FailsInTurn S.Store (queue_moved entries.now))
         transaction.old.conn.now transaction.new.conn.now }
 {
-    run(transaction, ENTRIES)?;
+    run(transaction, CREATE_ENTRIES)?;
     put_entries(transaction, entries)?;
     run(transaction, DROP_OLD_QUEUE)?;
     run(transaction, UPDATE_SCHEMA)
@@ -156,17 +156,17 @@ fn settle<S: Alter>(alloc: Global, transaction: &mut Transaction<'_, S>) -> Resu
         (FailsToSettle S.Store)
         transaction.old.conn.now transaction.new.conn.now }
 {
-    run(transaction, META)?;
+    run(transaction, CREATE_META)?;
     match schema_of(transaction)? {
         0 => make_tables(transaction),
-        SCHEMA_BEFORE => upgrade_tables(alloc, transaction),
-        SCHEMA => Ok(()),
+        FORMER_SCHEMA_NUMBER => upgrade_tables(alloc, transaction),
+        SCHEMA_NUMBER => Ok(()),
         _ => Err(KeeperFault::Failed),
     }
 }
 
-/// Brings the database to the schema that is kept, in one transaction; after a fault it is as it was.
-pub fn settle_schema<S: Alter>(
+// Brings the database to the schema that is kept, in one transaction; after a fault it is as it was.
+pub(crate) fn settle_schema<S: Alter>(
     alloc: Global,
     connection: &mut Connection<S>,
 ) -> Result<(), KeeperFault>

@@ -32,8 +32,8 @@ fn key_values<'a>(user: &'a Name, name: &'a Name) -> [ValueRef<'a>; 2]
     ]
 }
 
-/// All entries: greatest priority first, then least arrival.
-pub fn load_entries<S: Alter>(
+// All entries: greatest priority first, then least arrival.
+pub(crate) fn load_entries<S: Alter>(
     alloc: Global,
     connection: &mut Connection<S>,
 ) -> Result<EntryList, KeeperFault>
@@ -50,8 +50,8 @@ pub fn load_entries<S: Alter>(
     }
 }
 
-/// Adds an entry.
-pub fn put_entry<S: Alter>(
+// Adds an entry.
+pub(crate) fn put_entry<S: Alter>(
     transaction: &mut Transaction<'_, S>,
     entry: &QueueEntry,
 ) -> Result<(), Error>
@@ -64,8 +64,8 @@ pub fn put_entry<S: Alter>(
     run(transaction, INSERT_ENTRY, &entry_values(entry))
 }
 
-/// Takes a user's entry of a name out.
-pub fn drop_entry<S: Alter>(
+// Takes a user's entry of a name out.
+pub(crate) fn drop_entry<S: Alter>(
     transaction: &mut Transaction<'_, S>,
     user: &Name,
     name: &Name,
@@ -103,9 +103,9 @@ fn take_copy<S: Alter>(
     )
 }
 
-/// Starts one copy of the entry that was taken, if one was.
+// Starts one copy of the entry that was taken, if one was.
 #[tactic(auto, using(crate::proofs::Kept::kept_same))]
-pub fn take_entry<S: Alter>(
+pub(crate) fn take_entry<S: Alter>(
     transaction: &mut Transaction<'_, S>,
     taken: &Option<QueueEntry>,
 ) -> Result<(), Error>

@@ -32,8 +32,11 @@ impl<S: Alter + Drop> SqlKeeper<S> {
     ghost use Rattle.octo_keeper.specs.declared.keeper.KeeperFault.TheVariants as fault;
 
     /// Takes a database over. An empty one gets its tables, one of the schema before is upgraded, each in one transaction; one of
-    /// another schema, and one whose transaction is open, is a fault.
-    pub fn adopt(alloc: Global, connection: Connection<S>) -> Result<SqlKeeper<S>, NotAdopted<S>>
+    /// another schema, and one whose transaction is open, is a fault. Fails if the database does, or if out of memory.
+    pub fn adopt(
+        alloc: Global,
+        mut connection: Connection<S>,
+    ) -> Result<SqlKeeper<S>, NotAdopted<S>>
         ensures fresh { IfOk result (λ keeper. keeper.faults ≡ 0) }
         ensures settled { IfOk result (λ keeper. HasCleanDisk (state S.Store keeper.connection)
             → Settles S.Store connection keeper.connection) }
@@ -45,7 +48,6 @@ impl<S: Alter + Drop> SqlKeeper<S> {
         ensures refused { IfErr result
             (λ refused. IsAtomic (state S.Store connection) (state S.Store refused.connection)) }
     {
-        let mut connection = connection;
         match settle_schema(alloc, &mut connection) {
             Ok(()) => Ok(SqlKeeper {
                 connection,

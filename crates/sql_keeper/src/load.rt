@@ -33,8 +33,8 @@ fn load_rows<S: Alter>(alloc: Global, connection: &mut Connection<S>) -> Result<
     })
 }
 
-/// The tables that are kept, if a host can begin with them.
-pub fn load_tables<S: Alter>(
+// The tables that are kept, if a host can begin with them.
+pub(crate) fn load_tables<S: Alter>(
     alloc: Global,
     connection: &mut Connection<S>,
 ) -> Result<Tables, KeeperFault>

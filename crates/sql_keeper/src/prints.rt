@@ -21,8 +21,8 @@ use sqlite::types::ValueRef;
 use sqlite::{Alter, Connection, Error, Transaction};
 use std::alloc::Global;
 
-/// All print records, by number.
-pub fn load_prints<S: Alter>(
+// All print records, by number.
+pub(crate) fn load_prints<S: Alter>(
     alloc: Global,
     connection: &mut Connection<S>,
 ) -> Result<PrintList, KeeperFault>
@@ -39,8 +39,8 @@ pub fn load_prints<S: Alter>(
     }
 }
 
-/// Adds a print record.
-pub fn put_print<S: Alter>(
+// Adds a print record.
+pub(crate) fn put_print<S: Alter>(
     transaction: &mut Transaction<'_, S>,
     print: &PrintRow,
 ) -> Result<(), Error>
@@ -63,8 +63,8 @@ fn end_values<'a>(ending: Ending) -> [ValueRef<'a>; 2]
     ]
 }
 
-/// Ends the print of a number.
-pub fn end_print<S: Alter>(
+// Ends the print of a number.
+pub(crate) fn end_print<S: Alter>(
     transaction: &mut Transaction<'_, S>,
     ending: Ending,
 ) -> Result<(), Error>
@@ -77,9 +77,9 @@ pub fn end_print<S: Alter>(
     run(transaction, END_PRINT, &end_values(ending))
 }
 
-/// Ends another print, if its end is due.
+// Ends another print, if its end is due.
 #[tactic(auto, using(crate::proofs::Kept::kept_same))]
-pub fn end_due<S: Alter>(
+pub(crate) fn end_due<S: Alter>(
     transaction: &mut Transaction<'_, S>,
     ended: Option<Ending>,
 ) -> Result<(), Error>

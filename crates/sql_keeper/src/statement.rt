@@ -7,8 +7,8 @@ ghost use Rattle.sql_keeper.specs.Statements.{Refuses, Runs, with_values};
 use sqlite::types::ValueRef;
 use sqlite::{Alter, Error, Transaction};
 
-/// Runs a statement with these parameters.
-pub fn run<S: Alter>(
+// Runs a statement with these parameters.
+pub(crate) fn run<S: Alter>(
     transaction: &mut Transaction<'_, S>,
     sql: &str,
     values: &[ValueRef<'_>],

@@ -19,8 +19,8 @@ use sql_rows::{text_of_groups, user_values, users_of};
 use sqlite::{Alter, Connection, Error, Transaction};
 use std::alloc::Global;
 
-/// All users, by name.
-pub fn load_users<S: Alter>(
+// All users, by name.
+pub(crate) fn load_users<S: Alter>(
     alloc: Global,
     connection: &mut Connection<S>,
 ) -> Result<UserList, KeeperFault>
@@ -39,9 +39,9 @@ pub fn load_users<S: Alter>(
     }
 }
 
-/// Adds a user.
+// Adds a user.
 #[tactic(auto, using(crate::proofs::Kept::kept_then, crate::proofs::Kept::kept_same))]
-pub fn put_user<S: Alter>(
+pub(crate) fn put_user<S: Alter>(
     alloc: Global,
     transaction: &mut Transaction<'_, S>,
     user: &UserRow,
@@ -60,9 +60,9 @@ pub fn put_user<S: Alter>(
     )
 }
 
-/// Sets the row of a user's name.
+// Sets the row of a user's name.
 #[tactic(auto, using(crate::proofs::Kept::kept_then, crate::proofs::Kept::kept_same))]
-pub fn set_user<S: Alter>(
+pub(crate) fn set_user<S: Alter>(
     alloc: Global,
     transaction: &mut Transaction<'_, S>,
     user: &UserRow,

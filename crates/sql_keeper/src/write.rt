@@ -63,8 +63,8 @@ fn write_change<S: Alter>(
     }
 }
 
-/// Writes a change in one transaction: all of its statements run, or nothing of it is kept.
-pub fn commit_change<S: Alter>(
+// Writes a change in one transaction: all of its statements run, or nothing of it is kept.
+pub(crate) fn commit_change<S: Alter>(
     alloc: Global,
     connection: &mut Connection<S>,
     change: &Change,

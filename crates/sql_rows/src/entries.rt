@@ -49,7 +49,7 @@ fn entry_of(row: &Row) -> Option<QueueEntry>
     })
 }
 
-/// The entries of rows; a row that holds none is a fault.
+/// The entries of rows; a row that holds none is a fault. Fails as well if out of memory.
 pub fn entries_of(alloc: Global, rows: &[Row]) -> Result<EntryList, KeeperFault>
     ensures ok { IfOk result (λ entries. map entry_row entries ≡ rows.now) }
     ensures failed { IsErrOf result fault.Failed → ¬ All HoldsEntry rows.now }

@@ -1,5 +1,5 @@
 //! The queue of the schema before, which knew neither copies nor materials.
-ghost use Rattle.std.specs.Prelude.{◌≡◌, codes, map, MatchOption, IfOk, IsErrOf};
+ghost use Rattle.std.specs.Prelude.{◌≡◌, map, MatchOption, IfOk, IsErrOf};
 ghost use Rattle.std.specs.List.{All};
 ghost use Rattle.octo_keeper.specs.declared.keeper.KeeperFault.TheVariants as fault;
 ghost use Rattle.sql_rows.specs.Holds.{HoldsOldEntry};
@@ -9,7 +9,7 @@ ghost use Rattle.sql_rows.specs.Upgrade.{upgraded};
 use crate::reading::{name_at, u8_at, u32_at};
 use byte_text::Name;
 use octo_keeper::KeeperFault;
-use print_queue::{EntryList, QueueEntry};
+use print_queue::{EntryList, QueueEntry, any_material};
 use sqlite::Row;
 use std::alloc::{AllocError, Global};
 
@@ -41,7 +41,7 @@ fn old_entry_of(row: &Row) -> Option<OldEntry>
     })
 }
 
-/// The entries of rows of the schema before; a row that holds none is a fault.
+/// The entries of rows of the schema before; a row that holds none is a fault. Fails as well if out of memory.
 pub fn old_entries_of(alloc: Global, rows: &[Row]) -> Result<Vec<OldEntry>, KeeperFault>
     ensures ok { IfOk result (λ entries. map old_entry_row entries.items ≡ rows.now) }
     ensures failed { IsErrOf result fault.Failed → ¬ All HoldsOldEntry rows.now }
@@ -56,16 +56,6 @@ pub fn old_entries_of(alloc: Global, rows: &[Row]) -> Result<Vec<OldEntry>, Keep
     Ok(entries)
 }
 
-// The material that fits every printer.
-fn any() -> Name
-    ensures { result ≡ codes "any" }
-{
-    match Name::from_text("any") {
-        Some(any) => any,
-        None => unreachable!(),
-    }
-}
-
 // The entry as one copy of any material.
 fn upgrade_entry(old: &OldEntry) -> QueueEntry
     ensures { result ≡ upgraded old.now }
@@ -77,12 +67,12 @@ fn upgrade_entry(old: &OldEntry) -> QueueEntry
         priority: old.priority,
         copies: 1,
         left: 1,
-        material: any(),
+        material: any_material(),
         arrival: old.arrival,
     }
 }
 
-/// The entries in the same order, each as one copy of any material.
+/// The entries in the same order, each as one copy of any material. Fails if out of memory.
 pub fn upgrade(alloc: Global, rows: &[OldEntry]) -> Result<EntryList, AllocError>
     ensures { IfOk result (λ entries. entries ≡ map upgraded rows.now) }
 {

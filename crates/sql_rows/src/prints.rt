@@ -70,7 +70,7 @@ fn print_of(row: &Row) -> Option<PrintRow>
     })
 }
 
-/// The prints of rows; a row that holds none is a fault.
+/// The prints of rows; a row that holds none is a fault. Fails as well if out of memory.
 pub fn prints_of(alloc: Global, rows: &[Row]) -> Result<PrintList, KeeperFault>
     ensures ok { IfOk result (λ prints. map print_row prints ≡ rows.now) }
     ensures failed { IsErrOf result fault.Failed → ¬ All HoldsPrint rows.now }

@@ -9,7 +9,7 @@ ghost use Rattle.sql_rows.specs.Rows.{joined, spaced, user_row};
 use crate::reading::{digest_at, flag_at, name_at, text_at};
 use arrayvec::ArrayVec;
 use byte_text::Name;
-use octo_access::{UserList, UserRow};
+use octo_access::{GroupNames, UserList, UserRow};
 use octo_keeper::KeeperFault;
 use sqlite::Row;
 use sqlite::types::ValueRef;
@@ -26,7 +26,7 @@ fn add_spaced(text: &mut String, names: &[Name]) -> Result<(), AllocError>
     Ok(())
 }
 
-/// The names of groups, with one space between each two.
+/// The names of groups, with one space between each two. Fails if out of memory.
 pub fn text_of_groups(alloc: Global, groups: &[Name]) -> Result<String, AllocError>
     ensures { IfOk result (λ text. string_bytes text ≡ joined groups.now) }
 {
@@ -53,7 +53,7 @@ pub fn user_values<'a>(user: &'a UserRow, groups: &'a str) -> [ValueRef<'a>; 4]
 }
 
 // The names of groups of such a text; at most eight, none of them empty.
-fn groups_of(text: &str) -> Option<ArrayVec<Name, 8>>
+fn groups_of(text: &str) -> Option<GroupNames>
     ensures { MatchOption result ((groups : List (List ℕ)) → ¬ IsTextOf groups text.now)
         (λ groups. IsTextOf groups.items text.now) }
 {
@@ -87,7 +87,7 @@ fn user_of(row: &Row) -> Option<UserRow>
     })
 }
 
-/// The users of rows; a row that holds none is a fault.
+/// The users of rows; a row that holds none is a fault. Fails as well if out of memory.
 pub fn users_of(alloc: Global, rows: &[Row]) -> Result<UserList, KeeperFault>
     ensures ok { IfOk result (λ users. map user_row users ≡ rows.now) }
     ensures groups { IfOk result (All HasGroups) }

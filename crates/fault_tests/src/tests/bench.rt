@@ -52,7 +52,7 @@ impl Bench {
         }
     }
 
-    /// Lets the host go. A function that let its bench fall would prove the drops of all that it has again.
+    /// Drops the bench in one place. A function in which it goes out of scope would have to prove that drop itself.
     pub(super) fn end(self) {}
 
     fn ask(&mut self, rt: &impl Abort, key: &[u8], wish: Wish) -> Seen {

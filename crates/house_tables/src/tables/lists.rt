@@ -11,14 +11,14 @@ use octo_asks::{ShownEntryList, ShownPrintList, ShownUserList};
 use std::alloc::AllocError;
 
 impl HostTables {
-    /// All users.
+    /// All users. Fails if out of memory.
     pub fn shown_users(&self) -> Result<ShownUserList, AllocError>
         ensures { IfOk result (λ list. list ≡ map shown_user self.now.users) }
     {
         shown_users(self.alloc, self.users.rows())
     }
 
-    /// The entries of a user, or of all users, in the order of the queue.
+    /// The entries of a user, or of all users, in the order of the queue. Fails if out of memory.
     pub fn shown_entries(&self, user: &Option<Name>) -> Result<ShownEntryList, AllocError>
         ensures { IfOk result (λ list.
             list ≡ map shown_entry (filter (is_of user.now) self.now.queue)) }
@@ -26,7 +26,7 @@ impl HostTables {
         shown_entries(self.alloc, self.queue.entries(), user)
     }
 
-    /// The prints of a user, or of all users, newest first, at most 100.
+    /// The prints of a user, or of all users, newest first, at most 100. Fails if out of memory.
     pub fn shown_prints(&self, user: &Option<Name>) -> Result<ShownPrintList, AllocError>
         ensures { IfOk result (λ list. list
             ≡ map shown_print

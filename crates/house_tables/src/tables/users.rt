@@ -8,12 +8,11 @@ ghost use Rattle.house_tables.specs.Data.{over};
 ghost use Rattle.house_tables.specs.Done.{TablesDone};
 
 use super::HostTables;
-use arrayvec::ArrayVec;
 use byte_text::Name;
 use house_rows::{
     answer_of_keeper_fault, answer_of_user_refusal, changed_user, new_user, nobody, user_named,
 };
-use octo_access::{Policy, UserRow};
+use octo_access::{GroupNames, Policy, UserRow};
 use octo_asks::{Answer, ShownUser};
 use octo_keeper::{Change, Keeper};
 use octo_outside::Blob;
@@ -26,7 +25,7 @@ impl HostTables {
         policy: &Policy,
         name: &Name,
         key: &Blob,
-        groups: &ArrayVec<Name, 8>,
+        groups: &GroupNames,
         active: bool,
     ) -> Answer
         ensures done { (k : Known) → k.policy ≡ policy.now → IsDone
@@ -67,7 +66,7 @@ impl HostTables {
         policy: &Policy,
         name: &Name,
         key: &Option<Blob>,
-        groups: &Option<ArrayVec<Name, 8>>,
+        groups: &Option<GroupNames>,
         active: Option<bool>,
     ) -> Answer
         ensures done { (k : Known) → k.policy ≡ policy.now → IsDone

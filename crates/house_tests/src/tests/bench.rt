@@ -56,7 +56,7 @@ impl Bench {
         Bench::failing(rt, alloc, "any", &[], &[])
     }
 
-    /// Ends the host. A test that let its bench fall would prove the drops of all that it has again.
+    /// Drops the bench in one place. A test in which it goes out of scope would have to prove that drop itself.
     pub(super) fn end(self) {}
 
     /// Another host takes the place of this one, on what the keeper and the shelf hold.

@@ -15,6 +15,7 @@ ghost use Rattle.octo_house.specs.Groups.{is_edit, is_row, is_reading};
 ghost use Rattle.octo_house.specs.State.{known_of};
 
 use super::House;
+use super::upload::Wanted;
 use house_rows::asked_entry;
 use octo_access::{Permission, UserRow};
 use octo_asks::{Answer, Ask, Request, needed};
@@ -22,8 +23,9 @@ use octo_keeper::{Keeper, Shelf};
 use print_queue::QueueEntry;
 
 impl House {
-    /// Answers an ask: the first refusal that applies, or what is done. A fault changes nothing, nor does running out of memory, but
-    /// that a stored file stays stored. The moment, in milliseconds, is the answer's in the history.
+    /// Answers an ask: the first refusal that applies, or what is done. If the keeper or the shelf fails, or memory runs out,
+    /// nothing changes, except that a file that was stored already stays stored. The moment, in milliseconds, is the answer's in
+    /// the history.
     pub fn ask<K: Keeper, S: Shelf>(
         &mut self,
         keeper: &mut K,
@@ -156,7 +158,13 @@ impl House {
                 bytes,
                 select,
                 print,
-            } => self.put_file(keeper, shelf, user, name, bytes.as_slice(), *select, *print),
+            } => {
+                let asked = Wanted {
+                    select: *select,
+                    print: *print,
+                };
+                self.put_file(keeper, shelf, user, name, bytes.as_slice(), asked)
+            }
             Request::SelectFile { name, print: true } => {
                 self.print_named(keeper, shelf, &user.name, name)
             }

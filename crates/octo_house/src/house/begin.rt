@@ -28,7 +28,7 @@ use std::alloc::Global;
 impl House {
     /// A host with a new session, these ports and the printer's material, on what the keeper and the shelf hold. A print
     /// that was going on when the last host ended is read as failed. Each later call with a keeper or a shelf is handed
-    /// these, which no one else uses.
+    /// these, which no one else uses. Fails if the keeper or the shelf does, or if out of memory.
     pub fn begin<K: Keeper, S: Shelf>(
         alloc: Global,
         session: Session,

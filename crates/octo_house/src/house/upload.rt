@@ -21,8 +21,7 @@ use byte_text::Name;
 use desk_steps::{Limits, State};
 use gcode_lines::{Job, read_commands};
 use house_rows::{
-    add_name, answer_of_refusal, answer_of_shelf_fault, bad_file, is_among, may_select,
-    reserve_name,
+    add_name, answer_of_refusal, answer_of_shelf_fault, bad_file, may_select, reserve_name,
 };
 use octo_access::{Permission, UserRow};
 use octo_asks::{Answer, StoredCause};
@@ -32,15 +31,15 @@ use temp_rules::first_hot;
 /// The most files.
 const MOST_FILES: usize = 1_000;
 
-// What an upload asks for beside storing, and may have.
+// What an upload asks for beside storing, or may have of it.
 #[derive(Clone, Copy)]
-struct Wanted {
-    select: bool,
-    print: bool,
+pub(super) struct Wanted {
+    pub select: bool,
+    pub print: bool,
 }
 
 impl House {
-    // Stores a file, and as the flags ask selects and prints it for a user.
+    // Stores a file, and as it is asked selects and prints it for a user.
     pub(super) fn put_file<K: Keeper, S: Shelf>(
         &mut self,
         keeper: &mut K,
@@ -48,14 +47,13 @@ impl House {
         user: &UserRow,
         name: &Name,
         bytes: &[u8],
-        select: bool,
-        print: bool,
+        asked: Wanted,
     ) -> Answer
-        ensures done { Answers (put_file_verdict user.now name.now bytes.now select print
-            (known_of self.old)) result self.old self.new }
+        ensures done { Answers (put_file_verdict user.now name.now bytes.now
+            asked.select asked.print (known_of self.old)) result self.old self.new }
         ensures files { Shelves (S.files shelf.old) (S.files shelf.new)
-            (λ _. put_file_verdict user.now name.now bytes.now select print (known_of self.old))
-            result }
+            (λ _. put_file_verdict user.now name.now bytes.now
+            asked.select asked.print (known_of self.old)) result }
         ensures rest { AskDone K.tables K.faults S.files S.faults
             keeper.old keeper.new shelf.old shelf.new result self.old self.new }
     {
@@ -66,7 +64,7 @@ impl House {
         if let Err(answer) = self.store(shelf, name, bytes) {
             return answer;
         }
-        let wanted = self.wanted(user, &job, select, print);
+        let wanted = self.wanted(user, &job, asked);
         if !wanted.select {
             return Answer::Uploaded {
                 name: name.copy(),
@@ -124,7 +122,7 @@ impl House {
             × (full ≡ answer.Full (shown_count (length self.now.names.items)))) }
     {
         let held = self.names.len();
-        if !is_among(&self.names, name) && held >= MOST_FILES {
+        if !self.holds(name) && held >= MOST_FILES {
             return Err(Answer::Full {
                 count: held.min(u32::MAX as usize) as u32,
             });
@@ -133,16 +131,17 @@ impl House {
     }
 
     // Whether a stored file is to be selected and printed: it is asked for, and user, desk and limits permit it.
-    fn wanted(&self, user: &UserRow, job: &Job, select: bool, print: bool) -> Wanted
-        ensures select { result.select ≡ is_selected user.now select print (known_of self.now) }
+    fn wanted(&self, user: &UserRow, job: &Job, asked: Wanted) -> Wanted
+        ensures select { result.select
+            ≡ is_selected user.now asked.select asked.print (known_of self.now) }
         ensures print { (name : List ℕ) → result.print
-            ≡ is_printed user.now print (named_file name job.now) (known_of self.now) }
+            ≡ is_printed user.now asked.print (named_file name job.now) (known_of self.now) }
     {
         Wanted {
-            select: (select || print)
+            select: (asked.select || asked.print)
                 && self.policy.allowed(user, Permission::FilesSelect)
                 && may_select(self.desk.session.desk().state()),
-            print: print
+            print: asked.print
                 && self.policy.allowed(user, Permission::Print)
                 && self.desk.session.desk().state() == State::Operational
                 && is_cool(job, self.desk.session.desk().limits())

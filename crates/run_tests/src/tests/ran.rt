@@ -71,7 +71,7 @@ impl Ran {
         }
     }
 
-    /// Lets go of what the run left. A test that let it fall would prove the drops of all that it has again.
+    /// Drops what the run left in one place. A test in which it goes out of scope would have to prove that drop itself.
     pub(super) fn end(self) {}
 
     pub(super) fn calls(&self) -> u64 {

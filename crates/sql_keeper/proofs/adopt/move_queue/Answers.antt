@@ -1,7 +1,7 @@
 -- The statements of the upgrade, one after the other.
 use Rattle.std.proofs.Common.{[], ◌∷◌, ◌++◌, map, IsErrOf, rules}
 use Rattle.octo_keeper.specs.declared.keeper.KeeperFault.TheVariants as fault
-use Rattle.sql_keeper.specs.declared.schema.TheConstants.{ENTRIES, DROP_OLD_QUEUE, UPDATE_SCHEMA}
+use Rattle.sql_keeper.specs.declared.schema.TheConstants.{CREATE_ENTRIES, DROP_OLD_QUEUE, UPDATE_SCHEMA}
 use Rattle.sql_keeper.specs.Settled.{plain}
 use Rattle.sql_keeper.specs.Statements.{entry_put}
 use Rattle.sql_keeper.proofs.Failures.{fails_at, fails_then}
@@ -19,7 +19,7 @@ returns-clause-ran g c =
     let puts = map entry_put c.args.entries.now in
     let last = c.run-3.ensures.stores in
     let dropped = unstored_then g.S.Store d e f c.run-2.ensures.stores last in
-    runs_unstored g.S.Store c.run-3.result (plain ENTRIES.now ∷ []) (puts ++ plain DROP_OLD_QUEUE.now ∷ plain UPDATE_SCHEMA.now ∷ []) a b f
+    runs_unstored g.S.Store c.run-3.result (plain CREATE_ENTRIES.now ∷ []) (puts ++ plain DROP_OLD_QUEUE.now ∷ plain UPDATE_SCHEMA.now ∷ []) a b f
     (unstored_then g.S.Store b d f c.put_entries.ensures.stores dropped) c.in_ok-run.ensures.ran
     (runs_unstored g.S.Store c.run-3.result puts (plain DROP_OLD_QUEUE.now ∷ plain UPDATE_SCHEMA.now ∷ []) b d f dropped c.in_ok-put_entries.ensures.ran
     (runs_unstored g.S.Store c.run-3.result (plain DROP_OLD_QUEUE.now ∷ []) (plain UPDATE_SCHEMA.now ∷ []) d e f last c.in_ok-run-2.ensures.ran c.run-3.ensures.ran))
@@ -27,7 +27,7 @@ returns-clause-ran g c =
 pub returns-in_err-run-clause-failed : goal.returns-in_err-run-clause-failed
 returns-in_err-run-clause-failed g c failed =
     let is : IsErrOf c.run.result fault.Failed = search rules in
-    fails_at g.S.Store (plain ENTRIES.now ∷ []) (map entry_put c.args.entries.now ++ plain DROP_OLD_QUEUE.now ∷ plain UPDATE_SCHEMA.now ∷ []) c.args.transaction.now.conn.now c.run.new.transaction.conn.now (c.run.ensures.failed is)
+    fails_at g.S.Store (plain CREATE_ENTRIES.now ∷ []) (map entry_put c.args.entries.now ++ plain DROP_OLD_QUEUE.now ∷ plain UPDATE_SCHEMA.now ∷ []) c.args.transaction.now.conn.now c.run.new.transaction.conn.now (c.run.ensures.failed is)
 
 pub returns-in_err-put_entries-clause-failed : goal.returns-in_err-put_entries-clause-failed
 returns-in_err-put_entries-clause-failed g c failed =
@@ -36,7 +36,7 @@ returns-in_err-put_entries-clause-failed g c failed =
     let d = c.put_entries.new.transaction.conn in
     let puts = map entry_put c.args.entries.now in
     let is : IsErrOf c.put_entries.result fault.Failed = search rules in
-    fails_then g.S.Store (plain ENTRIES.now ∷ []) (puts ++ plain DROP_OLD_QUEUE.now ∷ plain UPDATE_SCHEMA.now ∷ []) a b d c.put_entries.ensures.stores c.in_ok-run.ensures.ran
+    fails_then g.S.Store (plain CREATE_ENTRIES.now ∷ []) (puts ++ plain DROP_OLD_QUEUE.now ∷ plain UPDATE_SCHEMA.now ∷ []) a b d c.put_entries.ensures.stores c.in_ok-run.ensures.ran
     (fails_at g.S.Store puts (plain DROP_OLD_QUEUE.now ∷ plain UPDATE_SCHEMA.now ∷ []) b.now d.now (c.put_entries.ensures.failed is))
 
 pub returns-in_err-run-2-clause-failed : goal.returns-in_err-run-2-clause-failed
@@ -48,7 +48,7 @@ returns-in_err-run-2-clause-failed g c failed =
     let puts = map entry_put c.args.entries.now in
     let is : IsErrOf c.run-2.result fault.Failed = search rules in
     let last = c.run-2.ensures.stores in
-    fails_then g.S.Store (plain ENTRIES.now ∷ []) (puts ++ plain DROP_OLD_QUEUE.now ∷ plain UPDATE_SCHEMA.now ∷ []) a b e (unstored_then g.S.Store b d e c.put_entries.ensures.stores last) c.in_ok-run.ensures.ran
+    fails_then g.S.Store (plain CREATE_ENTRIES.now ∷ []) (puts ++ plain DROP_OLD_QUEUE.now ∷ plain UPDATE_SCHEMA.now ∷ []) a b e (unstored_then g.S.Store b d e c.put_entries.ensures.stores last) c.in_ok-run.ensures.ran
     (fails_then g.S.Store puts (plain DROP_OLD_QUEUE.now ∷ plain UPDATE_SCHEMA.now ∷ []) b d e last c.in_ok-put_entries.ensures.ran
     (fails_at g.S.Store (plain DROP_OLD_QUEUE.now ∷ []) (plain UPDATE_SCHEMA.now ∷ []) d.now e.now (c.run-2.ensures.failed is)))
 
@@ -62,6 +62,6 @@ returns-clause-failed g c failed =
     let puts = map entry_put c.args.entries.now in
     let last = c.run-3.ensures.stores in
     let dropped = unstored_then g.S.Store d e f c.run-2.ensures.stores last in
-    fails_then g.S.Store (plain ENTRIES.now ∷ []) (puts ++ plain DROP_OLD_QUEUE.now ∷ plain UPDATE_SCHEMA.now ∷ []) a b f (unstored_then g.S.Store b d f c.put_entries.ensures.stores dropped) c.in_ok-run.ensures.ran
+    fails_then g.S.Store (plain CREATE_ENTRIES.now ∷ []) (puts ++ plain DROP_OLD_QUEUE.now ∷ plain UPDATE_SCHEMA.now ∷ []) a b f (unstored_then g.S.Store b d f c.put_entries.ensures.stores dropped) c.in_ok-run.ensures.ran
     (fails_then g.S.Store puts (plain DROP_OLD_QUEUE.now ∷ plain UPDATE_SCHEMA.now ∷ []) b d f dropped c.in_ok-put_entries.ensures.ran
     (fails_then g.S.Store (plain DROP_OLD_QUEUE.now ∷ []) (plain UPDATE_SCHEMA.now ∷ []) d e f last c.in_ok-run-2.ensures.ran (c.run-3.ensures.failed failed)))

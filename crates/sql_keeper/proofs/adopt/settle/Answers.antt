@@ -3,7 +3,7 @@ use Rattle.std.proofs.Common.{◌≡◌, pos, [], ◌∷◌, inl, inr, refl, rul
 use Rattle.octo_keeper.specs.declared.keeper.KeeperFault.TheVariants as fault
 use Rattle.sqlite.specs.Held.{state}
 use Rattle.sqlite.specs.State.{HasCleanDisk}
-use Rattle.sql_keeper.specs.declared.schema.TheConstants.{META, SELECT_SCHEMA}
+use Rattle.sql_keeper.specs.declared.schema.TheConstants.{CREATE_META, SELECT_SCHEMA}
 use Rattle.sql_keeper.specs.Settled.{IsForeign, Settled, Upgraded, plain, tables_made}
 use Rattle.sql_keeper.specs.Statements.{Runs}
 use Rattle.sql_keeper.proofs.Kept.{unstored_clean}
@@ -70,7 +70,7 @@ returns-in_err-schema_of-clause-failed g c failed clean inside =
     let d = c.schema_of.new.transaction.conn in
     let is : IsErrOf c.schema_of.result fault.Failed = search rules in
     let ran = c.in_ok-run.ensures.ran (unstored_clean g.S.Store b d c.schema_of.ensures.stores clean) in
-    inr (b.now, ran, inl (c.schema_of.ensures.failed is clean (ran_inside g.S.Store (plain META.now ∷ []) a.now b.now ran inside)))
+    inr (b.now, ran, inl (c.schema_of.ensures.failed is clean (ran_inside g.S.Store (plain CREATE_META.now ∷ []) a.now b.now ran inside)))
 
 pub returns-in-0-clause-failed : goal.returns-in-0-clause-failed
 returns-in-0-clause-failed g c failed clean inside =
@@ -83,7 +83,7 @@ returns-in-0-clause-failed g c failed clean inside =
     let read = unstored_clean g.S.Store d e c.make_tables.ensures.stores clean in
     let ran = c.in_ok-run.ensures.ran (unstored_clean g.S.Store b d c.schema_of.ensures.stores read) in
     let found = c.in_ok-schema_of.ensures.number read in
-    let still = found_inside g.S.Store SELECT_SCHEMA.now found.rows b.now d.now found.found (ran_inside g.S.Store (plain META.now ∷ []) a.now b.now ran inside) in
+    let still = found_inside g.S.Store SELECT_SCHEMA.now found.rows b.now d.now found.found (ran_inside g.S.Store (plain CREATE_META.now ∷ []) a.now b.now ran inside) in
     inr (b.now, ran, inr (d.now, number, found, inl (is, c.make_tables.ensures.failed failed clean still)))
 
 pub returns-in-1-clause-failed : goal.returns-in-1-clause-failed
@@ -97,7 +97,7 @@ returns-in-1-clause-failed g c failed clean inside =
     let read = unstored_clean g.S.Store d e c.upgrade_tables.ensures.stores clean in
     let ran = c.in_ok-run.ensures.ran (unstored_clean g.S.Store b d c.schema_of.ensures.stores read) in
     let found = c.in_ok-schema_of.ensures.number read in
-    let still = found_inside g.S.Store SELECT_SCHEMA.now found.rows b.now d.now found.found (ran_inside g.S.Store (plain META.now ∷ []) a.now b.now ran inside) in
+    let still = found_inside g.S.Store SELECT_SCHEMA.now found.rows b.now d.now found.found (ran_inside g.S.Store (plain CREATE_META.now ∷ []) a.now b.now ran inside) in
     inr (b.now, ran, inr (d.now, number, found, inr (inl (is, c.upgrade_tables.ensures.failed failed clean still))))
 
 pub returns-in_default-clause-failed : goal.returns-in_default-clause-failed

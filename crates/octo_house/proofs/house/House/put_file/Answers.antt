@@ -12,13 +12,13 @@ use Rattle.desk_steps.specs.Data.{named_file}
 
 pub returns-in-Err-store-clause-done : goal.returns-in-Err-store-clause-done
 returns-in-Err-store-clause-done g c =
-    not-stored c.args.user.now c.args.name.now c.args.bytes.now c.args.select c.args.print (known_of c.args.self.now) c.in-Ok.job
+    not-stored c.args.user.now c.args.name.now c.args.bytes.now c.args.asked.select c.args.asked.print (known_of c.args.self.now) c.in-Ok.job
     (job-is _ c.in-Ok.job c.in-Ok.ensures.exact) c.in-Err-store.answer (known_of c.store.new.self) c.in-Err-store.ensures.stored.why
     c.in-Err-store.ensures.stored.known
 
 pub returns-in-Err-store-clause-files : goal.returns-in-Err-store-clause-files
 returns-in-Err-store-clause-files g c =
-    not-shelved c.args.user.now c.args.name.now c.args.bytes.now c.args.select c.args.print (known_of c.args.self.now) c.in-Ok.job
+    not-shelved c.args.user.now c.args.name.now c.args.bytes.now c.args.asked.select c.args.asked.print (known_of c.args.self.now) c.in-Ok.job
     (job-is _ c.in-Ok.job c.in-Ok.ensures.exact) c.in-Err-store.answer _ _ c.in-Err-store.ensures.stored.why c.in-Err-store.ensures.same
 
 pub returns-in-Err-store-clause-rest : goal.returns-in-Err-store-clause-rest
@@ -33,14 +33,14 @@ returns-in-Err-store-clause-rest g c = record {
 pub returns-then-not-wanted-clause-done : goal.returns-then-not-wanted-clause-done
 returns-then-not-wanted-clause-done g c =
     let m = known_of c.store.new.self in
-    let off : is_selected c.args.user.now c.args.select c.args.print m ≡ false = sym c.wanted-wanted.ensures.select ∙ not-true c.wanted-wanted.result.select c.if-not-wanted.true in
-    done-alone c.args.user.now c.args.name.now c.args.bytes.now c.args.select c.args.print (known_of c.args.self.now) c.in-Ok.job
+    let off : is_selected c.args.user.now c.args.asked.select c.args.asked.print m ≡ false = sym c.wanted-wanted.ensures.select ∙ not-true c.wanted-wanted.result.select c.if-not-wanted.true in
+    done-alone c.args.user.now c.args.name.now c.args.bytes.now c.args.asked.select c.args.asked.print (known_of c.args.self.now) c.in-Ok.job
     (job-is _ c.in-Ok.job c.in-Ok.ensures.exact) _ m c.in_default.ensures.stored.allowed c.in_default.ensures.stored.known off
     (ap (λ n. answer.Uploaded n false false) c.copy.ensures)
 
 pub returns-then-not-wanted-clause-files : goal.returns-then-not-wanted-clause-files
 returns-then-not-wanted-clause-files g c =
-    shelved c.args.user.now c.args.name.now c.args.bytes.now c.args.select c.args.print (known_of c.args.self.now) c.in-Ok.job
+    shelved c.args.user.now c.args.name.now c.args.bytes.now c.args.asked.select c.args.asked.print (known_of c.args.self.now) c.in-Ok.job
     (job-is _ c.in-Ok.job c.in-Ok.ensures.exact) (answer.Uploaded c.copy.result false false) _ _ c.in_default.ensures.stored.allowed refl c.in_default.ensures.files
 
 pub returns-then-not-wanted-clause-rest : goal.returns-then-not-wanted-clause-rest
@@ -56,16 +56,16 @@ pub returns-then-not-wanted-2-clause-done : goal.returns-then-not-wanted-2-claus
 returns-then-not-wanted-2-clause-done g c =
     let m = known_of c.store.new.self in
     let name = c.args.name.now in
-    let on : is_selected c.args.user.now c.args.select c.args.print m ≡ true = sym c.wanted-wanted.ensures.select ∙ not-false c.wanted-wanted.result.select c.if-not-wanted.false in
-    let off : is_printed c.args.user.now c.args.print (named_file name c.in-Ok.job) m ≡ false =
+    let on : is_selected c.args.user.now c.args.asked.select c.args.asked.print m ≡ true = sym c.wanted-wanted.ensures.select ∙ not-false c.wanted-wanted.result.select c.if-not-wanted.false in
+    let off : is_printed c.args.user.now c.args.asked.print (named_file name c.in-Ok.job) m ≡ false =
     sym (c.wanted-wanted.ensures.print name) ∙ not-true c.wanted-wanted.result.print c.if-not-wanted-2.true in
-    done-selected c.args.user.now name c.args.bytes.now c.args.select c.args.print (known_of c.args.self.now) c.in-Ok.job
+    done-selected c.args.user.now name c.args.bytes.now c.args.asked.select c.args.asked.print (known_of c.args.self.now) c.in-Ok.job
     (job-is _ c.in-Ok.job c.in-Ok.ensures.exact) _ m _ c.in_default.ensures.stored.allowed c.in_default.ensures.stored.known on off
     (ap (λ (s : SessionData). record m { desk = s.desk }) c.select.ensures.after) (ap (λ n. answer.Uploaded n true false) c.copy-then-not-wanted-2.ensures)
 
 pub returns-then-not-wanted-2-clause-files : goal.returns-then-not-wanted-2-clause-files
 returns-then-not-wanted-2-clause-files g c =
-    shelved c.args.user.now c.args.name.now c.args.bytes.now c.args.select c.args.print (known_of c.args.self.now) c.in-Ok.job
+    shelved c.args.user.now c.args.name.now c.args.bytes.now c.args.asked.select c.args.asked.print (known_of c.args.self.now) c.in-Ok.job
     (job-is _ c.in-Ok.job c.in-Ok.ensures.exact) (answer.Uploaded c.copy-then-not-wanted-2.result true false) _ _ c.in_default.ensures.stored.allowed refl
     c.in_default.ensures.files
 
@@ -82,10 +82,10 @@ pub print_stored-requires : goal.print_stored-requires
 print_stored-requires g c =
     let m = known_of c.store.new.self in
     let name = c.args.name.now in
-    let on : is_printed c.args.user.now c.args.print (named_file name c.in-Ok.job) m ≡ true =
+    let on : is_printed c.args.user.now c.args.asked.print (named_file name c.in-Ok.job) m ≡ true =
     sym (c.wanted-wanted.ensures.print name) ∙ not-false c.wanted-wanted.result.print c.if-not-wanted-2.false in
     record {
-      start = startable c.args.user.now c.args.print name c.in-Ok.job m _ on
+      start = startable c.args.user.now c.args.asked.print name c.in-Ok.job m _ on
           (ap (λ (s : SessionData). record m { desk = s.desk }) c.select.ensures.after) c.count-commands.result c.count-commands.ensures.value;
       few = c.count-commands.ensures.few;
     }
@@ -95,18 +95,18 @@ returns-clause-done g c =
     let m = known_of c.store.new.self in
     let name = c.args.name.now in
     let mid = record m { desk = c.select.new.self.desk } in
-    let on : is_selected c.args.user.now c.args.select c.args.print m ≡ true = sym c.wanted-wanted.ensures.select ∙ not-false c.wanted-wanted.result.select c.if-not-wanted.false in
-    let starting : is_printed c.args.user.now c.args.print (named_file name c.in-Ok.job) m ≡ true =
+    let on : is_selected c.args.user.now c.args.asked.select c.args.asked.print m ≡ true = sym c.wanted-wanted.ensures.select ∙ not-false c.wanted-wanted.result.select c.if-not-wanted.false in
+    let starting : is_printed c.args.user.now c.args.asked.print (named_file name c.in-Ok.job) m ≡ true =
     sym (c.wanted-wanted.ensures.print name) ∙ not-false c.wanted-wanted.result.print c.if-not-wanted-2.false in
     let after = ap (λ (s : SessionData). record m { desk = s.desk }) c.select.ensures.after in
-    done-printed c.args.user.now name c.args.bytes.now c.args.select c.args.print (known_of c.args.self.now) c.in-Ok.job
+    done-printed c.args.user.now name c.args.bytes.now c.args.asked.select c.args.asked.print (known_of c.args.self.now) c.in-Ok.job
     (job-is _ c.in-Ok.job c.in-Ok.ensures.exact) m mid (known_of c.print_stored.new.self) c.print_stored.result
     c.in_default.ensures.stored.allowed c.in_default.ensures.stored.known on starting after
-    (has-it c.args.user.now c.args.print name c.in-Ok.job m mid starting after) c.print_stored.ensures.plain c.print_stored.ensures.done
+    (has-it c.args.user.now c.args.asked.print name c.in-Ok.job m mid starting after) c.print_stored.ensures.plain c.print_stored.ensures.done
 
 pub returns-clause-files : goal.returns-clause-files
 returns-clause-files g c =
-    shelved c.args.user.now c.args.name.now c.args.bytes.now c.args.select c.args.print (known_of c.args.self.now) c.in-Ok.job
+    shelved c.args.user.now c.args.name.now c.args.bytes.now c.args.asked.select c.args.asked.print (known_of c.args.self.now) c.in-Ok.job
     (job-is _ c.in-Ok.job c.in-Ok.ensures.exact) c.print_stored.result _ _ c.in_default.ensures.stored.allowed c.print_stored.ensures.plain
     c.in_default.ensures.files
 

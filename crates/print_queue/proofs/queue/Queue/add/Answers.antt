@@ -13,13 +13,13 @@ inserted : (c : goal.After-insert) → c.insert.new.self.items ≡ insert_row c.
 inserted c =
     let rows = c.self.inside.entries.items in
     let same : c.reserve.new.self.items ≡ rows = c.reserve.ensures.items in
-    let first : c.place_after-place.result ≡ prefix_len (λ row. is_before row c.args.entry) rows =
-    c.place_after-place.ensures.place ∙ ap (prefix_len (λ row. is_before row c.args.entry)) (c.deref.ensures.value ∙ same) in
+    let first : c.place_for-place.result ≡ prefix_len (λ row. is_before row c.args.entry) rows =
+    c.place_for-place.ensures.place ∙ ap (prefix_len (λ row. is_before row c.args.entry)) (c.deref.ensures.value ∙ same) in
     let room : vec_len c.reserve.new.self < vec_capacity c.reserve.new.self = omega (arith, c.in-Ok.ensures.ok) in
     let done : is_ok c.insert.result ≡ true = c.insert.ensures.succeeds room in
     rw done at c.insert.ensures.items
-    ∙ ap (λ l. insert l c.place_after-place.result c.copy.result) same
-    ∙ ap (λ (r : QueueEntry). insert rows c.place_after-place.result r) c.copy.ensures
+    ∙ ap (λ l. insert l c.place_for-place.result c.copy.result) same
+    ∙ ap (λ (r : QueueEntry). insert rows c.place_for-place.result r) c.copy.ensures
     ∙ ap (λ (k : ℕ). insert rows k c.args.entry) first
 
 pub invariant_of-self-2 : goal.invariant_of-self-2

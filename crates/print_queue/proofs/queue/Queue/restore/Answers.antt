@@ -40,7 +40,7 @@ free c =
 
 inserted : (c : goal.After-insert) → c.insert.new.self.items ≡ insert_row c.args.entry c.self.inside.entries.items
 inserted c =
-    let first = c.place_after-place.ensures.place ∙ ap (prefix_len (λ row. is_before row c.args.entry)) c.deref-2.ensures.value in
+    let first = c.place_for-place.ensures.place ∙ ap (prefix_len (λ row. is_before row c.args.entry)) c.deref-2.ensures.value in
     let room : vec_len c.self.inside.entries < vec_capacity c.self.inside.entries = omega (arith, (free c).1) in
     let done : is_ok c.insert.result ≡ true = c.insert.ensures.succeeds room in
     rw done at c.insert.ensures.items ∙ ap (λ (k : ℕ). insert c.self.inside.entries.items k c.args.entry) first
