@@ -8,7 +8,7 @@ use arrayvec::ArrayVec;
 use byte_text::append;
 use itoa::Buffer;
 use octo_outside::{Failed, Sink, write_all};
-use octo_report::{Report, write_report};
+use octo_report::{DOOR_FAILED, Report, STORE_FAILED, SUCCESS, write_report};
 
 /// How a command of the program ended.
 #[derive(Drop)]
@@ -31,9 +31,9 @@ impl HostReport {
         ensures { result ≡ host_code self.now }
     {
         match self {
-            HostReport::Served { .. } => 0,
-            HostReport::DoorFailed { .. } => 12,
-            HostReport::KeeperFailed | HostReport::ShelfFailed => 9,
+            HostReport::Served { .. } => SUCCESS,
+            HostReport::DoorFailed { .. } => DOOR_FAILED,
+            HostReport::KeeperFailed | HostReport::ShelfFailed => STORE_FAILED,
             HostReport::Command(report) => report.code(),
         }
     }
