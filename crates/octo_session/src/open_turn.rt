@@ -78,8 +78,8 @@ fn receive<L: Link>(
     }
 }
 
-// A text consists of bytes: its type says so, and this states it for proofs.
-fn has_bytes(text: &[u8])
+// Does nothing: its contract states for the prover that a text consists of bytes, as its type says.
+fn text_has_bytes_fact(text: &[u8])
     ensures { AreBytes text.now }
 {}
 
@@ -104,7 +104,7 @@ fn pull_one(
 {
     match desk.pull(moment) {
         Some(issued) => {
-            has_bytes(issued.text.as_slice());
+            text_has_bytes_fact(issued.text.as_slice());
             sender.push(issued.text.as_slice());
             lines.push(issued);
             true

@@ -95,7 +95,7 @@ pub fn run_print<L: Link, T: Clock>(
             limit: hot.limit,
         };
     }
-    // A plan has few lines: those of a file and of its scripts.
+    // Both calls are for their contracts alone: a job and its scripts have few lines.
     let _ = job.count();
     let _ = session.desk().script_lines();
     prepare(session, port, name, job);
