@@ -18,10 +18,10 @@ const MOST_LINES: usize = 64;
 #[derive(Clone, Copy, Debug, PartialEq, Eq, Error)]
 pub enum AddFault {
     /// The script has 64 lines.
-    #[error("a script of over 64 lines")]
+    #[error("script: over 64 lines")]
     TooMany,
     /// Memory ran out.
-    #[error("no memory")]
+    #[error("out of memory")]
     NoMemory,
 }
 

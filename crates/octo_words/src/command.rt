@@ -85,7 +85,7 @@ pub enum WordsFault {
     #[error("bad words")]
     BadWords,
     /// Out of memory.
-    #[error("no memory")]
+    #[error("out of memory")]
     NoMemory,
 }
 
