@@ -66,10 +66,14 @@ pub struct Desk {
     port: Option<Name>,
     file: Option<Selected>,
     prints: Prints,
+    // The script lines that wait to be issued.
     waiting: Waiting,
+    // The users' lines that wait to be issued.
     manual: HeapCircularBuffer<Text>,
+    // The moment from which on a poll is due.
     poll_at: u64,
     lines: Lines,
+    // Whether the hello was acknowledged since the last accepted connect.
     ready: bool,
 }
 
@@ -186,7 +190,7 @@ impl Desk {
         }
     }
 
-    /// The index of the next file command.
+    /// The index of the next file command, from 0.
     pub fn cursor(&self) -> usize
         ensures { result ≡ self.now.cursor }
     {

@@ -171,7 +171,7 @@ fn with_command<'a>(
     program?.subcommand(command?)
 }
 
-// The program with the commands that print and check.
+// The program with `print`, `check` and `demo`.
 fn printing_app<'a>(alloc: Global) -> Result<Command<'a>, AllocError>
     ensures { IfOk result (λ c. app_of c ≡ printing_app) }
 {
