@@ -27,7 +27,7 @@ fn open_and_carry_out(
 ) -> ToolEnd {
     match open_keeper(rt, &command.file) {
         Ok(mut keeper) => {
-            let end = carry_out(rt.alloc(), &mut keeper, command.work, out);
+            let end = carry_out(rt.alloc(), &mut keeper, command.task, out);
             close_keeper(keeper);
             end
         }
@@ -41,9 +41,9 @@ fn main(rt: HostRuntime) -> ExitCode {
     let end = match arguments(&rt) {
         Ok(words) => match read_command(&words) {
             Some(command) => open_and_carry_out(&rt, &command, &mut out),
-            None => ToolEnd::BadWords,
+            None => ToolEnd::BadArguments,
         },
-        Err(ArgumentsFault::NotText) => ToolEnd::BadWords,
+        Err(ArgumentsFault::NotText) => ToolEnd::BadArguments,
         Err(ArgumentsFault::NoMemory) => ToolEnd::NoMemory,
     };
     let end = match write_end(&mut out, end) {

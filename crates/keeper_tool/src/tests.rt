@@ -2,7 +2,7 @@
 
 use crate::add::add_prints;
 use crate::carry::carry_out;
-use crate::command::Work;
+use crate::command::Task;
 use crate::end::ToolEnd;
 use crate::lines::tables_text;
 use crate::texts::write_end;
@@ -27,7 +27,7 @@ fn ample(rt: HostRuntime) {
         ToolEnd::Added { prints: 1 }
     );
     assert_eq!(rt;
-        carry_out(alloc, &mut keeper, Work::Show, &mut out),
+        carry_out(alloc, &mut keeper, Task::Show, &mut out),
         ToolEnd::Shown
     );
     assert!(rt; out.written() == Some(TEXT));

@@ -25,7 +25,7 @@ fn end_text(end: ToolEnd) -> EndText
     match end {
         ToolEnd::Shown | ToolEnd::OutputFailed => EndText::new(),
         ToolEnd::Added { prints } => added_text(prints),
-        ToolEnd::BadWords => bounded_text(b"usage: keeper_tool FILE [prints N]\n"),
+        ToolEnd::BadArguments => bounded_text(b"usage: keeper_tool FILE [prints N]\n"),
         ToolEnd::NumbersUsed => bounded_text(b"the numbers of prints are used up\n"),
         ToolEnd::KeeperFailed => bounded_text(b"the database failed, or its rows don't fit\n"),
         ToolEnd::NotOpened => bounded_text(b"not opened: no database, another schema, or in use\n"),
