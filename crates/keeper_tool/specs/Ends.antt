@@ -32,6 +32,13 @@ end_text OutputFailed = []
 end_text NotOpened = codes "not opened: no database, another schema, or in use\n"
 end_text NoMemory = codes "no memory\n"
 
+-- in front of the text of an end that is about the database: its path
+abbrev pub path_text : List ℕ → ToolEnd → List ℕ
+path_text path NumbersUsed = path ++ codes ": "
+path_text path KeeperFailed = path ++ codes ": "
+path_text path NotOpened = path ++ codes ": "
+path_text path end = []
+
 -- the end after a fault of the keeper
 abbrev pub end_of : KeeperFault → ToolEnd
 end_of fault.Failed = KeeperFailed

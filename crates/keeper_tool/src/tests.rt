@@ -5,7 +5,8 @@ use crate::carry::carry_out;
 use crate::command::Task;
 use crate::end::ToolEnd;
 use crate::lines::tables_text;
-use crate::texts::write_end;
+use crate::texts::{write_end, write_path};
+use byte_text::Name;
 use octo_keeper::{MemoryKeeper, Tables};
 use octo_outside::{CallList, MemorySink};
 use std::alloc::Global;
@@ -31,6 +32,14 @@ fn ample(rt: HostRuntime) {
         ToolEnd::Shown
     );
     assert!(rt; out.written() == Some(TEXT));
+}
+
+#[test]
+fn ample_path(rt: HostRuntime) {
+    let mut out = empty_sink(rt.alloc());
+    let path = Name::of_short("a.db");
+    assert!(rt; write_path(&mut out, &path, ToolEnd::NotOpened).is_ok());
+    assert!(rt; out.written() == Some(b"a.db: ".as_slice()));
 }
 
 #[test]
