@@ -90,7 +90,7 @@ impl Model for Desk {
 }
 
 impl Desk {
-    /// A desk that is offline. A poll is due `poll_ms` milliseconds after the last one, at least 1.
+    /// A desk that is offline. A poll is due `poll_ms` milliseconds after the last one, at least 1. Fails if out of memory.
     pub fn new(
         alloc: Global,
         scripts: Scripts,

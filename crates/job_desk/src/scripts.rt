@@ -126,7 +126,8 @@ impl Scripts {
         }
     }
 
-    /// Adds a text at the end of a script. After a fault the scripts are as before.
+    /// Adds a text at the end of a script. Refused as TooMany if the script has 64 lines, fails if out of memory; the scripts are
+    /// then as before.
     pub fn add(&mut self, point: Point, text: &Text) -> Result<(), AddFault>
         requires { IsSendable text.now.items }
         ensures ok { OnOk result (self.new ≡ with_text point text.now.items self.old) }

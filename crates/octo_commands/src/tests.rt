@@ -23,7 +23,7 @@ fn fates(rt: &impl Abort, alloc: Global, row: &Row) -> FateList {
     list
 }
 
-// A printer at port p with 4 places and the last number 4.
+// A printer at port p with 4 buffer slots and the last number 4.
 fn link(rt: &impl Abort, alloc: Global, row: &Row) -> MemoryLink
     ensures { (link_world result).linked ≡ false }
 {
@@ -134,7 +134,7 @@ impl Bench {
         )
     }
 
-    // A test that let its bench fall would prove the drops of all that it has again.
+    // Drops the bench in one place. A test in which it goes out of scope would have to prove that drop itself.
     fn end(self) {}
 }
 

@@ -69,12 +69,12 @@ fn check_job(job: &Job, limits: &Limits) -> Report
 /// Checks the file of that name: how many commands it has, how many lines have none, and the greatest temperatures that it
 /// asks for; refuses what `read_job` refuses.
 pub fn check_file<F: Source>(alloc: Global, files: &mut F, file: &str, limits: &Limits) -> Report
-    // result
+    // The result.
     ensures exact { IsTrouble result
         ⊎ FileGives (F.files files.old) file.now (λ bytes. result ≡ check_report limits.now bytes) }
     ensures kind { is_check result ≡ true }
 
-    // the source
+    // The source.
     ensures files { F.files files.new ≡ F.files files.old }
     ensures counts { Counts (result ≡ report.SourceFailed)
         (F.faults files.old) (F.faults files.new) }

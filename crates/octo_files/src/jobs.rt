@@ -38,12 +38,12 @@ pub(crate) fn read_any_job<F: Source>(
     files: &mut F,
     name: &str,
 ) -> Result<Job, Report>
-    // result
+    // The result.
     ensures exact { IsTroubled result
         ⊎ FileGives (F.files files.old) name.now (λ bytes. result ≡ any_job_in bytes) }
     ensures refusal { IfErr result (λ r. is_file_refusal r ≡ true) }
 
-    // the source
+    // The source.
     ensures files { F.files files.new ≡ F.files files.old }
     ensures counts { Counts (result ≡ Err report.SourceFailed)
         (F.faults files.old) (F.faults files.new) }
@@ -78,13 +78,13 @@ pub fn read_job<F: Source>(
     name: &str,
     limits: &Limits,
 ) -> Result<Job, Report>
-    // result
+    // The result.
     ensures exact { IsTroubled result
         ⊎ FileGives (F.files files.old) name.now (λ bytes. result ≡ job_in limits.now bytes) }
     ensures cool { IfOk result (λ job. first_hot_of limits.now job.commands ≡ None) }
     ensures refusal { IfErr result (λ r. is_refusal r ≡ true) }
 
-    // the source
+    // The source.
     ensures files { F.files files.new ≡ F.files files.old }
     ensures counts { Counts (result ≡ Err report.SourceFailed)
         (F.faults files.old) (F.faults files.new) }

@@ -36,13 +36,13 @@ fn read_settings_file<F: Source>(
     files: &mut F,
     name: &str,
 ) -> Result<Settings, Report>
-    // result
+    // The result.
     ensures exact { IsTroubled result
         ⊎ FileGives (F.files files.old) name.now (λ bytes. AreSettings bytes result) }
     ensures sound { IfOk result IsSettings }
     ensures refusal { IfErr result (λ r. is_settings_refusal r ≡ true) }
 
-    // the source
+    // The source.
     ensures files { F.files files.new ≡ F.files files.old }
     ensures counts { Counts (result ≡ Err report.SourceFailed)
         (F.faults files.old) (F.faults files.new) }
@@ -62,12 +62,12 @@ pub fn read_settings_of<F: Source>(
     files: &mut F,
     name: Option<&str>,
 ) -> Result<Settings, Report>
-    // result
+    // The result.
     ensures exact { HaveSettings (F.files files.old) (option_map (λ n. n.now) name.entry) result }
     ensures sound { IfOk result IsSettings }
     ensures refusal { IfErr result (λ r. is_settings_refusal r ≡ true) }
 
-    // the source
+    // The source.
     ensures files { F.files files.new ≡ F.files files.old }
     ensures counts { Counts (result ≡ Err report.SourceFailed)
         (F.faults files.old) (F.faults files.new) }

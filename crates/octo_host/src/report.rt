@@ -63,13 +63,13 @@ fn door_text(calls: u64) -> ArrayVec<u8, 64>
 
 /// Writes the text of a report, and takes no memory for it; after a failed call a prefix of it was written.
 pub fn write_host_report<O: Sink>(out: &mut O, report: &HostReport) -> Result<(), Failed>
-    // what is written
+    // What is written.
     ensures ok { OnOk result
         (Adds (O.written out.old) (O.written out.new) (host_text report.now)) }
     ensures err { OnErr result
         (AddsPrefix (O.written out.old) (O.written out.new) (host_text report.now)) }
 
-    // faults
+    // The sink's faults.
     ensures counts { Counts (IsErr result) (O.faults out.old) (O.faults out.new) }
 {
     match report {

@@ -239,7 +239,7 @@ fn issue_and_send<L: Link>(
     }
 }
 
-// What follows the receiving: the clock ticks, and the session ends, becomes ready, or issues and sends.
+// What follows the call of `recv`: the clock ticks, and the session ends, becomes ready, or issues and sends.
 fn after_receiving<L: Link>(
     desk: &mut Desk,
     sender: &mut Sender,

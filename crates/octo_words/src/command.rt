@@ -21,7 +21,7 @@ impl Model for FilePath {
 }
 
 impl FilePath {
-    /// The path that a text is.
+    /// The path that a text is. Fails if out of memory.
     pub fn from_text(alloc: Global, text: &str) -> Result<FilePath, AllocError>
         ensures { IfOk result (λ path. path ≡ text.now) }
     {

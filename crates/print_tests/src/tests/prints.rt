@@ -196,7 +196,7 @@ fn hello_lost(rt: HostRuntime) -> Result<(), Fail> {
     comes_to(&rt, rt.alloc(), asked, end, 1, &[])
 }
 
-/// Losses and corrupted lines at a printer that runs a line at each third receiving.
+/// Losses and corrupted lines at a printer that runs a line at each third call of `recv`.
 #[test]
 fn slow_printer(rt: HostRuntime) -> Result<(), Fail> {
     let asked = Asked {

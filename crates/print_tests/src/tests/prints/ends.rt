@@ -9,8 +9,8 @@ struct Failing {
     ran: usize,
 }
 
-/// The calls of a print of two lines: the dial, a receiving, the hello, two receivings (the first one has its `ok`), the two
-/// lines, and a receiving for each `ok`, before which the printer runs the line.
+/// The calls of a print of two lines: the dial, a `recv`, the hello, two of `recv` (the first one returns its `ok`), the two
+/// lines, and a `recv` for each `ok`, before which the printer runs the line.
 const CALLS: [Failing; 9] = [
     Failing {
         call: 1,
