@@ -21,7 +21,7 @@ use gcode_lines::Job;
 use std::alloc::{AllocError, Global};
 use std::marker::Model;
 
-/// The most lines of users that wait.
+// The most lines of users that wait.
 const MOST_MANUAL: usize = 256;
 
 /// A file that is refused, with its job.
@@ -31,15 +31,15 @@ pub struct NotSelected {
     pub job: Job,
 }
 
-/// The selected file.
+// The selected file.
 #[derive(Drop)]
 struct Selected {
     name: Name,
     job: Job,
 }
 
-/// The prints of a desk: the greatest number so far, whether that print is active, and the index of its next file
-/// command.
+// The prints of a desk: the greatest number so far, whether that print is active, and the index of its next file
+// command.
 #[derive(Clone, Copy)]
 struct Prints {
     greatest: u32,
@@ -47,8 +47,8 @@ struct Prints {
     cursor: usize,
 }
 
-/// The lines of a session: how many were issued and acknowledged, and the numbers of the print's last one and of the last
-/// poll, 0 for none.
+// The lines of a session: how many were issued and acknowledged, and the numbers of the print's last one and of the last
+// poll, 0 for none.
 #[derive(Clone, Copy)]
 struct Lines {
     issued: u64,

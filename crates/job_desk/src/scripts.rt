@@ -11,7 +11,7 @@ use std::alloc::Global;
 use std::marker::Model;
 use thiserror::Error;
 
-/// The most lines of a script.
+// The most lines of a script.
 const MOST_LINES: usize = 64;
 
 /// Why a line does not join a script.
@@ -51,7 +51,7 @@ impl Script {
         }
     }
 
-    /// Adds a text at the end. After a fault the script is as before.
+    // Adds a text at the end. After a fault the script is as before.
     fn add(&mut self, text: &Text) -> Result<(), AddFault>
         requires { IsSendable text.now.items }
         ensures ok { OnOk result (self.new ≡ self.old ++ text.now.items ∷ []) }
@@ -146,7 +146,7 @@ impl Scripts {
         }
     }
 
-    /// The script at a point.
+    // The script at a point.
     fn at(&self, point: Point) -> &Script
         ensures { result.now ≡ texts_at point self.now }
     {

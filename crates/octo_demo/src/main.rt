@@ -8,16 +8,16 @@ use session_print::PrintEnd;
 use std::alloc::{AllocError, Global};
 use std::process::ExitCode;
 
-/// The exit status if the output failed, as that of `octo`.
+// The exit status if the output failed, as that of `octo`.
 const OUTPUT_FAILED: u8 = 8;
 
-/// The exit status if memory ran out, as that of `octo`.
+// The exit status if memory ran out, as that of `octo`.
 const OUT_OF_MEMORY: u8 = 11;
 
-/// The number that the file and the line's faults are made from.
+// The number that the file and the line's faults are made from.
 const SEED: u32 = 1;
 
-/// How many commands the file has.
+// How many commands the file has.
 const COMMANDS: u32 = 30;
 
 // Prints the file and writes the summary; 0 if the print was done, 1 if it wasn't.

@@ -13,7 +13,7 @@ use octo_outside::Source;
 use octo_report::Report;
 use std::alloc::Global;
 
-/// What a job measures.
+// What a job measures.
 fn measure_job(job: &Job) -> Report
     ensures exact { result ≡ job_measure_report job.now }
     ensures kind { is_measure result ≡ true }
@@ -45,7 +45,7 @@ pub fn measure_file<F: Source>(alloc: Global, files: &mut F, file: &str) -> Repo
     }
 }
 
-/// The rest of a job as a file, from a command on.
+// The rest of a job as a file, from a command on.
 fn rest_of_job(alloc: Global, job: &Job, from: usize) -> Report
     ensures exact { (result ≡ report.NoMemory) ⊎ (result ≡ job_rest_report from job.now) }
     ensures goes_on { GoesOnFrom job.now from result }

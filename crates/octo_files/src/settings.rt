@@ -13,10 +13,10 @@ use octo_report::Report;
 use octo_settings::{Settings, SettingsFault, read_settings};
 use std::alloc::Global;
 
-/// The most bytes of settings.
+// The most bytes of settings.
 const MOST_BYTES: usize = 1_048_576;
 
-/// The settings that bytes say.
+// The settings that bytes say.
 fn settings_of_bytes(alloc: Global, bytes: &[u8]) -> Result<Settings, Report>
     ensures exact { (result ≡ Err report.NoMemory) ⊎ AreSettings bytes.now result }
     ensures sound { IfOk result IsSettings }
@@ -30,7 +30,7 @@ fn settings_of_bytes(alloc: Global, bytes: &[u8]) -> Result<Settings, Report>
     }
 }
 
-/// The settings that the file of that name says.
+// The settings that the file of that name says.
 fn read_settings_file<F: Source>(
     alloc: Global,
     files: &mut F,

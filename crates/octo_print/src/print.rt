@@ -42,7 +42,7 @@ pub fn session_of(alloc: Global, settings: Settings) -> Result<Session, AllocErr
     Ok(Session::new(desk, sender))
 }
 
-/// The name that the file has at the desk.
+// The name that the file has at the desk.
 fn file_name() -> Name
     ensures { result ≡ codes "file" }
 {
@@ -52,7 +52,7 @@ fn file_name() -> Name
     }
 }
 
-/// How an end of a print over this port is reported, of a job with these numbers of commands and skipped lines.
+// How an end of a print over this port is reported, of a job with these numbers of commands and skipped lines.
 fn report_of(end: PrintEnd, port: &Name, commands: u32, skipped: u32) -> Report
     ensures { (job : JobData) → commands ≡ length job.commands → skipped ≡ job.skipped
         → result ≡ print_end_report end port.now job }
@@ -67,7 +67,7 @@ fn report_of(end: PrintEnd, port: &Name, commands: u32, skipped: u32) -> Report
     }
 }
 
-/// Prints a job over the port of that name, by the settings.
+// Prints a job over the port of that name, by the settings.
 fn print_job<L: Link, T: Clock>(
     alloc: Global,
     link: &mut L,

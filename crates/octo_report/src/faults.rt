@@ -12,7 +12,7 @@ use octo_settings::{SettingsFault, script_key};
 use send_window::SessionEnd;
 use temp_rules::HotLine;
 
-/// Puts what is wrong with a key of the settings.
+// Puts what is wrong with a key of the settings.
 fn put_key(page: &mut Page, key: &[u8], what: &[u8])
     requires empty { page.old.items ≡ [] }
     requires short_key { length key.now ≤ MOST_NAME_BYTES }
@@ -24,7 +24,7 @@ fn put_key(page: &mut Page, key: &[u8], what: &[u8])
     append(page, what);
 }
 
-/// Puts that a script's command is too hot.
+// Puts that a script's command is too hot.
 fn put_hot_script(page: &mut Page, key: &[u8], line: u32)
     requires empty { page.old.items ≡ [] }
     requires short { length key.now ≤ MOST_NAME_BYTES }
@@ -57,7 +57,7 @@ pub(crate) fn put_settings(page: &mut Page, fault: &SettingsFault)
     }
 }
 
-/// Puts what is wrong with a line of the file.
+// Puts what is wrong with a line of the file.
 fn put_line(page: &mut Page, line: u32, what: &[u8])
     requires empty { page.old.items ≡ [] }
     requires short { length what.now ≤ 100 }
@@ -86,7 +86,7 @@ pub(crate) fn put_file(page: &mut Page, fault: FileFault)
     }
 }
 
-/// Adds what a command asks for, and the limit that it is over.
+// Adds what a command asks for, and the limit that it is over.
 fn append_over(page: &mut Page, asked: u64, limit: u16)
     requires { array_vec_len page.old ≤ 160 }
     ensures { page.new.items ≡ page.old.items ++ over_text asked limit }
@@ -117,7 +117,7 @@ pub(crate) fn put_measure_fault(page: &mut Page, fault: MeasureFault)
     }
 }
 
-/// Puts how a session ended, by two numbers.
+// Puts how a session ended, by two numbers.
 fn put_numbers(
     page: &mut Page,
     before: &[u8],
@@ -142,7 +142,7 @@ fn put_numbers(
     append(page, b"\n");
 }
 
-/// Puts how a session ended, with the number that says so.
+// Puts how a session ended, with the number that says so.
 fn put_number(page: &mut Page, before: &[u8], number: u32, after: &[u8])
     requires empty { page.old.items ≡ [] }
     requires short_before { length before.now ≤ 20 }

@@ -71,7 +71,7 @@ pub enum Report {
     NoMemory,
 }
 
-/// The exit status of refused settings.
+// The exit status of refused settings.
 fn settings_code(fault: &SettingsFault) -> u8
     ensures { result ≡ settings_code fault.now }
 {
@@ -81,7 +81,7 @@ fn settings_code(fault: &SettingsFault) -> u8
     }
 }
 
-/// The exit status of a refused file.
+// The exit status of a refused file.
 fn file_code(fault: FileFault) -> u8
     ensures { result ≡ file_code fault }
 {

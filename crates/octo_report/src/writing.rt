@@ -8,7 +8,7 @@ use crate::report::Report;
 use crate::texts::put_report;
 use octo_outside::{Failed, Sink, write_all};
 
-/// Writes the text of a report that isn't a file.
+// Writes the text of a report that isn't a file.
 fn write_page<O: Sink>(out: &mut O, report: &Report) -> Result<(), Failed>
     requires { is_rest report.now ≡ false }
 

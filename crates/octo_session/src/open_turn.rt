@@ -26,7 +26,7 @@ use printer_link::{Heard, Link};
 use send_window::Sender;
 use session_steps::{Found, Received};
 
-/// What became of the next frame.
+// What became of the next frame.
 #[derive(Clone, Copy)]
 enum Gave {
     Sent,

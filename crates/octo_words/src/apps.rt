@@ -34,7 +34,7 @@ fn needed_option<'a>(alloc: Global, id: &'a str) -> Arg<'a>
         .action(ArgAction::Set)
 }
 
-/// How an argument is given.
+// How an argument is given.
 #[derive(Clone, Copy)]
 enum Kind {
     /// At its place, always.

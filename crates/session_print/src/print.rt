@@ -37,7 +37,7 @@ use octo_session::{Ending, LinkFact, Session, Turned};
 use printer_link::Link;
 use temp_rules::first_hot;
 
-/// The number of the only print of a session.
+// The number of the only print of a session.
 const PRINT: u32 = 1;
 
 /// Prints a job as the file of this name over the port of that name, in at most this number of turns.

@@ -13,7 +13,7 @@ use gcode_lines::Job;
 use temp_rules::first_hot;
 
 impl Desk {
-    /// The call is not for this state.
+    // The call is not for this state.
     fn wrong_state(&self) -> Refusal
         ensures { result ≡ Refusal.WrongState self.now.state }
     {
@@ -94,7 +94,7 @@ impl Desk {
         Ok(())
     }
 
-    /// A new print of the selected file begins.
+    // A new print of the selected file begins.
     fn begin(&mut self, print: u32)
         requires { (self.old.state ≡ State.Operational) ⊎ (self.old.state ≡ State.Paused) }
         ensures { self.new ≡ printing print self.old }
@@ -241,7 +241,7 @@ impl Desk {
     }
 }
 
-/// Puts copies of texts after those that wait.
+// Puts copies of texts after those that wait.
 fn push_all(waiting: &mut HeapCircularBuffer<Text>, lines: &[Text])
     requires sendable { All IsSendable (bytes_of lines.now) }
     requires room { length waiting.old.items + length lines.now ≤ waiting.old.capacity }
