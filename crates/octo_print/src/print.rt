@@ -46,10 +46,7 @@ pub fn session_of(alloc: Global, settings: Settings) -> Result<Session, AllocErr
 fn file_name() -> Name
     ensures { result ≡ codes "file" }
 {
-    match Name::from_text("file") {
-        Some(name) => name,
-        None => unreachable!(),
-    }
+    Name::of_short("file")
 }
 
 // How an end of a print over this port is reported, of a job with these numbers of commands and skipped lines.

@@ -3,7 +3,6 @@ ghost use Rattle.std.specs.Prelude.{◌≡◌, ◌≤◌, length};
 ghost use Rattle.byte_text.specs.declared.name.TheConstants.{MOST_NAME_BYTES};
 ghost use Rattle.octo_settings.specs.declared.fault.SettingsFault.TheVariants as fault;
 
-use crate::names::text_name;
 use byte_text::Name;
 use job_desk::Point;
 use thiserror::Error;
@@ -39,7 +38,7 @@ pub(crate) fn missing(key: &str) -> SettingsFault
     ensures { result ≡ fault.Missing key.now }
 {
     SettingsFault::Missing {
-        key: text_name(key),
+        key: Name::of_short(key),
     }
 }
 
@@ -48,7 +47,7 @@ pub(crate) fn wrong_kind(key: &str) -> SettingsFault
     ensures { result ≡ fault.WrongKind key.now }
 {
     SettingsFault::WrongKind {
-        key: text_name(key),
+        key: Name::of_short(key),
     }
 }
 
@@ -57,6 +56,6 @@ pub(crate) fn out_of_range(key: &str) -> SettingsFault
     ensures { result ≡ fault.OutOfRange key.now }
 {
     SettingsFault::OutOfRange {
-        key: text_name(key),
+        key: Name::of_short(key),
     }
 }

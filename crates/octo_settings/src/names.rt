@@ -1,4 +1,4 @@
-//! Names that are made here: of keys, and of bytes that are ASCII.
+//! Names of bytes that are ASCII.
 ghost use Rattle.std.specs.Prelude.{◌≡◌, ◌≤◌, length};
 ghost use Rattle.std.specs.Str.{IsAscii};
 ghost use Rattle.byte_text.specs.declared.name.TheConstants.{MOST_NAME_BYTES};
@@ -13,18 +13,7 @@ pub(crate) fn ascii_name(bytes: &[u8]) -> Name
     ensures { result ≡ bytes.now }
 {
     match str::from_utf8(bytes) {
-        Ok(text) => text_name(text),
+        Ok(text) => Name::of_short(text),
         Err(_) => unreachable!(),
-    }
-}
-
-/// A short text as a name.
-pub(crate) fn text_name(text: &str) -> Name
-    requires { length text.now ≤ MOST_NAME_BYTES }
-    ensures { result ≡ text.now }
-{
-    match Name::from_text(text) {
-        Some(name) => name,
-        None => unreachable!(),
     }
 }

@@ -8,7 +8,6 @@ ghost use Rattle.octo_settings.specs.Seen.{members_or, data_of_value};
 ghost use Rattle.octo_settings.specs.Values.{Reads, each, in_range};
 
 use crate::fault::{SettingsFault, missing, out_of_range, wrong_kind};
-use crate::names::text_name;
 use crate::texts::read_texts;
 use crate::values::{at, read_section, read_whole};
 use byte_text::Name;
@@ -104,7 +103,7 @@ fn read_material(key: &str, value: Option<&Value>) -> Result<Name, SettingsFault
 pub(crate) fn any_material() -> Name
     ensures { result ≡ codes "any" }
 {
-    text_name("any")
+    Name::of_short("any")
 }
 
 fn read_printer_in(alloc: Global, table: Option<&Table>) -> Result<Printer, SettingsFault>
