@@ -98,15 +98,15 @@ sqlite_row "it is of schema 2 then" "$old" \
     'ok\n2\nentries\nmeta\nprints\nusers\nben|job-1|b.gcode|100|1|1|1|any\nana|job-1|a.gcode|5|3|1|1|any\n'
 
 sqlite_row "sqlite3 sets another schema" "$work/other.db" 'UPDATE meta SET schema = 3;' ''
-tool_row "another schema is refused" "$work/other.db" 9 "$refused"
+tool_row "another schema is refused" "$work/other.db" 9 "$work/other.db: $refused"
 sqlite_row "its rows are as they were" "$work/other.db" \
     'PRAGMA integrity_check; SELECT schema FROM meta; SELECT count(*) FROM queue;' 'ok\n3\n2\n'
 cp "$old" "$work/none.db"
 sqlite_row "sqlite3 drops the number of the schema" "$work/none.db" 'DELETE FROM meta;' ''
-tool_row "tables without a number are refused" "$work/none.db" 9 "$refused"
+tool_row "tables without a number are refused" "$work/none.db" 9 "$work/none.db: $refused"
 sqlite_row "they are as they were" "$work/none.db" 'PRAGMA integrity_check; SELECT count(*) FROM entries;' 'ok\n2\n'
 cp scripts/process/database.sh "$work/text"
-tool_row "a file that is no database is refused" "$work/text" 9 "$refused"
+tool_row "a file that is no database is refused" "$work/text" 9 "$work/text: $refused"
 if cmp scripts/process/database.sh "$work/text"; then
     echo "ok: it is as it was"
 else
@@ -114,7 +114,7 @@ else
     failed=1
 fi
 sqlite_row "sqlite3 writes an outcome that is none" "$new" 'UPDATE prints SET outcome = 4 WHERE number = 1;' ''
-tool_row "rows that don't fit are refused" "$new" 4 "the database failed, or its rows don't fit\n"
+tool_row "rows that don't fit are refused" "$new" 4 "$new: the database failed, or its rows don't fit\n"
 tool_row "no command" "$new prints" 2 'usage: keeper_tool FILE [prints N]\n'
 
 # sqlite3 has the file open in a transaction of its own.
@@ -128,7 +128,7 @@ until grep -q locked "$work/locked" || [ "$tries" -eq 500 ]; do
     tries=$((tries + 1))
     sleep 0.02
 done
-tool_row "a database in use is refused" "$old" 9 "$refused"
+tool_row "a database in use is refused" "$old" 9 "$old: $refused"
 echo 'COMMIT;' >&3
 exec 3>&-
 wait "$started"

@@ -49,6 +49,7 @@ pub(crate) fn append_lines(
 }
 
 /// The file of a demo: of each draw from `seed` a command `G1 X`, `G1 Y`, `G1 E` or `G4 P` in a line of its own.
+/// Fails if out of memory.
 pub fn demo_file(alloc: Global, seed: u32, commands: u32) -> Result<Blob, AllocError>
     ensures { IfOk result (λ file. file ≡ demo_file seed commands) }
 {

@@ -19,6 +19,7 @@ fn no_memory(fault: FileFault) -> AllocError
 }
 
 /// The job of a demo's file of at most 200,000 commands; no line of such a file is refused.
+/// Fails if out of memory.
 pub fn demo_job(alloc: Global, seed: u32, commands: u32) -> Result<Job, AllocError>
     requires { commands ≤ MOST_COMMANDS }
     ensures { IfOk result (λ job. job_of (demo_file seed commands) ≡ Ok job) }

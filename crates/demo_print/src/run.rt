@@ -78,10 +78,7 @@ fn print_over(alloc: Global, link: &mut MemoryLink, job: Job) -> Result<PrintEnd
 
 /// Prints the file of a demo over a link in memory of its own, for a seed of at most 2,147,483,647 and at most 200,000
 /// commands. The printer has 4 buffer slots and the last line number 4; the window is 4, and a rest takes 100 ms.
-///
-/// # Errors
-///
-/// Out of memory, also if it is the link's.
+/// Fails if out of memory, also if it is the link's.
 pub fn run_demo(alloc: Global, seed: u32, commands: u32) -> Result<Demo, AllocError>
     requires seed { seed ≤ 2147483647 }
     requires commands { commands ≤ MOST_COMMANDS }
@@ -97,7 +94,7 @@ pub fn run_demo(alloc: Global, seed: u32, commands: u32) -> Result<Demo, AllocEr
 }
 
 impl Demo {
-    /// What happened on the link.
+    /// What happened on the link. Fails if out of memory.
     pub fn counts(&self) -> Result<DemoCounts, AllocError>
         ensures { IfOk result (λ counts. counts ≡ counts_of self.now.link) }
     {

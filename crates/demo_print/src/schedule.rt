@@ -102,7 +102,7 @@ fn names(alloc: Global) -> Result<NameList, AllocError>
 }
 
 /// What the link of a demo of at most 200,000 commands does: a fifth of the lines that are sent are lost or corrupted,
-/// never three in a row. The first line, the hello, arrives whole.
+/// never three in a row. The first line, the hello, arrives whole. Fails if out of memory.
 pub fn demo_schedule(alloc: Global, seed: u32, commands: u32) -> Result<Schedule, AllocError>
     requires { commands ≤ MOST_COMMANDS }
     ensures { IfOk result (λ schedule. schedule ≡ demo_schedule seed commands) }

@@ -14,6 +14,3 @@ pub use house_end::HouseEnd;
 pub use joined::History;
 pub use worker_end::WorkerEnd;
 pub use workers::{Workers, ends};
-
-#[cfg(test)]
-mod tests;

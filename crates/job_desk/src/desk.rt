@@ -21,7 +21,7 @@ use gcode_lines::Job;
 use std::alloc::{AllocError, Global};
 use std::marker::Model;
 
-/// The most lines of users that wait.
+// The most lines of users that wait.
 const MOST_MANUAL: usize = 256;
 
 /// A file that is refused, with its job.
@@ -31,15 +31,15 @@ pub struct NotSelected {
     pub job: Job,
 }
 
-/// The selected file.
+// The selected file.
 #[derive(Drop)]
 struct Selected {
     name: Name,
     job: Job,
 }
 
-/// The prints of a desk: the greatest number so far, whether that print is active, and the index of its next file
-/// command.
+// The prints of a desk: the greatest number so far, whether that print is active, and the index of its next file
+// command.
 #[derive(Clone, Copy)]
 struct Prints {
     greatest: u32,
@@ -47,8 +47,8 @@ struct Prints {
     cursor: usize,
 }
 
-/// The lines of a session: how many were issued and acknowledged, and the numbers of the print's last one and of the last
-/// poll, 0 for none.
+// The lines of a session: how many were issued and acknowledged, and the numbers of the print's last one and of the last
+// poll, 0 for none.
 #[derive(Clone, Copy)]
 struct Lines {
     issued: u64,
@@ -66,10 +66,14 @@ pub struct Desk {
     port: Option<Name>,
     file: Option<Selected>,
     prints: Prints,
+    // The script lines that wait to be issued.
     waiting: Waiting,
+    // The users' lines that wait to be issued.
     manual: HeapCircularBuffer<Text>,
+    // The moment from which on a poll is due.
     poll_at: u64,
     lines: Lines,
+    // Whether the hello was acknowledged since the last accepted connect.
     ready: bool,
 }
 
@@ -86,7 +90,7 @@ impl Model for Desk {
 }
 
 impl Desk {
-    /// A desk that is offline. A poll is due `poll_ms` milliseconds after the last one, at least 1.
+    /// A desk that is offline. A poll is due `poll_ms` milliseconds after the last one, at least 1. Fails if out of memory.
     pub fn new(
         alloc: Global,
         scripts: Scripts,
@@ -186,7 +190,7 @@ impl Desk {
         }
     }
 
-    /// The index of the next file command.
+    /// The index of the next file command, from 0.
     pub fn cursor(&self) -> usize
         ensures { result ≡ self.now.cursor }
     {

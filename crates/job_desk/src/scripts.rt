@@ -11,17 +11,17 @@ use std::alloc::Global;
 use std::marker::Model;
 use thiserror::Error;
 
-/// The most lines of a script.
+// The most lines of a script.
 const MOST_LINES: usize = 64;
 
 /// Why a line does not join a script.
 #[derive(Clone, Copy, Debug, PartialEq, Eq, Error)]
 pub enum AddFault {
     /// The script has 64 lines.
-    #[error("a script of over 64 lines")]
+    #[error("script: over 64 lines")]
     TooMany,
     /// Memory ran out.
-    #[error("no memory")]
+    #[error("out of memory")]
     NoMemory,
 }
 
@@ -51,7 +51,7 @@ impl Script {
         }
     }
 
-    /// Adds a text at the end. After a fault the script is as before.
+    // Adds a text at the end. After a fault the script is as before.
     fn add(&mut self, text: &Text) -> Result<(), AddFault>
         requires { IsSendable text.now.items }
         ensures ok { OnOk result (self.new ≡ self.old ++ text.now.items ∷ []) }
@@ -126,7 +126,8 @@ impl Scripts {
         }
     }
 
-    /// Adds a text at the end of a script. After a fault the scripts are as before.
+    /// Adds a text at the end of a script. Refused as TooMany if the script has 64 lines, fails if out of memory; the scripts are
+    /// then as before.
     pub fn add(&mut self, point: Point, text: &Text) -> Result<(), AddFault>
         requires { IsSendable text.now.items }
         ensures ok { OnOk result (self.new ≡ with_text point text.now.items self.old) }
@@ -145,7 +146,7 @@ impl Scripts {
         }
     }
 
-    /// The script at a point.
+    // The script at a point.
     fn at(&self, point: Point) -> &Script
         ensures { result.now ≡ texts_at point self.now }
     {

@@ -87,7 +87,7 @@ impl Waiting {
         self.entries.is_empty()
     }
 
-    /// The first line, if any.
+    // The first line, if any.
     fn first(&self) -> Option<Issued>
         ensures value { option_map line_of result ≡ slice_get self.now.lines 0 }
         ensures sendable { IfSome result (λ issued. IsSendable issued.text.items) }
@@ -103,7 +103,7 @@ impl Waiting {
         })
     }
 
-    /// Goes past the first line.
+    // Goes past the first line.
     fn advance(&mut self)
         requires { 0 < length self.old.lines }
         ensures scripts { self.new.scripts ≡ self.old.scripts }

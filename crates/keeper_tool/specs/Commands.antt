@@ -3,12 +3,12 @@ use Rattle.std.specs.Prelude.{ℕ, nat_le, if◌then◌else◌, ◌&&◌, List, 
 use Rattle.std.specs.Str.{bytes_eq}
 use Rattle.byte_text.specs.Number.{number_in}
 use Rattle.keeper_tool.specs.declared.command.Command.{Command}
-use Rattle.keeper_tool.specs.declared.command.Work.{Work}
-use Rattle.keeper_tool.specs.declared.command.Work.TheVariants.{Show, Add}
+use Rattle.keeper_tool.specs.declared.command.Task.{Task}
+use Rattle.keeper_tool.specs.declared.command.Task.TheVariants.{Show, Add}
 
--- a work on the database of that path, which has 1 to 100 bytes
-abbrev pub on_file : List ℕ → Work → Option Command
-on_file file work = if nat_le 1 (length file) && nat_le (length file) 100 then Some (record { file = file; work = work }) else None
+-- a task on the database of that path, which has 1 to 100 bytes
+abbrev pub on_file : List ℕ → Task → Option Command
+on_file file task = if nat_le 1 (length file) && nat_le (length file) 100 then Some (record { file = file; task = task }) else None
 
 -- this number of prints is added
 abbrev pub adding : List ℕ → Option ℕ → Option Command

@@ -4,17 +4,17 @@ use Rattle.octo_outside.specs.Recorded.{Adds, AddsPrefix}
 use Rattle.octo_keeper.specs.declared.keeper.KeeperFault.{KeeperFault}
 use Rattle.octo_keeper.specs.declared.keeper.KeeperFault.TheVariants as fault
 use Rattle.octo_keeper.specs.declared.tables.Tables.{Tables}
-use Rattle.keeper_tool.specs.declared.command.Work.{Work}
-use Rattle.keeper_tool.specs.declared.command.Work.TheVariants.{Show, Add}
+use Rattle.keeper_tool.specs.declared.command.Task.{Task}
+use Rattle.keeper_tool.specs.declared.command.Task.TheVariants.{Show, Add}
 use Rattle.keeper_tool.specs.declared.end.ToolEnd.{ToolEnd}
-use Rattle.keeper_tool.specs.declared.end.ToolEnd.TheVariants.{Shown, Added, BadWords, NumbersUsed, KeeperFailed, OutputFailed, NotOpened, NoMemory}
+use Rattle.keeper_tool.specs.declared.end.ToolEnd.TheVariants.{Shown, Added, BadArguments, NumbersUsed, KeeperFailed, OutputFailed, NotOpened, NoMemory}
 use Rattle.keeper_tool.specs.Lines.{tables_text}
 
 -- the exit status of each end
 abbrev pub code_of : ToolEnd → ℕ
 code_of Shown = 0
 code_of (Added prints) = 0
-code_of BadWords = 2
+code_of BadArguments = 2
 code_of NumbersUsed = 3
 code_of KeeperFailed = 4
 code_of OutputFailed = 8
@@ -25,12 +25,19 @@ code_of NoMemory = 11
 abbrev pub end_text : ToolEnd → List ℕ
 end_text Shown = []
 end_text (Added prints) = codes "added " ++ decimal prints ++ codes " prints\n"
-end_text BadWords = codes "usage: keeper_tool FILE [prints N]\n"
+end_text BadArguments = codes "usage: keeper_tool FILE [prints N]\n"
 end_text NumbersUsed = codes "the numbers of prints are used up\n"
 end_text KeeperFailed = codes "the database failed, or its rows don't fit\n"
 end_text OutputFailed = []
 end_text NotOpened = codes "not opened: no database, another schema, or in use\n"
 end_text NoMemory = codes "no memory\n"
+
+-- in front of the text of an end that is about the database: its path
+abbrev pub path_text : List ℕ → ToolEnd → List ℕ
+path_text path NumbersUsed = path ++ codes ": "
+path_text path KeeperFailed = path ++ codes ": "
+path_text path NotOpened = path ++ codes ": "
+path_text path end = []
 
 -- the end after a fault of the keeper
 abbrev pub end_of : KeeperFault → ToolEnd
@@ -53,12 +60,12 @@ is_adding KeeperFailed = true
 is_adding NoMemory = true
 is_adding _ = false
 
--- an end of a work
-abbrev pub may_end : Work → ToolEnd → Bool
+-- an end of a task
+abbrev pub may_end : Task → ToolEnd → Bool
 may_end Show end = is_showing end
 may_end (Add prints) end = is_adding end
 
--- what is written before a work has ended so: the tables' text if they were shown, the beginning of it if the output failed
+-- what is written before a task has ended so: the tables' text if they were shown, the beginning of it if the output failed
 abbrev pub Wrote : Option Tables → ToolEnd → Option (List ℕ) → Option (List ℕ) → Type 0
 Wrote tables Shown old new = IfSome tables (λ t. Adds old new (tables_text t))
 Wrote tables OutputFailed old new = IfSome tables (λ t. AddsPrefix old new (tables_text t))

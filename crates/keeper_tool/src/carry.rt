@@ -4,13 +4,13 @@ ghost use Rattle.std.specs.Option.{option_map};
 ghost use Rattle.byte_text.specs.Number.{most_u32};
 ghost use Rattle.octo_outside.specs.Recorded.{Adds, Counts};
 ghost use Rattle.keeper_tool.specs.declared.end.ToolEnd.TheVariants as end;
-ghost use Rattle.keeper_tool.specs.declared.command.Work.TheVariants as todo;
+ghost use Rattle.keeper_tool.specs.declared.command.Task.TheVariants as todo;
 ghost use Rattle.keeper_tool.specs.Ends.{Wrote, is_showing, may_end};
 ghost use Rattle.keeper_tool.specs.Lines.{tables_text};
 ghost use Rattle.keeper_tool.specs.Prints.{AddsUpTo, with_more};
 
 use crate::add::add_prints;
-use crate::command::Work;
+use crate::command::Task;
 use crate::end::{ToolEnd, end_of};
 use crate::lines::tables_text;
 use octo_keeper::Keeper;
@@ -43,24 +43,24 @@ fn show<K: Keeper, O: Sink>(alloc: Global, keeper: &mut K, out: &mut O) -> ToolE
     }
 }
 
-/// Carries out a work on a keeper.
+/// Carries out a task on a keeper.
 pub fn carry_out<K: Keeper, O: Sink>(
     alloc: Global,
     keeper: &mut K,
-    work: Work,
+    task: Task,
     out: &mut O,
 ) -> ToolEnd
     ensures shown { result ≡ end.Shown → IfSome (K.tables keeper.old)
         (λ t. Adds (O.written out.old) (O.written out.new) (tables_text t)) }
-    ensures added { (n : ℕ) → result ≡ end.Added n → (work ≡ todo.Add n)
+    ensures added { (n : ℕ) → result ≡ end.Added n → (task ≡ todo.Add n)
         × (K.tables keeper.new ≡ option_map (with_more n) (K.tables keeper.old)) }
-    ensures some { (n : ℕ) → work ≡ todo.Add n
+    ensures some { (n : ℕ) → task ≡ todo.Add n
         → AddsUpTo n (K.tables keeper.old) (K.tables keeper.new) }
-    ensures stays { work ≡ todo.Show → K.tables keeper.new ≡ K.tables keeper.old }
+    ensures stays { task ≡ todo.Show → K.tables keeper.new ≡ K.tables keeper.old }
 
-    // It ends as such a work does, and nothing else is written.
-    ensures kind { may_end work result ≡ true }
-    ensures numbers { (n : ℕ) → work ≡ todo.Add n → result ≡ end.NumbersUsed
+    // It ends as such a task does, and nothing else is written.
+    ensures kind { may_end task result ≡ true }
+    ensures numbers { (n : ℕ) → task ≡ todo.Add n → result ≡ end.NumbersUsed
         → IfSome (K.tables keeper.old) (λ t. most_u32 < length t.prints + 1 + n) }
     ensures wrote { Wrote (K.tables keeper.old) result (O.written out.old) (O.written out.new) }
 
@@ -70,8 +70,8 @@ pub fn carry_out<K: Keeper, O: Sink>(
     ensures steady { result ≢ end.KeeperFailed → K.faults keeper.new ≡ K.faults keeper.old }
     ensures output { Counts (result ≡ end.OutputFailed) (O.faults out.old) (O.faults out.new) }
 {
-    match work {
-        Work::Show => show(alloc, keeper, out),
-        Work::Add { prints } => add_prints(alloc, keeper, prints),
+    match task {
+        Task::Show => show(alloc, keeper, out),
+        Task::Add { prints } => add_prints(alloc, keeper, prints),
     }
 }

@@ -7,7 +7,7 @@ use octo_outside::WordList;
 
 /// What is to be done with a database.
 #[derive(Clone, Copy, Debug, PartialEq, Eq)]
-pub enum Work {
+pub enum Task {
     /// Its tables are written out.
     Show,
     /// This number of records of finished prints is added to it.
@@ -18,18 +18,18 @@ pub enum Work {
 #[derive(Drop)]
 pub struct Command {
     pub file: Name,
-    pub work: Work,
+    pub task: Task,
 }
 
-// A work on the database of a path of 1 to 100 bytes.
-fn on_file(file: &str, work: Work) -> Option<Command>
-    ensures { result ≡ on_file file.now work }
+// A task on the database of a path of 1 to 100 bytes.
+fn on_file(file: &str, task: Task) -> Option<Command>
+    ensures { result ≡ on_file file.now task }
 {
     if file.is_empty() {
         return None;
     }
     let file = Name::from_text(file)?;
-    Some(Command { file, work })
+    Some(Command { file, task })
 }
 
 fn prints_command(file: &str, word: &str, number: &str) -> Option<Command>
@@ -39,7 +39,7 @@ fn prints_command(file: &str, word: &str, number: &str) -> Option<Command>
         return None;
     }
     match number_in(number) {
-        Some(prints) => on_file(file, Work::Add { prints }),
+        Some(prints) => on_file(file, Task::Add { prints }),
         None => None,
     }
 }
@@ -49,7 +49,7 @@ pub fn read_command(words: &WordList) -> Option<Command>
     ensures { result ≡ command_of words.now }
 {
     match words.count() {
-        1 => on_file(words.get(0), Work::Show),
+        1 => on_file(words.get(0), Task::Show),
         3 => prints_command(words.get(0), words.get(1), words.get(2)),
         _ => None,
     }

@@ -12,7 +12,7 @@ pub enum ToolEnd {
     /// This number of print records was added.
     Added { prints: u32 },
     /// The arguments are no command.
-    BadWords,
+    BadArguments,
     /// There is no number left for a print.
     NumbersUsed,
     /// The database failed, or its rows aren't those of a host.
@@ -35,7 +35,7 @@ impl ToolEnd {
     {
         match self {
             ToolEnd::Shown | ToolEnd::Added { .. } => 0,
-            ToolEnd::BadWords => 2,
+            ToolEnd::BadArguments => 2,
             ToolEnd::NumbersUsed => 3,
             ToolEnd::KeeperFailed => 4,
             ToolEnd::OutputFailed => 8,

@@ -11,11 +11,11 @@ use print_queue::QueueEntry;
 use print_records::{Outcome, PrintRow};
 use std::alloc::{AllocError, Global};
 
-fn put_word(text: &mut Blob, word: &Name) -> Result<(), AllocError>
-    ensures { OnOk result (text.new ≡ text.old ++ word_after word.now) }
+fn put_name(text: &mut Blob, name: &Name) -> Result<(), AllocError>
+    ensures { OnOk result (text.new ≡ text.old ++ word_after name.now) }
 {
     text.append(b" ")?;
-    text.append(word.as_bytes())
+    text.append(name.as_bytes())
 }
 
 fn put_number(text: &mut Blob, name: &str, number: u64) -> Result<(), AllocError>
@@ -26,11 +26,11 @@ fn put_number(text: &mut Blob, name: &str, number: u64) -> Result<(), AllocError
     text.append(buffer.format(number).as_bytes())
 }
 
-fn put_words(text: &mut Blob, words: &[Name]) -> Result<(), AllocError>
-    ensures { OnOk result (text.new ≡ text.old ++ flat_map word_after words.now) }
+fn put_groups(text: &mut Blob, groups: &[Name]) -> Result<(), AllocError>
+    ensures { OnOk result (text.new ≡ text.old ++ flat_map word_after groups.now) }
 {
-    for word in words {
-        put_word(text, word)?;
+    for group in groups {
+        put_name(text, group)?;
     }
     Ok(())
 }
@@ -45,22 +45,22 @@ fn put_user(text: &mut Blob, user: &UserRow) -> Result<(), AllocError>
     ensures { OnOk result (text.new ≡ text.old ++ user_line user.now) }
 {
     text.append(b"user")?;
-    put_word(text, &user.name)?;
+    put_name(text, &user.name)?;
     text.append(active_text(user.active).as_bytes())?;
-    put_words(text, user.groups.as_slice())?;
+    put_groups(text, user.groups.as_slice())?;
     text.append(b"\n")
 }
 
-fn put_names(text: &mut Blob, entry: &QueueEntry) -> Result<(), AllocError>
+fn put_entry_names(text: &mut Blob, entry: &QueueEntry) -> Result<(), AllocError>
     ensures { OnOk result (text.new ≡ text.old ++ entry_names entry.now) }
 {
     text.append(b"entry")?;
-    put_word(text, &entry.user)?;
-    put_word(text, &entry.name)?;
-    put_word(text, &entry.file)
+    put_name(text, &entry.user)?;
+    put_name(text, &entry.name)?;
+    put_name(text, &entry.file)
 }
 
-fn put_numbers(text: &mut Blob, entry: &QueueEntry) -> Result<(), AllocError>
+fn put_entry_numbers(text: &mut Blob, entry: &QueueEntry) -> Result<(), AllocError>
     ensures { OnOk result (text.new ≡ text.old ++ entry_numbers entry.now) }
 {
     put_number(text, " priority ", u64::from(entry.priority))?;
@@ -72,10 +72,10 @@ fn put_numbers(text: &mut Blob, entry: &QueueEntry) -> Result<(), AllocError>
 fn put_entry(text: &mut Blob, entry: &QueueEntry) -> Result<(), AllocError>
     ensures { OnOk result (text.new ≡ text.old ++ entry_line entry.now) }
 {
-    put_names(text, entry)?;
-    put_numbers(text, entry)?;
+    put_entry_names(text, entry)?;
+    put_entry_numbers(text, entry)?;
     text.append(b" material")?;
-    put_word(text, &entry.material)?;
+    put_name(text, &entry.material)?;
     text.append(b"\n")
 }
 
@@ -94,8 +94,8 @@ fn put_print(text: &mut Blob, print: &PrintRow) -> Result<(), AllocError>
     ensures { OnOk result (text.new ≡ text.old ++ print_line print.now) }
 {
     put_number(text, "print ", u64::from(print.number))?;
-    put_word(text, &print.user)?;
-    put_word(text, &print.file)?;
+    put_name(text, &print.user)?;
+    put_name(text, &print.file)?;
     put_number(text, " commands ", u64::from(print.commands))?;
     text.append(outcome_text(print.outcome).as_bytes())
 }

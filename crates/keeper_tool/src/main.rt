@@ -14,10 +14,10 @@ use carry::carry_out;
 use command::{Command, read_command};
 use end::ToolEnd;
 use octo_keeper::KeeperFault;
-use octo_outside::{ArgumentsFault, Failed, StdSink, arguments};
+use octo_outside::{ArgumentsFault, Failed, StdSink, WordList, arguments};
 use sql_file::{close_keeper, open_keeper};
 use std::process::ExitCode;
-use texts::write_end;
+use texts::{write_end, write_path};
 
 // Carries out a command on its database, which is closed at the end.
 fn open_and_carry_out(
@@ -27,7 +27,7 @@ fn open_and_carry_out(
 ) -> ToolEnd {
     match open_keeper(rt, &command.file) {
         Ok(mut keeper) => {
-            let end = carry_out(rt.alloc(), &mut keeper, command.work, out);
+            let end = carry_out(rt.alloc(), &mut keeper, command.task, out);
             close_keeper(keeper);
             end
         }
@@ -36,14 +36,27 @@ fn open_and_carry_out(
     }
 }
 
+// Carries out the command that the arguments are, and writes what is in front of the text of its end.
+fn carry_out_arguments(
+    rt: &HostRuntime,
+    words: &WordList,
+    out: &mut StdSink<HostRuntime>,
+) -> ToolEnd {
+    let Some(command) = read_command(words) else {
+        return ToolEnd::BadArguments;
+    };
+    let end = open_and_carry_out(rt, &command, out);
+    match write_path(out, &command.file, end) {
+        Ok(()) => end,
+        Err(Failed) => ToolEnd::OutputFailed,
+    }
+}
+
 fn main(rt: HostRuntime) -> ExitCode {
     let mut out = StdSink::new(rt);
     let end = match arguments(&rt) {
-        Ok(words) => match read_command(&words) {
-            Some(command) => open_and_carry_out(&rt, &command, &mut out),
-            None => ToolEnd::BadWords,
-        },
-        Err(ArgumentsFault::NotText) => ToolEnd::BadWords,
+        Ok(words) => carry_out_arguments(&rt, &words, &mut out),
+        Err(ArgumentsFault::NotText) => ToolEnd::BadArguments,
         Err(ArgumentsFault::NoMemory) => ToolEnd::NoMemory,
     };
     let end = match write_end(&mut out, end) {

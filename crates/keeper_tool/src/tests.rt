@@ -2,10 +2,11 @@
 
 use crate::add::add_prints;
 use crate::carry::carry_out;
-use crate::command::Work;
+use crate::command::Task;
 use crate::end::ToolEnd;
 use crate::lines::tables_text;
-use crate::texts::write_end;
+use crate::texts::{write_end, write_path};
+use byte_text::Name;
 use octo_keeper::{MemoryKeeper, Tables};
 use octo_outside::{CallList, MemorySink};
 use std::alloc::Global;
@@ -27,10 +28,18 @@ fn ample(rt: HostRuntime) {
         ToolEnd::Added { prints: 1 }
     );
     assert_eq!(rt;
-        carry_out(alloc, &mut keeper, Work::Show, &mut out),
+        carry_out(alloc, &mut keeper, Task::Show, &mut out),
         ToolEnd::Shown
     );
     assert!(rt; out.written() == Some(TEXT));
+}
+
+#[test]
+fn ample_path(rt: HostRuntime) {
+    let mut out = empty_sink(rt.alloc());
+    let path = Name::of_short("a.db");
+    assert!(rt; write_path(&mut out, &path, ToolEnd::NotOpened).is_ok());
+    assert!(rt; out.written() == Some(b"a.db: ".as_slice()));
 }
 
 #[test]

@@ -42,11 +42,28 @@ fn serve_words(rt: HostRuntime, words: &WordList) -> SimEnd {
     }
 }
 
+// What standard error says of an end, if anything.
+fn complaint_of(end: SimEnd) -> Option<&'static str> {
+    match end {
+        SimEnd::Done => None,
+        SimEnd::BadPlan => Some("usage: marlin_sim ADDRESS LAST SLOTS DROP GARBLE"),
+        SimEnd::ConnFailed => {
+            Some("marlin_sim: it can't listen at the address, or the connection failed")
+        }
+        SimEnd::SinkFailed => Some("marlin_sim: the output failed"),
+        SimEnd::TurnsUsed { .. } => Some("marlin_sim: the turns are used up"),
+        SimEnd::NoMemory => Some("marlin_sim: out of memory"),
+    }
+}
+
 fn main(rt: HostRuntime) -> ExitCode {
     let end = match arguments(&rt) {
         Ok(words) => serve_words(rt, &words),
         Err(ArgumentsFault::NotText) => SimEnd::BadPlan,
         Err(ArgumentsFault::NoMemory) => SimEnd::NoMemory,
     };
+    if let Some(complaint) = complaint_of(end) {
+        let _ = eprintln!(rt; "{complaint}");
+    }
     ExitCode::from(end.code())
 }

@@ -12,7 +12,7 @@ use std::alloc::{AllocError, Global};
 pub struct SimPlan {
     /// Its last line number at the beginning.
     pub last: u32,
-    /// How many lines it keeps waiting, 1 to 16.
+    /// Its buffer slots: how many lines it keeps waiting, 1 to 16.
     pub places: u8,
     /// The received lines, counted from 1, that don't arrive.
     pub drop: CallList,
@@ -25,7 +25,7 @@ pub struct SimPlan {
 // For how many reads the program serves a connection.
 const TURNS: u64 = 4_000_000_000_000;
 
-// The place that a text is, if it is above this one.
+// The number of a received line that a text is, if it is above this one.
 fn place_in(least: u32, word: &str) -> Option<u32>
     ensures { result ≡ place_in least word.now }
 {
@@ -35,7 +35,7 @@ fn place_in(least: u32, word: &str) -> Option<u32>
     }
 }
 
-// The places that texts are, each above the one before.
+// The numbers of received lines that texts are, each above the one before.
 fn listed_places(alloc: Global, pieces: &[&str]) -> Result<Option<CallList>, AllocError>
     ensures { IfOk result (λ places. places ≡ places_above 0 (map (λ p. p.now) pieces.now)) }
 {
@@ -51,7 +51,7 @@ fn listed_places(alloc: Global, pieces: &[&str]) -> Result<Option<CallList>, All
     Ok(Some(places))
 }
 
-// What is between the commas of a word.
+// What is between the commas of an argument.
 fn pieces_of(alloc: Global, word: &str) -> Result<Vec<&str>, AllocError>
     ensures { IfOk result (λ pieces. map (λ p. p.now) pieces.items
         ≡ slice_split is_comma word.now) }
@@ -59,7 +59,7 @@ fn pieces_of(alloc: Global, word: &str) -> Result<Vec<&str>, AllocError>
     word.split(',').collect(alloc)
 }
 
-// The places that a word lists: none for a dash.
+// The received lines that an argument lists: none for a dash.
 fn read_places(alloc: Global, word: &str) -> Result<Option<CallList>, AllocError>
     ensures { IfOk result (λ places. places ≡ places_in word.now) }
 {
@@ -80,7 +80,7 @@ fn read_count(word: &str) -> Option<u8>
     }
 }
 
-// The plan of its numbers and of two words that list lines: those to drop and those to corrupt.
+// The plan of its numbers and of two arguments that list lines: those to drop and those to corrupt.
 fn plan_with(
     alloc: Global,
     last: u32,
@@ -122,14 +122,14 @@ fn plan_in(alloc: Global, words: &WordList) -> Result<Option<SimPlan>, AllocErro
     plan_with(alloc, last, places, words.get(3), words.get(4))
 }
 
-// Whether a word may be an address: 1 to 100 bytes.
+// Whether an argument may be an address: 1 to 100 bytes.
 fn is_address(word: &str) -> bool
     ensures { result ≡ is_address word.now }
 {
     word.len() >= 1 && word.len() <= 100
 }
 
-/// The plan that the arguments are: `ADDRESS LAST PLACES DROP GARBLE`.
+/// The plan that the arguments are: `ADDRESS LAST SLOTS DROP GARBLE`.
 pub fn read_plan(alloc: Global, words: &WordList) -> Result<Option<SimPlan>, AllocError>
     ensures value { IfOk result (λ plan. plan ≡ plan_of words.now) }
     ensures plan { IfOk result (λ plan. IfSome plan IsPlan) }

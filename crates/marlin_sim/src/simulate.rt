@@ -90,7 +90,7 @@ pub fn simulate<C: Conn, O: Sink>(
     finish(out, &mut sim, ending)
 }
 
-/// Serves one connection by the plan that the arguments are: `ADDRESS LAST PLACES DROP GARBLE`.
+/// Serves one connection by the plan that the arguments are: `ADDRESS LAST SLOTS DROP GARBLE`.
 pub fn sim<C: Conn, O: Sink>(alloc: Global, words: &WordList, conn: &mut C, out: &mut O) -> SimEnd
     ensures no_plan { plan_of words.now ≡ None → (result ≡ end.BadPlan) ⊎ (result ≡ end.NoMemory) }
     ensures bad_plan { result ≡ end.BadPlan → plan_of words.now ≡ None }

@@ -253,18 +253,3 @@ fn bad_plans(rt: HostRuntime) -> Result<(), Fail> {
     }
     Ok(())
 }
-
-#[test]
-fn codes(rt: HostRuntime) {
-    let rows = [
-        (SimEnd::Done, 0),
-        (SimEnd::BadPlan, 2),
-        (SimEnd::SinkFailed, 8),
-        (SimEnd::TurnsUsed { turns: 1 }, 10),
-        (SimEnd::NoMemory, 11),
-        (SimEnd::ConnFailed, 12),
-    ];
-    for (end, code) in rows {
-        assert_eq!(rt; end.code(), code);
-    }
-}

@@ -10,7 +10,7 @@ use objects::{close, objects_of};
 use octo_commands::octo;
 use octo_host::{HostReport, write_host_report};
 use octo_outside::{ArgumentsFault, FileSource, StdSink, SystemClock, arguments};
-use octo_report::Report;
+use octo_report::{OUTPUT_FAILED, Report};
 use socket_link::SocketLink;
 use std::alloc::AllocError;
 use std::process::ExitCode;
@@ -29,7 +29,7 @@ fn arguments_fault_report(fault: ArgumentsFault) -> HostReport
 fn end_with(out: &mut StdSink<HostRuntime>, report: &HostReport) -> ExitCode {
     match write_host_report(out, report) {
         Ok(()) => ExitCode::from(report.code()),
-        Err(_) => ExitCode::from(8),
+        Err(_) => ExitCode::from(OUTPUT_FAILED),
     }
 }
 

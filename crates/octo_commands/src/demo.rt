@@ -5,7 +5,7 @@ ghost use Rattle.octo_report.specs.declared.report.Report.TheVariants as report;
 ghost use Rattle.octo_commands.specs.Commands.{IsOther, IsSummary, status_of};
 
 use demo_print::{Demo, run_demo, summary};
-use octo_report::Report;
+use octo_report::{FILE_REFUSED, LINK_FAILED, Report, SESSION_ENDED, SUCCESS, TURNS_USED};
 use session_print::PrintEnd;
 use std::alloc::{AllocError, Global};
 
@@ -15,11 +15,11 @@ fn status_of(end: PrintEnd) -> u8
     ensures few { result ≤ 6 ⊎ (result ≡ 10) }
 {
     match end {
-        PrintEnd::Done => 0,
-        PrintEnd::TooHot { .. } => 3,
-        PrintEnd::NoPort | PrintEnd::LinkFailed => 5,
-        PrintEnd::Ended(_) => 6,
-        PrintEnd::TurnsUsed { .. } => 10,
+        PrintEnd::Done => SUCCESS,
+        PrintEnd::TooHot { .. } => FILE_REFUSED,
+        PrintEnd::NoPort | PrintEnd::LinkFailed => LINK_FAILED,
+        PrintEnd::Ended(_) => SESSION_ENDED,
+        PrintEnd::TurnsUsed { .. } => TURNS_USED,
     }
 }
 

@@ -1,5 +1,5 @@
 //! Whole commands over files, a link, doors and an output in memory. Out of memory, a test stops.
-ghost use Rattle.std.specs.Prelude.{◌≡◌, false};
+ghost use Rattle.std.specs.Prelude.{◌≡◌, false, IfSome};
 ghost use Rattle.printer_link.specs.Memory.{link_world};
 
 mod rows;
@@ -15,32 +15,21 @@ use std::process::Abort;
 use std::sync::Wait;
 use std::thread::Threads;
 
-fn fates(rt: &impl Abort, alloc: Global, row: &Row) -> FateList {
-    let mut list = FateList::new(alloc);
-    for fate in row.fates {
-        assert!(rt; list.push(*fate).is_ok());
-    }
-    list
-}
-
-// A printer at port p with 4 places and the last number 4.
-fn link(rt: &impl Abort, alloc: Global, row: &Row) -> MemoryLink
-    ensures { (link_world result).linked ≡ false }
+// A printer at port p with 4 buffer slots and the last number 4.
+fn link(alloc: Global, row: &Row) -> Option<MemoryLink>
+    ensures { IfSome result (λ link. (link_world link).linked ≡ false) }
 {
     let schedule = Schedule {
-        names: ports(alloc, "p").expect(rt, "no memory"),
+        names: ports(alloc, "p")?,
         last: 4,
         places: 4,
         advanced: false,
-        fates: fates(rt, alloc, row),
+        fates: FateList::from_items(Vec::from_slice(alloc, row.fates).ok()?),
         slow: 0,
-        fail_at: calls(alloc, row.link_fails).expect(rt, "no memory"),
-        restart_at: calls(alloc, row.restarts).expect(rt, "no memory"),
+        fail_at: calls(alloc, row.link_fails)?,
+        restart_at: calls(alloc, row.restarts)?,
     };
-    match MemoryLink::new(alloc, schedule) {
-        Ok(link) => link,
-        Err(_) => panic!(rt; "no memory"),
-    }
+    MemoryLink::new(alloc, schedule).ok()
 }
 
 fn word_list(rt: &impl Abort, alloc: Global, words: &[&str]) -> WordList {
@@ -105,7 +94,7 @@ impl Bench {
     {
         Bench {
             files: files(rt, alloc, row),
-            link: link(rt, alloc, row),
+            link: link(alloc, row).expect(rt, "no memory"),
             out: MemorySink::new(alloc, calls(alloc, row.sink_fails).expect(rt, "no memory")),
             clock: MemoryClock::new(0, 1),
             host: host_parts(alloc, row.inputs).expect(rt, "no memory"),
@@ -134,7 +123,7 @@ impl Bench {
         )
     }
 
-    // A test that let its bench fall would prove the drops of all that it has again.
+    // Drops the bench in one place. A test in which it goes out of scope would have to prove that drop itself.
     fn end(self) {}
 }
 

@@ -1,4 +1,4 @@
--- What a measure reports, and a file that goes on.
+-- What a measure reports, and the rest of a file.
 use Rattle.std.specs.Prelude.{◌≡◌, ℕ, Bool, true, false, List, Result, Ok, Err, IsOkAnd}
 use Rattle.gcode_lines.specs.Job.{JobData}
 use Rattle.gcode_measure.specs.Measured.{measure_of}
@@ -30,32 +30,32 @@ is_measure (report.Measured measure) = true
 is_measure (report.BadMeasure refused) = true
 is_measure r = is_file_refusal r
 
--- a file that goes on, unless there is none
+-- the rest of a file, unless there is none
 abbrev pub rest_or : Result (List ℕ) RestFault → Report
 rest_or (Ok text) = report.Rest text
 rest_or (Err (fault.Measure refused)) = report.BadMeasure refused
 rest_or (Err (fault.Past count)) = report.Past count
 rest_or (Err fault.NoMemory) = report.NoMemory
 
--- the file that goes on with a job at a command
+-- the rest of a job, from a command on
 abbrev pub job_rest_report : ℕ → JobData → Report
 job_rest_report from job = rest_or (rest_of job from)
 
--- the file that goes on with a file at a command
+-- the rest of a file, from a command on
 abbrev pub rest_report : ℕ → List ℕ → Report
 rest_report from bytes = report_or_refusal (job_rest_report from) (any_job_in bytes)
 
--- a file that is reported goes on with a job at a command
+-- a file that is reported is the rest of a job, from a command on
 abbrev pub GoesOnFrom : JobData → ℕ → Report → Type 0
 GoesOnFrom job from (report.Rest text) = IsRest job from text
 GoesOnFrom job from r = Unit {0}
 
--- a file is reported that goes on with the job of these bytes at a command
+-- a file that is reported is the rest of the job of these bytes, from a command on
 abbrev pub GoesOnWith : List ℕ → ℕ → Report → Type 0
 GoesOnWith bytes from (report.Rest text) = IsOkAnd (any_job_in bytes) (λ job. IsRest job from text)
 GoesOnWith bytes from r = Unit {0}
 
--- the report of a file that goes on, and what that file is
+-- the report of the rest of a file, and what that rest is
 pub record IsRestReport (from : ℕ) (bytes : List ℕ) (r : Report) : Type 0 where
   pub is : r ≡ rest_report from bytes
   pub goes_on : GoesOnWith bytes from r

@@ -15,7 +15,7 @@ use octo_report::Report;
 use std::alloc::Global;
 use temp_rules::{Limits, Targets, first_hot};
 
-/// The greatest temperatures that a job asks for.
+// The greatest temperatures that a job asks for.
 fn targets_of(job: &Job) -> Targets
     ensures { result ≡ targets_in (texts_of job.now) }
 {
@@ -26,7 +26,7 @@ fn targets_of(job: &Job) -> Targets
     targets
 }
 
-/// What a check finds of a job that asks for these temperatures at most.
+// What a check finds of a job that asks for these temperatures at most.
 fn counts_of(job: &Job, targets: &Targets) -> Report
     requires { targets.now ≡ targets_in (texts_of job.now) }
     ensures { result ≡ job_check_report job.now }
@@ -39,7 +39,7 @@ fn counts_of(job: &Job, targets: &Targets) -> Report
     }
 }
 
-/// Whether temperatures are within limits.
+// Whether temperatures are within limits.
 fn are_within(targets: &Targets, limits: &Limits) -> bool
     ensures { IsTrue result
         ↔ ((targets.now.tool ≤ limits.now.tool) × (targets.now.bed ≤ limits.now.bed)) }
@@ -47,7 +47,7 @@ fn are_within(targets: &Targets, limits: &Limits) -> bool
     targets.tool() <= u64::from(limits.tool) && targets.bed() <= u64::from(limits.bed)
 }
 
-/// What a check finds of a job: its commands are read once, and a second time only to find the first that is too hot.
+// What a check finds of a job: its commands are read once, and a second time only to find the first that is too hot.
 #[tactic(auto, using(crate::proofs::Cool::cool_commands))]
 fn check_job(job: &Job, limits: &Limits) -> Report
     ensures exact { result
@@ -69,12 +69,12 @@ fn check_job(job: &Job, limits: &Limits) -> Report
 /// Checks the file of that name: how many commands it has, how many lines have none, and the greatest temperatures that it
 /// asks for; refuses what `read_job` refuses.
 pub fn check_file<F: Source>(alloc: Global, files: &mut F, file: &str, limits: &Limits) -> Report
-    // result
+    // The result.
     ensures exact { IsTrouble result
         ⊎ FileGives (F.files files.old) file.now (λ bytes. result ≡ check_report limits.now bytes) }
     ensures kind { is_check result ≡ true }
 
-    // the source
+    // The source.
     ensures files { F.files files.new ≡ F.files files.old }
     ensures counts { Counts (result ≡ report.SourceFailed)
         (F.faults files.old) (F.faults files.new) }

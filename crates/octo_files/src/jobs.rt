@@ -13,13 +13,13 @@ use octo_report::Report;
 use std::alloc::Global;
 use temp_rules::{Limits, first_hot};
 
-/// The most bytes of a file.
+// The most bytes of a file.
 const MOST_BYTES: usize = 67_108_864;
 
-/// How many bytes a larger file is said to have, since no more is read of it.
+// How many bytes a larger file is said to have, since no more is read of it.
 const TOO_MANY: u64 = 67_108_865;
 
-/// The job of bytes, which it keeps.
+// The job of bytes, which it keeps.
 fn take_job(alloc: Global, bytes: Blob) -> Result<Job, Report>
     ensures exact { (result ≡ Err report.NoMemory) ⊎ (result ≡ unless_refused (job_of bytes)) }
     ensures refusal { IfErr result (λ r. is_file_refusal r ≡ true) }
@@ -38,12 +38,12 @@ pub(crate) fn read_any_job<F: Source>(
     files: &mut F,
     name: &str,
 ) -> Result<Job, Report>
-    // result
+    // The result.
     ensures exact { IsTroubled result
         ⊎ FileGives (F.files files.old) name.now (λ bytes. result ≡ any_job_in bytes) }
     ensures refusal { IfErr result (λ r. is_file_refusal r ≡ true) }
 
-    // the source
+    // The source.
     ensures files { F.files files.new ≡ F.files files.old }
     ensures counts { Counts (result ≡ Err report.SourceFailed)
         (F.faults files.old) (F.faults files.new) }
@@ -56,7 +56,7 @@ pub(crate) fn read_any_job<F: Source>(
     }
 }
 
-/// A job, unless one of its commands is too hot.
+// A job, unless one of its commands is too hot.
 fn within(limits: &Limits, job: Job) -> Result<Job, Report>
     ensures exact { result ≡ unless_hot job (first_hot_of limits.now job.commands) }
     ensures cool { IfOk result (λ job. first_hot_of limits.now job.commands ≡ None) }
@@ -78,13 +78,13 @@ pub fn read_job<F: Source>(
     name: &str,
     limits: &Limits,
 ) -> Result<Job, Report>
-    // result
+    // The result.
     ensures exact { IsTroubled result
         ⊎ FileGives (F.files files.old) name.now (λ bytes. result ≡ job_in limits.now bytes) }
     ensures cool { IfOk result (λ job. first_hot_of limits.now job.commands ≡ None) }
     ensures refusal { IfErr result (λ r. is_refusal r ≡ true) }
 
-    // the source
+    // The source.
     ensures files { F.files files.new ≡ F.files files.old }
     ensures counts { Counts (result ≡ Err report.SourceFailed)
         (F.faults files.old) (F.faults files.new) }

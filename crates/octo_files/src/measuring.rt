@@ -13,7 +13,7 @@ use octo_outside::Source;
 use octo_report::Report;
 use std::alloc::Global;
 
-/// What a job measures.
+// What a job measures.
 fn measure_job(job: &Job) -> Report
     ensures exact { result ≡ job_measure_report job.now }
     ensures kind { is_measure result ≡ true }
@@ -29,12 +29,12 @@ fn measure_job(job: &Job) -> Report
 /// where they end. Refused is a file that `read_job` refuses for its lines, and its first command that sets inches or goes
 /// too far.
 pub fn measure_file<F: Source>(alloc: Global, files: &mut F, file: &str) -> Report
-    // result
+    // The result.
     ensures exact { IsTrouble result
         ⊎ FileGives (F.files files.old) file.now (λ bytes. result ≡ measure_report bytes) }
     ensures kind { is_measure result ≡ true }
 
-    // the source
+    // The source.
     ensures files { F.files files.new ≡ F.files files.old }
     ensures counts { Counts (result ≡ report.SourceFailed)
         (F.faults files.old) (F.faults files.new) }
@@ -45,7 +45,7 @@ pub fn measure_file<F: Source>(alloc: Global, files: &mut F, file: &str) -> Repo
     }
 }
 
-/// The file that goes on with a job at a command.
+// The rest of a job as a file, from a command on.
 fn rest_of_job(alloc: Global, job: &Job, from: usize) -> Report
     ensures exact { (result ≡ report.NoMemory) ⊎ (result ≡ job_rest_report from job.now) }
     ensures goes_on { GoesOnFrom job.now from result }
@@ -60,16 +60,16 @@ fn rest_of_job(alloc: Global, job: &Job, from: usize) -> Report
     }
 }
 
-/// The file that goes on with the file of that name at a command, counted from 0, after a print that failed. It sets modes
-/// and positions as the commands before leave them, and neither heats nor homes. Refused is what `measure_file` refuses
+/// The rest of the file of that name, from a command on, counted from 0, after a print that failed. It sets modes and
+/// positions as the commands before leave them, and neither heats nor homes. Refused is what `measure_file` refuses
 /// among these commands, and a command past the last one.
 pub fn rest_of_file<F: Source>(alloc: Global, files: &mut F, file: &str, from: usize) -> Report
-    // result
+    // The result.
     ensures exact { IsTrouble result
         ⊎ FileGives (F.files files.old) file.now (λ bytes. IsRestReport from bytes result) }
     ensures kind { is_rest result ≡ true }
 
-    // the source
+    // The source.
     ensures files { F.files files.new ≡ F.files files.old }
     ensures counts { Counts (result ≡ report.SourceFailed)
         (F.faults files.old) (F.faults files.new) }

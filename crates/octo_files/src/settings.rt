@@ -13,10 +13,10 @@ use octo_report::Report;
 use octo_settings::{Settings, SettingsFault, read_settings};
 use std::alloc::Global;
 
-/// The most bytes of settings.
+// The most bytes of settings.
 const MOST_BYTES: usize = 1_048_576;
 
-/// The settings that bytes say.
+// The settings that bytes say.
 fn settings_of_bytes(alloc: Global, bytes: &[u8]) -> Result<Settings, Report>
     ensures exact { (result ≡ Err report.NoMemory) ⊎ AreSettings bytes.now result }
     ensures sound { IfOk result IsSettings }
@@ -30,19 +30,19 @@ fn settings_of_bytes(alloc: Global, bytes: &[u8]) -> Result<Settings, Report>
     }
 }
 
-/// The settings that the file of that name says.
+// The settings that the file of that name says.
 fn read_settings_file<F: Source>(
     alloc: Global,
     files: &mut F,
     name: &str,
 ) -> Result<Settings, Report>
-    // result
+    // The result.
     ensures exact { IsTroubled result
         ⊎ FileGives (F.files files.old) name.now (λ bytes. AreSettings bytes result) }
     ensures sound { IfOk result IsSettings }
     ensures refusal { IfErr result (λ r. is_settings_refusal r ≡ true) }
 
-    // the source
+    // The source.
     ensures files { F.files files.new ≡ F.files files.old }
     ensures counts { Counts (result ≡ Err report.SourceFailed)
         (F.faults files.old) (F.faults files.new) }
@@ -62,12 +62,12 @@ pub fn read_settings_of<F: Source>(
     files: &mut F,
     name: Option<&str>,
 ) -> Result<Settings, Report>
-    // result
+    // The result.
     ensures exact { HaveSettings (F.files files.old) (option_map (λ n. n.now) name.entry) result }
     ensures sound { IfOk result IsSettings }
     ensures refusal { IfErr result (λ r. is_settings_refusal r ≡ true) }
 
-    // the source
+    // The source.
     ensures files { F.files files.new ≡ F.files files.old }
     ensures counts { Counts (result ≡ Err report.SourceFailed)
         (F.faults files.old) (F.faults files.new) }

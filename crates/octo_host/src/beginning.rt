@@ -31,7 +31,7 @@ pub(crate) struct Pace {
     pub poll_ms: u64,
 }
 
-/// A new session with these scripts and limits.
+// A new session with these scripts and limits.
 fn new_session(
     alloc: Global,
     scripts: Scripts,

@@ -6,8 +6,6 @@ mod beginning;
 mod hosting;
 mod opened;
 mod report;
-#[cfg(test)]
-mod tests;
 
 pub use hosting::{HostEnd, host};
 pub use opened::Opened;

@@ -8,7 +8,7 @@ use arrayvec::ArrayVec;
 use byte_text::append;
 use itoa::Buffer;
 use octo_outside::{Failed, Sink, write_all};
-use octo_report::{Report, write_report};
+use octo_report::{DOOR_FAILED, Report, STORE_FAILED, SUCCESS, write_report};
 
 /// How a command of the program ended.
 #[derive(Drop)]
@@ -31,9 +31,9 @@ impl HostReport {
         ensures { result ≡ host_code self.now }
     {
         match self {
-            HostReport::Served { .. } => 0,
-            HostReport::DoorFailed { .. } => 12,
-            HostReport::KeeperFailed | HostReport::ShelfFailed => 9,
+            HostReport::Served { .. } => SUCCESS,
+            HostReport::DoorFailed { .. } => DOOR_FAILED,
+            HostReport::KeeperFailed | HostReport::ShelfFailed => STORE_FAILED,
             HostReport::Command(report) => report.code(),
         }
     }
@@ -63,13 +63,13 @@ fn door_text(calls: u64) -> ArrayVec<u8, 64>
 
 /// Writes the text of a report, and takes no memory for it; after a failed call a prefix of it was written.
 pub fn write_host_report<O: Sink>(out: &mut O, report: &HostReport) -> Result<(), Failed>
-    // what is written
+    // What is written.
     ensures ok { OnOk result
         (Adds (O.written out.old) (O.written out.new) (host_text report.now)) }
     ensures err { OnErr result
         (AddsPrefix (O.written out.old) (O.written out.new) (host_text report.now)) }
 
-    // faults
+    // The sink's faults.
     ensures counts { Counts (IsErr result) (O.faults out.old) (O.faults out.new) }
 {
     match report {

@@ -29,7 +29,7 @@ use session_print::{PrintEnd, run_print};
 use std::alloc::{AllocError, Global};
 use temp_rules::HotLine;
 
-/// A session that sends and keeps its limits as the settings say.
+/// A session that sends and keeps its limits as the settings say. Fails if out of memory.
 pub fn session_of(alloc: Global, settings: Settings) -> Result<Session, AllocError>
     requires { IsSettings settings }
     ensures new { IfOk result IsNew }
@@ -42,14 +42,14 @@ pub fn session_of(alloc: Global, settings: Settings) -> Result<Session, AllocErr
     Ok(Session::new(desk, sender))
 }
 
-/// The name that the file has at the desk.
+// The name that the file has at the desk.
 fn file_name() -> Name
     ensures { result ≡ codes "file" }
 {
     Name::of_short("file")
 }
 
-/// How an end of a print over this port is reported, of a job with these numbers of commands and skipped lines.
+// How an end of a print over this port is reported, of a job with these numbers of commands and skipped lines.
 fn report_of(end: PrintEnd, port: &Name, commands: u32, skipped: u32) -> Report
     ensures { (job : JobData) → commands ≡ length job.commands → skipped ≡ job.skipped
         → result ≡ print_end_report end port.now job }
@@ -64,7 +64,7 @@ fn report_of(end: PrintEnd, port: &Name, commands: u32, skipped: u32) -> Report
     }
 }
 
-/// Prints a job over the port of that name, by the settings.
+// Prints a job over the port of that name, by the settings.
 fn print_job<L: Link, T: Clock>(
     alloc: Global,
     link: &mut L,
@@ -78,14 +78,14 @@ fn print_job<L: Link, T: Clock>(
     requires sound { IsSettings settings }
     requires cool { first_hot_of settings.limits job.commands ≡ None }
 
-    // result
+    // The result.
     ensures run { IsRefused (seen_of (L.past link.old) (L.past link.new)
         (L.faults link.old) (L.faults link.new) (T.moment clock.new)) result report.NoMemory
         ⊎ IsRun (L.kind link.old) settings job (over_port port.now turns)
         (seen_of (L.past link.old) (L.past link.new)
         (L.faults link.old) (L.faults link.new) (T.moment clock.new)) result }
 
-    // the link
+    // The link.
     ensures down { L.up link.new ≡ false }
     ensures kind { L.kind link.new ≡ L.kind link.old }
     ensures counts { Counts (result ≡ report.LinkFailed) (L.faults link.old) (L.faults link.new) }
@@ -93,7 +93,7 @@ fn print_job<L: Link, T: Clock>(
         → RoseBy turns (L.calls link.old) (L.calls link.new) }
     ensures source { result ≢ report.SourceFailed }
 
-    // the clock
+    // The clock.
     ensures waited { (count : ℕ) → result ≡ report.Ended (NoAnswer count)
         → HasWaited (end.Ended (NoAnswer count)) (T.moment clock.old) settings.limit_ms
         (T.moment clock.new) }
@@ -123,25 +123,25 @@ pub fn print_file<F: Source, L: Link, T: Clock>(
 ) -> Report
     requires down { L.up link.old ≡ false }
 
-    // result
+    // The result.
     ensures print { IsFilePrint (L.kind link.old) (F.files files.old)
         (option_map (λ s. s.now) settings.entry) file.now (over_port port.now turns)
         (seen_of (L.past link.old) (L.past link.new)
         (L.faults link.old) (L.faults link.new) (T.moment clock.new)) result }
 
-    // the source
+    // The source.
     ensures files { F.files files.new ≡ F.files files.old }
     ensures source { Counts (result ≡ report.SourceFailed)
         (F.faults files.old) (F.faults files.new) }
 
-    // the link
+    // The link.
     ensures down { L.up link.new ≡ false }
     ensures kind { L.kind link.new ≡ L.kind link.old }
     ensures link { Counts (result ≡ report.LinkFailed) (L.faults link.old) (L.faults link.new) }
     ensures used { (made : ℕ) → result ≡ report.TurnsUsed made
         → RoseBy turns (L.calls link.old) (L.calls link.new) }
 
-    // the clock
+    // The clock.
     ensures waited { (count : ℕ) → result ≡ report.Ended (NoAnswer count)
         → WaitedBySettings (F.files files.old) (option_map (λ s. s.now) settings.entry) count
         (T.moment clock.old) (T.moment clock.new) }

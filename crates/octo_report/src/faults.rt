@@ -12,7 +12,7 @@ use octo_settings::{SettingsFault, script_key};
 use send_window::SessionEnd;
 use temp_rules::HotLine;
 
-/// Puts what is wrong with a key of the settings.
+// Puts what is wrong with a key of the settings.
 fn put_key(page: &mut Page, key: &[u8], what: &[u8])
     requires empty { page.old.items ≡ [] }
     requires short_key { length key.now ≤ MOST_NAME_BYTES }
@@ -24,7 +24,7 @@ fn put_key(page: &mut Page, key: &[u8], what: &[u8])
     append(page, what);
 }
 
-/// Puts that a script's command is too hot.
+// Puts that a script's command is too hot.
 fn put_hot_script(page: &mut Page, key: &[u8], line: u32)
     requires empty { page.old.items ≡ [] }
     requires short { length key.now ≤ MOST_NAME_BYTES }
@@ -33,7 +33,7 @@ fn put_hot_script(page: &mut Page, key: &[u8], line: u32)
     append(page, b"settings: ");
     append(page, key);
     append(page, b": line ");
-    append_whole(page, u128::from(line));
+    append_whole(page, u64::from(line));
     append(page, b": too hot\n");
 }
 
@@ -57,7 +57,7 @@ pub(crate) fn put_settings(page: &mut Page, fault: &SettingsFault)
     }
 }
 
-/// Puts what is wrong with a line of the file.
+// Puts what is wrong with a line of the file.
 fn put_line(page: &mut Page, line: u32, what: &[u8])
     requires empty { page.old.items ≡ [] }
     requires short { length what.now ≤ 100 }
@@ -65,7 +65,7 @@ fn put_line(page: &mut Page, line: u32, what: &[u8])
     ensures len { array_vec_len page.new ≤ 160 }
 {
     append(page, b"file: line ");
-    append_whole(page, u128::from(line));
+    append_whole(page, u64::from(line));
     append(page, what);
 }
 
@@ -79,21 +79,21 @@ pub(crate) fn put_file(page: &mut Page, fault: FileFault)
         FileFault::ControlByte { line } => put_line(page, line, b": control byte\n"),
         FileFault::TooLarge { bytes } => {
             append(page, b"file: ");
-            append_whole(page, u128::from(bytes));
+            append_whole(page, bytes);
             append(page, b" bytes: too large\n");
         }
         FileFault::NoMemory => append(page, b"no memory\n"),
     }
 }
 
-/// Adds what a command asks for, and the limit that it is over.
+// Adds what a command asks for, and the limit that it is over.
 fn append_over(page: &mut Page, asked: u64, limit: u16)
     requires { array_vec_len page.old ≤ 160 }
     ensures { page.new.items ≡ page.old.items ++ over_text asked limit }
 {
-    append_whole(page, u128::from(asked));
+    append_whole(page, asked);
     append(page, b" over ");
-    append_whole(page, u128::from(limit));
+    append_whole(page, u64::from(limit));
     append(page, b"\n");
 }
 
@@ -117,7 +117,7 @@ pub(crate) fn put_measure_fault(page: &mut Page, fault: MeasureFault)
     }
 }
 
-/// Puts how a session ended, by two numbers.
+// Puts how a session ended, by two numbers.
 fn put_numbers(
     page: &mut Page,
     before: &[u8],
@@ -135,14 +135,14 @@ fn put_numbers(
 {
     append(page, b"session ended: ");
     append(page, before);
-    append_whole(page, u128::from(first));
+    append_whole(page, u64::from(first));
     append(page, between);
-    append_whole(page, u128::from(second));
+    append_whole(page, u64::from(second));
     append(page, after);
     append(page, b"\n");
 }
 
-/// Puts how a session ended, with the number that says so.
+// Puts how a session ended, with the number that says so.
 fn put_number(page: &mut Page, before: &[u8], number: u32, after: &[u8])
     requires empty { page.old.items ≡ [] }
     requires short_before { length before.now ≤ 20 }
@@ -151,7 +151,7 @@ fn put_number(page: &mut Page, before: &[u8], number: u32, after: &[u8])
 {
     append(page, b"session ended: ");
     append(page, before);
-    append_whole(page, u128::from(number));
+    append_whole(page, u64::from(number));
     append(page, after);
     append(page, b"\n");
 }

@@ -2,6 +2,10 @@
 ghost use Rattle.std.specs.Prelude.{◌≡◌};
 ghost use Rattle.octo_report.specs.Status.{settings_code, file_code};
 
+use crate::status::{
+    BAD_ARGUMENTS, FILE_REFUSED, LINK_FAILED, OUT_OF_MEMORY, SESSION_ENDED, SETTINGS_REFUSED,
+    SOURCE_FAILED, SUCCESS, TURNS_USED,
+};
 use arrayvec::ArrayVec;
 use byte_text::Name;
 use gcode_lines::FileFault;
@@ -28,7 +32,7 @@ pub enum Report {
     },
     /// What the file's moves measure.
     Measured(Measure),
-    /// The file that goes on at a command.
+    /// The rest of the file, from a command on.
     Rest(Blob),
     /// What a demo reports of its print, and the exit status of that print.
     Demo {
@@ -67,23 +71,23 @@ pub enum Report {
     NoMemory,
 }
 
-/// The exit status of refused settings.
+// The exit status of refused settings.
 fn settings_code(fault: &SettingsFault) -> u8
     ensures { result ≡ settings_code fault.now }
 {
     match fault {
-        SettingsFault::NoMemory => 11,
-        _ => 7,
+        SettingsFault::NoMemory => OUT_OF_MEMORY,
+        _ => SETTINGS_REFUSED,
     }
 }
 
-/// The exit status of a refused file.
+// The exit status of a refused file.
 fn file_code(fault: FileFault) -> u8
     ensures { result ≡ file_code fault }
 {
     match fault {
-        FileFault::NoMemory => 11,
-        _ => 3,
+        FileFault::NoMemory => OUT_OF_MEMORY,
+        _ => FILE_REFUSED,
     }
 }
 
@@ -98,17 +102,17 @@ impl Report {
             Report::Printed { .. }
             | Report::Checked { .. }
             | Report::Measured(_)
-            | Report::Rest(_) => 0,
+            | Report::Rest(_) => SUCCESS,
             Report::Demo { status, .. } => *status,
-            Report::BadWords => 2,
+            Report::BadWords => BAD_ARGUMENTS,
             Report::BadSettings(fault) => settings_code(fault),
             Report::BadFile(fault) => file_code(*fault),
-            Report::TooHot(_) | Report::BadMeasure(_) | Report::Past { .. } => 3,
-            Report::SourceFailed => 4,
-            Report::LinkFailed | Report::NoPort { .. } => 5,
-            Report::Ended(_) => 6,
-            Report::TurnsUsed { .. } => 10,
-            Report::NoMemory => 11,
+            Report::TooHot(_) | Report::BadMeasure(_) | Report::Past { .. } => FILE_REFUSED,
+            Report::SourceFailed => SOURCE_FAILED,
+            Report::LinkFailed | Report::NoPort { .. } => LINK_FAILED,
+            Report::Ended(_) => SESSION_ENDED,
+            Report::TurnsUsed { .. } => TURNS_USED,
+            Report::NoMemory => OUT_OF_MEMORY,
         }
     }
 }

@@ -1,4 +1,4 @@
-//! The text of each report but the file that goes on at a command.
+//! The text of each report but the rest of a file.
 ghost use Rattle.std.specs.Prelude.{◌≡◌, ◌++◌, [], codes, decimal, false};
 ghost use Rattle.gcode_measure.specs.Shown.{measure_text};
 ghost use Rattle.octo_report.specs.Texts.{printed_text, checked_text, port_text, past_text, turns_text, is_rest, report_text};
@@ -14,9 +14,9 @@ fn put_printed(page: &mut Page, commands: u32, skipped: u32)
     ensures { page.new.items ≡ printed_text commands skipped }
 {
     append(page, b"done: ");
-    append_whole(page, u128::from(commands));
+    append_whole(page, u64::from(commands));
     append(page, b" commands, ");
-    append_whole(page, u128::from(skipped));
+    append_whole(page, u64::from(skipped));
     append(page, b" skipped\n");
 }
 
@@ -25,13 +25,13 @@ fn put_checked(page: &mut Page, commands: u32, skipped: u32, tool: u64, bed: u64
     ensures { page.new.items ≡ checked_text commands skipped tool bed }
 {
     append(page, b"commands ");
-    append_whole(page, u128::from(commands));
+    append_whole(page, u64::from(commands));
     append(page, b"\nskipped ");
-    append_whole(page, u128::from(skipped));
+    append_whole(page, u64::from(skipped));
     append(page, b"\nhottest tool ");
-    append_whole(page, u128::from(tool));
+    append_whole(page, tool);
     append(page, b"\nhottest bed ");
-    append_whole(page, u128::from(bed));
+    append_whole(page, bed);
     append(page, b"\n");
 }
 
@@ -55,7 +55,7 @@ fn put_past(page: &mut Page, count: u32)
     ensures { page.new.items ≡ past_text count }
 {
     append(page, b"file: ");
-    append_whole(page, u128::from(count));
+    append_whole(page, u64::from(count));
     append(page, b" commands\n");
 }
 
@@ -64,7 +64,7 @@ fn put_turns(page: &mut Page, turns: u64)
     ensures { page.new.items ≡ turns_text turns }
 {
     append(page, b"turns used: ");
-    append_whole(page, u128::from(turns));
+    append_whole(page, turns);
     append(page, b"\n");
 }
 

@@ -8,16 +8,16 @@ use crate::report::Report;
 use crate::texts::put_report;
 use octo_outside::{Failed, Sink, write_all};
 
-/// Writes the text of a report that isn't a file.
+// Writes the text of a report that isn't a file.
 fn write_page<O: Sink>(out: &mut O, report: &Report) -> Result<(), Failed>
     requires { is_rest report.now ≡ false }
 
-    // what is written
+    // What is written.
     ensures ok { OnOk result (Adds (O.written out.old) (O.written out.new) (report_text report.now)) }
     ensures err { OnErr result
         (AddsPrefix (O.written out.old) (O.written out.new) (report_text report.now)) }
 
-    // faults
+    // The sink's faults.
     ensures counts { Counts (IsErr result) (O.faults out.old) (O.faults out.new) }
 {
     let mut page = Page::new();
@@ -27,12 +27,12 @@ fn write_page<O: Sink>(out: &mut O, report: &Report) -> Result<(), Failed>
 
 /// Writes the text of a report without taking memory; after a failed call a prefix of it was written.
 pub fn write_report<O: Sink>(out: &mut O, report: &Report) -> Result<(), Failed>
-    // what is written
+    // What is written.
     ensures ok { OnOk result (Adds (O.written out.old) (O.written out.new) (report_text report.now)) }
     ensures err { OnErr result
         (AddsPrefix (O.written out.old) (O.written out.new) (report_text report.now)) }
 
-    // faults
+    // The sink's faults.
     ensures counts { Counts (IsErr result) (O.faults out.old) (O.faults out.new) }
 {
     match report {

@@ -3,8 +3,6 @@
 
 mod open_turn;
 mod session;
-#[cfg(test)]
-mod tests;
 
 pub use job_desk::{Ending, Issued, LinkFact, Note, SessionEnd};
 pub use session::Session;

@@ -26,7 +26,7 @@ use printer_link::{Heard, Link};
 use send_window::Sender;
 use session_steps::{Found, Received};
 
-/// What became of the next frame.
+// What became of the next frame.
 #[derive(Clone, Copy)]
 enum Gave {
     Sent,
@@ -78,8 +78,8 @@ fn receive<L: Link>(
     }
 }
 
-// A text consists of bytes: its type says so, and this states it for proofs.
-fn has_bytes(text: &[u8])
+// Does nothing: its contract states for the prover that a text consists of bytes, as its type says.
+fn text_has_bytes_fact(text: &[u8])
     ensures { AreBytes text.now }
 {}
 
@@ -104,7 +104,7 @@ fn pull_one(
 {
     match desk.pull(moment) {
         Some(issued) => {
-            has_bytes(issued.text.as_slice());
+            text_has_bytes_fact(issued.text.as_slice());
             sender.push(issued.text.as_slice());
             lines.push(issued);
             true
@@ -239,7 +239,7 @@ fn issue_and_send<L: Link>(
     }
 }
 
-// What follows the receiving: the clock ticks, and the session ends, becomes ready, or issues and sends.
+// What follows the call of `recv`: the clock ticks, and the session ends, becomes ready, or issues and sends.
 fn after_receiving<L: Link>(
     desk: &mut Desk,
     sender: &mut Sender,

@@ -41,15 +41,15 @@ impl Model for Session {
     ghost invariant = { IsKept };
 }
 
-// What holds of a sender between its calls: stated for proofs.
-fn is_sound(sender: &Sender)
+// Does nothing: its contract states for the prover that a sender is sound between its calls.
+fn sender_is_sound_fact(sender: &Sender)
     ensures { IsSound sender.now }
 {
     sender.ready();
 }
 
-// While a print goes on it is active: stated for proofs.
-fn is_active(desk: &Desk)
+// Does nothing: its contract states for the prover that a print that goes on is active.
+fn desk_is_active_fact(desk: &Desk)
     ensures { IsActive desk.now }
 {
     desk.state();
@@ -66,7 +66,7 @@ impl Session {
         ensures up { result.up ≡ false }
         ensures joined { IsSession result }
     {
-        is_sound(&sender);
+        sender_is_sound_fact(&sender);
         Session {
             desk,
             sender,
@@ -124,7 +124,7 @@ impl Session {
         ensures calls { is_calling (doing self.old) ≡ true
             → RoseBy 1 (L.calls link.old) (L.calls link.new) }
     {
-        is_active(&self.desk);
+        desk_is_active_fact(&self.desk);
         let before = self.sender.acked();
         let mut line = ReplyLine::new();
         let found = self.turn_by_kind(link, moment, &mut line);

@@ -11,22 +11,22 @@ use thiserror::Error;
 #[derive(Debug, Drop, Error)]
 pub enum SettingsFault {
     /// They are over 1,048,576 bytes, or aren't TOML.
-    #[error("not TOML")]
+    #[error("settings: not toml")]
     NotToml,
     /// A required key is missing.
-    #[error("missing")]
+    #[error("settings: {}: missing", .key.as_str())]
     Missing { key: Name },
     /// A key's value is of the wrong kind.
-    #[error("wrong kind")]
+    #[error("settings: {}: wrong kind", .key.as_str())]
     WrongKind { key: Name },
     /// A key's value is out of its range.
-    #[error("out of range")]
+    #[error("settings: {}: out of range", .key.as_str())]
     OutOfRange { key: Name },
     /// A script has a template, which isn't carried out.
-    #[error("template")]
+    #[error("settings: script {script:?}: template")]
     Template { script: Point },
     /// A script has a command that is too hot, in that line, counted from 1.
-    #[error("line {line}: too hot")]
+    #[error("settings: script {script:?}: line {line}: too hot")]
     TooHot { script: Point, line: u32 },
     /// Out of memory.
     #[error("out of memory")]

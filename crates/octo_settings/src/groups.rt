@@ -21,10 +21,10 @@ use octo_outside::{ItemList, WordList};
 use std::alloc::Global;
 use toml::{Table, Value};
 
-/// The most bytes of a group's name that are part of its key.
+// The most bytes of a group's name that are part of its key.
 const MOST_OF_NAME: usize = 93;
 
-/// The key of a group.
+// The key of a group.
 fn group_key(name: &Name) -> Name
     requires { list_all is_name_byte name.now ≡ true }
     ensures { result ≡ group_key name.now }
@@ -76,7 +76,7 @@ fn read_permissions(
     read_permission_list(alloc, key, &texts)
 }
 
-/// A text as the name of one more group.
+// A text as the name of one more group.
 fn new_name(groups: &Groups, name: &str) -> Result<Name, SettingsFault>
     ensures { MatchResult result
         (λ new. (is_new_name groups.now name.now ≡ true) × (new ≡ name.now))
@@ -89,7 +89,7 @@ fn new_name(groups: &Groups, name: &str) -> Result<Name, SettingsFault>
     }
 }
 
-/// Adds a new group, which has a place.
+// Adds a new group, which has a place.
 fn add_group(
     groups: &mut Groups,
     name: &Name,
@@ -109,7 +109,7 @@ fn add_group(
     }
 }
 
-/// Adds the group of a new name, which has a place.
+// Adds the group of a new name, which has a place.
 fn read_new_group(
     alloc: Global,
     name: &Name,

@@ -22,7 +22,7 @@ use std::alloc::Global;
 use temp_rules::{Limits, check};
 use toml::{Table, Value};
 
-/// The most lines of a script.
+// The most lines of a script.
 const MOST_LINES: usize = 64;
 
 /// The key of a script, with OctoPrint's name.
@@ -70,7 +70,7 @@ fn all_points() -> [Point; 7]
     ]
 }
 
-/// Whether bytes contain a mark.
+// Whether bytes contain a mark.
 #[tactic(auto, using(crate::proofs::Lines::contains_steps))]
 fn contains(bytes: &[u8], mark: &[u8]) -> bool
     ensures { result ≡ contains_text mark.now bytes.now }
@@ -89,7 +89,7 @@ fn is_template(line: &[u8]) -> bool
     contains(line, b"{{") || contains(line, b"{%")
 }
 
-/// The command of a script's line.
+// The command of a script's line.
 fn read_command(
     limits: &Limits,
     point: Point,
@@ -117,7 +117,7 @@ fn read_command(
     }
 }
 
-/// Adds the commands of lines to a script that has room for them.
+// Adds the commands of lines to a script that has room for them.
 fn add_lines(
     limits: &Limits,
     point: Point,
@@ -156,7 +156,7 @@ fn add_texts(
     add_lines(limits, point, lines, scripts)
 }
 
-/// Adds the script of a point to the scripts, if the table has one.
+// Adds the script of a point to the scripts, if the table has one.
 fn read_script(
     alloc: Global,
     limits: &Limits,

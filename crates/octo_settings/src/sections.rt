@@ -78,7 +78,7 @@ fn read_ports(alloc: Global, key: &str, value: Option<&Value>) -> Result<NameLis
     read_ports_in(alloc, key, &texts)
 }
 
-/// A text as a name.
+// A text as a name.
 fn read_named(key: &str, text: &str) -> Result<Name, SettingsFault>
     requires { length key.now ≤ MOST_NAME_BYTES }
     ensures { result ≡ in_range key.now (name_of text.now) }

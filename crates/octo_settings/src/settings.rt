@@ -21,7 +21,7 @@ use std::str;
 use temp_rules::Limits;
 use toml::{Table, table_from_str};
 
-/// The most bytes of settings.
+// The most bytes of settings.
 const MOST_BYTES: usize = 1_048_576;
 
 /// The settings of a print host. A sender and a desk can be made with any that were read.
@@ -59,7 +59,7 @@ impl Settings {
     }
 }
 
-/// The defaults.
+// The defaults.
 fn defaults(alloc: Global) -> Settings
     ensures { result ≡ plain_settings }
 {

@@ -9,7 +9,7 @@ use octo_outside::WordList;
 use std::alloc::Global;
 use toml::Value;
 
-/// Copies of texts.
+// Copies of texts.
 fn copy_texts(alloc: Global, key: &str, items: &[Value]) -> Result<WordList, SettingsFault>
     requires { length key.now ≤ MOST_NAME_BYTES }
     ensures { Reads result (each (text_value key.now) (items_list (items_view items.now))) }

@@ -9,7 +9,7 @@ ghost use Rattle.octo_settings.specs.Values.{section, whole};
 use crate::fault::{SettingsFault, out_of_range, wrong_kind};
 use toml::{Table, Value};
 
-/// The value at a key of a table.
+// The value at a key of a table.
 fn value_of<'a>(table: &'a Table, key: &str) -> Option<&'a Value>
     ensures { data_of_value result ≡ get_member key.now (table_view table.now) }
 {

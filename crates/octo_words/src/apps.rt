@@ -34,7 +34,7 @@ fn needed_option<'a>(alloc: Global, id: &'a str) -> Arg<'a>
         .action(ArgAction::Set)
 }
 
-/// How an argument is given.
+// How an argument is given.
 #[derive(Clone, Copy)]
 enum Kind {
     /// At its place, always.
@@ -171,7 +171,7 @@ fn with_command<'a>(
     program?.subcommand(command?)
 }
 
-// The program with the commands that print and check.
+// The program with `print`, `check` and `demo`.
 fn printing_app<'a>(alloc: Global) -> Result<Command<'a>, AllocError>
     ensures { IfOk result (λ c. app_of c ≡ printing_app) }
 {

@@ -21,7 +21,7 @@ impl Model for FilePath {
 }
 
 impl FilePath {
-    /// The path that a text is.
+    /// The path that a text is. Fails if out of memory.
     pub fn from_text(alloc: Global, text: &str) -> Result<FilePath, AllocError>
         ensures { IfOk result (λ path. path ≡ text.now) }
     {
@@ -85,7 +85,7 @@ pub enum WordsFault {
     #[error("bad words")]
     BadWords,
     /// Out of memory.
-    #[error("no memory")]
+    #[error("out of memory")]
     NoMemory,
 }
 

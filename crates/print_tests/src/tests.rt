@@ -1,2 +1,6 @@
-//! Whole prints over links in memory.
+//! Sessions, prints, demos and prints of files, over links in memory.
 mod demos;
+mod files;
+mod makers;
+mod prints;
+mod turns;

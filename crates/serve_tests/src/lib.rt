@@ -1,5 +1,5 @@
-//! Tests of a host that serves: four workers at doors in memory, over a link, a keeper and a shelf in memory. They are in a
-//! crate of their own because their proofs are slow.
+//! Tests of a host that serves: the ends of its workers, four workers at doors in memory, and the whole host by its settings. They
+//! are in a crate above theirs because the tests of a crate prove that crate a second time.
 #![tactic(auto)]
 
 #[cfg(test)]

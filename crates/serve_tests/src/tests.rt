@@ -1,7 +1,9 @@
-//! Hosts that serve over doors, a link, a keeper and a shelf in memory.
+//! Hosts over doors, a link, a keeper and a shelf in memory, and the ends at which their workers hand over asks.
 mod bench;
 mod doors;
 mod ends;
+mod handing;
+mod hosts;
 mod late_door;
 mod real_rests;
 mod starts;

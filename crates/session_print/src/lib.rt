@@ -3,8 +3,6 @@
 
 mod end;
 mod print;
-#[cfg(test)]
-mod tests;
 
 pub use end::PrintEnd;
 pub use print::run_print;

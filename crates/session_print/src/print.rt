@@ -37,7 +37,7 @@ use octo_session::{Ending, LinkFact, Session, Turned};
 use printer_link::Link;
 use temp_rules::first_hot;
 
-/// The number of the only print of a session.
+// The number of the only print of a session.
 const PRINT: u32 = 1;
 
 /// Prints a job as the file of this name over the port of that name, in at most this number of turns.
@@ -95,7 +95,7 @@ pub fn run_print<L: Link, T: Clock>(
             limit: hot.limit,
         };
     }
-    // A plan has few lines: those of a file and of its scripts.
+    // Both calls are for their contracts alone: a job and its scripts have few lines.
     let _ = job.count();
     let _ = session.desk().script_lines();
     prepare(session, port, name, job);

@@ -26,7 +26,7 @@ pub enum Doing {
 pub enum Received {
     /// It asked for nothing.
     Unasked,
-    /// The receiving failed.
+    /// `recv` failed.
     Lost,
     /// No line had arrived.
     Nothing,

@@ -24,7 +24,7 @@ use std::os::fd::AsRawFd;
 use std::os::unix::net::UnixStream;
 use std::time::{Clock, Duration};
 
-// How long a receiving waits for input, in milliseconds.
+// How long a call of `recv` waits for input, in milliseconds.
 const WAIT: i32 = 1;
 
 // How long one address is tried, in milliseconds, and how many addresses of a host are tried.
@@ -33,9 +33,9 @@ const CONNECT: u64 = 2000;
 const ADDRESSES: usize = 4;
 
 /// A link to the ports named `HOST:PORT`, over TCP, and `unix:PATH`, over a Unix socket. It does not record its history.
-/// A receiving waits for about a millisecond, and a reply that comes in ends the wait at once. Lines that are sent
-/// are written when a receiving finds no reply that has been read, so that those of one turn go out together. The
-/// receiving fails if that write fails, or if it finds that the peer has closed, even within a line.
+/// A call of `recv` waits for about a millisecond, and a reply that comes in ends the wait at once. Lines that are sent
+/// are written when `recv` finds no reply that has been read, so that those of one turn go out together. It fails if that
+/// write fails, or if it finds that the peer has closed, even within a line.
 #[derive(Drop)]
 pub struct SocketLink<R: Net + Drop> {
     rt: R,

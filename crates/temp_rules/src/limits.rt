@@ -17,7 +17,7 @@ pub struct Limits {
 
 /// A command asks for more than its heater's limit: the first such value, rounded up to whole degrees, and the limit.
 #[derive(Clone, Copy, Debug, PartialEq, Eq, Error)]
-#[error("{asked} over {limit}")]
+#[error("too hot: {asked} over {limit}")]
 pub struct TooHot {
     pub asked: u64,
     pub limit: u16,

@@ -13,14 +13,14 @@ use gcode_lines::Job;
 use temp_rules::first_hot;
 
 impl Desk {
-    /// The call is not for this state.
+    // The call is not for this state.
     fn wrong_state(&self) -> Refusal
         ensures { result ≡ Refusal.WrongState self.now.state }
     {
         Refusal::WrongState { state: self.state }
     }
 
-    /// Begins to connect to a port.
+    /// Begins to connect to a port. Refused as WrongState except in Offline and Fault.
     pub fn connect(&mut self, port: &Name) -> Result<(), Refusal>
         ensures answer { result ≡ (connect_at self.old.state port.now self.old).0 }
         ensures after { self.new ≡ (connect_at self.old.state port.now self.old).1 }
@@ -52,7 +52,7 @@ impl Desk {
         }
     }
 
-    /// Selects a file. A refusal hands the job back.
+    /// Selects a file. Refused as WrongState except in Offline, Connecting, Operational and Fault; a refusal hands the job back.
     pub fn select(&mut self, name: &Name, job: Job) -> Result<(), NotSelected>
         ensures answer { let selected = select_at self.old.state (named_file name.now job) self.old
             in MatchResult result
@@ -75,7 +75,7 @@ impl Desk {
         }
     }
 
-    /// The file of this name is no longer selected, unless it is being printed.
+    /// The file of this name is no longer selected. Refused as FileBusy while it is being printed.
     pub fn drop_file(&mut self, name: &Name) -> Result<(), Refusal>
         ensures answer { result ≡ (drop_file_step name.now self.old).0 }
         ensures after { self.new ≡ (drop_file_step name.now self.old).1 }
@@ -94,7 +94,7 @@ impl Desk {
         Ok(())
     }
 
-    /// A new print of the selected file begins.
+    // A new print of the selected file begins.
     fn begin(&mut self, print: u32)
         requires { (self.old.state ≡ State.Operational) ⊎ (self.old.state ≡ State.Paused) }
         ensures { self.new ≡ printing print self.old }
@@ -109,7 +109,8 @@ impl Desk {
         self.waiting.add(Point::Started, print);
     }
 
-    /// Starts a print of the selected file. The file may have no command that is too hot.
+    /// Starts a print of the selected file. Refused as WrongState except in Operational, as NoFile if no file is selected, and
+    /// as TooHotLine if a command of the file is too hot.
     pub fn start(&mut self, print: u32) -> Result<(), Refusal>
         requires { self.old.greatest < print }
         ensures answer { result ≡ (start_at self.old.state print self.old).0 }
@@ -132,7 +133,7 @@ impl Desk {
         Ok(())
     }
 
-    /// Ends the paused print as cancelled and starts a new one. Returns the ended print.
+    /// Ends the paused print as cancelled and starts a new one. Returns the ended print. Refused as WrongState except in Paused.
     pub fn restart(&mut self, print: u32) -> Result<u32, Refusal>
         requires { self.old.greatest < print }
         ensures answer { result ≡ (restart_at self.old.state print self.old).0 }
@@ -148,7 +149,8 @@ impl Desk {
         }
     }
 
-    /// Pauses the print, once the lines that are on their way are acknowledged.
+    /// Pauses the print, once the lines that are on their way are acknowledged; does nothing in Pausing and Paused. Refused as
+    /// WrongState except in these two and in Printing.
     pub fn pause(&mut self) -> Result<(), Refusal>
         ensures answer { result ≡ (pause_at self.old.state self.old).0 }
         ensures after { self.new ≡ (pause_at self.old.state self.old).1 }
@@ -164,7 +166,7 @@ impl Desk {
         }
     }
 
-    /// Goes on with a paused print.
+    /// Resumes a paused print; does nothing in Printing. Refused as WrongState except in Paused and Printing.
     pub fn resume(&mut self) -> Result<(), Refusal>
         ensures answer { result ≡ (resume_at self.old.state self.old).0 }
         ensures after { self.new ≡ (resume_at self.old.state self.old).1 }
@@ -180,7 +182,7 @@ impl Desk {
         }
     }
 
-    /// Pauses a print that goes on, and goes on with one that is paused.
+    /// Pauses a print in Printing, resumes one in Paused. Refused as WrongState in all other states.
     pub fn toggle(&mut self) -> Result<(), Refusal>
         ensures answer { result ≡ (toggle_at self.old.state self.old).0 }
         ensures after { self.new ≡ (toggle_at self.old.state self.old).1 }
@@ -192,7 +194,7 @@ impl Desk {
         }
     }
 
-    /// Cancels the print: no more file commands are issued.
+    /// Cancels the print: no more file commands are issued. Refused as WrongState except in Printing, Pausing and Paused.
     pub fn cancel(&mut self) -> Result<(), Refusal>
         ensures answer { result ≡ (cancel_at self.old.state self.old).0 }
         ensures after { self.new ≡ (cancel_at self.old.state self.old).1 }
@@ -207,7 +209,8 @@ impl Desk {
         }
     }
 
-    /// Takes the lines of a user, all or none; at most 256 may wait.
+    /// Takes the lines of a user, all or none. Refused as WrongState except in Operational, Printing, Pausing, Paused, Cancelling
+    /// and Finishing, and as Full if more than 256 lines would wait.
     pub fn manual(&mut self, lines: &[Text]) -> Result<(), Refusal>
         requires { All IsSendable (bytes_of lines.now) }
         ensures answer { result ≡ (manual_at self.old.state (bytes_of lines.now) self.old).0 }
@@ -238,7 +241,7 @@ impl Desk {
     }
 }
 
-/// Puts copies of texts after those that wait.
+// Puts copies of texts after those that wait.
 fn push_all(waiting: &mut HeapCircularBuffer<Text>, lines: &[Text])
     requires sendable { All IsSendable (bytes_of lines.now) }
     requires room { length waiting.old.items + length lines.now ≤ waiting.old.capacity }

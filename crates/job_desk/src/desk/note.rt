@@ -8,7 +8,7 @@ use super::{Desk, Lines, Prints};
 use desk_steps::{Ending, LinkFact, Outcome, Point, State};
 
 impl Prints {
-    /// The print is no longer active.
+    // The print is no longer active.
     fn end(&mut self, outcome: Outcome) -> Ending
         ensures ending { result ≡ record { print = self.old.greatest; outcome = outcome } }
         ensures after { self.new ≡ record self.old { active = false } }
@@ -22,7 +22,7 @@ impl Prints {
 }
 
 impl Desk {
-    /// Ends what is over by acknowledgement: no script line waits, and every issued line of the print is acknowledged.
+    // Ends what is over by acknowledgement: no script line waits, and every issued line of the print is acknowledged.
     fn end(&mut self) -> Option<Ending>
         ensures ending { result ≡ (after_ending self.old).0 }
         ensures after { self.new ≡ (after_ending self.old).1 }
@@ -50,7 +50,7 @@ impl Desk {
         }
     }
 
-    /// The connection is gone: what waits is dropped, and an active print ends.
+    // The connection is gone: what waits is dropped, and an active print ends.
     fn leave(&mut self, state: State, outcome: Outcome) -> Option<Ending>
         requires { (state ≡ State.Offline) ⊎ (state ≡ State.Fault) }
         ensures ending { result ≡ (leave state outcome self.old).0 }
@@ -66,7 +66,7 @@ impl Desk {
         }
     }
 
-    /// A new session: nothing was issued in it yet.
+    // A new session: nothing was issued in it yet.
     fn open(&mut self)
         ensures { self.new ≡ after_open self.old }
     {
@@ -78,7 +78,7 @@ impl Desk {
         };
     }
 
-    /// The hello was acknowledged.
+    // The hello was acknowledged.
     fn get_ready(&mut self, moment: u64)
         ensures { self.new ≡ ready_at self.old.state moment (record self.old { ready = true }) }
     {
@@ -90,7 +90,7 @@ impl Desk {
         }
     }
 
-    /// What the fact and the acknowledgements do.
+    // What the fact and the acknowledgements do.
     fn take_fact(&mut self, fact: &LinkFact, moment: u64) -> Option<Ending>
         ensures ending { result ≡ (note_fact fact.now moment self.old).0 }
         ensures after { self.new ≡ (note_fact fact.now moment self.old).1 }
@@ -111,7 +111,7 @@ impl Desk {
         }
     }
 
-    /// The link or the session failed, after what this very turn completes.
+    // The link or the session failed, after what this very turn completes.
     fn fail(&mut self) -> Option<Ending>
         ensures ending { result ≡ (fail (after_ending self.old)).0 }
         ensures after { self.new ≡ (fail (after_ending self.old)).1 }

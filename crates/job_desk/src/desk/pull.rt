@@ -11,11 +11,11 @@ use super::Desk;
 use byte_text::bounded_text;
 use desk_steps::{Issued, Point, State, Tag};
 
-/// Marlin's question for temperatures.
+// Marlin's question for temperatures.
 const POLL: &[u8] = b"M105";
 
 impl Desk {
-    /// How many commands the selected file has.
+    // How many commands the selected file has.
     fn count(&self) -> usize
         ensures { result ≡ length (commands_of self.now.file) }
     {
@@ -25,7 +25,7 @@ impl Desk {
         }
     }
 
-    /// A line gets the next number of the session, which its print or the poll keeps.
+    // A line gets the next number of the session, which its print or the poll keeps.
     fn number(&mut self, tag: Tag)
         ensures { self.new ≡ keep_number tag (next_number self.old.issued)
             (record self.old { issued = next_number self.old.issued }) }
@@ -44,7 +44,7 @@ impl Desk {
         }
     }
 
-    /// The first line of the scripts that wait.
+    // The first line of the scripts that wait.
     fn take_script(&mut self) -> Option<Issued>
         ensures drawn { DrawsFrom (from_scripts self.old.waiting self.old) result self.old
             self.new }
@@ -55,7 +55,7 @@ impl Desk {
         Some(line)
     }
 
-    /// The oldest line of a user.
+    // The oldest line of a user.
     fn take_manual(&mut self) -> Option<Issued>
         ensures drawn { DrawsFrom (from_manual self.old.manual self.old) result self.old self.new }
         ensures sendable { IfSome result (λ issued. IsSendable issued.text.items) }
@@ -68,14 +68,14 @@ impl Desk {
         })
     }
 
-    /// Whether a poll is due, with every earlier one acknowledged.
+    // Whether a poll is due, with every earlier one acknowledged.
     fn poll_is_due(&self, moment: u64) -> bool
         ensures { result ≡ poll_is_due moment self.now }
     {
         self.poll_at <= moment && self.lines.of_poll <= u64::from(self.lines.acked)
     }
 
-    /// A due poll.
+    // A due poll.
     fn take_poll(&mut self, moment: u64) -> Option<Issued>
         ensures drawn { DrawsFrom (from_poll moment self.old) result self.old self.new }
         ensures sendable { IfSome result (λ issued. IsSendable issued.text.items) }
@@ -91,7 +91,7 @@ impl Desk {
         })
     }
 
-    /// The file command at the cursor, which moves on.
+    // The file command at the cursor, which moves on.
     fn take_command(&mut self) -> Option<Issued>
         ensures line { option_map line_of result
             ≡ (from_file (slice_get (commands_of self.old.file) self.old.cursor) self.old).0 }
@@ -114,7 +114,7 @@ impl Desk {
         Some(Issued { text, tag })
     }
 
-    /// A line other than a file command.
+    // A line other than a file command.
     fn take_other(&mut self, moment: u64) -> Option<Issued>
         ensures drawn { DrawsFrom (draw_in_order moment self.old) result self.old self.new }
         ensures sendable { IfSome result (λ issued. IsSendable issued.text.items) }
@@ -128,7 +128,7 @@ impl Desk {
         self.take_poll(moment)
     }
 
-    /// The next line, if any.
+    // The next line, if any.
     fn draw(&mut self, moment: u64) -> Option<Issued>
         ensures line { option_map line_of result ≡ (draw_at self.old.state moment self.old).0 }
         ensures after { self.new ≡ (draw_at self.old.state moment self.old).1 }

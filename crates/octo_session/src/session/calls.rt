@@ -13,7 +13,7 @@ use gcode_lines::Job;
 use job_desk::NotSelected;
 
 impl Session {
-    /// Begins to connect to a port.
+    /// Begins to connect to a port. Refused as WrongState except in Offline and Fault.
     pub fn connect(&mut self, port: &Name) -> Result<(), Refusal>
         ensures answer { result ≡ (connect_at self.old.desk.state port.now self.old.desk).0 }
         ensures after { self.new
@@ -32,7 +32,7 @@ impl Session {
         self.desk.disconnect();
     }
 
-    /// Selects a file. A refusal hands the job back.
+    /// Selects a file. Refused as WrongState except in Offline, Connecting, Operational and Fault; a refusal hands the job back.
     pub fn select(&mut self, name: &Name, job: Job) -> Result<(), NotSelected>
         ensures answer { let selected = select_at self.old.desk.state (named_file name.now job)
             self.old.desk in MatchResult result
@@ -48,7 +48,7 @@ impl Session {
         self.desk.select(name, job)
     }
 
-    /// The file of this name is no longer selected, unless it is being printed.
+    /// The file of this name is no longer selected. Refused as FileBusy while it is being printed.
     pub fn drop_file(&mut self, name: &Name) -> Result<(), Refusal>
         ensures answer { result ≡ (drop_file_step name.now self.old.desk).0 }
         ensures after { self.new
@@ -58,7 +58,8 @@ impl Session {
         self.desk.drop_file(name)
     }
 
-    /// Starts a print of the selected file. The file may have no command that is too hot.
+    /// Starts a print of the selected file. Refused as WrongState except in Operational, as NoFile if no file is selected, and
+    /// as TooHotLine if a command of the file is too hot.
     pub fn start(&mut self, print: u32) -> Result<(), Refusal>
         requires { self.old.desk.greatest < print }
         ensures answer { result ≡ (start_at self.old.desk.state print self.old.desk).0 }
@@ -69,7 +70,7 @@ impl Session {
         self.desk.start(print)
     }
 
-    /// Ends the paused print as cancelled and starts a new one. Returns the ended print.
+    /// Ends the paused print as cancelled and starts a new one. Returns the ended print. Refused as WrongState except in Paused.
     pub fn restart(&mut self, print: u32) -> Result<u32, Refusal>
         requires { self.old.desk.greatest < print }
         ensures answer { result ≡ (restart_at self.old.desk.state print self.old.desk).0 }
@@ -80,7 +81,8 @@ impl Session {
         self.desk.restart(print)
     }
 
-    /// Pauses the print, once the lines that are on their way are acknowledged.
+    /// Pauses the print, once the lines that are on their way are acknowledged; does nothing in Pausing and Paused. Refused as
+    /// WrongState except in these two and in Printing.
     pub fn pause(&mut self) -> Result<(), Refusal>
         ensures answer { result ≡ (pause_at self.old.desk.state self.old.desk).0 }
         ensures after { self.new
@@ -90,7 +92,7 @@ impl Session {
         self.desk.pause()
     }
 
-    /// Goes on with a paused print.
+    /// Resumes a paused print; does nothing in Printing. Refused as WrongState except in Paused and Printing.
     pub fn resume(&mut self) -> Result<(), Refusal>
         ensures answer { result ≡ (resume_at self.old.desk.state self.old.desk).0 }
         ensures after { self.new
@@ -100,7 +102,7 @@ impl Session {
         self.desk.resume()
     }
 
-    /// Pauses a print that goes on, and goes on with one that is paused.
+    /// Pauses a print in Printing, resumes one in Paused. Refused as WrongState in all other states.
     pub fn toggle(&mut self) -> Result<(), Refusal>
         ensures answer { result ≡ (toggle_at self.old.desk.state self.old.desk).0 }
         ensures after { self.new
@@ -110,7 +112,7 @@ impl Session {
         self.desk.toggle()
     }
 
-    /// Cancels the print: no more file commands are issued.
+    /// Cancels the print: no more file commands are issued. Refused as WrongState except in Printing, Pausing and Paused.
     pub fn cancel(&mut self) -> Result<(), Refusal>
         ensures answer { result ≡ (cancel_at self.old.desk.state self.old.desk).0 }
         ensures after { self.new
@@ -120,7 +122,8 @@ impl Session {
         self.desk.cancel()
     }
 
-    /// Takes the lines of a user, all or none; at most 256 may wait.
+    /// Takes the lines of a user, all or none. Refused as WrongState except in Operational, Printing, Pausing, Paused, Cancelling
+    /// and Finishing, and as Full if more than 256 lines would wait.
     pub fn manual(&mut self, lines: &[Text]) -> Result<(), Refusal>
         requires { All IsSendable (bytes_of lines.now) }
         ensures answer { result

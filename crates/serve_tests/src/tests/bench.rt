@@ -58,7 +58,7 @@ impl Bench {
         }
     }
 
-    /// Lets the host go. A test that let its bench fall would prove the drops of all that it has again.
+    /// Drops the bench in one place. A test in which it goes out of scope would have to prove that drop itself.
     pub(super) fn end(self) {}
 
     /// The admin asks at the beginning.

@@ -1,18 +1,82 @@
 //! Each call in each state.
 use super::*;
 
-/// For each call the state after it, by its letter, from each of the states of `STATES`; `-` is a refusal.
-const TABLE: [(Call, &str); 10] = [
-    (Call::Connect, "C--------C"),
-    (Call::Disconnect, "OLLLLLLLLO"),
-    (Call::Select, "OCR------E"),
-    (Call::Start, "--P-------"),
-    (Call::Pause, "---GGA----"),
-    (Call::Resume, "---P-P----"),
-    (Call::Toggle, "---G-P----"),
-    (Call::Cancel, "---XXX----"),
-    (Call::Restart, "-----P----"),
-    (Call::Manual, "--RPGAXF--"),
+/// For each call the states in which it is accepted, each with the state after it. In all others it is refused.
+const TABLE: [(Call, &[(State, State)]); 10] = [
+    (
+        Call::Connect,
+        &[
+            (State::Offline, State::Connecting),
+            (State::Fault, State::Connecting),
+        ],
+    ),
+    (
+        Call::Disconnect,
+        &[
+            (State::Offline, State::Offline),
+            (State::Connecting, State::Closing),
+            (State::Operational, State::Closing),
+            (State::Printing, State::Closing),
+            (State::Pausing, State::Closing),
+            (State::Paused, State::Closing),
+            (State::Cancelling, State::Closing),
+            (State::Finishing, State::Closing),
+            (State::Closing, State::Closing),
+            (State::Fault, State::Offline),
+        ],
+    ),
+    (
+        Call::Select,
+        &[
+            (State::Offline, State::Offline),
+            (State::Connecting, State::Connecting),
+            (State::Operational, State::Operational),
+            (State::Fault, State::Fault),
+        ],
+    ),
+    (Call::Start, &[(State::Operational, State::Printing)]),
+    (
+        Call::Pause,
+        &[
+            (State::Printing, State::Pausing),
+            (State::Pausing, State::Pausing),
+            (State::Paused, State::Paused),
+        ],
+    ),
+    (
+        Call::Resume,
+        &[
+            (State::Printing, State::Printing),
+            (State::Paused, State::Printing),
+        ],
+    ),
+    (
+        Call::Toggle,
+        &[
+            (State::Printing, State::Pausing),
+            (State::Paused, State::Printing),
+        ],
+    ),
+    (
+        Call::Cancel,
+        &[
+            (State::Printing, State::Cancelling),
+            (State::Pausing, State::Cancelling),
+            (State::Paused, State::Cancelling),
+        ],
+    ),
+    (Call::Restart, &[(State::Paused, State::Printing)]),
+    (
+        Call::Manual,
+        &[
+            (State::Operational, State::Operational),
+            (State::Printing, State::Printing),
+            (State::Pausing, State::Pausing),
+            (State::Paused, State::Paused),
+            (State::Cancelling, State::Cancelling),
+            (State::Finishing, State::Finishing),
+        ],
+    ),
 ];
 
 const STATES: [State; 10] = [
@@ -27,21 +91,6 @@ const STATES: [State; 10] = [
     State::Closing,
     State::Fault,
 ];
-
-fn letter(state: State) -> u8 {
-    match state {
-        State::Offline => b'O',
-        State::Connecting => b'C',
-        State::Operational => b'R',
-        State::Printing => b'P',
-        State::Pausing => b'G',
-        State::Paused => b'A',
-        State::Cancelling => b'X',
-        State::Finishing => b'F',
-        State::Closing => b'L',
-        State::Fault => b'E',
-    }
-}
 
 const CONNECT: Step = Step::Does(Call::Connect);
 
@@ -76,29 +125,43 @@ fn desk_in(rt: &impl Abort, alloc: Global, state: State) -> Result<Desk, Fail> {
     Ok(desk)
 }
 
+// The state after a call that is accepted in this one, by the call's row.
+fn state_after(row: &[(State, State)], state: State) -> Option<State> {
+    for pair in row {
+        let (before, after) = *pair;
+        if before == state {
+            return Some(after);
+        }
+    }
+    None
+}
+
 fn check_cell(
     rt: &impl Abort,
     alloc: Global,
     call: Call,
     state: State,
-    after: u8,
+    after: Option<State>,
 ) -> Result<(), Fail> {
     let mut desk = desk_in(rt, alloc, state)?;
     let accepted = make(rt, alloc, &mut desk, call)?;
-    let is_refusal = after == b'-';
-    let expected = if is_refusal { letter(state) } else { after };
     assert_eq!(rt;
-        (accepted, letter(desk.state())),
-        (!is_refusal, expected),
+        (accepted, desk.state()),
+        (after.is_some(), after.unwrap_or(state)),
         "{call:?} in {state:?}"
     );
     Ok(())
 }
 
 // One call in each state.
-fn check_row(rt: &impl Abort, alloc: Global, call: Call, row: &str) -> Result<(), Fail> {
-    for (state, after) in STATES.iter().zip(row.as_bytes()) {
-        check_cell(rt, alloc, call, *state, *after)?;
+fn check_row(
+    rt: &impl Abort,
+    alloc: Global,
+    call: Call,
+    row: &[(State, State)],
+) -> Result<(), Fail> {
+    for state in STATES {
+        check_cell(rt, alloc, call, state, state_after(row, state))?;
     }
     Ok(())
 }

@@ -1,4 +1,4 @@
--- Neither work ends as the other one.
+-- Neither task ends as the other one.
 use Rattle.keeper_tool.proofs.carry.carry_out.Goals as goal
 
 pub returns-in-Show-clause-added : goal.returns-in-Show-clause-added

@@ -86,7 +86,7 @@ returns-clause-by_note g c =
       noted = turn_noted c.args.moment _ _ _ _ _ old new turned t finds;
       still = turn_still c.args.moment _ _ _ _ _ old new turned t finds before;
       ends = turn_ending c.args.moment _ _ _ _ _ old new turned t finds e.joined
-          (subst (λ (x : SessionData). IsActive x.desk) c.self.view_is c.is_active.ensures);
+          (subst (λ (x : SessionData). IsActive x.desk) c.self.view_is c.desk_is_active_fact.ensures);
       greatest = e.greatest;
       before = before;
       joined = e.joined;

@@ -1,9 +1,9 @@
-//! The ends, with workers in threads of their own.
+//! The ends at which asks are handed over, with workers in threads of their own.
 ghost use Rattle.std.specs.Prelude.{◌≡◌, false, None};
 ghost use Rattle.std.specs.Thread.{IsSend, IsSync};
 ghost use Rattle.hand_over.specs.Ends.{house_place, worker_place};
 
-use crate::*;
+use hand_over::{HouseEnd, WorkerEnd, Workers, ends};
 use octo_asks::{Answer, Ask, Asker, Closed, Counter, Next, Request};
 use std::alloc::Global;
 use std::sync::Wait;

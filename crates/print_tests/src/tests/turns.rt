@@ -1,17 +1,15 @@
-//! Worked turns over a link in memory.
+//! The turns of a session.
 ghost use Rattle.std.specs.Prelude.{◌≡◌, IfOk};
 
 mod failing;
 
-use super::*;
+use super::makers::{SOUND, Wire, check_first, link_of, plain_session, scripts_of};
 use byte_text::Name;
-use desk_steps::{Limits, Outcome, Point, State};
-use gcode_lines::{one_command, read_commands};
-use job_desk::{Desk, Scripts};
-use octo_outside::{CallList, NameList, calls_of};
-use printer_link::{FateList, MemoryLink, Schedule};
-use send_window::Sender;
-use std::alloc::{AllocError, Global};
+use desk_steps::{Outcome, Point, State};
+use gcode_lines::read_commands;
+use octo_session::{Ending, Issued, LinkFact, Note, Session, Turned};
+use printer_link::MemoryLink;
+use std::alloc::Global;
 use std::process::Abort;
 use std::test::Fail;
 
@@ -97,55 +95,13 @@ const SCRIPTS: [(Point, &str); 4] = [
     (Point::Resumed, "G90"),
 ];
 
-fn add(rt: &impl Abort, scripts: &mut Scripts, point: Point, text: &str) {
-    match one_command(text.as_bytes()) {
-        Ok(text) => assert!(rt; scripts.add(point, &text).is_ok()),
-        Err(_) => panic!(rt; "no command"),
-    }
-}
-
-fn scripts(rt: &impl Abort, alloc: Global) -> Scripts {
-    let mut scripts = Scripts::new(alloc);
-    for (point, text) in SCRIPTS {
-        add(rt, &mut scripts, point, text);
-    }
-    scripts
-}
-
-/// A session with a window of one line and these scripts, at which no print was started.
-fn new_session(alloc: Global, scripts: Scripts) -> Result<Session, AllocError>
-    ensures { IfOk result (λ session. session.desk.greatest ≡ 0) }
-{
-    let limits = Limits {
-        tool: 250,
-        bed: 100,
+/// A link to the port p, of whose calls at most this one fails.
+fn link_failing(alloc: Global, call: Option<u64>) -> Result<MemoryLink, Fail> {
+    let wire = Wire {
+        fails_at: call,
+        ..SOUND
     };
-    let desk = Desk::new(alloc, scripts, limits, 5000)?;
-    let sender = Sender::new(alloc, 1, 30000)?;
-    Ok(Session::new(desk, sender))
-}
-
-/// The listed ports: p alone.
-fn ports(alloc: Global) -> Result<NameList, Fail> {
-    let name = Name::of("p")?;
-    let mut names = NameList::new(alloc);
-    names.push(name)?;
-    Ok(names)
-}
-
-/// A link to the port p that fails at these calls.
-fn link_failing(alloc: Global, calls: &[u64]) -> Result<MemoryLink, Fail> {
-    let schedule = Schedule {
-        names: ports(alloc)?,
-        last: 4,
-        places: 4,
-        advanced: false,
-        fates: FateList::new(alloc),
-        slow: 0,
-        fail_at: calls_of(alloc, calls)?,
-        restart_at: CallList::new(alloc),
-    };
-    Ok(MemoryLink::new(alloc, schedule)?)
+    link_of(alloc, &wire)
 }
 
 fn connect(rt: &impl Abort, session: &mut Session, port: &str)
@@ -169,7 +125,8 @@ fn select(rt: &impl Abort, alloc: Global, session: &mut Session) -> Result<(), F
 fn session_to(rt: &impl Abort, alloc: Global, port: &str) -> Result<Session, Fail>
     ensures { IfOk result (λ session. session.desk.greatest ≡ 0) }
 {
-    let mut session = new_session(alloc, scripts(rt, alloc))?;
+    let scripts = scripts_of(rt, alloc, &SCRIPTS);
+    let mut session = plain_session(alloc, scripts, 1)?;
     connect(rt, &mut session, port);
     select(rt, alloc, &mut session)?;
     Ok(session)
@@ -182,7 +139,7 @@ fn turn(rt: &impl Abort, session: &mut Session, link: &mut MemoryLink) -> Turned
     session.turn(link, 7)
 }
 
-fn make(rt: &impl Abort, session: &mut Session, ask: Ask)
+fn make_ask(rt: &impl Abort, session: &mut Session, ask: Ask)
     ensures { session.new.desk.greatest ≡ session.old.desk.greatest }
 {
     match ask {
@@ -204,7 +161,7 @@ fn check_note(rt: &impl Abort, note: &Note, gives: Gives) {
     check_texts(rt, note.issued.as_slice(), gives.texts());
 }
 
-fn check(rt: &impl Abort, turned: &Turned, gives: Gives) {
+fn check_turn(rt: &impl Abort, turned: &Turned, gives: Gives) {
     let is_silent = matches!(gives, Gives::Nothing);
     assert_eq!(rt; turned.note.is_none(), is_silent);
     if let Some(note) = &turned.note {
@@ -213,52 +170,48 @@ fn check(rt: &impl Abort, turned: &Turned, gives: Gives) {
     assert_eq!(rt; turned.ending, gives.ending());
 }
 
-fn take(rt: &impl Abort, session: &mut Session, link: &mut MemoryLink, row: Row)
+fn do_row(rt: &impl Abort, session: &mut Session, link: &mut MemoryLink, row: Row)
     ensures { session.new.desk.greatest ≡ session.old.desk.greatest }
 {
     let (ask, gives) = row;
-    make(rt, session, ask);
-    check(rt, &turn(rt, session, link), gives);
+    make_ask(rt, session, ask);
+    check_turn(rt, &turn(rt, session, link), gives);
 }
 
-fn take_all(rt: &impl Abort, session: &mut Session, link: &mut MemoryLink, rows: &[Row])
+fn do_rows(rt: &impl Abort, session: &mut Session, link: &mut MemoryLink, rows: &[Row])
     ensures { session.new.desk.greatest ≡ session.old.desk.greatest }
 {
     for row in rows {
-        take(rt, session, link, *row);
+        do_row(rt, session, link, *row);
     }
 }
 
 /// A session that is ready over this link, and whose first print was started.
 fn start_session(rt: &impl Abort, alloc: Global, link: &mut MemoryLink) -> Result<Session, Fail> {
     let mut session = session_to(rt, alloc, "p")?;
-    take_all(rt, &mut session, link, &OPENING);
+    do_rows(rt, &mut session, link, &OPENING);
     assert!(rt; session.start(1).is_ok());
     Ok(session)
 }
 
-fn check_ran(rt: &impl Abort, link: &MemoryLink) -> Result<(), Fail> {
-    let ran = link.executed(1)?;
+fn check_ran(rt: &impl Abort, link: &MemoryLink) {
     let texts = ["M107", "G92 E0", "G91", "G90", "G28"];
-    assert_eq!(rt; ran.as_slice().len(), texts.len());
-    for (line, text) in ran.as_slice().iter().zip(texts) {
-        assert_eq!(rt; line.text.as_slice(), text.as_bytes());
-    }
-    Ok(())
+    assert_eq!(rt; check_first(rt, link, &texts), texts.len());
 }
 
 fn pauses_and_resumes(rt: &impl Abort, session: &mut Session, link: &mut MemoryLink) {
-    take_all(rt, session, link, &PAUSED);
+    do_rows(rt, session, link, &PAUSED);
     assert_eq!(rt; session.desk().state(), State::Paused);
-    take_all(rt, session, link, &RESUMED);
+    do_rows(rt, session, link, &RESUMED);
     assert_eq!(rt; session.desk().state(), State::Operational);
 }
 
 /// Pausing after the first line lets the Started script end, and the Paused script follow.
 #[test]
 fn pause_and_resume(rt: HostRuntime) -> Result<(), Fail> {
-    let mut link = link_failing(rt.alloc(), &[])?;
+    let mut link = link_failing(rt.alloc(), None)?;
     let mut session = start_session(&rt, rt.alloc(), &mut link)?;
     pauses_and_resumes(&rt, &mut session, &mut link);
-    check_ran(&rt, &link)
+    check_ran(&rt, &link);
+    Ok(())
 }

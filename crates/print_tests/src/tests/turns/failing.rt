@@ -37,7 +37,7 @@ const FAILING_IN_PRINT: [(u64, Row); 2] = [
 fn check_failed(rt: &impl Abort, session: &mut Session, link: &mut MemoryLink) {
     assert_eq!(rt; session.desk().state(), State::Fault);
     assert!(rt; !session.up() && !link.is_up());
-    take(rt, session, link, (Ask::Nothing, Gives::Nothing));
+    do_row(rt, session, link, (Ask::Nothing, Gives::Nothing));
 }
 
 /// The turns of a session to this port over this link, of which the last one fails.
@@ -49,7 +49,7 @@ fn fails_in(
     rows: &[Row],
 ) -> Result<(), Fail> {
     let mut session = session_to(rt, alloc, port)?;
-    take_all(rt, &mut session, link, rows);
+    do_rows(rt, &mut session, link, rows);
     check_failed(rt, &mut session, link);
     Ok(())
 }
@@ -57,7 +57,7 @@ fn fails_in(
 #[test]
 fn failing_calls(rt: HostRuntime) -> Result<(), Fail> {
     for (call, rows) in FAILING {
-        let mut link = link_failing(rt.alloc(), &[call])?;
+        let mut link = link_failing(rt.alloc(), Some(call))?;
         fails_in(&rt, rt.alloc(), &mut link, "p", rows)?;
     }
     Ok(())
@@ -71,7 +71,7 @@ fn fails_in_print(
     row: Row,
 ) -> Result<(), Fail> {
     let mut session = start_session(rt, alloc, link)?;
-    take(rt, &mut session, link, row);
+    do_row(rt, &mut session, link, row);
     check_failed(rt, &mut session, link);
     Ok(())
 }
@@ -79,7 +79,7 @@ fn fails_in_print(
 #[test]
 fn failing_calls_in_a_print(rt: HostRuntime) -> Result<(), Fail> {
     for (call, row) in FAILING_IN_PRINT {
-        let mut link = link_failing(rt.alloc(), &[call])?;
+        let mut link = link_failing(rt.alloc(), Some(call))?;
         fails_in_print(&rt, rt.alloc(), &mut link, row)?;
     }
     Ok(())
@@ -88,7 +88,7 @@ fn failing_calls_in_a_print(rt: HostRuntime) -> Result<(), Fail> {
 /// No call of a session takes memory; this one makes the parts that it needs, and dials a port that isn't listed.
 #[test]
 fn ample(rt: HostRuntime) -> Result<(), Fail> {
-    let mut link = link_failing(rt.alloc(), &[])?;
+    let mut link = link_failing(rt.alloc(), None)?;
     let row = (Ask::Nothing, Gives::Finds(LinkFact::NoPort));
     fails_in(&rt, rt.alloc(), &mut link, "q", &[row])
 }

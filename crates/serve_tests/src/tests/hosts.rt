@@ -1,10 +1,10 @@
-//! Hosts over settings, tables, files, doors and a link in memory. Out of memory, a test stops.
+//! Whole hosts, by their settings, and keepers that were opened. Out of memory, a test stops.
 ghost use Rattle.std.specs.Prelude.{◌≡◌, false};
 ghost use Rattle.printer_link.specs.Memory.{link_world};
 
-use crate::*;
 use host_makers::{calls, door_of, keeper_of, link_at, no_rows, shelf_of};
 use octo_doors::{Doors, MemoryDoor};
+use octo_host::{HostEnd, Opened, host, write_host_report};
 use octo_keeper::{KeeperFault, MemoryKeeper, MemoryShelf};
 use octo_outside::{CallList, MemoryClock, MemorySink, MemorySource};
 use printer_link::{FateList, MemoryLink};
@@ -67,7 +67,7 @@ fn files(rt: &impl Abort, alloc: Global, row: &Row) -> MemorySource {
 
 /// What a host works with.
 #[derive(Drop)]
-struct Bench {
+struct HostBench {
     files: MemorySource,
     link: MemoryLink,
     clock: MemoryClock,
@@ -76,12 +76,12 @@ struct Bench {
     doors: Doors<MemoryDoor>,
 }
 
-impl Bench {
+impl HostBench {
     // That of a row, whose connections come at its first door.
-    fn of(rt: &impl Abort, alloc: Global, row: &Row) -> Bench
+    fn of(rt: &impl Abort, alloc: Global, row: &Row) -> HostBench
         ensures { (link_world result.link).linked ≡ false }
     {
-        Bench {
+        HostBench {
             files: files(rt, alloc, row),
             link: link_at(alloc, "p", FateList::new(alloc)).expect(rt, "no memory"),
             clock: MemoryClock::new(0, 1),
@@ -116,7 +116,7 @@ impl Bench {
         )
     }
 
-    // A test that let its bench fall would prove the drops of all that it has again.
+    // Drops the bench in one place. A test in which it goes out of scope would have to prove that drop itself.
     fn end(self) {}
 }
 
@@ -150,7 +150,7 @@ fn assert_row<R: Threads + Wait + Clone + Send + Sync + Drop + Abort>(
     alloc: Global,
     row: &Row,
 ) {
-    let mut bench = Bench::of(rt, alloc, row);
+    let mut bench = HostBench::of(rt, alloc, row);
     let ended = bench.host(rt, alloc);
     assert_end(rt, alloc, ended, row);
     assert_replies(rt, alloc, &bench.doors.a, row.replies);

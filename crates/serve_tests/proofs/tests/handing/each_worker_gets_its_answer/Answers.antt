@@ -1,7 +1,7 @@
 use Rattle.std.proofs.Common.{ap, ◌∙◌}
 use Rattle.hand_over.specs.Ends.{worker_place}
 use Rattle.hand_over.proofs.Joining.{seat_beside}
-use Rattle.hand_over.proofs.tests.each_worker_gets_its_answer.Goals as goal
+use Rattle.serve_tests.proofs.tests.handing.each_worker_gets_its_answer.Goals as goal
 
 pub end-requires-clause-a : goal.end-requires-clause-a
 end-requires-clause-a g c = c.answers_of_both-answers.ensures.workers.0

@@ -9,8 +9,8 @@ struct Failing {
     ran: usize,
 }
 
-/// The calls of a print of two lines: the dial, a receiving, the hello, two receivings (the first one has its `ok`), the two
-/// lines, and a receiving for each `ok`, before which the printer runs the line.
+/// The calls of a print of two lines: the dial, a `recv`, the hello, two of `recv` (the first one returns its `ok`), the two
+/// lines, and a `recv` for each `ok`, before which the printer runs the line.
 const CALLS: [Failing; 9] = [
     Failing {
         call: 1,
@@ -68,7 +68,10 @@ fn check_failed(rt: &impl Abort, printed: &Printed) {
 fn failing_at(number: u64) -> Asked {
     Asked {
         file: "G28\nG1 X10\n",
-        fails_at: Some(number),
+        wire: Wire {
+            fails_at: Some(number),
+            ..SOUND
+        },
         ..PLAIN
     }
 }
@@ -100,8 +103,11 @@ fn no_call_failing(rt: HostRuntime) -> Result<(), Fail> {
 fn losing(number: u64) -> Asked {
     Asked {
         file: FOUR_LINES,
-        fates: &[W, W, L, W],
-        fails_at: Some(number),
+        wire: Wire {
+            fates: &[W, W, L, W],
+            fails_at: Some(number),
+            ..SOUND
+        },
         ..PLAIN
     }
 }
@@ -109,7 +115,7 @@ fn losing(number: u64) -> Asked {
 /// Whether the print is done; if it isn't, its link failed.
 fn is_done(rt: &impl Abort, printed: &Printed) -> bool {
     if printed.end == PrintEnd::Done {
-        check(rt, printed, PrintEnd::Done, 8, &FOUR);
+        check_print(rt, printed, PrintEnd::Done, 8, &FOUR);
         return true;
     }
     check_failed(rt, printed);

@@ -1,36 +1,12 @@
-//! Prints of files by settings, over a link in memory.
-ghost use Rattle.std.specs.Prelude.{◌≡◌, false, IfOk};
-ghost use Rattle.printer_link.specs.Memory.{link_world};
-
-use crate::print_file;
+//! A print of a file, and its report.
+use super::makers::{SOUND, link_of};
 use byte_text::Name;
-use octo_outside::{CallList, MemoryClock, MemorySink, MemorySource, NameList};
+use octo_outside::{CallList, MemoryClock, MemorySink, MemorySource};
+use octo_print::print_file;
 use octo_report::{Report, write_report};
-use printer_link::{FateList, MemoryLink, Schedule};
 use std::alloc::Global;
 use std::process::Abort;
 use std::test::Fail;
-
-// A link that loses nothing.
-fn link_of(alloc: Global) -> Result<MemoryLink, Fail>
-    ensures { IfOk result (λ l. (link_world l).linked ≡ false) }
-{
-    let mut names = NameList::new(alloc);
-    names.push(Name::of("p")?)?;
-    Ok(MemoryLink::new(
-        alloc,
-        Schedule {
-            names,
-            last: 4,
-            places: 4,
-            advanced: false,
-            fates: FateList::new(alloc),
-            slow: 0,
-            fail_at: CallList::new(alloc),
-            restart_at: CallList::new(alloc),
-        },
-    )?)
-}
 
 fn source_of(alloc: Global, name: &str, bytes: &[u8]) -> Result<MemorySource, Fail> {
     let mut files = MemorySource::new(alloc, CallList::new(alloc));
@@ -42,7 +18,7 @@ fn source_of(alloc: Global, name: &str, bytes: &[u8]) -> Result<MemorySource, Fa
 fn report_of(alloc: Global, bytes: &[u8]) -> Result<Report, Fail> {
     let port = Name::of("p")?;
     let mut files = source_of(alloc, "a", bytes)?;
-    let mut link = link_of(alloc)?;
+    let mut link = link_of(alloc, &SOUND)?;
     Ok(print_file(
         alloc,
         &mut files,

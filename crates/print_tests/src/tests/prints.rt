@@ -1,21 +1,20 @@
-//! Whole prints over a link in memory.
-ghost use Rattle.std.specs.Prelude.{◌≡◌, false, IfOk};
+//! Whole prints.
+ghost use Rattle.std.specs.Prelude.{◌≡◌, false};
 ghost use Rattle.printer_link.specs.Memory.{link_world};
 ghost use Rattle.session_print.specs.Ends.{IsNew};
 
 mod ends;
 mod scripts;
 
-use super::*;
+use super::makers::{SOUND, Wire, check_first, link_of, plain_session, scripts_of};
 use byte_text::Name;
-use desk_steps::Limits;
 use gcode_lines::read_commands;
-use job_desk::{Desk, Scripts};
-use octo_outside::{CallList, MemoryClock, NameList, calls_of};
+use job_desk::Scripts;
+use octo_outside::MemoryClock;
 use octo_session::{Session, SessionEnd};
-use printer_link::{Fate, FateList, MemoryLink, Schedule};
-use send_window::Sender;
-use std::alloc::{AllocError, Global};
+use printer_link::{Fate, MemoryLink};
+use session_print::{PrintEnd, run_print};
+use std::alloc::Global;
 use std::process::Abort;
 use std::test::Fail;
 
@@ -45,13 +44,7 @@ struct Asked {
     /// How many milliseconds each rest of the clock adds.
     rest: u64,
     turns: u64,
-    /// Whether port p is listed.
-    listed: bool,
-    advanced: bool,
-    fates: &'static [Fate],
-    slow: u32,
-    fails_at: Option<u64>,
-    restarts_at: Option<u64>,
+    wire: Wire,
 }
 
 /// One command over a line without faults.
@@ -59,59 +52,8 @@ const PLAIN: Asked = Asked {
     file: "G28\n",
     rest: 1,
     turns: 1_000,
-    listed: true,
-    advanced: false,
-    fates: &[],
-    slow: 0,
-    fails_at: None,
-    restarts_at: None,
+    wire: SOUND,
 };
-
-/// The listed ports: p, or none.
-fn ports(alloc: Global, listed: bool) -> Result<NameList, Fail> {
-    let name = Name::of("p")?;
-    let mut names = NameList::new(alloc);
-    if listed {
-        names.push(name)?;
-    }
-    Ok(names)
-}
-
-fn calls(alloc: Global, call: Option<u64>) -> Result<CallList, AllocError> {
-    match call {
-        Some(number) => calls_of(alloc, &[number]),
-        None => Ok(CallList::new(alloc)),
-    }
-}
-
-/// A link to a printer with four slots, whose last line had the number 4.
-fn link_of(alloc: Global, asked: &Asked) -> Result<MemoryLink, Fail>
-    ensures { IfOk result (λ link. (link_world link).linked ≡ false) }
-{
-    let schedule = Schedule {
-        names: ports(alloc, asked.listed)?,
-        last: 4,
-        places: 4,
-        advanced: asked.advanced,
-        fates: FateList::from_items(Vec::from_slice(alloc, asked.fates)?),
-        slow: asked.slow,
-        fail_at: calls(alloc, asked.fails_at)?,
-        restart_at: calls(alloc, asked.restarts_at)?,
-    };
-    Ok(MemoryLink::new(alloc, schedule)?)
-}
-
-fn new_session(alloc: Global, scripts: Scripts) -> Result<Session, AllocError>
-    ensures { IfOk result (λ session. IsNew session) }
-{
-    let limits = Limits {
-        tool: 250,
-        bed: 100,
-    };
-    let desk = Desk::new(alloc, scripts, limits, 5_000)?;
-    let sender = Sender::new(alloc, 4, 30_000)?;
-    Ok(Session::new(desk, sender))
-}
 
 /// Prints in this session, over port p of this link.
 fn print_over(
@@ -131,8 +73,8 @@ fn print_over(
 }
 
 fn print(alloc: Global, scripts: Scripts, asked: &Asked) -> Result<Printed, Fail> {
-    let mut session = new_session(alloc, scripts)?;
-    let mut link = link_of(alloc, asked)?;
+    let mut session = plain_session(alloc, scripts, 4)?;
+    let mut link = link_of(alloc, &asked.wire)?;
     let end = print_over(alloc, &mut session, &mut link, asked)?;
     Ok(Printed { end, link })
 }
@@ -141,22 +83,8 @@ fn print_plainly(alloc: Global, asked: &Asked) -> Result<Printed, Fail> {
     print(alloc, Scripts::new(alloc), asked)
 }
 
-/// What the printer ran are the first of these lines. Returns how many it ran.
-fn check_first(rt: &impl Abort, link: &MemoryLink, texts: &[&str]) -> usize {
-    match link.executed(1) {
-        Ok(lines) => {
-            assert!(rt; lines.as_slice().len() <= texts.len());
-            for (line, text) in lines.as_slice().iter().zip(texts) {
-                assert_eq!(rt; line.text.as_slice(), text.as_bytes());
-            }
-            lines.as_slice().len()
-        }
-        Err(_) => panic!(rt; "no memory"),
-    }
-}
-
 /// How a print ended, the number of lines sent, the hello included, and the lines that the printer ran.
-fn check(rt: &impl Abort, printed: &Printed, end: PrintEnd, sends: u64, texts: &[&str]) {
+fn check_print(rt: &impl Abort, printed: &Printed, end: PrintEnd, sends: u64, texts: &[&str]) {
     assert_eq!(rt; (printed.end, printed.link.sends()), (end, sends));
     assert!(rt; !printed.link.is_up());
     assert_eq!(rt; check_first(rt, &printed.link, texts), texts.len());
@@ -172,7 +100,7 @@ fn comes_to(
     texts: &[&str],
 ) -> Result<(), Fail> {
     let printed = print_plainly(alloc, &asked)?;
-    check(rt, &printed, end, sends, texts);
+    check_print(rt, &printed, end, sends, texts);
     Ok(())
 }
 
@@ -218,7 +146,10 @@ fn empty(rt: HostRuntime) -> Result<(), Fail> {
 fn lost(rt: HostRuntime) -> Result<(), Fail> {
     let asked = Asked {
         file: FOUR_LINES,
-        fates: &[W, W, L, W],
+        wire: Wire {
+            fates: &[W, W, L, W],
+            ..SOUND
+        },
         ..PLAIN
     };
     comes_to(&rt, rt.alloc(), asked, PrintEnd::Done, 8, &FOUR)
@@ -228,7 +159,10 @@ fn lost(rt: HostRuntime) -> Result<(), Fail> {
 #[test]
 fn corrupted(rt: HostRuntime) -> Result<(), Fail> {
     let asked = Asked {
-        fates: &[W, G],
+        wire: Wire {
+            fates: &[W, G],
+            ..SOUND
+        },
         ..PLAIN
     };
     comes_to(&rt, rt.alloc(), asked, PrintEnd::Done, 3, &["G28"])
@@ -238,7 +172,10 @@ fn corrupted(rt: HostRuntime) -> Result<(), Fail> {
 #[test]
 fn hello_corrupted(rt: HostRuntime) -> Result<(), Fail> {
     let asked = Asked {
-        fates: &[G],
+        wire: Wire {
+            fates: &[G],
+            ..SOUND
+        },
         ..PLAIN
     };
     comes_to(&rt, rt.alloc(), asked, PrintEnd::Done, 3, &["G28"])
@@ -248,7 +185,10 @@ fn hello_corrupted(rt: HostRuntime) -> Result<(), Fail> {
 #[test]
 fn hello_lost(rt: HostRuntime) -> Result<(), Fail> {
     let asked = Asked {
-        fates: &[L],
+        wire: Wire {
+            fates: &[L],
+            ..SOUND
+        },
         rest: 1_000,
         ..PLAIN
     };
@@ -256,13 +196,16 @@ fn hello_lost(rt: HostRuntime) -> Result<(), Fail> {
     comes_to(&rt, rt.alloc(), asked, end, 1, &[])
 }
 
-/// Losses and corrupted lines at a printer that runs a line at each third receiving.
+/// Losses and corrupted lines at a printer that runs a line at each third call of `recv`.
 #[test]
 fn slow_printer(rt: HostRuntime) -> Result<(), Fail> {
     let asked = Asked {
         file: "G28\nG1 X1\nG1 X2\nG1 X3\nG1 X4\nG1 X5\n",
-        fates: &[W, W, G, L, W, W, G],
-        slow: 2,
+        wire: Wire {
+            fates: &[W, W, G, L, W, W, G],
+            slow: 2,
+            ..SOUND
+        },
         ..PLAIN
     };
     let texts = ["G28", "G1 X1", "G1 X2", "G1 X3", "G1 X4", "G1 X5"];
@@ -274,8 +217,11 @@ fn slow_printer(rt: HostRuntime) -> Result<(), Fail> {
 fn numbered(rt: HostRuntime) -> Result<(), Fail> {
     let asked = Asked {
         file: "G1 X1\nG1 X1\nG1 X1\nG1 X1\nG1 X1\n",
-        advanced: true,
-        fates: &[W, L, G, L, W],
+        wire: Wire {
+            advanced: true,
+            fates: &[W, L, G, L, W],
+            ..SOUND
+        },
         ..PLAIN
     };
     comes_to(&rt, rt.alloc(), asked, PrintEnd::Done, 10, &["G1 X1"; 5])
@@ -285,7 +231,10 @@ fn numbered(rt: HostRuntime) -> Result<(), Fail> {
 #[test]
 fn failing(rt: HostRuntime) -> Result<(), Fail> {
     let asked = Asked {
-        fails_at: Some(6),
+        wire: Wire {
+            fails_at: Some(6),
+            ..SOUND
+        },
         ..PLAIN
     };
     comes_to(&rt, rt.alloc(), asked, PrintEnd::LinkFailed, 1, &[])
@@ -296,7 +245,10 @@ fn failing(rt: HostRuntime) -> Result<(), Fail> {
 fn restarted(rt: HostRuntime) -> Result<(), Fail> {
     let asked = Asked {
         file: "G28\nG1 X10\n",
-        restarts_at: Some(5),
+        wire: Wire {
+            restarts_at: Some(5),
+            ..SOUND
+        },
         ..PLAIN
     };
     let end = PrintEnd::Ended(SessionEnd::Restarted);
@@ -322,7 +274,10 @@ fn too_hot(rt: HostRuntime) -> Result<(), Fail> {
 #[test]
 fn no_port(rt: HostRuntime) -> Result<(), Fail> {
     let asked = Asked {
-        listed: false,
+        wire: Wire {
+            listed: false,
+            ..SOUND
+        },
         ..PLAIN
     };
     comes_to(&rt, rt.alloc(), asked, PrintEnd::NoPort, 0, &[])

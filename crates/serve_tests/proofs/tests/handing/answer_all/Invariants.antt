@@ -1,6 +1,6 @@
 use Rattle.std.proofs.Common.{◌≡◌, false, None}
 use Rattle.hand_over.specs.Ends.{house_place}
-use Rattle.hand_over.proofs.tests.answer_all.Given as goal
+use Rattle.serve_tests.proofs.tests.handing.answer_all.Given as goal
 
 -- every ask that was taken is answered, and the host runs
 abbrev pub invariant-loop : goal.invariant-loop
