@@ -9,7 +9,7 @@ use std::marker::Model;
 // How many bytes a read may bring.
 const READ: usize = 4096;
 
-// How many taken bytes are kept at most before they are removed.
+// Once this many bytes were taken, they are removed.
 const TAKEN: usize = 16384;
 
 // What a read brought.
