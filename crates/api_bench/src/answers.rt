@@ -7,6 +7,7 @@ use octo_asks::{
 use octo_outside::NameList;
 use std::alloc::Global;
 
+// A name of this text.
 fn name(text: &str) -> anyhow::Result<Name> {
     match Name::from_text(text) {
         Some(name) => Ok(name),
@@ -14,6 +15,7 @@ fn name(text: &str) -> anyhow::Result<Name> {
     }
 }
 
+// A stored file.
 fn file() -> anyhow::Result<ShownFile> {
     Ok(ShownFile {
         name: name("two_towers.gcode")?,
@@ -21,6 +23,7 @@ fn file() -> anyhow::Result<ShownFile> {
     })
 }
 
+// An answer with this number of files.
 fn files(alloc: Global, count: usize) -> anyhow::Result<Answer> {
     let mut files = ShownFileList::new(alloc);
     for _ in 0..count {
@@ -29,6 +32,7 @@ fn files(alloc: Global, count: usize) -> anyhow::Result<Answer> {
     Ok(Answer::Files { files })
 }
 
+// An entry of the queue.
 fn entry() -> anyhow::Result<ShownEntry> {
     Ok(ShownEntry {
         user: name("ana")?,
@@ -41,6 +45,7 @@ fn entry() -> anyhow::Result<ShownEntry> {
     })
 }
 
+// An answer with this number of entries.
 fn entries(alloc: Global, count: usize) -> anyhow::Result<Answer> {
     let mut entries = ShownEntryList::new(alloc);
     for _ in 0..count {
@@ -49,6 +54,7 @@ fn entries(alloc: Global, count: usize) -> anyhow::Result<Answer> {
     Ok(Answer::Entries { entries })
 }
 
+// The answer to a request for the connection.
 fn connection(alloc: Global) -> anyhow::Result<Answer> {
     let mut ports = NameList::new(alloc);
     ports.push(name("127.0.0.1:7100")?)?;
@@ -59,6 +65,7 @@ fn connection(alloc: Global) -> anyhow::Result<Answer> {
     })
 }
 
+// The answer to a request for the printer.
 fn printer() -> Answer {
     Answer::Printer {
         state: State::Printing,
@@ -73,6 +80,7 @@ fn printer() -> Answer {
     }
 }
 
+// The answer to a request for the job.
 fn job() -> anyhow::Result<Answer> {
     Ok(Answer::Job {
         file: Some(file()?),

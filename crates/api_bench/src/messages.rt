@@ -6,8 +6,10 @@ use octo_http::Message;
 use octo_outside::Blob;
 use std::alloc::Global;
 
+// The type of JSON.
 const JSON: &str = "application/json";
 
+// The type of an upload.
 const FORM: &str = "multipart/form-data; boundary=XY";
 
 /// What messages of one kind are made of.
@@ -72,6 +74,7 @@ fn upload(alloc: Global, count: usize) -> anyhow::Result<Pattern> {
     })
 }
 
+// A body that asks for an entry of the queue.
 const ENTRY: &str =
     "{\"name\":\"job-1\",\"file\":\"two_towers.gcode\",\"priority\":5,\"copies\":2,\"material\":\"PLA\"}";
 

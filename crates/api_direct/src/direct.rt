@@ -6,22 +6,22 @@ use thiserror::Error;
 #[derive(Clone, Copy, Debug, PartialEq, Eq, Error)]
 pub enum Direct {
     /// The body isn't one that the route takes.
-    #[error("bad body")]
+    #[error("request: bad body")]
     BadBody,
     /// There is no such route.
-    #[error("no route")]
+    #[error("request: no route")]
     NoRoute,
     /// The route doesn't take the method.
-    #[error("bad method")]
+    #[error("request: bad method")]
     BadMethod,
     /// A body is wanted, and the message has neither a length nor chunks.
-    #[error("no length")]
+    #[error("request: no length")]
     NoLength,
     /// The body's type or coding, or the type of an uploaded file, isn't taken.
-    #[error("bad media")]
+    #[error("request: bad media type")]
     BadMedia,
     /// Memory ran out.
-    #[error("no memory")]
+    #[error("out of memory")]
     NoMemory,
 }
 

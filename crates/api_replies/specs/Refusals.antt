@@ -2,8 +2,6 @@
 use Rattle.std.specs.Prelude.{ℕ, List, codes, Option, Some, None}
 use Rattle.serde_json.specs.Data.{Data, string, object, no_members, member}
 use Rattle.desk_steps.specs.declared.state.State.{State}
-use Rattle.gcode_lines.specs.declared.fault.FileFault.{FileFault}
-use Rattle.gcode_lines.specs.declared.fault.FileFault.TheVariants as fault
 use Rattle.octo_access.specs.declared.permission.Permission.{Permission}
 use Rattle.octo_asks.specs.declared.shown.ShownEntry.{ShownEntry}
 use Rattle.api_replies.specs.Texts.{state_text, permission_text}
@@ -36,16 +34,13 @@ bad_line_data name line = object (
     (member (codes "line") (count line)
     no_members)))
 
--- a file that has no job; its fault is never out of memory
-abbrev pub bad_file_data : FileFault → Data
-bad_file_data (fault.TooLong line) = bad_line_data (codes "TooLong") line
-bad_file_data (fault.ControlByte line) = bad_line_data (codes "ControlByte") line
-bad_file_data (fault.TooLarge bytes) = object (
+-- a file of too many bytes
+abbrev pub too_large_data : ℕ → Data
+too_large_data bytes = object (
     member (codes "bytes") (count bytes)
     (member (codes "error") (string (codes "BadFile"))
     (member (codes "fault") (string (codes "TooLarge"))
     no_members)))
-bad_file_data fault.NoMemory = noted_data (codes "BadFile") (codes "fault") (codes "NoMemory")
 
 -- a command that is too hot
 abbrev pub too_hot_data : ℕ → ℕ → Data

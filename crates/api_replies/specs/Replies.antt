@@ -2,6 +2,8 @@
 use Rattle.std.specs.Prelude.{ℕ, Bool, true, false, List, [], map, codes, Option, Some, None}
 use Rattle.serde_json.specs.Data.{Data}
 use Rattle.serde_json.specs.Written.{compact_text}
+use Rattle.gcode_lines.specs.declared.fault.FileFault.{FileFault}
+use Rattle.gcode_lines.specs.declared.fault.FileFault.TheVariants as file_fault
 use Rattle.http_grammar.specs.declared.fault.MessageFault.{MessageFault}
 use Rattle.http_grammar.specs.declared.fault.MessageFault.TheVariants as fault
 use Rattle.octo_http.specs.declared.reply.HttpReply.{HttpReply}
@@ -12,7 +14,7 @@ use Rattle.octo_asks.specs.declared.answer.StoredCause.{StoredCause}
 use Rattle.octo_asks.specs.declared.answer.StoredCause.TheVariants as cause
 use Rattle.api_replies.specs.Items.{file_data, user_data, entry_data, print_data}
 use Rattle.api_replies.specs.Pages.{version_data, connection_data, printer_data, job_data, list_data, uploaded_data, stored_data}
-use Rattle.api_replies.specs.Refusals.{refusal_data, noted_data, denied_data, wrong_state_data, bad_file_data, too_hot_data, too_hot_line_data, name_taken_data, full_data}
+use Rattle.api_replies.specs.Refusals.{refusal_data, noted_data, denied_data, wrong_state_data, bad_line_data, too_large_data, too_hot_data, too_hot_line_data, name_taken_data, full_data}
 use Rattle.api_direct.specs.declared.direct.Direct.{Direct}
 use Rattle.api_direct.specs.declared.direct.Direct.TheVariants as direct
 
@@ -31,6 +33,13 @@ bytes_reply bytes = record { status = 200; kind = Bytes; body = bytes }
 -- a refusal by its name alone
 abbrev pub refusal : ℕ → List ℕ → HttpReply
 refusal status name = json_reply status (refusal_data name)
+
+-- a file that has no job; its fault is never out of memory
+abbrev pub bad_file_reply : FileFault → HttpReply
+bad_file_reply (file_fault.TooLong line) = json_reply 400 (bad_line_data (codes "TooLong") line)
+bad_file_reply (file_fault.ControlByte line) = json_reply 400 (bad_line_data (codes "ControlByte") line)
+bad_file_reply (file_fault.TooLarge bytes) = json_reply 400 (too_large_data bytes)
+bad_file_reply file_fault.NoMemory = empty_reply 507
 
 -- an upload whose print wasn't started
 abbrev pub stored_reply : List ℕ → StoredCause → HttpReply
@@ -59,7 +68,7 @@ reply_of (answer.Denied permission) = json_reply 403 (denied_data permission)
 reply_of answer.BadPort = refusal 400 (codes "BadPort")
 reply_of answer.BadCommand = refusal 400 (codes "BadCommand")
 reply_of (answer.BadGroup group) = json_reply 400 (noted_data (codes "BadGroup") (codes "group") group)
-reply_of (answer.BadFile fault) = json_reply 400 (bad_file_data fault)
+reply_of (answer.BadFile fault) = bad_file_reply fault
 reply_of (answer.TooHot asked limit) = json_reply 400 (too_hot_data asked limit)
 reply_of answer.NoFile = refusal 404 (codes "NoFile")
 reply_of answer.NoUser = refusal 404 (codes "NoUser")

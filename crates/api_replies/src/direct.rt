@@ -2,13 +2,17 @@
 ghost use Rattle.std.specs.Prelude.{◌≡◌, option_map};
 ghost use Rattle.api_replies.specs.Replies.{empty_reply, direct_status, fault_status};
 
+use crate::status::{
+    BAD_REQUEST, CONTENT_TOO_LARGE, HEADER_FIELDS_TOO_LARGE, INSUFFICIENT_STORAGE, LENGTH_REQUIRED,
+    METHOD_NOT_ALLOWED, NOT_FOUND, REQUEST_TIMEOUT, UNSUPPORTED_MEDIA_TYPE,
+};
 use api_direct::Direct;
 use http_grammar::MessageFault;
 use octo_http::{HttpReply, ReplyKind};
 use octo_outside::Blob;
 use std::alloc::Global;
 
-/// A reply without a body; takes no memory.
+// A reply without a body; takes no memory.
 pub(crate) fn empty_reply(alloc: Global, status: u16) -> HttpReply
     ensures { result ≡ empty_reply status }
 {
@@ -19,28 +23,30 @@ pub(crate) fn empty_reply(alloc: Global, status: u16) -> HttpReply
     }
 }
 
+// The status of a message that is no request.
 fn direct_status(direct: Direct) -> u16
     ensures { result ≡ direct_status direct }
 {
     match direct {
-        Direct::BadBody => 400,
-        Direct::NoRoute => 404,
-        Direct::BadMethod => 405,
-        Direct::NoLength => 411,
-        Direct::BadMedia => 415,
-        Direct::NoMemory => 507,
+        Direct::BadBody => BAD_REQUEST,
+        Direct::NoRoute => NOT_FOUND,
+        Direct::BadMethod => METHOD_NOT_ALLOWED,
+        Direct::NoLength => LENGTH_REQUIRED,
+        Direct::BadMedia => UNSUPPORTED_MEDIA_TYPE,
+        Direct::NoMemory => INSUFFICIENT_STORAGE,
     }
 }
 
+// The status of an input that is no message, `None` if the peer has gone.
 fn fault_status(fault: &MessageFault) -> Option<u16>
     ensures { result ≡ fault_status fault.now }
 {
     match fault {
-        MessageFault::BadHead | MessageFault::BadChunk => Some(400),
-        MessageFault::HeadTooLarge => Some(431),
-        MessageFault::BodyTooLarge => Some(413),
-        MessageFault::Slow { .. } => Some(408),
-        MessageFault::NoMemory => Some(507),
+        MessageFault::BadHead | MessageFault::BadChunk => Some(BAD_REQUEST),
+        MessageFault::HeadTooLarge => Some(HEADER_FIELDS_TOO_LARGE),
+        MessageFault::BodyTooLarge => Some(CONTENT_TOO_LARGE),
+        MessageFault::Slow { .. } => Some(REQUEST_TIMEOUT),
+        MessageFault::NoMemory => Some(INSUFFICIENT_STORAGE),
         MessageFault::Ended | MessageFault::ReadFault => None,
     }
 }

@@ -101,7 +101,7 @@ impl ToJson for ShownPrint {
     ghost whole = { print_whole };
 }
 
-/// A heater's temperatures.
+// A heater's temperatures.
 pub(crate) fn heat_value(alloc: Global, heat: ShownHeat) -> Result<Value, AllocError>
     ensures { IfOk result (λ value. view value ≡ heat_data heat) }
 {

@@ -12,6 +12,7 @@ mod pages;
 mod printer;
 mod refusals;
 mod replies;
+mod status;
 mod texts;
 mod written;
 

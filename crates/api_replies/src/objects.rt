@@ -7,7 +7,7 @@ ghost use Rattle.api_replies.specs.Objects.{primitive_data, with_rows, object_of
 use serde_json::{Map, Value, put};
 use std::alloc::{AllocError, Global};
 
-/// A value that holds no other one.
+// A value that holds no other one.
 #[derive(Clone, Copy)]
 pub(crate) enum Primitive<'a> {
     Null,
@@ -17,9 +17,10 @@ pub(crate) enum Primitive<'a> {
     Text(&'a str),
 }
 
-/// The members of an object.
+// The members of an object.
 pub(crate) type Members = Map<String, Value>;
 
+// The JSON of a value that holds no other one.
 fn primitive_value(alloc: Global, primitive: Primitive) -> Result<Value, AllocError>
     ensures { IfOk result (λ value. view value ≡ primitive_data primitive.entry) }
 {
@@ -32,7 +33,7 @@ fn primitive_value(alloc: Global, primitive: Primitive) -> Result<Value, AllocEr
     }
 }
 
-/// The members of these rows.
+// The members of these rows.
 pub(crate) fn members_of(alloc: Global, rows: &[(&str, Primitive)]) -> Result<Members, AllocError>
     ensures { IfOk result (λ members. members_view members.entries
         ≡ with_rows rows.now no_members) }
@@ -45,7 +46,7 @@ pub(crate) fn members_of(alloc: Global, rows: &[(&str, Primitive)]) -> Result<Me
     Ok(members)
 }
 
-/// The members and one more, which may be an object or a list.
+// The members and one more, which may be an object or a list.
 pub(crate) fn with_member(
     alloc: Global,
     members: Members,
@@ -60,14 +61,14 @@ pub(crate) fn with_member(
     Ok(all)
 }
 
-/// An object of these rows.
+// An object of these rows.
 pub(crate) fn object_of(alloc: Global, rows: &[(&str, Primitive)]) -> Result<Value, AllocError>
     ensures { IfOk result (λ value. view value ≡ object_of rows.now) }
 {
     Ok(Value::Object(members_of(alloc, rows)?))
 }
 
-/// An object of these rows and one more member, which may be an object or a list.
+// An object of these rows and one more member, which may be an object or a list.
 pub(crate) fn object_with(
     alloc: Global,
     rows: &[(&str, Primitive)],
@@ -81,7 +82,7 @@ pub(crate) fn object_with(
     Ok(Value::Object(with_member(alloc, members, name, value)?))
 }
 
-/// An object of two members, which may be objects or lists.
+// An object of two members, which may be objects or lists.
 pub(crate) fn pair(
     alloc: Global,
     name: &str,

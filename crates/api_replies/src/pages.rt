@@ -7,7 +7,8 @@ ghost use Rattle.api_replies.specs.Replies.{json_reply, stored_reply};
 
 use crate::lists::list_of;
 use crate::objects::{Members, Primitive, members_of, object_of, object_with, pair, with_member};
-use crate::texts::state_text;
+use crate::status::{CREATED, INSUFFICIENT_STORAGE, OK, SERVICE_UNAVAILABLE};
+use crate::texts::{KEEPER_FAULT, state_text};
 use crate::written::{json_reply, object_reply, object_reply_with};
 use byte_text::Name;
 use desk_steps::State;
@@ -16,13 +17,13 @@ use octo_http::HttpReply;
 use serde_json::Value;
 use std::alloc::{AllocError, Global};
 
-/// The version. Source: OctoPrint's REST API, version information.
+// The version. Source: OctoPrint's REST API, version information.
 pub(crate) fn version_reply(alloc: Global) -> Result<HttpReply, AllocError>
     ensures { IfOk result (λ reply. reply ≡ json_reply 200 version_data) }
 {
     object_reply(
         alloc,
-        200,
+        OK,
         &[
             ("api", Primitive::Text("0.1")),
             ("server", Primitive::Text("profile-1")),
@@ -31,6 +32,7 @@ pub(crate) fn version_reply(alloc: Global) -> Result<HttpReply, AllocError>
     )
 }
 
+// A text, or a null.
 fn text_or_null(text: &Option<Name>) -> Primitive<'_>
     ensures { primitive_data result ≡ text_or_null text.now }
 {
@@ -75,7 +77,7 @@ fn connection_value(
     pair(alloc, "current", current, "options", options)
 }
 
-/// The connection. Source: OctoPrint's REST API, connection handling.
+// The connection. Source: OctoPrint's REST API, connection handling.
 #[tactic(auto, using(crate::proofs::Whole::connection_whole))]
 pub(crate) fn connection_reply(
     alloc: Global,
@@ -87,7 +89,7 @@ pub(crate) fn connection_reply(
         ≡ json_reply 200 (connection_data port.now state ports.now)) }
 {
     let value = connection_value(alloc, port, state, ports)?;
-    json_reply(alloc, 200, value)
+    json_reply(alloc, OK, value)
 }
 
 // The selected file, nulls without one.
@@ -172,7 +174,7 @@ fn job_value(
     Ok(Value::Object(with_member(alloc, members, "job", job)?))
 }
 
-/// The job. Source: OctoPrint's REST API, job operations.
+// The job. Source: OctoPrint's REST API, job operations.
 #[tactic(auto, using(crate::proofs::Whole::job_whole))]
 pub(crate) fn job_reply(
     alloc: Global,
@@ -183,7 +185,7 @@ pub(crate) fn job_reply(
     ensures { IfOk result (λ reply. reply ≡ json_reply 200 (job_data file.now progress state)) }
 {
     let value = job_value(alloc, file, progress, state)?;
-    json_reply(alloc, 200, value)
+    json_reply(alloc, OK, value)
 }
 
 // Where a file was stored.
@@ -202,7 +204,7 @@ fn stored_place(alloc: Global, name: &Name) -> Result<Value, AllocError>
     object_with(alloc, &[], "local", place)
 }
 
-/// An upload. Source: OctoPrint's REST API, file operations.
+// An upload. Source: OctoPrint's REST API, file operations.
 pub(crate) fn uploaded_reply(
     alloc: Global,
     name: &Name,
@@ -215,7 +217,7 @@ pub(crate) fn uploaded_reply(
     let files = stored_place(alloc, name)?;
     object_reply_with(
         alloc,
-        201,
+        CREATED,
         &[
             ("done", Primitive::Flag(true)),
             ("effectivePrint", Primitive::Flag(print)),
@@ -251,7 +253,7 @@ fn not_started(
     )
 }
 
-/// An upload whose print was not started.
+// An upload whose print was not started.
 pub(crate) fn stored_reply(
     alloc: Global,
     name: &Name,
@@ -260,7 +262,7 @@ pub(crate) fn stored_reply(
     ensures { IfOk result (λ reply. reply ≡ stored_reply name.now cause) }
 {
     match cause {
-        StoredCause::KeeperFault => not_started(alloc, 503, name, "KeeperFault"),
-        StoredCause::NoMemory => not_started(alloc, 507, name, "NoMemory"),
+        StoredCause::KeeperFault => not_started(alloc, SERVICE_UNAVAILABLE, name, KEEPER_FAULT),
+        StoredCause::NoMemory => not_started(alloc, INSUFFICIENT_STORAGE, name, "NoMemory"),
     }
 }

@@ -6,6 +6,7 @@ ghost use Rattle.api_replies.specs.Replies.{json_reply};
 
 use crate::items::heat_value;
 use crate::objects::{Members, Primitive, object_of, object_with, pair, with_member};
+use crate::status::OK;
 use crate::texts::state_text;
 use crate::written::json_reply;
 use desk_steps::State;
@@ -14,15 +15,14 @@ use octo_http::HttpReply;
 use serde_json::{Map, Value};
 use std::alloc::{AllocError, Global};
 
+// Whether the link is closed or has failed.
 fn is_closed_or_error(state: State) -> bool
     ensures { result ≡ is_closed_or_error state }
 {
-    match state {
-        State::Offline | State::Fault => true,
-        _ => false,
-    }
+    matches!(state, State::Offline | State::Fault)
 }
 
+// Whether the printer can be used.
 fn is_operational(state: State) -> bool
     ensures { result ≡ is_operational state }
 {
@@ -109,7 +109,7 @@ fn printer_value(
     pair(alloc, "state", state, "temperature", heaters)
 }
 
-/// The reply with the printer.
+// The reply with the printer.
 #[tactic(auto, using(crate::proofs::Whole::printer_whole))]
 pub(crate) fn printer_reply(
     alloc: Global,
@@ -120,5 +120,5 @@ pub(crate) fn printer_reply(
     ensures { IfOk result (λ reply. reply ≡ json_reply 200 (printer_data state tool bed)) }
 {
     let value = printer_value(alloc, state, tool, bed)?;
-    json_reply(alloc, 200, value)
+    json_reply(alloc, OK, value)
 }

@@ -2,13 +2,16 @@
 ghost use Rattle.std.specs.Prelude.{◌≡◌, codes, true, Some, IfOk};
 ghost use Rattle.gcode_lines.specs.declared.fault.FileFault.TheVariants as fault;
 ghost use Rattle.serde_json.specs.Data.{string, object, no_members, member, put as with_member};
-ghost use Rattle.api_replies.specs.Refusals.{bad_line_data, bad_file_data, too_hot_data, too_hot_line_data, name_taken_data, full_data};
-ghost use Rattle.api_replies.specs.Replies.{json_reply, refusal, reply_of, is_named, is_refusal};
+ghost use Rattle.api_replies.specs.Refusals.{bad_line_data, too_hot_data, too_hot_line_data, name_taken_data, full_data};
+ghost use Rattle.api_replies.specs.Replies.{json_reply, refusal, bad_file_reply, reply_of, is_named, is_refusal};
 
 use crate::direct::empty_reply;
 use crate::lists::ToJson;
 use crate::objects::Primitive;
-use crate::texts::{permission_text, state_text};
+use crate::status::{
+    BAD_REQUEST, CONFLICT, FORBIDDEN, INSUFFICIENT_STORAGE, NOT_FOUND, SERVICE_UNAVAILABLE,
+};
+use crate::texts::{KEEPER_FAULT, permission_text, state_text};
 use crate::written::{object_reply, object_reply_with};
 use gcode_lines::FileFault;
 use octo_asks::{Answer, ShownEntry};
@@ -50,7 +53,7 @@ fn bad_line(alloc: Global, fault: &str, line: u32) -> Result<HttpReply, AllocErr
 {
     object_reply(
         alloc,
-        400,
+        BAD_REQUEST,
         &[
             ("error", Primitive::Text("BadFile")),
             ("fault", Primitive::Text(fault)),
@@ -61,12 +64,11 @@ fn bad_line(alloc: Global, fault: &str, line: u32) -> Result<HttpReply, AllocErr
 
 // A file of too many bytes.
 fn too_large(alloc: Global, bytes: u64) -> Result<HttpReply, AllocError>
-    ensures { IfOk result (λ reply. reply
-        ≡ json_reply 400 (bad_file_data (fault.TooLarge bytes))) }
+    ensures { IfOk result (λ reply. reply ≡ bad_file_reply (fault.TooLarge bytes)) }
 {
     object_reply(
         alloc,
-        400,
+        BAD_REQUEST,
         &[
             ("bytes", Primitive::Count(bytes)),
             ("error", Primitive::Text("BadFile")),
@@ -77,13 +79,13 @@ fn too_large(alloc: Global, bytes: u64) -> Result<HttpReply, AllocError>
 
 // A file that has no job.
 fn bad_file(alloc: Global, fault: FileFault) -> Result<HttpReply, AllocError>
-    ensures { IfOk result (λ reply. reply ≡ json_reply 400 (bad_file_data fault)) }
+    ensures { IfOk result (λ reply. reply ≡ bad_file_reply fault) }
 {
     match fault {
         FileFault::TooLong { line } => bad_line(alloc, "TooLong", line),
         FileFault::ControlByte { line } => bad_line(alloc, "ControlByte", line),
         FileFault::TooLarge { bytes } => too_large(alloc, bytes),
-        FileFault::NoMemory => noted_refusal(alloc, 400, "BadFile", "fault", "NoMemory"),
+        FileFault::NoMemory => Ok(empty_reply(alloc, INSUFFICIENT_STORAGE)),
     }
 }
 
@@ -93,7 +95,7 @@ fn too_hot(alloc: Global, asked: u64, limit: u16) -> Result<HttpReply, AllocErro
 {
     object_reply(
         alloc,
-        400,
+        BAD_REQUEST,
         &[
             ("asked", Primitive::Count(asked)),
             ("error", Primitive::Text("TooHot")),
@@ -108,7 +110,7 @@ fn too_hot_line(alloc: Global, line: u32, asked: u64, limit: u16) -> Result<Http
 {
     object_reply(
         alloc,
-        409,
+        CONFLICT,
         &[
             ("asked", Primitive::Count(asked)),
             ("error", Primitive::Text("TooHotLine")),
@@ -125,7 +127,7 @@ fn name_of_entry(alloc: Global, entry: &ShownEntry) -> Result<HttpReply, AllocEr
     let kept = entry.to_json(alloc)?;
     object_reply_with(
         alloc,
-        409,
+        CONFLICT,
         &[("error", Primitive::Text("NameTaken"))],
         "kept",
         kept,
@@ -138,7 +140,7 @@ fn name_taken(alloc: Global, kept: &Option<ShownEntry>) -> Result<HttpReply, All
 {
     match kept {
         Some(entry) => name_of_entry(alloc, entry),
-        None => refusal(alloc, 409, "NameTaken"),
+        None => refusal(alloc, CONFLICT, "NameTaken"),
     }
 }
 
@@ -148,7 +150,7 @@ fn full(alloc: Global, count: u32) -> Result<HttpReply, AllocError>
 {
     object_reply(
         alloc,
-        409,
+        CONFLICT,
         &[
             ("count", Primitive::Count(count.into())),
             ("error", Primitive::Text("Full")),
@@ -162,23 +164,23 @@ fn named_refusal(alloc: Global, answer: &Answer) -> Result<HttpReply, AllocError
     ensures { IfOk result (λ reply. reply ≡ reply_of answer.now) }
 {
     match answer {
-        Answer::BadPort => refusal(alloc, 400, "BadPort"),
-        Answer::BadCommand => refusal(alloc, 400, "BadCommand"),
-        Answer::NoFile => refusal(alloc, 404, "NoFile"),
-        Answer::NoUser => refusal(alloc, 404, "NoUser"),
-        Answer::NoEntry => refusal(alloc, 404, "NoEntry"),
-        Answer::NoneSelected => refusal(alloc, 409, "NoneSelected"),
-        Answer::FileBusy => refusal(alloc, 409, "FileBusy"),
-        Answer::ArrivalsUsed => refusal(alloc, 409, "ArrivalsUsed"),
-        Answer::KeeperFault => refusal(alloc, 503, "KeeperFault"),
-        Answer::ShelfFault => refusal(alloc, 503, "ShelfFault"),
-        Answer::Closed => refusal(alloc, 503, "Closed"),
-        Answer::NoMemory => Ok(empty_reply(alloc, 507)),
+        Answer::BadPort => refusal(alloc, BAD_REQUEST, "BadPort"),
+        Answer::BadCommand => refusal(alloc, BAD_REQUEST, "BadCommand"),
+        Answer::NoFile => refusal(alloc, NOT_FOUND, "NoFile"),
+        Answer::NoUser => refusal(alloc, NOT_FOUND, "NoUser"),
+        Answer::NoEntry => refusal(alloc, NOT_FOUND, "NoEntry"),
+        Answer::NoneSelected => refusal(alloc, CONFLICT, "NoneSelected"),
+        Answer::FileBusy => refusal(alloc, CONFLICT, "FileBusy"),
+        Answer::ArrivalsUsed => refusal(alloc, CONFLICT, "ArrivalsUsed"),
+        Answer::KeeperFault => refusal(alloc, SERVICE_UNAVAILABLE, KEEPER_FAULT),
+        Answer::ShelfFault => refusal(alloc, SERVICE_UNAVAILABLE, "ShelfFault"),
+        Answer::Closed => refusal(alloc, SERVICE_UNAVAILABLE, "Closed"),
+        Answer::NoMemory => Ok(empty_reply(alloc, INSUFFICIENT_STORAGE)),
         _ => unreachable!(),
     }
 }
 
-/// The reply to a refusal.
+// The reply to a refusal.
 pub(crate) fn refusal_reply(alloc: Global, answer: &Answer) -> Result<HttpReply, AllocError>
     requires { is_refusal answer.now ≡ true }
     ensures { IfOk result (λ reply. reply ≡ reply_of answer.now) }
@@ -186,19 +188,25 @@ pub(crate) fn refusal_reply(alloc: Global, answer: &Answer) -> Result<HttpReply,
     match answer {
         Answer::Denied { permission } => {
             let permission = permission_text(*permission);
-            noted_refusal(alloc, 403, "Denied", "permission", permission)
+            noted_refusal(alloc, FORBIDDEN, "Denied", "permission", permission)
         }
         Answer::BadGroup { group } => {
-            noted_refusal(alloc, 400, "BadGroup", "group", group.as_str())
+            noted_refusal(alloc, BAD_REQUEST, "BadGroup", "group", group.as_str())
         }
         Answer::BadFile { fault } => bad_file(alloc, *fault),
         Answer::TooHot { asked, limit } => too_hot(alloc, *asked, *limit),
         Answer::WrongState { state } => {
-            noted_refusal(alloc, 409, "WrongState", "state", state_text(*state))
+            noted_refusal(alloc, CONFLICT, "WrongState", "state", state_text(*state))
         }
         Answer::TooHotLine { line, asked, limit } => too_hot_line(alloc, *line, *asked, *limit),
         Answer::NameTaken { kept } => name_taken(alloc, kept),
-        Answer::KeyTaken { name } => noted_refusal(alloc, 409, "KeyTaken", "name", name.as_str()),
+        Answer::KeyTaken { name } => noted_refusal(
+            alloc,
+            CONFLICT,
+            "KeyTaken",
+            "name",
+            name.as_str(),
+        ),
         Answer::Full { count } => full(alloc, *count),
         _ => named_refusal(alloc, answer),
     }

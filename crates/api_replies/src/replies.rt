@@ -6,17 +6,19 @@ use crate::direct::empty_reply;
 use crate::pages::{connection_reply, job_reply, stored_reply, uploaded_reply, version_reply};
 use crate::printer::printer_reply;
 use crate::refusals::refusal_reply;
+use crate::status::{CREATED, NO_CONTENT, OK};
 use crate::written::{item_reply, list_reply};
 use octo_asks::Answer;
 use octo_http::{HttpReply, ReplyKind};
 use octo_outside::Blob;
 use std::alloc::{AllocError, Global};
 
+// A reply with the bytes of a file.
 fn bytes_reply(bytes: Blob) -> HttpReply
     ensures { result ≡ bytes_reply bytes }
 {
     HttpReply {
-        status: 200,
+        status: OK,
         kind: ReplyKind::Bytes,
         body: bytes,
     }
@@ -29,7 +31,7 @@ fn page_reply(alloc: Global, answer: &Answer) -> Result<HttpReply, AllocError>
 {
     match answer {
         Answer::Version => version_reply(alloc),
-        Answer::Accepted => Ok(empty_reply(alloc, 204)),
+        Answer::Accepted => Ok(empty_reply(alloc, NO_CONTENT)),
         Answer::Connection { port, state, ports } => {
             connection_reply(alloc, port, *state, ports.as_slice())
         }
@@ -40,7 +42,7 @@ fn page_reply(alloc: Global, answer: &Answer) -> Result<HttpReply, AllocError>
             state,
         } => job_reply(alloc, file, *progress, *state),
         Answer::Files { files } => list_reply(alloc, "files", files.as_slice()),
-        Answer::File { file } => item_reply(alloc, 200, file),
+        Answer::File { file } => item_reply(alloc, OK, file),
         Answer::Uploaded {
             name,
             select,
@@ -48,16 +50,16 @@ fn page_reply(alloc: Global, answer: &Answer) -> Result<HttpReply, AllocError>
         } => uploaded_reply(alloc, name, *select, *print),
         Answer::Stored { name, cause } => stored_reply(alloc, name, *cause),
         Answer::Users { users } => list_reply(alloc, "users", users.as_slice()),
-        Answer::User { user } => item_reply(alloc, 201, user),
+        Answer::User { user } => item_reply(alloc, CREATED, user),
         Answer::Entries { entries } => list_reply(alloc, "entries", entries.as_slice()),
-        Answer::OneEntry { entry } => item_reply(alloc, 201, entry),
-        Answer::TakenEntry { entry } => item_reply(alloc, 200, entry),
+        Answer::OneEntry { entry } => item_reply(alloc, CREATED, entry),
+        Answer::TakenEntry { entry } => item_reply(alloc, OK, entry),
         Answer::Prints { prints } => list_reply(alloc, "prints", prints.as_slice()),
         _ => refusal_reply(alloc, answer),
     }
 }
 
-/// The reply to an answer. Source: OctoPrint's REST API; RFC 9110, section 15, for the statuses.
+/// The reply to an answer. Fails if out of memory. Source: OctoPrint's REST API; RFC 9110, section 15, for the statuses.
 pub fn to_bytes(alloc: Global, answer: Answer) -> Result<HttpReply, AllocError>
     ensures { IfOk result (λ reply. reply ≡ reply_of answer) }
 {

@@ -6,7 +6,10 @@ use desk_steps::State;
 use octo_access::Permission;
 use print_records::Outcome;
 
-/// A state's text.
+// The name of a keeper's failure, as a refusal and as the cause of an upload that wasn't started.
+pub(crate) const KEEPER_FAULT: &str = "KeeperFault";
+
+// A state's text.
 pub(crate) fn state_text(state: State) -> &'static str
     ensures { result.now ≡ state_text state }
 {
@@ -24,7 +27,7 @@ pub(crate) fn state_text(state: State) -> &'static str
     }
 }
 
-/// An outcome's text.
+// An outcome's text.
 pub(crate) fn outcome_text(outcome: Outcome) -> &'static str
     ensures { result.now ≡ outcome_text outcome }
 {
@@ -36,7 +39,7 @@ pub(crate) fn outcome_text(outcome: Outcome) -> &'static str
     }
 }
 
-/// The permission that a caller lacks, `KEY` if the key names nobody.
+// The permission that a caller lacks, `KEY` if the key names nobody.
 pub(crate) fn permission_text(permission: Option<Permission>) -> &'static str
     ensures { result.now ≡ permission_text permission }
 {

@@ -9,12 +9,13 @@ ghost use Rattle.api_replies.specs.Replies.{json_reply};
 
 use crate::lists::{ToJson, list_of};
 use crate::objects::{Primitive, object_of, object_with};
+use crate::status::OK;
 use octo_http::{HttpReply, ReplyKind};
 use octo_outside::Blob;
 use serde_json::Value;
 use std::alloc::{AllocError, Global};
 
-/// A reply with compact JSON.
+// A reply with compact JSON.
 pub(crate) fn json_reply(alloc: Global, status: u16, value: Value) -> Result<HttpReply, AllocError>
     requires { has_float (view value) ≡ false }
     ensures { IfOk result (λ reply. reply ≡ json_reply status (view value)) }
@@ -27,7 +28,7 @@ pub(crate) fn json_reply(alloc: Global, status: u16, value: Value) -> Result<Htt
     })
 }
 
-/// A reply with an object of these rows.
+// A reply with an object of these rows.
 #[tactic(auto, using(crate::proofs::Whole::rows_whole))]
 pub(crate) fn object_reply(
     alloc: Global,
@@ -40,7 +41,7 @@ pub(crate) fn object_reply(
     json_reply(alloc, status, value)
 }
 
-/// A reply with an object of these rows and one more member, which may be an object or a list.
+// A reply with an object of these rows and one more member, which may be an object or a list.
 #[tactic(auto, using(crate::proofs::Whole::put_whole, crate::proofs::Whole::rows_whole))]
 pub(crate) fn object_reply_with(
     alloc: Global,
@@ -57,7 +58,7 @@ pub(crate) fn object_reply_with(
     json_reply(alloc, status, all)
 }
 
-/// A reply with one thing.
+// A reply with one thing.
 pub(crate) fn item_reply<T: ToJson>(
     alloc: Global,
     status: u16,
@@ -69,7 +70,7 @@ pub(crate) fn item_reply<T: ToJson>(
     json_reply(alloc, status, value)
 }
 
-/// A reply with a list under a name.
+// A reply with a list under a name.
 pub(crate) fn list_reply<T: ToJson>(
     alloc: Global,
     name: &str,
@@ -79,5 +80,5 @@ pub(crate) fn list_reply<T: ToJson>(
         ≡ json_reply 200 (list_data name.now (map T.json items.now))) }
 {
     let list = list_of(alloc, items)?;
-    object_reply_with(alloc, 200, &[], name, list)
+    object_reply_with(alloc, OK, &[], name, list)
 }

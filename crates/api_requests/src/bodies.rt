@@ -28,7 +28,7 @@ fn port_of(found: &Value) -> Option<Option<Name>>
     Some(Some(name))
 }
 
-// Connection handling.
+// What a body asks of the connection: to connect, to a port if it names one, or to disconnect.
 fn connection_of(body: &Value) -> Option<Request>
     ensures { result ≡ connection_asked (view body.now) }
 {
@@ -45,7 +45,7 @@ fn connection_of(body: &Value) -> Option<Request>
     None
 }
 
-// The tool's target. Other tools are ignored.
+// What a body asks of the tool: its target temperature. Other tools are ignored.
 fn tool_of(body: &Value) -> Option<Request>
     ensures { result ≡ tool_asked (view body.now) }
 {
@@ -57,7 +57,7 @@ fn tool_of(body: &Value) -> Option<Request>
     None
 }
 
-// The bed's target.
+// What a body asks of the bed: its target temperature.
 fn bed_of(body: &Value) -> Option<Request>
     ensures { result ≡ bed_asked (view body.now) }
 {
@@ -87,7 +87,7 @@ fn pause_of(body: &Value) -> Option<Request>
     None
 }
 
-// Job operations.
+// What a body asks of the job: to start, to cancel, to restart or to pause.
 fn job_of(body: &Value) -> Option<Request>
     ensures { result ≡ job_asked (view body.now) }
 {
@@ -106,7 +106,7 @@ fn job_of(body: &Value) -> Option<Request>
     None
 }
 
-// A file's selection.
+// What a body asks of a file: to select it, and whether to print it.
 fn selection_of(name: &Name, body: &Value) -> Option<Request>
     ensures { result ≡ selection_asked name.now (view body.now) }
 {
@@ -118,7 +118,7 @@ fn selection_of(name: &Name, body: &Value) -> Option<Request>
     None
 }
 
-// One line.
+// A list of this line alone.
 fn one_line(alloc: Global, text: &str) -> Result<BlobList, Direct>
     ensures { Gives (Some (text.now ∷ [])) result }
 {
@@ -127,7 +127,7 @@ fn one_line(alloc: Global, text: &str) -> Result<BlobList, Direct>
     Ok(texts)
 }
 
-// One line, or 1 to 256, and not both.
+// What a body asks to send: one line, or 1 to 256, and not both.
 fn lines_of(alloc: Global, body: &Value) -> Result<Request, Direct>
     ensures { Gives (lines_asked (view body.now)) result }
 {
@@ -146,7 +146,7 @@ fn lines_of(alloc: Global, body: &Value) -> Result<Request, Direct>
 }
 
 // What a body asks in a form whose reading takes no memory.
-fn plain_request(form: &Form, body: &Value) -> Option<Request>
+fn request_of_form(form: &Form, body: &Value) -> Option<Request>
     requires { takes_memory form.now ≡ false }
     ensures { result ≡ asked_in form.now (view body.now) }
 {
@@ -171,7 +171,7 @@ fn or_bad_body(read: Option<Request>) -> Result<Request, Direct>
     }
 }
 
-/// What a body asks in a form.
+// What a body asks in a form.
 pub(crate) fn asked_in(alloc: Global, form: &Form, body: &Value) -> Result<Request, Direct>
     ensures { Gives (asked_in form.now (view body.now)) result }
 {
@@ -179,6 +179,6 @@ pub(crate) fn asked_in(alloc: Global, form: &Form, body: &Value) -> Result<Reque
         Form::Lines => lines_of(alloc, body),
         Form::PutUser => user_of(alloc, body),
         Form::ChangeUser { name } => change_of(alloc, name, body),
-        _ => or_bad_body(plain_request(form, body)),
+        _ => or_bad_body(request_of_form(form, body)),
     }
 }

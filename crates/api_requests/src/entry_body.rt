@@ -7,7 +7,7 @@ use crate::fields::{file_at, material_at, name_at, small_at};
 use octo_asks::Request;
 use serde_json::Value;
 
-/// An entry to be added: a priority of 0 to 100, and 1 to 100 copies.
+// An entry to be added: a priority of 0 to 100, and 1 to 100 copies.
 pub(crate) fn entry_of(body: &Value) -> Option<Request>
     ensures { result ≡ entry_asked (view body.now) }
 {

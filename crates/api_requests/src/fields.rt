@@ -10,14 +10,14 @@ use octo_access::read_name;
 use print_queue::any_material;
 use serde_json::Value;
 
-/// A text.
+// A text.
 pub(crate) fn text_at<'a>(body: &'a Value, key: &str) -> Option<&'a str>
     ensures { option_map (λ text. text.now) result ≡ text_at key.now (view body.now) }
 {
     body.get(key).and_then(Value::as_str)
 }
 
-/// Whether a field is this text.
+// Whether a field is this text.
 pub(crate) fn is_text_at(body: &Value, key: &str, text: &str) -> bool
     ensures { result ≡ is_text_at key.now text.now (view body.now) }
 {
@@ -39,7 +39,7 @@ fn as_whole_in(found: &Value, least: u64, most: u64) -> Option<u64>
     None
 }
 
-/// Degrees of 16 bits.
+// Degrees of 16 bits.
 pub(crate) fn degrees_at(body: &Value, key: &str) -> Option<u16>
     ensures { result ≡ whole_at key.now 0 65535 None (view body.now) }
 {
@@ -48,7 +48,7 @@ pub(crate) fn degrees_at(body: &Value, key: &str) -> Option<u16>
     Some(number as u16)
 }
 
-/// A number up to 100, with a default.
+// A number up to 100, with a default.
 pub(crate) fn small_at(body: &Value, key: &str, least: u8, default: u8) -> Option<u8>
     ensures { result ≡ whole_at key.now least 100 (Some default) (view body.now) }
 {
@@ -61,7 +61,7 @@ pub(crate) fn small_at(body: &Value, key: &str, least: u8, default: u8) -> Optio
     }
 }
 
-/// A truth value, with a default.
+// A truth value, with a default.
 pub(crate) fn flag_at(body: &Value, key: &str, default: bool) -> Option<bool>
     ensures { result ≡ flag_at key.now default (view body.now) }
 {
@@ -71,28 +71,28 @@ pub(crate) fn flag_at(body: &Value, key: &str, default: bool) -> Option<bool>
     }
 }
 
-/// A value as a name.
+// A value as a name.
 pub(crate) fn as_name(found: &Value) -> Option<Name>
     ensures { result ≡ as_name (view found.now) }
 {
     read_name(found.as_str()?)
 }
 
-/// A name.
+// A name.
 pub(crate) fn name_at(body: &Value, key: &str) -> Option<Name>
     ensures { result ≡ name_at key.now None (view body.now) }
 {
     as_name(body.get(key)?)
 }
 
-/// The name of a file.
+// The name of a file.
 pub(crate) fn file_at(body: &Value, key: &str) -> Option<Name>
     ensures { result ≡ file_at key.now (view body.now) }
 {
     read_file_name(body.get(key)?.as_str()?)
 }
 
-/// A material, `any` without the field.
+// A material, `any` without the field.
 pub(crate) fn material_at(body: &Value) -> Option<Name>
     ensures { result ≡ name_at (codes "material") (Some (codes "any")) (view body.now) }
 {
@@ -102,7 +102,7 @@ pub(crate) fn material_at(body: &Value) -> Option<Name>
     }
 }
 
-/// A value as a caller's key.
+// A value as a caller's key.
 pub(crate) fn as_key(found: &Value) -> Option<&str>
     ensures { option_map (λ text. text.now) result ≡ as_key (view found.now) }
 {

@@ -40,7 +40,7 @@ fn names_in(values: &[Value]) -> Option<GroupNames>
     Some(names)
 }
 
-/// Up to 8 groups.
+// Up to 8 groups.
 pub(crate) fn as_groups(found: &Value) -> Option<GroupNames>
     ensures { result ≡ as_groups (view found.now) }
 {
@@ -61,7 +61,7 @@ fn texts_in(alloc: Global, values: &[Value]) -> Result<BlobList, Direct>
     Ok(texts)
 }
 
-/// 1 to 256 texts.
+// 1 to 256 texts.
 pub(crate) fn as_lines(alloc: Global, found: &Value) -> Result<BlobList, Direct>
     ensures { Gives (as_list as_str 1 256 (view found.now)) result }
 {

@@ -18,7 +18,7 @@ use octo_outside::Blob;
 use serde_json::Value;
 use std::alloc::Global;
 
-/// The most bytes of a JSON body.
+// The most bytes of a JSON body.
 const MOST_JSON: usize = 1_048_576;
 
 // Whether a type is JSON, or none is given.
@@ -63,7 +63,7 @@ fn asked_body(alloc: Global, form: &Form, body: &[u8]) -> Result<Request, Direct
 }
 
 // What a message asks whose body isn't looked at.
-fn plain_request(message: &Message, request: Request) -> Result<Request, Direct>
+fn request_without_body(message: &Message, request: Request) -> Result<Request, Direct>
     ensures asks { Asks message.now (request_in (wanted.Nothing request) message.now) result }
     ensures same { IfOk result (λ asked. asked ≡ request) }
 {
@@ -117,7 +117,7 @@ fn request_in(alloc: Global, message: &Message, wanted: Wanted) -> Result<Reques
     ensures callers { WantsCallers wanted → IfOk result IsCallers }
 {
     match wanted {
-        Wanted::Nothing { request } => plain_request(message, request),
+        Wanted::Nothing { request } => request_without_body(message, request),
         Wanted::Json { form } => json_request(alloc, message, form),
         Wanted::Upload => upload_request(alloc, message),
     }

@@ -88,8 +88,8 @@ fn checked_name(name: &[u8]) -> Result<Name, Direct>
     }
 }
 
-/// The name that an uploaded file gets: what comes after the last `/` or `\`, with `_` for each byte that a name may not
-/// have and for a full stop in front.
+// The name that an uploaded file gets: what comes after the last `/` or `\`, with `_` for each byte that a name may not
+// have and for a full stop in front.
 #[tactic(auto, using(crate::proofs::Cleaned::stored_is_ascii))]
 pub(crate) fn stored_name(alloc: Global, filename: &[u8]) -> Result<Name, Direct>
     ensures { (result ≡ Err Direct.NoMemory) ⊎ (result ≡ checked_name (stored_name filename.now)) }

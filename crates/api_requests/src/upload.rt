@@ -43,7 +43,7 @@ fn refused_by(fault: PartFault) -> Direct
     }
 }
 
-/// What an upload asks. Source: OctoPrint's REST API, file operations; RFC 7578.
+// What an upload asks. Source: OctoPrint's REST API, file operations; RFC 7578.
 pub(crate) fn upload_of(alloc: Global, body: &[u8], kind: &[u8]) -> Result<Request, Direct>
     ensures asks { (result ≡ Err Direct.NoMemory)
         ⊎ ((parts : Result Parts PartFault) → FormReadsAs body.now kind.now parts

@@ -38,7 +38,7 @@ fn new_user(body: &Value) -> Option<NewUser<'_>>
     })
 }
 
-/// A user to be added.
+// A user to be added.
 pub(crate) fn user_of(alloc: Global, body: &Value) -> Result<Request, Direct>
     ensures { Gives (user_asked (view body.now)) result }
 {
@@ -122,6 +122,7 @@ fn user_change(body: &Value) -> Option<UserChange<'_>>
     })
 }
 
+// A copy of a key that may be missing.
 fn copied_key(alloc: Global, key: Option<&str>) -> Result<Option<Blob>, Direct>
     ensures ok { IfOk result (λ copy. copy ≡ option_map (λ text. text.now) key.entry) }
     ensures err { IfErr result (λ e. e ≡ Direct.NoMemory) }
@@ -132,7 +133,7 @@ fn copied_key(alloc: Global, key: Option<&str>) -> Result<Option<Blob>, Direct>
     }
 }
 
-/// A change of a user.
+// A change of a user.
 pub(crate) fn change_of(alloc: Global, name: &Name, body: &Value) -> Result<Request, Direct>
     ensures { Gives (change_asked name.now (view body.now)) result }
 {

@@ -6,12 +6,14 @@ ghost use Rattle.api_routes.specs.Ascii.{is_key, is_ascii_byte};
 
 use std::str;
 
-/// The fewest and the most bytes of a key.
+// The fewest bytes of a key.
 const FEWEST_KEY: usize = 16;
 
+// The most bytes of a key.
 const MOST_KEY: usize = 64;
 
-fn are_letters(bytes: &[u8]) -> bool
+// Whether all bytes are ASCII letters and digits.
+fn are_letters_or_digits(bytes: &[u8]) -> bool
     ensures { result ≡ list_all is_ascii_alphanumeric bytes.now }
 {
     bytes.iter().all(|byte| byte.is_ascii_alphanumeric())
@@ -21,9 +23,10 @@ fn are_letters(bytes: &[u8]) -> bool
 pub fn is_key(text: &str) -> bool
     ensures { result ≡ is_key text.now }
 {
-    text.len() >= FEWEST_KEY && text.len() <= MOST_KEY && are_letters(text.as_bytes())
+    text.len() >= FEWEST_KEY && text.len() <= MOST_KEY && are_letters_or_digits(text.as_bytes())
 }
 
+// Whether all bytes are ASCII.
 fn is_ascii(bytes: &[u8]) -> bool
     ensures { result ≡ list_all is_ascii_byte bytes.now }
 {

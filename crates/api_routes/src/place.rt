@@ -6,9 +6,9 @@ use crate::ascii::ascii_text;
 use matchit::Router;
 use std::alloc::{AllocError, Global};
 
-/// What a path means.
+// What a path means.
 #[derive(Clone, Copy, Debug, PartialEq, Eq)]
-pub enum Place {
+pub(crate) enum Place {
     Version,
     Connection,
     Printer,
@@ -30,8 +30,8 @@ pub enum Place {
     Shutdown,
 }
 
-/// Each path, with `{..}` for one of its parts. Source: OctoPrint's REST API; the paths for users, the queue and the prints
-/// are this project's own.
+// Each path, with `{..}` for one of its parts. Source: OctoPrint's REST API; the paths for users, the queue and the prints
+// are this project's own.
 #[tactic(auto, unfolding(crate::specs::Places::routes))]
 fn route_list() -> [(&'static str, Place); 19]
     ensures { map (λ route. (route.0.now, route.1)) result ≡ routes }
@@ -89,13 +89,13 @@ pub struct Routes {
 }
 
 impl Routes {
-    /// The table, unless memory runs out.
+    /// The table. Fails if out of memory.
     pub fn new(alloc: Global) -> Result<Routes, AllocError> {
         let router = router_of(alloc, &route_list())?;
         Ok(Routes { router })
     }
 
-    /// What a path means.
+    // What a path means.
     pub(crate) fn place_of(&self, path: &[u8]) -> Option<Place>
         ensures { result ≡ place_of path.now }
     {

@@ -12,6 +12,18 @@ use octo_access::read_name;
 use percent_encoding::percent_decode;
 use std::alloc::Global;
 
+// How long the part of a path in front of the name of a file is.
+const BEFORE_FILE: usize = "/api/files/local/".len();
+
+// The same of a download's file.
+const BEFORE_DOWNLOAD: usize = "/downloads/files/local/".len();
+
+// The same of a user.
+const BEFORE_USER: usize = "/api/access/users/".len();
+
+// The same of an entry of the queue.
+const BEFORE_ENTRY: usize = "/api/queue/".len();
+
 /// What a request is about.
 #[derive(Debug, Drop)]
 pub enum Target {
@@ -113,23 +125,23 @@ fn named_target(alloc: Global, place: Place, path: &[u8]) -> Result<Option<Targe
     ensures err { IfErr result (λ e. e ≡ Direct.NoMemory) }
 {
     match place {
-        Place::File => match file_name_of_part(alloc, after(path, 17))? {
+        Place::File => match file_name_of_part(alloc, after(path, BEFORE_FILE))? {
             Some(name) => Ok(Some(Target::File { name })),
             None => Ok(None),
         },
-        Place::Download => match file_name_of_part(alloc, after(path, 23))? {
+        Place::Download => match file_name_of_part(alloc, after(path, BEFORE_DOWNLOAD))? {
             Some(name) => Ok(Some(Target::Download { name })),
             None => Ok(None),
         },
-        Place::User => match name_of_part(alloc, after(path, 18))? {
+        Place::User => match name_of_part(alloc, after(path, BEFORE_USER))? {
             Some(name) => Ok(Some(Target::User { name })),
             None => Ok(None),
         },
-        Place::Entry => match name_of_part(alloc, after(path, 11))? {
+        Place::Entry => match name_of_part(alloc, after(path, BEFORE_ENTRY))? {
             Some(name) => Ok(Some(Target::Entry { name })),
             None => Ok(None),
         },
-        Place::OthersEntry => others_entry(alloc, after(path, 11)),
+        Place::OthersEntry => others_entry(alloc, after(path, BEFORE_ENTRY)),
         _ => unreachable!(),
     }
 }
@@ -158,7 +170,7 @@ fn target_at(alloc: Global, place: Place, path: &[u8]) -> Result<Option<Target>,
     }
 }
 
-/// What a path is about, `None` if it is no path of the interface. Source: OctoPrint's REST API.
+/// What a path is about, `None` if it is no path of the interface. Fails as `NoMemory` alone. Source: OctoPrint's REST API.
 pub fn target_of(alloc: Global, routes: &Routes, path: &[u8]) -> Result<Option<Target>, Direct>
     ensures ok { IfOk result (λ target. target ≡ target_of path.now) }
     ensures err { IfErr result (λ e. e ≡ Direct.NoMemory) }

@@ -6,9 +6,9 @@ use crate::target::Target;
 use byte_text::Name;
 use octo_asks::Request;
 
-/// A method of the interface.
+// A method of the interface.
 #[derive(Clone, Copy, Debug, PartialEq, Eq)]
-pub enum Verb {
+pub(crate) enum Verb {
     Get,
     Post,
     Put,

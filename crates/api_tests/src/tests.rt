@@ -10,7 +10,7 @@ mod worker;
 use octo_outside::{CallList, MemoryConn};
 use std::alloc::{AllocError, Global};
 
-/// A connection of this input, none of whose calls fails or finds nothing.
+// A connection of this input, none of whose calls fails or finds nothing.
 fn conn_of(alloc: Global, input: &[u8]) -> Result<MemoryConn, AllocError>
     ensures { IfOk result IsUntouched }
 {

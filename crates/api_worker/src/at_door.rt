@@ -15,16 +15,16 @@ use octo_outside::{Blob, Failed};
 use std::alloc::Global;
 use std::sync::Wait;
 
-/// What one look at the door came to.
+// What one look at the door came to.
 #[derive(Clone, Copy, Debug, PartialEq, Eq)]
-pub enum Visit {
-    /// The worker goes on.
+pub(crate) enum Visit {
+    // The worker goes on.
     Open,
-    /// The host has ended.
+    // The host has ended.
     Closed,
-    /// No connection will come any more.
+    // No connection will come any more.
     Ended,
-    /// The door failed.
+    // The door failed.
     Failed,
 }
 

@@ -15,11 +15,11 @@ use octo_asks::{Answer, Ask, Asker, Closed};
 use octo_http::{HttpReply, Message};
 use std::alloc::{AllocError, Global};
 
-/// A reply that is to be written.
+// A reply that is to be written.
 #[derive(Drop)]
-pub struct Replied {
+pub(crate) struct Replied {
     pub reply: HttpReply,
-    /// Whether the host hasn't ended.
+    // Whether the host hasn't ended.
     pub is_open: bool,
 }
 
@@ -65,7 +65,7 @@ fn reply_to_ask<A: Asker>(alloc: Global, asker: &mut A, ask: Ask) -> Replied
     }
 }
 
-/// Asks what a message says, if it says a request, and returns the reply.
+// Asks what a message says, if it says a request, and returns the reply.
 pub(crate) fn reply_to_message<A: Asker>(
     alloc: Global,
     routes: Option<&Routes>,

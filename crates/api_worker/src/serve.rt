@@ -13,8 +13,8 @@ use octo_http::{HttpReply, read_message, write_reply};
 use octo_outside::{Conn, Failed};
 use std::alloc::Global;
 
-// Writes a reply. A failure is the connection's, which counts it; nobody is left who could be answered.
-fn write_or_leave<C: Conn>(conn: &mut C, reply: &HttpReply)
+// Writes a reply, and ignores a failure: the connection counts it, and nobody is left who could be answered.
+fn write_reply_or_ignore<C: Conn>(conn: &mut C, reply: &HttpReply)
     ensures written { Sends (C.written conn.old) (C.written conn.new)
         (C.faults conn.old) (C.faults conn.new) (reply_bytes reply.now) }
     ensures left { C.left conn.new ≡ C.left conn.old }
@@ -35,7 +35,7 @@ fn refuse<C: Conn>(alloc: Global, conn: &mut C, fault: &MessageFault)
     ensures counted { C.faults conn.old ≤ C.faults conn.new }
 {
     match fault_bytes(alloc, fault) {
-        Some(reply) => write_or_leave(conn, &reply),
+        Some(reply) => write_reply_or_ignore(conn, &reply),
         None => {}
     }
 }
@@ -66,7 +66,7 @@ pub fn serve_conn<C: Conn, A: Asker>(
     match read_message(alloc, conn, patience) {
         Ok(message) => {
             let replied = reply_to_message(alloc, routes, asker, message);
-            write_or_leave(conn, &replied.reply);
+            write_reply_or_ignore(conn, &replied.reply);
             replied.is_open
         }
         Err(fault) => {

@@ -13,7 +13,7 @@ use Rattle.hand_over.specs.declared.board.Stage.{Stage}
 use Rattle.hand_over.specs.declared.board.Stage.TheVariants.{Resting, Waiting, Found, Withdrawn}
 use Rattle.hand_over.specs.declared.board.WorkerView.{WorkerView}
 use Rattle.hand_over.specs.declared.board.View.TheVariants.{Worker}
-use Rattle.hand_over.specs.declared.waiting.Look.TheVariants as look
+use Rattle.hand_over.specs.declared.waiting.AskState.TheVariants as ask_state
 use Rattle.hand_over.specs.Views.{worker_of}
 use Rattle.hand_over.specs.Steps.{Sitter, Taken, at_stage, at_rest, found_call, letter_in, answer_in}
 use Rattle.hand_over.specs.Ends.{HasFound, IsWorker, IsResting, IsWaiting, with_call, AfterLook, AfterAsk}
@@ -105,7 +105,7 @@ takes me mid new n letter result found hand is between idle ask moment answer st
 pub looked_answered : (old mid new : Sitter) (ask : Ask) (moment : ℕ) (answer result : Answer)
     → mid ≡ (at_stage old.0 (Found ask moment answer), ((worker_of old.0).number, Some (Answered moment answer)) ∷ [])
     → ((a : Ask) (m : ℕ) (r : Answer) → (worker_of mid.0).stage ≡ Found a m r → (result ≡ r) × (new ≡ (Worker (with_call (worker_of mid.0) a m r), [])))
-    → AfterLook ask old (look.Answered result) new
+    → AfterLook ask old (ask_state.Answered result) new
 looked_answered old mid new ask moment answer result e taken = let t = taken ask moment answer (ap (λ (m : Sitter). (worker_of m.0).stage) e) in
     let same : answer ≡ result = sym t.0 in
     (moment, t.1 ∙ (λ i. (Worker (with_call (worker_of (e i).0) ask moment (same i)), [])))
@@ -113,7 +113,7 @@ looked_answered old mid new ask moment answer result e taken = let t = taken ask
 -- a look that withdrew the ask
 pub looked_withdrawn : (old mid new : Sitter) (ask : Ask) → (worker_of old.0).saw_close ≡ true → mid ≡ (at_stage old.0 (Withdrawn ask), [])
     → new ≡ (Worker (at_rest (worker_of mid.0)), [])
-    → AfterLook ask old look.Withdrawn new
+    → AfterLook ask old ask_state.Withdrawn new
 looked_withdrawn old mid new ask saw e idle = (
   saw,
   idle ∙ (ap (λ (m : Sitter). (Worker (at_rest (worker_of m.0)), [])) e
@@ -140,21 +140,21 @@ module _ (first me new : Sitter) (n : ℕ) (before saw : Bool) (ask : Ask) (is :
       (worker_of first.0) { saw_close = saw }),
   [],
 )) where
-  pub rests_answered : (answer : Answer) → AfterLook ask me (look.Answered answer) new → IsResting n saw new
+  pub rests_answered : (answer : Answer) → AfterLook ask me (ask_state.Answered answer) new → IsResting n saw new
   rests_answered answer p = sits new (with_call (worker_of me.0) ask p.0 answer) [] n Resting saw p.1
       (ap (λ (m : Sitter). (worker_of m.0).number) e ∙ ap (λ (m : Sitter). (worker_of m.0).number) is) refl (ap (λ (m : Sitter). (worker_of m.0).saw_close) e)
 
-  pub rests_withdrawn : AfterLook ask me look.Withdrawn new → IsResting n saw new
+  pub rests_withdrawn : AfterLook ask me ask_state.Withdrawn new → IsResting n saw new
   rests_withdrawn p = sits new (record (worker_of me.0) { stage = Resting }) [] n Resting saw p.1
       (ap (λ (m : Sitter). (worker_of m.0).number) e ∙ ap (λ (m : Sitter). (worker_of m.0).number) is) refl (ap (λ (m : Sitter). (worker_of m.0).saw_close) e)
 
-  pub asked_answered : (answer : Answer) → AfterLook ask me (look.Answered answer) new → AfterAsk ask (worker_of first.0) (Ok answer) (worker_of new.0)
+  pub asked_answered : (answer : Answer) → AfterLook ask me (ask_state.Answered answer) new → AfterAsk ask (worker_of first.0) (Ok answer) (worker_of new.0)
   asked_answered answer p = let w : worker_of new.0 ≡ with_call (record (worker_of first.0) { saw_close = saw }) ask p.0 answer =
       ap (λ (m : Sitter). worker_of m.0) p.1 ∙ ap (λ (m : Sitter). with_call (worker_of m.0) ask p.0 answer) e in
       let same : saw ≡ (worker_of new.0).saw_close = sym (ap (λ (z : WorkerView). z.saw_close) w) in
       (p.0, w ∙ (λ i. record (with_call (worker_of first.0) ask p.0 answer) { saw_close = same i }))
 
-  pub asked_withdrawn : (closed : Closed) → AfterLook ask me look.Withdrawn new → AfterAsk ask (worker_of first.0) (Err closed) (worker_of new.0)
+  pub asked_withdrawn : (closed : Closed) → AfterLook ask me ask_state.Withdrawn new → AfterAsk ask (worker_of first.0) (Err closed) (worker_of new.0)
   asked_withdrawn closed p = let ended : saw ≡ true = sym (ap (λ (m : Sitter). (worker_of m.0).saw_close) e) ∙ p.0 in
       ap (λ (m : Sitter). worker_of m.0) p.1 ∙ (ap (λ (m : Sitter). record (worker_of m.0) { stage = Resting }) e
       ∙ (λ i. record (worker_of first.0) { stage = Resting; saw_close = ended i }))

@@ -16,8 +16,8 @@ use Rattle.hand_over.specs.declared.board.Stage.TheVariants.{Resting, Waiting, F
 use Rattle.hand_over.specs.declared.board.WorkerView.{WorkerView}
 use Rattle.hand_over.specs.declared.board.HouseView.{HouseView}
 use Rattle.hand_over.specs.declared.board.View.TheVariants.{House, Worker}
-use Rattle.hand_over.specs.declared.waiting.Look.{Look}
-use Rattle.hand_over.specs.declared.waiting.Look.TheVariants as look
+use Rattle.hand_over.specs.declared.waiting.AskState.{AskState}
+use Rattle.hand_over.specs.declared.waiting.AskState.TheVariants as ask_state
 use Rattle.hand_over.specs.Views.{new_worker, new_house, worker_of, house_of}
 use Rattle.hand_over.specs.Steps.{Sitter, Taken, at_stage, with_look, ask_from}
 
@@ -108,10 +108,10 @@ AfterTake old result new = (ask : Ask) (moment : ℕ) (answer : Answer) → (wor
     → (result ≡ answer) × (new ≡ (Worker (with_call (worker_of old.0) ask moment answer), []))
 
 -- what a look for an answer leaves
-abbrev pub AfterLook : Ask → Sitter → Look → Sitter → Type 0
-AfterLook ask old (look.Answered answer) new = (moment : ℕ) × (new ≡ (Worker (with_call (worker_of old.0) ask moment answer), []))
-AfterLook ask old look.Withdrawn new = ((worker_of old.0).saw_close ≡ true) × (new ≡ (at_stage old.0 Resting, []))
-AfterLook ask old look.Nothing new = new ≡ old
+abbrev pub AfterLook : Ask → Sitter → AskState → Sitter → Type 0
+AfterLook ask old (ask_state.Answered answer) new = (moment : ℕ) × (new ≡ (Worker (with_call (worker_of old.0) ask moment answer), []))
+AfterLook ask old ask_state.Withdrawn new = ((worker_of old.0).saw_close ≡ true) × (new ≡ (at_stage old.0 Resting, []))
+AfterLook ask old ask_state.Nothing new = new ≡ old
 
 -- what an ask leaves: one finished call more, or the same calls
 abbrev pub AfterAsk : Ask → WorkerView → Result Answer Closed → WorkerView → Type 0

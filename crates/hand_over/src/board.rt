@@ -1,6 +1,5 @@
 //! The table that the four workers and the house share.
-//! Word 0 is the note word: 0 while the host runs, 1 once it has ended. Word w + 1 is the word of worker w: 0 idle, 1 asked,
-//! 2 answered. Slot w is worker w's.
+//! The note word says whether the host runs. Word w + 1 is the word of worker w, and slot w is its slot.
 ghost use Rattle.std.specs.Prelude.{◌≡◌, ◌∷◌, Option, Some};
 ghost use Rattle.atomic_table.specs.Table.{rest};
 ghost use Rattle.hand_over.specs.declared.board.Letter.{Letter};
@@ -9,6 +8,30 @@ use atomic_table::{Seat, Shared, Table, TableRule};
 use desk_steps::Note;
 use octo_asks::{Answer, Ask, Entry, Given};
 use std::alloc::Global;
+
+// How many workers there are. They are numbered from 0.
+pub(crate) const WORKERS: u8 = 4;
+
+// How many slots there are, one for each worker.
+pub(crate) const SLOTS: usize = WORKERS as usize;
+
+// The word that says whether the host runs.
+pub(crate) const NOTE_WORD: usize = 0;
+
+// The note word while the host runs.
+pub(crate) const RUNS: u64 = 0;
+
+// The note word once the host has ended.
+pub(crate) const ENDED: u64 = 1;
+
+// The word of a worker that has no ask open.
+pub(crate) const IDLE: u64 = 0;
+
+// The word of a worker whose ask is in its slot, or with the house.
+pub(crate) const ASKED: u64 = 1;
+
+// The word of a worker whose answer is in its slot.
+pub(crate) const ANSWERED: u64 = 2;
 
 /// What a slot holds, and what the house says of a turn.
 #[derive(Drop)]
@@ -76,13 +99,16 @@ impl TableRule<Option<Letter>, View, ()> for HandOver {
     ghost first = { λ _. House new_house };
 }
 
+// The table, which one of its ends keeps alive.
 pub(crate) type Board = Table<Option<Letter>, View, (), HandOver, Global>;
 
+// The words and slots of a table.
 pub(crate) type Words = Shared<Option<Letter>, View, (), HandOver>;
 
+// A place at a table: what its end knows, and the slots that it has taken.
 pub(crate) type Place = Seat<Option<Letter>, View>;
 
-/// Writes a letter into the slot that the seat took last.
+// Writes a letter into the slot that the seat took last.
 pub(crate) fn write_letter(words: &Words, seat: &mut Place, slot: usize, letter: Letter)
     requires table { seat.old.table_id ≡ words.now.table_id }
     requires taken { (held : Option Letter)

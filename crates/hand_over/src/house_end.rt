@@ -3,8 +3,10 @@ ghost use Rattle.std.specs.Prelude.{◌≡◌, ◌<◌, false, Some, None, IsSom
 ghost use Rattle.hand_over.specs.Steps.{ask_in};
 ghost use Rattle.hand_over.specs.Ends.{AfterHouseLook};
 
-use crate::board::{Board, Letter, Place, write_letter};
-use crate::plays::{Look, PutAnswer, PutClose, PutNote};
+use crate::board::{
+    ANSWERED, ASKED, Board, ENDED, Letter, NOTE_WORD, Place, RUNS, WORKERS, write_letter,
+};
+use crate::plays::{LookForAsk, PutAnswer, PutClose, PutNote};
 use desk_steps::Note;
 use octo_asks::{Answer, Ask, Counter, Next};
 use std::marker::Model;
@@ -59,7 +61,7 @@ impl HouseEnd {
         ensures rest { self.new ≡ record self.old { view = self.new.view } }
     {
         let words = &self.table.shared;
-        if words.load::<Look>(&mut self.seat, worker as usize + 1) != 1 {
+        if words.load::<LookForAsk>(&mut self.seat, worker as usize + 1) != ASKED {
             return None;
         }
         let letter = words.exchange(&mut self.seat, worker as usize, None);
@@ -96,10 +98,10 @@ impl Counter for HouseEnd {
         ensures looks { AfterNext self.old result self.new }
     {
         let first = self.first;
-        for step in 0..4 {
-            let worker = (first + step) % 4;
+        for step in 0..WORKERS {
+            let worker = (first + step) % WORKERS;
             if let Some(ask) = self.look(worker) {
-                self.first = (worker + 1) % 4;
+                self.first = (worker + 1) % WORKERS;
                 return Next::Asked { worker, ask };
             }
         }
@@ -124,7 +126,7 @@ impl Counter for HouseEnd {
         let words = &self.table.shared;
         let letter = Letter::Answered(moment, answer);
         write_letter(words, &mut self.seat, worker as usize, letter);
-        words.store::<PutAnswer>(&mut self.seat, worker as usize + 1, 2);
+        words.store::<PutAnswer>(&mut self.seat, worker as usize + 1, ANSWERED);
     }
 
     fn note(&mut self, note: Note)
@@ -142,7 +144,7 @@ impl Counter for HouseEnd {
     {
         let words = &self.table.shared;
         let noted = Some(Letter::Noted(note));
-        words.compare_exchange_with::<PutNote>(&mut self.seat, 0, 0, 0, &noted);
+        words.compare_exchange_with::<PutNote>(&mut self.seat, NOTE_WORD, RUNS, RUNS, &noted);
     }
 
     fn close(&mut self)
@@ -159,6 +161,8 @@ impl Counter for HouseEnd {
           view = record self.old.view { history = self.new.view.history; closed = true };
         } }
     {
-        self.table.shared.store::<PutClose>(&mut self.seat, 0, 1);
+        self.table
+            .shared
+            .store::<PutClose>(&mut self.seat, NOTE_WORD, ENDED);
     }
 }

@@ -5,7 +5,7 @@ ghost use Rattle.hand_over.specs.declared.board.View.TheVariants.{House};
 ghost use Rattle.hand_over.specs.Views.{house_of, has_close, all_of_four, AreCalls};
 ghost use Rattle.hand_over.specs.Ends.{IsSized, seat_at, worker_place};
 
-use crate::board::{Board, Place, Words};
+use crate::board::{Board, NOTE_WORD, Place, Words};
 use crate::house_end::HouseEnd;
 use crate::plays::{Learn, TakeBack};
 use crate::worker_end::WorkerEnd;
@@ -84,7 +84,7 @@ impl HouseEnd {
         join(&table.shared, &mut seat, b);
         join(&table.shared, &mut seat, c);
         join(&table.shared, &mut seat, d);
-        table.shared.load::<Learn>(&mut seat, 0);
+        table.shared.load::<Learn>(&mut seat, NOTE_WORD);
         History { table, seat }
     }
 }

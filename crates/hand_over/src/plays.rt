@@ -41,9 +41,9 @@ impl Play<Option<Letter>, View> for LookForClose {
 }
 
 // The house looks at a worker's word.
-pub(crate) struct Look;
+pub(crate) struct LookForAsk;
 
-impl Play<Option<Letter>, View> for Look {
+impl Play<Option<Letter>, View> for LookForAsk {
     ghost then = { worker_looked_at };
 }
 

@@ -7,7 +7,7 @@ ghost use Rattle.hand_over.specs.Views.{worker_of};
 ghost use Rattle.hand_over.specs.Steps.{at_stage, answer_in};
 ghost use Rattle.hand_over.specs.Ends.{IsSized, SitsAt, HasFound, IsWorker, IsResting, IsWaiting, AfterTake, AfterLook, AfterAsk};
 
-use crate::board::{Letter, Place, Words, write_letter};
+use crate::board::{ANSWERED, ASKED, ENDED, IDLE, Letter, NOTE_WORD, Place, Words, write_letter};
 use crate::plays::{LookForAnswer, LookForClose, PutAsk, PutIdle, TakeSlot};
 use octo_asks::{Answer, Ask, Closed};
 use std::sync::Wait;
@@ -15,7 +15,7 @@ use std::thread;
 
 /// What a worker finds while its ask is open.
 #[derive(Drop)]
-pub enum Look {
+pub enum AskState {
     /// The answer.
     Answered(Answer),
     /// The host has ended and never took the ask, which is withdrawn.
@@ -33,7 +33,7 @@ pub(crate) fn put_ask(words: &Words, seat: &mut Place, number: usize, ask: Ask)
 {
     words.load::<TakeSlot>(seat, number + 1);
     write_letter(words, seat, number, Letter::Asked(ask));
-    words.store::<PutAsk>(seat, number + 1, 1);
+    words.store::<PutAsk>(seat, number + 1, ASKED);
 }
 
 // The answer in a letter that is one.
@@ -55,26 +55,26 @@ fn take_answer(words: &Words, seat: &mut Place, number: usize) -> Answer
     ensures taken { AfterTake seat.old.me result seat.new.me }
 {
     let letter = words.exchange(seat, number, None);
-    words.store::<PutIdle>(seat, number + 1, 0);
+    words.store::<PutIdle>(seat, number + 1, IDLE);
     answer_in(letter)
 }
 
 // Looks whether the ask is answered; once the end was seen, an ask that wasn't taken is withdrawn.
-fn look_for_answer(words: &Words, seat: &mut Place, number: usize, saw_close: bool) -> Look
+fn look_for_answer(words: &Words, seat: &mut Place, number: usize, saw_close: bool) -> AskState
     requires table { SitsAt seat.old.table_id words.now.table_id number }
     requires waiting { (ask : Ask) × IsWaiting number saw_close ask seat.old.me }
     ensures table { seat.new.table_id ≡ seat.old.table_id }
     ensures look { (ask : Ask) → (worker_of seat.old.me.0).stage ≡ Waiting ask
         → AfterLook ask seat.old.me result seat.new.me }
 {
-    if words.load::<LookForAnswer>(seat, number + 1) == 2 {
-        return Look::Answered(take_answer(words, seat, number));
+    if words.load::<LookForAnswer>(seat, number + 1) == ANSWERED {
+        return AskState::Answered(take_answer(words, seat, number));
     }
     if saw_close {
-        words.store::<PutIdle>(seat, number + 1, 0);
-        return Look::Withdrawn;
+        words.store::<PutIdle>(seat, number + 1, IDLE);
+        return AskState::Withdrawn;
     }
-    Look::Nothing
+    AskState::Nothing
 }
 
 // Looks whether the host has ended; what was seen stays.
@@ -87,7 +87,7 @@ pub(crate) fn look_for_close(words: &Words, seat: &mut Place, saw_close: bool) -
         ≡ (Worker (record (worker_of seat.old.me.0) { saw_close = result }), []) }
     ensures stays { saw_close ≡ true → result ≡ true }
 {
-    if words.load::<LookForClose>(seat, 0) == 1 {
+    if words.load::<LookForClose>(seat, NOTE_WORD) == ENDED {
         return true;
     }
     saw_close
@@ -111,9 +111,9 @@ pub(crate) fn wait_for_answer<R: Wait>(
 {
     for _ in rt.forever() {
         match look_for_answer(words, seat, number, *saw_close) {
-            Look::Answered(answer) => return Ok(answer),
-            Look::Withdrawn => return Err(Closed),
-            Look::Nothing => {}
+            AskState::Answered(answer) => return Ok(answer),
+            AskState::Withdrawn => return Err(Closed),
+            AskState::Nothing => {}
         }
         *saw_close = look_for_close(words, seat, *saw_close);
         thread::yield_now();

@@ -33,20 +33,6 @@ impl<R> Model for WorkerEnd<R> {
         × IsSized e.seat.table_id × (e.number < 4) × IsResting e.number e.saw_close e.seat.me };
 }
 
-impl<R> WorkerEnd<R> {
-    /// Whether the host has ended. It never waits.
-    pub fn closed(&mut self) -> bool
-        ensures closed { result ≡ self.new.view.saw_close }
-        ensures seen { self.old.view.saw_close ≡ true → result ≡ true }
-        ensures rest { self.new ≡ record self.old {
-          view = record self.old.view { saw_close = result };
-        } }
-    {
-        self.saw_close = look_for_close(&self.table.shared, &mut self.seat, self.saw_close);
-        self.saw_close
-    }
-}
-
 impl<R: Wait> Asker for WorkerEnd<R> {
     ghost use Rattle.std.specs.Prelude.{◌≡◌, Bool, true, Some, IfOk, OnErr};
     ghost use Rattle.octo_asks.specs.History.{History, Finishes};

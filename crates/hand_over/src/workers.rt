@@ -5,7 +5,7 @@ ghost use Rattle.hand_over.specs.declared.board.View.TheVariants.{House};
 ghost use Rattle.hand_over.specs.Views.{new_house};
 ghost use Rattle.hand_over.specs.Ends.{new_worker_end, new_house_end, IsSized};
 
-use crate::board::{Board, Place};
+use crate::board::{Board, IDLE, Place, RUNS, SLOTS};
 use crate::house_end::HouseEnd;
 use crate::plays::MakeSeat;
 use crate::worker_end::WorkerEnd;
@@ -48,7 +48,7 @@ fn worker_end<R: Wait + Clone + Drop>(
     })
 }
 
-/// A house end and four worker ends on one table.
+/// A house end and four worker ends on one table. Fails if out of memory.
 /// Each worker end keeps a copy of the runtime, since its `ask` waits.
 pub fn ends<R: Wait + Clone + Drop>(
     rt: &R,
@@ -60,7 +60,7 @@ pub fn ends<R: Wait + Clone + Drop>(
     ensures c { IfOk result (λ made. made.1.c ≡ new_worker_end made.0.table 2) }
     ensures d { IfOk result (λ made. made.1.d ≡ new_worker_end made.0.table 3) }
 {
-    let (table, mut seat) = Table::vacant(alloc, &[0u64, 0, 0, 0, 0], 4, &())?;
+    let (table, mut seat) = Table::vacant(alloc, &[RUNS, IDLE, IDLE, IDLE, IDLE], SLOTS, &())?;
     let table = Arc::new(alloc, table)?;
     let workers = Workers {
         a: worker_end(rt, &table, &mut seat, 0)?,

@@ -18,30 +18,21 @@ use octo_keeper::{Keeper, Shelf};
 fn is_leave(request: &Request) -> bool
     ensures { result ≡ is_leave request.now }
 {
-    match request {
-        Request::Leave => true,
-        _ => false,
-    }
+    matches!(request, Request::Leave)
 }
 
-// Whether it is a shutdown.
-fn may_shut(request: &Request) -> bool
+// Whether it asks for a shutdown.
+fn is_shutdown_request(request: &Request) -> bool
     ensures { (x : Answer) → is_shutdown request.now x ≡ (result && is_shutdown Shutdown x) }
 {
-    match request {
-        Request::Shutdown => true,
-        _ => false,
-    }
+    matches!(request, Request::Shutdown)
 }
 
 // Whether a shutdown with this answer was accepted.
 fn is_accepted(answer: &Answer) -> bool
     ensures { result ≡ is_shutdown Shutdown answer.now }
 {
-    match answer {
-        Answer::Accepted => true,
-        _ => false,
-    }
+    matches!(answer, Answer::Accepted)
 }
 
 // An ask that was a leave or a shutdown, or neither.
@@ -54,7 +45,7 @@ fn asked_as(leaves: bool, shuts: bool, accepted: bool) -> Asked
     }
 }
 
-/// Answers the next ask, if there is one, at a moment in milliseconds that isn't before the last entry.
+// Answers the next ask, if there is one, at a moment in milliseconds that isn't before the last entry.
 pub(crate) fn answer_next<C: Counter, K: Keeper, S: Shelf>(
     house: &mut House,
     counter: &mut C,
@@ -115,7 +106,7 @@ fn answer_ask<C: Counter, K: Keeper, S: Shelf>(
     ensures place { C.place counter.new ≡ C.place counter.old }
 {
     let leaves = is_leave(&ask.request);
-    let shuts = may_shut(&ask.request);
+    let shuts = is_shutdown_request(&ask.request);
     let answer = house.ask(keeper, shelf, ask, moment);
     let accepted = is_accepted(&answer);
     counter.answer(worker, moment, answer);

@@ -22,7 +22,7 @@ use octo_outside::Clock;
 use printer_link::Link;
 use std::sync::Wait;
 
-/// How many workers ask at a counter.
+// How many workers ask at a counter.
 const WORKERS: u64 = 4;
 
 /// Answers asks and takes turns of the link in alternation, until a shutdown was accepted, or four workers have left and no

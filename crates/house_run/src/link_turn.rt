@@ -20,8 +20,8 @@ use octo_house::House;
 use octo_keeper::Keeper;
 use printer_link::Link;
 
-/// One turn of the link at a moment in milliseconds that isn't before the last entry. Its note is entered; so is a change of
-/// the desk's state that makes no note. Returns whether a line was received.
+// One turn of the link at a moment in milliseconds that isn't before the last entry. Its note is entered; so is a change of
+// the desk's state that makes no note. Returns whether a line was received.
 pub(crate) fn take_turn<C: Counter, L: Link, K: Keeper>(
     house: &mut House,
     counter: &mut C,
@@ -111,7 +111,7 @@ fn note_change<C: Counter>(house: &House, counter: &mut C, was: State, moment: u
     counter.note(quiet_note(house, moment));
 }
 
-// Whether two states are the same.
+// Whether two states are the same: what `==` says of them, as clauses.
 fn same(now: State, was: State) -> bool
     ensures same { result ≡ true → now ≡ was }
     ensures other { result ≡ false → now ≡ was → ⊥ }

@@ -2,26 +2,26 @@
 ghost use Rattle.std.specs.Prelude.{◌≡◌};
 ghost use Rattle.house_run.specs.Tallies.{no_tally, tally_after};
 
-/// What an answered ask was.
+// What an answered ask was.
 #[derive(Clone, Copy, Debug, PartialEq, Eq)]
 pub(crate) struct Asked {
-    /// Whether a worker left with it.
+    // Whether a worker left with it.
     pub is_leave: bool,
-    /// Whether it was a shutdown that was accepted.
+    // Whether it was a shutdown that was accepted.
     pub is_shutdown: bool,
 }
 
-/// The numbers of a history, and whether a shutdown was accepted in it.
+// The numbers of a history, and whether a shutdown was accepted in it.
 #[derive(Clone, Copy, Debug, PartialEq, Eq)]
 pub(crate) struct Tally {
-    /// Calls other than those with which a worker leaves.
+    // Calls other than those with which a worker leaves.
     pub calls: u64,
-    /// Those with which a worker leaves.
+    // Those with which a worker leaves.
     pub leaves: u64,
     pub is_shut: bool,
 }
 
-/// The tally of an empty history.
+// The tally of an empty history.
 pub(crate) fn no_tally() -> Tally
     ensures { result ≡ no_tally }
 {
@@ -32,7 +32,7 @@ pub(crate) fn no_tally() -> Tally
     }
 }
 
-/// The tally after an answered ask, or after none. The numbers stay at their type's greatest value.
+// The tally after an answered ask, or after none. The numbers stay at their type's greatest value.
 pub(crate) fn tally_after(asked: Option<Asked>, tally: Tally) -> Tally
     ensures { result ≡ tally_after asked tally }
 {

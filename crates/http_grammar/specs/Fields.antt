@@ -49,6 +49,6 @@ kind_of fields = first_of (values (codes "Content-Type") fields)
 abbrev pub is_encoded : FieldList → Bool
 is_encoded fields = one_is_not (codes "identity") (values (codes "Content-Encoding") fields)
 
--- whether the client waits for leave to send the body
-abbrev pub expects_leave : FieldList → Bool
-expects_leave fields = one_is (codes "100-continue") (values (codes "Expect") fields)
+-- whether the client waits for `100 Continue` before it sends the body
+abbrev pub expects_continue : FieldList → Bool
+expects_continue fields = one_is (codes "100-continue") (values (codes "Expect") fields)

@@ -3,7 +3,7 @@ use Rattle.std.specs.Prelude.{◌≡◌, ℕ, ◌<◌, ◌≤◌, ◌⊎◌, Boo
 use Rattle.std.specs.List.{take_while}
 use Rattle.httparse.specs.Grammar.{RequestHead, ReadsRequest, HasNoRequest, NeverHasRequest, MayBecomeRequest}
 use Rattle.httparse.specs.Spans.{name_and_value, RequestExceeds}
-use Rattle.http_grammar.specs.Fields.{FieldList, key_of, kind_of, is_encoded, expects_leave}
+use Rattle.http_grammar.specs.Fields.{FieldList, key_of, kind_of, is_encoded, expects_continue}
 use Rattle.http_grammar.specs.Framing.{framing_of}
 use Rattle.http_grammar.specs.declared.fault.MessageFault.{MessageFault}
 use Rattle.http_grammar.specs.declared.fault.MessageFault.TheVariants.{BadHead, HeadTooLarge, BodyTooLarge, BadChunk, Ended, ReadFault, NoMemory, Slow}
@@ -27,7 +27,7 @@ head_with method target fields framing = record {
   key = key_of fields;
   kind = kind_of fields;
   encoded = is_encoded fields;
-  expects = expects_leave fields;
+  expects = expects_continue fields;
   framing = framing;
 }
 

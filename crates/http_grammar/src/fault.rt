@@ -6,28 +6,28 @@ use thiserror::Error;
 #[derive(Clone, Copy, Debug, PartialEq, Eq, Error)]
 pub enum MessageFault {
     /// The head can't become one, or what it says of the body contradicts itself.
-    #[error("bad head")]
+    #[error("message: bad head")]
     BadHead,
     /// The head has over 16,384 bytes or over 64 fields.
-    #[error("head too large")]
+    #[error("message: head too large")]
     HeadTooLarge,
     /// The body has over 68,157,440 bytes.
-    #[error("body too large")]
+    #[error("message: body too large")]
     BodyTooLarge,
     /// A chunk, or the trailers after the last one, are malformed or too long.
-    #[error("bad chunk")]
+    #[error("message: bad chunk")]
     BadChunk,
     /// The input ended inside a message.
-    #[error("the input ended")]
+    #[error("message: the input ended")]
     Ended,
     /// A call of the connection failed; its count of faults rose.
-    #[error("the connection failed")]
+    #[error("message: the connection failed")]
     ReadFault,
     /// Memory ran out.
-    #[error("no memory")]
+    #[error("out of memory")]
     NoMemory,
     /// Nothing came for this number of reads.
-    #[error("nothing came for {quiet} reads")]
+    #[error("message: nothing came for {quiet} reads")]
     Slow { quiet: u32 },
 }
 

@@ -3,9 +3,9 @@ use byte_text::same_text;
 use httparse::spans::HeaderSpan;
 use std::marker::Model;
 
-/// The fields of a head, by their places in its bytes.
+// The fields of a head, by their places in its bytes.
 #[derive(Drop)]
-pub struct FieldSpans<'a> {
+pub(crate) struct FieldSpans<'a> {
     head: &'a [u8],
     spans: &'a [HeaderSpan],
 }
@@ -28,16 +28,16 @@ impl<'a> FieldSpans<'a> {
     ghost use Rattle.httparse.specs.Spans.{header_bytes, IsHeaderWithin};
     ghost use Rattle.http_grammar.specs.Fields.{values, first_of, one_is, one_is_not};
 
-    /// The fields at these places of the head.
-    pub fn new(head: &'a [u8], spans: &'a [HeaderSpan]) -> Self
+    // The fields at these places of the head.
+    pub(crate) fn new(head: &'a [u8], spans: &'a [HeaderSpan]) -> Self
         requires { All (IsHeaderWithin (length head.now)) spans.now }
         ensures { result ≡ map (header_bytes head.now) spans.now }
     {
         FieldSpans { head, spans }
     }
 
-    /// The value of the first field of a name.
-    pub fn first(&self, name: &[u8]) -> Option<&'a [u8]>
+    // The value of the first field of a name.
+    pub(crate) fn first(&self, name: &[u8]) -> Option<&'a [u8]>
         ensures { option_copied result ≡ first_of (values name.now self.now) }
     {
         for span in self.spans {
@@ -48,8 +48,8 @@ impl<'a> FieldSpans<'a> {
         None
     }
 
-    /// Whether all values of the fields of a name are this one.
-    pub fn all_are(&self, name: &[u8], value: &[u8]) -> bool
+    // Whether all values of the fields of a name are this one.
+    pub(crate) fn all_are(&self, name: &[u8], value: &[u8]) -> bool
         ensures { result ≡ list_all (λ v. bytes_eq v value.now) (values name.now self.now) }
     {
         for span in self.spans {
@@ -60,8 +60,8 @@ impl<'a> FieldSpans<'a> {
         true
     }
 
-    /// How many fields have a name.
-    pub fn count(&self, name: &[u8]) -> usize
+    // How many fields have a name.
+    pub(crate) fn count(&self, name: &[u8]) -> usize
         ensures { result ≡ length (values name.now self.now) }
     {
         let mut count = 0;
@@ -73,8 +73,8 @@ impl<'a> FieldSpans<'a> {
         count
     }
 
-    /// Whether a field of a name has this text as its value, in any case.
-    pub fn one_is(&self, name: &[u8], text: &[u8]) -> bool
+    // Whether a field of a name has this text as its value, in any case.
+    pub(crate) fn one_is(&self, name: &[u8], text: &[u8]) -> bool
         ensures { result ≡ one_is text.now (values name.now self.now) }
     {
         for span in self.spans {
@@ -87,8 +87,8 @@ impl<'a> FieldSpans<'a> {
         false
     }
 
-    /// Whether a field of a name has another text as its value.
-    pub fn one_is_not(&self, name: &[u8], text: &[u8]) -> bool
+    // Whether a field of a name has another text as its value.
+    pub(crate) fn one_is_not(&self, name: &[u8], text: &[u8]) -> bool
         ensures { result ≡ one_is_not text.now (values name.now self.now) }
     {
         for span in self.spans {

@@ -60,8 +60,8 @@ fn by_coding(fields: &FieldSpans, coding: &[u8]) -> Option<Framing>
     }
 }
 
-/// How long the body is by the fields of a head; none if they contradict each other or aren't understood.
-pub fn framing_of(fields: &FieldSpans) -> Option<Framing>
+// How long the body is by the fields of a head; none if they contradict each other or aren't understood.
+pub(crate) fn framing_of(fields: &FieldSpans) -> Option<Framing>
     ensures { result ≡ framing_of fields.now }
 {
     match fields.first(b"Content-Length") {

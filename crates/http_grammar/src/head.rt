@@ -31,7 +31,7 @@ pub struct Head {
     pub kind: Option<Blob>,
     /// Whether the body is said to have a coding other than identity.
     pub encoded: bool,
-    /// Whether the client waits for leave to send the body.
+    /// Whether the client waits for `100 Continue` before it sends the body.
     pub expects: bool,
     pub framing: Framing,
 }
@@ -153,7 +153,8 @@ fn whole_head(
     }
 }
 
-/// Looks for a head at the front of the bytes.
+/// Looks for a head at the front of the bytes, `None` if more bytes may make one. Fails as `BadHead`, `HeadTooLarge` or
+/// `NoMemory`.
 pub fn look(alloc: Global, bytes: &[u8]) -> Result<Option<Found>, MessageFault>
     requires { length bytes.now ≤ 16384 }
     ensures found { IfOk result (λ found. IfSome found (IsFound bytes.now)) }

@@ -18,11 +18,11 @@ pub enum Part {
     Trailers,
 }
 
-/// How bytes begin if CR LF is due.
+// How bytes begin if CR LF is due.
 #[derive(Clone, Copy, Debug, PartialEq, Eq)]
-pub enum Ending {
+pub(crate) enum Ending {
     Whole,
-    /// They are too few for either.
+    // They are too few for either.
     Cut,
     Other,
 }
@@ -42,7 +42,7 @@ impl Part {
         }
     }
 
-    /// After which bytes it's worth a look.
+    /// The bytes that end the part, after which it's worth a look.
     pub fn mark(&self) -> &'static [u8] {
         match self {
             Part::Line | Part::LineEnd => b"\r\n",
@@ -124,7 +124,8 @@ fn look_trailers(bytes: &[u8]) -> Option<(u64, usize)>
     }
 }
 
-/// Looks for a part at the front of bytes: its number, and its length.
+/// Looks for a part at the front of bytes: its number, and its length. `None` if more bytes may make one. Fails as
+/// `BadChunk` alone.
 pub fn look_part(part: Part, bytes: &[u8]) -> Result<Option<(u64, usize)>, MessageFault>
     requires { length bytes.now ≤ most_of part }
     ensures found { IfOk result (λ found. IfSome found (IsFoundPart part bytes.now)) }

@@ -5,12 +5,12 @@ ghost use Rattle.http_parts.specs.Delimiters.{delimiter_at, delimiter_of, openin
 use crate::text::blank_count;
 use memchr::memmem::Finder;
 
-/// A delimiter: a line end (but at the body's start), `--`, the boundary, and then `--`, or blanks and a line end.
+// A delimiter: a line end (but at the body's start), `--`, the boundary, and then `--`, or blanks and a line end.
 #[derive(Clone, Copy, Debug, PartialEq, Eq)]
-pub struct Delimiter {
-    /// The place of its first byte.
+pub(crate) struct Delimiter {
+    // The place of its first byte.
     pub at: usize,
-    /// Where the part after it begins, `None` after the closing one.
+    // Where the part after it begins, `None` after the closing one.
     pub part: Option<usize>,
 }
 
@@ -47,10 +47,10 @@ fn delimiter_of(finder: &Finder<'_>, body: &[u8], at: usize) -> Option<Delimiter
     delimiter_at(body, at, at + finder.needle().len())
 }
 
-/// The first delimiter from a place on. The finder looks for a line end, `--` and the boundary.
-///
-/// Source: RFC 2046, section 5.1.1.
-pub fn next_delimiter(finder: &Finder<'_>, body: &[u8], from: usize) -> Option<Delimiter>
+// The first delimiter from a place on. The finder looks for a line end, `--` and the boundary.
+//
+// Source: RFC 2046, section 5.1.1.
+pub(crate) fn next_delimiter(finder: &Finder<'_>, body: &[u8], from: usize) -> Option<Delimiter>
     requires some { 0 < length finder.now }
     requires within { from ≤ length body.now }
     ensures next { IsNextDelimiter body.now finder.now from result }
@@ -82,8 +82,8 @@ fn opening(body: &[u8], dashes: &[u8]) -> Option<Delimiter>
     None
 }
 
-/// The first delimiter of a body.
-pub fn first_delimiter(finder: &Finder<'_>, body: &[u8]) -> Option<Delimiter>
+// The first delimiter of a body.
+pub(crate) fn first_delimiter(finder: &Finder<'_>, body: &[u8]) -> Option<Delimiter>
     requires { finder.now ≡ 13 ∷ 10 ∷ drop 2 finder.now }
     ensures first { IsFirstDelimiter body.now (drop 2 finder.now) result }
     ensures part { IfSome result (λ delimiter. IfSome delimiter.part (λ part.

@@ -15,9 +15,9 @@ use memchr::memmem::Finder;
 // A line end, `--` and the longest boundary.
 const LONGEST_LINE: usize = 74;
 
-/// What the parts so far say, and the place of the first one that is no field.
+// What the parts so far say, and the place of the first one that is no field.
 #[derive(Clone, Copy)]
-pub struct Seen {
+pub(crate) struct Seen {
     bad: Option<usize>,
     parts: Parts,
 }

@@ -11,6 +11,7 @@ use crate::quotes::{Quoting, quoted_end};
 use crate::text::{begins_any_case, blank_count};
 use byte_text::is_space;
 
+// How many bytes a boundary may have. Source: RFC 2046, section 5.1.1.
 const LONGEST_BOUNDARY: usize = 70;
 
 // Whether a word has ended before these bytes: nothing, a blank or a semicolon comes next.
@@ -120,11 +121,11 @@ fn content_span(bytes: &[u8], span: Span) -> Option<Span>
     Some(Span { from, to })
 }
 
-/// The content of the first parameter of this key, which is written with its `=`: what is between its quotes, or
-/// what comes before a blank or a semicolon.
-///
-/// Source: RFC 9110, section 5.6.6.
-pub fn parameter(bytes: &[u8], span: Span, key: &[u8]) -> Option<Span>
+// The content of the first parameter of this key, which is written with its `=`: what is between its quotes, or
+// what comes before a blank or a semicolon.
+//
+// Source: RFC 9110, section 5.6.6.
+pub(crate) fn parameter(bytes: &[u8], span: Span, key: &[u8]) -> Option<Span>
     requires { IsWithin span bytes.now }
     ensures value { result ≡ parameter key.now bytes.now span }
     ensures within { IfSome result (λ content. IsWithin content bytes.now) }
@@ -133,10 +134,10 @@ pub fn parameter(bytes: &[u8], span: Span, key: &[u8]) -> Option<Span>
     content_span(bytes, Span { from, to: span.to })
 }
 
-/// The boundary that a `multipart/form-data` type names.
-///
-/// Source: RFC 2046, section 5.1.1.
-pub fn boundary(kind: &[u8]) -> Option<&[u8]>
+// The boundary that a `multipart/form-data` type names.
+//
+// Source: RFC 2046, section 5.1.1.
+pub(crate) fn boundary(kind: &[u8]) -> Option<&[u8]>
     ensures value { option_copied result ≡ boundary_of kind.now }
     ensures short { IfSome result (λ text. length text.now ≤ 70) }
 {

@@ -9,9 +9,9 @@ use crate::parameters::{has_type, parameter};
 use crate::text::place_any_case;
 use memchr::memmem;
 
-/// A part with a Content-Disposition `form-data` and a name.
+// A part with a Content-Disposition `form-data` and a name.
 #[derive(Clone, Copy, Debug, PartialEq, Eq)]
-pub struct Field {
+pub(crate) struct Field {
     pub name: Span,
     pub filename: Option<Span>,
     pub content: Span,
@@ -67,11 +67,11 @@ fn named_field(body: &[u8], content: Span, value: Span) -> Option<Field>
     })
 }
 
-/// The field that a part is: header lines, an empty line, and the content. The part has the delimiter's line end
-/// before it.
-///
-/// Source: RFC 7578, section 4.2.
-pub fn field_of(body: &[u8], part: Span) -> Option<Field>
+// The field that a part is: header lines, an empty line, and the content. The part has the delimiter's line end
+// before it.
+//
+// Source: RFC 7578, section 4.2.
+pub(crate) fn field_of(body: &[u8], part: Span) -> Option<Field>
     requires after { 2 ≤ part.from }
     requires within { IsWithin part body.now }
     ensures value { result ≡ field_of body.now part }

@@ -6,17 +6,17 @@ ghost use Rattle.http_parts.specs.declared.quotes.Quoting.TheVariants as quoting
 
 use crate::Span;
 
-/// Whether the next byte of a value is in quotes, and whether a backslash takes its meaning from it.
+// Whether the next byte of a value is in quotes, and whether a backslash takes its meaning from it.
 #[derive(Clone, Copy, Debug, PartialEq, Eq)]
-pub enum Quoting {
+pub(crate) enum Quoting {
     Outside,
     Inside,
     Escaped,
 }
 
 impl Quoting {
-    /// The state after a byte.
-    pub fn after(self, byte: u8) -> Quoting
+    // The state after a byte.
+    pub(crate) fn after(self, byte: u8) -> Quoting
         ensures { result ≡ next_quoting self byte }
     {
         match self {
@@ -40,17 +40,17 @@ impl Quoting {
         }
     }
 
-    /// Whether the next byte isn't in quotes.
-    pub fn is_outside(self) -> bool
+    // Whether the next byte isn't in quotes.
+    pub(crate) fn is_outside(self) -> bool
         ensures { result ≡ is_outside self }
     {
         matches!(self, Quoting::Outside)
     }
 }
 
-/// The place of the quote that ends a quoted text, which begins at the span's first place.
+// The place of the quote that ends a quoted text, which begins at the span's first place.
 #[tactic(auto, using(crate::proofs::Scans::quoted_steps))]
-pub fn quoted_end(bytes: &[u8], span: Span) -> Option<usize>
+pub(crate) fn quoted_end(bytes: &[u8], span: Span) -> Option<usize>
     requires { IsWithin span bytes.now }
     ensures value { result ≡ quoted_end quoting.Inside span.from (text_at bytes.now span) }
     ensures within { IfSome result (λ place. (span.from ≤ place) × (place < span.to)) }

@@ -7,25 +7,25 @@ ghost use Rattle.http_parts.specs.Texts.{IsWithin, text_at, begins_any_case, pla
 use crate::Span;
 use byte_text::is_space;
 
-/// How many spaces and tabs are in front.
-pub fn blank_count(bytes: &[u8]) -> usize
+// How many spaces and tabs are in front.
+pub(crate) fn blank_count(bytes: &[u8]) -> usize
     ensures value { result ≡ prefix_len is_space bytes.now }
     ensures most { result ≤ length bytes.now }
 {
     bytes.iter().take_while(|byte| is_space(**byte)).count()
 }
 
-/// Whether the text is in front of the bytes, in any case of its letters.
-pub fn begins_any_case(bytes: &[u8], text: &[u8]) -> bool
+// Whether the text is in front of the bytes, in any case of its letters.
+pub(crate) fn begins_any_case(bytes: &[u8], text: &[u8]) -> bool
     ensures value { result ≡ begins_any_case text.now bytes.now }
     ensures bound { result ≡ true → length text.now ≤ length bytes.now }
 {
     text.len() <= bytes.len() && bytes[..text.len()].eq_ignore_ascii_case(text)
 }
 
-/// The first place within the span at which the text is, in any case of its letters, up to the span's end.
+// The first place within the span at which the text is, in any case of its letters, up to the span's end.
 #[tactic(auto, using(crate::proofs::Scans::place_steps))]
-pub fn place_any_case(bytes: &[u8], span: Span, text: &[u8]) -> Option<usize>
+pub(crate) fn place_any_case(bytes: &[u8], span: Span, text: &[u8]) -> Option<usize>
     requires { IsWithin span bytes.now }
     ensures value { result ≡ place_any_case text.now span.from (text_at bytes.now span) }
     ensures within { IfSome result (λ place.

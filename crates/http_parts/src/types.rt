@@ -27,13 +27,13 @@ pub struct Parts {
 #[derive(Clone, Copy, Debug, PartialEq, Eq, Error)]
 pub enum PartFault {
     /// The type isn't `multipart/form-data` with a boundary of 1 to 70 bytes.
-    #[error("no boundary")]
+    #[error("form: no boundary")]
     NoBoundary,
     /// The body has no closing delimiter.
-    #[error("no closing delimiter")]
+    #[error("form: no closing delimiter")]
     NoClose,
     /// The part that begins at this place has no empty line after its header lines, or no Content-Disposition
     /// `form-data` with a name.
-    #[error("bad part at {at}")]
+    #[error("form: byte {at}: bad part")]
     BadPart { at: usize },
 }

@@ -18,12 +18,13 @@ use std::{io, thread};
 // How long one call waits for a connection, and rests if the system has no room for one, in milliseconds.
 const WAIT: u64 = 10;
 
-// The numbers of Linux for a limit on open files that is reached, of the process and of the system, and for a lack
-// of buffers.
+// The number of Linux for a process that has all the open files that it may have.
 const EMFILE: i32 = 24;
 
+// The same of the system.
 const ENFILE: i32 = 23;
 
+// The number of Linux for a lack of buffers.
 const ENOBUFS: i32 = 105;
 
 /// A door over TCP. It says neither which connections come nor what was served.
@@ -90,7 +91,7 @@ impl<R: Net<Listener = TcpListener, Stream = TcpStream> + Copy> TcpDoor<R> {
     }
 
     /// Four doors at the address `HOST:PORT`. They share one listener, so that the system wakes one worker for each
-    /// connection. If the address can't be bound, the first call of each door fails.
+    /// connection. If the address can't be bound, the first call of each door fails. This call fails only if out of memory.
     pub fn four(rt: &R, alloc: Global, address: &str) -> Result<Doors<TcpDoor<R>>, AllocError>
         // No call of any of them has failed yet.
         ensures { IfOk result (λ doors.
@@ -113,6 +114,7 @@ impl<R: Net<Listener = TcpListener, Stream = TcpStream> + Copy> TcpDoor<R> {
         })
     }
 
+    // A call fails: the door is closed.
     fn fail(&mut self) -> Failed
         ensures counts { Counts ⊤ self.old.faults self.new.faults }
         ensures has_failed { self.new.has_failed ≡ true }

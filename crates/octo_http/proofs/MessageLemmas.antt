@@ -1,4 +1,4 @@
--- How a head, the leave to send and a body make an answer.
+-- How a head, `100 Continue` and a body make an answer.
 use Rattle.std.proofs.Common.{◌≡◌, ℕ, zero, suc, ◌≤◌, Bool, true, false, ◌&&◌, List, [], ◌++◌, length, take, Option, Some, Result, Ok, Err, refl, sym, ap, ◌∙◌, subst, append_assoc, arith, inl, inr}
 use Rattle.std.specs.Prelude.{if◌then◌else◌}
 use Rattle.std.specs.Result.{IsErrAnd}
@@ -8,7 +8,7 @@ use Rattle.octo_http.specs.Input.{IntakeData, Holds, Took, Waits}
 use Rattle.octo_http.specs.Stops.{Unfinished, IsFaultOf, Stops, IsShort, HasCause}
 use Rattle.http_grammar.specs.Head.{IsHead, HeadFault}
 use Rattle.http_grammar.specs.Chunks as chunks
-use Rattle.octo_http.specs.Message.{has_body, leave, leave_due, message_of, ReadsBody, no_body, whole, short, in_chunks, IsBodyFault, message, no_head, bad_body, IsUnfinished, Answers, Writes, IsSlow, IsPatient}
+use Rattle.octo_http.specs.Message.{has_body, continue_line, continue_due, message_of, ReadsBody, no_body, whole, short, in_chunks, IsBodyFault, message, no_head, bad_body, IsUnfinished, Answers, Writes, IsSlow, IsPatient}
 use Rattle.http_grammar.specs.declared.fault.MessageFault.{MessageFault}
 use Rattle.http_grammar.specs.declared.fault.MessageFault.TheVariants.{BadHead, HeadTooLarge, BodyTooLarge, BadChunk, Ended, ReadFault, NoMemory, Slow}
 use Rattle.http_grammar.specs.declared.framing.Framing.{Framing}
@@ -61,23 +61,23 @@ stops_chunked framing b0 l0 l f is stops =
     subst At (sym is)
     (stops_after (chunks.IsChunkFault []) (IsBodyFault Chunked) b0 l0 b0 l0 l [] f (took_none b0 l0) stops (λ input g p. in_chunks input (Err g) p))
 
--- what a client is given leave by is a prefix of the leave
-pub asked_prefix : (head : Head) → (n : ℕ) × (leave_due head ≡ take n leave)
+-- what is written before the body is a prefix of `100 Continue`
+pub asked_prefix : (head : Head) → (n : ℕ) × (continue_due head ≡ take n continue_line)
 asked_prefix head = by (head.expects && has_body head.framing)
   where
-    by : (b : Bool) → (n : ℕ) × ((if b then leave else []) ≡ take n leave)
+    by : (b : Bool) → (n : ℕ) × ((if b then continue_line else []) ≡ take n continue_line)
     by true = (25, refl)
     by false = (0, refl)
 
 -- and so is a prefix of it
-pub prefix_prefix : (head : Head) (n : ℕ) → (m : ℕ) × (take n (leave_due head) ≡ take m leave)
+pub prefix_prefix : (head : Head) (n : ℕ) → (m : ℕ) × (take n (continue_due head) ≡ take m continue_line)
 prefix_prefix head n = by (head.expects && has_body head.framing) n
   where
     none : (k : ℕ) → take {A = ℕ} k [] ≡ []
     none zero = refl
     none (suc k) = refl
 
-    by : (b : Bool) (k : ℕ) → (m : ℕ) × (take k (if b then leave else []) ≡ take m leave)
+    by : (b : Bool) (k : ℕ) → (m : ℕ) × (take k (if b then continue_line else []) ≡ take m continue_line)
     by true k = (k, refl)
     by false k = (0, none k)
 
@@ -98,15 +98,15 @@ head_answer input left (Slow n) h = (h.0, h.1, h.2, h.3, no_head h.0 Ended h.4)
 
 -- a fault of the body is the answer
 pub body_answer : (bytes rest input : List ℕ) (left : Option (List ℕ)) (head : Head) (f : MessageFault) → IsHead bytes head → input ≡ bytes ++ rest
-    → IsFaultOf (IsBodyFault head.framing) rest left f → Answers input left (Err f) (leave_due head)
+    → IsFaultOf (IsBodyFault head.framing) rest left f → Answers input left (Err f) (continue_due head)
 body_answer bytes rest input left head f is split fault =
-    let Answer : List ℕ → Type 0 = λ text. Answers text left (Err f) (leave_due head) in
+    let Answer : List ℕ → Type 0 = λ text. Answers text left (Err f) (continue_due head) in
     subst Answer (sym split) (by f fault)
   where
-    cut : Unfinished (IsBodyFault head.framing) rest left → IsUnfinished (bytes ++ rest) left (leave_due head)
+    cut : Unfinished (IsBodyFault head.framing) rest left → IsUnfinished (bytes ++ rest) left (continue_due head)
     cut u = (bytes ++ u.0, u.1, ap (λ text. bytes ++ text) u.2 ∙ sym (append_assoc bytes u.0 u.1), u.3, bad_body bytes u.0 head Ended is u.4)
 
-    by : (g : MessageFault) → IsFaultOf (IsBodyFault head.framing) rest left g → Answers (bytes ++ rest) left (Err g) (leave_due head)
+    by : (g : MessageFault) → IsFaultOf (IsBodyFault head.framing) rest left g → Answers (bytes ++ rest) left (Err g) (continue_due head)
     by BadHead h = bad_body bytes rest head BadHead is h
     by HeadTooLarge h = bad_body bytes rest head HeadTooLarge is h
     by BodyTooLarge h = bad_body bytes rest head BodyTooLarge is h
@@ -118,9 +118,9 @@ body_answer bytes rest input left head f is split fault =
 
 -- a message is the answer
 pub message_answer : (bytes taken more input : List ℕ) (left : Option (List ℕ)) (head : Head) (body : List ℕ) → IsHead bytes head
-    → input ≡ bytes ++ (taken ++ more) → ReadsBody head.framing (taken ++ more) (Ok body) → Answers input left (Ok (message_of head body)) (leave_due head)
+    → input ≡ bytes ++ (taken ++ more) → ReadsBody head.framing (taken ++ more) (Ok body) → Answers input left (Ok (message_of head body)) (continue_due head)
 message_answer bytes taken more input left head body is split says =
-    let Answer : List ℕ → Type 0 = λ text. Answers text left (Ok (message_of head body)) (leave_due head) in
+    let Answer : List ℕ → Type 0 = λ text. Answers text left (Ok (message_of head body)) (continue_due head) in
     subst Answer (sym split) (message bytes (taken ++ more) head body is says)
 
 -- what was written is known
@@ -134,20 +134,20 @@ pub writes_part : (old new : Option (List ℕ)) (list : List ℕ) (Says : List �
 writes_part old new list Says adds says =
     ((take 0 list, says 0), became_so old new (λ _ added. (n : ℕ) × (added ≡ take n list)) (λ _ added. Says added) adds (λ past added is. subst Says (sym is.1) (says is.0)))
 
--- the leave, or part of it
-pub bounded_all : (old new : Option (List ℕ)) (head : Head) → Adds old new (leave_due head) → AddsPrefix old new leave
+-- `100 Continue`, or part of it
+pub bounded_all : (old new : Option (List ℕ)) (head : Head) → Adds old new (continue_due head) → AddsPrefix old new continue_line
 bounded_all old new head adds =
-    became_so old new (λ _ added. added ≡ leave_due head) (λ _ added. (n : ℕ) × (added ≡ take n leave)) adds
+    became_so old new (λ _ added. added ≡ continue_due head) (λ _ added. (n : ℕ) × (added ≡ take n continue_line)) adds
     (λ past added is. let p = asked_prefix head in (p.0, is ∙ p.1))
 
-pub bounded_part : (old new : Option (List ℕ)) (head : Head) → AddsPrefix old new (leave_due head) → AddsPrefix old new leave
+pub bounded_part : (old new : Option (List ℕ)) (head : Head) → AddsPrefix old new (continue_due head) → AddsPrefix old new continue_line
 bounded_part old new head adds =
-    became_so old new (λ _ added. (n : ℕ) × (added ≡ take n (leave_due head))) (λ _ added. (n : ℕ) × (added ≡ take n leave)) adds
+    became_so old new (λ _ added. (n : ℕ) × (added ≡ take n (continue_due head))) (λ _ added. (n : ℕ) × (added ≡ take n continue_line)) adds
     (λ past added is. let p = prefix_prefix head is.0 in (p.0, is.1 ∙ p.1))
 
-pub bounded_none : (old new : Option (List ℕ)) → Adds old new [] → AddsPrefix old new leave
+pub bounded_none : (old new : Option (List ℕ)) → Adds old new [] → AddsPrefix old new continue_line
 bounded_none old new adds =
-    became_so old new (λ _ added. added ≡ []) (λ _ added. (n : ℕ) × (added ≡ take n leave)) adds (λ past added is. (0, is))
+    became_so old new (λ _ added. added ≡ []) (λ _ added. (n : ℕ) × (added ≡ take n continue_line)) adds (λ past added is. (0, is))
 
 -- reads of a head and then of a body
 pub waits_both : (a b c : IntakeData) (f0 f1 f2 f3 q0 q1 q2 q3 : ℕ) → Waits a b f0 f1 q0 q1 → q2 ≡ q1 → f1 ≤ f2 → Waits b c f2 f3 q2 q3
@@ -222,55 +222,55 @@ after_head p i left b1 left1 left2 bytes begun took same input told =
     let one = takes input (holds_all input left told) in
     (one.0, one.1, record { rest = one.2.rest; known = same ∙ one.2.known; is = one.2.is })
 
--- the answer if the leave can't be written
-pub leave_fault : (p : ℕ) (i : IntakeData) (left : Option (List ℕ)) (b1 : List ℕ) (left1 left2 old mid new : Option (List ℕ)) (head : Head)
+-- the answer if `100 Continue` can't be written
+pub continue_fault : (p : ℕ) (i : IntakeData) (left : Option (List ℕ)) (b1 : List ℕ) (left1 left2 old mid new : Option (List ℕ)) (head : Head)
     → i ≡ record { bytes = []; patience = p; allowed = p } → ((bytes : List ℕ) × IsHead bytes head × Took i.bytes left b1 left1 bytes) → left2 ≡ left1
-    → mid ≡ old → AddsPrefix mid new (leave_due head) → (input : List ℕ) → left ≡ Some input → Writes old new (Answers input left2 (Err ReadFault))
-leave_fault p i left b1 left1 left2 old mid new head begun taken same kept adds input told =
+    → mid ≡ old → AddsPrefix mid new (continue_due head) → (input : List ℕ) → left ≡ Some input → Writes old new (Answers input left2 (Err ReadFault))
+continue_fault p i left b1 left1 left2 old mid new head begun taken same kept adds input told =
     let after = after_head p i left b1 left1 left2 taken.0 begun taken.2 same input told in
-    let Added : Option (List ℕ) → Type 0 = λ w. AddsPrefix w new (leave_due head) in
-    writes_part old new (leave_due head) (Answers input left2 (Err ReadFault)) (subst Added kept adds)
+    let Added : Option (List ℕ) → Type 0 = λ w. AddsPrefix w new (continue_due head) in
+    writes_part old new (continue_due head) (Answers input left2 (Err ReadFault)) (subst Added kept adds)
     (λ n. inr (taken.0, after.0, head, n, after.1, taken.1, refl))
 
--- the leave was written, and nothing else
-pub asked_only : (old mid next new : Option (List ℕ)) (head : Head) → mid ≡ old → Adds mid next (leave_due head) → new ≡ next → Adds old new (leave_due head)
+-- `100 Continue` was written, and nothing else
+pub asked_only : (old mid next new : Option (List ℕ)) (head : Head) → mid ≡ old → Adds mid next (continue_due head) → new ≡ next → Adds old new (continue_due head)
 asked_only old mid next new head first adds last =
-    let From : Option (List ℕ) → Type 0 = λ w. Adds w next (leave_due head) in
-    let To : Option (List ℕ) → Type 0 = λ w. Adds old w (leave_due head) in
+    let From : Option (List ℕ) → Type 0 = λ w. Adds w next (continue_due head) in
+    let To : Option (List ℕ) → Type 0 = λ w. Adds old w (continue_due head) in
     subst To (sym last) (subst From first adds)
 
 -- the answer at a fault of the body
 pub body_fault : (p : ℕ) (i : IntakeData) (left : Option (List ℕ)) (b1 : List ℕ) (left1 left2 left3 old mid next new : Option (List ℕ)) (head : Head)
     (r : Result Message MessageFault) (f : MessageFault) → i ≡ record { bytes = []; patience = p; allowed = p } →
-    ((bytes : List ℕ) × IsHead bytes head × Took i.bytes left b1 left1 bytes) → left2 ≡ left1 → mid ≡ old → Adds mid next (leave_due head) → new ≡ next → Stops
+    ((bytes : List ℕ) × IsHead bytes head × Took i.bytes left b1 left1 bytes) → left2 ≡ left1 → mid ≡ old → Adds mid next (continue_due head) → new ≡ next → Stops
     (IsBodyFault head.framing) b1 left2 left3 f → IsErrAnd r (λ g. g ≡ f) → (input : List ℕ) → left ≡ Some input → Writes old new (Answers input left3 r)
 body_fault p i left b1 left1 left2 left3 old mid next new head r f begun taken same first adds last stops is input told =
     let after = after_head p i left b1 left1 left2 taken.0 begun taken.2 same input told in
     let Says : Result Message MessageFault → Type 0 = λ q. Writes old new (Answers input left3 q) in
-    subst Says (sym (is_err r f is)) (writes_all old new (leave_due head) (Answers input left3 (Err f)) (asked_only old mid next new head first adds last)
+    subst Says (sym (is_err r f is)) (writes_all old new (continue_due head) (Answers input left3 (Err f)) (asked_only old mid next new head first adds last)
     (body_answer taken.0 after.0 input left3 head f taken.1 after.1 (stops after.0 after.2)))
 
 -- the answer if all is read
 pub message_read : (p : ℕ) (i : IntakeData) (left : Option (List ℕ)) (b1 b2 : List ℕ) (left1 left2 left3 old mid next new : Option (List ℕ)) (head : Head)
     (body : List ℕ) (m : Message) → i ≡ record { bytes = []; patience = p; allowed = p } →
-    ((bytes : List ℕ) × IsHead bytes head × Took i.bytes left b1 left1 bytes) → left2 ≡ left1 → mid ≡ old → Adds mid next (leave_due head) → new ≡ next →
+    ((bytes : List ℕ) × IsHead bytes head × Took i.bytes left b1 left1 bytes) → left2 ≡ left1 → mid ≡ old → Adds mid next (continue_due head) → new ≡ next →
     ((taken : List ℕ) × ((more : List ℕ) → ReadsBody head.framing (taken ++ more) (Ok body)) × Took b1 left2 b2 left3 taken) → m ≡ message_of head body →
     (input : List ℕ) → left ≡ Some input → Writes old new (Answers input left3 (Ok m))
 message_read p i left b1 b2 left1 left2 left3 old mid next new head body m begun taken same first adds last read is input told =
     let after = after_head p i left b1 left1 left2 taken.0 begun taken.2 same input told in
     let later = read.2 after.0 after.2 in
     let Says : Message → Type 0 = λ n. Writes old new (Answers input left3 (Ok n)) in
-    subst Says (sym is) (writes_all old new (leave_due head) (Answers input left3 (Ok (message_of head body))) (asked_only old mid next new head first adds last)
+    subst Says (sym is) (writes_all old new (continue_due head) (Answers input left3 (Ok (message_of head body))) (asked_only old mid next new head first adds last)
     (message_answer taken.0 read.0 later.0 input left3 head body taken.1 (after.1 ∙ ap (λ text. taken.0 ++ text) later.1) (read.1 later.0)))
 
--- nothing was written, which is no more than the leave
-pub bounded_same : (old new : Option (List ℕ)) → new ≡ old → AddsPrefix old new leave
+-- nothing was written, which is no more than `100 Continue`
+pub bounded_same : (old new : Option (List ℕ)) → new ≡ old → AddsPrefix old new continue_line
 bounded_same old new same = bounded_none old new (adds_same old new same)
 
--- part of the leave after nothing
-pub bounded_cut : (old mid new : Option (List ℕ)) (head : Head) → mid ≡ old → AddsPrefix mid new (leave_due head) → AddsPrefix old new leave
+-- part of `100 Continue` after nothing
+pub bounded_cut : (old mid new : Option (List ℕ)) (head : Head) → mid ≡ old → AddsPrefix mid new (continue_due head) → AddsPrefix old new continue_line
 bounded_cut old mid new head kept adds =
-    let Added : Option (List ℕ) → Type 0 = λ w. AddsPrefix w new (leave_due head) in
+    let Added : Option (List ℕ) → Type 0 = λ w. AddsPrefix w new (continue_due head) in
     bounded_part old new head (subst Added kept adds)
 
 -- the patience at a fault
@@ -281,10 +281,10 @@ patient_at p i0 i f0 f1 g q0 q1 r e begun waits cause is =
     let At : Result Message MessageFault → Type 0 = λ s. IsPatient p q0 q1 s in
     subst At (sym (is_err r e is)) (patient_err p i f0 f1 g q0 q1 e (subst From begun waits) cause)
 
--- the patience if the leave can't be written
-pub patient_leave : (p : ℕ) (i0 i : IntakeData) (f0 f1 q0 q1 q2 : ℕ) → i0 ≡ record { bytes = []; patience = p; allowed = p } → Waits i0 i f0 f1 q0 q1
+-- the patience if `100 Continue` can't be written
+pub patient_continue : (p : ℕ) (i0 i : IntakeData) (f0 f1 q0 q1 q2 : ℕ) → i0 ≡ record { bytes = []; patience = p; allowed = p } → Waits i0 i f0 f1 q0 q1
     → q2 ≡ q1 → IsPatient p q0 q2 (Err ReadFault)
-patient_leave p i0 i f0 f1 q0 q1 q2 begun waits same =
+patient_continue p i0 i f0 f1 q0 q1 q2 begun waits same =
     let From : IntakeData → Type 0 = λ j. Waits j i f0 f1 q0 q1 in
     let here : Waits (record { bytes = []; patience = p; allowed = p }) i f0 f1 q0 q1 = subst From begun waits in
     record { more = omega (arith, here.quiet, same); most = λ below. omega (arith, here.counted (omega (arith, below, same)), same); slow = tt }

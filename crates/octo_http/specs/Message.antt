@@ -23,13 +23,13 @@ has_body NoBody = false
 has_body (Length n) = nat_lt 0 n && nat_le n 68157440
 has_body Chunked = true
 
--- the leave to send a body
-abbrev pub leave : List ℕ
-leave = codes "HTTP/1.1 100 Continue" ++ crlf_crlf
+-- what lets the client send the body
+abbrev pub continue_line : List ℕ
+continue_line = codes "HTTP/1.1 100 Continue" ++ crlf_crlf
 
 -- what is written before the body is read
-abbrev pub leave_due : Head → List ℕ
-leave_due head = if head.expects && has_body head.framing then leave else []
+abbrev pub continue_due : Head → List ℕ
+continue_due head = if head.expects && has_body head.framing then continue_line else []
 
 -- the message of a head and a body
 abbrev pub message_of : Head → List ℕ → Message
@@ -58,26 +58,26 @@ IsBodyFault framing input f = ReadsBody framing input (Err f)
 -- what an input says as a message, and what is written before its body is read
 pub data ReadsMessage : List ℕ → Result Message MessageFault → List ℕ → Type 0 where
   message : (bytes rest : List ℕ) (head : Head) (body : List ℕ) → IsHead bytes head → ReadsBody head.framing rest (Ok body)
-      → ReadsMessage (bytes ++ rest) (Ok (message_of head body)) (leave_due head)
+      → ReadsMessage (bytes ++ rest) (Ok (message_of head body)) (continue_due head)
   no_head : (input : List ℕ) (f : MessageFault) → HeadFault input f → ReadsMessage input (Err f) []
   bad_body : (bytes rest : List ℕ) (head : Head) (f : MessageFault) → IsHead bytes head → IsBodyFault head.framing rest f
-      → ReadsMessage (bytes ++ rest) (Err f) (leave_due head)
+      → ReadsMessage (bytes ++ rest) (Err f) (continue_due head)
 
 -- what was read holds no whole message: were it all, the input would have ended inside one
 abbrev pub IsUnfinished : List ℕ → Option (List ℕ) → List ℕ → Type 0
 IsUnfinished input left sent =
     (used : List ℕ) × (rest : List ℕ) × (input ≡ used ++ rest) × (left ≡ Some rest) × ReadsMessage used (Err Ended) sent
 
--- the leave to send the body was written, if it was asked for
+-- `100 Continue` was written, if it was asked for
 abbrev pub IsLeaveGiven : List ℕ → List ℕ → Type 0
 IsLeaveGiven input sent =
-    (bytes : List ℕ) × (rest : List ℕ) × (head : Head) × (input ≡ bytes ++ rest) × IsHead bytes head × (sent ≡ leave_due head)
+    (bytes : List ℕ) × (rest : List ℕ) × (head : Head) × (input ≡ bytes ++ rest) × IsHead bytes head × (sent ≡ continue_due head)
 
--- the leave to send the body couldn't be written whole
+-- `100 Continue` couldn't be written whole
 abbrev pub IsLeaveCut : List ℕ → List ℕ → Type 0
 IsLeaveCut input sent =
     (bytes : List ℕ) × (rest : List ℕ) × (head : Head) × (n : ℕ)
-    × (input ≡ bytes ++ rest) × IsHead bytes head × (sent ≡ take n (leave_due head))
+    × (input ≡ bytes ++ rest) × IsHead bytes head × (sent ≡ take n (continue_due head))
 
 -- what is answered to an input, of which this is left, and written
 abbrev pub Answers : List ℕ → Option (List ℕ) → Result Message MessageFault → List ℕ → Type 0

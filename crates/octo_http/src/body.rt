@@ -40,8 +40,8 @@ fn read_length<C: Conn>(
     Ok(body)
 }
 
-/// Reads the body of a message and takes it.
-pub fn read_body<C: Conn>(
+// Reads the body of a message and takes it.
+pub(crate) fn read_body<C: Conn>(
     alloc: Global,
     intake: &mut Intake,
     conn: &mut C,

@@ -12,14 +12,14 @@ use http_grammar::{MessageFault, Part};
 use octo_outside::{Blob, Conn};
 use std::alloc::Global;
 
-/// How many bytes a body may have.
-pub const MOST_BODY: u64 = 68_157_440;
+// How many bytes a body may have: a file of the most bytes, and 1 MiB for the form round it.
+pub(crate) const MOST_BODY: u64 = 68_157_440;
 
-/// What was taken of a body in chunks.
+// What was taken of a body in chunks.
 #[derive(Clone, Copy, Debug, PartialEq, Eq)]
-pub enum Added {
+pub(crate) enum Added {
     Chunk,
-    /// The last chunk, which is empty, and the trailers.
+    // The last chunk, which is empty, and the trailers.
     Last,
 }
 
@@ -54,8 +54,8 @@ fn read_chunk<C: Conn>(
     Ok(Added::Chunk)
 }
 
-/// Reads a body in chunks and takes it.
-pub fn read_chunks<C: Conn>(
+// Reads a body in chunks and takes it.
+pub(crate) fn read_chunks<C: Conn>(
     alloc: Global,
     intake: &mut Intake,
     conn: &mut C,

@@ -1,4 +1,4 @@
-//! Bytes by their number.
+//! Reading a given number of bytes.
 ghost use Rattle.std.specs.Prelude.{◌≡◌, ◌≤◌, ◌++◌, ℕ, List, length, take, drop, min, IfOk, OnOk, IfErr, OnErr};
 ghost use Rattle.octo_http.specs.Input.{Took, Waits};
 ghost use Rattle.octo_http.specs.Stops.{Stops, HasCause, IsShort};
@@ -23,8 +23,8 @@ fn move_bytes(intake: &mut Intake, body: &mut Blob, most: usize) -> Result<usize
     Ok(n)
 }
 
-/// Takes the next `count` bytes into the body.
-pub fn fill<C: Conn>(
+// Takes the next `count` bytes into the body.
+pub(crate) fn fill<C: Conn>(
     intake: &mut Intake,
     conn: &mut C,
     body: &mut Blob,

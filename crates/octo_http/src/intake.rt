@@ -9,29 +9,30 @@ use std::marker::Model;
 // How many bytes a read may bring.
 const READ: usize = 4096;
 
-// From how many bytes on those that were taken are let go.
+// Once this many bytes were taken, they are removed.
 const TAKEN: usize = 16384;
 
-/// What a read brought.
+// What a read brought.
 #[derive(Clone, Copy, Debug, PartialEq, Eq)]
-pub enum Came {
+pub(crate) enum Came {
     Bytes,
-    /// Nothing has come yet.
+    // Nothing has come yet.
     Quiet,
-    /// Nothing is left and the peer has closed.
+    // Nothing is left and the peer has closed.
     Ended,
-    /// The connection failed.
+    // The connection failed.
     Failed,
 }
 
-/// The bytes that were read and aren't taken yet, and for how many quiet reads the reader still waits.
+// The bytes that were read and aren't taken yet, and for how many quiet reads the reader still waits.
 #[derive(Drop)]
-pub struct Intake {
-    alloc: Global,
+pub(crate) struct Intake {
     bytes: Vec<u8>,
     // How many of the bytes were taken.
     taken: usize,
+    // How many reads may be quiet in all.
     patience: u32,
+    // How many more may be.
     allowed: u32,
 }
 
@@ -57,12 +58,11 @@ impl Intake {
     ghost use Rattle.octo_http.specs.declared.intake.Came.{Came};
     ghost use Rattle.octo_http.specs.declared.intake.Came.TheVariants as came;
 
-    /// Nothing was read yet, and this number of reads may be quiet.
-    pub fn new(alloc: Global, patience: u32) -> Self
+    // Nothing was read yet, and this number of reads may be quiet.
+    pub(crate) fn new(alloc: Global, patience: u32) -> Self
         ensures { result ≡ record { bytes = []; patience = patience; allowed = patience } }
     {
         Intake {
-            alloc,
             bytes: Vec::new(alloc),
             taken: 0,
             patience,
@@ -70,31 +70,29 @@ impl Intake {
         }
     }
 
-    /// The bytes that aren't taken yet.
-    pub fn bytes(&self) -> &[u8]
+    // The bytes that aren't taken yet.
+    pub(crate) fn bytes(&self) -> &[u8]
         ensures { result.now ≡ self.now.bytes }
     {
         &self.bytes.as_slice()[self.taken..]
     }
 
-    /// Takes the first bytes.
-    pub fn take(&mut self, n: usize)
+    // Takes the first bytes.
+    pub(crate) fn take(&mut self, n: usize)
         requires { n ≤ length self.old.bytes }
         ensures { self.new ≡ record self.old { bytes = drop n self.old.bytes } }
     {
         self.taken += n;
     }
 
-    // Lets those bytes go that were taken, if they are many or all.
-    fn compact(&mut self) -> Result<(), AllocError>
+    // Removes the bytes that were taken, if they are many or all.
+    fn compact(&mut self)
         ensures { self.new ≡ self.old }
     {
         if self.taken >= TAKEN || self.taken == self.bytes.len() {
-            let kept = Vec::from_slice(self.alloc, self.bytes())?;
-            self.bytes = kept;
+            self.bytes.drain(..self.taken);
             self.taken = 0;
         }
-        Ok(())
     }
 
     // Adds bytes that came; without memory nothing is added.
@@ -103,7 +101,7 @@ impl Intake {
             (self.new ≡ record self.old { bytes = self.old.bytes ++ bytes.now }) }
         ensures err { OnErr result (self.new ≡ self.old) }
     {
-        self.compact()?;
+        self.compact();
         self.bytes.extend_from_slice(bytes)
     }
 
@@ -115,8 +113,8 @@ impl Intake {
         self.allowed -= 1;
     }
 
-    /// Reads once. Without memory what came is lost.
-    pub fn fetch<C: Conn>(&mut self, conn: &mut C) -> Result<Came, AllocError>
+    // Reads once. Without memory what came is lost.
+    pub(crate) fn fetch<C: Conn>(&mut self, conn: &mut C) -> Result<Came, AllocError>
         requires { 0 < self.old.allowed }
         // What came follows what was at hand.
         ensures took { OnOk result
@@ -146,8 +144,8 @@ impl Intake {
         }
     }
 
-    /// Whether the reader goes on after a read that brought this: the first reason not to.
-    pub fn go_on(&self, came: Came) -> Result<(), MessageFault>
+    // Whether the reader goes on after a read that brought this: the first reason not to.
+    pub(crate) fn go_on(&self, came: Came) -> Result<(), MessageFault>
         ensures pause { IfErr result (IsPause came self.now) }
         ensures on { OnOk result (Goes came self.now) }
     {

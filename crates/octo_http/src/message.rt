@@ -1,7 +1,7 @@
 //! One message of a connection.
 ghost use Rattle.std.specs.Prelude.{◌≡◌, ◌<◌, ℕ, List, Some, Ok, Err, OnOk, OnErr, IsErr, IfErr, IsErrOf};
 ghost use Rattle.octo_outside.specs.Recorded.{Adds, AddsPrefix, Counts};
-ghost use Rattle.octo_http.specs.Message.{has_body, leave, leave_due, message_of, Answers, Writes, IsPatient};
+ghost use Rattle.octo_http.specs.Message.{has_body, continue_line, continue_due, message_of, Answers, Writes, IsPatient};
 
 use crate::body::read_body;
 use crate::chunks::MOST_BODY;
@@ -40,9 +40,9 @@ fn has_body(framing: Framing) -> bool
     }
 }
 
-// What is written before the body is read. Source: RFC 9110, section 10.1.1.
-fn leave_for(head: &Head) -> &'static [u8]
-    ensures { result.now ≡ leave_due head.now }
+// What is written before the body is read: `100 Continue`, if the client waits for it. Source: RFC 9110, section 10.1.1.
+fn continue_due(head: &Head) -> &'static [u8]
+    ensures { result.now ≡ continue_due head.now }
 {
     if head.expects && has_body(head.framing) {
         b"HTTP/1.1 100 Continue\r\n\r\n"
@@ -51,16 +51,17 @@ fn leave_for(head: &Head) -> &'static [u8]
     }
 }
 
-// Lets the client send the body, if it waits for that.
-fn give_leave<C: Conn>(conn: &mut C, head: &Head) -> Result<(), Failed>
-    ensures ok { OnOk result (Adds (C.written conn.old) (C.written conn.new) (leave_due head.now)) }
+// Sends `100 Continue`, if the client waits for it.
+fn send_continue<C: Conn>(conn: &mut C, head: &Head) -> Result<(), Failed>
+    ensures ok { OnOk result
+        (Adds (C.written conn.old) (C.written conn.new) (continue_due head.now)) }
     ensures err { OnErr result
-        (AddsPrefix (C.written conn.old) (C.written conn.new) (leave_due head.now)) }
+        (AddsPrefix (C.written conn.old) (C.written conn.new) (continue_due head.now)) }
     ensures left { C.left conn.new ≡ C.left conn.old }
     ensures quiets { C.quiets conn.new ≡ C.quiets conn.old }
     ensures counts { Counts (IsErr result) (C.faults conn.old) (C.faults conn.new) }
 {
-    send_all(conn, leave_for(head))?;
+    send_all(conn, continue_due(head))?;
     Ok(())
 }
 
@@ -89,16 +90,19 @@ fn message_of(head: Head, body: Blob) -> Message
 }
 
 /// Reads one message. It waits through at most `patience` quiet reads; what follows the message isn't looked at.
+///
+/// Fails by each [`MessageFault`]: a head or a chunk that is malformed, a head or a body that is too large, an input that ends or
+/// stays quiet, a connection that fails, or no memory.
 pub fn read_message<C: Conn>(
     alloc: Global,
     conn: &mut C,
     patience: u32,
 ) -> Result<Message, MessageFault>
-    // What the input says is answered, and the leave to send a body is written before the body is read.
+    // What the input says is answered, and `100 Continue` is written before the body is read.
     ensures answer { (input : List ℕ) → C.left conn.old ≡ Some input
         → Writes (C.written conn.old) (C.written conn.new)
         (Answers input (C.left conn.new) result) }
-    ensures bounded { AddsPrefix (C.written conn.old) (C.written conn.new) leave }
+    ensures bounded { AddsPrefix (C.written conn.old) (C.written conn.new) continue_line }
 
     // Counts.
     ensures patient { IsPatient patience (C.quiets conn.old) (C.quiets conn.new) result }
@@ -107,7 +111,7 @@ pub fn read_message<C: Conn>(
 {
     let mut intake = Intake::new(alloc, patience);
     let head = read_head(alloc, &mut intake, conn)?;
-    match give_leave(conn, &head) {
+    match send_continue(conn, &head) {
         Ok(()) => {}
         Err(Failed) => return Err(MessageFault::ReadFault),
     }

@@ -42,8 +42,8 @@ fn try_head(
     }
 }
 
-/// Reads the head of a message and takes it.
-pub fn read_head<C: Conn>(
+// Reads the head of a message and takes it.
+pub(crate) fn read_head<C: Conn>(
     alloc: Global,
     intake: &mut Intake,
     conn: &mut C,

@@ -39,8 +39,8 @@ fn try_part(
     }
 }
 
-/// Reads a part and takes it; a chunk's line has the chunk's size.
-pub fn read_part<C: Conn>(
+// Reads a part and takes it; a chunk's line has the chunk's size.
+pub(crate) fn read_part<C: Conn>(
     intake: &mut Intake,
     conn: &mut C,
     part: Part,

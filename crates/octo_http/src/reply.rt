@@ -29,6 +29,9 @@ pub struct HttpReply {
     pub body: Blob,
 }
 
+// The status of a reply without a body, a length or a type. Source: RFC 9110, section 15.3.5.
+const NO_CONTENT: u16 = 204;
+
 // The lines and fields before a body.
 type ReplyHead = ArrayVec<u8, 192>;
 
@@ -107,7 +110,7 @@ fn head_of(status: u16, kind: ReplyKind, count: usize) -> ReplyHead
     ensures { result.items ≡ head_bytes status kind count }
 {
     let mut head = first_lines(status);
-    if status == 204 {
+    if status == NO_CONTENT {
         append(&mut head, b"\r\n");
         return head;
     }
@@ -120,7 +123,7 @@ fn head_of(status: u16, kind: ReplyKind, count: usize) -> ReplyHead
 fn sent_body(reply: &HttpReply) -> &[u8]
     ensures { result.now ≡ sent_body reply.now.status reply.now.kind reply.now.body }
 {
-    if reply.status == 204 || reply.kind == ReplyKind::Empty {
+    if reply.status == NO_CONTENT || reply.kind == ReplyKind::Empty {
         return b"";
     }
     reply.body.as_slice()

@@ -88,8 +88,8 @@ fn two_beside<R: Threads + Wait + Sync, D: Door + Send, A: Asker + Send, G: FnMu
     )
 }
 
-/// Four workers at four doors, each in a thread of its own, and other work in this one. Returns
-/// whether all doors held, and what the work returned.
+// Four workers at four doors, each in a thread of its own, and other work in this one. Returns
+// whether all doors held, and what the work returned.
 pub(crate) fn four_beside<
     R: Threads + Wait + Send + Sync,
     D: Door + Send + Drop,

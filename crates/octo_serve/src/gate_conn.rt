@@ -10,10 +10,10 @@ use std::sync::atomic::{AtomicBool, Ordering};
 use std::thread;
 use std::time::{Clock, Duration};
 
-/// How long a read rests while the gate is closed, in milliseconds.
+// How long a read rests while the gate is closed, in milliseconds.
 const REST: u64 = 1;
 
-/// How many bytes a connection takes.
+// How many bytes a connection takes.
 pub(crate) const MOST_WRITTEN: usize = 1024;
 
 /// A connection that returns an input and keeps up to 1,024 bytes of what is written. It records
@@ -39,6 +39,7 @@ impl<R: Drop> GateConn<R> {
         }
     }
 
+    // A call fails.
     fn fail(&mut self) -> Failed
         ensures quiets { self.new.quiets ≡ self.old.quiets }
         ensures counts { Counts ⊤ self.old.faults self.new.faults }

@@ -56,7 +56,7 @@ impl<R: Copy + Drop> GateDoor<R> {
 
     /// Four doors: door a has one connection with the bytes `one`, door b one with the bytes `two`,
     /// and the others have none. While door b's connection isn't given back, a read of door a's
-    /// rests for a millisecond and finds nothing yet.
+    /// rests for a millisecond and finds nothing yet. Fails if out of memory.
     pub fn four(
         rt: &R,
         alloc: Global,

@@ -5,7 +5,7 @@ use std::alloc::{AllocError, Global};
 use std::process::Abort;
 use std::test::Fail;
 
-/// A text, another one repeated, and a third one.
+// A text, another one repeated, and a third one.
 fn repeated(
     alloc: Global,
     head: &str,
@@ -17,8 +17,8 @@ fn repeated(
     format!(in alloc; "{head}{parts}{tail}")
 }
 
-/// A `POST` that goes on with a head, a repeated part and a tail is read and has this body; with the part once more it isn't
-/// read, and that is why.
+// A `POST` that goes on with a head, a repeated part and a tail is read and has this body; with the part once more it isn't
+// read, and that is why.
 fn at_most(
     rt: &impl Abort,
     alloc: Global,

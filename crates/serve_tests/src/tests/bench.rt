@@ -17,10 +17,10 @@ use std::sync::Wait;
 use std::thread::Threads;
 use std::time::Clock;
 
-/// The quiet reads for which a worker waits.
+// The quiet reads for which a worker waits.
 const PATIENCE: u32 = 10_000;
 
-/// The first line that is sent arrives, and this number of lines after it is lost.
+// The first line that is sent arrives, and this number of lines after it is lost.
 fn fates(rt: &impl Abort, alloc: Global, lost: u32) -> FateList {
     let mut fates = FateList::new(alloc);
     assert!(rt; fates.push(Fate::Whole).is_ok());
@@ -30,7 +30,7 @@ fn fates(rt: &impl Abort, alloc: Global, lost: u32) -> FateList {
     fates
 }
 
-/// A host with all that it serves with but its doors.
+// A host with all that it serves with but its doors.
 #[derive(Drop)]
 pub(super) struct Bench {
     alloc: Global,
@@ -41,7 +41,7 @@ pub(super) struct Bench {
 }
 
 impl Bench {
-    /// A host over a link that loses this number of lines after the first one.
+    // A host over a link that loses this number of lines after the first one.
     pub(super) fn new(rt: &impl Abort, alloc: Global, lost: u32) -> Bench
         ensures fresh { IsFresh (session_of result.house) }
     {
@@ -58,10 +58,10 @@ impl Bench {
         }
     }
 
-    /// Drops the bench in one place. A test in which it goes out of scope would have to prove that drop itself.
+    // Drops the bench in one place. A test in which it goes out of scope would have to prove that drop itself.
     pub(super) fn end(self) {}
 
-    /// The admin asks at the beginning.
+    // The admin asks at the beginning.
     pub(super) fn ask(&mut self, rt: &impl Abort, request: Request)
         requires fresh { IsFresh (session_of self.old.house) }
         ensures fresh { IsFresh (session_of self.new.house) }
@@ -71,7 +71,7 @@ impl Bench {
             .ask(&mut self.keeper, &mut self.shelf, Ask { key, request }, 0);
     }
 
-    /// Serves at these doors; returns the number of calls, and whether no door failed.
+    // Serves at these doors; returns the number of calls, and whether no door failed.
     pub(super) fn serve<
         R: Threads + Wait + Abort + Clock + Copy + Send + Sync + Drop,
         D: Door + Send + Drop,

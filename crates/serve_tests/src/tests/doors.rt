@@ -4,10 +4,10 @@ use octo_serve::GateDoor;
 use std::alloc::Global;
 use std::process::Abort;
 
-/// Lets the doors go, as `Bench::end` does.
+// Lets the doors go, as `Bench::end` does.
 pub(super) fn end_doors<D: Drop>(_doors: Doors<D>) {}
 
-/// Two connections, of which the first is read only once the second was given back.
+// Two connections, of which the first is read only once the second was given back.
 pub(super) fn gates<R: Abort + Copy + Drop>(
     rt: &R,
     alloc: Global,
@@ -25,12 +25,12 @@ fn status(reply: &[u8]) -> &[u8] {
     reply.get(9..12).unwrap_or(b"-")
 }
 
-/// Whether the reply has this status.
+// Whether the reply has this status.
 pub(super) fn has_status(reply: &[u8], wanted: &str) -> bool {
     status(reply) == wanted.as_bytes()
 }
 
-/// Whether this number of connections was given back, each with a reply of status 200.
+// Whether this number of connections was given back, each with a reply of status 200.
 pub(super) fn has_served(door: &MemoryDoor, count: usize) -> bool {
     let conns = door.served().unwrap_or(&[]);
     conns.len() == count
@@ -39,7 +39,7 @@ pub(super) fn has_served(door: &MemoryDoor, count: usize) -> bool {
             .all(|conn| has_status(conn.written().unwrap_or(b""), "200"))
 }
 
-/// The reply to the connection at this place, counted from 0.
+// The reply to the connection at this place, counted from 0.
 pub(super) fn reply_at(door: &MemoryDoor, place: usize) -> &[u8] {
     match door.served().unwrap_or(&[]).get(place) {
         Some(conn) => conn.written().unwrap_or(b""),

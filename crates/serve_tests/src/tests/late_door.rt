@@ -9,7 +9,7 @@ use std::sync::atomic::{AtomicBool, Ordering};
 use std::thread;
 use std::time::{Clock, Duration};
 
-/// A door in memory that may wait, for at most ten seconds, until another one has given back a number of connections.
+// A door in memory that may wait, for at most ten seconds, until another one has given back a number of connections.
 #[derive(Drop)]
 pub(super) struct LateDoor<R: Drop> {
     rt: R,
@@ -53,7 +53,7 @@ impl<R: Clock + Copy + Send + Drop> Door for LateDoor<R> {
     }
 }
 
-/// A gate that is closed.
+// A gate that is closed.
 pub(super) fn gate(rt: &impl Abort, alloc: Global) -> Arc<AtomicBool> {
     match Arc::new(alloc, AtomicBool::new(false)) {
         Ok(gate) => gate,
@@ -69,7 +69,7 @@ fn same_gate(rt: &impl Abort, gate: &Arc<AtomicBool>) -> Arc<AtomicBool> {
 }
 
 impl<R: Abort + Copy + Drop> LateDoor<R> {
-    /// A door at which connections with these inputs come.
+    // A door at which connections with these inputs come.
     pub(super) fn new(
         rt: &R,
         alloc: Global,

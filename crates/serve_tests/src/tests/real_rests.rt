@@ -3,7 +3,7 @@ use octo_outside::{Clock, MemoryClock};
 use std::thread;
 use std::time::Duration;
 
-/// A clock in memory whose rests take a millisecond each, so that workers come to ask meanwhile.
+// A clock in memory whose rests take a millisecond each, so that workers come to ask meanwhile.
 #[derive(Drop)]
 pub(super) struct RealRests<R: Drop> {
     rt: R,
@@ -11,7 +11,7 @@ pub(super) struct RealRests<R: Drop> {
 }
 
 impl<R: Copy + Drop> RealRests<R> {
-    /// A clock whose rests add five milliseconds.
+    // A clock whose rests add five milliseconds.
     pub(super) fn new(rt: &R) -> Self {
         RealRests {
             rt: *rt,

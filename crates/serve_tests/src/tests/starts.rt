@@ -22,7 +22,7 @@ const PRINTING: &[u8] =
 // More commands than a window holds.
 const FILE: &[u8] = b"G28\nG1 X5\nG1 X10\nG1 X15\nG1 X20\nG1 X25\nG1 X30\n";
 
-/// A request that puts a file and selects it.
+// A request that puts a file and selects it.
 fn put_file(rt: &impl Abort, alloc: Global) -> Request {
     Request::PutFile {
         name: Name::from_text("a.gcode").expect(rt, "a long name"),
@@ -32,7 +32,7 @@ fn put_file(rt: &impl Abort, alloc: Global) -> Request {
     }
 }
 
-/// A host whose file is selected, and whose port is being connected.
+// A host whose file is selected, and whose port is being connected.
 fn connecting(rt: &impl Abort, alloc: Global) -> Bench
     ensures fresh { IsFresh (session_of result.house) }
 {
@@ -42,8 +42,8 @@ fn connecting(rt: &impl Abort, alloc: Global) -> Bench
     bench
 }
 
-/// Doors at which two workers ask to start a print, at once after ten calls of the one. Each call is followed by a turn of
-/// the link, so that the printer is operational by then.
+// Doors at which two workers ask to start a print, at once after ten calls of the one. Each call is followed by a turn of
+// the link, so that the printer is operational by then.
 fn starting_doors<R: Abort + Copy + Drop>(rt: &R, alloc: Global) -> Doors<LateDoor<R>> {
     let gate = gate(rt, alloc);
     let first: &[&[u8]] = &[
@@ -62,7 +62,7 @@ fn is_started(reply: &[u8]) -> bool {
     has_status(reply, "204")
 }
 
-/// Whether one worker's print was started, and the other one found it started.
+// Whether one worker's print was started, and the other one found it started.
 fn is_one_started(one: &[u8], two: &[u8]) -> bool {
     (is_started(one) && two.ends_with(PRINTING)) || (is_started(two) && one.ends_with(PRINTING))
 }

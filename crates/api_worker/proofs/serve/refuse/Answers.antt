@@ -7,5 +7,6 @@ use Rattle.api_worker.proofs.serve.refuse.Goals as goal
 pub returns-in-Some-clause-written : goal.returns-in-Some-clause-written
 returns-in-Some-clause-written g c =
     let At : List ℕ → Type 0 = λ bytes.
-    Sends (g.C.Conn.written c.args.conn.now) (g.C.Conn.written c.write_or_leave.new.conn) (g.C.Conn.faults c.args.conn.now) (g.C.Conn.faults c.write_or_leave.new.conn) bytes in
-    subst At (fault_reply (fault_status c.args.fault.now) c.in-Some.reply c.in-Some.ensures) c.write_or_leave.ensures.written
+    Sends (g.C.Conn.written c.args.conn.now) (g.C.Conn.written c.write_reply_or_ignore.new.conn) (g.C.Conn.faults c.args.conn.now)
+    (g.C.Conn.faults c.write_reply_or_ignore.new.conn) bytes in
+    subst At (fault_reply (fault_status c.args.fault.now) c.in-Some.reply c.in-Some.ensures) c.write_reply_or_ignore.ensures.written

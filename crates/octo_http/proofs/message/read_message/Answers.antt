@@ -1,7 +1,7 @@
 use Rattle.std.proofs.Common.{refl, arith}
 use Rattle.octo_outside.proofs.Recorded.{rose_after}
 use Rattle.octo_http.proofs.Reading.{caused_since}
-use Rattle.octo_http.proofs.MessageLemmas.{head_fault, bounded_same, patient_at, failed_with, leave_fault, bounded_cut, patient_leave, body_fault, bounded_all, asked_only, waits_both, message_read, patient_read}
+use Rattle.octo_http.proofs.MessageLemmas.{head_fault, bounded_same, patient_at, failed_with, continue_fault, bounded_cut, patient_continue, body_fault, bounded_all, asked_only, waits_both, message_read, patient_read}
 use Rattle.octo_http.proofs.message.read_message.Goals as goal
 
 pub returns-in_err-head-clause-answer : goal.returns-in_err-head-clause-answer
@@ -23,14 +23,14 @@ returns-in_err-head-clause-counts g c = record {
 
 pub returns-in-Err-clause-answer : goal.returns-in-Err-clause-answer
 returns-in-Err-clause-answer g c =
-    leave_fault c.args.patience c.new-intake.result _ _ _ _ _ _ _ c.in_ok-head.head c.new-intake.ensures c.in_ok-head.ensures.head c.in-Err.ensures.left c.in_ok-head.ensures.written c.in-Err.ensures.err
+    continue_fault c.args.patience c.new-intake.result _ _ _ _ _ _ _ c.in_ok-head.head c.new-intake.ensures c.in_ok-head.ensures.head c.in-Err.ensures.left c.in_ok-head.ensures.written c.in-Err.ensures.err
 
 pub returns-in-Err-clause-bounded : goal.returns-in-Err-clause-bounded
 returns-in-Err-clause-bounded g c = bounded_cut _ _ _ c.in_ok-head.head c.in_ok-head.ensures.written c.in-Err.ensures.err
 
 pub returns-in-Err-clause-patient : goal.returns-in-Err-clause-patient
 returns-in-Err-clause-patient g c =
-    patient_leave c.args.patience c.new-intake.result _ _ _ _ _ _ c.new-intake.ensures c.in_ok-head.ensures.waits c.in-Err.ensures.quiets
+    patient_continue c.args.patience c.new-intake.result _ _ _ _ _ _ c.new-intake.ensures c.in_ok-head.ensures.waits c.in-Err.ensures.quiets
 
 pub returns-in-Err-clause-counts : goal.returns-in-Err-clause-counts
 returns-in-Err-clause-counts g c = record {

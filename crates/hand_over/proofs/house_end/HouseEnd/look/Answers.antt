@@ -22,7 +22,7 @@ load-requires c = let inv = c.self.invariant in let me = c.self.inside.seat.me i
 pub invariant_of-self : goal.invariant_of-self
 invariant_of-self c = let inv = c.self.invariant in let me = c.self.inside.seat.me in let now = c.load.new.seat.me in
     let untaken : (house_of me.0).taken ≡ None = ap (λ (d : HouseData). d.view.taken) c.self.view_is ∙ c.requires.answered in
-    let told = (c.load.ensures.2 c.args.worker refl).1 c.if-load-ne1.true in
+    let told = (c.load.ensures.2 c.args.worker refl).1 c.if-load-ne-ASKED.true in
     let running : (house_of now.0).closed ≡ false = ap (λ m. (house_of m.0).closed) told ∙ (ap (λ (d : HouseData). d.view.closed) c.self.view_is
     ∙ c.requires.open) in (
       c.load.ensures.0 ∙ inv.0,
@@ -35,13 +35,13 @@ invariant_of-self c = let inv = c.self.invariant in let me = c.self.inside.seat.
     )
 
 pub exchange-letter-requires : goal.exchange-letter-requires
-exchange-letter-requires c = let now = c.load.new.seat.me in let hit = (c.load.ensures.2 c.args.worker refl).0 c.if-load-ne1.false in (
+exchange-letter-requires c = let now = c.load.new.seat.me in let hit = (c.load.ensures.2 c.args.worker refl).0 c.if-load-ne-ASKED.false in (
   search rules,
   (Some (Asked hit.0), in_slot now c.args.worker hit.0 (ap (λ m. m.1) hit.1)),
 )
 
 pub ask_in-requires : goal.ask_in-requires
-ask_in-requires c = let hit = (c.load.ensures.2 c.args.worker refl).0 c.if-load-ne1.false in let old = c.self.inside.seat.me in
+ask_in-requires c = let hit = (c.load.ensures.2 c.args.worker refl).0 c.if-load-ne-ASKED.false in let old = c.self.inside.seat.me in
     let x = c.exchange-letter.ensures in
     ap (λ (l : Option Letter). is_some (ask_in l)) (hit_letter old c.load.new.seat.me c.exchange-letter.new.seat.me c.args.worker c.load.result hit.0 hit.0
     c.exchange-letter.result c.self.invariant.3 hit.1 x.2 x.3)
@@ -50,7 +50,7 @@ pub invariant_of-self-2 : goal.invariant_of-self-2
 invariant_of-self-2 c = let inv = c.self.invariant in let me = c.self.inside.seat.me in let mid = c.load.new.seat.me in
     let now = c.exchange-letter.new.seat.me in
     let w = c.args.worker in let found = c.load.result in let letter = c.exchange-letter.result in
-    let hit = (c.load.ensures.2 w refl).0 c.if-load-ne1.false in let x = c.exchange-letter.ensures in
+    let hit = (c.load.ensures.2 w refl).0 c.if-load-ne-ASKED.false in let x = c.exchange-letter.ensures in
     let at = hit_at me mid now w found hit.0 hit.0 letter inv.3 hit.1 x.2 x.3 in
     let running : (house_of now.0).closed ≡ false = ap (λ m. (house_of m.0).closed) at ∙ (ap (λ (d : HouseData). d.view.closed) c.self.view_is
     ∙ c.requires.open) in (
