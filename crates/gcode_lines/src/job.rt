@@ -67,7 +67,7 @@ impl Job {
         line_in(self.places.words()[i])
     }
 
-    /// The place of the first byte of a command's line. It is looked for backward from the text.
+    /// The place of the first byte of a command's line, in bytes from 0. It is looked for backward from the text.
     pub fn place(&self, i: usize) -> u32
         requires { i < length self.now.commands }
         ensures { result ≡ slice_index (places_of self.now) i }

@@ -46,7 +46,7 @@ pub fn take_commands(alloc: Global, bytes: Blob) -> Result<Job, FileFault>
     Ok(Job::new(bytes, places))
 }
 
-/// The commands of a copy of these bytes, as `take_commands` finds them.
+/// The commands of a copy of these bytes, as `take_commands` finds them; NoMemory also if they can't be copied.
 pub fn read_commands(alloc: Global, bytes: &[u8]) -> Result<Job, FileFault>
     ensures exact { (result ≡ Err FileFault.NoMemory) ⊎ (result ≡ job_of bytes.now) }
     ensures sendable { IfOk result (λ job. AllSendable (texts_of job)) }

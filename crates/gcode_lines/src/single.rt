@@ -7,7 +7,7 @@ use crate::fault::NotOne;
 use crate::text::{command_text, has_control, is_too_long, text_from};
 use byte_text::{Text, has_byte, has_m110};
 
-/// The one command of a line, read as a line of a file is. It takes no memory.
+/// The one command of a line, read as a line of a file is, or the first rule of `NotOne` that the line breaks. It takes no memory.
 #[tactic(auto, unfolding(crate::specs::Single::single_of), using(crate::proofs::Sendable::sendable_text))]
 pub fn one_command(line: &[u8]) -> Result<Text, NotOne>
     ensures exact { MatchResult result (λ text. single_of line.now ≡ Ok text.items)

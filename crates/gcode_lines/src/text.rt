@@ -162,7 +162,7 @@ fn is_odd(byte: u8) -> bool
     byte == b'M' || is_control(byte)
 }
 
-/// Whether a byte of a text is odd. It looks at every byte, so that many are looked at at once.
+/// Whether a byte of a text is odd. It has no early return, so that the compiler can test several bytes with one instruction.
 fn has_odd(text: &[u8]) -> bool
     ensures { result ≡ fold (λ odd byte. odd || is_odd byte) false text.now }
 {

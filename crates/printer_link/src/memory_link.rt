@@ -60,7 +60,7 @@ impl Model for MemoryLink {
 }
 
 impl MemoryLink {
-    /// A link that does as the schedule says, to a printer of 1 to 16 buffer slots that has run nothing.
+    /// A link that does as the schedule says, to a printer of 1 to 16 buffer slots that has run nothing. Fails if out of memory.
     pub fn new(alloc: Global, schedule: Schedule) -> Result<Self, AllocError>
         requires some { 1 ≤ schedule.places }
         requires few { schedule.places ≤ 16 }
@@ -119,7 +119,7 @@ impl MemoryLink {
             .count() as u64
     }
 
-    /// The lines that the printer ran in a session, counted from 1, without those of the hello's number.
+    /// The lines that the printer ran in a session, without those of the hello's number; the first session is 1. Fails if out of memory.
     pub fn executed(&self, session: u32) -> Result<Executed, AllocError>
         ensures { IfOk result (λ e. e ≡ executed self.now.story.places self.now.story.advanced
             self.now.story.past session) }

@@ -132,7 +132,7 @@ const LOSSES: [Call; 11] = [
     Call::Dial("q", Err(LinkFault::NoPort)),
 ];
 
-// The printer restarts at the third receiving, with the second command on its way.
+// The printer restarts at the third call of `recv`, with the second command on its way.
 const RESTART: [Call; 10] = [
     Call::Dial("p", Ok(())),
     Call::Send("N0 M110 N1*124", Ok(())),

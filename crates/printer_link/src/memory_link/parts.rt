@@ -25,7 +25,7 @@ impl MemoryLink {
         self.fail_at.as_slice().iter().any(|listed| *listed == call)
     }
 
-    /// Counts a receiving, and says whether the printer runs a line at it.
+    /// Counts a call of `recv`, and says whether the printer runs a line at it.
     pub(super) fn begin_recv(&mut self) -> bool
         ensures due { result ≡ is_due self.old.slow (one_more self.old.recvs) }
         ensures counts { self.new ≡ with_one_recv self.old }
@@ -34,7 +34,7 @@ impl MemoryLink {
         self.recvs % (u64::from(self.slow) + 1) == 0
     }
 
-    /// Whether the printer restarts at this receiving.
+    /// Whether the printer restarts at this call of `recv`.
     pub(super) fn restarts(&self) -> bool
         ensures { result ≡ is_listed self.now.restart_at self.now.recvs }
     {
