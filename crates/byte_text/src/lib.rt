@@ -19,7 +19,8 @@ pub use name::{LongName, MOST_NAME_BYTES, Name};
 pub use numbers::{are_digits, leading_digits, number, number_in, whole_number};
 pub use sendable::is_sendable;
 pub use texts::{
-    Line, MOST_LINE_BYTES, ReplyLine, Text, append, append_decimal, append_number, bounded_text,
+    Line, MOST_LINE_BYTES, MOST_TEXT_BYTES, ReplyLine, Text, append, append_decimal, append_number,
+    bounded_text,
 };
 
 /// The exclusive or of all bytes, which Marlin's serial protocol takes as a line's checksum.

@@ -16,7 +16,7 @@ pub use fault::{FileFault, NotOne};
 pub use gcode_words::{CodeWord, Words, words};
 pub use job::Job;
 pub use laws::{job_law, line_law, single_law};
-pub use reading::{read_commands, take_commands};
+pub use reading::{MOST_FILE_BYTES, read_commands, take_commands};
 pub use single::one_command;
 
 #[cfg(test)]

@@ -1,5 +1,6 @@
 //! Where the commands of a file are, found line by line.
 ghost use Rattle.std.specs.Prelude.{◌≡◌, ◌+◌, ◌<◌, ◌≤◌, ◌++◌, ◌⊎◌, [], ◌∷◌, None, Some, length, MatchResult};
+ghost use Rattle.byte_text.specs.declared.texts.TheConstants.{MOST_TEXT_BYTES};
 ghost use Rattle.gcode_lines.specs.Job.{most_bytes, word_at};
 ghost use Rattle.gcode_lines.specs.Commands.{file_line, fault_at};
 ghost use Rattle.gcode_lines.specs.Packed.{places_after};
@@ -73,7 +74,7 @@ impl Places {
 
     /// Adds the text of a line as a command.
     fn add(&mut self, found: TextAt<'_>, number: u32, place: usize) -> Result<(), FileFault>
-        requires short { length found.text.now ≤ 79 }
+        requires short { length found.text.now ≤ MOST_TEXT_BYTES }
         requires counted { number ≤ most_bytes }
         requires inside { place + found.begin ≤ most_bytes }
         ensures { MatchResult result

@@ -12,13 +12,13 @@ use octo_outside::Blob;
 use std::alloc::{AllocError, Global};
 
 /// The most bytes of a file.
-const MOST_BYTES: usize = 67_108_864;
+pub const MOST_FILE_BYTES: usize = 67_108_864;
 
 /// Where the commands of a file are, or why there are none.
 fn find_commands(alloc: Global, bytes: &[u8]) -> Result<Places, FileFault>
     ensures { MatchResult result (AreFound bytes.now) (IsRefused bytes.now) }
 {
-    if bytes.len() > MOST_BYTES {
+    if bytes.len() > MOST_FILE_BYTES {
         return Err(FileFault::TooLarge {
             bytes: bytes.len() as u64,
         });

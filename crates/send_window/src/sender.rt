@@ -20,7 +20,7 @@ mod hearing;
 #[cfg(test)]
 mod tests;
 
-/// The most lines of a session.
+/// The most lines of a session: their numbers go from 2 to `LAST_NUMBER`.
 const MOST_LINES: u32 = 1_999_999_999;
 
 /// After this number of limits in a row in which nothing was received the session ends.
