@@ -36,6 +36,13 @@ impl Blob {
         })
     }
 
+    /// These bytes; takes no memory.
+    pub fn from_vec(bytes: Vec<u8>) -> Self
+        ensures { result ≡ bytes.items }
+    {
+        Blob { bytes }
+    }
+
     /// Adds bytes at the end; without memory nothing is added.
     pub fn append(&mut self, bytes: &[u8]) -> Result<(), AllocError>
         ensures ok { OnOk result (self.new ≡ self.old ++ bytes.now) }

@@ -38,11 +38,7 @@ impl MemoryLink {
     pub(super) fn restarts(&self) -> bool
         ensures { result ≡ is_listed self.now.restart_at self.now.recvs }
     {
-        let recv = self.recvs;
-        self.restart_at
-            .as_slice()
-            .iter()
-            .any(|listed| *listed == recv)
+        self.restart_at.as_slice().contains(&self.recvs)
     }
 
     /// Counts a failure, and closes the link if one is made.
