@@ -6,11 +6,11 @@ mod fault;
 mod job;
 mod laws;
 mod line;
+mod packed_entry;
 mod places;
 mod reading;
 mod single;
 mod text;
-mod word;
 
 pub use fault::{FileFault, NotOne};
 pub use gcode_words::{CodeWord, Words, words};
