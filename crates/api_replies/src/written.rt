@@ -24,7 +24,7 @@ pub(crate) fn json_reply(alloc: Global, status: u16, value: Value) -> Result<Htt
     Ok(HttpReply {
         status,
         kind: ReplyKind::Json,
-        body: Blob::from_slice(alloc, text.as_slice())?,
+        body: Blob::from_vec(text),
     })
 }
 

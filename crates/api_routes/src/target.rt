@@ -1,12 +1,12 @@
 //! What a request is about: a path with its names.
-ghost use Rattle.std.specs.Prelude.{◌≡◌, ◌≤◌, IfOk, IfErr, true, drop, length};
+ghost use Rattle.std.specs.Prelude.{◌≡◌, ◌≤◌, IfOk, IfErr, true, length};
 ghost use Rattle.percent_encoding.specs.Percent.{percent_decode};
 ghost use Rattle.api_routes.specs.Places.{has_name, name_of_part, file_name_of_part, before_slash, others_entry, target_at, target_of};
 
 use crate::ascii::ascii_text;
 use crate::place::{Place, Routes};
 use api_direct::Direct;
-use byte_text::Name;
+use byte_text::{Name, after};
 use file_names::read_file_name;
 use octo_access::read_name;
 use percent_encoding::percent_decode;
@@ -81,17 +81,6 @@ fn file_name_of_part(alloc: Global, part: &[u8]) -> Result<Option<Name>, Direct>
     match ascii_text(bytes.as_slice()) {
         Some(text) => Ok(read_file_name(text)),
         None => Ok(None),
-    }
-}
-
-// What comes after a prefix of this length.
-fn after(path: &[u8], count: usize) -> &[u8]
-    ensures { result.now ≡ drop count path.now }
-{
-    if count <= path.len() {
-        &path[count..]
-    } else {
-        &[]
     }
 }
 

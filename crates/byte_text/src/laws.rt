@@ -1,4 +1,4 @@
-//! Laws of these readings, on which proofs about lines rest. A law's function does nothing: its contract is the law.
+//! Laws of the readings of this crate, on which proofs about lines rest. A law's function does nothing: its contract is the law.
 ghost use Rattle.std.specs.Prelude.{◌≡◌, ℕ, ◌<◌, ◌^◌, Bool, true, false, ◌||◌, ◌==◌, List, [], ◌∷◌, ◌++◌, codes, decimal, bit_xor};
 ghost use Rattle.std.specs.Char.{is_ascii_digit};
 ghost use Rattle.std.specs.List.{All, before_last, after_last};

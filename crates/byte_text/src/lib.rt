@@ -6,7 +6,7 @@ mod laws;
 mod marks;
 mod name;
 mod numbers;
-mod sendable;
+mod parts;
 mod texts;
 
 ghost use Rattle.std.specs.Prelude.{◌≡◌};
@@ -17,9 +17,10 @@ pub use laws::{byte_law, m110_law, number_law, xor_law};
 pub use marks::{has_byte, has_m110, split_at_last};
 pub use name::{LongName, MOST_NAME_BYTES, Name};
 pub use numbers::{are_digits, leading_digits, number, number_in, whole_number};
-pub use sendable::is_sendable;
+pub use parts::after;
 pub use texts::{
-    Line, MOST_LINE_BYTES, ReplyLine, Text, append, append_decimal, append_number, bounded_text,
+    Line, MOST_LINE_BYTES, MOST_TEXT_BYTES, ReplyLine, Text, append, append_decimal, append_number,
+    bounded_text,
 };
 
 /// The exclusive or of all bytes, which Marlin's serial protocol takes as a line's checksum.

@@ -83,12 +83,8 @@ fn names(rt: HostRuntime) {
 }
 
 #[test]
-fn sendable_texts(rt: HostRuntime) {
-    assert!(rt; is_sendable(b"G28"));
-    assert!(rt; is_sendable(&[b'a'; 79]));
-    assert!(rt; !is_sendable(&[b'a'; 80]));
-    assert!(rt; !is_sendable(b""));
-    assert!(rt; !is_sendable(b"G28*"));
-    assert!(rt; !is_sendable(b"G28\nG1"));
-    assert!(rt; !is_sendable(b"M110"));
+fn parts_of_bytes(rt: HostRuntime) {
+    assert!(rt; after(b"N12 G28", 4) == b"G28".as_slice());
+    assert!(rt; after(b"N1", 2).is_empty());
+    assert!(rt; after(b"N1", 3).is_empty());
 }

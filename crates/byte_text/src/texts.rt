@@ -5,8 +5,11 @@ ghost use Rattle.arrayvec.specs.ArrayVec.{array_vec_len};
 use arrayvec::ArrayVec;
 use itoa::Buffer;
 
+/// How many bytes a command has at most, so that its numbered line fits Marlin's buffer.
+pub const MOST_TEXT_BYTES: usize = 79;
+
 /// A command, 1 to 79 bytes if it may be sent.
-pub type Text = ArrayVec<u8, 79>;
+pub type Text = ArrayVec<u8, MOST_TEXT_BYTES>;
 
 /// How many bytes a line to the printer has at most, without its line end. Source: Marlin's `MAX_CMD_SIZE`, 96.
 pub const MOST_LINE_BYTES: usize = 95;

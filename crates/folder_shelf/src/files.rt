@@ -7,6 +7,7 @@ ghost use Rattle.octo_keeper.specs.declared.shelf.ShelfFault.TheVariants as faul
 use crate::paths::{PART, path_in};
 use byte_text::Name;
 use file_names::is_file_name;
+use gcode_lines::MOST_FILE_BYTES;
 use octo_keeper::ShelfFault;
 use octo_outside::{Blob, FileSource, ReadAll, read_all};
 use std::alloc::Global;
@@ -14,9 +15,6 @@ use std::fs::{File, OpenFile};
 use std::io::{ErrorKind, Write};
 use std::rt::Files;
 use std::{fs, io};
-
-/// The most bytes of a file that is read.
-const MOST_BYTES: usize = 67_108_864;
 
 // The fault of a failed call of the system: out of memory only if the system says so.
 pub(crate) fn fault_of(error: &io::Error) -> ShelfFault
@@ -48,7 +46,7 @@ fn read_bytes<R: Files + AllocGlobal + Clone + Drop>(
         Err(_) => return Err(ShelfFault::NoMemory),
     };
     let mut source = FileSource::new(files);
-    match read_all(alloc, &mut source, path, MOST_BYTES) {
+    match read_all(alloc, &mut source, path, MOST_FILE_BYTES) {
         Ok(bytes) => Ok(bytes),
         Err(ReadAll::NoMemory) => Err(ShelfFault::NoMemory),
         Err(_) => Err(ShelfFault::Failed),

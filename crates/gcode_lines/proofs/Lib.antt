@@ -2,7 +2,7 @@ pub mod Decoded
 pub mod FirstLine
 pub mod JobLaws
 pub mod Kept
-pub mod LineWords
+pub mod LineEntries
 pub mod Lines
 pub mod Plain
 pub mod Sendable

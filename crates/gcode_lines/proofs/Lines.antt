@@ -9,11 +9,11 @@ use Rattle.std.proofs.lemmas.List.Folds.{length-prefix_len}
 use Rattle.std.proofs.lemmas.List.Sums.{take_while-cons, sum_by-cons, fails_before_first, prefix_len_stops}
 use Rattle.gcode_lines.specs.declared.fault.FileFault.{FileFault}
 use Rattle.gcode_lines.specs.declared.fault.FileFault.TheVariants.{NoMemory, TooLarge}
-use Rattle.gcode_lines.specs.Job.{most_bytes, word_of}
+use Rattle.gcode_lines.specs.Job.{most_bytes, entry_of}
 use Rattle.gcode_lines.specs.Commands.{FileLine, file_line, in_front, pieces_of, numbered, lines_of, is_skipped_line, fault_at, first_fault, commands_in, skipped_in, job_of}
 use Rattle.gcode_lines.specs.Packed.{PlacesData, places_after, command_in, EndsIn}
 use Rattle.gcode_lines.specs.Found.{AreFound, IsRefused}
-use Rattle.gcode_lines.proofs.LineWords.{IsLineOf, words_of_line}
+use Rattle.gcode_lines.proofs.LineEntries.{IsLineOf, entries_of_line}
 use Rattle.gcode_lines.proofs.TextCut.{IsPart, IsPart-part, IsPart-take, IsPart-drop}
 
 -- the bytes before the first line feed
@@ -101,15 +101,15 @@ one_by line false e = rw e refl
 -- what was found once a number of lines up to a place were read
 pub record HasRead (bytes : List ℕ) (at number : ℕ) (places : PlacesData) : Type 0 where
   pub fault : first_fault (lines_of bytes) ≡ first_fault (lines_left bytes at number)
-  pub commands : commands_in (lines_of bytes) ≡ map (command_in bytes) places.words ++ commands_in (lines_left bytes at number)
+  pub commands : commands_in (lines_of bytes) ≡ map (command_in bytes) places.entries ++ commands_in (lines_left bytes at number)
   pub skipped : skipped_in (lines_of bytes) ≡ places.skipped + skipped_in (lines_left bytes at number)
-  pub ends : All (EndsIn bytes) places.words
+  pub ends : All (EndsIn bytes) places.entries
   pub starts : 0 < at → at ≤ length bytes → get_or bytes (at - 1) 0 ≡ 10
-  pub few : length places.words + places.skipped ≤ number
+  pub few : length places.entries + places.skipped ≤ number
   pub counted : number ≤ at
   pub lines : number ≤ length bytes
 
-pub HasRead-start : (bytes : List ℕ) (places : PlacesData) → places ≡ record { words = []; skipped = 0 } → HasRead bytes 0 0 places
+pub HasRead-start : (bytes : List ℕ) (places : PlacesData) → places ≡ record { entries = []; skipped = 0 } → HasRead bytes 0 0 places
 unfolding lines_of
 HasRead-start bytes places e =
     rw e (record { fault = refl; commands = refl; skipped = omega arith; ends = All-nil (EndsIn bytes); starts = λ some within. absurd (omega arith); few = omega arith; counted = omega arith; lines = omega arith })
@@ -155,10 +155,10 @@ HasRead-more bytes at number places line read within small e sound =
     let left = lines_left bytes (at + (length line + 1)) (number + 1) in
     let next = lines_left-cons bytes at number line within e in
     let one = one_by this (is_skipped_line this) refl in
-    let new = map word_of (commands_in (this ∷ [])) in
-    let found = words_of_line bytes this (line_there bytes at (number + 1) line (λ some. read.starts some (omega arith)) within small e) sound in
-    let added = length-append places.words new in
-    let mapped = length-map (commands_in (this ∷ [])) word_of in
+    let new = map entry_of (commands_in (this ∷ [])) in
+    let found = entries_of_line bytes this (line_there bytes at (number + 1) line (λ some. read.starts some (omega arith)) within small e) sound in
+    let added = length-append places.entries new in
+    let mapped = length-map (commands_in (this ∷ [])) entry_of in
     let skipped = skipped_in-cons this left in
     let before = read.skipped ∙ ap (λ lines. places.skipped + skipped_in lines) next in
     let few = read.few in
@@ -166,13 +166,13 @@ HasRead-more bytes at number places line read within small e sound =
     record {
       fault = read.fault ∙ ap first_fault next ∙ ap (λ fault. option_or fault (first_fault left)) sound;
       commands =
-          read.commands ∙ ap (λ lines. map (command_in bytes) places.words ++ commands_in lines) next
-          ∙ ap (λ commands. map (command_in bytes) places.words ++ commands) (commands_in-cons this left)
-          ∙ sym (append_assoc (map (command_in bytes) places.words) (commands_in (this ∷ [])) (commands_in left))
-          ∙ ap (λ commands. (map (command_in bytes) places.words ++ commands) ++ commands_in left) (sym found.0)
-          ∙ ap (λ commands. commands ++ commands_in left) (sym (map-append (command_in bytes) places.words new));
+          read.commands ∙ ap (λ lines. map (command_in bytes) places.entries ++ commands_in lines) next
+          ∙ ap (λ commands. map (command_in bytes) places.entries ++ commands) (commands_in-cons this left)
+          ∙ sym (append_assoc (map (command_in bytes) places.entries) (commands_in (this ∷ [])) (commands_in left))
+          ∙ ap (λ commands. (map (command_in bytes) places.entries ++ commands) ++ commands_in left) (sym found.0)
+          ∙ ap (λ commands. commands ++ commands_in left) (sym (map-append (command_in bytes) places.entries new));
       skipped = omega arith;
-      ends = All-append (EndsIn bytes) places.words new read.ends found.1;
+      ends = All-append (EndsIn bytes) places.entries new read.ends found.1;
       starts = λ some inside.
           let step : at + (length line + 1) - 1 ≡ at + length line = omega arith in
           ap (λ n. get_or bytes n 0) step ∙ feed_before bytes at line within e (omega arith);
@@ -188,8 +188,8 @@ HasRead-end bytes at number places read small past =
     let left = lines_left-end bytes at number past in
     let test : nat_lt most_bytes (length bytes) ≡ false = grind (arith, nat_tests) in
     let fault : first_fault (lines_of bytes) ≡ None = read.fault ∙ ap first_fault left in
-    let commands : commands_in (lines_of bytes) ≡ map (command_in bytes) places.words =
-    read.commands ∙ ap (λ lines. map (command_in bytes) places.words ++ commands_in lines) left ∙ append-nil (map (command_in bytes) places.words) in
+    let commands : commands_in (lines_of bytes) ≡ map (command_in bytes) places.entries =
+    read.commands ∙ ap (λ lines. map (command_in bytes) places.entries ++ commands_in lines) left ∙ append-nil (map (command_in bytes) places.entries) in
     let skipped : skipped_in (lines_of bytes) ≡ places.skipped = read.skipped ∙ ap (λ lines. places.skipped + skipped_in lines) left ∙ omega arith in
     let few = read.few in
     let lines = read.lines in

@@ -9,8 +9,8 @@ use Rattle.gcode_lines.specs.Packed.{PlacesData, job_at, EndsIn}
 -- these are the places of all commands of the file
 pub record AreFound (file : List ℕ) (places : PlacesData) : Type 0 where
   pub job : job_of file ≡ Ok (job_at file places)
-  pub ends : All (EndsIn file) places.words
-  pub lines : length places.words + places.skipped ≤ most_bytes
+  pub ends : All (EndsIn file) places.entries
+  pub lines : length places.entries + places.skipped ≤ most_bytes
   pub size : length file ≤ most_bytes
 
 -- the file is refused for this, or memory ran out

@@ -11,4 +11,4 @@ data_of job = job_at job.file job.places
 -- what holds of the fields of every job
 pub record IsHeld (fields : Inside) : Type 0 where
   pub job : IsJob (data_of fields)
-  pub ends : All (EndsIn fields.file) fields.places.words
+  pub ends : All (EndsIn fields.file) fields.places.entries

@@ -32,17 +32,17 @@ numbers_of job = map (λ c. c.line) job.commands
 abbrev pub places_of : JobData → List ℕ
 places_of job = map (λ c. c.place) job.commands
 
--- one word: where a text begins in 28 bits, how long it is in 7, and above them its line
-abbrev pub word_at : ℕ → ℕ → ℕ → ℕ
-word_at begin size line = begin + 2 ^ 28 * size + 2 ^ 35 * line
+-- an entry: where a text begins in 28 bits, how long it is in 7, and above them its line
+abbrev pub entry_at : ℕ → ℕ → ℕ → ℕ
+entry_at begin size line = begin + 2 ^ 28 * size + 2 ^ 35 * line
 
--- a command as one word
-abbrev pub word_of : Command → ℕ
-word_of c = word_at c.begin (length c.text) c.line
+-- a command as an entry
+abbrev pub entry_of : Command → ℕ
+entry_of c = entry_at c.begin (length c.text) c.line
 
--- the commands as words
+-- the commands as entries
 abbrev pub packed_of : JobData → List ℕ
-packed_of job = map word_of job.commands
+packed_of job = map entry_of job.commands
 
 -- a command's text is what the file holds from its place on
 abbrev pub IsCutFrom : List ℕ → Command → Type 0

@@ -6,8 +6,8 @@ ghost use Rattle.gcode_lines.specs.Job.{most_bytes, texts_of, numbers_of, places
 ghost use Rattle.gcode_lines.specs.Found.{AreFound};
 ghost use Rattle.gcode_lines.specs.Packed.{job_at, line_start};
 
+use crate::packed_entry::{begin_in, length_in, line_in};
 use crate::places::Places;
-use crate::word::{begin_in, length_in, line_in};
 use octo_outside::Blob;
 use std::marker::Model;
 
@@ -45,7 +45,7 @@ impl Job {
         ensures value { result ≡ length self.now.commands }
         ensures few { result ≤ most_bytes }
     {
-        self.places.words().len()
+        self.places.entries().len()
     }
 
     /// The text of a command, which may be sent.
@@ -54,9 +54,9 @@ impl Job {
         ensures value { result.now ≡ slice_index_or (texts_of self.now) i [] }
         ensures sendable { IsSendable result.now }
     {
-        let word = self.places.words()[i];
-        let begin = begin_in(word);
-        &self.file.as_slice()[begin..begin + length_in(word)]
+        let entry = self.places.entries()[i];
+        let begin = begin_in(entry);
+        &self.file.as_slice()[begin..begin + length_in(entry)]
     }
 
     /// The line of a command, counted from 1.
@@ -64,15 +64,15 @@ impl Job {
         requires { i < length self.now.commands }
         ensures { result ≡ slice_index (numbers_of self.now) i }
     {
-        line_in(self.places.words()[i])
+        line_in(self.places.entries()[i])
     }
 
-    /// The place of the first byte of a command's line. It is looked for backward from the text.
+    /// The place of the first byte of a command's line, in bytes from 0. It is looked for backward from the text.
     pub fn place(&self, i: usize) -> u32
         requires { i < length self.now.commands }
         ensures { result ≡ slice_index (places_of self.now) i }
     {
-        line_start(self.file.as_slice(), begin_in(self.places.words()[i])) as u32
+        line_start(self.file.as_slice(), begin_in(self.places.entries()[i])) as u32
     }
 
     /// How many lines hold no command.
@@ -98,13 +98,13 @@ impl Job {
         self.file.as_slice()
     }
 
-    /// The commands as words of 64 bits, in order. The word of a command is `t + 2^28 * n + 2^35 * l` if its text begins at
-    /// byte t of the file, has n bytes and is in line l, counted from 1.
+    /// The commands as entries of 64 bits, in order. The entry of a command is `t + 2^28 * n + 2^35 * l` if its text begins
+    /// at byte t of the file, has n bytes and is in line l, counted from 1.
     pub fn packed(&self) -> &[u64]
-        ensures words { result.now ≡ packed_of self.now }
+        ensures entries { result.now ≡ packed_of self.now }
         ensures texts { All (IsCutFrom self.now.file) self.now.commands }
     {
-        self.places.words()
+        self.places.entries()
     }
 }
 

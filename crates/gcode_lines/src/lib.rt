@@ -6,17 +6,17 @@ mod fault;
 mod job;
 mod laws;
 mod line;
+mod packed_entry;
 mod places;
 mod reading;
 mod single;
 mod text;
-mod word;
 
 pub use fault::{FileFault, NotOne};
 pub use gcode_words::{CodeWord, Words, words};
 pub use job::Job;
 pub use laws::{job_law, line_law, single_law};
-pub use reading::{read_commands, take_commands};
+pub use reading::{MOST_FILE_BYTES, read_commands, take_commands};
 pub use single::one_command;
 
 #[cfg(test)]

@@ -1,20 +1,21 @@
 //! Where the commands of a file are, found line by line.
 ghost use Rattle.std.specs.Prelude.{◌≡◌, ◌+◌, ◌<◌, ◌≤◌, ◌++◌, ◌⊎◌, [], ◌∷◌, None, Some, length, MatchResult};
-ghost use Rattle.gcode_lines.specs.Job.{most_bytes, word_at};
+ghost use Rattle.byte_text.specs.declared.texts.TheConstants.{MOST_TEXT_BYTES};
+ghost use Rattle.gcode_lines.specs.Job.{entry_at, most_bytes};
 ghost use Rattle.gcode_lines.specs.Commands.{file_line, fault_at};
 ghost use Rattle.gcode_lines.specs.Packed.{places_after};
 
 use crate::fault::FileFault;
 use crate::line::Line;
+use crate::packed_entry::entry_at;
 use crate::text::{TextAt, has_control, is_plain, is_skipped, is_too_long, text_in};
-use crate::word::word;
 use std::alloc::{AllocError, Global};
 use std::marker::Model;
 
-/// The commands found so far, a word each, and how many lines hold none.
+/// The commands found so far, an entry each, and how many lines hold none.
 #[derive(Drop)]
 pub(crate) struct Places {
-    words: Vec<u64>,
+    entries: Vec<u64>,
     skipped: u32,
 }
 
@@ -23,25 +24,25 @@ impl Model for Places {
 
     ghost Value = { PlacesData };
 
-    ghost view = { λ places. record { words = places.words.items; skipped = places.skipped } };
+    ghost view = { λ places. record { entries = places.entries.items; skipped = places.skipped } };
 }
 
 impl Places {
     /// No line was read yet.
     pub(crate) fn new(alloc: Global) -> Self
-        ensures { result ≡ record { words = []; skipped = 0 } }
+        ensures { result ≡ record { entries = []; skipped = 0 } }
     {
         Places {
-            words: Vec::new(alloc),
+            entries: Vec::new(alloc),
             skipped: 0,
         }
     }
 
-    /// The words of the commands.
-    pub(crate) fn words(&self) -> &[u64]
-        ensures { result.now ≡ self.now.words }
+    /// The entries of the commands.
+    pub(crate) fn entries(&self) -> &[u64]
+        ensures { result.now ≡ self.now.entries }
     {
-        self.words.as_slice()
+        self.entries.as_slice()
     }
 
     /// How many lines hold no command.
@@ -51,13 +52,13 @@ impl Places {
         self.skipped
     }
 
-    /// Adds a command's word. After an error all is as before.
-    fn push(&mut self, word: u64) -> Result<(), AllocError>
+    /// Adds a command's entry. After an error all is as before.
+    fn push(&mut self, entry: u64) -> Result<(), AllocError>
         ensures { MatchResult result
-            (λ _. self.new ≡ record self.old { words = self.old.words ++ word ∷ [] })
+            (λ _. self.new ≡ record self.old { entries = self.old.entries ++ entry ∷ [] })
             (λ _. self.new ≡ self.old) }
     {
-        match self.words.push(word) {
+        match self.entries.push(entry) {
             Ok(()) => Ok(()),
             Err(_) => Err(AllocError),
         }
@@ -73,17 +74,17 @@ impl Places {
 
     /// Adds the text of a line as a command.
     fn add(&mut self, found: TextAt<'_>, number: u32, place: usize) -> Result<(), FileFault>
-        requires short { length found.text.now ≤ 79 }
+        requires short { length found.text.now ≤ MOST_TEXT_BYTES }
         requires counted { number ≤ most_bytes }
         requires inside { place + found.begin ≤ most_bytes }
         ensures { MatchResult result
             (λ _. self.new ≡ record self.old {
-              words = self.old.words
-                  ++ word_at (place + found.entry.begin) (length found.entry.text.now) number ∷ [];
+              entries = self.old.entries ++ entry_at (place + found.entry.begin)
+                  (length found.entry.text.now) number ∷ [];
             })
             (λ fault. (fault ≡ FileFault.NoMemory) × (self.new ≡ self.old)) }
     {
-        match self.push(word(place + found.begin, found.text.len(), number)) {
+        match self.push(entry_at(place + found.begin, found.text.len(), number)) {
             Ok(()) => Ok(()),
             Err(AllocError) => Err(FileFault::NoMemory),
         }

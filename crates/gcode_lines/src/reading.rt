@@ -12,13 +12,13 @@ use octo_outside::Blob;
 use std::alloc::{AllocError, Global};
 
 /// The most bytes of a file.
-const MOST_BYTES: usize = 67_108_864;
+pub const MOST_FILE_BYTES: usize = 67_108_864;
 
 /// Where the commands of a file are, or why there are none.
 fn find_commands(alloc: Global, bytes: &[u8]) -> Result<Places, FileFault>
     ensures { MatchResult result (AreFound bytes.now) (IsRefused bytes.now) }
 {
-    if bytes.len() > MOST_BYTES {
+    if bytes.len() > MOST_FILE_BYTES {
         return Err(FileFault::TooLarge {
             bytes: bytes.len() as u64,
         });
@@ -46,7 +46,7 @@ pub fn take_commands(alloc: Global, bytes: Blob) -> Result<Job, FileFault>
     Ok(Job::new(bytes, places))
 }
 
-/// The commands of a copy of these bytes, as `take_commands` finds them.
+/// The commands of a copy of these bytes, as `take_commands` finds them; NoMemory also if they can't be copied.
 pub fn read_commands(alloc: Global, bytes: &[u8]) -> Result<Job, FileFault>
     ensures exact { (result ≡ Err FileFault.NoMemory) ⊎ (result ≡ job_of bytes.now) }
     ensures sendable { IfOk result (λ job. AllSendable (texts_of job)) }

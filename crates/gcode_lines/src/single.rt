@@ -4,10 +4,10 @@ ghost use Rattle.byte_text.specs.Sendable.{IsSendable};
 ghost use Rattle.gcode_lines.specs.Single.{single_of};
 
 use crate::fault::NotOne;
-use crate::text::{command_text, has_control, is_too_long, text_from};
-use byte_text::{Text, has_byte, has_m110};
+use crate::text::{command_text, has_control, is_too_long};
+use byte_text::{Text, bounded_text, has_byte, has_m110};
 
-/// The one command of a line, read as a line of a file is. It takes no memory.
+/// The one command of a line, read as a line of a file is, or the first rule of `NotOne` that the line breaks. It takes no memory.
 #[tactic(auto, unfolding(crate::specs::Single::single_of), using(crate::proofs::Sendable::sendable_text))]
 pub fn one_command(line: &[u8]) -> Result<Text, NotOne>
     ensures exact { MatchResult result (λ text. single_of line.now ≡ Ok text.items)
@@ -30,5 +30,5 @@ pub fn one_command(line: &[u8]) -> Result<Text, NotOne>
     if has_control(text) {
         return Err(NotOne::ControlByte);
     }
-    Ok(text_from(text))
+    Ok(bounded_text(text))
 }

@@ -7,14 +7,12 @@ ghost use Rattle.std.specs.Prelude.{◌≡◌, ◌+◌, ◌≤◌, ◌||◌, fal
 ghost use Rattle.std.specs.Bool.{OnTrue};
 ghost use Rattle.std.specs.List.{before_first, position_or_len, prefix_len, suffix_len};
 ghost use Rattle.byte_text.specs.Chars.{is_space};
+ghost use Rattle.byte_text.specs.declared.texts.TheConstants.{MOST_TEXT_BYTES};
 ghost use Rattle.gcode_lines.specs.Text.{is_mark, is_blank, is_control, is_numbered, is_skipped, is_too_long, is_odd, has_control, trimmed, without_number, command_text, begin_of};
 ghost use Rattle.std.specs.Char.{is_ascii_digit};
 
 use crate::line::Line;
-use byte_text::{Text, has_m110, is_space};
-
-/// The most bytes of a command, so that its frame fits a line of Marlin's buffer.
-const MOST_TEXT: usize = 79;
+use byte_text::{MOST_TEXT_BYTES, has_m110, is_space};
 
 /// A byte that begins a comment or a checksum.
 pub(crate) fn is_mark(byte: u8) -> bool
@@ -162,7 +160,7 @@ fn is_odd(byte: u8) -> bool
     byte == b'M' || is_control(byte)
 }
 
-/// Whether a byte of a text is odd. It looks at every byte, so that many are looked at at once.
+/// Whether a byte of a text is odd. It has no early return, so that the compiler can test several bytes with one instruction.
 fn has_odd(text: &[u8]) -> bool
     ensures { result ≡ fold (λ odd byte. odd || is_odd byte) false text.now }
 {
@@ -172,9 +170,9 @@ fn has_odd(text: &[u8]) -> bool
 /// Whether a text has as many bytes as a command may.
 fn has_fit_length(text: &[u8]) -> bool
     ensures some { OnTrue result (1 ≤ length text.now) }
-    ensures short { OnTrue result (length text.now ≤ 79) }
+    ensures short { OnTrue result (length text.now ≤ MOST_TEXT_BYTES) }
 {
-    !text.is_empty() && text.len() <= MOST_TEXT
+    !text.is_empty() && text.len() <= MOST_TEXT_BYTES
 }
 
 /// Whether a text is a command by its length and its bytes alone, as most are. That saves the tests that follow.
@@ -207,15 +205,5 @@ pub(crate) fn is_skipped(text: &[u8]) -> bool
 pub(crate) fn is_too_long(text: &[u8]) -> bool
     ensures { result ≡ is_too_long text.now }
 {
-    text.len() > MOST_TEXT
-}
-
-/// The bytes as a text.
-pub(crate) fn text_from(bytes: &[u8]) -> Text
-    requires { length bytes.now ≤ 79 }
-    ensures { result.items ≡ bytes.now }
-{
-    let mut text = Text::new();
-    let _ = text.try_extend_from_slice(bytes);
-    text
+    text.len() > MOST_TEXT_BYTES
 }

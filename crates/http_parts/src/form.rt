@@ -10,6 +10,7 @@ use crate::parameters::boundary;
 use crate::part::{Field, field_of};
 use crate::{PartFault, Parts, Span};
 use arrayvec::ArrayVec;
+use byte_text::append;
 use memchr::memmem::Finder;
 
 // A line end, `--` and the longest boundary.
@@ -152,8 +153,8 @@ fn line_of(boundary: &[u8]) -> ArrayVec<u8, LONGEST_LINE>
     ensures { result.items ≡ 13 ∷ 10 ∷ 45 ∷ 45 ∷ boundary.now }
 {
     let mut line = ArrayVec::new();
-    let _ = line.try_extend_from_slice(b"\r\n--");
-    let _ = line.try_extend_from_slice(boundary);
+    append(&mut line, b"\r\n--");
+    append(&mut line, boundary);
     line
 }
 

@@ -40,7 +40,7 @@ is_counted line = not (is_hello line.number)
 abbrev pub log_till : ℕ → Bool → ℕ → List WorldEvent → List Logged
 log_till places advanced s past = (world_of places advanced (till s past)).log
 
--- the lines run in session s, counted from 1, without the hello
+-- the lines run in session s, without the hello; the first session is 1, and a session lasts till the next `Opened`
 abbrev pub executed : ℕ → Bool → List WorldEvent → ℕ → List Logged
 executed places advanced past s =
     filter is_counted (drop (length (log_till places advanced (pred s) past)) (log_till places advanced s past))

@@ -25,7 +25,8 @@ impl Model for Executed {
 }
 
 impl Executed {
-    /// What was run in a session of a recorded history, counted from 1, over a printer of 1 to 16 buffer slots.
+    /// What was run in a session of a recorded history over a printer of 1 to 16 buffer slots; the first session is 1. Fails if out of
+    /// memory.
     pub fn of_session(
         alloc: Global,
         places: u8,

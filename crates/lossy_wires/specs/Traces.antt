@@ -49,13 +49,13 @@ abbrev pub IsEventFit : List (List ℕ) → ℕ → WorldEvent → List WorldEve
 IsEventFit issued acked (Send line) later = IsSendFit issued acked line.items later
 IsEventFit issued acked _ later = Unit {0}
 
--- each line sent by these events is, by the replies received before it
+-- each line sent by these events is such a line, if these replies came before the events
 abbrev pub AreSendsFit : List (List ℕ) → List Reply → WorldData → List WorldEvent → Type 0
 AreSendsFit issued replies w [] = Unit {0}
 AreSendsFit issued replies w (event ∷ events) =
     IsEventFit issued (acked_of replies) event events × AreSendsFit issued (replies ++ map kind_of (received_by w event)) (apply w event) events
 
--- the printer restarts
+-- whether an event is a restart
 abbrev pub is_restart : WorldEvent → Bool
 is_restart Restart = true
 is_restart _ = false

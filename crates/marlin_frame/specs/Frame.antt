@@ -42,7 +42,8 @@ lead_of line = number_of (drop 1 line)
 unfoldable pub has_second_n : List ℕ → Bool
 has_second_n line = has_m110 line && has_byte 78 (drop 4 line)
 
--- the number that a numbered line counts by
+-- the line number of a numbered line: the number after its second `N` if it sets the printer's number and has one, else the number at its
+-- front
 unfoldable pub line_number_of : List ℕ → ℕ
 line_number_of line =
     if has_second_n line

@@ -2,7 +2,7 @@
 use Rattle.std.specs.Prelude.{ℕ, ◌+◌, ◌-◌, List, codes}
 use Rattle.marlin_frame.specs.Frame.{frame_of}
 
--- the printer's number after the hello; no line carries it, so a printer that restarted takes no line
+-- the printer's number after the hello; no command carries it, so a printer that restarted takes no command
 abbrev pub hello_number : ℕ
 hello_number = 1
 

@@ -1,10 +1,10 @@
 //! The parts of a numbered line. Each reading is total: on a line that isn't numbered it returns what its definition
 //! says there, so callers ask `begins_with_n` first.
-ghost use Rattle.std.specs.Prelude.{◌≡◌, ◌≤◌, ◌==◌, length, drop};
+ghost use Rattle.std.specs.Prelude.{◌≡◌, ◌≤◌, ◌==◌, length};
 ghost use Rattle.std.specs.List.{position_or_len, after_first, before_last, after_last};
 ghost use Rattle.marlin_frame.specs.Frame.{begins_with_n, has_checksum, checksum_matches, fails, lead_of, has_second_n, line_number_of, after_first_digits, after_space, text_of};
 
-use byte_text::{has_byte, has_m110, leading_digits, number, split_at_last, xor};
+use byte_text::{after, has_byte, has_m110, leading_digits, number, split_at_last, xor};
 
 /// Whether the line is numbered: it begins with `N`.
 pub fn begins_with_n(line: &[u8]) -> bool
@@ -47,17 +47,6 @@ pub fn fails(line: &[u8]) -> bool
     ensures { result ≡ fails line.now }
 {
     begins_with_n(line) && !(has_checksum(line) && checksum_matches(line))
-}
-
-// The bytes but for the first `count`, none if there are no more.
-fn after(bytes: &[u8], count: usize) -> &[u8]
-    ensures { result.now ≡ drop count bytes.now }
-{
-    if count <= bytes.len() {
-        &bytes[count..]
-    } else {
-        &[]
-    }
 }
 
 // How many bytes are before the first `N`, all if there is none.

@@ -3,7 +3,7 @@
 //! Source: Marlin's queue.cpp, line numbers and checksums.
 ghost use Rattle.std.specs.Prelude.{◌≡◌, ◌≤◌, ◌+◌, ◌++◌, false, true, length, decimal};
 ghost use Rattle.byte_text.specs.Marks.{has_byte, has_m110};
-ghost use Rattle.byte_text.specs.declared.texts.TheConstants.{MOST_LINE_BYTES};
+ghost use Rattle.byte_text.specs.declared.texts.TheConstants.{MOST_LINE_BYTES, MOST_TEXT_BYTES};
 ghost use Rattle.marlin_frame.specs.Frame.{head_of, frame_of, begins_with_n, fails, lead_of, IsNumberedLine};
 
 use byte_text::{Line, append, append_decimal, xor};
@@ -13,7 +13,7 @@ pub const LAST_NUMBER: u32 = 2_000_000_000;
 
 // Writes what the checksum is taken of.
 fn write_head(n: u32, text: &[u8], into: &mut Line)
-    requires { length text.now ≤ 79 }
+    requires { length text.now ≤ MOST_TEXT_BYTES }
     ensures items { into.new.items ≡ head_of n text.now }
     ensures len { length into.new.items ≤ 91 }
 {
@@ -31,7 +31,7 @@ fn write_head(n: u32, text: &[u8], into: &mut Line)
 pub fn frame(n: u32, text: &[u8], into: &mut Line)
     requires number { n ≤ LAST_NUMBER }
     requires some { 1 ≤ length text.now }
-    requires short { length text.now ≤ 79 }
+    requires short { length text.now ≤ MOST_TEXT_BYTES }
     requires no_star { has_byte 42 text.now ≡ false }
     requires no_line_feed { has_byte 10 text.now ≡ false }
 

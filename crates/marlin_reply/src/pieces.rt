@@ -6,7 +6,7 @@ ghost use Rattle.std.specs.Iterator.{YieldsFirstRef, item_count};
 ghost use Rattle.byte_text.specs.Chars.{is_space};
 ghost use Rattle.marlin_reply.specs.Pieces.{is_line_end, without_front, without_end, trimmed, after_spaces, starts_after, piece_starts, front_piece, small_number, whole_number, field_at, field_of, starts_left};
 
-use byte_text::are_digits;
+use byte_text::{are_digits, is_space};
 use gcode_words::decimal_up_to;
 
 /// A line without spaces and tabs at both ends, and without carriage returns at its end.
@@ -21,8 +21,8 @@ pub(crate) fn trim_line(line: &[u8]) -> &[u8]
 fn trim_front(bytes: &[u8]) -> &[u8]
     ensures { result.now ≡ without_front bytes.now }
 {
-    let blanks = count_blanks(bytes);
-    &bytes[blanks..]
+    let spaces = count_spaces_and_tabs(bytes);
+    &bytes[spaces..]
 }
 
 #[tactic(auto, unfolding(crate::specs::Pieces::without_end))]
@@ -33,14 +33,11 @@ fn trim_end(bytes: &[u8]) -> &[u8]
     &bytes[..bytes.len() - ends]
 }
 
-fn count_blanks(bytes: &[u8]) -> usize
+fn count_spaces_and_tabs(bytes: &[u8]) -> usize
     ensures value { result ≡ prefix_len is_space bytes.now }
     ensures bound { result ≤ length bytes.now }
 {
-    bytes
-        .iter()
-        .take_while(|byte| matches!(**byte, b' ' | b'\t'))
-        .count()
+    bytes.iter().take_while(|byte| is_space(**byte)).count()
 }
 
 fn count_line_ends(bytes: &[u8]) -> usize
@@ -54,16 +51,16 @@ fn count_line_ends(bytes: &[u8]) -> usize
         .count()
 }
 
-/// A text without the spaces at its front.
+/// A text without the spaces at its front; a tab isn't one here.
 #[tactic(auto, unfolding(crate::specs::Pieces::after_spaces))]
-pub(crate) fn skip_spaces(bytes: &[u8]) -> &[u8]
+pub(crate) fn skip_only_spaces(bytes: &[u8]) -> &[u8]
     ensures { result.now ≡ after_spaces bytes.now }
 {
-    let spaces = count_spaces(bytes);
+    let spaces = count_only_spaces(bytes);
     &bytes[spaces..]
 }
 
-fn count_spaces(bytes: &[u8]) -> usize
+fn count_only_spaces(bytes: &[u8]) -> usize
     ensures value { result ≡ prefix_len (λ byte. byte == 32) bytes.now }
     ensures bound { result ≤ length bytes.now }
 {

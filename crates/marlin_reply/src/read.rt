@@ -4,7 +4,7 @@ ghost use Rattle.marlin_reply.specs.Pieces.{begins};
 ghost use Rattle.marlin_reply.specs.Kind.{ok_of, resend_of, other_reply_of, kind_of_text, kind_of};
 
 use super::Reply;
-use super::pieces::{find_field, read_small, skip_spaces, trim_line};
+use super::pieces::{find_field, read_small, skip_only_spaces, trim_line};
 use super::temperatures::read_temps;
 use byte_text::leading_digits;
 
@@ -23,7 +23,7 @@ fn read_text(text: &[u8]) -> Reply
     if is_ok(text) {
         read_ok(text)
     } else if let Some(after) = text.strip_prefix(b"Resend:") {
-        read_resend(leading_digits(skip_spaces(after)))
+        read_resend(leading_digits(skip_only_spaces(after)))
     } else if is_start(text) {
         Reply::Start
     } else {

@@ -2,7 +2,7 @@
 ghost use Rattle.std.specs.Prelude.{◌≡◌};
 ghost use Rattle.marlin_reply.specs.Temperatures.{target_at, heat_at, heat_of, temps_of};
 
-use super::pieces::{PieceStarts, skip_spaces};
+use super::pieces::{PieceStarts, skip_only_spaces};
 use super::{Heat, Temps};
 use gcode_words::read_number;
 
@@ -38,7 +38,7 @@ fn read_heat(text: &[u8]) -> Option<Heat>
     ensures { result ≡ heat_at text.now }
 {
     let actual = read_number(text)?;
-    read_target(actual.micro, skip_spaces(actual.rest))
+    read_target(actual.micro, skip_only_spaces(actual.rest))
 }
 
 #[tactic(auto, unfolding(crate::specs::Temperatures::target_at))]

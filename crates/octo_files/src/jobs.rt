@@ -7,16 +7,13 @@ ghost use Rattle.temp_rules.specs.Hot.{first_hot_of};
 ghost use Rattle.octo_files.specs.Jobs.{unless_hot, unless_refused, any_job_in, job_in, is_file_refusal, is_refusal};
 ghost use Rattle.octo_files.specs.Reading.{FileGives, IsTroubled};
 
-use gcode_lines::{FileFault, Job, take_commands};
+use gcode_lines::{FileFault, Job, MOST_FILE_BYTES, take_commands};
 use octo_outside::{Blob, ReadAll, Source, read_all};
 use octo_report::Report;
 use std::alloc::Global;
 use temp_rules::{Limits, first_hot};
 
-// The most bytes of a file.
-const MOST_BYTES: usize = 67_108_864;
-
-// How many bytes a larger file is said to have, since no more is read of it.
+// How many bytes a larger file is said to have, since no more is read of it: one more than the most.
 const TOO_MANY: u64 = 67_108_865;
 
 // The job of bytes, which it keeps.
@@ -48,7 +45,7 @@ pub(crate) fn read_any_job<F: Source>(
     ensures counts { Counts (result ≡ Err report.SourceFailed)
         (F.faults files.old) (F.faults files.new) }
 {
-    match read_all(alloc, files, name, MOST_BYTES) {
+    match read_all(alloc, files, name, MOST_FILE_BYTES) {
         Ok(bytes) => take_job(alloc, bytes),
         Err(ReadAll::Failed) => Err(Report::SourceFailed),
         Err(ReadAll::TooLong) => Err(Report::BadFile(FileFault::TooLarge { bytes: TOO_MANY })),

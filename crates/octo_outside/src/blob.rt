@@ -27,13 +27,20 @@ impl Blob {
         }
     }
 
-    /// A copy of these bytes.
+    /// A copy of these bytes. Fails if out of memory.
     pub fn from_slice(alloc: Global, bytes: &[u8]) -> Result<Self, AllocError>
         ensures { IfOk result (λ blob. blob ≡ bytes.now) }
     {
         Ok(Blob {
             bytes: Vec::from_slice(alloc, bytes)?,
         })
+    }
+
+    /// These bytes; takes no memory.
+    pub fn from_vec(bytes: Vec<u8>) -> Self
+        ensures { result ≡ bytes.items }
+    {
+        Blob { bytes }
     }
 
     /// Adds bytes at the end; without memory nothing is added.
@@ -73,7 +80,7 @@ impl Blob {
     }
 }
 
-/// Adds a line with its line feed; after an error a part of it may have been added.
+/// Adds a line with its line feed. Fails if out of memory; a part of it may have been added then.
 pub fn append_line(text: &mut Blob, line: &[u8]) -> Result<(), AllocError>
     ensures { OnOk result (text.new ≡ text.old ++ with_line_feed line.now) }
 {

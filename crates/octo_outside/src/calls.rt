@@ -45,8 +45,7 @@ impl Calls {
     pub fn is_latest_in(&self, list: &CallList) -> bool
         ensures { result ≡ is_listed list.now self.now.made }
     {
-        let call = self.made;
-        list.as_slice().iter().any(|listed| *listed == call)
+        list.as_slice().contains(&self.made)
     }
 
     /// Counts a call, and says whether it is one of those that are to fail.

@@ -24,7 +24,7 @@ impl From<AllocError> for ArgumentsFault {
     }
 }
 
-/// The arguments of the program, without its name.
+/// The arguments of the program, without its name. `NotText` if one isn't UTF-8, `NoMemory` if they can't be had for another reason.
 pub fn arguments(rt: &HostRuntime) -> Result<WordList, ArgumentsFault> {
     let all = match env::args(rt) {
         Ok(all) => all,

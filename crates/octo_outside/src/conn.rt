@@ -30,7 +30,7 @@ pub trait Conn {
     /// How many reads found nothing yet, counted up to the last value of a u64.
     ghost quiets: { Self → ℕ };
 
-    /// Reads the next bytes. `Ended` comes if nothing is left and the peer has closed.
+    /// Reads the next bytes. `Ended` comes if nothing is left and the peer has closed. A failed read takes nothing.
     fn read(&mut self, into: &mut [u8]) -> Result<Got, Failed>
         requires { 0 < length into.old }
         ensures ok { IfOk result (λ got. IfSome (left self.old)
@@ -43,7 +43,7 @@ pub trait Conn {
         ensures quiets_counted { quiets self.old ≤ quiets self.new }
         ensures counts { Counts (IsErr result) (faults self.old) (faults self.new) };
 
-    /// Writes 1 to all of the bytes, a prefix.
+    /// Writes 1 to all of the bytes, a prefix. A failed call writes nothing.
     fn write(&mut self, bytes: &[u8]) -> Result<usize, Failed>
         requires { 0 < length bytes.now }
         ensures ok { IfOk result (λ n. (0 < n) × (n ≤ length bytes.now)

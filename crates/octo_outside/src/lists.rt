@@ -64,7 +64,7 @@ impl<T: Drop> ItemList<T> {
     }
 }
 
-/// A list of these calls.
+/// A list of these calls. Fails if out of memory.
 pub fn calls_of(alloc: Global, numbers: &[u64]) -> Result<CallList, AllocError>
     ensures { IfOk result (λ calls. calls ≡ numbers.now) }
 {
@@ -98,7 +98,7 @@ impl WordList {
         }
     }
 
-    /// Adds a word at the end; without memory the list stays.
+    /// Adds an argument at the end; without memory the list stays.
     pub fn push(&mut self, word: &str) -> Result<(), AllocError>
         ensures ok { OnOk result (self.new ≡ self.old ++ word.now ∷ []) }
         ensures err { OnErr result (self.new ≡ self.old) }
@@ -115,7 +115,7 @@ impl WordList {
         self.words.len()
     }
 
-    /// The word at this place, counted from 0.
+    /// The argument with this index, counted from 0.
     pub fn get(&self, i: usize) -> &str
         requires { i < length self.now }
         ensures { slice_get self.now i ≡ Some result.now }

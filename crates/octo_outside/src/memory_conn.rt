@@ -39,7 +39,7 @@ impl MemoryConn {
     ghost use Rattle.octo_outside.specs.Memory.{ConnData, one_more, is_listed};
 
     /// A connection with this input. Of its calls, counted from 1, those of `fail_at` fail, and those of `quiet_at` find
-    /// nothing yet if something is left.
+    /// nothing yet if something is left. Fails if out of memory.
     pub fn new(
         alloc: Global,
         input: &[u8],

@@ -72,7 +72,8 @@ impl From<AllocError> for ReadAll {
 // How many bytes one read asks for.
 const CHUNK: usize = 16384;
 
-/// Reads all that a name holds, at most `most` bytes.
+/// Reads all that a name holds, at most `most` bytes. `Failed` if a call of the source fails, as for a missing name; `TooLong` if the name
+/// holds more; `NoMemory` if memory runs out.
 pub fn read_all<F: Source>(
     alloc: Global,
     files: &mut F,

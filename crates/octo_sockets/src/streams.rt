@@ -22,7 +22,8 @@ const CHUNK: usize = 4096;
 // How often a write that would block is tried.
 const TRIES: u32 = 1000;
 
-/// Readies a stream: what is written goes out at once, and a read or a write waits for about 10 milliseconds at most.
+/// Readies a stream: what is written goes out at once, and a read or a write waits for about 10 milliseconds at most. Fails if the stream
+/// refuses one of these settings.
 pub fn prepare<S: OpenStream>(stream: &S) -> io::Result<()> {
     let wait = Some(Duration::from_millis(WAIT));
     stream.set_nodelay(true)?;

@@ -56,7 +56,7 @@ impl<R: Net + Files + Drop> TcpConn<R> {
 }
 
 impl<R: Net + Drop> TcpConn<R> {
-    /// Waits for the next peer of a listener.
+    /// Waits for the next peer of a listener. Fails if the listener fails, or the stream can't be readied.
     pub fn accept(rt: R, listener: &R::Listener) -> Result<Self, Failed>
         ensures { IfOk result (λ c. (c.faults ≡ 0) × (c.quiets ≡ 0)) }
     {
@@ -66,7 +66,7 @@ impl<R: Net + Drop> TcpConn<R> {
         }
     }
 
-    /// The connection over a stream, whose calls wait for a bounded time from here on.
+    /// The connection over a stream, whose calls wait for a bounded time from here on. Fails if the stream can't be readied.
     pub fn over(rt: R, stream: R::Stream) -> Result<Self, Failed>
         ensures { IfOk result (λ c. (c.faults ≡ 0) × (c.quiets ≡ 0)) }
     {

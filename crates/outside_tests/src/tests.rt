@@ -13,6 +13,8 @@ fn ample_blob(rt: HostRuntime) -> Result<(), Fail> {
     let mut blob = Blob::from_slice(alloc, b"G28")?;
     blob.append(b"\n")?;
     assert_eq!(rt; blob.as_slice(), b"G28\n".as_slice());
+    let owned = Blob::from_vec(Vec::from_slice(alloc, b"M105")?);
+    assert_eq!(rt; owned.as_slice(), b"M105".as_slice());
     Ok(())
 }
 

@@ -1,5 +1,5 @@
 -- What each call of a link in memory adds to its recorded history.
-use Rattle.std.proofs.Common.{◌≡◌, ℕ, ◌≤◌, Bool, true, false, List, [], ◌∷◌, ◌++◌, length, replicate, refl, ◌∙◌, ap, subst, append_assoc, append-nil, arith}
+use Rattle.std.proofs.Common.{◌≡◌, ℕ, ◌≤◌, Bool, true, false, List, [], ◌∷◌, ◌++◌, length, replicate, refl, sym, ◌∙◌, ap, subst, append_assoc, append-nil, arith}
 use Rattle.std.specs.Prelude.{Some, ◌&&◌, not, if◌then◌else◌}
 use Rattle.std.specs.List.{list_all}
 use Rattle.std.proofs.lemmas.Bool.{cond_both}
@@ -89,6 +89,16 @@ dial_failed l mid late new mid_is ran new_is closed =
     ∙ append-nil late.story.past
     ∙ ap (λ (n : MemoryLinkData). n.story.past) late_is)
     (runs_only ran.count)
+
+-- a link to which no event was added
+none_added : (l : MemoryLinkData) → l ≡ with_added l []
+none_added l = ap (λ (past : List WorldEvent). record l { story = record l.story { past = past } }) (sym (append-nil l.story.past))
+
+-- a dial that failed before anything was done
+pub dial_failed_at_once : (l mid new : MemoryLinkData) → mid ≡ with_one_call l → new ≡ after_fault mid → (link_world l).linked ≡ false → Grows (link_kind l) (Some l.story.past) (Some new.story.past) IsRuns
+dial_failed_at_once l mid new mid_is new_is closed =
+    let ran : LinkRan mid mid = record { count = 0; is = none_added mid } in
+    dial_failed l mid mid new mid_is ran new_is closed
 
 -- what becomes of a line is free
 harm_free : (fate : Fate) (at : ℕ) (line : ArrayVec ℕ) → list_all is_free (harm_events fate at line) ≡ true
@@ -232,6 +242,12 @@ recv_failed l first mid late new first_is mid_is moved new_is open_now =
     ∙ ap (λ (n : MemoryLinkData). n.story.past ++ Closed ∷ []) late_is
     ∙ append_assoc l.story.past moved.added (Closed ∷ []))
     (record { before = moved.added; is = refl; free = moved.free; linked = still_open })
+
+-- a receiving that failed before anything was done
+pub recv_failed_at_once : (l first mid new : MemoryLinkData) → first ≡ with_one_call l → mid ≡ with_one_recv first → new ≡ after_fault mid → (link_world l).linked ≡ true → Grows (link_kind l) (Some l.story.past) (Some new.story.past) IsLoss
+recv_failed_at_once l first mid new first_is mid_is new_is open_now =
+    let moved : LinkMoved mid mid = record { added = []; is = none_added mid; free = refl } in
+    recv_failed l first mid mid new first_is mid_is moved new_is open_now
 
 -- what the printer did before a receiving for which no place was found
 pub moved_by : (l mid new : MemoryLinkData) (restarts due : Bool) → mid ≡ with_added l (before_reply restarts due (link_world l)) → new ≡ mid → LinkMoved l new

@@ -155,6 +155,6 @@ due_recv w = if is_empty w.down then [] else Recv ∷ []
 abbrev pub printer_events : Bool → WorldData → List WorldEvent
 printer_events due w = arrivals w w.up ++ due_run due (world_from w (arrivals w w.up))
 
--- a receiving: what arrives, a run if it is due, and the front of the wire from the printer
+-- a call of `recv`: what arrives, a run if it is due, and the front of the wire from the printer
 abbrev pub recv_events : Bool → WorldData → List WorldEvent
 recv_events due w = printer_events due w ++ due_recv (world_from w (printer_events due w))

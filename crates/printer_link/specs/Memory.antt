@@ -56,7 +56,7 @@ harm_events Whole at line = []
 harm_events Lost at line = Lose at ∷ []
 harm_events Garbled at line = Garble at (record { items = garbled line.items }) ∷ []
 
--- a sending: the line, and what becomes of it
+-- a call of `send`: the line, and what becomes of it
 abbrev pub send_events : WorldData → ArrayVec ℕ → Fate → List WorldEvent
 send_events w line fate = Send line ∷ harm_events fate (length w.up) line
 
@@ -107,7 +107,7 @@ link_world l = story_world l.story
 abbrev pub lists_name : List (List ℕ) → List ℕ → Bool
 lists_name names name = list_any (λ listed. bytes_eq listed name) names
 
--- whether the receiving of this number lets the printer run a line
+-- whether the `recv` of this number lets the printer run a line
 abbrev pub is_due : ℕ → ℕ → Bool
 is_due slow recvs = recvs % (slow + 1) == 0
 
@@ -138,7 +138,7 @@ with_added l events = record l { story = with_events l.story events }
 abbrev pub after_fault : MemoryLinkData → MemoryLinkData
 after_fault l = record (with_added l (closing_events (link_world l))) { faults = one_more l.faults }
 
--- a receiving was counted
+-- a `recv` was counted
 abbrev pub with_one_recv : MemoryLinkData → MemoryLinkData
 with_one_recv l = record l { recvs = one_more l.recvs }
 
@@ -148,7 +148,7 @@ is_whole Whole = true
 is_whole Lost = false
 is_whole Garbled = false
 
--- whether each line arrives whole, is run at the next receiving, no call fails, and the printer doesn't restart
+-- whether each line arrives whole, is run at the next `recv`, no call fails, and the printer doesn't restart
 abbrev pub is_prompt : MemoryLinkData → Bool
 is_prompt l = list_all is_whole l.story.fates && (l.slow == 0 && (is_empty l.fail_at && is_empty l.restart_at))
 
@@ -177,7 +177,7 @@ pub record LinkQuiet (restarts due : Bool) (old new : MemoryLinkData) : Type 0 w
   pub is : new ≡ with_added old (before_reply restarts due (link_world old))
   pub empty : (world_from (link_world old) (before_reply restarts due (link_world old))).down ≡ []
 
--- a receiving that didn't fail
+-- a `recv` that didn't fail
 abbrev pub LinkReceived : Bool → Bool → List ℕ → Heard → MemoryLinkData → MemoryLinkData → Type 0
 LinkReceived restarts due into Line old new = LinkHeard restarts due into old new
 LinkReceived restarts due into Nothing old new = LinkQuiet restarts due old new

@@ -14,7 +14,7 @@ ghost use Rattle.printer_link.specs.declared.link.LinkFault.TheVariants as fault
 use byte_text::{Line, ReplyLine};
 use thiserror::Error;
 
-/// What a receiving found.
+/// What a call of `recv` found.
 #[derive(Clone, Copy, Debug, PartialEq, Eq)]
 pub enum Heard {
     /// A reply line.
@@ -52,7 +52,7 @@ pub trait Link {
     /// How many calls failed.
     ghost faults: { Self → ℕ };
 
-    /// Makes a link to the port of that name.
+    /// Makes a link to the port of that name. `NoPort` if no such port is listed, `Failed` if the link can't be made; none is made then.
     fn dial(&mut self, name: &str) -> Result<(), LinkFault>
         requires { up self.old ≡ false }
 
@@ -78,7 +78,7 @@ pub trait Link {
         ensures calls { calls self.new ≡ counted_one (calls self.old) }
         ensures counts { Counts (IsErrOf result fault.Failed) (faults self.old) (faults self.new) };
 
-    /// Sends a line of at most 95 bytes; the link writes the line end after it.
+    /// Sends a line of at most 95 bytes; the link writes the line end after it. If it fails, the link is down.
     fn send(&mut self, line: &Line) -> Result<(), LinkFault>
         requires open { up self.old ≡ true }
         requires short { length line.now.items ≤ MOST_LINE_BYTES }
@@ -103,7 +103,7 @@ pub trait Link {
         ensures calls { calls self.new ≡ counted_one (calls self.old) }
         ensures counts { Counts (IsErr result) (faults self.old) (faults self.new) };
 
-    /// Receives a reply line without its line end, cut to 256 bytes, or finds that nothing has come.
+    /// Receives a reply line without its line end, cut to 256 bytes, or finds that nothing has come. If it fails, the link is down.
     fn recv(&mut self, into: &mut ReplyLine) -> Result<Heard, LinkFault>
         requires { up self.old ≡ true }
 

@@ -17,7 +17,7 @@ use crate::schedule::Schedule;
 use crate::story::Story;
 use byte_text::{Line, ReplyLine};
 use link_history::Executed;
-use octo_outside::{CallList, NameList};
+use octo_outside::{CallList, Calls, NameList};
 use std::alloc::{AllocError, Global};
 use std::marker::Model;
 
@@ -31,11 +31,9 @@ pub struct MemoryLink {
     names: NameList,
     last: u32,
     slow: u32,
-    fail_at: CallList,
     restart_at: CallList,
-    calls: u64,
+    calls: Calls,
     recvs: u64,
-    faults: u64,
 }
 
 impl Model for MemoryLink {
@@ -49,18 +47,18 @@ impl Model for MemoryLink {
       names = l.names;
       last = l.last;
       slow = l.slow;
-      fail_at = l.fail_at;
+      fail_at = l.calls.fail_at;
       restart_at = l.restart_at;
-      calls = l.calls;
+      calls = l.calls.made;
       recvs = l.recvs;
-      faults = l.faults;
+      faults = l.calls.faults;
     } };
 
     ghost invariant = { λ l. (1 ≤ l.story.places) × (l.story.places ≤ 16) };
 }
 
 impl MemoryLink {
-    /// A link that does as the schedule says, to a printer of 1 to 16 buffer slots that has run nothing.
+    /// A link that does as the schedule says, to a printer of 1 to 16 buffer slots that has run nothing. Fails if out of memory.
     pub fn new(alloc: Global, schedule: Schedule) -> Result<Self, AllocError>
         requires some { 1 ≤ schedule.places }
         requires few { schedule.places ≤ 16 }
@@ -82,11 +80,9 @@ impl MemoryLink {
             names,
             last,
             slow,
-            fail_at,
             restart_at,
-            calls: 0,
+            calls: Calls::new(fail_at),
             recvs: 0,
-            faults: 0,
         })
     }
 
@@ -119,7 +115,7 @@ impl MemoryLink {
             .count() as u64
     }
 
-    /// The lines that the printer ran in a session, counted from 1, without those of the hello's number.
+    /// The lines that the printer ran in a session, without those of the hello's number; the first session is 1. Fails if out of memory.
     pub fn executed(&self, session: u32) -> Result<Executed, AllocError>
         ensures { IfOk result (λ e. e ≡ executed self.now.story.places self.now.story.advanced
             self.now.story.past session) }
@@ -188,7 +184,10 @@ impl Link for MemoryLink {
         if !self.lists(name) {
             return Err(LinkFault::NoPort);
         }
-        match self.make_link(fails) {
+        if fails {
+            return Err(self.fail());
+        }
+        match self.make_link() {
             Ok(()) => Ok(()),
             Err(AllocError) => Err(self.fail()),
         }
@@ -230,7 +229,10 @@ impl Link for MemoryLink {
         ensures counts { Counts (IsErr result) self.old.faults self.new.faults }
     {
         let fails = self.begin();
-        match self.transmit(fails, line) {
+        if fails {
+            return Err(self.fail());
+        }
+        match self.transmit(line) {
             Ok(()) => Ok(()),
             Err(AllocError) => Err(self.fail()),
         }
@@ -277,8 +279,11 @@ impl Link for MemoryLink {
     {
         let fails = self.begin();
         let due = self.begin_recv();
+        if fails {
+            return Err(self.fail());
+        }
         let restarts = self.restarts();
-        match self.take_reply(fails, restarts, due, into) {
+        match self.take_reply(restarts, due, into) {
             Ok(got) => Ok(got),
             Err(AllocError) => Err(self.fail()),
         }

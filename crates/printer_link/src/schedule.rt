@@ -28,10 +28,10 @@ pub struct Schedule {
     pub advanced: bool,
     /// The fate of each line that is sent; later ones arrive whole.
     pub fates: FateList,
-    /// The printer runs a line at every receiving whose number is a multiple of this one and 1.
+    /// The printer runs a line at each (`slow` + 1)-th call of `recv`.
     pub slow: u32,
     /// The calls that fail, counted from 1.
     pub fail_at: CallList,
-    /// The receivings at which the printer restarts first, counted from 1.
+    /// The calls of `recv` at which the printer restarts first, counted from 1.
     pub restart_at: CallList,
 }

@@ -96,7 +96,7 @@ impl Story {
         self.past.as_slice()
     }
 
-    /// Adds an event that isn't a sending.
+    /// Adds an event that isn't a `Send`.
     fn add(&mut self, event: WorldEvent) -> Result<(), AllocError>
         requires { is_send event ≡ false }
         ensures ok { OnOk result (self.new ≡ with_events self.old (event ∷ [])) }
@@ -199,7 +199,7 @@ impl Story {
         self.let_print(due)
     }
 
-    /// What arrives and what the printer runs at a receiving; without memory a part of it.
+    /// What arrives and what the printer runs at a call of `recv`; without memory a part of it.
     fn let_print(&mut self, due: bool) -> Result<(), AllocError>
         ensures ok { OnOk result (self.new
             ≡ with_events self.old (printer_events due (story_world self.old))) }

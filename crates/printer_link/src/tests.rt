@@ -1,6 +1,6 @@
 //! Calls of a link in memory, each with what its printer executed.
 use super::*;
-use byte_text::{Line, Name, ReplyLine};
+use byte_text::{Line, MOST_LINE_BYTES, Name, ReplyLine};
 use octo_outside::{NameList, calls_of};
 use printer_model::ExecutedLine;
 use std::alloc::Global;
@@ -39,7 +39,7 @@ fn make_calls(rt: &impl Abort, link: &mut MemoryLink, calls: &[Call]) {
 fn send(rt: &impl Abort, link: &mut MemoryLink, text: &str, want: Result<(), LinkFault>) {
     assert!(rt; link.is_up());
     let line = Line::try_from(text.as_bytes()).expect(rt, "a short line");
-    assert!(rt; line.len() <= 95 && link.send(&line) == want);
+    assert!(rt; line.len() <= MOST_LINE_BYTES && link.send(&line) == want);
 }
 
 fn check_recv(rt: &impl Abort, link: &mut MemoryLink, want: Heard, text: &str) {
@@ -132,7 +132,7 @@ const LOSSES: [Call; 11] = [
     Call::Dial("q", Err(LinkFault::NoPort)),
 ];
 
-// The printer restarts at the third receiving, with the second command on its way.
+// The printer restarts at the third call of `recv`, with the second command on its way.
 const RESTART: [Call; 10] = [
     Call::Dial("p", Ok(())),
     Call::Send("N0 M110 N1*124", Ok(())),

@@ -62,7 +62,7 @@ abbrev pub number_or : ℕ → Option ℕ → ℕ
 number_or last None = last
 number_or last (Some number) = number
 
--- a refusal changes nothing
+-- an accepted line joins the queue, and its number, if it has one, is the last one; a refusal changes nothing
 abbrev pub take_judged : PrinterData → Result Entry Reason → Taken × PrinterData
 take_judged p (Ok entry) =
     (Accepted, record p { last = number_or p.last entry.number; queue = p.queue ++ entry ∷ [] })
@@ -98,7 +98,7 @@ run_front p = run_queue p p.queue
 abbrev pub printer_after_restart : PrinterData → PrinterData
 printer_after_restart p = record p { last = 0; queue = [] }
 
--- what of it the log keeps
+-- what the log keeps of a line that was run
 abbrev pub log_line_of : RanLine → Logged
 log_line_of ran = record { number = ran.number; text = ran.text }
 

@@ -8,7 +8,8 @@ use Rattle.printer_model.specs.declared.printer.Taken.{Taken}
 use Rattle.printer_model.specs.declared.event.WorldEvent.{WorldEvent}
 use Rattle.printer_model.specs.declared.event.WorldEvent.TheVariants.{Opened, Send, Arrive, Lose, Garble, Run, Restart, Chatter, Recv, Closed}
 
--- whether a link is made, the printer, what it ran, and the lines on the wires to the printer and from it
+-- whether a link is made, the printer, what it ran, the wire to the printer (`up`) and the wire from it (`down`). The `up` of a link or a
+-- session is another thing: it is `linked` here
 pub record WorldData : Type 0 where
   pub linked : Bool
   pub printer : PrinterData
@@ -16,7 +17,7 @@ pub record WorldData : Type 0 where
   pub up : List (List ℕ)
   pub down : List (List ℕ)
 
--- before the first event
+-- before the first event: the printer has this many buffer slots, and its `ok`s are numbered or not
 abbrev pub new_world : ℕ → Bool → WorldData
 new_world places advanced =
     record {
@@ -62,7 +63,7 @@ is_loss (Lose at) = true
 is_loss (Garble at line) = true
 is_loss _ = false
 
--- the printer runs a line
+-- whether an event is the run of a line
 abbrev pub is_run : WorldEvent → Bool
 is_run Run = true
 is_run _ = false
@@ -90,7 +91,7 @@ moves_down (Lose at) = false
 moves_down (Garble at line) = false
 moves_down _ = true
 
--- whether an event can happen
+-- whether an event can happen; what each one needs is said at `WorldEvent` (src/event.rt)
 abbrev pub can_happen : WorldData → WorldEvent → Bool
 can_happen w (Opened last) = not w.linked && is_empty w.printer.queue
 can_happen w (Send line) = w.linked && fits_wire line.items
@@ -178,7 +179,7 @@ pub record IsShut (w : WorldData) : Type 0 where
 abbrev pub IsTidy : WorldData → Type 0
 IsTidy w = w.linked ≡ false → IsShut w
 
--- what the printer accepted: what it ran, and then what waits
+-- what the printer ran, and then what waits in it; what a restart dropped is in neither
 abbrev pub accepted_lines : WorldData → List Logged
 accepted_lines w = w.log ++ map waiting_as w.printer.queue
 

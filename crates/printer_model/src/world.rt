@@ -10,7 +10,7 @@ use crate::executed::ExecutedLine;
 use crate::printer::{Printer, Ran, Taken};
 use crate::replies::{error_line, ok_line, resend_line, start_line};
 use crate::wire::Wire;
-use byte_text::{Line, ReplyLine, bounded_text};
+use byte_text::{Line, MOST_LINE_BYTES, ReplyLine, bounded_text};
 use marlin_frame::fails;
 use marlin_reply::{Reply, read_reply};
 use std::alloc::{AllocError, Global};
@@ -147,7 +147,7 @@ impl World {
     fn send(&mut self, line: &Line) -> Result<bool, AllocError>
         ensures { IsStep self.old (WorldEvent.Send line.now) self.new result }
     {
-        if !self.linked || line.len() > 95 {
+        if !self.linked || line.len() > MOST_LINE_BYTES {
             return Ok(false);
         }
         self.up.push(bounded_text(line.as_slice()))?;
@@ -189,7 +189,7 @@ impl World {
         ensures happened { result ≡ can_happen self.old (WorldEvent.Garble at line.now) }
         ensures after { self.new ≡ apply self.old (WorldEvent.Garble at line.now) }
     {
-        if at as usize >= self.up.len() || !fails(line.as_slice()) || line.len() > 95 {
+        if at as usize >= self.up.len() || !fails(line.as_slice()) || line.len() > MOST_LINE_BYTES {
             return false;
         }
         self.up.set(at as usize, bounded_text(line.as_slice()));

@@ -1,4 +1,4 @@
-//! Laws of the steps above: each function does nothing, and its contract is the law.
+//! Laws of a sender's steps, which specs/ defines; each function does nothing, and its contract is the law.
 ghost use Rattle.send_window.specs.Laws.{HoldsLines, GivesHeldLines, AckedRises, EndStays, EndsByRule, AckedIsCounted, SendsInSilence, EndsInSilence, WaitsFiveLimits};
 
 /// The lines held are the issued ones above acked, each with its number.

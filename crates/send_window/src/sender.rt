@@ -20,7 +20,7 @@ mod hearing;
 #[cfg(test)]
 mod tests;
 
-/// The most lines of a session.
+/// The most lines of a session: their numbers go from 2 to `LAST_NUMBER`.
 const MOST_LINES: u32 = 1_999_999_999;
 
 /// After this number of limits in a row in which nothing was received the session ends.
@@ -32,21 +32,34 @@ const MOST_SILENT: u8 = 5;
 /// restarted expects. Moments and the limit are in milliseconds.
 #[derive(Drop)]
 pub struct Sender {
+    // Lines go by their places in the session, from 1. First the most lines that may be unacknowledged.
     window: u8,
+    // How long an answer may take.
     limit: u64,
+    // How many lines were issued, and how many of them were acknowledged.
     issued: u32,
     acked: u32,
+    // The texts of the others, in order.
     held: Held,
+    // The next line to send.
     cursor: u32,
+    // The last line that was ever sent, 0 for none.
     sent: u32,
+    // Whether the next `ok` only ends a Resend.
     swallow: bool,
+    // The line that the last Resend asked for, and how many more of the same are ignored.
     asked: u32,
     left: u32,
+    // The moment by which an answer is wanted.
     deadline: Option<u64>,
+    // Whether something was heard since the deadline was set.
     heard: bool,
+    // How many limits in a row passed in silence.
     silent: u8,
+    // Whether the hello is to be sent, and whether it was acknowledged.
     hello_due: bool,
     ready: bool,
+    // Why the session ended.
     ended: Option<SessionEnd>,
 }
 
@@ -64,7 +77,7 @@ impl Model for Sender {
 
 impl Sender {
     /// A sender of no session yet. At most `window` lines are unacknowledged at a time, 1 to 16; `limit` is the time
-    /// that an answer may take, in milliseconds, at least 1.
+    /// that an answer may take, in milliseconds, at least 1. Fails if out of memory.
     pub fn new(alloc: Global, window: u8, limit: u64) -> Result<Sender, AllocError>
         requires open_window { 1 ≤ window }
         requires small_window { window ≤ 16 }

@@ -13,6 +13,6 @@ pub enum SessionEnd {
     Counts { number: u32, expected: u32 },
     /// The printer has restarted.
     Restarted,
-    /// The line numbers of a session are used up.
+    /// The line numbers of a session are used up; this many lines were issued.
     NumbersUsed { issued: u32 },
 }

@@ -1,18 +1,12 @@
 -- Lines of a buffer, and what is added to a line that is cut.
 use Rattle.std.proofs.Common.{◌≡◌, subst, ℕ, suc, Bool, true, false, cond, ◌||◌, ◌+◌, ◌-◌, ◌<◌, ◌≤◌, List, [], ◌∷◌, ◌++◌, length, min, take, drop, ap, sym, refl, arith, ◌∙◌}
-use Rattle.std.specs.Prelude.{Option, Some, None, Result, Ok, Err, OnOk, IsOk, not}
+use Rattle.std.specs.Prelude.{Option, Some, None, not}
 use Rattle.std.proofs.Math.Seq.{take-append-add}
-use Rattle.std.proofs.lemmas.Bool.{false≢true}
 use Rattle.std.specs.Io.KnownBytes.{Appends}
 use Rattle.std.proofs.lemmas.List.{append-nil, take_rest, take_min, drop-take, drop-drop, length-take}
 use Rattle.octo_sockets.proofs.Written.{appends_more}
 use Rattle.std.specs.List.{list_any, position_or_len}
 use Rattle.socket_link.specs.Lines.{cut}
-
--- what holds if a call is well holds if it was well
-pub of_ok : {T E P : Type 0} (r : Result T E) → IsOk r → OnOk r P → P
-of_ok (Ok x) ok p = p
-of_ok (Err e) ok p = absurd (false≢true ok)
 
 -- as many bytes as there is room for fit
 pub fits_cut : (line bytes : List ℕ) (room count : ℕ) → room + length line ≡ 256 → count ≡ min (length bytes) room → length line + length (take count bytes) ≤ 256

@@ -6,7 +6,7 @@ ghost use Rattle.std.specs.List.{list_any, position_or_len, before_first, after_
 ghost use Rattle.socket_link.specs.Lines.{LinesData, cut, ends_line};
 ghost use Rattle.socket_link.specs.declared.lines.TheConstants.{SIZE};
 
-use byte_text::ReplyLine;
+use byte_text::{ReplyLine, append};
 use octo_sockets::may_come_later;
 use std::io::{ErrorKind, Read};
 use std::marker::Model;
@@ -49,7 +49,7 @@ fn add_cut(line: &mut ReplyLine, bytes: &[u8])
     ensures { line.new.items ≡ cut (line.old.items ++ bytes.now) }
 {
     let count = bytes.len().min(line.remaining_capacity());
-    let _ = line.try_extend_from_slice(&bytes[..count]);
+    append(line, &bytes[..count]);
 }
 
 // Whether a reading found the end of a stream: the peer has closed, and no byte came, or the stream has failed.

@@ -3,7 +3,7 @@ ghost use Rattle.std.specs.Prelude.{◌≡◌, ◌+◌, ◌≤◌, ◌++◌, ◌
 ghost use Rattle.std.specs.Io.KnownBytes.{Appends};
 
 use arrayvec::ArrayVec;
-use byte_text::Line;
+use byte_text::{Line, append};
 use octo_sockets::write_some;
 use std::io::Write;
 use std::marker::Model;
@@ -61,7 +61,7 @@ impl Unsent {
         requires { length self.old + length line.now.items + 1 ≤ ROOM }
         ensures { self.new ≡ self.old ++ line.now.items ++ 10 ∷ [] }
     {
-        let _ = self.bytes.try_extend_from_slice(line.as_slice());
+        append(&mut self.bytes, line.as_slice());
         self.bytes.push(b'\n');
     }
 

@@ -23,7 +23,7 @@ pub struct TooHot {
     pub limit: u16,
 }
 
-/// Refuses a command that asks a heater for more than its limit.
+/// Refuses a command that asks a heater for more than its limit, as `TooHot` with the first such value.
 #[tactic(auto, unfolding(crate::specs::Hot::hot_of))]
 pub fn check(text: &[u8], limits: &Limits) -> Result<(), TooHot>
     ensures { MatchResult result

@@ -1,5 +1,5 @@
 //! What the calls of the link in memory do, part by part.
-ghost use Rattle.std.specs.Prelude.{◌≡◌, ◌≤◌, ◌∷◌, [], true, IfOk, OnOk, OnErr, IsErr, Err, ⊤};
+ghost use Rattle.std.specs.Prelude.{◌≡◌, ◌≤◌, ◌∷◌, [], IfOk, OnOk, OnErr, ⊤};
 ghost use Rattle.octo_outside.specs.Memory.{one_more, is_listed};
 ghost use Rattle.octo_outside.specs.Recorded.{Counts};
 ghost use Rattle.printer_model.specs.World.{IsFrontReply};
@@ -20,12 +20,10 @@ impl MemoryLink {
         ensures fails { result ≡ is_listed self.old.fail_at (one_more self.old.calls) }
         ensures counts { self.new ≡ with_one_call self.old }
     {
-        self.calls = self.calls.saturating_add(1);
-        let call = self.calls;
-        self.fail_at.as_slice().iter().any(|listed| *listed == call)
+        self.calls.begin()
     }
 
-    /// Counts a receiving, and says whether the printer runs a line at it.
+    /// Counts a call of `recv`, and says whether the printer runs a line at it.
     pub(super) fn begin_recv(&mut self) -> bool
         ensures due { result ≡ is_due self.old.slow (one_more self.old.recvs) }
         ensures counts { self.new ≡ with_one_recv self.old }
@@ -34,15 +32,11 @@ impl MemoryLink {
         self.recvs % (u64::from(self.slow) + 1) == 0
     }
 
-    /// Whether the printer restarts at this receiving.
+    /// Whether the printer restarts at this call of `recv`.
     pub(super) fn restarts(&self) -> bool
         ensures { result ≡ is_listed self.now.restart_at self.now.recvs }
     {
-        let recv = self.recvs;
-        self.restart_at
-            .as_slice()
-            .iter()
-            .any(|listed| *listed == recv)
+        self.restart_at.as_slice().contains(&self.recvs)
     }
 
     /// Counts a failure, and closes the link if one is made.
@@ -52,7 +46,7 @@ impl MemoryLink {
         ensures counts { Counts ⊤ self.old.faults self.new.faults }
     {
         self.story.close();
-        self.faults = self.faults.saturating_add(1);
+        self.calls.fail();
         LinkFault::Failed
     }
 
@@ -68,31 +62,23 @@ impl MemoryLink {
             .any(|listed| listed.as_str() == name)
     }
 
-    /// The printer runs all that waits, and a link is made; if `fails` is set, the call fails at once.
-    pub(super) fn make_link(&mut self, fails: bool) -> Result<(), AllocError>
+    /// The printer runs all that waits, and a link is made.
+    pub(super) fn make_link(&mut self) -> Result<(), AllocError>
         ensures ok { OnOk result (self.new
             ≡ with_added self.old (dial_events (link_world self.old)
             (opening_last self.old.story self.old.last))) }
         ensures err { OnErr result (LinkRan self.old self.new) }
-        ensures fails { fails ≡ true → IsErr result × (self.new ≡ self.old) }
     {
-        if fails {
-            return Err(AllocError);
-        }
         self.story.dial(self.last)
     }
 
-    /// A line is sent and meets its fate; if `fails` is set, the call fails at once.
-    pub(super) fn transmit(&mut self, fails: bool, line: &Line) -> Result<(), AllocError>
+    /// A line is sent and meets its fate.
+    pub(super) fn transmit(&mut self, line: &Line) -> Result<(), AllocError>
         ensures ok { OnOk result (self.new
             ≡ with_added self.old (send_events (link_world self.old) line.now
             (next_fate self.old.story))) }
         ensures err { OnErr result (self.new ≡ self.old) }
-        ensures fails { fails ≡ true → IsErr result }
     {
-        if fails {
-            return Err(AllocError);
-        }
         self.story.send(line)
     }
 
@@ -117,11 +103,9 @@ impl MemoryLink {
         self.story.receive(into)
     }
 
-    /// What happens before a reply is received, and then the next one is taken; if `fails` is set, the call fails at
-    /// once.
+    /// What happens before a reply is received, and then the next one is taken.
     pub(super) fn take_reply(
         &mut self,
-        fails: bool,
         restarts: bool,
         due: bool,
         into: &mut ReplyLine,
@@ -129,11 +113,7 @@ impl MemoryLink {
         ensures ok { IfOk result (λ got.
             LinkReceived restarts due into.new.items got self.old self.new) }
         ensures err { OnErr result (LinkMoved self.old self.new) }
-        ensures fails { fails ≡ true → IsErr result × (self.new ≡ self.old) }
     {
-        if fails {
-            return Err(AllocError);
-        }
         self.before_reply(restarts, due)?;
         self.take_front(into)
     }

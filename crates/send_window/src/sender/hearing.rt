@@ -30,7 +30,7 @@ impl Sender {
             self.swallow = false;
             self.heard = true;
         } else if self.ready {
-            self.hear_named_ok(number, moment);
+            self.hear_ok_of(number, moment);
         } else {
             self.ready = true;
             self.hello_due = false;
@@ -40,7 +40,8 @@ impl Sender {
         }
     }
 
-    fn hear_named_ok(&mut self, number: Option<u32>, moment: u64)
+    // An `ok` that may name a line: only the next one to acknowledge fits.
+    fn hear_ok_of(&mut self, number: Option<u32>, moment: u64)
         requires open { self.old.ended ≡ None }
         requires ready { self.old.ready ≡ true }
         ensures { self.new ≡ named_ok number moment self.old }
@@ -50,11 +51,12 @@ impl Sender {
             Some(number) if number != expected => {
                 self.ended = Some(SessionEnd::Counts { number, expected });
             }
-            _ => self.hear_line_ok(moment),
+            _ => self.acknowledge_next(moment),
         }
     }
 
-    fn hear_line_ok(&mut self, moment: u64)
+    // An `ok` of the next line, if one is unacknowledged.
+    fn acknowledge_next(&mut self, moment: u64)
         requires open { self.old.ended ≡ None }
         requires ready { self.old.ready ≡ true }
         ensures { self.new ≡ line_ok moment self.old }

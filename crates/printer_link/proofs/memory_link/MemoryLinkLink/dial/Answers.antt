@@ -1,5 +1,5 @@
 use Rattle.printer_link.specs.Memory.{opening_last}
-use Rattle.printer_link.proofs.Links.{dial_past, dial_up, dial_failed}
+use Rattle.printer_link.proofs.Links.{dial_past, dial_up, dial_failed, dial_failed_at_once}
 use Rattle.printer_link.proofs.memory_link.MemoryLinkLink.dial.Goals as goal
 
 pub returns-in-Ok-clause-past : goal.returns-in-Ok-clause-past
@@ -14,4 +14,8 @@ returns-in-Ok-clause-up c =
 
 pub returns-in-Err-clause-past_failed : goal.returns-in-Err-clause-past_failed
 returns-in-Err-clause-past_failed c =
-    λ _. dial_failed c.args.self.now c.begin-fails.new.self c.make_link.new.self c.fail.new.self c.begin-fails.ensures.counts c.in-Err.ensures.err c.fail.ensures.after c.requires
+    λ _. dial_failed c.args.self.now c.begin-fails.new.self c.make_link.new.self c.fail-in-Err.new.self c.begin-fails.ensures.counts c.in-Err.ensures.err c.fail-in-Err.ensures.after c.requires
+
+pub returns-then-fails-clause-past_failed : goal.returns-then-fails-clause-past_failed
+returns-then-fails-clause-past_failed c =
+    λ _. dial_failed_at_once c.args.self.now c.begin-fails.new.self c.fail.new.self c.begin-fails.ensures.counts c.fail.ensures.after c.requires

@@ -1,4 +1,4 @@
-use Rattle.printer_link.proofs.Links.{heard_past, quiet_past, received_up, recv_failed}
+use Rattle.printer_link.proofs.Links.{heard_past, quiet_past, received_up, recv_failed, recv_failed_at_once}
 use Rattle.printer_link.proofs.memory_link.MemoryLinkLink.recv.Goals as goal
 
 pub returns-in-Ok-clause-past : goal.returns-in-Ok-clause-past
@@ -18,5 +18,9 @@ returns-in-Ok-clause-up c =
 
 pub returns-in-Err-clause-past_failed : goal.returns-in-Err-clause-past_failed
 returns-in-Err-clause-past_failed c =
-    recv_failed c.args.self.now c.begin-fails.new.self c.begin_recv-due.new.self c.take_reply.new.self c.fail.new.self c.begin-fails.ensures.counts c.begin_recv-due.ensures.counts c.in-Err.ensures.err c.fail.ensures.after
+    recv_failed c.args.self.now c.begin-fails.new.self c.begin_recv-due.new.self c.take_reply.new.self c.fail-in-Err.new.self c.begin-fails.ensures.counts c.begin_recv-due.ensures.counts c.in-Err.ensures.err c.fail-in-Err.ensures.after
     c.requires
+
+pub returns-then-fails-clause-past_failed : goal.returns-then-fails-clause-past_failed
+returns-then-fails-clause-past_failed c =
+    recv_failed_at_once c.args.self.now c.begin-fails.new.self c.begin_recv-due.new.self c.fail.new.self c.begin-fails.ensures.counts c.begin_recv-due.ensures.counts c.fail.ensures.after c.requires

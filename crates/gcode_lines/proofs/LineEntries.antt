@@ -1,14 +1,14 @@
--- The word of a line's command names that command in the file.
+-- The entry of a line's command names that command in the file.
 use Rattle.std.proofs.Common.{◌≡◌, ℕ, ◌+◌, ◌-◌, ◌^◌, ◌<◌, ◌≤◌, Bool, true, false, not, ◌==◌, List, [], ◌∷◌, length, get_or, take, map, None, refl, sym, ap, ◌∙◌, arith}
 use Rattle.std.specs.List.{All}
 use Rattle.std.proofs.lemmas.List.{get_or-take, length-take-le}
 use Rattle.std.proofs.lemmas.List.Elements.{All-nil, All-cons}
 use Rattle.std.proofs.lemmas.List.Sums.{suffix_len_is}
 use Rattle.gcode_lines.specs.Text.{command_text, begin_of}
-use Rattle.gcode_lines.specs.Job.{Command, most_bytes, word_of}
+use Rattle.gcode_lines.specs.Job.{Command, most_bytes, entry_of}
 use Rattle.gcode_lines.specs.Commands.{FileLine, is_skipped_line, fault_at, commands_in, command_at}
 use Rattle.gcode_lines.specs.Packed.{line_start, command_in, EndsIn}
-use Rattle.gcode_lines.proofs.Decoded.{command_by, command_in-word, ends_word}
+use Rattle.gcode_lines.proofs.Decoded.{command_by, command_in-entry, ends_entry}
 use Rattle.gcode_lines.proofs.JobLaws.{short_line}
 use Rattle.gcode_lines.proofs.TextCut.{IsPart, IsPart-cut, IsPart-ends, IsPart-part, IsPart-command_text}
 
@@ -37,7 +37,7 @@ line_start-in file line n is inside =
     omega (arith, back, long)
 
 -- the command of a line that is neither skipped nor at fault
-command_kept : (file : List ℕ) (line : FileLine) → IsLineOf file line → is_skipped_line line ≡ false → fault_at line ≡ None → (command_in file (word_of (command_at line)) ≡ command_at line) × EndsIn file (word_of (command_at line))
+command_kept : (file : List ℕ) (line : FileLine) → IsLineOf file line → is_skipped_line line ≡ false → fault_at line ≡ None → (command_in file (entry_of (command_at line)) ≡ command_at line) × EndsIn file (entry_of (command_at line))
 command_kept file line is kept sound =
     let text = command_text line.bytes in
     let begin = begin_of line.bytes in
@@ -49,20 +49,20 @@ command_kept file line is kept sound =
     let ends = IsPart-ends file (line.place + begin) text there in
     let inside : line.place + begin < 2 ^ 28 = omega arith in
     let brief : length text < 2 ^ 7 = omega arith in
-    let named = command_in-word file (line.place + begin) (length text) line.number inside brief in
+    let named = command_in-entry file (line.place + begin) (length text) line.number inside brief in
     let cut = IsPart-cut file (line.place + begin) text there in
     let start = line_start-in file line begin is (omega arith) in
     let same : command_by file (line.place + begin) (length text) line.number ≡ command_at line =
     ap (λ t. let c : Command = record { text = t; line = line.number; place = line_start file (line.place + begin); begin = line.place + begin } in c) cut
     ∙ ap (λ p. let c : Command = record { text = text; line = line.number; place = p; begin = line.place + begin } in c) start in
-    (named ∙ same, ends_word file (line.place + begin) (length text) line.number inside brief ends)
+    (named ∙ same, ends_entry file (line.place + begin) (length text) line.number inside brief ends)
 
-words_by : (file : List ℕ) (line : FileLine) (t : Bool) → is_skipped_line line ≡ t → IsLineOf file line → fault_at line ≡ None → (map (command_in file) (map word_of (commands_in (line ∷ []))) ≡ commands_in (line ∷ [])) × All (EndsIn file) (map word_of (commands_in (line ∷ [])))
-words_by file line true e is sound = rw e (refl, All-nil (EndsIn file))
-words_by file line false e is sound =
+entries_by : (file : List ℕ) (line : FileLine) (t : Bool) → is_skipped_line line ≡ t → IsLineOf file line → fault_at line ≡ None → (map (command_in file) (map entry_of (commands_in (line ∷ []))) ≡ commands_in (line ∷ [])) × All (EndsIn file) (map entry_of (commands_in (line ∷ [])))
+entries_by file line true e is sound = rw e (refl, All-nil (EndsIn file))
+entries_by file line false e is sound =
     let kept = command_kept file line is e sound in
-    rw e (ap (λ c. c ∷ []) kept.0, All-cons (EndsIn file) (word_of (command_at line)) [] kept.1 (All-nil (EndsIn file)))
+    rw e (ap (λ c. c ∷ []) kept.0, All-cons (EndsIn file) (entry_of (command_at line)) [] kept.1 (All-nil (EndsIn file)))
 
--- the words of a line name its commands, and what they name ends in the file
-pub words_of_line : (file : List ℕ) (line : FileLine) → IsLineOf file line → fault_at line ≡ None → (map (command_in file) (map word_of (commands_in (line ∷ []))) ≡ commands_in (line ∷ [])) × All (EndsIn file) (map word_of (commands_in (line ∷ [])))
-words_of_line file line is sound = words_by file line (is_skipped_line line) refl is sound
+-- the entries of a line name its commands, and what they name ends in the file
+pub entries_of_line : (file : List ℕ) (line : FileLine) → IsLineOf file line → fault_at line ≡ None → (map (command_in file) (map entry_of (commands_in (line ∷ []))) ≡ commands_in (line ∷ [])) × All (EndsIn file) (map entry_of (commands_in (line ∷ [])))
+entries_of_line file line is sound = entries_by file line (is_skipped_line line) refl is sound
