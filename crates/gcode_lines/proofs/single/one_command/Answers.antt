@@ -1,10 +1,10 @@
-use Rattle.std.proofs.Common.{sym, ◌∙◌}
+use Rattle.std.proofs.Common.{sym, ◌∙◌, arith}
 use Rattle.gcode_lines.proofs.Sendable.{sendable_one, short_from_test}
 use Rattle.gcode_lines.proofs.single.one_command.Goals as goal
 
 pub bounded_text-requires : goal.bounded_text-requires
 bounded_text-requires c =
-    short_from_test c.command_text-text.result.now (sym c.is_too_long.ensures ∙ c.if-is_too_long.false)
+    (omega arith, short_from_test c.command_text-text.result.now (sym c.is_too_long.ensures ∙ c.if-is_too_long.false))
 
 pub returns-clause-sendable : goal.returns-clause-sendable
 returns-clause-sendable c =
