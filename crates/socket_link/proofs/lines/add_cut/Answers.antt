@@ -1,10 +1,12 @@
-use Rattle.std.proofs.Common.{◌∙◌}
+use Rattle.std.proofs.Common.{arith, ◌∙◌}
 use Rattle.socket_link.proofs.Cuts.{fits_cut, adds_cut}
 use Rattle.socket_link.proofs.lines.add_cut.Goals as goal
 
 pub append-requires : goal.append-requires
-append-requires c =
-    fits_cut c.args.line.now.items c.args.bytes.now c.remaining_capacity.result c.min-count.result c.remaining_capacity.ensures c.min-count.ensures
+append-requires c = (
+  omega arith,
+  fits_cut c.args.line.now.items c.args.bytes.now c.remaining_capacity.result c.min-count.result c.remaining_capacity.ensures c.min-count.ensures,
+)
 
 pub returns : goal.returns
 returns c =
