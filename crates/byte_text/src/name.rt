@@ -3,6 +3,7 @@ ghost use Rattle.std.specs.Prelude.{◌≡◌, ◌<◌, ◌≤◌, ◌↔◌, �
 ghost use Rattle.std.specs.List.{All};
 ghost use Rattle.std.specs.Cmp.Lexicographic.{slice_cmp};
 ghost use Rattle.std.specs.Ordering.{is_lt, nat_cmp};
+ghost use Rattle.std.specs.Str.{bytes_eq};
 
 use arrayvec::ArrayString;
 use std::cmp::Ordering;
@@ -90,7 +91,8 @@ impl Name {
 
     /// Whether both names have the same bytes.
     pub fn is(&self, other: &Name) -> bool
-        ensures { IsTrue result ↔ (self.now ≡ other.now) }
+        ensures same { IsTrue result ↔ (self.now ≡ other.now) }
+        ensures bytes { result ≡ bytes_eq self.now other.now }
     {
         self.text == other.text
     }

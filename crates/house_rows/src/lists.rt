@@ -86,7 +86,7 @@ fn is_print_of(row: &PrintRow, user: &Option<Name>) -> bool
     ensures { result ≡ is_print_of user.now row.now }
 {
     match user {
-        Some(user) => row.user.as_bytes() == user.as_bytes(),
+        Some(user) => row.user.is(user),
         None => true,
     }
 }

@@ -47,7 +47,7 @@ pub fn drop_name(names: &mut Vec<Name>, name: &Name)
     ensures room { vec_len names.old < vec_capacity names.old
         → vec_len names.new < vec_capacity names.new }
 {
-    names.retain(|other| other.as_bytes() != name.as_bytes());
+    names.retain(|other| !other.is(name));
 }
 
 // Adds a name in its place by its bytes; without memory the names stay.

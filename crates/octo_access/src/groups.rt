@@ -4,7 +4,6 @@ ghost use Rattle.std.specs.List.{position_or_len};
 ghost use Rattle.std.specs.Option.{option_copied};
 ghost use Rattle.octo_access.specs.Groups.{most_groups, built_in, is_group, added_permissions, permissions_of, is_known, group_grants};
 
-use crate::names::are_same;
 use crate::permission::{Permission, grants};
 use byte_text::Name;
 use std::alloc::Global;
@@ -132,7 +131,7 @@ impl Groups {
     {
         self.groups
             .iter()
-            .take_while(|group| !are_same(&group.name, name))
+            .take_while(|group| !group.name.is(name))
             .count()
     }
 

@@ -1,7 +1,6 @@
 //! Names of users, groups, queue entries and materials.
 ghost use Rattle.std.specs.Prelude.{◌≡◌};
 ghost use Rattle.std.specs.List.{list_all};
-ghost use Rattle.std.specs.Str.{bytes_eq};
 ghost use Rattle.octo_access.specs.Changes.{is_among};
 ghost use Rattle.octo_access.specs.Names.{is_name_byte, is_name, name_of};
 
@@ -36,16 +35,9 @@ pub fn read_name(text: &str) -> Option<Name>
     None
 }
 
-/// Whether two names are the same.
-pub(crate) fn are_same(name: &Name, other: &Name) -> bool
-    ensures { result ≡ bytes_eq name.now other.now }
-{
-    name.as_bytes() == other.as_bytes()
-}
-
 /// Whether a name is among others.
 pub fn is_among(name: &Name, names: &[Name]) -> bool
     ensures { result ≡ is_among name.now names.now }
 {
-    names.iter().any(|other| are_same(other, name))
+    names.iter().any(|other| other.is(name))
 }

@@ -7,7 +7,7 @@ ghost use Rattle.octo_access.specs.Changes.{is_barred, bad_group};
 ghost use Rattle.octo_access.specs.Rights.{has, admin_if, admin_with_key};
 
 use crate::groups::Groups;
-use crate::names::{are_same, is_among};
+use crate::names::is_among;
 use crate::permission::Permission;
 use crate::refusal::UserRefusal;
 use crate::row::{Admin, Digest, UserRow};
@@ -53,7 +53,7 @@ impl Policy {
         ensures { result ≡ is_some (admin_if (λ a. bytes_eq a.name name.now) self.now.admin) }
     {
         match &self.admin {
-            Some(admin) => are_same(&admin.name, name),
+            Some(admin) => admin.name.is(name),
             None => false,
         }
     }

@@ -4,7 +4,6 @@ ghost use Rattle.sha2.specs.Sha256.{sha256};
 ghost use Rattle.octo_access.specs.Rights.{admin_row, is_caller};
 ghost use Rattle.octo_access.specs.Rows.{is_named, has_digest};
 
-use crate::names::are_same;
 use arrayvec::ArrayVec;
 use byte_text::Name;
 use octo_outside::ItemList;
@@ -70,7 +69,7 @@ impl UserRow {
     pub fn is_named(&self, name: &Name) -> bool
         ensures { result ≡ is_named name.now self.now }
     {
-        are_same(&self.name, name)
+        self.name.is(name)
     }
 
     pub(crate) fn has_digest(&self, digest: &Digest) -> bool

@@ -15,10 +15,7 @@ fn place_of(files: &[ShelfFile], name: &Name) -> usize
     ensures place { result ≡ position_or_len (is_file name.now) files.now }
     ensures within { result ≤ length files.now }
 {
-    files
-        .iter()
-        .take_while(|file| file.name.as_bytes() != name.as_bytes())
-        .count()
+    files.iter().take_while(|file| !file.name.is(name)).count()
 }
 
 // The place for a file of that name: how many files come before it, by the bytes of their names.
@@ -62,7 +59,7 @@ pub fn drop_file(files: &mut Vec<ShelfFile>, name: &Name)
     ensures room { vec_len files.old < vec_capacity files.old
         → vec_len files.new < vec_capacity files.new }
 {
-    files.retain(|file| file.name.as_bytes() != name.as_bytes());
+    files.retain(|file| !file.name.is(name));
 }
 
 // Adds a file in its place by name; without memory the files stay.

@@ -96,14 +96,14 @@ impl QueueEntry {
     pub fn is_key(&self, user: &Name, name: &Name) -> bool
         ensures { result ≡ is_key user.now name.now self.now }
     {
-        self.user.as_bytes() == user.as_bytes() && self.name.as_bytes() == name.as_bytes()
+        self.user.is(user) && self.name.is(name)
     }
 
     /// Whether it is this user's.
     pub fn is_of(&self, user: &Name) -> bool
         ensures { result ≡ is_of (Some user.now) self.now }
     {
-        self.user.as_bytes() == user.as_bytes()
+        self.user.is(user)
     }
 
     /// Whether a printer that holds this material can print it: one of the two is `any`, or they are equal.
@@ -112,16 +112,16 @@ impl QueueEntry {
     {
         self.material.as_bytes() == b"any".as_slice()
             || material.as_bytes() == b"any".as_slice()
-            || self.material.as_bytes() == material.as_bytes()
+            || self.material.is(material)
     }
 
     /// Whether another asks for the same: its file, priority, copies and material are equal.
     pub fn is_same(&self, asked: &QueueEntry) -> bool
         ensures { result ≡ is_same self.now asked.now }
     {
-        self.file.as_bytes() == asked.file.as_bytes()
+        self.file.is(&asked.file)
             && self.priority == asked.priority
             && self.copies == asked.copies
-            && self.material.as_bytes() == asked.material.as_bytes()
+            && self.material.is(&asked.material)
     }
 }

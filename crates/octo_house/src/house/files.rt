@@ -80,7 +80,7 @@ impl House {
         let Some(selected) = desk.selected() else {
             return Ok(());
         };
-        if selected.as_bytes() == name.as_bytes() && desk.print().is_some() {
+        if selected.is(name) && desk.print().is_some() {
             return Err(Refusal::FileBusy);
         }
         Ok(())
