@@ -6,10 +6,10 @@ use crate::direct::empty_reply;
 use crate::pages::{connection_reply, job_reply, stored_reply, uploaded_reply, version_reply};
 use crate::printer::printer_reply;
 use crate::refusals::refusal_reply;
-use crate::status::{CREATED, NO_CONTENT, OK};
+use crate::status::{CREATED, OK};
 use crate::written::{item_reply, list_reply};
 use octo_asks::Answer;
-use octo_http::{HttpReply, ReplyKind};
+use octo_http::{HttpReply, NO_CONTENT, ReplyKind};
 use octo_outside::Blob;
 use std::alloc::{AllocError, Global};
 

@@ -5,8 +5,6 @@ pub(crate) const OK: u16 = 200;
 
 pub(crate) const CREATED: u16 = 201;
 
-pub(crate) const NO_CONTENT: u16 = 204;
-
 pub(crate) const BAD_REQUEST: u16 = 400;
 
 pub(crate) const FORBIDDEN: u16 = 403;

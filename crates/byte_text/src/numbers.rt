@@ -1,12 +1,13 @@
 //! A number at the front of bytes.
-ghost use Rattle.std.specs.Prelude.{◌≡◌, ◌≤◌};
+ghost use Rattle.std.specs.Prelude.{◌≡◌, ◌≤◌, length};
 ghost use Rattle.std.specs.Char.{is_ascii_digit};
 ghost use Rattle.std.specs.List.{list_all, prefix_len};
 ghost use Rattle.byte_text.specs.Number.{leading_digits, number_of, whole_number, number_in};
 
-// How many digits are at the front.
-fn digit_count(bytes: &[u8]) -> usize
-    ensures { result ≡ prefix_len is_ascii_digit bytes.now }
+/// How many decimal digits are at the front.
+pub fn digits_in_front(bytes: &[u8]) -> usize
+    ensures value { result ≡ prefix_len is_ascii_digit bytes.now }
+    ensures fits { result ≤ length bytes.now }
 {
     bytes
         .iter()
@@ -19,7 +20,7 @@ fn digit_count(bytes: &[u8]) -> usize
 pub fn leading_digits(bytes: &[u8]) -> &[u8]
     ensures { result.now ≡ leading_digits bytes.now }
 {
-    &bytes[..digit_count(bytes)]
+    &bytes[..digits_in_front(bytes)]
 }
 
 /// The number that the digits at the front write: 0 for none, and 4,294,967,295 for everything above it.

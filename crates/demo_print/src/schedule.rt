@@ -95,9 +95,7 @@ fn names(alloc: Global) -> Result<NameList, AllocError>
     ensures { IfOk result (λ names. names ≡ codes "demo" ∷ []) }
 {
     let mut names = NameList::new(alloc);
-    if let Some(name) = Name::from_text("demo") {
-        names.push(name)?;
-    }
+    names.push(Name::of_short("demo"))?;
     Ok(names)
 }
 

@@ -14,7 +14,7 @@ pub enum FileFault {
     #[error("{bytes} bytes: too large")]
     TooLarge { bytes: u64 },
     /// Memory ran out.
-    #[error("no memory")]
+    #[error("out of memory")]
     NoMemory,
 }
 

@@ -6,13 +6,11 @@
 ghost use Rattle.std.specs.Prelude.{◌≡◌, ◌+◌, ◌≤◌, ◌||◌, false, fold, length};
 ghost use Rattle.std.specs.Bool.{OnTrue};
 ghost use Rattle.std.specs.List.{before_first, position_or_len, prefix_len, suffix_len};
-ghost use Rattle.byte_text.specs.Chars.{is_space};
 ghost use Rattle.byte_text.specs.declared.texts.TheConstants.{MOST_TEXT_BYTES};
 ghost use Rattle.gcode_lines.specs.Text.{is_mark, is_blank, is_control, is_numbered, is_skipped, is_too_long, is_odd, has_control, trimmed, without_number, command_text, begin_of};
-ghost use Rattle.std.specs.Char.{is_ascii_digit};
 
 use crate::line::Line;
-use byte_text::{MOST_TEXT_BYTES, has_m110, is_space};
+use byte_text::{MOST_TEXT_BYTES, digits_in_front, has_m110, is_space, spaces_in_front};
 
 /// A byte that begins a comment or a checksum.
 pub(crate) fn is_mark(byte: u8) -> bool
@@ -62,25 +60,6 @@ fn blanks_at_end(bytes: &[u8]) -> usize
         .count()
 }
 
-/// How many digits are at the front.
-fn digits_in_front(bytes: &[u8]) -> usize
-    ensures value { result ≡ prefix_len is_ascii_digit bytes.now }
-    ensures fits { result ≤ length bytes.now }
-{
-    bytes
-        .iter()
-        .take_while(|byte| byte.is_ascii_digit())
-        .count()
-}
-
-/// How many spaces and tabs are at the front.
-fn spaces_in_front(bytes: &[u8]) -> usize
-    ensures value { result ≡ prefix_len is_space bytes.now }
-    ensures fits { result ≤ length bytes.now }
-{
-    bytes.iter().take_while(|byte| is_space(**byte)).count()
-}
-
 /// What is before a comment or a checksum.
 fn before_mark(line: &[u8]) -> &[u8]
     ensures { result.now ≡ before_first is_mark line.now }
@@ -99,7 +78,7 @@ fn trimmed(bytes: &[u8]) -> &[u8]
 
 /// Whether a text begins with a line number.
 #[tactic(auto, unfolding(crate::specs::Text::is_numbered))]
-fn is_numbered(text: &[u8]) -> bool
+pub fn is_numbered(text: &[u8]) -> bool
     ensures value { result ≡ is_numbered text.now }
     ensures long { OnTrue result (2 ≤ length text.now) }
 {

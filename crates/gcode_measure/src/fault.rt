@@ -22,6 +22,6 @@ pub enum RestFault {
     #[error("{count} commands")]
     Past { count: u32 },
     /// Out of memory.
-    #[error("no memory")]
+    #[error("out of memory")]
     NoMemory,
 }

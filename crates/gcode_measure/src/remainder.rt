@@ -1,7 +1,6 @@
 //! The file that goes on at a command.
 ghost use Rattle.std.specs.Prelude.{◌≡◌, ◌≤◌, ◌++◌, ◌⊎◌, ℕ, List, [], take, drop, length, false, None, Some, Err, Ok, IfOk, OnOk, MatchResult};
 ghost use Rattle.gcode_lines.specs.Job.{texts_of};
-ghost use Rattle.gcode_lines.specs.Text.{is_numbered};
 ghost use Rattle.gcode_measure.specs.Head.{head_of};
 ghost use Rattle.gcode_measure.specs.Measured.{first_fault};
 ghost use Rattle.octo_outside.specs.Lists.{with_line_feed};
@@ -11,7 +10,7 @@ use crate::decimal::put_micro;
 use crate::fault::{MeasureFault, RestFault};
 use crate::head::Head;
 use crate::kind::{Mode, read_kind};
-use gcode_lines::Job;
+use gcode_lines::{Job, is_numbered};
 use octo_outside::{Blob, append_line};
 use std::alloc::{AllocError, Global};
 
@@ -48,14 +47,6 @@ fn extruder_command(mode: Mode) -> &'static [u8]
         Mode::Absolute => b"M82",
         Mode::Relative => b"M83",
     }
-}
-
-/// Whether a command begins as a numbered line does.
-#[tactic(auto, unfolding(gcode_lines::specs::Text::is_numbered))]
-fn is_numbered(text: &[u8]) -> bool
-    ensures { result ≡ is_numbered text.now }
-{
-    text.len() > 1 && text[0] == b'N' && text[1].is_ascii_digit()
 }
 
 /// Adds an axis's letter with the text before it, and its position; after an error the text may hold a part of it, here

@@ -2,7 +2,7 @@
 ghost use Rattle.std.specs.Prelude.{◌≡◌, ◌≤◌, ◌<◌, ◌+◌, ◌∷◌, length, drop, IfSome};
 ghost use Rattle.http_parts.specs.Delimiters.{delimiter_at, delimiter_of, opening, IsNextDelimiter, IsFirstDelimiter};
 
-use crate::text::blank_count;
+use byte_text::spaces_in_front;
 use memchr::memmem::Finder;
 
 // A delimiter: a line end (but at the body's start), `--`, the boundary, and then `--`, or blanks and a line end.
@@ -26,7 +26,7 @@ fn delimiter_at(body: &[u8], at: usize, end: usize) -> Option<Delimiter>
     if tail.starts_with(b"--") {
         return Some(Delimiter { at, part: None });
     }
-    let blanks = blank_count(tail);
+    let blanks = spaces_in_front(tail);
     if tail[blanks..].starts_with(b"\r\n") {
         return Some(Delimiter {
             at,

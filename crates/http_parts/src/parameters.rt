@@ -8,8 +8,8 @@ ghost use Rattle.http_parts.specs.declared.quotes.Quoting.TheVariants as quoting
 
 use crate::Span;
 use crate::quotes::{Quoting, quoted_end};
-use crate::text::{begins_any_case, blank_count};
-use byte_text::is_space;
+use crate::text::begins_any_case;
+use byte_text::{is_space, spaces_in_front};
 
 // How many bytes a boundary may have. Source: RFC 2046, section 5.1.1.
 const LONGEST_BOUNDARY: usize = 70;
@@ -28,7 +28,7 @@ fn ends_word(bytes: &[u8]) -> bool
 pub fn has_type(value: &[u8], name: &[u8]) -> bool
     ensures { result ≡ has_type name.now value.now }
 {
-    let word = &value[blank_count(value)..];
+    let word = &value[spaces_in_front(value)..];
     begins_any_case(word, name) && ends_word(&word[name.len()..])
 }
 
@@ -37,7 +37,7 @@ fn key_end(bytes: &[u8], key: &[u8]) -> Option<usize>
     ensures value { result ≡ key_end key.now bytes.now }
     ensures within { IfSome result (λ count. count ≤ length bytes.now) }
 {
-    let blanks = blank_count(bytes);
+    let blanks = spaces_in_front(bytes);
     if begins_any_case(&bytes[blanks..], key) {
         return Some(blanks + key.len());
     }

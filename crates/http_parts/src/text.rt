@@ -1,19 +1,8 @@
 //! Texts in front of bytes and within them, in any case of their letters.
 ghost use Rattle.std.specs.Prelude.{◌≡◌, ◌≤◌, ◌+◌, length, true, IfSome};
-ghost use Rattle.std.specs.List.{prefix_len};
-ghost use Rattle.byte_text.specs.Chars.{is_space};
 ghost use Rattle.http_parts.specs.Texts.{IsWithin, text_at, begins_any_case, place_any_case};
 
 use crate::Span;
-use byte_text::is_space;
-
-// How many spaces and tabs are in front.
-pub(crate) fn blank_count(bytes: &[u8]) -> usize
-    ensures value { result ≡ prefix_len is_space bytes.now }
-    ensures most { result ≤ length bytes.now }
-{
-    bytes.iter().take_while(|byte| is_space(**byte)).count()
-}
 
 // Whether the text is in front of the bytes, in any case of its letters.
 pub(crate) fn begins_any_case(bytes: &[u8], text: &[u8]) -> bool

@@ -11,8 +11,8 @@ use std::alloc::Global;
 use std::marker::Model;
 use thiserror::Error;
 
-// The most lines of a script.
-const MOST_LINES: usize = 64;
+/// The most lines of a script.
+pub const MOST_SCRIPT_LINES: usize = 64;
 
 /// Why a line does not join a script.
 #[derive(Clone, Copy, Debug, PartialEq, Eq, Error)]
@@ -58,7 +58,7 @@ impl Script {
         ensures err { OnErr result (self.new ≡ self.old) }
         ensures too_many { (result ≡ Err AddFault.TooMany) ↔ (length self.old ≡ most_script_lines) }
     {
-        if self.texts.len() >= MOST_LINES {
+        if self.texts.len() >= MOST_SCRIPT_LINES {
             return Err(AddFault::TooMany);
         }
         match self.texts.push(bounded_text(text.as_slice())) {

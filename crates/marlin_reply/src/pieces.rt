@@ -3,10 +3,9 @@ ghost use Rattle.std.specs.Prelude.{◌≡◌, ◌≤◌, ◌==◌, not, length}
 ghost use Rattle.std.specs.Option.{option_copied};
 ghost use Rattle.std.specs.List.{prefix_len, suffix_len};
 ghost use Rattle.std.specs.Iterator.{YieldsFirstRef, item_count};
-ghost use Rattle.byte_text.specs.Chars.{is_space};
 ghost use Rattle.marlin_reply.specs.Pieces.{is_line_end, without_front, without_end, trimmed, after_spaces, starts_after, piece_starts, front_piece, small_number, whole_number, field_at, field_of, starts_left};
 
-use byte_text::{are_digits, is_space};
+use byte_text::{are_digits, spaces_in_front};
 use gcode_words::decimal_up_to;
 
 /// A line without spaces and tabs at both ends, and without carriage returns at its end.
@@ -21,8 +20,7 @@ pub(crate) fn trim_line(line: &[u8]) -> &[u8]
 fn trim_front(bytes: &[u8]) -> &[u8]
     ensures { result.now ≡ without_front bytes.now }
 {
-    let spaces = count_spaces_and_tabs(bytes);
-    &bytes[spaces..]
+    &bytes[spaces_in_front(bytes)..]
 }
 
 #[tactic(auto, unfolding(crate::specs::Pieces::without_end))]
@@ -31,13 +29,6 @@ fn trim_end(bytes: &[u8]) -> &[u8]
 {
     let ends = count_line_ends(bytes);
     &bytes[..bytes.len() - ends]
-}
-
-fn count_spaces_and_tabs(bytes: &[u8]) -> usize
-    ensures value { result ≡ prefix_len is_space bytes.now }
-    ensures bound { result ≤ length bytes.now }
-{
-    bytes.iter().take_while(|byte| is_space(**byte)).count()
 }
 
 fn count_line_ends(bytes: &[u8]) -> usize

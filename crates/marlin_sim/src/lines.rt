@@ -1,5 +1,6 @@
 //! Lines on their way to the printer.
 ghost use Rattle.std.specs.Prelude.{◌≡◌, ◌≤◌, ◌+◌, ◌∷◌, ◌++◌, [], length, MatchOption};
+ghost use Rattle.byte_text.specs.declared.texts.TheConstants.{MOST_LINE_BYTES};
 ghost use Rattle.octo_outside.specs.Memory.{is_listed};
 ghost use Rattle.printer_model.specs.Garble.{garbled};
 ghost use Rattle.marlin_sim.specs.Lines.{cut, ends_with_digit, arriving};
@@ -7,7 +8,7 @@ ghost use Rattle.marlin_sim.specs.Lines.{cut, ends_with_digit, arriving};
 use crate::cuts::split_at_first;
 use crate::plan::SimPlan;
 use arrayvec::ArrayVec;
-use byte_text::{append, bounded_text};
+use byte_text::{MOST_LINE_BYTES, append, bounded_text};
 use octo_outside::CallList;
 use printer_model::garbled;
 use std::alloc::{AllocError, Global};
@@ -15,16 +16,13 @@ use std::collections::VecDeque;
 use std::marker::Model;
 
 /// The bytes of a line that count.
-pub type CutLine = ArrayVec<u8, 95>;
-
-// How many these are at most.
-const MOST_BYTES: usize = 95;
+pub type CutLine = ArrayVec<u8, MOST_LINE_BYTES>;
 
 // Adds bytes to a line as far as they count.
 fn put_cut(line: &mut CutLine, bytes: &[u8])
     ensures { line.new.items ≡ cut (line.old.items ++ bytes.now) }
 {
-    let room = MOST_BYTES - line.len();
+    let room = MOST_LINE_BYTES - line.len();
     append(line, &bytes[..room.min(bytes.len())]);
 }
 
@@ -32,7 +30,7 @@ fn put_cut(line: &mut CutLine, bytes: &[u8])
 fn is_listed(lines: &CallList, number: u64) -> bool
     ensures { result ≡ is_listed lines.now number }
 {
-    lines.as_slice().iter().any(|line| *line == number)
+    lines.as_slice().contains(&number)
 }
 
 // Whether a line's last byte is a digit.
@@ -114,7 +112,7 @@ impl Lines {
     pub fn next(&self) -> Option<&[u8]>
         ensures { MatchOption result (self.now.waiting ≡ [])
             (λ line. (self.now.waiting ≡ line.now ∷ drop 1 self.now.waiting)
-            × (length line.now ≤ MOST_BYTES)) }
+            × (length line.now ≤ MOST_LINE_BYTES)) }
     {
         match self.waiting.front() {
             Some(line) => Some(line.as_slice()),

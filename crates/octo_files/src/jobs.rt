@@ -14,7 +14,7 @@ use std::alloc::Global;
 use temp_rules::{Limits, first_hot};
 
 // How many bytes a larger file is said to have, since no more is read of it: one more than the most.
-const TOO_MANY: u64 = 67_108_865;
+const TOO_MANY: u64 = MOST_FILE_BYTES as u64 + 1;
 
 // The job of bytes, which it keeps.
 fn take_job(alloc: Global, bytes: Blob) -> Result<Job, Report>

@@ -10,11 +10,8 @@ ghost use Rattle.std.specs.Option.{option_map};
 
 use octo_outside::{ReadAll, Source, read_all};
 use octo_report::Report;
-use octo_settings::{Settings, SettingsFault, read_settings};
+use octo_settings::{MOST_SETTINGS_BYTES, Settings, SettingsFault, read_settings};
 use std::alloc::Global;
-
-// The most bytes of settings.
-const MOST_BYTES: usize = 1_048_576;
 
 // The settings that bytes say.
 fn settings_of_bytes(alloc: Global, bytes: &[u8]) -> Result<Settings, Report>
@@ -47,7 +44,7 @@ fn read_settings_file<F: Source>(
     ensures counts { Counts (result ≡ Err report.SourceFailed)
         (F.faults files.old) (F.faults files.new) }
 {
-    match read_all(alloc, files, name, MOST_BYTES) {
+    match read_all(alloc, files, name, MOST_SETTINGS_BYTES) {
         Ok(bytes) => settings_of_bytes(alloc, bytes.as_slice()),
         Err(ReadAll::Failed) => Err(Report::SourceFailed),
         Err(ReadAll::TooLong) => Err(Report::BadSettings(SettingsFault::NotToml)),

@@ -12,4 +12,4 @@ mod read_part;
 mod reply;
 
 pub use message::{Message, read_message};
-pub use reply::{HttpReply, ReplyKind, write_reply};
+pub use reply::{HttpReply, NO_CONTENT, ReplyKind, write_reply};

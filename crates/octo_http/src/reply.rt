@@ -29,8 +29,8 @@ pub struct HttpReply {
     pub body: Blob,
 }
 
-// The status of a reply without a body, a length or a type. Source: RFC 9110, section 15.3.5.
-const NO_CONTENT: u16 = 204;
+/// The status of a reply without a body, a length or a type. Source: RFC 9110, section 15.3.5.
+pub const NO_CONTENT: u16 = 204;
 
 // The lines and fields before a body.
 type ReplyHead = ArrayVec<u8, 192>;

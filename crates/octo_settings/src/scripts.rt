@@ -16,14 +16,11 @@ use crate::texts::read_texts;
 use crate::values::{at, read_section};
 use byte_text::Text;
 use gcode_lines::one_command;
-use job_desk::{Point, Scripts};
+use job_desk::{MOST_SCRIPT_LINES, Point, Scripts};
 use octo_outside::WordList;
 use std::alloc::Global;
 use temp_rules::{Limits, check};
 use toml::{Table, Value};
-
-// The most lines of a script.
-const MOST_LINES: usize = 64;
 
 /// The key of a script, with OctoPrint's name.
 pub fn script_key(point: Point) -> &'static str
@@ -150,7 +147,7 @@ fn add_texts(
         (λ fault. (fault ≡ NoMemory)
         ⊎ (with_texts limits.now point lines.now scripts.old ≡ Err fault)) }
 {
-    if scripts.count(point).saturating_add(lines.count()) > MOST_LINES {
+    if scripts.count(point).saturating_add(lines.count()) > MOST_SCRIPT_LINES {
         return Err(out_of_range(script_key(point)));
     }
     add_lines(limits, point, lines, scripts)

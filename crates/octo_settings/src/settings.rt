@@ -21,8 +21,8 @@ use std::str;
 use temp_rules::Limits;
 use toml::{Table, table_from_str};
 
-// The most bytes of settings.
-const MOST_BYTES: usize = 1_048_576;
+/// The most bytes of settings.
+pub const MOST_SETTINGS_BYTES: usize = 1_048_576;
 
 /// The settings of a print host. A sender and a desk can be made with any that were read.
 #[derive(Drop)]
@@ -85,7 +85,7 @@ fn read_document(alloc: Global, text: &str) -> Result<Table, SettingsFault>
         (λ table. document_of text.now ≡ Some (table_view table))
         (λ fault. (fault ≡ NoMemory) ⊎ ((fault ≡ NotToml) × (document_of text.now ≡ None))) }
 {
-    if text.len() > MOST_BYTES {
+    if text.len() > MOST_SETTINGS_BYTES {
         return Err(SettingsFault::NotToml);
     }
     match table_from_str(alloc, text) {

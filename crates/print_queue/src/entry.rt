@@ -1,4 +1,5 @@
 //! An entry of the queue.
+use crate::material::any_material;
 use byte_text::Name;
 use octo_outside::ItemList;
 
@@ -110,9 +111,8 @@ impl QueueEntry {
     pub fn fits(&self, material: &Name) -> bool
         ensures { result ≡ fits material.now self.now }
     {
-        self.material.as_bytes() == b"any".as_slice()
-            || material.as_bytes() == b"any".as_slice()
-            || self.material.is(material)
+        let any = any_material();
+        self.material.is(&any) || material.is(&any) || self.material.is(material)
     }
 
     /// Whether another asks for the same: its file, priority, copies and material are equal.

@@ -98,7 +98,7 @@ impl World {
     {
         match self.down.front() {
             None => None,
-            Some(reply) => Some(reply_of(reply.as_slice())),
+            Some(reply) => Some(bounded_text(reply.as_slice())),
         }
     }
 
@@ -236,7 +236,7 @@ impl World {
         if !self.linked || !is_chatter(reply.as_slice()) {
             return Ok(false);
         }
-        self.down.push(reply_of(reply.as_slice()))?;
+        self.down.push(bounded_text(reply.as_slice()))?;
         Ok(true)
     }
 
@@ -273,18 +273,6 @@ fn answer(down: &mut Wire<256>, linked: bool, reply: ReplyLine) -> Result<(), Al
         down.push(reply)?;
     }
     Ok(())
-}
-
-/// A copy of a reply line.
-fn reply_of(bytes: &[u8]) -> ReplyLine
-    requires { length bytes.now ≤ 256 }
-    ensures { result.items ≡ bytes.now }
-{
-    let mut line = ReplyLine::new();
-    match line.try_extend_from_slice(bytes) {
-        Ok(()) => line,
-        Err(_) => unreachable!(),
-    }
 }
 
 /// Whether a line is another reply: neither Ok, Resend nor Start.

@@ -197,10 +197,7 @@ impl Session {
             (L.faults link.old) (L.faults link.new) }
     {
         let found = receive_then_send(&mut self.desk, &mut self.sender, link, moment, line);
-        self.up = match found.fact {
-            LinkFact::Quiet | LinkFact::Ready => true,
-            _ => false,
-        };
+        self.up = matches!(found.fact, LinkFact::Quiet | LinkFact::Ready);
         found
     }
 
