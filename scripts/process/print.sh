@@ -57,6 +57,21 @@ print_row() {
     fi
 }
 
+# name, marlin_sim's arguments, its status, and what standard error says
+sim_row() {
+    # shellcheck disable=SC2086
+    timeout 60 crates/marlin_sim/out/marlin_sim $2 >"$work/executed" 2>"$work/complaint"
+    sim=$?
+    printf '%s\n' "$4" >"$work/complaint_wanted"
+    if [ "$sim" -eq "$3" ] && cmp "$work/complaint" "$work/complaint_wanted" && [ ! -s "$work/executed" ]; then
+        echo "ok: $1"
+    else
+        echo "failed: $1: marlin_sim $sim"
+        cat "$work/complaint"
+        failed=1
+    fi
+}
+
 # A printer that is killed while it prints: octo ends with status 5, and the printer executed the first lines of the print.
 kill_row() {
     port=$(scripts/free_port) || exit 1
@@ -110,4 +125,7 @@ print_row "two commands over a Unix socket" 'G28\nG1 X10\n' '4 4 - -' \
     'done: 2 commands, 0 skipped\n' 0 'N1 M110 N1\nN2 G28\nN3 G1 X10\n'
 print_row "the third line lost over a Unix socket" 'G28\nG1 X10\n' '4 4 3 -' \
     'done: 2 commands, 0 skipped\n' 0 'N1 M110 N1\nN2 G28\nN3 G1 X10\n' "--settings $work/settings.toml --turns 50000"
+sim_row "marlin_sim without arguments" "" 2 "usage: marlin_sim ADDRESS LAST SLOTS DROP GARBLE"
+sim_row "marlin_sim at an address where it can't listen" "unix:$work/none/printer 0 4 - -" 12 \
+    "marlin_sim: it can't listen at the address, or the connection failed"
 exit "$failed"

@@ -34,7 +34,7 @@ bytes_reply bytes = record { status = 200; kind = Bytes; body = bytes }
 abbrev pub refusal : ℕ → List ℕ → HttpReply
 refusal status name = json_reply status (refusal_data name)
 
--- a file that has no job; its fault is never out of memory
+-- a file that has no job; the last case doesn't come, since its answer is NoMemory
 abbrev pub bad_file_reply : FileFault → HttpReply
 bad_file_reply (file_fault.TooLong line) = json_reply 400 (bad_line_data (codes "TooLong") line)
 bad_file_reply (file_fault.ControlByte line) = json_reply 400 (bad_line_data (codes "ControlByte") line)

@@ -1,6 +1,6 @@
 //! The statuses of HTTP that replies have. Source: RFC 9110, section 15; RFC 6585, section 5; RFC 4918, section 11.5.
 
-// Names of the statuses, as the sources have them.
+// The statuses by their names in the sources; 431 without `Request`.
 pub(crate) const OK: u16 = 200;
 
 pub(crate) const CREATED: u16 = 201;

@@ -167,7 +167,8 @@ pub fn request_by(alloc: Global, routes: &Routes, message: Message) -> Result<As
     Ok(Ask { key, request })
 }
 
-/// What a message asks, as `request_by` returns it, by a table of routes made for this message.
+/// What a message asks, as `request_by` returns it, by a table of routes made for this message. `NoMemory` also if there is
+/// none for the table.
 pub fn to_request(alloc: Global, message: Message) -> Result<Ask, Direct>
     ensures says { MessageReadsAs message result }
     ensures callers { IfOk result (λ ask. IsCallers ask.request) }

@@ -33,7 +33,7 @@ fn append_line(file: &mut Blob, draw: u32) -> Result<(), AllocError>
     }
 }
 
-/// Adds a line for each command.
+// Adds a line for each command.
 pub(crate) fn append_lines(
     file: &mut Blob,
     numbers: &mut Draws,

@@ -32,7 +32,7 @@ impl Model for Job {
 }
 
 impl Job {
-    /// The job of a file in which these commands were found.
+    // The job of a file in which these commands were found.
     pub(crate) fn new(file: Blob, places: Places) -> Job
         requires { AreFound file places }
         ensures { result ≡ job_at file places }
@@ -108,7 +108,7 @@ impl Job {
     }
 }
 
-/// The first place of the line in which a place of the file is.
+// The first place of the line in which a place of the file is.
 fn line_start(file: &[u8], place: usize) -> usize
     requires { place ≤ length file.now }
     ensures { result ≡ line_start file.now place }
@@ -116,7 +116,7 @@ fn line_start(file: &[u8], place: usize) -> usize
     place - bytes_after_feed(&file[..place])
 }
 
-/// How many bytes are after the last line feed.
+// How many bytes are after the last line feed.
 fn bytes_after_feed(bytes: &[u8]) -> usize
     ensures value { result ≡ suffix_len (λ byte. not (byte == 10)) bytes.now }
     ensures fits { result ≤ length bytes.now }

@@ -12,7 +12,7 @@ use crate::text::{TextAt, has_control, is_plain, is_skipped, is_too_long, text_i
 use std::alloc::{AllocError, Global};
 use std::marker::Model;
 
-/// The commands found so far, an entry each, and how many lines hold none.
+// The commands found so far, an entry each, and how many lines hold none.
 #[derive(Drop)]
 pub(crate) struct Places {
     entries: Vec<u64>,
@@ -28,7 +28,7 @@ impl Model for Places {
 }
 
 impl Places {
-    /// No line was read yet.
+    // No line was read yet.
     pub(crate) fn new(alloc: Global) -> Self
         ensures { result ≡ record { entries = []; skipped = 0 } }
     {
@@ -38,21 +38,21 @@ impl Places {
         }
     }
 
-    /// The entries of the commands.
+    // The entries of the commands.
     pub(crate) fn entries(&self) -> &[u64]
         ensures { result.now ≡ self.now.entries }
     {
         self.entries.as_slice()
     }
 
-    /// How many lines hold no command.
+    // How many lines hold no command.
     pub(crate) fn skipped(&self) -> u32
         ensures { result ≡ self.now.skipped }
     {
         self.skipped
     }
 
-    /// Adds a command's entry. After an error all is as before.
+    // Adds a command's entry. After an error all is as before.
     fn push(&mut self, entry: u64) -> Result<(), AllocError>
         ensures { MatchResult result
             (λ _. self.new ≡ record self.old { entries = self.old.entries ++ entry ∷ [] })
@@ -64,7 +64,7 @@ impl Places {
         }
     }
 
-    /// Counts a line that holds no command.
+    // Counts a line that holds no command.
     fn skip(&mut self)
         requires { self.old.skipped < most_bytes }
         ensures { self.new ≡ record self.old { skipped = self.old.skipped + 1 } }
@@ -72,7 +72,7 @@ impl Places {
         self.skipped += 1;
     }
 
-    /// Adds the text of a line as a command.
+    // Adds the text of a line as a command.
     fn add(&mut self, found: TextAt<'_>, number: u32, place: usize) -> Result<(), FileFault>
         requires short { length found.text.now ≤ MOST_TEXT_BYTES }
         requires counted { number ≤ most_bytes }
@@ -90,7 +90,7 @@ impl Places {
         }
     }
 
-    /// Reads a line by its number and the place of its first byte. After a fault all is as before.
+    // Reads a line by its number and the place of its first byte. After a fault all is as before.
     pub(crate) fn read_line(
         &mut self,
         line: Line<'_>,

@@ -14,7 +14,7 @@ use std::alloc::{AllocError, Global};
 /// The most bytes of a file.
 pub const MOST_FILE_BYTES: usize = 67_108_864;
 
-/// Where the commands of a file are, or why there are none.
+// Where the commands of a file are, or why there are none.
 fn find_commands(alloc: Global, bytes: &[u8]) -> Result<Places, FileFault>
     ensures { MatchResult result (AreFound bytes.now) (IsRefused bytes.now) }
 {

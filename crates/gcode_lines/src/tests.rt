@@ -5,7 +5,7 @@ use std::alloc::{AllocError, Global};
 use std::process::Abort;
 use std::test::Fail;
 
-/// A command as `line:place:begin:text` in a line; its begin is read from the command's packed entry.
+// A command as `line:place:begin:text` in a line; its begin is read from the command's packed entry.
 fn entry(
     alloc: Global,
     line: u32,
@@ -27,7 +27,7 @@ fn entries(alloc: Global, job: &Job) -> Result<String, AllocError> {
     Ok(text)
 }
 
-/// A job's commands, and what was skipped.
+// A job's commands, and what was skipped.
 fn shown(alloc: Global, job: &Job) -> Result<String, AllocError> {
     let listed = entries(alloc, job)?;
     let skipped = job.skipped();
@@ -35,7 +35,7 @@ fn shown(alloc: Global, job: &Job) -> Result<String, AllocError> {
     format!(in alloc; "{listed}skipped {skipped} of {bytes} bytes")
 }
 
-/// A file's job, or its fault.
+// A file's job, or its fault.
 fn listing(alloc: Global, file: &str) -> Result<String, AllocError> {
     match read_commands(alloc, file.as_bytes()) {
         Ok(job) => shown(alloc, &job),
@@ -43,7 +43,7 @@ fn listing(alloc: Global, file: &str) -> Result<String, AllocError> {
     }
 }
 
-/// Each file has that listing.
+// Each file has that listing.
 fn assert_listings(
     rt: &(impl Abort + Alloc<A = Global>),
     files: &[(&str, &str)],
@@ -202,7 +202,7 @@ fn lines_refused(rt: HostRuntime) {
     }
 }
 
-/// A file of a byte more than is allowed.
+// A file of a byte more than is allowed.
 fn large_file(alloc: Global) -> Result<Vec<u8>, AllocError> {
     let line = [b'\n'; 1024];
     let mut file = Vec::new(alloc);
@@ -221,7 +221,7 @@ fn too_large(rt: HostRuntime) -> Result<(), Fail> {
     Ok(())
 }
 
-/// The job of a file that is taken, not copied.
+// The job of a file that is taken, not copied.
 fn taken(alloc: Global, file: &[u8]) -> Result<Job, Fail> {
     Ok(take_commands(alloc, Blob::from_slice(alloc, file)?)?)
 }

@@ -12,35 +12,35 @@ ghost use Rattle.gcode_lines.specs.Text.{is_mark, is_blank, is_control, is_numbe
 use crate::line::Line;
 use byte_text::{MOST_TEXT_BYTES, digits_in_front, has_m110, is_space, spaces_in_front};
 
-/// A byte that begins a comment or a checksum.
+// A byte that begins a comment or a checksum.
 pub(crate) fn is_mark(byte: u8) -> bool
     ensures { result ≡ is_mark byte }
 {
     byte == b';' || byte == b'*'
 }
 
-/// A space, a tab or a carriage return.
+// A space, a tab or a carriage return.
 fn is_blank(byte: u8) -> bool
     ensures { result ≡ is_blank byte }
 {
     is_space(byte) || byte == b'\r'
 }
 
-/// A byte that no command may hold: a control byte other than tab.
+// A byte that no command may hold: a control byte other than tab.
 fn is_control(byte: u8) -> bool
     ensures { result ≡ is_control byte }
 {
     byte < 32 && byte != b'\t' || byte == 127
 }
 
-/// Where a comment or a checksum begins, or the length.
+// Where a comment or a checksum begins, or the length.
 fn mark_place(line: &[u8]) -> usize
     ensures { result ≡ position_or_len is_mark line.now }
 {
     line.iter().take_while(|byte| !is_mark(**byte)).count()
 }
 
-/// How many blanks are at the front.
+// How many blanks are at the front.
 fn blanks_in_front(bytes: &[u8]) -> usize
     ensures value { result ≡ prefix_len is_blank bytes.now }
     ensures fits { result ≤ length bytes.now }
@@ -48,7 +48,7 @@ fn blanks_in_front(bytes: &[u8]) -> usize
     bytes.iter().take_while(|byte| is_blank(**byte)).count()
 }
 
-/// How many blanks are at the end.
+// How many blanks are at the end.
 fn blanks_at_end(bytes: &[u8]) -> usize
     ensures value { result ≡ suffix_len is_blank bytes.now }
     ensures fits { result ≤ length bytes.now }
@@ -60,14 +60,14 @@ fn blanks_at_end(bytes: &[u8]) -> usize
         .count()
 }
 
-/// What is before a comment or a checksum.
+// What is before a comment or a checksum.
 fn before_mark(line: &[u8]) -> &[u8]
     ensures { result.now ≡ before_first is_mark line.now }
 {
     &line[..mark_place(line)]
 }
 
-/// A text without blanks at both ends.
+// A text without blanks at both ends.
 #[tactic(auto, unfolding(crate::specs::Text::trimmed, crate::specs::Text::without_front, crate::specs::Text::without_end))]
 fn trimmed(bytes: &[u8]) -> &[u8]
     ensures { result.now ≡ trimmed bytes.now }
@@ -85,7 +85,7 @@ pub fn is_numbered(text: &[u8]) -> bool
     text.len() > 1 && text[0] == b'N' && text[1].is_ascii_digit()
 }
 
-/// A text without its line number, `N` and digits, and the spaces and tabs after it.
+// A text without its line number, `N` and digits, and the spaces and tabs after it.
 #[tactic(auto, unfolding(crate::specs::Text::without_number, crate::specs::Text::without_front))]
 fn without_number(text: &[u8]) -> &[u8]
     ensures value { result.now ≡ without_number text.now }
@@ -99,14 +99,14 @@ fn without_number(text: &[u8]) -> &[u8]
     &text[spaces_in_front(text)..]
 }
 
-/// A text, and where it begins in its line.
+// A text, and where it begins in its line.
 #[derive(Clone, Copy)]
 pub(crate) struct TextAt<'a> {
     pub(crate) begin: usize,
     pub(crate) text: &'a [u8],
 }
 
-/// The text of a line's command: without blanks at both ends and line number.
+// The text of a line's command: without blanks at both ends and line number.
 #[tactic(auto, unfolding(crate::specs::Text::command_text, crate::specs::Text::begin_of, crate::specs::Text::number_len))]
 pub(crate) fn text_in(line: Line<'_>) -> TextAt<'_>
     ensures text { result.text.now ≡ command_text line.entry.bytes.now }
@@ -121,7 +121,7 @@ pub(crate) fn text_in(line: Line<'_>) -> TextAt<'_>
     }
 }
 
-/// The text of a line's command: without comment, checksum, blanks and line number.
+// The text of a line's command: without comment, checksum, blanks and line number.
 pub(crate) fn command_text(line: &[u8]) -> &[u8]
     ensures { result.now ≡ command_text line.now }
 {
@@ -132,21 +132,21 @@ pub(crate) fn command_text(line: &[u8]) -> &[u8]
     text_in(line).text
 }
 
-/// A byte that no plain text has.
+// A byte that no plain text has.
 fn is_odd(byte: u8) -> bool
     ensures { result ≡ is_odd byte }
 {
     byte == b'M' || is_control(byte)
 }
 
-/// Whether a byte of a text is odd. It has no early return, so that the compiler can test several bytes with one instruction.
+// Whether a byte of a text is odd. It has no early return, so that the compiler can test several bytes with one instruction.
 fn has_odd(text: &[u8]) -> bool
     ensures { result ≡ fold (λ odd byte. odd || is_odd byte) false text.now }
 {
     text.iter().fold(false, |odd, byte| odd || is_odd(*byte))
 }
 
-/// Whether a text has as many bytes as a command may.
+// Whether a text has as many bytes as a command may.
 fn has_fit_length(text: &[u8]) -> bool
     ensures some { OnTrue result (1 ≤ length text.now) }
     ensures short { OnTrue result (length text.now ≤ MOST_TEXT_BYTES) }
@@ -154,7 +154,7 @@ fn has_fit_length(text: &[u8]) -> bool
     !text.is_empty() && text.len() <= MOST_TEXT_BYTES
 }
 
-/// Whether a text is a command by its length and its bytes alone, as most are. That saves the tests that follow.
+// Whether a text is a command by its length and its bytes alone, as most are. That saves the tests that follow.
 pub(crate) fn is_plain(text: &[u8]) -> bool
     ensures kept { OnTrue result (is_skipped text.now ≡ false) }
     ensures short { OnTrue result (is_too_long text.now ≡ false) }
@@ -163,7 +163,7 @@ pub(crate) fn is_plain(text: &[u8]) -> bool
     has_fit_length(text) && !has_odd(text)
 }
 
-/// Whether a text holds a byte that no command may hold.
+// Whether a text holds a byte that no command may hold.
 #[tactic(auto, unfolding(crate::specs::Text::has_control))]
 pub(crate) fn has_control(text: &[u8]) -> bool
     ensures { result ≡ has_control text.now }
@@ -171,7 +171,7 @@ pub(crate) fn has_control(text: &[u8]) -> bool
     text.iter().any(|byte| is_control(*byte))
 }
 
-/// Whether a text is passed over: it is empty or would set the printer's line number.
+// Whether a text is passed over: it is empty or would set the printer's line number.
 #[tactic(auto, unfolding(crate::specs::Text::is_skipped))]
 pub(crate) fn is_skipped(text: &[u8]) -> bool
     ensures { result ≡ is_skipped text.now }
@@ -179,7 +179,7 @@ pub(crate) fn is_skipped(text: &[u8]) -> bool
     text.is_empty() || has_m110(text)
 }
 
-/// Whether a text is too long to be sent in one line.
+// Whether a text is too long to be sent in one line.
 #[tactic(auto, unfolding(crate::specs::Text::is_too_long))]
 pub(crate) fn is_too_long(text: &[u8]) -> bool
     ensures { result ≡ is_too_long text.now }

@@ -9,20 +9,20 @@ use itoa::Buffer;
 use octo_outside::Blob;
 use std::alloc::AllocError;
 
-/// Millionths in one.
+// Millionths in one.
 const MILLION: u128 = 1_000_000;
 
-/// A number with six decimals: a sign, its digits, a point and six digits.
+// A number with six decimals: a sign, its digits, a point and six digits.
 pub(crate) type Decimal = ArrayVec<u8, 48>;
 
-/// The ASCII digit of the lowest place.
+// The ASCII digit of the lowest place.
 fn digit(n: u32) -> u8
     ensures { result ≡ 48 + n % 10 }
 {
     b'0' + (n % 10) as u8
 }
 
-/// The last six digits of a number.
+// The last six digits of a number.
 fn six_digits(n: u32) -> [u8; 6]
     ensures { result ≡ six_digits n }
 {
@@ -36,7 +36,7 @@ fn six_digits(n: u32) -> [u8; 6]
     ]
 }
 
-/// Adds `-` for a number below 0.
+// Adds `-` for a number below 0.
 fn append_sign(text: &mut Decimal, micro: i128)
     requires { array_vec_len text.old + 1 ≤ 48 }
     ensures items { text.new.items ≡ text.old.items ++ sign_text micro }
@@ -47,7 +47,7 @@ fn append_sign(text: &mut Decimal, micro: i128)
     }
 }
 
-/// Adds a number in decimal.
+// Adds a number in decimal.
 fn append_whole(text: &mut Decimal, n: u128)
     requires { array_vec_len text.old + 40 ≤ 48 }
     ensures items { text.new.items ≡ text.old.items ++ decimal n }
@@ -57,7 +57,7 @@ fn append_whole(text: &mut Decimal, n: u128)
     append(text, buffer.format(n).as_bytes());
 }
 
-/// Adds a point and six decimals.
+// Adds a point and six decimals.
 fn append_decimals(text: &mut Decimal, n: u32)
     requires { array_vec_len text.old + 7 ≤ 48 }
     ensures items { text.new.items ≡ text.old.items ++ (codes "." ++ six_digits n) }
@@ -67,7 +67,7 @@ fn append_decimals(text: &mut Decimal, n: u32)
     append(text, &six_digits(n));
 }
 
-/// Writes a number of millionths with six decimals into an empty text.
+// Writes a number of millionths with six decimals into an empty text.
 #[tactic(auto, unfolding(crate::specs::Decimal::micro_text))]
 fn write_micro(text: &mut Decimal, micro: i128)
     requires { text.old.items ≡ [] }
@@ -80,7 +80,7 @@ fn write_micro(text: &mut Decimal, micro: i128)
     append_decimals(text, (magnitude % MILLION) as u32);
 }
 
-/// A number of millionths with six decimals.
+// A number of millionths with six decimals.
 pub(crate) fn micro_digits(micro: i128) -> Decimal
     ensures items { result.items ≡ micro_text micro }
     ensures len { length result.items ≤ 48 }
@@ -90,7 +90,7 @@ pub(crate) fn micro_digits(micro: i128) -> Decimal
     text
 }
 
-/// Adds a number of millionths with six decimals; after an error the text may hold a part of it.
+// Adds a number of millionths with six decimals; after an error the text may hold a part of it.
 pub(crate) fn put_micro(text: &mut Blob, micro: i128) -> Result<(), AllocError>
     ensures { OnOk result (text.new ≡ text.old ++ micro_text micro) }
 {

@@ -8,10 +8,10 @@ use crate::fault::MeasureFault;
 use crate::kind::{Kind, Mode};
 use crate::values::{Axis, read_values};
 
-/// How far from 0 a position may be, in millionths of a millimetre.
+// How far from 0 a position may be, in millionths of a millimetre.
 const FARTHEST: u128 = 1_000_000_000_000;
 
-/// The modes of X, Y and Z together and of E, and where each axis is, in millionths of a millimetre.
+// The modes of X, Y and Z together and of E, and where each axis is, in millionths of a millimetre.
 #[derive(Clone, Copy)]
 pub(crate) struct Head {
     pub(crate) axes: Mode,
@@ -22,7 +22,7 @@ pub(crate) struct Head {
     pub(crate) e: i128,
 }
 
-/// The mode of an axis that a command sets.
+// The mode of an axis that a command sets.
 fn mode_set(axis: Axis, kind: Kind) -> Option<Mode>
     ensures { result ≡ mode_by axis kind }
 {
@@ -33,21 +33,21 @@ fn mode_set(axis: Axis, kind: Kind) -> Option<Mode>
     }
 }
 
-/// Whether a command in a mode adds its values to the positions.
+// Whether a command in a mode adds its values to the positions.
 fn adds(kind: Kind, mode: Mode) -> bool
     ensures { result ≡ (is_move_kind kind && is_relative mode) }
 {
     kind == Kind::Move && mode == Mode::Relative
 }
 
-/// Whether a position is too far from 0.
+// Whether a position is too far from 0.
 fn is_far(at: i128) -> bool
     ensures { result ≡ is_far at }
 {
     at.unsigned_abs() > FARTHEST
 }
 
-/// A position after a value is added to it or takes its place.
+// A position after a value is added to it or takes its place.
 fn moved(at: i128, value: Option<i64>, adds: bool) -> i128
     requires { is_far at ≡ false }
     ensures { result ≡ moved adds value at }
@@ -64,7 +64,7 @@ impl Head {
     ghost use Rattle.gcode_measure.specs.Head.{head_of, head_then, has_far};
     ghost use Rattle.gcode_measure.specs.Measured.{fault_by};
 
-    /// Before any command.
+    // Before any command.
     #[tactic(auto, unfolding(crate::specs::Position::position_of))]
     pub(crate) fn new() -> Self
         ensures value { result ≡ head_of [] }
@@ -80,7 +80,7 @@ impl Head {
         }
     }
 
-    /// After one more command, which is of this kind.
+    // After one more command, which is of this kind.
     pub(crate) fn after(&self, kind: Kind, text: &[u8]) -> Self
         requires kind { kind ≡ kind_of text.now }
         requires near { has_far self.now ≡ false }
@@ -99,7 +99,7 @@ impl Head {
         }
     }
 
-    /// After one more command of a line, unless that is refused.
+    // After one more command of a line, unless that is refused.
     pub(crate) fn run(&self, kind: Kind, text: &[u8], line: u32) -> Result<Self, MeasureFault>
         requires kind { kind ≡ kind_of text.now }
         requires near { has_far self.now ≡ false }
@@ -118,7 +118,7 @@ impl Head {
         Ok(next)
     }
 
-    /// Whether an axis is too far from 0.
+    // Whether an axis is too far from 0.
     pub(crate) fn has_far(&self) -> bool
         ensures { result ≡ has_far self.now }
     {

@@ -5,42 +5,42 @@ ghost use Rattle.gcode_measure.specs.Kind.{whole_number, g_kind, m_kind, kind_by
 
 use gcode_words::{CodeWord, words};
 
-/// Millionths in one.
+// Millionths in one.
 const MILLION: u64 = 1_000_000;
 
-/// How the values of moves are read.
+// How the values of moves are read.
 #[derive(Clone, Copy, Debug, PartialEq, Eq)]
 pub(crate) enum Mode {
-    /// A value is where the axis ends.
+    // A value is where the axis ends.
     Absolute,
-    /// A value is how far the axis goes.
+    // A value is how far the axis goes.
     Relative,
 }
 
-/// What a command does with modes and positions. Source: Marlin's G-code.
+// What a command does with modes and positions. Source: Marlin's G-code.
 #[derive(Clone, Copy, Debug, PartialEq, Eq)]
 pub(crate) enum Kind {
-    /// `G0` to `G3`: a move to an end point.
+    // `G0` to `G3`: a move to an end point.
     Move,
-    /// `G20`: inches from here on.
+    // `G20`: inches from here on.
     Inches,
-    /// `G28`: axes go to their end, which is 0.
+    // `G28`: axes go to their end, which is 0.
     Home,
-    /// `G90`: all axes absolute.
+    // `G90`: all axes absolute.
     AllAbsolute,
-    /// `G91`: all axes relative.
+    // `G91`: all axes relative.
     AllRelative,
-    /// `G92`: axes are set to these values.
+    // `G92`: axes are set to these values.
     SetPosition,
-    /// `M82`: the extruder absolute.
+    // `M82`: the extruder absolute.
     AbsoluteExtruder,
-    /// `M83`: the extruder relative.
+    // `M83`: the extruder relative.
     RelativeExtruder,
-    /// Any other command, which changes nothing here.
+    // Any other command, which changes nothing here.
     Other,
 }
 
-/// The number of a code in whole, None for any other value.
+// The number of a code in whole, None for any other value.
 fn whole_number(micro: Option<i64>) -> Option<u64>
     ensures { result ≡ whole_number micro }
 {
@@ -50,7 +50,7 @@ fn whole_number(micro: Option<i64>) -> Option<u64>
     }
 }
 
-/// What a `G` of this number is.
+// What a `G` of this number is.
 fn g_kind(number: Option<u64>) -> Kind
     ensures { result ≡ g_kind number }
 {
@@ -65,7 +65,7 @@ fn g_kind(number: Option<u64>) -> Kind
     }
 }
 
-/// What an `M` of this number is.
+// What an `M` of this number is.
 fn m_kind(number: Option<u64>) -> Kind
     ensures { result ≡ m_kind number }
 {
@@ -76,7 +76,7 @@ fn m_kind(number: Option<u64>) -> Kind
     }
 }
 
-/// What a command is.
+// What a command is.
 #[tactic(auto, unfolding(crate::specs::Kind::kind_of))]
 pub(crate) fn read_kind(text: &[u8]) -> Kind
     ensures { result ≡ kind_of text.now }

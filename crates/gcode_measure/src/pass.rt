@@ -10,7 +10,7 @@ use crate::head::Head;
 use crate::kind::{Kind, read_kind};
 use crate::totals::{Extent, Measure};
 
-/// The extent with one more position.
+// The extent with one more position.
 fn widened(extent: Option<Extent>, at: i128) -> Extent
     ensures { result ≡ widened extent at }
 {
@@ -23,7 +23,7 @@ fn widened(extent: Option<Extent>, at: i128) -> Extent
     }
 }
 
-/// How far a position is above another one, 0 if it is not.
+// How far a position is above another one, 0 if it is not.
 fn gap(from: i128, to: i128) -> i128
     requires near { is_far from ≡ false }
     requires also_near { is_far to ≡ false }
@@ -34,7 +34,7 @@ fn gap(from: i128, to: i128) -> i128
     (to - from).max(0)
 }
 
-/// A sum of gaps with the one of two positions.
+// A sum of gaps with the one of two positions.
 fn with_gap(sum: i128, from: i128, to: i128) -> i128
     requires low { pos 0 ≤ℤ sum }
     requires high { sum ≤ℤ pos 200000000000000000000 }
@@ -47,7 +47,7 @@ fn with_gap(sum: i128, from: i128, to: i128) -> i128
     sum + gap(from, to)
 }
 
-/// The measure with one more move.
+// The measure with one more move.
 fn with_move(measure: &Measure, from: &Head, next: &Head) -> Measure
     requires bounded { IsBounded measure.now }
     requires room { measure.now.commands < most_bytes }
@@ -67,7 +67,7 @@ fn with_move(measure: &Measure, from: &Head, next: &Head) -> Measure
     }
 }
 
-/// The measure with one more command, which is no move.
+// The measure with one more command, which is no move.
 fn with_command(measure: &Measure) -> Measure
     requires bounded { IsBounded measure.now }
     requires room { measure.now.commands < most_bytes }
@@ -80,7 +80,7 @@ fn with_command(measure: &Measure) -> Measure
     }
 }
 
-/// Modes, positions and the measure while commands run.
+// Modes, positions and the measure while commands run.
 #[derive(Drop)]
 pub(crate) struct Pass {
     head: Head,
@@ -95,7 +95,7 @@ impl Pass {
     ghost use Rattle.gcode_measure.specs.Measured.{measured, fault_by};
     ghost use Rattle.gcode_measure.specs.Pass.{measure_then};
 
-    /// Before any command.
+    // Before any command.
     pub(crate) fn new() -> Self
         ensures head { result.head ≡ head_of [] }
         ensures measure { result.measure ≡ measured [] }
@@ -114,7 +114,7 @@ impl Pass {
         }
     }
 
-    /// Takes in one more command of a line, unless that is refused.
+    // Takes in one more command of a line, unless that is refused.
     pub(crate) fn take(&mut self, text: &[u8], line: u32) -> Result<(), MeasureFault>
         requires { self.old.measure.commands < most_bytes }
         ensures { MatchResult result

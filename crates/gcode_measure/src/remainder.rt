@@ -14,7 +14,7 @@ use gcode_lines::{Job, is_numbered};
 use octo_outside::{Blob, append_line};
 use std::alloc::{AllocError, Global};
 
-/// Modes and positions before a command, unless one before it is refused.
+// Modes and positions before a command, unless one before it is refused.
 fn head_before(job: &Job, from: usize) -> Result<Head, MeasureFault>
     requires { from ≤ length job.now.commands }
     ensures { MatchResult result
@@ -29,7 +29,7 @@ fn head_before(job: &Job, from: usize) -> Result<Head, MeasureFault>
     Ok(head)
 }
 
-/// The command that sets the mode of X, Y and Z, and of E with them.
+// The command that sets the mode of X, Y and Z, and of E with them.
 fn axes_command(mode: Mode) -> &'static [u8]
     ensures { result.now ≡ axes_command mode }
 {
@@ -39,7 +39,7 @@ fn axes_command(mode: Mode) -> &'static [u8]
     }
 }
 
-/// The command that sets the mode of E alone.
+// The command that sets the mode of E alone.
 fn extruder_command(mode: Mode) -> &'static [u8]
     ensures { result.now ≡ extruder_command mode }
 {
@@ -49,8 +49,8 @@ fn extruder_command(mode: Mode) -> &'static [u8]
     }
 }
 
-/// Adds an axis's letter with the text before it, and its position; after an error the text may hold a part of it, here
-/// and below.
+// Adds an axis's letter with the text before it, and its position; after an error the text may hold a part of it, here
+// and below.
 fn put_axis(text: &mut Blob, name: &[u8], at: i128) -> Result<(), AllocError>
     ensures { OnOk result (text.new ≡ text.old ++ axis_text name.now at) }
 {
@@ -58,7 +58,7 @@ fn put_axis(text: &mut Blob, name: &[u8], at: i128) -> Result<(), AllocError>
     put_micro(text, at)
 }
 
-/// Adds the line that sets all positions.
+// Adds the line that sets all positions.
 #[tactic(auto, unfolding(crate::specs::Rest::position_command))]
 fn put_positions(text: &mut Blob, head: &Head) -> Result<(), AllocError>
     ensures { OnOk result (text.new ≡ text.old ++ with_line_feed (position_command head.now)) }
@@ -70,7 +70,7 @@ fn put_positions(text: &mut Blob, head: &Head) -> Result<(), AllocError>
     text.append(b"\n")
 }
 
-/// Adds a command as a line.
+// Adds a command as a line.
 fn put_command(text: &mut Blob, command: &[u8]) -> Result<(), AllocError>
     ensures { OnOk result (text.new ≡ text.old ++ with_line_feed (line_of command.now)) }
 {
@@ -80,7 +80,7 @@ fn put_command(text: &mut Blob, command: &[u8]) -> Result<(), AllocError>
     append_line(text, command)
 }
 
-/// The file that goes on at a command where a head is.
+// The file that goes on at a command where a head is.
 fn write_rest(alloc: Global, job: &Job, from: usize, head: &Head) -> Result<Blob, AllocError>
     requires { from ≤ length job.now.commands }
     ensures { IfOk result (λ text.

@@ -12,7 +12,7 @@ use byte_text::{append, append_number};
 /// The text of a measure, which needs no memory.
 pub type MeasureText = ArrayVec<u8, 512>;
 
-/// Adds a number of millionths with six decimals.
+// Adds a number of millionths with six decimals.
 fn append_micro(page: &mut MeasureText, micro: i128)
     requires { array_vec_len page.old + 48 ≤ 512 }
     ensures items { page.new.items ≡ page.old.items ++ micro_text micro }
@@ -21,7 +21,7 @@ fn append_micro(page: &mut MeasureText, micro: i128)
     append(page, micro_digits(micro).as_slice());
 }
 
-/// Adds a line of a name and a count.
+// Adds a line of a name and a count.
 fn append_count(page: &mut MeasureText, name: &[u8], n: u32)
     requires short { length name.now ≤ 9 }
     requires room { array_vec_len page.old + 20 ≤ 512 }
@@ -33,7 +33,7 @@ fn append_count(page: &mut MeasureText, name: &[u8], n: u32)
     append(page, b"\n");
 }
 
-/// Adds a line of a name and a length.
+// Adds a line of a name and a length.
 fn append_length(page: &mut MeasureText, name: &[u8], micro: i128)
     requires short { length name.now ≤ 6 }
     requires room { array_vec_len page.old + 55 ≤ 512 }
@@ -45,7 +45,7 @@ fn append_length(page: &mut MeasureText, name: &[u8], micro: i128)
     append(page, b"\n");
 }
 
-/// Adds a line of an axis and its extent, none without one.
+// Adds a line of an axis and its extent, none without one.
 fn append_extent(page: &mut MeasureText, name: &[u8], extent: Option<Extent>)
     requires short { length name.now ≤ 2 }
     requires room { array_vec_len page.old + 100 ≤ 512 }

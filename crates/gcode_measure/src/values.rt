@@ -6,7 +6,7 @@ ghost use Rattle.gcode_measure.specs.Values.{is_named, names_none, numbers_of, n
 use crate::kind::Kind;
 use gcode_words::{CodeWord, words};
 
-/// An axis of the printer.
+// An axis of the printer.
 #[derive(Clone, Copy, Debug, PartialEq, Eq)]
 pub(crate) enum Axis {
     X,
@@ -15,7 +15,7 @@ pub(crate) enum Axis {
     E,
 }
 
-/// A value for each axis that gets one, in millionths of a millimetre.
+// A value for each axis that gets one, in millionths of a millimetre.
 #[derive(Clone, Copy)]
 pub(crate) struct Values {
     pub(crate) x: Option<i64>,
@@ -27,7 +27,7 @@ pub(crate) struct Values {
 impl Values {
     ghost use Rattle.std.specs.Prelude.{[], ◌∷◌};
 
-    /// No axis gets a value.
+    // No axis gets a value.
     fn none() -> Self
         ensures { result ≡ no_values }
     {
@@ -39,7 +39,7 @@ impl Values {
         }
     }
 
-    /// Takes in one more argument; the first number of an axis counts.
+    // Takes in one more argument; the first number of an axis counts.
     fn take(&mut self, word: CodeWord)
         ensures { self.new ≡ with_numbers self.old (word ∷ []) }
     {
@@ -53,7 +53,7 @@ impl Values {
     }
 }
 
-/// The first number of each axis.
+// The first number of each axis.
 #[tactic(auto, using(crate::proofs::ValueLaws::number_steps))]
 fn read_numbers(text: &[u8]) -> Values
     ensures { result ≡ numbers_of (words_of text.now) }
@@ -65,7 +65,7 @@ fn read_numbers(text: &[u8]) -> Values
     values
 }
 
-/// Whether a letter is among the arguments, with or without a number.
+// Whether a letter is among the arguments, with or without a number.
 fn names(text: &[u8], letter: u8) -> bool
     ensures { result ≡ is_named letter (words_of text.now) }
 {
@@ -77,21 +77,21 @@ fn names(text: &[u8], letter: u8) -> bool
     false
 }
 
-/// Whether none of X, Y and Z is among the arguments.
+// Whether none of X, Y and Z is among the arguments.
 fn names_none(text: &[u8]) -> bool
     ensures { result ≡ names_none (words_of text.now) }
 {
     !names(text, b'X') && !names(text, b'Y') && !names(text, b'Z')
 }
 
-/// 0 for an axis that goes to its end: a named one, or each if none is named.
+// 0 for an axis that goes to its end: a named one, or each if none is named.
 fn end_value(named: bool, none: bool) -> Option<i64>
     ensures { result ≡ end_value (named || none) }
 {
     if named || none { Some(0) } else { None }
 }
 
-/// The values of `G28`: 0 for the named ones of X, Y and Z, for all three if none is named.
+// The values of `G28`: 0 for the named ones of X, Y and Z, for all three if none is named.
 fn read_homed(text: &[u8]) -> Values
     ensures { result ≡ values_by Kind.Home (words_of text.now) }
 {
@@ -104,7 +104,7 @@ fn read_homed(text: &[u8]) -> Values
     }
 }
 
-/// The values of a command for the axes.
+// The values of a command for the axes.
 pub(crate) fn read_values(kind: Kind, text: &[u8]) -> Values
     ensures { result ≡ values_by kind (words_of text.now) }
 {

@@ -5,10 +5,10 @@ ghost use Rattle.gcode_words.specs.Value.{millionths, micro_of, after_digits, de
 
 use byte_text::leading_digits;
 
-/// The greatest whole part that is read; what is above it reads as this number with no fraction.
+// The greatest whole part that is read; what is above it reads as this number with no fraction.
 const GREATEST_WHOLE: u64 = 9_000_000_000_000;
 
-/// Millionths in one.
+// Millionths in one.
 const MILLION: u64 = 1_000_000;
 
 /// A number that was read at the front of a text, in millionths, and what follows it.
@@ -18,7 +18,7 @@ pub struct Number<'a> {
     pub rest: &'a [u8],
 }
 
-/// A number without its sign, in millionths, and what follows it.
+// A number without its sign, in millionths, and what follows it.
 #[derive(Clone, Copy)]
 struct Magnitude<'a> {
     micro: u64,
@@ -43,7 +43,7 @@ pub fn read_number(bytes: &[u8]) -> Option<Number<'_>>
     Some(Number { micro, rest })
 }
 
-/// Whether `-` is at the front, and what follows a sign.
+// Whether `-` is at the front, and what follows a sign.
 fn split_sign(bytes: &[u8]) -> (bool, &[u8])
     ensures negative { result.0 ≡ is_negative bytes.now }
     ensures rest { result.1.now ≡ after_sign bytes.now }
@@ -55,7 +55,7 @@ fn split_sign(bytes: &[u8]) -> (bool, &[u8])
     }
 }
 
-/// Reads a number without a sign.
+// Reads a number without a sign.
 #[tactic(auto, unfolding(crate::specs::Value::magnitude_at))]
 fn read_magnitude(bytes: &[u8]) -> Option<Magnitude<'_>>
     ensures value { MatchOption result
@@ -74,7 +74,7 @@ fn read_magnitude(bytes: &[u8]) -> Option<Magnitude<'_>>
     })
 }
 
-/// The digits at the front, and what follows them.
+// The digits at the front, and what follows them.
 #[tactic(auto, using(crate::proofs::Digits::digits_fit), unfolding(crate::specs::Value::after_digits))]
 fn split_digits(bytes: &[u8]) -> (&[u8], &[u8])
     ensures digits { result.0.now ≡ leading_digits bytes.now }
@@ -84,7 +84,7 @@ fn split_digits(bytes: &[u8]) -> (&[u8], &[u8])
     (digits, &bytes[digits.len()..])
 }
 
-/// The digits after a point at the front, and what follows them.
+// The digits after a point at the front, and what follows them.
 #[tactic(auto, unfolding(crate::specs::Value::decimals_at, crate::specs::Value::after_decimals))]
 fn split_decimals(bytes: &[u8]) -> (&[u8], &[u8])
     ensures digits { result.0.now ≡ decimals_at bytes.now }
@@ -96,7 +96,7 @@ fn split_decimals(bytes: &[u8]) -> (&[u8], &[u8])
     }
 }
 
-/// The number in millionths that has these digits before and after its point.
+// The number in millionths that has these digits before and after its point.
 #[tactic(auto, unfolding(crate::specs::Value::micro_of))]
 fn micro(whole: &[u8], decimals: &[u8]) -> u64
     ensures value { result ≡ micro_of whole.now decimals.now }
@@ -121,7 +121,7 @@ pub fn decimal_up_to(digits: &[u8], most: u64) -> u64
     value
 }
 
-/// The first six decimals in millionths.
+// The first six decimals in millionths.
 #[tactic(auto, unfolding(crate::specs::Value::millionths))]
 fn first_decimals(decimals: &[u8]) -> u64
     ensures value { result ≡ millionths decimals.now }
@@ -134,7 +134,7 @@ fn first_decimals(decimals: &[u8]) -> u64
     value
 }
 
-/// The digit at a place, 0 past the end.
+// The digit at a place, 0 past the end.
 fn digit_at(digits: &[u8], place: usize) -> u64
     ensures value { result ≡ slice_index_or digits.now place 48 - 48 }
     ensures bound { result ≤ 207 }

@@ -41,7 +41,7 @@ impl<'a> Iterator for Words<'a> {
     }
 }
 
-/// The number that follows at once, in millionths.
+// The number that follows at once, in millionths.
 #[tactic(auto, unfolding(crate::specs::Words::value_at))]
 fn read_value(text: &[u8]) -> Option<i64>
     ensures { result ≡ value_at text.now }

@@ -21,7 +21,7 @@ pub const BEN: &[u8] = b"ben-key-0123456789";
 /// The key of eve, who may only read.
 pub const EVE: &[u8] = b"eve-key-0123456789";
 
-/// An active user of one group. Takes no memory.
+// An active user of one group. Takes no memory.
 fn user(text: &str, key: &[u8], group: &str) -> UserRow
     requires name { length text.now ≤ MOST_NAME_BYTES }
     requires group { length group.now ≤ MOST_NAME_BYTES }

@@ -15,7 +15,7 @@ use print_queue::QueueEntry;
 use print_records::PrintRow;
 use std::alloc::{AllocError, Global};
 
-/// The most prints that are shown.
+// The most prints that are shown.
 const MOST_SHOWN_PRINTS: usize = 100;
 
 /// The same names again. Fails if out of memory.

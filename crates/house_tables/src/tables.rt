@@ -22,7 +22,7 @@ use print_records::{Ending, PrintRow};
 use std::alloc::Global;
 use std::marker::Model;
 
-/// The most records of prints.
+// The most records of prints.
 const MOST_PRINTS: usize = 100_000;
 
 /// The end of a print that isn't written, and the keeper's fault at the last try.

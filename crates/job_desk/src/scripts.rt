@@ -25,7 +25,7 @@ pub enum AddFault {
     NoMemory,
 }
 
-/// The texts of one script.
+// The texts of one script.
 #[derive(Drop)]
 pub(crate) struct Script {
     texts: Vec<Text>,

@@ -12,7 +12,7 @@ use byte_text::bounded_text;
 use desk_steps::{Issued, Point, Tag};
 use std::marker::Model;
 
-/// A script that waits from one of its lines on.
+// A script that waits from one of its lines on.
 #[derive(Clone, Copy, Default)]
 pub(crate) struct Entry {
     point: Point,
@@ -20,7 +20,7 @@ pub(crate) struct Entry {
     next: usize,
 }
 
-/// Up to five scripts that wait, in order, and all the scripts. A script without a line left is taken away.
+// Up to five scripts that wait, in order, and all the scripts. A script without a line left is taken away.
 #[derive(Drop)]
 pub(crate) struct Waiting {
     scripts: Scripts,
@@ -45,7 +45,7 @@ impl Model for Waiting {
 }
 
 impl Waiting {
-    /// None of these scripts waits.
+    // None of these scripts waits.
     pub(crate) fn new(scripts: Scripts) -> Waiting
         ensures { result ≡ record { scripts = scripts; lines = []; count = 0 } }
     {
@@ -55,14 +55,14 @@ impl Waiting {
         }
     }
 
-    /// The scripts.
+    // The scripts.
     pub(crate) fn scripts(&self) -> &Scripts
         ensures { result.now ≡ self.now.scripts }
     {
         &self.scripts
     }
 
-    /// A script waits after the others, for a print or, with 0, for none.
+    // A script waits after the others, for a print or, with 0, for none.
     pub(crate) fn add(&mut self, point: Point, print: u32)
         requires { self.old.count < most_waiting }
         ensures scripts { self.new.scripts ≡ self.old.scripts }
@@ -79,7 +79,7 @@ impl Waiting {
         }
     }
 
-    /// Whether no line waits.
+    // Whether no line waits.
     pub(crate) fn is_empty(&self) -> bool
         ensures value { result ≡ (length self.now.lines == 0) }
         ensures none { IsTrue result → self.now.count ≡ 0 }
@@ -120,7 +120,7 @@ impl Waiting {
         }
     }
 
-    /// Takes the first line, if any.
+    // Takes the first line, if any.
     pub(crate) fn next(&mut self) -> Option<Issued>
         ensures value { option_map line_of result ≡ slice_get self.old.lines 0 }
         ensures sendable { IfSome result (λ issued. IsSendable issued.text.items) }
@@ -133,7 +133,7 @@ impl Waiting {
         Some(line)
     }
 
-    /// Drops all that wait.
+    // Drops all that wait.
     pub(crate) fn clear(&mut self)
         ensures { self.new ≡ record { scripts = self.old.scripts; lines = []; count = 0 } }
     {

@@ -60,7 +60,7 @@ is_adding KeeperFailed = true
 is_adding NoMemory = true
 is_adding _ = false
 
--- an end of a task
+-- whether a task may end so
 abbrev pub may_end : Task → ToolEnd → Bool
 may_end Show end = is_showing end
 may_end (Add prints) end = is_adding end

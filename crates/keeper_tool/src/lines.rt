@@ -134,7 +134,7 @@ fn put_prints(text: &mut Blob, prints: &[PrintRow]) -> Result<(), AllocError>
     Ok(())
 }
 
-/// The tables as text: each table's number of rows, then a line for each row.
+/// The tables as text: each table's number of rows, then a line for each row. Fails if out of memory.
 pub fn tables_text(alloc: Global, tables: &Tables) -> Result<Blob, AllocError>
     ensures { IfOk result (λ text. text ≡ tables_text tables.now) }
 {

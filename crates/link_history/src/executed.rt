@@ -51,7 +51,7 @@ impl Executed {
     }
 }
 
-/// What follows this number of lines.
+// What follows this number of lines.
 fn after(lines: &[ExecutedLine], count: usize) -> &[ExecutedLine]
     ensures { result.now ≡ drop count lines.now }
 {
@@ -62,7 +62,7 @@ fn after(lines: &[ExecutedLine], count: usize) -> &[ExecutedLine]
     }
 }
 
-/// How many sessions are still to come after an event, none if it opens one too many.
+// How many sessions are still to come after an event, none if it opens one too many.
 fn sessions_left_after(left: u32, event: &WorldEvent) -> Option<u32>
     ensures { result ≡ sessions_left_after left (is_opened event.now) }
 {
@@ -73,7 +73,7 @@ fn sessions_left_after(left: u32, event: &WorldEvent) -> Option<u32>
     }
 }
 
-/// The world at the end of a session, made anew event by event.
+// The world at the end of a session, made anew event by event.
 fn replay(
     alloc: Global,
     places: u8,
@@ -97,14 +97,14 @@ fn replay(
     Ok(world)
 }
 
-/// Whether a line has another number than the hello.
+// Whether a line has another number than the hello.
 fn is_counted(line: &ExecutedLine) -> bool
     ensures { result ≡ is_counted line.now }
 {
     line.number != Some(HELLO_NUMBER)
 }
 
-/// Copies of the lines that have another number than the hello.
+// Copies of the lines that have another number than the hello.
 fn counted_lines(alloc: Global, lines: &[ExecutedLine]) -> Result<Executed, AllocError>
     ensures { IfOk result (λ e. e ≡ filter is_counted lines.now) }
 {
@@ -117,7 +117,7 @@ fn counted_lines(alloc: Global, lines: &[ExecutedLine]) -> Result<Executed, Allo
     Ok(Executed { lines: counted })
 }
 
-/// A copy of a line.
+// A copy of a line.
 fn copy_of(line: &ExecutedLine) -> ExecutedLine
     ensures { result ≡ line.now }
 {

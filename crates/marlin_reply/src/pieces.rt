@@ -8,7 +8,7 @@ ghost use Rattle.marlin_reply.specs.Pieces.{is_line_end, without_front, without_
 use byte_text::{are_digits, spaces_in_front};
 use gcode_words::decimal_up_to;
 
-/// A line without spaces and tabs at both ends, and without carriage returns at its end.
+// A line without spaces and tabs at both ends, and without carriage returns at its end.
 #[tactic(auto, unfolding(crate::specs::Pieces::trimmed))]
 pub(crate) fn trim_line(line: &[u8]) -> &[u8]
     ensures { result.now ≡ trimmed line.now }
@@ -42,7 +42,7 @@ fn count_line_ends(bytes: &[u8]) -> usize
         .count()
 }
 
-/// A text without the spaces at its front; a tab isn't one here.
+// A text without the spaces at its front; a tab isn't one here.
 #[tactic(auto, unfolding(crate::specs::Pieces::after_spaces))]
 pub(crate) fn skip_only_spaces(bytes: &[u8]) -> &[u8]
     ensures { result.now ≡ after_spaces bytes.now }
@@ -65,7 +65,7 @@ fn count_piece(bytes: &[u8]) -> usize
     bytes.iter().take_while(|byte| **byte != b' ').count()
 }
 
-/// The piece at the front.
+// The piece at the front.
 #[tactic(auto, unfolding(crate::specs::Pieces::front_piece))]
 fn first_piece(bytes: &[u8]) -> &[u8]
     ensures { result.now ≡ front_piece bytes.now }
@@ -74,7 +74,7 @@ fn first_piece(bytes: &[u8]) -> &[u8]
     &bytes[..count]
 }
 
-/// The number that digits write, if it fits 32 bits.
+// The number that digits write, if it fits 32 bits.
 #[tactic(auto, unfolding(crate::specs::Pieces::small_number))]
 pub(crate) fn read_small(digits: &[u8]) -> Option<u32>
     ensures { result ≡ small_number digits.now }
@@ -83,7 +83,7 @@ pub(crate) fn read_small(digits: &[u8]) -> Option<u32>
     u32::try_from(value).ok()
 }
 
-/// The number that a text of digits alone writes.
+// The number that a text of digits alone writes.
 #[tactic(auto, unfolding(crate::specs::Pieces::whole_number))]
 fn read_whole(text: &[u8]) -> Option<u32>
     ensures { result ≡ whole_number text.now }
@@ -94,7 +94,7 @@ fn read_whole(text: &[u8]) -> Option<u32>
     read_small(text)
 }
 
-/// The number of the piece at the front, which is this letter and digits.
+// The number of the piece at the front, which is this letter and digits.
 #[tactic(auto, unfolding(crate::specs::Pieces::field_at))]
 fn read_field(text: &[u8], letter: u8) -> Option<u32>
     ensures { result ≡ field_at letter text.now }
@@ -106,7 +106,7 @@ fn read_field(text: &[u8], letter: u8) -> Option<u32>
     read_whole(first_piece(after))
 }
 
-/// The number of the first piece that is this letter and a number.
+// The number of the first piece that is this letter and a number.
 #[tactic(auto, unfolding(crate::specs::Pieces::field_of))]
 pub(crate) fn find_field(text: &[u8], letter: u8) -> Option<u32>
     ensures { result ≡ field_of letter text.now }
@@ -119,7 +119,7 @@ pub(crate) fn find_field(text: &[u8], letter: u8) -> Option<u32>
     None
 }
 
-/// The text from each of its pieces on.
+// The text from each of its pieces on.
 #[derive(Clone, Copy)]
 pub(crate) struct PieceStarts<'a> {
     left: Option<&'a [u8]>,
@@ -147,7 +147,7 @@ impl<'a> Iterator for PieceStarts<'a> {
     }
 }
 
-/// What follows the first space.
+// What follows the first space.
 fn after_space(text: &[u8]) -> Option<&[u8]>
     ensures { starts_left (option_copied result) ≡ starts_after text.now }
 {

@@ -31,7 +31,7 @@ fn read_text(text: &[u8]) -> Reply
     }
 }
 
-/// The reply that a text is which is neither `ok` nor a request nor `start`.
+// The reply that a text is which is neither `ok` nor a request nor `start`.
 #[tactic(auto, unfolding(crate::specs::Kind::other_reply_of))]
 fn read_other_reply(text: &[u8]) -> Reply
     ensures { result ≡ other_reply_of text.now }
@@ -47,7 +47,7 @@ fn read_other_reply(text: &[u8]) -> Reply
     }
 }
 
-/// Whether a text is `ok`, alone or before a space.
+// Whether a text is `ok`, alone or before a space.
 fn is_ok(text: &[u8]) -> bool
     ensures { result ≡ (bytes_eq text.now (codes "ok") || begins text.now (codes "ok ")) }
 {

@@ -6,7 +6,7 @@ use super::pieces::{PieceStarts, skip_only_spaces};
 use super::{Heat, Temps};
 use gcode_words::read_number;
 
-/// The temperatures of a line; None if no heater is reported whole.
+// The temperatures of a line; None if no heater is reported whole.
 #[tactic(auto, unfolding(crate::specs::Temperatures::temps_of))]
 pub(crate) fn read_temps(text: &[u8]) -> Option<Temps>
     ensures { result ≡ temps_of text.now }
@@ -19,7 +19,7 @@ pub(crate) fn read_temps(text: &[u8]) -> Option<Temps>
     Some(Temps { tool, bed })
 }
 
-/// The temperatures after the first piece that begins with a heater's mark.
+// The temperatures after the first piece that begins with a heater's mark.
 #[tactic(auto, unfolding(crate::specs::Temperatures::heat_of))]
 fn find_heat(text: &[u8], mark: &[u8]) -> Option<Heat>
     ensures { result ≡ heat_of mark.now text.now }
@@ -32,7 +32,7 @@ fn find_heat(text: &[u8], mark: &[u8]) -> Option<Heat>
     None
 }
 
-/// A temperature at the front, spaces or none, a slash and the target.
+// A temperature at the front, spaces or none, a slash and the target.
 #[tactic(auto, unfolding(crate::specs::Temperatures::heat_at))]
 fn read_heat(text: &[u8]) -> Option<Heat>
     ensures { result ≡ heat_at text.now }

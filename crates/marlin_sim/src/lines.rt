@@ -171,7 +171,7 @@ impl Lines {
         }
     }
 
-    /// Receives bytes.
+    /// Receives bytes. Fails if out of memory.
     pub fn receive(&mut self, plan: &SimPlan, bytes: &[u8]) -> Result<(), AllocError>
         requires { IsPlan plan.now }
         ensures { OnOk result

@@ -129,7 +129,7 @@ fn is_address(word: &str) -> bool
     word.len() >= 1 && word.len() <= 100
 }
 
-/// The plan that the arguments are: `ADDRESS LAST SLOTS DROP GARBLE`.
+/// The plan that the arguments are, `ADDRESS LAST SLOTS DROP GARBLE`; `None` if they are no plan. Fails if out of memory.
 pub fn read_plan(alloc: Global, words: &WordList) -> Result<Option<SimPlan>, AllocError>
     ensures value { IfOk result (λ plan. plan ≡ plan_of words.now) }
     ensures plan { IfOk result (λ plan. IfSome plan IsPlan) }

@@ -34,7 +34,7 @@ const CHUNK: usize = 4096;
 // How much gathers before it is printed.
 const TEXT: usize = 16384;
 
-/// Writes the replies.
+/// Writes the replies. Fails if the connection does; then the replies stay.
 pub fn send_replies<C: Conn>(conn: &mut C, sim: &mut Sim) -> Result<(), Failed>
     ensures ok { OnOk result (Adds (C.written conn.old) (C.written conn.new) sim.old.replies) }
     ensures after { OnOk result (sim.new ≡ record sim.old { replies = [] }) }
@@ -50,7 +50,7 @@ pub fn send_replies<C: Conn>(conn: &mut C, sim: &mut Sim) -> Result<(), Failed>
     Ok(())
 }
 
-/// Prints the text.
+/// Prints the text. Fails if the output does; then the text stays.
 pub fn print_text<O: Sink>(out: &mut O, sim: &mut Sim) -> Result<(), Failed>
     ensures ok { OnOk result (Adds (O.written out.old) (O.written out.new) sim.old.text) }
     ensures after { OnOk result (sim.new ≡ record sim.old { text = [] }) }

@@ -79,7 +79,7 @@ impl Sim {
     ghost use Rattle.marlin_sim.specs.Plan.{IsPlan};
     ghost use Rattle.marlin_sim.specs.Sim.{SimData, new_sim, FollowsModel, Keeps, IsStuck, Arrives, Steps, AfterArrival, AfterRunning, work, IsIdle};
 
-    /// A new printer before anything was received; `start` is to be written.
+    /// A new printer before anything was received; `start` is to be written. Fails if out of memory.
     pub fn new(alloc: Global, plan: &SimPlan) -> Result<Self, AllocError>
         requires { IsPlan plan.now }
         ensures { IfOk result (λ s. s ≡ new_sim plan.now) }
@@ -120,7 +120,7 @@ impl Sim {
         self.text.clear();
     }
 
-    /// Receives bytes.
+    /// Receives bytes. Fails if out of memory.
     pub fn receive(&mut self, plan: &SimPlan, bytes: &[u8]) -> Result<(), AllocError>
         requires { IsPlan plan.now }
         ensures follows { OnOk result
@@ -176,7 +176,8 @@ impl Sim {
         }
     }
 
-    /// Lets lines arrive until none waits or the queue is full, runs a line, and says whether there was one.
+    /// Lets lines arrive until none waits or the queue is full, runs a line, and says whether there was one. Fails if out of
+    /// memory.
     pub fn step(&mut self) -> Result<bool, AllocError>
         ensures steps { IfOk result (λ ran. Steps ran self.old self.new) }
         ensures kept { OnOk result (Keeps self.old self.new) }

@@ -102,7 +102,7 @@ fn rests(rt: HostRuntime) -> Result<(), Fail> {
     )
 }
 
-/// A short file with both extruder modes, a `G92` and a relative move.
+// A short file with both extruder modes, a `G92` and a relative move.
 const FILE: &[u8] = b"G28\nM83\nG1 X10 Y5 E2.5\nG1 X20 E-1\nG92 E0\nG91\nG1 Z0.2 E1\n";
 
 #[test]

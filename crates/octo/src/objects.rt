@@ -9,8 +9,8 @@ use octo_words::{Command, read_words};
 use sql_file::{FileKeeper, close_keeper, open_keeper};
 use std::alloc::AllocError;
 
-/// The keeper, the shelf and the doors of a host. Of a command that doesn't serve each of them is absent: it has none of the
-/// system's objects, and each of its calls fails.
+// The keeper, the shelf and the doors of a host. Of a command that doesn't serve each of them is absent: it has none of the
+// system's objects, and each of its calls fails.
 #[derive(Drop)]
 pub(crate) struct Objects {
     pub keeper: Opened<FileKeeper>,
@@ -60,8 +60,8 @@ fn objects_by(rt: &HostRuntime, command: &Command) -> Result<Objects, AllocError
     }
 }
 
-/// The objects that the arguments name. A database that can't be opened, a missing folder and an address that can't be
-/// bound fail at each call.
+// The objects that the arguments name. A database that can't be opened, a missing folder and an address that can't be
+// bound fail at each call.
 pub(crate) fn objects_of(rt: &HostRuntime, words: &WordList) -> Result<Objects, AllocError> {
     match read_words(rt.alloc(), words) {
         Ok(command) => objects_by(rt, &command),
@@ -69,7 +69,7 @@ pub(crate) fn objects_of(rt: &HostRuntime, words: &WordList) -> Result<Objects, 
     }
 }
 
-/// Closes the database, if one was opened.
+// Closes the database, if one was opened.
 pub(crate) fn close(objects: Objects) {
     let Objects {
         keeper,

@@ -15,7 +15,7 @@ use byte_text::Name;
 pub const MOST_USERS: usize = 1_000;
 
 impl Users {
-    /// The user of that name.
+    // The user of that name.
     #[tactic(auto, using(std::proofs::lemmas::List::Folds::find_at, std::proofs::lemmas::Option::slice_get_past, std::proofs::lemmas::Option::slice_get_read))]
     fn row_named(&self, name: &Name) -> Option<&UserRow>
         ensures { option_copied result ≡ row_named name.now self.now }
@@ -27,7 +27,7 @@ impl Users {
         Some(&self.rows()[place])
     }
 
-    /// The user with that key.
+    // The user with that key.
     #[tactic(auto, using(std::proofs::lemmas::List::Folds::find_at, std::proofs::lemmas::Option::slice_get_past, std::proofs::lemmas::Option::slice_get_read))]
     fn with_key(&self, digest: &Digest) -> Option<&UserRow>
         ensures { option_copied result ≡ find (has_digest digest.now) self.now }
@@ -39,14 +39,14 @@ impl Users {
         Some(&self.rows()[place])
     }
 
-    /// Whether there is a user of that name.
+    // Whether there is a user of that name.
     fn is_held(&self, name: &Name) -> bool
         ensures { result ≡ is_some (row_named name.now self.now) }
     {
         self.row_named(name).is_some()
     }
 
-    /// Refuses a name that the admin or a user has.
+    // Refuses a name that the admin or a user has.
     fn check_name(&self, policy: &Policy, name: &Name) -> Result<(), UserRefusal>
         ensures { MatchResult result
             (λ _. name_taken policy.now name.now self.now ≡ None)
@@ -58,7 +58,7 @@ impl Users {
         Ok(())
     }
 
-    /// The name of whoever has a key, the admin first.
+    // The name of whoever has a key, the admin first.
     fn holder(&self, policy: &Policy, digest: &Digest) -> Option<Name>
         ensures { result ≡ holder policy.now digest.now self.now }
     {
@@ -71,7 +71,7 @@ impl Users {
         }
     }
 
-    /// Refuses a key that the admin or a user has.
+    // Refuses a key that the admin or a user has.
     fn check_key(&self, policy: &Policy, digest: &Digest) -> Result<(), UserRefusal>
         ensures { MatchResult result
             (λ _. key_taken policy.now digest.now self.now ≡ None)
@@ -83,7 +83,7 @@ impl Users {
         }
     }
 
-    /// Refuses one more user if there are 1,000.
+    // Refuses one more user if there are 1,000.
     fn check_room(&self) -> Result<(), UserRefusal>
         ensures { MatchResult result (λ _. full self.now ≡ None)
             (λ refused. full self.now ≡ Some refused) }
@@ -94,7 +94,7 @@ impl Users {
         Ok(())
     }
 
-    /// Refuses a user who can't be added, out of memory aside.
+    // Refuses a user who can't be added, out of memory aside.
     pub(crate) fn check_new(&self, row: &UserRow, policy: &Policy) -> Result<(), UserRefusal>
         ensures { MatchResult result
             (λ _. put_refusal policy.now row.now self.now ≡ None)
@@ -106,7 +106,7 @@ impl Users {
         self.check_room()
     }
 
-    /// Refuses a key that differs from the former row's and that the admin or a user has.
+    // Refuses a key that differs from the former row's and that the admin or a user has.
     fn check_new_key(
         &self,
         policy: &Policy,
@@ -123,7 +123,7 @@ impl Users {
         self.check_key(policy, &row.digest)
     }
 
-    /// Refuses a change of a user.
+    // Refuses a change of a user.
     pub(crate) fn check_change(&self, row: &UserRow, policy: &Policy) -> Result<(), UserRefusal>
         ensures { MatchResult result
             (λ _. change_refusal policy.now row.now self.now ≡ None)

@@ -13,7 +13,7 @@ use thiserror::Error;
 /// The most groups that aren't built in.
 pub const MOST_GROUPS: usize = 16;
 
-/// What the group `users` has.
+// What the group `users` has.
 const USERS_HAVE: [Permission; 9] = [
     Permission::Status,
     Permission::Connection,
@@ -72,7 +72,7 @@ impl Model for Groups {
     ghost invariant = { λ g. length g.groups.items ≤ most_groups };
 }
 
-/// What a built-in group has.
+// What a built-in group has.
 fn built_in(name: &Name) -> Option<&'static [Permission]>
     ensures { option_copied result ≡ built_in name.now }
 {
@@ -96,8 +96,8 @@ impl Groups {
         }
     }
 
-    /// Adds a group after the others. Fails if there is one of that name, if 16 were added, or if out of memory; then the groups
-    /// are as before.
+    /// Adds a group after the others. Fails if there is one of that name or it is built in, if 16 were added, or if out of
+    /// memory; then the groups are as before.
     pub fn add(&mut self, name: &Name, permissions: &[Permission]) -> Result<(), GroupFault>
         ensures ok { OnOk result
             (self.new ≡ self.old
@@ -124,7 +124,7 @@ impl Groups {
         }
     }
 
-    /// The place of the group of that name, the number of groups if there is none.
+    // The place of the group of that name, the number of groups if there is none.
     fn place_of(&self, name: &Name) -> usize
         ensures place { result ≡ position_or_len (is_group name.now) self.now }
         ensures within { result ≤ length self.now }
@@ -135,7 +135,7 @@ impl Groups {
             .count()
     }
 
-    /// What the group of that name has, if it isn't built in.
+    // What the group of that name has, if it isn't built in.
     #[tactic(auto, using(std::proofs::lemmas::List::Folds::find_at, std::proofs::lemmas::Option::slice_get_past, std::proofs::lemmas::Option::slice_get_read))]
     fn added_permissions(&self, name: &Name) -> Option<&[Permission]>
         ensures { option_copied result ≡ added_permissions self.now name.now }
@@ -147,7 +147,7 @@ impl Groups {
         Some(self.groups[place].permissions.as_slice())
     }
 
-    /// What the group of that name has.
+    // What the group of that name has.
     fn permissions_of(&self, name: &Name) -> Option<&[Permission]>
         ensures { option_copied result ≡ permissions_of self.now name.now }
     {
@@ -164,7 +164,7 @@ impl Groups {
         self.permissions_of(name).is_some()
     }
 
-    /// Whether the group of that name grants a permission.
+    // Whether the group of that name grants a permission.
     pub(crate) fn grants(&self, name: &Name, wanted: Permission) -> bool
         ensures { result ≡ group_grants self.now wanted name.now }
     {

@@ -7,14 +7,14 @@ ghost use Rattle.std.specs.Cmp.Lexicographic.{slice_cmp};
 use crate::row::UserRow;
 use std::cmp::Ordering;
 
-/// The order of two users: the order of the bytes of their names.
+// The order of two users: the order of the bytes of their names.
 fn compared(row: &UserRow, other: &UserRow) -> Ordering
     ensures { result ≡ slice_cmp nat_cmp row.now.name other.now.name }
 {
     row.name.as_bytes().cmp(other.name.as_bytes())
 }
 
-/// Whether users are in the order of their names.
+// Whether users are in the order of their names.
 fn are_by_name(rows: &[UserRow]) -> bool
     ensures { MatchBool result (IsByName rows.now) (¬ (IsByName rows.now)) }
 {
@@ -33,7 +33,7 @@ fn sort_by_name(rows: &mut [UserRow])
     rows.sort_unstable_by(|row, other| compared(row, other));
 }
 
-/// Puts users in the order of their names. If they are in it, nothing changes.
+// Puts users in the order of their names. If they are in it, nothing changes.
 pub(crate) fn put_in_order(rows: &mut [UserRow])
     ensures permutation { IsPermutation rows.old rows.new }
     ensures ordered { IsByName rows.new }

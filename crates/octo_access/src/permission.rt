@@ -32,7 +32,7 @@ pub enum Permission {
     Admin,
 }
 
-/// Each permission once.
+// Each permission once.
 #[tactic(auto, unfolding(crate::specs::Permissions::all_permissions))]
 fn all() -> [Permission; 11]
     ensures { result ≡ all_permissions }
@@ -86,7 +86,7 @@ impl Permission {
     }
 }
 
-/// The place of the permission of that name, the number of permissions if there is none.
+// The place of the permission of that name, the number of permissions if there is none.
 fn place_in(permissions: &[Permission], text: &str) -> usize
     ensures place { result ≡ position_or_len (has_name text.now) permissions.now }
     ensures within { result ≤ length permissions.now }
@@ -97,7 +97,7 @@ fn place_in(permissions: &[Permission], text: &str) -> usize
         .count()
 }
 
-/// The first of the permissions that has that name.
+// The first of the permissions that has that name.
 #[tactic(auto, using(std::proofs::lemmas::List::Folds::find_at, std::proofs::lemmas::Option::slice_get_past))]
 fn find_named(permissions: &[Permission], text: &str) -> Option<Permission>
     ensures { result ≡ find (has_name text.now) permissions.now }
@@ -109,7 +109,7 @@ fn find_named(permissions: &[Permission], text: &str) -> Option<Permission>
     Some(permissions[place])
 }
 
-/// Whether a list of permissions grants one: it has it, or it has ADMIN.
+// Whether a list of permissions grants one: it has it, or it has ADMIN.
 pub(crate) fn grants(permissions: &[Permission], wanted: Permission) -> bool
     ensures { result ≡ grants wanted permissions.now }
 {

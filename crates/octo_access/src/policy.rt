@@ -38,7 +38,7 @@ impl Policy {
             .any(|group| self.groups.grants(group, permission))
     }
 
-    /// The admin, if that is his key's digest.
+    // The admin, if that is his key's digest.
     pub(crate) fn admin_with_key(&self, digest: &Digest) -> Option<&Admin>
         ensures { option_copied result ≡ admin_with_key digest.now self.now.admin }
     {
@@ -48,7 +48,7 @@ impl Policy {
         }
     }
 
-    /// Whether the admin has that name.
+    // Whether the admin has that name.
     pub(crate) fn names_admin(&self, name: &Name) -> bool
         ensures { result ≡ is_some (admin_if (λ a. bytes_eq a.name name.now) self.now.admin) }
     {
@@ -58,14 +58,14 @@ impl Policy {
         }
     }
 
-    /// Whether a user may not be in a group: it doesn't exist, and he wasn't in it before.
+    // Whether a user may not be in a group: it doesn't exist, and he wasn't in it before.
     fn is_barred(&self, former: &[Name], group: &Name) -> bool
         ensures { result ≡ is_barred self.now former.now group.now }
     {
         !(self.groups.is_known(group) || is_among(group, former))
     }
 
-    /// The place of the first group that a user may not be in, the number of groups if there is none.
+    // The place of the first group that a user may not be in, the number of groups if there is none.
     fn barred_place(&self, former: &[Name], groups: &[Name]) -> usize
         ensures place { result ≡ position_or_len (is_barred self.now former.now) groups.now }
         ensures within { result ≤ length groups.now }
@@ -76,7 +76,7 @@ impl Policy {
             .count()
     }
 
-    /// Refuses a user with a group that he may not be in.
+    // Refuses a user with a group that he may not be in.
     #[tactic(auto, using(std::proofs::lemmas::List::Folds::find_at, std::proofs::lemmas::Option::slice_get_past, std::proofs::lemmas::Option::slice_get_read))]
     pub(crate) fn check_groups(&self, former: &[Name], row: &UserRow) -> Result<(), UserRefusal>
         ensures { MatchResult result

@@ -78,7 +78,7 @@ impl UserRow {
         self.digest == *digest
     }
 
-    /// Whether that key's owner is this user, and active.
+    // Whether that key's owner is this user, and active.
     pub(crate) fn is_caller(&self, digest: &Digest) -> bool
         ensures { result ≡ is_caller digest.now self.now }
     {

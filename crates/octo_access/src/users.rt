@@ -64,7 +64,7 @@ impl Users {
         self.rows.as_slice()
     }
 
-    /// The place of the user of that name, the number of users if there is none.
+    // The place of the user of that name, the number of users if there is none.
     pub(crate) fn place_of(&self, name: &Name) -> usize
         ensures place { result ≡ position_or_len (is_named name.now) self.now }
         ensures within { result ≤ length self.now }
@@ -72,7 +72,7 @@ impl Users {
         place_of_name(self.rows(), name)
     }
 
-    /// The place of the user with that key, the number of users if there is none.
+    // The place of the user with that key, the number of users if there is none.
     pub(crate) fn place_of_key(&self, digest: &Digest) -> usize
         ensures place { result ≡ position_or_len (has_digest digest.now) self.now }
         ensures within { result ≤ length self.now }
@@ -83,7 +83,7 @@ impl Users {
             .count()
     }
 
-    /// The place of the active user with that key, the number of users if there is none.
+    // The place of the active user with that key, the number of users if there is none.
     fn place_of_caller(&self, digest: &Digest) -> usize
         ensures place { result ≡ position_or_len (is_caller digest.now) self.now }
         ensures within { result ≤ length self.now }
@@ -94,7 +94,7 @@ impl Users {
             .count()
     }
 
-    /// The place for a new user of that name.
+    // The place for a new user of that name.
     fn place_for(&self, name: &Name) -> usize
         ensures place { result ≡ prefix_len (λ r. is_before r.name name.now) self.now }
         ensures within { result ≤ length self.now }
@@ -102,7 +102,7 @@ impl Users {
         place_for_name(self.rows(), name)
     }
 
-    /// The active user with that key.
+    // The active user with that key.
     #[tactic(auto, using(std::proofs::lemmas::List::Folds::find_at, std::proofs::lemmas::Option::slice_get_past, std::proofs::lemmas::Option::slice_get_read))]
     fn active_holder(&self, digest: &Digest) -> Option<UserRow>
         ensures { result ≡ find (is_caller digest.now) self.now }
@@ -114,7 +114,7 @@ impl Users {
         Some(self.rows[place].copy())
     }
 
-    /// Whom a key's digest names: the admin, or else an active user.
+    // Whom a key's digest names: the admin, or else an active user.
     fn by_digest(&self, policy: &Policy, digest: &Digest) -> Option<UserRow>
         ensures { result ≡ caller_of policy.now self.now digest.now }
     {

@@ -77,7 +77,7 @@ pub type ShownEntryList = ItemList<ShownEntry>;
 /// Prints in a list.
 pub type ShownPrintList = ItemList<ShownPrint>;
 
-/// Millionths of a degree in a degree.
+// Millionths of a degree in a degree.
 const DEGREE: i64 = 1_000_000;
 
 // Millionths of a degree in whole degrees.

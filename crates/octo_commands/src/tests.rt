@@ -61,7 +61,7 @@ fn doors(alloc: Global, inputs: &[&[u8]]) -> Option<Doors<MemoryDoor>> {
     })
 }
 
-/// Where a host keeps what it has, and where it is called.
+// Where a host keeps what it has, and where it is called.
 #[derive(Drop)]
 struct HostParts {
     keeper: MemoryKeeper,
@@ -77,7 +77,7 @@ fn host_parts(alloc: Global, inputs: &[&[u8]]) -> Option<HostParts> {
     })
 }
 
-/// What a command works with.
+// What a command works with.
 #[derive(Drop)]
 struct Bench {
     files: MemorySource,

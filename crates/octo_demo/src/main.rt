@@ -20,7 +20,8 @@ const SEED: u32 = 1;
 // How many commands the file has.
 const COMMANDS: u32 = 30;
 
-// Prints the file and writes the summary; 0 if the print was done, 1 if it wasn't.
+// Prints the file and writes the summary; 0 if the print was done, 1 if it wasn't, OUTPUT_FAILED if the output failed.
+// Fails if out of memory.
 fn print(alloc: Global, out: &mut StdSink<HostRuntime>) -> Result<u8, AllocError> {
     let demo = run_demo(alloc, SEED, COMMANDS)?;
     let counts = demo.counts()?;

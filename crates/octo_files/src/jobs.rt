@@ -29,7 +29,7 @@ fn take_job(alloc: Global, bytes: Blob) -> Result<Job, Report>
     }
 }
 
-/// The job of the file of that name, whatever temperatures it asks for.
+// The job of the file of that name, whatever temperatures it asks for.
 pub(crate) fn read_any_job<F: Source>(
     alloc: Global,
     files: &mut F,

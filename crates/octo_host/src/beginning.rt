@@ -23,7 +23,7 @@ use send_window::Sender;
 use std::alloc::{AllocError, Global};
 use temp_rules::Limits;
 
-/// How a session sends and polls: the lines in flight, and two times in milliseconds.
+// How a session sends and polls: the lines in flight, and two times in milliseconds.
 #[derive(Clone, Copy, Debug, PartialEq, Eq)]
 pub(crate) struct Pace {
     pub window: u8,
@@ -50,8 +50,8 @@ fn new_session(
     Ok(Session::new(desk, sender))
 }
 
-/// A host with a new session, the ports, the printer's material and the policy of these settings, on what the keeper and the shelf
-/// hold.
+// A host with a new session, the ports, the printer's material and the policy of these settings, on what the keeper and the shelf
+// hold.
 pub(crate) fn begin_by<K: Keeper, S: Shelf>(
     alloc: Global,
     settings: Settings,

@@ -20,7 +20,7 @@ impl<K: Keeper + Drop> Opened<K> {
         Opened { keeper, faults: 0 }
     }
 
-    /// The keeper again.
+    /// The keeper again, or why it wasn't opened.
     pub fn into_keeper(self) -> Result<K, KeeperFault>
         ensures { result ≡ self.keeper }
     {

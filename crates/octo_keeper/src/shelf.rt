@@ -61,7 +61,8 @@ pub trait Shelf {
     /// How many calls failed.
     ghost faults: { Self → ℕ };
 
-    /// The names of all files with their sizes in bytes, by name.
+    /// The names of all files with their sizes in bytes, by name. `Failed` if the shelf fails, `NoMemory` if memory runs
+    /// out.
     fn list(&mut self, alloc: Global) -> Result<FileList, ShelfFault>
         ensures ok { IfOk result (λ list. IfSome (files self.old) (λ held. list ≡ sizes_of held)) }
         ensures stays { files self.new ≡ files self.old }
@@ -69,7 +70,7 @@ pub trait Shelf {
         ensures counts { Counts (IsErrOf result fault.Failed) (faults self.old) (faults self.new) }
         ensures steady { (IsErrOf result fault.Failed → ⊥) → faults self.new ≡ faults self.old };
 
-    /// The bytes of a file, `None` if there is no file of that name.
+    /// The bytes of a file, `None` if there is no file of that name. Fails as `list` does.
     fn get(&mut self, alloc: Global, name: &Name) -> Result<Option<Blob>, ShelfFault>
         ensures ok { IfOk result
             (λ bytes. IfSome (files self.old) (λ held. bytes ≡ bytes_of name.now held)) }
@@ -78,7 +79,7 @@ pub trait Shelf {
         ensures counts { Counts (IsErrOf result fault.Failed) (faults self.old) (faults self.new) }
         ensures steady { (IsErrOf result fault.Failed → ⊥) → faults self.new ≡ faults self.old };
 
-    /// Sets the bytes of that name alone.
+    /// Sets the bytes of that name alone. Fails as `list` does; then the files are as before.
     fn put(&mut self, alloc: Global, name: &Name, bytes: &[u8]) -> Result<(), ShelfFault>
         ensures ok { OnOk result
             (files self.new ≡ option_map (with_file name.now bytes.now) (files self.old)) }
@@ -87,7 +88,7 @@ pub trait Shelf {
         ensures counts { Counts (IsErrOf result fault.Failed) (faults self.old) (faults self.new) }
         ensures steady { (IsErrOf result fault.Failed → ⊥) → faults self.new ≡ faults self.old };
 
-    /// Takes the file of that name alone out, if there is one.
+    /// Takes the file of that name alone out, if there is one. Fails as `list` does; then the files are as before.
     fn remove(&mut self, alloc: Global, name: &Name) -> Result<(), ShelfFault>
         ensures ok { OnOk result
             (files self.new ≡ option_map (without_file name.now) (files self.old)) }

@@ -37,7 +37,7 @@ fn put_hot_script(page: &mut Page, key: &[u8], line: u32)
     append(page, b": too hot\n");
 }
 
-/// Puts why settings are refused.
+// Puts why settings are refused.
 pub(crate) fn put_settings(page: &mut Page, fault: &SettingsFault)
     requires { page.old.items ≡ [] }
     ensures { page.new.items ≡ settings_text fault.now }
@@ -69,7 +69,7 @@ fn put_line(page: &mut Page, line: u32, what: &[u8])
     append(page, what);
 }
 
-/// Puts why a file is refused.
+// Puts why a file is refused.
 pub(crate) fn put_file(page: &mut Page, fault: FileFault)
     requires { page.old.items ≡ [] }
     ensures { page.new.items ≡ file_text fault }
@@ -97,7 +97,7 @@ fn append_over(page: &mut Page, asked: u64, limit: u16)
     append(page, b"\n");
 }
 
-/// Puts that a command of the file is too hot.
+// Puts that a command of the file is too hot.
 pub(crate) fn put_hot(page: &mut Page, hot: HotLine)
     requires { page.old.items ≡ [] }
     ensures { page.new.items ≡ hot_text hot }
@@ -106,7 +106,7 @@ pub(crate) fn put_hot(page: &mut Page, hot: HotLine)
     append_over(page, hot.asked, hot.limit);
 }
 
-/// Puts why a file isn't measured.
+// Puts why a file isn't measured.
 pub(crate) fn put_measure_fault(page: &mut Page, fault: MeasureFault)
     requires { page.old.items ≡ [] }
     ensures { page.new.items ≡ measure_fault_text fault }
@@ -156,7 +156,7 @@ fn put_number(page: &mut Page, before: &[u8], number: u32, after: &[u8])
     append(page, b"\n");
 }
 
-/// Puts how a session ended.
+// Puts how a session ended.
 pub(crate) fn put_end(page: &mut Page, end: SessionEnd)
     requires { page.old.items ≡ [] }
     ensures { page.new.items ≡ end_text end }

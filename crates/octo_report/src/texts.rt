@@ -68,7 +68,7 @@ fn put_turns(page: &mut Page, turns: u64)
     append(page, b"\n");
 }
 
-/// Puts the text of a report that isn't a file.
+// Puts the text of a report that isn't a file.
 pub(crate) fn put_report(page: &mut Page, report: &Report)
     requires empty { page.old.items ≡ [] }
     requires short { is_rest report.now ≡ false }

@@ -30,9 +30,9 @@ use session_steps::{Found, Received};
 #[derive(Clone, Copy)]
 enum Gave {
     Sent,
-    /// No frame waited.
+    // No frame waited.
     Nothing,
-    /// The sending failed.
+    // The sending failed.
     Failed,
 }
 

@@ -6,7 +6,7 @@ ghost use Rattle.byte_text.specs.declared.name.TheConstants.{MOST_NAME_BYTES};
 use byte_text::Name;
 use std::str;
 
-/// A name of bytes below 128.
+// A name of bytes below 128.
 pub(crate) fn ascii_name(bytes: &[u8]) -> Name
     requires short { length bytes.now ≤ MOST_NAME_BYTES }
     requires ascii { IsAscii bytes.now }

@@ -19,7 +19,7 @@ use std::alloc::Global;
 use temp_rules::Limits;
 use toml::{Table, Value};
 
-/// What the section `printer` says.
+// What the section `printer` says.
 #[derive(Drop)]
 pub(crate) struct Printer {
     pub(crate) ports: NameList,

@@ -26,7 +26,7 @@ fn copy_texts(alloc: Global, key: &str, items: &[Value]) -> Result<WordList, Set
     Ok(texts)
 }
 
-/// A value as a list of texts.
+// A value as a list of texts.
 pub(crate) fn read_texts(alloc: Global, key: &str, value: &Value) -> Result<WordList, SettingsFault>
     requires { length key.now ≤ MOST_NAME_BYTES }
     ensures { Reads result (text_values key.now (view value.now)) }

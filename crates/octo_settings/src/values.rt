@@ -16,7 +16,7 @@ fn value_of<'a>(table: &'a Table, key: &str) -> Option<&'a Value>
     table.get(key)
 }
 
-/// The value at a key of a table that may be missing.
+// The value at a key of a table that may be missing.
 pub(crate) fn at<'a>(table: Option<&'a Table>, key: &str) -> Option<&'a Value>
     ensures { data_of_value result ≡ get_member key.now (members_or table.entry) }
 {
@@ -26,7 +26,7 @@ pub(crate) fn at<'a>(table: Option<&'a Table>, key: &str) -> Option<&'a Value>
     }
 }
 
-/// A value as a table, `None` if it is missing.
+// A value as a table, `None` if it is missing.
 pub(crate) fn read_section<'a>(
     key: &str,
     value: Option<&'a Value>,
@@ -43,7 +43,7 @@ pub(crate) fn read_section<'a>(
     }
 }
 
-/// A whole number from `least` to `most`, `default` if it is missing.
+// A whole number from `least` to `most`, `default` if it is missing.
 pub(crate) fn read_whole(
     key: &str,
     least: u64,

@@ -37,11 +37,11 @@ fn needed_option<'a>(alloc: Global, id: &'a str) -> Arg<'a>
 // How an argument is given.
 #[derive(Clone, Copy)]
 enum Kind {
-    /// At its place, always.
+    // At its place, always.
     Operand,
-    /// As an option, which may be left out.
+    // As an option, which may be left out.
     Optional,
-    /// As an option, always.
+    // As an option, always.
     Needed,
 }
 
@@ -180,7 +180,7 @@ fn printing_app<'a>(alloc: Global) -> Result<Command<'a>, AllocError>
     with_command(program, demo_app(alloc))
 }
 
-/// The program with all its commands.
+// The program with all its commands.
 pub(crate) fn octo_app<'a>(alloc: Global) -> Result<Command<'a>, AllocError>
     ensures { IfOk result (λ c. app_of c ≡ octo_app) }
 {

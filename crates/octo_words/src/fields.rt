@@ -23,7 +23,7 @@ fn text_in<'a>(found: &ArgMatches<'a>, id: &str) -> Option<&'a str>
     found.get_str(id)
 }
 
-/// The path of a file that must be given.
+// The path of a file that must be given.
 pub(crate) fn file_in(
     alloc: Global,
     found: &ArgMatches<'_>,
@@ -37,7 +37,7 @@ pub(crate) fn file_in(
     }
 }
 
-/// The path of a file that may be left out.
+// The path of a file that may be left out.
 pub(crate) fn optional_file_in(
     alloc: Global,
     found: &ArgMatches<'_>,
@@ -61,7 +61,7 @@ fn name_of(text: &str) -> Option<Name>
     Name::from_text(text)
 }
 
-/// A name that must be given.
+// A name that must be given.
 pub(crate) fn name_in(found: &ArgMatches<'_>, id: &str) -> Result<Name, WordsFault>
     ensures { Reads
         (option_and_then name_of (first_of id.now (rows_of (found_of found.now)))) result }
@@ -92,7 +92,7 @@ fn number_of(least: u64, most: u64, text: &str) -> Option<u64>
     }
 }
 
-/// A number that must be given.
+// A number that must be given.
 pub(crate) fn number_in(
     found: &ArgMatches<'_>,
     id: &str,
@@ -110,7 +110,7 @@ pub(crate) fn number_in(
     }
 }
 
-/// The turns of a print.
+// The turns of a print.
 pub(crate) fn turns_in(found: &ArgMatches<'_>, id: &str) -> Result<u64, WordsFault>
     ensures { Reads (turns_of (first_of id.now (rows_of (found_of found.now)))) result }
 {

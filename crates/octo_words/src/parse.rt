@@ -10,7 +10,7 @@ use clap::error::ErrorKind;
 use octo_outside::WordList;
 use std::alloc::{AllocError, Global};
 
-/// What the arguments match of the program's commands.
+// What the arguments match of the program's commands.
 pub(crate) fn parse<'a>(alloc: Global, words: &'a [&'a str]) -> Result<ArgMatches<'a>, WordsFault>
     ensures { Matches (rows_named (map (λ w. w.now) words.entry.now)) result }
 {
@@ -25,7 +25,7 @@ pub(crate) fn parse<'a>(alloc: Global, words: &'a [&'a str]) -> Result<ArgMatche
     }
 }
 
-/// The arguments as a slice needs them.
+// The arguments as a slice needs them.
 pub(crate) fn texts_of(alloc: Global, words: &WordList) -> Result<Vec<&str>, AllocError>
     ensures { IfOk result (λ texts. map (λ w. w.now) texts.items ≡ words.now) }
 {

@@ -15,7 +15,7 @@ use printer_model::{World, WorldEvent, garbled};
 use std::alloc::{AllocError, Global};
 use std::marker::Model;
 
-/// A world, the events that led to it, and the fates of the lines that are sent. While a link is made, one more event fits without memory.
+// A world, the events that led to it, and the fates of the lines that are sent. While a link is made, one more event fits without memory.
 #[derive(Drop)]
 pub(crate) struct Story {
     places: u8,
@@ -45,7 +45,7 @@ impl Model for Story {
 }
 
 impl Story {
-    /// A story with no event.
+    // A story with no event.
     pub(crate) fn new(alloc: Global, places: u8, advanced: bool, fates: FateList) -> Self
         requires some { 1 ≤ places }
         requires few { places ≤ 16 }
@@ -66,14 +66,14 @@ impl Story {
         }
     }
 
-    /// The world as it is now.
+    // The world as it is now.
     pub(crate) fn world(&self) -> &World
         ensures { result.now ≡ story_world self.now }
     {
         &self.world
     }
 
-    /// How many lines the printer keeps waiting.
+    // How many lines the printer keeps waiting.
     pub(crate) fn places(&self) -> u8
         ensures value { result ≡ self.now.places }
         ensures some { 1 ≤ result }
@@ -82,21 +82,21 @@ impl Story {
         self.places
     }
 
-    /// Whether the printer's replies name the line.
+    // Whether the printer's replies name the line.
     pub(crate) fn advanced(&self) -> bool
         ensures { result ≡ self.now.advanced }
     {
         self.advanced
     }
 
-    /// The events so far.
+    // The events so far.
     pub(crate) fn past(&self) -> &[WorldEvent]
         ensures { result.now ≡ self.now.past }
     {
         self.past.as_slice()
     }
 
-    /// Adds an event that isn't a `Send`.
+    // Adds an event that isn't a `Send`.
     fn add(&mut self, event: WorldEvent) -> Result<(), AllocError>
         requires { is_send event ≡ false }
         ensures ok { OnOk result (self.new ≡ with_events self.old (event ∷ [])) }
@@ -108,7 +108,7 @@ impl Story {
         Ok(())
     }
 
-    /// Closes the link if one is made; takes no memory.
+    // Closes the link if one is made; takes no memory.
     pub(crate) fn close(&mut self)
         ensures { self.new ≡ with_events self.old (closing_events (story_world self.old)) }
     {
@@ -117,7 +117,7 @@ impl Story {
         }
     }
 
-    /// The printer runs all that waits; without memory it ran a part of it.
+    // The printer runs all that waits; without memory it ran a part of it.
     pub(crate) fn run_all(&mut self) -> Result<(), AllocError>
         ensures ok { OnOk result (self.new
             ≡ with_events self.old (queue_runs (story_world self.old))) }
@@ -130,7 +130,7 @@ impl Story {
         Ok(())
     }
 
-    /// The printer runs all that waits, and then a link is made: at the first with the given last number, later with the printer's.
+    // The printer runs all that waits, and then a link is made: at the first with the given last number, later with the printer's.
     pub(crate) fn dial(&mut self, first: u32) -> Result<(), AllocError>
         ensures ok { OnOk result (self.new
             ≡ with_events self.old (dial_events (story_world self.old)
@@ -142,7 +142,7 @@ impl Story {
         self.open(later_or_first(opened, self.world().last(), first))
     }
 
-    /// A link is made.
+    // A link is made.
     fn open(&mut self, last: u32) -> Result<(), AllocError>
         ensures ok { OnOk result (self.new ≡ with_events self.old (event.Opened last ∷ [])) }
         ensures err { OnErr result (self.new ≡ self.old) }
@@ -150,7 +150,7 @@ impl Story {
         self.add(WorldEvent::Opened { last })
     }
 
-    /// All that is on the wire arrives, until the printer is full; without memory a part of it.
+    // All that is on the wire arrives, until the printer is full; without memory a part of it.
     fn arrive_all(&mut self) -> Result<(), AllocError>
         ensures ok { OnOk result (self.new
             ≡ with_events self.old (arrivals (story_world self.old) (story_world self.old).up)) }
@@ -166,7 +166,7 @@ impl Story {
         Ok(())
     }
 
-    /// The printer runs a line if that is due and one waits.
+    // The printer runs a line if that is due and one waits.
     fn run_due(&mut self, due: bool) -> Result<(), AllocError>
         ensures ok { OnOk result (self.new
             ≡ with_events self.old (due_run due (story_world self.old))) }
@@ -178,7 +178,7 @@ impl Story {
         self.add(WorldEvent::Run)
     }
 
-    /// The printer restarts if it is to.
+    // The printer restarts if it is to.
     fn restart_due(&mut self, restarts: bool) -> Result<(), AllocError>
         ensures ok { OnOk result (self.new ≡ with_events self.old (restart_events restarts)) }
         ensures err { OnErr result (self.new ≡ self.old) }
@@ -189,7 +189,7 @@ impl Story {
         self.add(WorldEvent::Restart)
     }
 
-    /// What happens before a reply is received; without memory a part of it.
+    // What happens before a reply is received; without memory a part of it.
     pub(crate) fn before_reply(&mut self, restarts: bool, due: bool) -> Result<(), AllocError>
         ensures ok { OnOk result (self.new
             ≡ with_events self.old (before_reply restarts due (story_world self.old))) }
@@ -199,7 +199,7 @@ impl Story {
         self.let_print(due)
     }
 
-    /// What arrives and what the printer runs at a call of `recv`; without memory a part of it.
+    // What arrives and what the printer runs at a call of `recv`; without memory a part of it.
     fn let_print(&mut self, due: bool) -> Result<(), AllocError>
         ensures ok { OnOk result (self.new
             ≡ with_events self.old (printer_events due (story_world self.old))) }
@@ -209,7 +209,7 @@ impl Story {
         self.run_due(due)
     }
 
-    /// Takes the front of the wire from the printer, if there is one.
+    // Takes the front of the wire from the printer, if there is one.
     pub(crate) fn receive(&mut self, into: &mut ReplyLine) -> Result<Heard, AllocError>
         ensures line { IfOk result (λ got. got ≡ heard.Line
             → (self.new ≡ with_events self.old (event.Recv ∷ []))
@@ -228,7 +228,7 @@ impl Story {
         }
     }
 
-    /// Sends a line, which then meets the next fate; without memory nothing is sent.
+    // Sends a line, which then meets the next fate; without memory nothing is sent.
     pub(crate) fn send(&mut self, line: &Line) -> Result<(), AllocError>
         ensures ok { OnOk result (self.new
             ≡ with_events self.old (send_events (story_world self.old) line.now
@@ -249,21 +249,21 @@ impl Story {
     }
 }
 
-/// Whether a link was made in a recorded history.
+// Whether a link was made in a recorded history.
 fn has_opened(past: &[WorldEvent]) -> bool
     ensures { result ≡ list_any is_opened past.now }
 {
     past.iter().any(|event| event.is_opened())
 }
 
-/// The number of a later link, or of the first.
+// The number of a later link, or of the first.
 fn later_or_first(opened: bool, later: u32, first: u32) -> u32
     ensures { result ≡ (if opened then later else first) }
 {
     if opened { later } else { first }
 }
 
-/// The fate at a place, whole after the last.
+// The fate at a place, whole after the last.
 fn fate_at(fates: &[Fate], place: usize) -> Fate
     ensures { result ≡ slice_index_or fates.now place Whole }
 {
@@ -273,14 +273,14 @@ fn fate_at(fates: &[Fate], place: usize) -> Fate
     }
 }
 
-/// A copy of a line.
+// A copy of a line.
 fn copy_of(line: &Line) -> Line
     ensures { result ≡ line.now }
 {
     bounded_text(line.as_slice())
 }
 
-/// Adds what becomes of the line at a place, which takes no memory if there is room for an event.
+// Adds what becomes of the line at a place, which takes no memory if there is room for an event.
 fn harm(world: &mut World, past: &mut Vec<WorldEvent>, fate: Fate, at: u32, line: &Line)
     requires { vec_len past.old < vec_capacity past.old }
     ensures world { world.new ≡ world_from world.old (harm_events fate at line.now) }
@@ -301,7 +301,7 @@ fn harm(world: &mut World, past: &mut Vec<WorldEvent>, fate: Fate, at: u32, line
     }
 }
 
-/// Adds an event that takes no memory, to a history with room for one more.
+// Adds an event that takes no memory, to a history with room for one more.
 fn note(world: &mut World, past: &mut Vec<WorldEvent>, event: WorldEvent)
     requires room { vec_len past.old < vec_capacity past.old }
     requires small { takes_memory event ≡ false }

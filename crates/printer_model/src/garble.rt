@@ -4,7 +4,7 @@ ghost use Rattle.printer_model.specs.Garble.{next_digit, garbled};
 
 use byte_text::{Line, bounded_text};
 
-/// The next digit, with 0 after 9; another byte stays.
+// The next digit, with 0 after 9; another byte stays.
 #[tactic(auto, unfolding(crate::specs::Garble::next_digit))]
 fn next_digit(byte: u8) -> u8
     ensures { result ≡ next_digit byte }

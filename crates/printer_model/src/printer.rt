@@ -51,7 +51,7 @@ impl Model for Ran {
     ghost view = { λ r. record { number = r.number; text = r.text.items; reply = r.reply.items } };
 }
 
-/// A line that waits to be run. `lead` is its N parameter; if a second `N` follows, the number is after that one.
+// A line that waits to be run. `lead` is its N parameter; if a second `N` follows, the number is after that one.
 #[derive(Default, Drop)]
 struct Waiting {
     number: Option<u32>,
@@ -123,7 +123,7 @@ impl Printer {
         self.take(line)
     }
 
-    /// `arrive` for any line that the outside can hold.
+    // `arrive` for any line that the outside can hold.
     pub(crate) fn take(&mut self, line: &[u8]) -> Taken
         requires { length line.now ≤ 96 }
         ensures taken { result ≡ (take_line self.old line.now).0 }
@@ -157,7 +157,7 @@ impl Printer {
         ran
     }
 
-    /// What running the front of the queue would say.
+    // What running the front of the queue would say.
     pub(crate) fn next_run(&self) -> Option<Ran>
         ensures { result ≡ (run_front self.now).0 }
     {
@@ -171,7 +171,7 @@ impl Printer {
         }
     }
 
-    /// The printer after the front of its queue was run.
+    // The printer after the front of its queue was run.
     pub(crate) fn drop_front(&mut self)
         ensures { self.new ≡ (run_front self.old).1 }
     {
@@ -181,9 +181,9 @@ impl Printer {
         }
     }
 
-    /// The printer restarts: its last line number is 0, and nothing waits.
-    ///
-    /// Source: Marlin's queue.cpp, whose line number and ring buffer are in memory that a reset clears.
+    // The printer restarts: its last line number is 0, and nothing waits.
+    //
+    // Source: Marlin's queue.cpp, whose line number and ring buffer are in memory that a reset clears.
     pub(crate) fn restart(&mut self)
         ensures { self.new ≡ printer_after_restart self.old }
     {
@@ -191,28 +191,28 @@ impl Printer {
         self.queue.clear();
     }
 
-    /// How many entries wait.
+    // How many entries wait.
     pub(crate) fn waiting(&self) -> usize
         ensures { result ≡ length self.now.queue }
     {
         self.queue.len()
     }
 
-    /// Whether as many entries wait as may.
+    // Whether as many entries wait as may.
     pub(crate) fn is_full(&self) -> bool
         ensures { result ≡ is_full self.now }
     {
         self.queue.len() >= usize::from(self.places)
     }
 
-    /// The last line number.
+    // The last line number.
     pub(crate) fn last(&self) -> u32
         ensures { result ≡ self.now.last }
     {
         self.last
     }
 
-    /// Sets the last line number, as a printer has it when a link is made.
+    // Sets the last line number, as a printer has it when a link is made.
     pub(crate) fn set_last(&mut self, last: u32)
         ensures { self.new ≡ record self.old { last = last } }
     {
@@ -220,7 +220,7 @@ impl Printer {
     }
 }
 
-/// The reply after an entry ran, with this number of free buffer slots.
+// The reply after an entry ran, with this number of free buffer slots.
 fn ran_line(advanced: bool, free: u8, entry: &Waiting) -> Ran
     ensures { result ≡ record {
       number = entry.now.number;
@@ -236,7 +236,7 @@ fn ran_line(advanced: bool, free: u8, entry: &Waiting) -> Ran
     }
 }
 
-/// Whether a line's number doesn't follow the last one, and the line doesn't set the number either.
+// Whether a line's number doesn't follow the last one, and the line doesn't set the number either.
 #[tactic(auto, unfolding(crate::specs::Printer::is_out_of_turn))]
 fn is_out_of_turn(last: u32, line: &[u8]) -> bool
     ensures { result ≡ is_out_of_turn last line.now }
@@ -244,7 +244,7 @@ fn is_out_of_turn(last: u32, line: &[u8]) -> bool
     u64::from(line_number(line)) != u64::from(last) + 1 && !has_m110(line)
 }
 
-/// A line without a number, as it waits.
+// A line without a number, as it waits.
 fn plain_entry(line: &[u8]) -> Waiting
     requires { length line.now ≤ 96 }
     ensures { result ≡ plain_entry line.now }
@@ -256,7 +256,7 @@ fn plain_entry(line: &[u8]) -> Waiting
     }
 }
 
-/// A line with its number, as it waits.
+// A line with its number, as it waits.
 fn numbered_entry(line: &[u8]) -> Waiting
     requires { length line.now ≤ 96 }
     ensures { result ≡ numbered_entry line.now }
@@ -268,7 +268,7 @@ fn numbered_entry(line: &[u8]) -> Waiting
     }
 }
 
-/// What the printer makes of a line: an entry, or the first rule that the line breaks.
+// What the printer makes of a line: an entry, or the first rule that the line breaks.
 #[tactic(auto, unfolding(crate::specs::Printer::judged))]
 fn judge(last: u32, line: &[u8]) -> Result<Waiting, Reason>
     requires { length line.now ≤ 96 }
@@ -287,7 +287,7 @@ fn judge(last: u32, line: &[u8]) -> Result<Waiting, Reason>
     }
 }
 
-/// The last number after an entry was run: a text with `M110` sets it again to the entry's number, if it has one.
+// The last number after an entry was run: a text with `M110` sets it again to the entry's number, if it has one.
 #[tactic(auto, unfolding(crate::specs::Printer::last_after))]
 fn next_last(last: u32, entry: &Waiting) -> u32
     ensures { result ≡ last_after last entry.now }

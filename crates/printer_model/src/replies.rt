@@ -9,7 +9,7 @@ ghost use Rattle.printer_model.specs.Replies.{reason_text, asked_after, error_li
 use crate::printer::Reason;
 use byte_text::{ReplyLine, append, append_number};
 
-/// Why a line was refused, as the printer says it.
+// Why a line was refused, as the printer says it.
 #[tactic(auto, unfolding(crate::specs::Replies::reason_text))]
 fn reason_bytes(reason: Reason) -> &'static [u8]
     ensures text { result.now ≡ reason_text reason }
@@ -65,7 +65,7 @@ pub fn start_line() -> ReplyLine
     line
 }
 
-/// The reply to `M105`, which asks for the temperatures.
+// The reply to `M105`, which asks for the temperatures.
 #[tactic(auto, unfolding(crate::specs::Replies::temperatures_line))]
 fn temperatures_line() -> ReplyLine
     ensures { result.items ≡ temperatures_line }
@@ -75,7 +75,7 @@ fn temperatures_line() -> ReplyLine
     line
 }
 
-/// Adds the N parameter, ` N<lead>`, if the line has one.
+// Adds the N parameter, ` N<lead>`, if the line has one.
 fn append_lead(line: &mut ReplyLine, lead: Option<u32>)
     requires { array_vec_len line.old + 12 ≤ 256 }
     ensures items { line.new.items ≡ line.old.items ++ lead_text lead }
@@ -87,7 +87,7 @@ fn append_lead(line: &mut ReplyLine, lead: Option<u32>)
     }
 }
 
-/// A numbered acknowledgement, with the free buffer slots: `ok N<lead> P15 B<free>`.
+// A numbered acknowledgement, with the free buffer slots: `ok N<lead> P15 B<free>`.
 #[tactic(auto, unfolding(crate::specs::Replies::numbered_ok))]
 fn numbered_ok(lead: Option<u32>, free: u8) -> ReplyLine
     ensures { result.items ≡ numbered_ok lead free }
@@ -100,7 +100,7 @@ fn numbered_ok(lead: Option<u32>, free: u8) -> ReplyLine
     line
 }
 
-/// The reply to a line that was run, numbered if the printer answers so.
+// The reply to a line that was run, numbered if the printer answers so.
 #[tactic(auto, unfolding(crate::specs::Replies::run_reply))]
 pub(crate) fn run_reply(advanced: bool, lead: Option<u32>, text: &[u8], free: u8) -> ReplyLine
     ensures { result.items ≡ run_reply advanced lead text.now free }

@@ -6,7 +6,7 @@ use std::alloc::{AllocError, Global};
 use std::collections::VecDeque;
 use std::marker::Model;
 
-/// The lines on their way, the front first.
+// The lines on their way, the front first.
 #[derive(Drop)]
 pub(crate) struct Wire<const N: usize> {
     lines: VecDeque<ArrayVec<u8, N>>,
@@ -21,7 +21,7 @@ impl<const N: usize> Model for Wire<N> {
 }
 
 impl<const N: usize> Wire<N> {
-    /// An empty wire.
+    // An empty wire.
     pub(crate) fn new(alloc: Global) -> Self
         ensures { result ≡ [] }
     {
@@ -30,14 +30,14 @@ impl<const N: usize> Wire<N> {
         }
     }
 
-    /// How many lines are on their way.
+    // How many lines are on their way.
     pub(crate) fn len(&self) -> usize
         ensures { result ≡ length self.now }
     {
         self.lines.len()
     }
 
-    /// The line at the front.
+    // The line at the front.
     pub(crate) fn front(&self) -> Option<&ArrayVec<u8, N>>
         ensures some { IsSome result ↔ (0 < length self.now) }
         ensures line { IfSome result (λ l. l.now.items ≡ slice_index_or self.now 0 l.now.items) }
@@ -45,7 +45,7 @@ impl<const N: usize> Wire<N> {
         self.lines.front()
     }
 
-    /// Adds a line at the end.
+    // Adds a line at the end.
     pub(crate) fn push(&mut self, line: ArrayVec<u8, N>) -> Result<(), AllocError>
         ensures ok { OnOk result (self.new ≡ self.old ++ line.entry.items ∷ []) }
         ensures err { OnErr result (self.new ≡ self.old) }
@@ -54,7 +54,7 @@ impl<const N: usize> Wire<N> {
         Ok(())
     }
 
-    /// Adds three lines at the end, or none.
+    // Adds three lines at the end, or none.
     pub(crate) fn push_three(
         &mut self,
         first: ArrayVec<u8, N>,
@@ -72,7 +72,7 @@ impl<const N: usize> Wire<N> {
         Ok(())
     }
 
-    /// Takes the line at the front, if there is one.
+    // Takes the line at the front, if there is one.
     pub(crate) fn pop(&mut self) -> Option<ArrayVec<u8, N>>
         ensures some { IsSome result ↔ (0 < length self.old) }
         ensures line { IfSome result (λ l. l.items ≡ slice_index_or self.old 0 l.items) }
@@ -81,7 +81,7 @@ impl<const N: usize> Wire<N> {
         self.lines.pop_front()
     }
 
-    /// Takes out the line at a place.
+    // Takes out the line at a place.
     #[tactic(auto, using(crate::proofs::Wires::map_remove))]
     pub(crate) fn remove(&mut self, at: usize)
         requires { at < length self.old }
@@ -93,7 +93,7 @@ impl<const N: usize> Wire<N> {
         }
     }
 
-    /// Puts a line in the place of another.
+    // Puts a line in the place of another.
     pub(crate) fn set(&mut self, at: usize, line: ArrayVec<u8, N>)
         requires { at < length self.old }
         ensures { self.new ≡ slice_set self.old at line.entry.items }
@@ -101,7 +101,7 @@ impl<const N: usize> Wire<N> {
         self.lines[at] = line;
     }
 
-    /// Empties the wire.
+    // Empties the wire.
     pub(crate) fn clear(&mut self)
         ensures { self.new ≡ [] }
     {

@@ -128,7 +128,7 @@ impl World {
         }
     }
 
-    /// The event Opened.
+    // The event Opened.
     fn open(&mut self, last: u32) -> bool
         ensures happened { result ≡ can_happen self.old (WorldEvent.Opened last) }
         ensures after { self.new ≡ apply self.old (WorldEvent.Opened last) }
@@ -143,7 +143,7 @@ impl World {
         true
     }
 
-    /// The event Send.
+    // The event Send.
     fn send(&mut self, line: &Line) -> Result<bool, AllocError>
         ensures { IsStep self.old (WorldEvent.Send line.now) self.new result }
     {
@@ -154,7 +154,7 @@ impl World {
         Ok(true)
     }
 
-    /// The event Arrive.
+    // The event Arrive.
     fn arrive(&mut self) -> Result<bool, AllocError>
         ensures { IsStep self.old WorldEvent.Arrive self.new result }
     {
@@ -172,7 +172,7 @@ impl World {
         Ok(true)
     }
 
-    /// The event Lose.
+    // The event Lose.
     fn lose(&mut self, at: u32) -> bool
         ensures happened { result ≡ can_happen self.old (WorldEvent.Lose at) }
         ensures after { self.new ≡ apply self.old (WorldEvent.Lose at) }
@@ -184,7 +184,7 @@ impl World {
         true
     }
 
-    /// The event Garble.
+    // The event Garble.
     fn garble(&mut self, at: u32, line: &Line) -> bool
         ensures happened { result ≡ can_happen self.old (WorldEvent.Garble at line.now) }
         ensures after { self.new ≡ apply self.old (WorldEvent.Garble at line.now) }
@@ -196,7 +196,7 @@ impl World {
         true
     }
 
-    /// The event Run.
+    // The event Run.
     fn run(&mut self) -> Result<bool, AllocError>
         ensures { IsStep self.old WorldEvent.Run self.new result }
     {
@@ -217,7 +217,7 @@ impl World {
         Ok(true)
     }
 
-    /// The event Restart.
+    // The event Restart.
     fn restart(&mut self) -> Result<bool, AllocError>
         ensures { IsStep self.old WorldEvent.Restart self.new result }
     {
@@ -229,7 +229,7 @@ impl World {
         Ok(true)
     }
 
-    /// The event Chatter.
+    // The event Chatter.
     fn chatter(&mut self, reply: &ReplyLine) -> Result<bool, AllocError>
         ensures { IsStep self.old (WorldEvent.Chatter reply.now) self.new result }
     {
@@ -240,7 +240,7 @@ impl World {
         Ok(true)
     }
 
-    /// The event Recv.
+    // The event Recv.
     fn receive(&mut self) -> bool
         ensures happened { result ≡ can_happen self.old WorldEvent.Recv }
         ensures after { self.new ≡ apply self.old WorldEvent.Recv }
@@ -263,7 +263,7 @@ impl World {
     }
 }
 
-/// Puts a reply on the wire from the printer if a link is made.
+// Puts a reply on the wire from the printer if a link is made.
 fn answer(down: &mut Wire<256>, linked: bool, reply: ReplyLine) -> Result<(), AllocError>
     ensures ok { OnOk result (down.new
         ≡ (if linked then down.old ++ reply.items ∷ [] else down.old)) }
@@ -275,7 +275,7 @@ fn answer(down: &mut Wire<256>, linked: bool, reply: ReplyLine) -> Result<(), Al
     Ok(())
 }
 
-/// Whether a line is another reply: neither Ok, Resend nor Start.
+// Whether a line is another reply: neither Ok, Resend nor Start.
 #[tactic(auto, unfolding(marlin_reply::specs::Kind::is_chatter))]
 fn is_chatter(line: &[u8]) -> bool
     ensures { result ≡ is_chatter line.now }

@@ -7,7 +7,7 @@ use octo_report::{Report, write_report};
 use std::alloc::Global;
 use std::process::Abort;
 
-/// Writes a report, and compares its text and its exit status.
+// Writes a report, and compares its text and its exit status.
 fn assert_report(rt: &(impl Abort + Alloc<A = Global>), report: Report, code: u8, text: &[u8]) {
     assert_eq!(rt; report.code(), code);
     let mut out = MemorySink::new(rt.alloc(), CallList::new(rt.alloc()));

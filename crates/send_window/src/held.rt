@@ -12,10 +12,10 @@ use marlin_frame::frame;
 use std::alloc::{AllocError, Global};
 use std::marker::Model;
 
-/// The most lines that may be held.
+// The most lines that may be held.
 pub(crate) const MOST_HELD: usize = 16;
 
-/// The text of a line.
+// The text of a line.
 #[derive(Drop)]
 struct HeldText {
     text: Text,
@@ -52,7 +52,7 @@ impl HeldText {
     }
 }
 
-/// At most 16 lines, in the order of their numbers.
+// At most 16 lines, in the order of their numbers.
 #[derive(Drop)]
 pub(crate) struct Held {
     lines: HeapCircularBuffer<HeldText>,
@@ -69,7 +69,7 @@ impl Model for Held {
 }
 
 impl Held {
-    /// No lines.
+    // No lines.
     pub(crate) fn new(alloc: Global) -> Result<Held, AllocError>
         ensures { IfOk result (λ held. held ≡ []) }
     {
@@ -77,14 +77,14 @@ impl Held {
         Ok(Held { lines })
     }
 
-    /// Drops every line.
+    // Drops every line.
     pub(crate) fn clear(&mut self)
         ensures { self.new ≡ [] }
     {
         self.lines.clear();
     }
 
-    /// Adds a line after the others.
+    // Adds a line after the others.
     pub(crate) fn push(&mut self, text: &[u8])
         requires room { length self.old < 16 }
         requires framable { IsFramable text.now }
@@ -93,14 +93,14 @@ impl Held {
         self.lines.push_back(HeldText::new(text));
     }
 
-    /// Drops the first line.
+    // Drops the first line.
     pub(crate) fn drop_front(&mut self)
         ensures { self.new ≡ drop 1 self.old }
     {
         self.lines.pop_front();
     }
 
-    /// Writes the frame of the line at `index` under this number.
+    // Writes the frame of the line at `index` under this number.
     pub(crate) fn frame_at(&self, index: usize, number: u32, into: &mut Line)
         requires held { index < length self.now }
         requires number { number ≤ LAST_NUMBER }

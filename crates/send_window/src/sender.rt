@@ -20,10 +20,10 @@ mod hearing;
 #[cfg(test)]
 mod tests;
 
-/// The most lines of a session: their numbers go from 2 to `LAST_NUMBER`.
+// The most lines of a session: their numbers go from 2 to `LAST_NUMBER`.
 const MOST_LINES: u32 = 1_999_999_999;
 
-/// After this number of limits in a row in which nothing was received the session ends.
+// After this number of limits in a row in which nothing was received the session ends.
 const MOST_SILENT: u8 = 5;
 
 /// Sends the lines of a session in order, as Marlin's serial protocol asks: each has a number from 2 and a checksum,

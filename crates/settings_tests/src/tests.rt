@@ -8,14 +8,14 @@ use std::alloc::Global;
 use std::process::Abort;
 use std::test::Fail;
 
-/// What the settings need beside the printer: an admin, whose key is `ana-key-0123456789`.
+// What the settings need beside the printer: an admin, whose key is `ana-key-0123456789`.
 const ADMIN: &str = "[admin]\nname = 'root'\n\
 key_sha256 = '3d6dc258f967781f8598c11af4d699e0a7f3f5f52f6b1a0f0931150933a2d5ae'\n";
 
-/// A printer of one port; lines that follow belong to it.
+// A printer of one port; lines that follow belong to it.
 const PRINTER: &str = "[printer]\nports = ['p']\n";
 
-/// Settings of three parts, one after the other, each with a line end.
+// Settings of three parts, one after the other, each with a line end.
 fn read(
     alloc: Global,
     head: &str,
@@ -26,12 +26,12 @@ fn read(
     Ok(read_settings(alloc, whole.as_bytes()))
 }
 
-/// Whether such settings are read.
+// Whether such settings are read.
 fn is_read(alloc: Global, head: &str, text: &str, tail: &str) -> Result<bool, Fail> {
     Ok(read(alloc, head, text, tail)?.is_ok())
 }
 
-/// Whether such settings have that fault.
+// Whether such settings have that fault.
 fn has_fault(
     alloc: Global,
     head: &str,
@@ -44,11 +44,11 @@ fn has_fault(
     Ok(fault.is_some_and(|fault| is_fault(&fault, why, wanted)))
 }
 
-/// A hundred bytes.
+// A hundred bytes.
 const HUNDRED: &str = "0123456789012345678901234567890123456789012345678901234567890123456789\
 012345678901234567890123456789";
 
-/// A fault that names a key.
+// A fault that names a key.
 #[derive(Clone, Copy)]
 enum Why {
     Missing,
@@ -65,7 +65,7 @@ fn is_fault(fault: &SettingsFault, why: Why, wanted: &str) -> bool {
     }
 }
 
-/// Settings with each of these texts between a head and a tail have that fault.
+// Settings with each of these texts between a head and a tail have that fault.
 fn faults(
     rt: &impl Abort,
     alloc: Global,

@@ -6,7 +6,7 @@ use sqlite_disk::{Crash, Disk, Fuse, Memory};
 use std::alloc::Global;
 use std::test::Fail;
 
-/// More calls than a test makes.
+// More calls than a test makes.
 const ALL: u64 = 1_000_000;
 
 /// An empty file and its log, one of which stops after this number of calls.

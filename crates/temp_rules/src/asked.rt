@@ -8,10 +8,10 @@ ghost use Rattle.temp_rules.specs.declared.heater.Heater.TheVariants.{Tool, Bed}
 use super::heater::{Asking, Heater};
 use gcode_words::{CodeWord, words};
 
-/// Millionths in one degree.
+// Millionths in one degree.
 pub(crate) const MILLION: u64 = 1_000_000;
 
-/// Whether a command may ask a heater, as its first byte shows: most commands begin with another letter than `M`.
+// Whether a command may ask a heater, as its first byte shows: most commands begin with another letter than `M`.
 #[tactic(auto, unfolding(crate::specs::Asked::asked_of, crate::specs::Asked::asking_of))]
 pub(crate) fn may_ask(text: &[u8]) -> bool
     ensures tool { OnFalse result (asked_of Tool text.now ≡ []) }
@@ -23,7 +23,7 @@ pub(crate) fn may_ask(text: &[u8]) -> bool
     }
 }
 
-/// How a command asks a heater, None if it does not.
+// How a command asks a heater, None if it does not.
 #[tactic(auto, unfolding(crate::specs::Asked::asking_of))]
 pub(crate) fn read_asking(text: &[u8], heater: Heater) -> Option<Asking>
     ensures { result ≡ asking_of heater text.now }
@@ -31,7 +31,7 @@ pub(crate) fn read_asking(text: &[u8], heater: Heater) -> Option<Asking>
     find_asking(heater, read_code(text))
 }
 
-/// The whole part of the number of the `M` that a text begins with.
+// The whole part of the number of the `M` that a text begins with.
 fn read_code(text: &[u8]) -> Option<u64>
     ensures { result ≡ first_code (words_of text.now) }
 {
@@ -66,7 +66,7 @@ fn find_asking(heater: Heater, code: Option<u64>) -> Option<Asking>
 }
 
 impl Asking {
-    /// The value that a word asks for, in millionths of a degree.
+    // The value that a word asks for, in millionths of a degree.
     pub(crate) fn value(self, word: CodeWord) -> Option<i64>
         ensures { result ≡ value_asked self word }
     {
@@ -77,7 +77,7 @@ impl Asking {
     }
 }
 
-/// Whole degrees, rounded up, 0 for what is not above 0.
+// Whole degrees, rounded up, 0 for what is not above 0.
 pub(crate) fn round_up(micro: i64) -> u64
     ensures { result ≡ degrees_up micro }
 {

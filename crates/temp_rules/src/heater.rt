@@ -11,11 +11,11 @@ pub enum Heater {
     Bed,
 }
 
-/// How a command asks a heater for a temperature.
+// How a command asks a heater for a temperature.
 #[derive(Clone, Copy, Debug, PartialEq, Eq)]
 pub(crate) enum Asking {
-    /// It sets the target by `S` and goes on.
+    // It sets the target by `S` and goes on.
     Set,
-    /// It sets the target and waits for it, by `S` while heating and by `R` while cooling too.
+    // It sets the target and waits for it, by `S` while heating and by `R` while cooling too.
     Wait,
 }

@@ -57,7 +57,7 @@ impl Targets {
     }
 }
 
-/// The greatest value that a command asks of a heater.
+// The greatest value that a command asks of a heater.
 #[tactic(auto, unfolding(crate::specs::Asked::asked_of))]
 fn most_asked(text: &[u8], heater: Heater) -> u64
     ensures { result ≡ most_degrees (asked_of heater text.now) }

@@ -85,13 +85,13 @@ const VERSION_REPLY: &[u8] = b"HTTP/1.1 200 OK\r\nConnection: close\r\nContent-L
 Content-Type: application/json\r\n\r\n\
 {\"api\":\"0.1\",\"server\":\"profile-1\",\"text\":\"OctoPrint profile-1\"}";
 
-// An upload that waits for leave to send its body.
+// An upload that waits for `100 Continue` before it sends its body.
 const UPLOAD: &[u8] = b"POST /api/files/local HTTP/1.1\r\nExpect: 100-continue\r\n\
 Content-Type: multipart/form-data; boundary=XY\r\nContent-Length: 142\r\n\r\n\
 --XY\r\nContent-Disposition: form-data; name=\"file\"; filename=\"a.gcode\"\r\n\
 Content-Type: application/octet-stream\r\n\r\nG28 ; --XY\r\nG1 X10\n\r\n--XY--\r\n";
 
-// The leave, and the reply.
+// `100 Continue`, and the reply.
 const UPLOAD_REPLY: &[u8] = b"HTTP/1.1 100 Continue\r\n\r\n\
 HTTP/1.1 201 Created\r\nConnection: close\r\nContent-Length: 131\r\n\
 Content-Type: application/json\r\n\r\n\
@@ -241,8 +241,8 @@ fn serve_upload(rt: &(impl Wait + Abort), alloc: Global, number: u64) -> Result<
     Ok(door)
 }
 
-// How many bytes were written to an upload's connection, if they are the first of the leave and the reply, and the next
-// connection has its whole reply.
+// How many bytes were written to an upload's connection, if they are the first of `100 Continue` and the reply, and the
+// next connection has its whole reply.
 fn upload_written(door: &MemoryDoor) -> Option<usize> {
     let Some([upload, version]) = door.served() else {
         return None;
@@ -255,7 +255,7 @@ fn upload_written(door: &MemoryDoor) -> Option<usize> {
 }
 
 // Each call of an upload's connection fails in turn, until no call is left that could fail: what was written are the first
-// bytes of the leave and the reply, and the next connection has its whole reply.
+// bytes of `100 Continue` and the reply, and the next connection has its whole reply.
 #[test]
 fn each_call_of_an_upload_failing(rt: HostRuntime) -> Result<(), Fail> {
     for number in 1..=100 {

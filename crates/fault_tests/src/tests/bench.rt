@@ -12,7 +12,7 @@ use printer_link::{FateList, MemoryLink};
 use std::alloc::Global;
 use std::process::Abort;
 
-/// A host with its keeper, its shelf and its link.
+// A host with its keeper, its shelf and its link.
 #[derive(Drop)]
 pub(super) struct Bench {
     alloc: Global,
@@ -22,18 +22,18 @@ pub(super) struct Bench {
     link: MemoryLink,
 }
 
-/// What a keeper keeps, in numbers.
+// What a keeper keeps, in numbers.
 #[derive(Clone, Copy, PartialEq, Eq)]
 pub(super) struct Kept {
     pub users: usize,
     pub entries: usize,
     pub prints: usize,
-    /// The outcome of the newest record.
+    // The outcome of the newest record.
     pub newest: Option<Outcome>,
 }
 
 impl Bench {
-    /// A host with a printer for PLA, at whose keeper and shelf these calls fail, counted from 1.
+    // A host with a printer for PLA, at whose keeper and shelf these calls fail, counted from 1.
     pub(super) fn failing(rt: &impl Abort, alloc: Global, keeper: &[u64], shelf: &[u64]) -> Bench {
         let mut keeper = keeper_of(
             alloc,
@@ -52,7 +52,7 @@ impl Bench {
         }
     }
 
-    /// Drops the bench in one place. A function in which it goes out of scope would have to prove that drop itself.
+    // Drops the bench in one place. A function in which it goes out of scope would have to prove that drop itself.
     pub(super) fn end(self) {}
 
     fn ask(&mut self, rt: &impl Abort, key: &[u8], wish: Wish) -> Seen {
@@ -63,7 +63,7 @@ impl Bench {
         seen_of(&answer)
     }
 
-    /// What the admin sees.
+    // What the admin sees.
     pub(super) fn sees(&mut self, rt: &impl Abort, wish: Wish) -> Seen {
         self.ask(rt, ROOT, wish)
     }
@@ -77,7 +77,7 @@ impl Bench {
         self.house.session().desk().state() == state
     }
 
-    /// Turns until the desk is in a state: one turn at least, and 50 at most.
+    // Turns until the desk is in a state: one turn at least, and 50 at most.
     fn turn_until(&mut self, rt: &impl Abort, state: State) {
         for _ in 0..50 {
             self.turn(rt);
@@ -88,7 +88,7 @@ impl Bench {
         panic!(rt; "not in the state {state:?}");
     }
 
-    /// Takes a step of a row, with the key of the caller.
+    // Takes a step of a row, with the key of the caller.
     pub(super) fn take(&mut self, rt: &impl Abort, key: &[u8], wish: Wish) -> Seen {
         let Wish::Until(state) = wish else {
             return self.ask(rt, key, wish);

@@ -6,7 +6,7 @@ use desk_steps::State;
 use host_makers::{ANA, BEN, ROOT};
 use print_records::Outcome;
 
-/// Turns until nothing is connected to or printed any more.
+// Turns until nothing is connected to or printed any more.
 const IDLE: Wish = Wish::Until(State::Operational);
 
 const STORED: Seen = Seen::Uploaded(false, false);

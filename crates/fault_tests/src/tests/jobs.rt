@@ -7,7 +7,7 @@ use host_makers::{ANA, EVE};
 use octo_access::Permission;
 use print_records::Outcome;
 
-/// Turns until nothing is connected to or printed any more.
+// Turns until nothing is connected to or printed any more.
 const IDLE: Wish = Wish::Until(State::Operational);
 
 const STORED: Seen = Seen::Uploaded(false, false);

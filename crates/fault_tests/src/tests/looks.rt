@@ -4,7 +4,7 @@ use super::seen::Seen;
 use super::wishes::Wish;
 use std::process::Abort;
 
-/// What the admin's lists show of a host, and what its keeper keeps.
+// What the admin's lists show of a host, and what its keeper keeps.
 #[derive(Clone, Copy, PartialEq, Eq)]
 pub(super) struct Look {
     pub job: Seen,
@@ -15,7 +15,7 @@ pub(super) struct Look {
     pub kept: Kept,
 }
 
-/// Looks at a host, with one call of its shelf.
+// Looks at a host, with one call of its shelf.
 pub(super) fn look_at(rt: &impl Abort, bench: &mut Bench) -> Look {
     Look {
         job: bench.sees(rt, Wish::Job),
@@ -27,7 +27,7 @@ pub(super) fn look_at(rt: &impl Abort, bench: &mut Bench) -> Look {
     }
 }
 
-/// Whether the rows are the same, whatever the job and the files are.
+// Whether the rows are the same, whatever the job and the files are.
 pub(super) fn has_same_rows(one: Look, other: Look) -> bool {
     one.queue == other.queue
         && one.prints == other.prints

@@ -8,7 +8,7 @@ use print_records::Outcome;
 use std::alloc::Global;
 use std::process::Abort;
 
-/// The calls that a step makes, one at each place.
+// The calls that a step makes, one at each place.
 #[derive(Clone, Copy)]
 pub(super) enum Calls {
     Neither,
@@ -17,10 +17,10 @@ pub(super) enum Calls {
     OfBoth,
 }
 
-/// The caller's key, what is asked for, the calls that are made if none fails, and what is seen.
+// The caller's key, what is asked for, the calls that are made if none fails, and what is seen.
 pub(super) type Step = (&'static [u8], Wish, Calls, Seen);
 
-/// Which object has the call that fails.
+// Which object has the call that fails.
 #[derive(Clone, Copy)]
 pub(super) enum Place {
     AtKeeper,
@@ -36,8 +36,8 @@ fn is_called(place: Place, calls: Calls) -> bool {
     }
 }
 
-/// A host at whose keeper or shelf a row's call of this number fails. Before it, the host has called each once at its
-/// beginning, and the shelf once for the look before the step.
+// A host at whose keeper or shelf a row's call of this number fails. Before it, the host has called each once at its
+// beginning, and the shelf once for the look before the step.
 fn failing_bench(rt: &impl Abort, alloc: Global, place: Place, number: u64) -> Bench {
     match place {
         Place::AtKeeper => Bench::failing(rt, alloc, &[number.wrapping_add(1)], &[]),
@@ -45,7 +45,7 @@ fn failing_bench(rt: &impl Abort, alloc: Global, place: Place, number: u64) -> B
     }
 }
 
-/// What is seen of a step whose call fails.
+// What is seen of a step whose call fails.
 fn fault_of(place: Place, wish: Wish) -> Seen {
     match (place, wish) {
         (Place::AtShelf, _) => Seen::ShelfFault,
@@ -55,14 +55,14 @@ fn fault_of(place: Place, wish: Wish) -> Seen {
     }
 }
 
-/// Whether a file that was stored alone is listed and selected, and nothing else is changed.
+// Whether a file that was stored alone is listed and selected, and nothing else is changed.
 fn is_stored(text: &[u8], before: Look, after: Look) -> bool {
     after.files == Seen::Files(1, text.len() as u64)
         && after.job == Seen::Job(Some(text.len() as u64), State::Operational)
         && has_same_rows(before, after)
 }
 
-/// Whether a print has ended for the host, and its record is still active at the keeper.
+// Whether a print has ended for the host, and its record is still active at the keeper.
 fn is_unwritten(before: Look, after: Look) -> bool {
     after.kept.newest == Some(Outcome::Active)
         && after.kept == before.kept
@@ -72,7 +72,7 @@ fn is_unwritten(before: Look, after: Look) -> bool {
         && after.users == before.users
 }
 
-/// Whether a step that failed has left the host as it has to.
+// Whether a step that failed has left the host as it has to.
 fn is_left(fault: Seen, wish: Wish, before: Look, after: Look) -> bool {
     match (fault, wish) {
         (Seen::Stored, Wish::Upload(text, _)) => is_stored(text, before, after),
@@ -81,7 +81,7 @@ fn is_left(fault: Seen, wish: Wish, before: Look, after: Look) -> bool {
     }
 }
 
-/// Takes a step whose call at this place fails, looks whether all is as before, and takes it again.
+// Takes a step whose call at this place fails, looks whether all is as before, and takes it again.
 fn take_failing(rt: &impl Abort, bench: &mut Bench, place: Place, step: Step) {
     let (key, wish, _, wanted) = step;
     let before = look_at(rt, bench);
@@ -91,13 +91,13 @@ fn take_failing(rt: &impl Abort, bench: &mut Bench, place: Place, step: Step) {
     assert!(rt; bench.take(rt, key, wish) == wanted);
 }
 
-/// Takes a step at which nothing fails.
+// Takes a step at which nothing fails.
 fn take_whole(rt: &impl Abort, bench: &mut Bench, step: Step) {
     let (key, wish, _, wanted) = step;
     assert!(rt; bench.take(rt, key, wish) == wanted);
 }
 
-/// Takes a row, of whose calls at this place that of this number fails, counted from 1; whether it was made.
+// Takes a row, of whose calls at this place that of this number fails, counted from 1; whether it was made.
 fn take_row(rt: &impl Abort, alloc: Global, row: &[Step], place: Place, number: u64) -> bool {
     let mut bench = failing_bench(rt, alloc, place, number);
     let mut made: u64 = 0;
@@ -116,7 +116,7 @@ fn take_row(rt: &impl Abort, alloc: Global, row: &[Step], place: Place, number: 
     made >= number
 }
 
-/// Takes a row with each of its calls at this place failing in turn, and at last with none; returns how many calls it has.
+// Takes a row with each of its calls at this place failing in turn, and at last with none; returns how many calls it has.
 pub(super) fn calls_of(rt: &impl Abort, alloc: Global, row: &[Step], place: Place) -> u64 {
     for number in 1..50 {
         if !take_row(rt, alloc, row, place, number) {

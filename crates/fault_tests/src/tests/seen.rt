@@ -5,48 +5,48 @@ use octo_access::Permission;
 use octo_asks::{Answer, ShownFile, StoredCause};
 use print_records::Outcome;
 
-/// What came of a step, by its plain values.
+// What came of a step, by its plain values.
 #[derive(Clone, Copy, PartialEq, Eq)]
 pub(super) enum Seen {
     Accepted,
-    /// The size of the selected file, and the state.
+    // The size of the selected file, and the state.
     Job(Option<u64>, State),
-    /// The number of files, and their bytes.
+    // The number of files, and their bytes.
     Files(usize, u64),
-    /// A file by its size.
+    // A file by its size.
     File(u64),
-    /// The number of bytes.
+    // The number of bytes.
     Download(usize),
-    /// Whether the file was selected, and its print started.
+    // Whether the file was selected, and its print started.
     Uploaded(bool, bool),
-    /// A file was stored and selected, and the keeper failed at its print.
+    // A file was stored and selected, and the keeper failed at its print.
     Stored,
-    /// The number of users, and of those that are active.
+    // The number of users, and of those that are active.
     Users(usize, usize),
-    /// Whether the user is active.
+    // Whether the user is active.
     User(bool),
-    /// The number of entries, and their copies that are left.
+    // The number of entries, and their copies that are left.
     Entries(usize, u64),
-    /// An entry by its priority and the copies that are left.
+    // An entry by its priority and the copies that are left.
     OneEntry(u8, u8),
-    /// The copies that were left before.
+    // The copies that were left before.
     TakenEntry(u8),
-    /// The number of prints, and the newest one's outcome.
+    // The number of prints, and the newest one's outcome.
     Prints(usize, Option<Outcome>),
     Denied(Option<Permission>),
     NoFile,
     NoEntry,
     WrongState(State),
     FileBusy,
-    /// The line, the degrees that it asks for, and their limit.
+    // The line, the degrees that it asks for, and their limit.
     TooHotLine(u32, u64, u16),
-    /// The priority of the entry that holds the name.
+    // The priority of the entry that holds the name.
     NameTaken(Option<u8>),
     KeeperFault,
     ShelfFault,
-    /// Turns of the link were taken.
+    // Turns of the link were taken.
     Turned,
-    /// The same, and the end of a print wasn't written.
+    // The same, and the end of a print wasn't written.
     Unwritten,
     Other,
 }

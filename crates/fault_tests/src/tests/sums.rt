@@ -2,7 +2,7 @@
 use octo_asks::{ShownEntry, ShownFile, ShownPrint, ShownUser};
 use print_records::Outcome;
 
-/// The bytes of all files.
+// The bytes of all files.
 pub(super) fn size_sum(files: &[ShownFile]) -> u64 {
     let mut sum: u64 = 0;
     for file in files {
@@ -11,7 +11,7 @@ pub(super) fn size_sum(files: &[ShownFile]) -> u64 {
     sum
 }
 
-/// How many copies of all entries are left.
+// How many copies of all entries are left.
 pub(super) fn left_sum(entries: &[ShownEntry]) -> u64 {
     let mut sum: u64 = 0;
     for entry in entries {
@@ -20,7 +20,7 @@ pub(super) fn left_sum(entries: &[ShownEntry]) -> u64 {
     sum
 }
 
-/// How many users are active.
+// How many users are active.
 pub(super) fn active_users(users: &[ShownUser]) -> usize {
     let mut count: usize = 0;
     for user in users {
@@ -31,7 +31,7 @@ pub(super) fn active_users(users: &[ShownUser]) -> usize {
     count
 }
 
-/// The outcome of the first print.
+// The outcome of the first print.
 pub(super) fn newest(prints: &[ShownPrint]) -> Option<Outcome> {
     match prints.first() {
         Some(print) => Some(print.outcome),

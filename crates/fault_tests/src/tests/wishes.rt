@@ -6,10 +6,10 @@ use octo_outside::Blob;
 use std::alloc::Global;
 use std::process::Abort;
 
-/// What is asked for. Each file is `a.gcode`, and each new user `tom`.
+// What is asked for. Each file is `a.gcode`, and each new user `tom`.
 #[derive(Clone, Copy)]
 pub(super) enum Wish {
-    /// No ask: turns of the link, one at least, until the desk is in this state.
+    // No ask: turns of the link, one at least, until the desk is in this state.
     Until(State),
     Connect,
     Version,
@@ -19,17 +19,17 @@ pub(super) enum Wish {
     Restart,
     Pause,
     Resume,
-    /// The text of the file, and whether it is to be printed.
+    // The text of the file, and whether it is to be printed.
     Upload(&'static [u8], bool),
-    /// Whether it is to be printed.
+    // Whether it is to be printed.
     Select(bool),
     Delete,
     Show,
     Download,
     Files,
-    /// The name of an entry, its priority, its copies and their material.
+    // The name of an entry, its priority, its copies and their material.
     Put(&'static str, u8, u8, &'static str),
-    /// The name of an entry.
+    // The name of an entry.
     Drop(&'static str),
     Next,
     Queue,
@@ -39,7 +39,7 @@ pub(super) enum Wish {
     SwitchOff,
 }
 
-/// The request of a wish.
+// The request of a wish.
 pub(super) fn request_of(rt: &impl Abort, alloc: Global, wish: Wish) -> Request {
     match wish {
         Wish::Upload(text, print) => upload(rt, alloc, text, print),

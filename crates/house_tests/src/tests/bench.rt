@@ -12,10 +12,10 @@ use printer_link::{FateList, MemoryLink};
 use std::alloc::Global;
 use std::process::Abort;
 
-/// The time limit of a line, in milliseconds.
+// The time limit of a line, in milliseconds.
 pub(super) const LIMIT: u64 = 30_000;
 
-/// A host with its keeper, its shelf and its link.
+// A host with its keeper, its shelf and its link.
 #[derive(Drop)]
 pub(super) struct Bench {
     alloc: Global,
@@ -26,7 +26,7 @@ pub(super) struct Bench {
 }
 
 impl Bench {
-    /// A host with a printer of a material, at whose keeper and shelf these calls fail, counted from 1.
+    // A host with a printer of a material, at whose keeper and shelf these calls fail, counted from 1.
     pub(super) fn failing(
         rt: &impl Abort,
         alloc: Global,
@@ -51,15 +51,15 @@ impl Bench {
         }
     }
 
-    /// A host with a printer of any material, at which nothing fails.
+    // A host with a printer of any material, at which nothing fails.
     pub(super) fn sound(rt: &impl Abort, alloc: Global) -> Bench {
         Bench::failing(rt, alloc, "any", &[], &[])
     }
 
-    /// Drops the bench in one place. A test in which it goes out of scope would have to prove that drop itself.
+    // Drops the bench in one place. A test in which it goes out of scope would have to prove that drop itself.
     pub(super) fn end(self) {}
 
-    /// Another host takes the place of this one, on what the keeper and the shelf hold.
+    // Another host takes the place of this one, on what the keeper and the shelf hold.
     pub(super) fn begin_again(&mut self, rt: &impl Abort) {
         self.house = house_of(self.alloc, "any", LIMIT, &mut self.keeper, &mut self.shelf).expect(
             rt, "no host",
@@ -86,7 +86,7 @@ impl Bench {
         self.house.turn(&mut self.link, &mut self.keeper, 7);
     }
 
-    /// Turns until the desk is in a state, 50 at most.
+    // Turns until the desk is in a state, 50 at most.
     pub(super) fn turn_until(&mut self, rt: &impl Abort, state: State) {
         for _ in 0..50 {
             if self.state() == state {
@@ -97,7 +97,7 @@ impl Bench {
         panic!(rt; "not in the state {state:?}");
     }
 
-    /// Asks, and sees this.
+    // Asks, and sees this.
     pub(super) fn sees(&mut self, rt: &impl Abort, key: &[u8], request: Request, wanted: Seen) {
         assert!(rt; self.ask(rt, key, request) == wanted);
     }
@@ -121,7 +121,7 @@ impl Bench {
         self.ask(rt, ANA, request)
     }
 
-    /// Stores and selects a file.
+    // Stores and selects a file.
     pub(super) fn select(&mut self, rt: &impl Abort, file: &str, text: &[u8]) {
         assert!(rt;
             matches!(
@@ -136,13 +136,13 @@ impl Bench {
         self.accepts(rt, ANA, request);
     }
 
-    /// The first two records have these outcomes; `None` where there is no record.
+    // The first two records have these outcomes; `None` where there is no record.
     pub(super) fn keeps(&self, rt: &impl Abort, first: Option<Outcome>, second: Option<Outcome>) {
         assert_eq!(rt; self.kept_outcome(0), first);
         assert_eq!(rt; self.kept_outcome(1), second);
     }
 
-    /// The outcome of a kept record.
+    // The outcome of a kept record.
     pub(super) fn kept_outcome(&self, place: usize) -> Option<Outcome> {
         kept_outcome(&self.keeper, place)
     }

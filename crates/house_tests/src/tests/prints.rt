@@ -5,7 +5,7 @@ use octo_outside::{Blob, ItemList};
 
 const SIX: &[u8] = b"G28\nG1 X1\nG1 X2\nG1 X3\nG1 X4\nG1 X5\n";
 
-/// A connected host that prints a file of six commands.
+// A connected host that prints a file of six commands.
 fn printing(rt: &impl Abort, alloc: Global) -> Bench {
     let mut bench = Bench::sound(rt, alloc);
     bench.connect(rt);
@@ -54,7 +54,7 @@ fn restart_while_paused(rt: HostRuntime) {
     bench.end();
 }
 
-/// Asks to send a line, and sees this.
+// Asks to send a line, and sees this.
 fn sends(bench: &mut Bench, rt: &impl Abort, alloc: Global, text: &[u8], wanted: Seen) {
     let mut texts = ItemList::new(alloc);
     assert!(rt;

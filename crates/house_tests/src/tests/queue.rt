@@ -5,7 +5,7 @@ use super::*;
 use byte_text::Name;
 use octo_outside::Blob;
 
-/// Asks ana's entry of the file into the queue.
+// Asks ana's entry of the file into the queue.
 fn put(
     bench: &mut Bench,
     rt: &impl Abort,
@@ -24,12 +24,12 @@ fn put(
     bench.ask(rt, ANA, request)
 }
 
-/// Puts ana's entry job-1, one copy of any material, and sees this.
+// Puts ana's entry job-1, one copy of any material, and sees this.
 fn puts(bench: &mut Bench, rt: &impl Abort, priority: u8, wanted: Seen) {
     assert!(rt; put(bench, rt, "job-1", priority, 1, "any") == wanted);
 }
 
-/// A list of the queue has that many entries.
+// A list of the queue has that many entries.
 fn holds(bench: &mut Bench, rt: &impl Abort, key: &[u8], wanted: usize) {
     bench.sees(rt, key, Request::ListQueue, Seen::Entries(wanted));
 }
@@ -49,7 +49,7 @@ fn repeated_put(rt: HostRuntime) {
     bench.end();
 }
 
-/// A name of one byte.
+// A name of one byte.
 fn letter(rt: &impl Abort, place: usize) -> &'static str
     requires { place < 64 }
 {
@@ -75,7 +75,7 @@ fn full_queue(rt: HostRuntime) {
     bench.end();
 }
 
-/// A connected host with a file, on a printer of a material.
+// A connected host with a file, on a printer of a material.
 fn with_file(rt: &impl Abort, alloc: Global, material: &str) -> Bench {
     let mut bench = Bench::failing(rt, alloc, material, &[], &[]);
     bench.connect(rt);
@@ -122,7 +122,7 @@ fn failed_next(rt: HostRuntime) {
     bench.end();
 }
 
-/// Adds a user with tom's key, and sees this.
+// Adds a user with tom's key, and sees this.
 fn adds(bench: &mut Bench, rt: &impl Abort, alloc: Global, text: &str, wanted: Seen) {
     let mut groups = arrayvec::ArrayVec::new();
     groups.push(Name::from_text("users").expect(rt, "a long name"));
@@ -135,7 +135,7 @@ fn adds(bench: &mut Bench, rt: &impl Abort, alloc: Global, text: &str, wanted: S
     bench.sees(rt, ROOT, request, wanted);
 }
 
-/// Switches tom off, and sees this.
+// Switches tom off, and sees this.
 fn switches_off(bench: &mut Bench, rt: &impl Abort, wanted: Seen) {
     let request = Request::ChangeUser {
         name: Name::from_text("tom").expect(rt, "a long name"),
@@ -146,7 +146,7 @@ fn switches_off(bench: &mut Bench, rt: &impl Abort, wanted: Seen) {
     bench.sees(rt, ROOT, request, wanted);
 }
 
-/// Drops ana's entry job-1, and sees this.
+// Drops ana's entry job-1, and sees this.
 fn drops_own(bench: &mut Bench, rt: &impl Abort, wanted: Seen) {
     let request = Request::DropOwn {
         name: Name::from_text("job-1").expect(rt, "a long name"),

@@ -5,43 +5,43 @@ use octo_access::Permission;
 use octo_asks::{Answer, Progress, ShownFile, ShownPrintList, StoredCause};
 use print_records::Outcome;
 
-/// An answer by its plain values: what tests compare, and of a list its length.
+// An answer by its plain values: what tests compare, and of a list its length.
 #[derive(Clone, Copy, PartialEq, Eq)]
 pub(super) enum Seen {
     Accepted,
-    /// The number of ports.
+    // The number of ports.
     Connection(usize),
-    /// The size of the selected file while nothing is printed, and the state.
+    // The size of the selected file while nothing is printed, and the state.
     Job(u64, State),
     Files(usize),
-    /// A file by its size.
+    // A file by its size.
     File(u64),
-    /// Whether the file was selected, and its print started.
+    // Whether the file was selected, and its print started.
     Uploaded(bool, bool),
     Stored(StoredCause),
     Users(usize),
-    /// Whether the user is active.
+    // Whether the user is active.
     User(bool),
     Entries(usize),
-    /// An entry by its priority and the copies that are left.
+    // An entry by its priority and the copies that are left.
     OneEntry(u8, u8),
-    /// The copies that were left before.
+    // The copies that were left before.
     TakenEntry(u8),
-    /// The number of prints, and the newest one's outcome.
+    // The number of prints, and the newest one's outcome.
     Prints(usize, Option<Outcome>),
     Denied(Option<Permission>),
     BadCommand,
     BadFile(FileFault),
-    /// The degrees that were asked for, and their limit.
+    // The degrees that were asked for, and their limit.
     TooHot(u64, u16),
     NoFile,
     NoUser,
     NoEntry,
     WrongState(State),
     FileBusy,
-    /// The line, the degrees that it asks for, and their limit.
+    // The line, the degrees that it asks for, and their limit.
     TooHotLine(u32, u64, u16),
-    /// The priority of the entry that holds the name; `None` if a user holds it.
+    // The priority of the entry that holds the name; `None` if a user holds it.
     NameTaken(Option<u8>),
     Full(u32),
     KeeperFault,

@@ -5,7 +5,7 @@ use host_makers::{house_of, keeper_of, shelf_of, three_users};
 use octo_house::BeginFault;
 use octo_keeper::KeeperFault;
 
-/// A host whose print has ended, and whose keeper failed at that end.
+// A host whose print has ended, and whose keeper failed at that end.
 fn ended_bench(rt: &impl Abort, alloc: Global) -> Bench {
     let mut bench = Bench::failing(rt, alloc, "any", &[3], &[]);
     bench.connect(rt);
@@ -53,7 +53,7 @@ fn begin_after_a_print(rt: HostRuntime) {
     bench.end();
 }
 
-/// Why a host doesn't begin, at whose keeper and shelf these calls fail.
+// Why a host doesn't begin, at whose keeper and shelf these calls fail.
 fn fault_of(rt: &impl Abort, alloc: Global, keeper: &[u64], shelf: &[u64]) -> Option<BeginFault> {
     let mut keeper = keeper_of(alloc, three_users(alloc).expect(rt, "no memory"), keeper).expect(
         rt,

@@ -33,7 +33,7 @@ fn selects(bench: &mut Bench, rt: &impl Abort) -> Seen {
     bench.ask(rt, ANA, request)
 }
 
-/// Uploads the file, perhaps to print it, and sees this.
+// Uploads the file, perhaps to print it, and sees this.
 fn uploads(bench: &mut Bench, rt: &impl Abort, text: &[u8], print: bool, wanted: Seen) {
     assert!(rt; bench.upload(rt, "a.gcode", text, print) == wanted);
 }

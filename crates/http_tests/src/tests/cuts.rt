@@ -6,7 +6,7 @@ use std::alloc::{AllocError, Global};
 use std::process::Abort;
 use std::test::Fail;
 
-/// An upload that waits for leave to send its body of 142 bytes.
+/// An upload that waits for `100 Continue` before it sends its body of 142 bytes.
 pub const UPLOAD: &[u8] =
     b"POST /api/files/local?x=1 HTTP/1.1\r\nX-Api-Key: k\r\nExpect: 100-Continue\r\n\
 Content-Type: multipart/form-data; boundary=XY\r\nContent-Length: 142\r\n\r\n\
@@ -59,7 +59,7 @@ fn writes(alloc: Global, input: &[u8], text: &[u8]) -> Result<bool, AllocError> 
     Ok(conn.written() == Some(text))
 }
 
-// The leave is written as soon as the head has come, and not before.
+// `100 Continue` is written as soon as the head has come, and not before.
 #[test]
 fn leave(rt: HostRuntime) -> Result<(), Fail> {
     let alloc = rt.alloc();

@@ -1,4 +1,4 @@
-//! A message with leave to send its body, and a reply.
+//! A message whose sender waits for `100 Continue`, and a reply.
 use super::cuts::UPLOAD;
 use super::{PATIENCE, conn_of, has_value, read};
 use octo_http::{HttpReply, ReplyKind, read_message, write_reply};
@@ -32,7 +32,7 @@ fn is_printing(alloc: Global) -> Result<HttpReply, AllocError> {
     })
 }
 
-// The leave is written before the body is read, and the reply after it.
+// `100 Continue` is written before the body is read, and the reply after it.
 #[test]
 fn leave_and_reply(rt: HostRuntime) -> Result<(), Fail> {
     let alloc = rt.alloc();

@@ -145,7 +145,7 @@ impl Desk {
         }
     }
 
-    /// A print whose commands were all issued goes on to its last script.
+    // A print whose commands were all issued goes on to its last script.
     pub(super) fn settle(&mut self)
         ensures { self.new ≡ settled self.old }
     {

@@ -27,16 +27,16 @@ enum Call {
 enum Step {
     Does(Call),
     Refuses(Call),
-    /// A session is opened, and its hello is acknowledged.
+    // A session is opened, and its hello is acknowledged.
     Opens,
     Fails,
     Issues(&'static str, Tag),
-    /// A script's line of print 1.
+    // A script's line of print 1.
     Script(&'static str, Point),
     IssuesNothing,
-    /// This number of the session's lines is acknowledged, which ends nothing.
+    // This number of the session's lines is acknowledged, which ends nothing.
     Acknowledges(u32),
-    /// This number of lines is acknowledged, which ends print 1.
+    // This number of lines is acknowledged, which ends print 1.
     Ends(u32, Outcome),
     Is(State),
 }
@@ -66,7 +66,7 @@ fn new_desk(alloc: Global, scripts: Scripts) -> Result<Desk, AllocError> {
     Desk::new(alloc, scripts, limits, 5000)
 }
 
-/// A desk with these scripts and a selected file of one command.
+// A desk with these scripts and a selected file of one command.
 fn desk_with(rt: &impl Abort, alloc: Global, lines: &[(Point, &str)]) -> Result<Desk, Fail> {
     let mut desk = new_desk(alloc, scripts_of(rt, alloc, lines))?;
     select(alloc, &mut desk)?;
@@ -101,7 +101,7 @@ fn connect(rt: &impl Abort, desk: &mut Desk) -> bool {
         .is_ok()
 }
 
-/// Makes a call, and returns whether it was accepted.
+// Makes a call, and returns whether it was accepted.
 fn make(rt: &impl Abort, alloc: Global, desk: &mut Desk, call: Call) -> Result<bool, Fail> {
     match call {
         Call::Connect => Ok(connect(rt, desk)),
@@ -147,7 +147,7 @@ fn issues(rt: &impl Abort, desk: &mut Desk, text: &str, tag: Tag) {
     }
 }
 
-/// Makes a call that is accepted, or one that is refused.
+// Makes a call that is accepted, or one that is refused.
 fn answers(
     rt: &impl Abort,
     alloc: Global,
@@ -209,7 +209,7 @@ const PAUSE_AND_RESUME: [Step; 21] = [
     Step::Is(State::Operational),
 ];
 
-/// A print that is paused after its first line goes on at the next line.
+// A print that is paused after its first line goes on at the next line.
 #[test]
 fn pause_and_resume(rt: HostRuntime) -> Result<(), Fail> {
     let scripts = [
@@ -240,7 +240,7 @@ const CANCEL_WHILE_PAUSING: [Step; 15] = [
     Step::Refuses(Call::Cancel),
 ];
 
-/// A cancel in the midst of a Paused script lets that script end first.
+// A cancel in the midst of a Paused script lets that script end first.
 #[test]
 fn cancel_while_pausing(rt: HostRuntime) -> Result<(), Fail> {
     let scripts = [
@@ -252,7 +252,7 @@ fn cancel_while_pausing(rt: HostRuntime) -> Result<(), Fail> {
     take_all(&rt, rt.alloc(), &mut desk, &CANCEL_WHILE_PAUSING)
 }
 
-/// Scripts of which one has 64 lines.
+// Scripts of which one has 64 lines.
 fn with_longest_script(rt: &impl Abort, alloc: Global) -> Scripts {
     let mut scripts = Scripts::new(alloc);
     for _ in 0..64 {
@@ -261,7 +261,7 @@ fn with_longest_script(rt: &impl Abort, alloc: Global) -> Scripts {
     scripts
 }
 
-/// The 65th line of a script is one too many.
+// The 65th line of a script is one too many.
 #[test]
 fn longest_script(rt: HostRuntime) -> Result<(), Fail> {
     let line = one_command(b"M84")?;
@@ -272,7 +272,7 @@ fn longest_script(rt: HostRuntime) -> Result<(), Fail> {
     Ok(())
 }
 
-/// Each call that takes memory returns its value.
+// Each call that takes memory returns its value.
 #[test]
 fn ample(rt: HostRuntime) -> Result<(), Fail> {
     let desk = new_desk(rt.alloc(), with_longest_script(&rt, rt.alloc()))?;

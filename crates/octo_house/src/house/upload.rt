@@ -28,7 +28,7 @@ use octo_asks::{Answer, StoredCause};
 use octo_keeper::{Keeper, KeeperFault, Shelf};
 use temp_rules::first_hot;
 
-/// The most files.
+// The most files.
 const MOST_FILES: usize = 1_000;
 
 // What an upload asks for beside storing, or may have of it.

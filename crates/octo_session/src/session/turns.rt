@@ -201,7 +201,7 @@ impl Session {
         found
     }
 
-    /// The turn of the kind that `doing` says. What it receives is left in `line`.
+    // The turn of the kind that `doing` says. What it receives is left in `line`.
     pub(super) fn turn_by_kind<L: Link>(
         &mut self,
         link: &mut L,

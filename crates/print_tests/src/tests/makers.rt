@@ -15,10 +15,10 @@ use std::alloc::{AllocError, Global};
 use std::process::Abort;
 use std::test::Fail;
 
-/// What a link in memory lists, loses and fails at.
+// What a link in memory lists, loses and fails at.
 #[derive(Clone, Copy)]
 pub(super) struct Wire {
-    /// Whether port p is listed.
+    // Whether port p is listed.
     pub(super) listed: bool,
     pub(super) advanced: bool,
     pub(super) fates: &'static [Fate],
@@ -27,7 +27,7 @@ pub(super) struct Wire {
     pub(super) restarts_at: Option<u64>,
 }
 
-/// A wire without faults.
+// A wire without faults.
 pub(super) const SOUND: Wire = Wire {
     listed: true,
     advanced: false,
@@ -54,7 +54,7 @@ fn calls(alloc: Global, call: Option<u64>) -> Result<CallList, AllocError> {
     }
 }
 
-/// A link to a printer with four slots, whose last line had the number 4.
+// A link to a printer with four slots, whose last line had the number 4.
 pub(super) fn link_of(alloc: Global, wire: &Wire) -> Result<MemoryLink, Fail>
     ensures { IfOk result (λ link. (link_world link).linked ≡ false) }
 {
@@ -79,7 +79,7 @@ fn add(rt: &impl Abort, scripts: &mut Scripts, point: Point, text: &str) {
     }
 }
 
-/// Scripts of these lines, in their order.
+// Scripts of these lines, in their order.
 pub(super) fn scripts_of(
     rt: &impl Abort,
     alloc: Global,
@@ -93,7 +93,7 @@ pub(super) fn scripts_of(
     scripts
 }
 
-/// A session with these scripts and a window of this number of lines, 1 to 16, at which nothing was done yet.
+// A session with these scripts and a window of this number of lines, 1 to 16, at which nothing was done yet.
 pub(super) fn plain_session(
     alloc: Global,
     scripts: Scripts,
@@ -113,7 +113,7 @@ pub(super) fn plain_session(
     Ok(Session::new(desk, sender))
 }
 
-/// What the printer ran are the first of these lines. Returns how many it ran.
+// What the printer ran are the first of these lines. Returns how many it ran.
 pub(super) fn check_first(rt: &impl Abort, link: &MemoryLink, texts: &[&str]) -> usize {
     match link.executed(1) {
         Ok(lines) => {

@@ -24,30 +24,30 @@ const L: Fate = Fate::Lost;
 
 const G: Fate = Fate::Garbled;
 
-/// A file of four commands.
+// A file of four commands.
 const FOUR_LINES: &str = "G28\nG1 X10\nG1 X20\nG1 X30\n";
 
-/// Its commands.
+// Its commands.
 const FOUR: [&str; 4] = ["G28", "G1 X10", "G1 X20", "G1 X30"];
 
-/// How a print ended, and the link as it left it.
+// How a print ended, and the link as it left it.
 #[derive(Drop)]
 struct Printed {
     end: PrintEnd,
     link: MemoryLink,
 }
 
-/// What is printed, and over which link.
+// What is printed, and over which link.
 #[derive(Clone, Copy)]
 struct Asked {
     file: &'static str,
-    /// How many milliseconds each rest of the clock adds.
+    // How many milliseconds each rest of the clock adds.
     rest: u64,
     turns: u64,
     wire: Wire,
 }
 
-/// One command over a line without faults.
+// One command over a line without faults.
 const PLAIN: Asked = Asked {
     file: "G28\n",
     rest: 1,
@@ -55,7 +55,7 @@ const PLAIN: Asked = Asked {
     wire: SOUND,
 };
 
-/// Prints in this session, over port p of this link.
+// Prints in this session, over port p of this link.
 fn print_over(
     alloc: Global,
     session: &mut Session,
@@ -83,14 +83,14 @@ fn print_plainly(alloc: Global, asked: &Asked) -> Result<Printed, Fail> {
     print(alloc, Scripts::new(alloc), asked)
 }
 
-/// How a print ended, the number of lines sent, the hello included, and the lines that the printer ran.
+// How a print ended, the number of lines sent, the hello included, and the lines that the printer ran.
 fn check_print(rt: &impl Abort, printed: &Printed, end: PrintEnd, sends: u64, texts: &[&str]) {
     assert_eq!(rt; (printed.end, printed.link.sends()), (end, sends));
     assert!(rt; !printed.link.is_up());
     assert_eq!(rt; check_first(rt, &printed.link, texts), texts.len());
 }
 
-/// The same of a print without scripts.
+// The same of a print without scripts.
 fn comes_to(
     rt: &impl Abort,
     alloc: Global,
@@ -104,7 +104,7 @@ fn comes_to(
     Ok(())
 }
 
-/// A line without faults; seven turns are enough.
+// A line without faults; seven turns are enough.
 #[test]
 fn whole(rt: HostRuntime) -> Result<(), Fail> {
     let asked = Asked {
@@ -122,7 +122,7 @@ fn whole(rt: HostRuntime) -> Result<(), Fail> {
     )
 }
 
-/// Six turns are one too few, though all was executed.
+// Six turns are one too few, though all was executed.
 #[test]
 fn turns_used(rt: HostRuntime) -> Result<(), Fail> {
     let asked = Asked {
@@ -134,14 +134,14 @@ fn turns_used(rt: HostRuntime) -> Result<(), Fail> {
     comes_to(&rt, rt.alloc(), asked, end, 3, &["G28", "G1 X10"])
 }
 
-/// An empty file is printed too.
+// An empty file is printed too.
 #[test]
 fn empty(rt: HostRuntime) -> Result<(), Fail> {
     let asked = Asked { file: "", ..PLAIN };
     comes_to(&rt, rt.alloc(), asked, PrintEnd::Done, 1, &[])
 }
 
-/// The third line is lost: the last three are sent again, in a window of four lines.
+// The third line is lost: the last three are sent again, in a window of four lines.
 #[test]
 fn lost(rt: HostRuntime) -> Result<(), Fail> {
     let asked = Asked {
@@ -155,7 +155,7 @@ fn lost(rt: HostRuntime) -> Result<(), Fail> {
     comes_to(&rt, rt.alloc(), asked, PrintEnd::Done, 8, &FOUR)
 }
 
-/// A corrupted line is sent again.
+// A corrupted line is sent again.
 #[test]
 fn corrupted(rt: HostRuntime) -> Result<(), Fail> {
     let asked = Asked {
@@ -168,7 +168,7 @@ fn corrupted(rt: HostRuntime) -> Result<(), Fail> {
     comes_to(&rt, rt.alloc(), asked, PrintEnd::Done, 3, &["G28"])
 }
 
-/// A corrupted hello is sent again.
+// A corrupted hello is sent again.
 #[test]
 fn hello_corrupted(rt: HostRuntime) -> Result<(), Fail> {
     let asked = Asked {
@@ -181,7 +181,7 @@ fn hello_corrupted(rt: HostRuntime) -> Result<(), Fail> {
     comes_to(&rt, rt.alloc(), asked, PrintEnd::Done, 3, &["G28"])
 }
 
-/// A lost hello isn't sent again: nobody answers for five limits of 30 seconds.
+// A lost hello isn't sent again: nobody answers for five limits of 30 seconds.
 #[test]
 fn hello_lost(rt: HostRuntime) -> Result<(), Fail> {
     let asked = Asked {
@@ -196,7 +196,7 @@ fn hello_lost(rt: HostRuntime) -> Result<(), Fail> {
     comes_to(&rt, rt.alloc(), asked, end, 1, &[])
 }
 
-/// Losses and corrupted lines at a printer that runs a line at each third call of `recv`.
+// Losses and corrupted lines at a printer that runs a line at each third call of `recv`.
 #[test]
 fn slow_printer(rt: HostRuntime) -> Result<(), Fail> {
     let asked = Asked {
@@ -212,7 +212,7 @@ fn slow_printer(rt: HostRuntime) -> Result<(), Fail> {
     comes_to(&rt, rt.alloc(), asked, PrintEnd::Done, 13, &texts)
 }
 
-/// Equal lines, numbered acknowledgements.
+// Equal lines, numbered acknowledgements.
 #[test]
 fn numbered(rt: HostRuntime) -> Result<(), Fail> {
     let asked = Asked {
@@ -227,7 +227,7 @@ fn numbered(rt: HostRuntime) -> Result<(), Fail> {
     comes_to(&rt, rt.alloc(), asked, PrintEnd::Done, 10, &["G1 X1"; 5])
 }
 
-/// The sixth call of the link fails: the one for the first line.
+// The sixth call of the link fails: the one for the first line.
 #[test]
 fn failing(rt: HostRuntime) -> Result<(), Fail> {
     let asked = Asked {
@@ -240,7 +240,7 @@ fn failing(rt: HostRuntime) -> Result<(), Fail> {
     comes_to(&rt, rt.alloc(), asked, PrintEnd::LinkFailed, 1, &[])
 }
 
-/// The printer restarts after its first line.
+// The printer restarts after its first line.
 #[test]
 fn restarted(rt: HostRuntime) -> Result<(), Fail> {
     let asked = Asked {
@@ -255,7 +255,7 @@ fn restarted(rt: HostRuntime) -> Result<(), Fail> {
     comes_to(&rt, rt.alloc(), asked, end, 3, &["G28"])
 }
 
-/// The third line is too hot: nothing is sent.
+// The third line is too hot: nothing is sent.
 #[test]
 fn too_hot(rt: HostRuntime) -> Result<(), Fail> {
     let asked = Asked {
@@ -270,7 +270,7 @@ fn too_hot(rt: HostRuntime) -> Result<(), Fail> {
     comes_to(&rt, rt.alloc(), asked, end, 0, &[])
 }
 
-/// The port isn't listed.
+// The port isn't listed.
 #[test]
 fn no_port(rt: HostRuntime) -> Result<(), Fail> {
     let asked = Asked {

@@ -13,7 +13,7 @@ use std::alloc::Global;
 use std::process::Abort;
 use std::test::Fail;
 
-/// What a user asks before a turn.
+// What a user asks before a turn.
 #[derive(Clone, Copy)]
 enum Ask {
     Nothing,
@@ -21,32 +21,32 @@ enum Ask {
     Resume,
 }
 
-/// What a turn returns.
+// What a turn returns.
 #[derive(Clone, Copy)]
 enum Gives {
-    /// No note.
+    // No note.
     Nothing,
-    /// A note of this fact, without lines.
+    // A note of this fact, without lines.
     Finds(LinkFact),
-    /// A quiet note with these lines.
+    // A quiet note with these lines.
     Issues(&'static [&'static str]),
-    /// A quiet note without lines, with the print done.
+    // A quiet note without lines, with the print done.
     Done,
-    /// A failure, with these lines and the print failed.
+    // A failure, with these lines and the print failed.
     Breaks(&'static [&'static str]),
 }
 
-/// What a user asks before a turn, and what the turn returns.
+// What a user asks before a turn, and what the turn returns.
 type Row = (Ask, Gives);
 
-/// A dial, the hello and its `ok`.
+// A dial, the hello and its `ok`.
 const OPENING: [Row; 3] = [
     (Ask::Nothing, Gives::Finds(LinkFact::Opened)),
     (Ask::Nothing, Gives::Nothing),
     (Ask::Nothing, Gives::Finds(LinkFact::Ready)),
 ];
 
-/// A print that is paused after its first line, in a window of one line.
+// A print that is paused after its first line, in a window of one line.
 const PAUSED: [Row; 5] = [
     (Ask::Nothing, Gives::Issues(&["M107"])),
     (Ask::Pause, Gives::Issues(&["G92 E0"])),
@@ -55,7 +55,7 @@ const PAUSED: [Row; 5] = [
     (Ask::Nothing, Gives::Nothing),
 ];
 
-/// How it goes on.
+// How it goes on.
 const RESUMED: [Row; 3] = [
     (Ask::Resume, Gives::Issues(&["G90"])),
     (Ask::Nothing, Gives::Issues(&["G28"])),
@@ -95,7 +95,7 @@ const SCRIPTS: [(Point, &str); 4] = [
     (Point::Resumed, "G90"),
 ];
 
-/// A link to the port p, of whose calls at most this one fails.
+// A link to the port p, of whose calls at most this one fails.
 fn link_failing(alloc: Global, call: Option<u64>) -> Result<MemoryLink, Fail> {
     let wire = Wire {
         fails_at: call,
@@ -111,7 +111,7 @@ fn connect(rt: &impl Abort, session: &mut Session, port: &str)
     assert!(rt; session.connect(&port).is_ok());
 }
 
-/// Selects a file of one command.
+// Selects a file of one command.
 fn select(rt: &impl Abort, alloc: Global, session: &mut Session) -> Result<(), Fail>
     ensures { session.new.desk.greatest ≡ session.old.desk.greatest }
 {
@@ -121,7 +121,7 @@ fn select(rt: &impl Abort, alloc: Global, session: &mut Session) -> Result<(), F
     Ok(())
 }
 
-/// A session that begins to connect to a port, with a file of one command selected.
+// A session that begins to connect to a port, with a file of one command selected.
 fn session_to(rt: &impl Abort, alloc: Global, port: &str) -> Result<Session, Fail>
     ensures { IfOk result (λ session. session.desk.greatest ≡ 0) }
 {
@@ -186,7 +186,7 @@ fn do_rows(rt: &impl Abort, session: &mut Session, link: &mut MemoryLink, rows: 
     }
 }
 
-/// A session that is ready over this link, and whose first print was started.
+// A session that is ready over this link, and whose first print was started.
 fn start_session(rt: &impl Abort, alloc: Global, link: &mut MemoryLink) -> Result<Session, Fail> {
     let mut session = session_to(rt, alloc, "p")?;
     do_rows(rt, &mut session, link, &OPENING);
@@ -206,7 +206,7 @@ fn pauses_and_resumes(rt: &impl Abort, session: &mut Session, link: &mut MemoryL
     assert_eq!(rt; session.desk().state(), State::Operational);
 }
 
-/// Pausing after the first line lets the Started script end, and the Paused script follow.
+// Pausing after the first line lets the Started script end, and the Paused script follow.
 #[test]
 fn pause_and_resume(rt: HostRuntime) -> Result<(), Fail> {
     let mut link = link_failing(rt.alloc(), None)?;

@@ -15,7 +15,7 @@ use byte_text::{Line, ReplyLine};
 use std::alloc::AllocError;
 
 impl MemoryLink {
-    /// Counts a call, and says whether it is one of those that fail.
+    // Counts a call, and says whether it is one of those that fail.
     pub(super) fn begin(&mut self) -> bool
         ensures fails { result ≡ is_listed self.old.fail_at (one_more self.old.calls) }
         ensures counts { self.new ≡ with_one_call self.old }
@@ -23,7 +23,7 @@ impl MemoryLink {
         self.calls.begin()
     }
 
-    /// Counts a call of `recv`, and says whether the printer runs a line at it.
+    // Counts a call of `recv`, and says whether the printer runs a line at it.
     pub(super) fn begin_recv(&mut self) -> bool
         ensures due { result ≡ is_due self.old.slow (one_more self.old.recvs) }
         ensures counts { self.new ≡ with_one_recv self.old }
@@ -32,14 +32,14 @@ impl MemoryLink {
         self.recvs % (u64::from(self.slow) + 1) == 0
     }
 
-    /// Whether the printer restarts at this call of `recv`.
+    // Whether the printer restarts at this call of `recv`.
     pub(super) fn restarts(&self) -> bool
         ensures { result ≡ is_listed self.now.restart_at self.now.recvs }
     {
         self.restart_at.as_slice().contains(&self.recvs)
     }
 
-    /// Counts a failure, and closes the link if one is made.
+    // Counts a failure, and closes the link if one is made.
     pub(super) fn fail(&mut self) -> LinkFault
         ensures fault { result ≡ fault.Failed }
         ensures after { self.new ≡ after_fault self.old }
@@ -50,7 +50,7 @@ impl MemoryLink {
         LinkFault::Failed
     }
 
-    /// Whether a name is listed.
+    // Whether a name is listed.
     pub(super) fn lists(&self, name: &str) -> bool
         ensures lists { result ≡ lists_name self.now.names name.now }
         ensures some { 1 ≤ self.now.story.places }
@@ -62,7 +62,7 @@ impl MemoryLink {
             .any(|listed| listed.as_str() == name)
     }
 
-    /// The printer runs all that waits, and a link is made.
+    // The printer runs all that waits, and a link is made.
     pub(super) fn make_link(&mut self) -> Result<(), AllocError>
         ensures ok { OnOk result (self.new
             ≡ with_added self.old (dial_events (link_world self.old)
@@ -72,7 +72,7 @@ impl MemoryLink {
         self.story.dial(self.last)
     }
 
-    /// A line is sent and meets its fate.
+    // A line is sent and meets its fate.
     pub(super) fn transmit(&mut self, line: &Line) -> Result<(), AllocError>
         ensures ok { OnOk result (self.new
             ≡ with_added self.old (send_events (link_world self.old) line.now
@@ -82,7 +82,7 @@ impl MemoryLink {
         self.story.send(line)
     }
 
-    /// What happens before a reply is received.
+    // What happens before a reply is received.
     pub(super) fn before_reply(&mut self, restarts: bool, due: bool) -> Result<(), AllocError>
         ensures ok { OnOk result (self.new
             ≡ with_added self.old (before_reply restarts due (link_world self.old))) }
@@ -91,7 +91,7 @@ impl MemoryLink {
         self.story.before_reply(restarts, due)
     }
 
-    /// Takes the front of the wire from the printer, if there is one.
+    // Takes the front of the wire from the printer, if there is one.
     pub(super) fn take_front(&mut self, into: &mut ReplyLine) -> Result<Heard, AllocError>
         ensures line { IfOk result (λ got. got ≡ heard_as.Line
             → (self.new ≡ with_added self.old (event.Recv ∷ []))
@@ -103,7 +103,7 @@ impl MemoryLink {
         self.story.receive(into)
     }
 
-    /// What happens before a reply is received, and then the next one is taken.
+    // What happens before a reply is received, and then the next one is taken.
     pub(super) fn take_reply(
         &mut self,
         restarts: bool,

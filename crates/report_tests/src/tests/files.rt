@@ -7,7 +7,7 @@ use std::process::Abort;
 use std::test::Fail;
 use temp_rules::Limits;
 
-/// A short file with both extruder modes, a `G92` and a relative move.
+// A short file with both extruder modes, a `G92` and a relative move.
 const SHORT: &[u8] = b"G28\nM83\nG1 X10 Y5 E2.5\nG1 X20 E-1\nG92 E0\nG91\nG1 Z0.2 E1\n";
 
 const LIMITS: Limits = Limits {
@@ -15,22 +15,22 @@ const LIMITS: Limits = Limits {
     bed: 120,
 };
 
-/// A source that holds one file.
+// A source that holds one file.
 fn source(alloc: Global, name: &str, bytes: &[u8]) -> Result<MemorySource, Fail> {
     let mut files = MemorySource::new(alloc, CallList::new(alloc));
     files.put(name, bytes)?;
     Ok(files)
 }
 
-/// The measure of the short file.
+// The measure of the short file.
 const MEASURED: &[u8] =
     b"commands 7\nmoves 3\nfed 3.500000\ndrawn 1.000000\nX 10.000000 20.000000\nY 5.000000 5.000000\nZ 0.000000 0.200000\n";
 
-/// The rest of it from its fifth command.
+// The rest of it from its fifth command.
 const REST: &[u8] =
     b"G90\nM83\nG92 X20.000000 Y5.000000 Z0.000000 E1.500000\nG92 E0\nG91\nG1 Z0.2 E1\n";
 
-/// Settings that name all that is required, and a limit.
+// Settings that name all that is required, and a limit.
 const SETTINGS: &[u8] =
     b"printer.ports = [\"p\"]\nlimits.tool = 250\nadmin.name = \"a\"\nadmin.key_sha256 = \"0123456789abcdef0123456789abcdef0123456789abcdef0123456789abcdef\"\n";
 
@@ -61,7 +61,7 @@ fn measures(rt: HostRuntime) -> Result<(), Fail> {
     Ok(())
 }
 
-/// Compares the rests of a file, each from a command.
+// Compares the rests of a file, each from a command.
 fn assert_rests(
     rt: &(impl Abort + Alloc<A = Global>),
     file: &[u8],
@@ -89,10 +89,10 @@ fn goes_on_at_a_command(rt: HostRuntime) -> Result<(), Fail> {
     assert_rests(&rt, SHORT, &rows)
 }
 
-/// A hot command, and then inches.
+// A hot command, and then inches.
 const HOT: &[u8] = b"M104 S999\nG20\n";
 
-/// A measure doesn't mind how hot a command is; it refuses inches.
+// A measure doesn't mind how hot a command is; it refuses inches.
 #[test]
 fn measures_hot_commands(rt: HostRuntime) -> Result<(), Fail> {
     let mut files = source(rt.alloc(), "hot.gcode", HOT)?;
@@ -101,7 +101,7 @@ fn measures_hot_commands(rt: HostRuntime) -> Result<(), Fail> {
     Ok(())
 }
 
-/// Nor does a rest mind it; it refuses inches only before its command.
+// Nor does a rest mind it; it refuses inches only before its command.
 #[test]
 fn goes_on_after_hot_commands(rt: HostRuntime) -> Result<(), Fail> {
     let rows: [(usize, u8, &[u8]); 2] = [
@@ -115,7 +115,7 @@ fn goes_on_after_hot_commands(rt: HostRuntime) -> Result<(), Fail> {
     assert_rests(&rt, HOT, &rows)
 }
 
-/// Checks files, each with its exit status and its text.
+// Checks files, each with its exit status and its text.
 fn assert_checks(
     rt: &(impl Abort + Alloc<A = Global>),
     rows: &[(&[u8], u8, &[u8])],
@@ -202,7 +202,7 @@ fn checks_by_other_limits(rt: HostRuntime) -> Result<(), Fail> {
     Ok(())
 }
 
-/// A source with the short file, whose second call fails.
+// A source with the short file, whose second call fails.
 fn failing_source(alloc: Global) -> Result<MemorySource, Fail> {
     let mut files = MemorySource::new(alloc, calls_of(alloc, &[2])?);
     files.put("a.gcode", SHORT)?;
@@ -238,7 +238,7 @@ fn defaults(rt: HostRuntime) -> Result<(), Fail> {
     Ok(())
 }
 
-/// These settings are read, with this limit.
+// These settings are read, with this limit.
 fn assert_settings(
     rt: &(impl Abort + Alloc<A = Global>),
     text: &[u8],
@@ -257,7 +257,7 @@ fn named_settings(rt: HostRuntime) -> Result<(), Fail> {
     assert_settings(&rt, SETTINGS, 250)
 }
 
-/// Settings under this name are refused with that report.
+// Settings under this name are refused with that report.
 fn assert_refused(
     rt: &(impl Abort + Alloc<A = Global>),
     files: &mut MemorySource,

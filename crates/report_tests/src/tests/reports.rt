@@ -154,7 +154,7 @@ fn settings(rt: HostRuntime) {
     assert_refused(&rt, SettingsFault::NoMemory, 11, b"no memory\n");
 }
 
-/// The ends of a session by its own rules, each with its text.
+// The ends of a session by its own rules, each with its text.
 const ENDS: [(SessionEnd, &[u8]); 6] = [
     (
         SessionEnd::NoAnswer { silent: 5 },
@@ -210,7 +210,7 @@ fn unknown_port(rt: HostRuntime) {
     assert_report(&rt, unknown, 5, b"port q is not listed\n");
 }
 
-/// The longest text but a file fits: each number of a measure has as many digits as its type allows.
+// The longest text but a file fits: each number of a measure has as many digits as its type allows.
 #[test]
 fn longest(rt: HostRuntime) {
     let extent = Some(Extent {

@@ -18,7 +18,7 @@ fn push(
     assert!(rt; asks.push((worker, Ask { key, request })).is_ok());
 }
 
-/// An ask of worker 1.
+// An ask of worker 1.
 pub(super) fn add(
     rt: &impl Abort,
     alloc: Global,
@@ -29,21 +29,21 @@ pub(super) fn add(
     push(rt, alloc, asks, 1, key, request);
 }
 
-/// All four workers leave.
+// All four workers leave.
 pub(super) fn leave(rt: &impl Abort, alloc: Global, asks: &mut AskList) {
     for worker in 0..4 {
         push(rt, alloc, asks, worker, b"", Request::Leave);
     }
 }
 
-/// That many asks for the version, each of which is followed by a turn of the link.
+// That many asks for the version, each of which is followed by a turn of the link.
 pub(super) fn versions(rt: &impl Abort, alloc: Global, asks: &mut AskList, count: u64) {
     for _ in 0..count {
         add(rt, alloc, asks, ROOT, Request::Version);
     }
 }
 
-/// To store a file, to print it, and perhaps to select it.
+// To store a file, to print it, and perhaps to select it.
 pub(super) fn put_file(rt: &impl Abort, alloc: Global, select: bool, bytes: &[u8]) -> Request {
     Request::PutFile {
         name: Name::from_text("a.gcode").expect(rt, "a long name"),

@@ -11,7 +11,7 @@ use std::sync::Wait;
 const LONG: &[u8] =
     b"G28 ; --XY\r\nG1 X10\nG1 X11\nG1 X12\nG1 X13\nG1 X14\nG1 X15\nG1 X16\nG1 X17\n";
 
-/// Asks to connect, and, once the printer is operational, to store and print a file.
+// Asks to connect, and, once the printer is operational, to store and print a file.
 fn printing(rt: &impl Abort, alloc: Global, select: bool, bytes: &[u8]) -> AskList {
     let mut asks = AskList::new(alloc);
     add(rt, alloc, &mut asks, ROOT, Request::Connect { port: None });
@@ -36,7 +36,7 @@ fn prints_after_the_leaves(rt: HostRuntime) {
     ran.end();
 }
 
-/// Whether an answer says that a file was stored, selected and begun to be printed.
+// Whether an answer says that a file was stored, selected and begun to be printed.
 fn has_upload(ran: &Ran) -> bool {
     for place in 0..ran.entries().len() {
         if matches!(
@@ -49,7 +49,7 @@ fn has_upload(ran: &Ran) -> bool {
     false
 }
 
-/// Whether an answer says that the printer prints.
+// Whether an answer says that the printer prints.
 fn has_printing(ran: &Ran) -> bool {
     for place in 0..ran.entries().len() {
         if matches!(

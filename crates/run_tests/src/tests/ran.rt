@@ -24,7 +24,7 @@ fn counter_of(rt: &impl Abort, alloc: Global, asks: AskList) -> MemoryCounter
     }
 }
 
-/// What a run left: the number that it returned, and its host and all that it went over.
+// What a run left: the number that it returned, and its host and all that it went over.
 #[derive(Drop)]
 pub(super) struct Ran {
     calls: u64,
@@ -36,7 +36,7 @@ pub(super) struct Ran {
 }
 
 impl Ran {
-    /// Runs a new host over these asks, at whose keeper these calls fail, counted from 1.
+    // Runs a new host over these asks, at whose keeper these calls fail, counted from 1.
     pub(super) fn over(
         rt: &(impl Wait + Abort),
         alloc: Global,
@@ -71,7 +71,7 @@ impl Ran {
         }
     }
 
-    /// Drops what the run left in one place. A test in which it goes out of scope would have to prove that drop itself.
+    // Drops what the run left in one place. A test in which it goes out of scope would have to prove that drop itself.
     pub(super) fn end(self) {}
 
     pub(super) fn calls(&self) -> u64 {
@@ -82,7 +82,7 @@ impl Ran {
         self.counter.entries().unwrap_or(&[])
     }
 
-    /// The entry at a place of the history, counted from 0.
+    // The entry at a place of the history, counted from 0.
     pub(super) fn entry(&self, place: usize) -> Option<SeenEntry> {
         match self.entries().get(place) {
             Some(entry) => Some(entry_of(entry)),
@@ -90,7 +90,7 @@ impl Ran {
         }
     }
 
-    /// The last entry of the history.
+    // The last entry of the history.
     pub(super) fn last(&self) -> Option<SeenEntry> {
         match self.entries().last() {
             Some(entry) => Some(entry_of(entry)),
@@ -98,7 +98,7 @@ impl Ran {
         }
     }
 
-    /// The outcome of a kept record.
+    // The outcome of a kept record.
     pub(super) fn kept_outcome(&self, place: usize) -> Option<Outcome> {
         kept_outcome(&self.keeper, place)
     }

@@ -2,22 +2,22 @@
 use desk_steps::{LinkFact, State};
 use octo_asks::{Answer, Entry};
 
-/// An answer by its plain values, if a test compares it.
+// An answer by its plain values, if a test compares it.
 #[derive(Clone, Copy)]
 pub(super) enum Seen {
     Version,
     Accepted,
     Denied,
     Connection(State),
-    /// Whether the file was selected, and its print started.
+    // Whether the file was selected, and its print started.
     Uploaded(bool, bool),
     Other,
 }
 
-/// An entry of the history by its plain values.
+// An entry of the history by its plain values.
 #[derive(Clone, Copy)]
 pub(super) enum SeenEntry {
-    /// The worker, the moment and the answer.
+    // The worker, the moment and the answer.
     Call(u8, u64, Seen),
     Note(LinkFact),
     Close,

@@ -27,9 +27,9 @@ const N5: &str = "N5 G1 X30*86";
 enum Act {
     Begin,
     Issue(&'static str),
-    /// An `ok` without numbers.
+    // An `ok` without numbers.
     Ok,
-    /// An `ok` of the line with this number.
+    // An `ok` of the line with this number.
     OkOf(u32),
     Resend(u32),
     Hear(Reply),
@@ -38,13 +38,13 @@ enum Act {
 
 #[derive(Clone, Copy)]
 enum Gives {
-    /// These frames go out, and no more.
+    // These frames go out, and no more.
     Frames(&'static [&'static str]),
-    /// The session is over, and nothing goes out.
+    // The session is over, and nothing goes out.
     Ends(SessionEnd),
 }
 
-/// At a moment something happens, and gives this.
+// At a moment something happens, and gives this.
 type Step = (u64, Act, Gives);
 
 const NOTHING: Gives = Gives::Frames(&[]);

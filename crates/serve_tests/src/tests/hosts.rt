@@ -13,7 +13,7 @@ use std::process::Abort;
 use std::sync::Wait;
 use std::thread::Threads;
 
-/// The admin's key is rootxkeyx0000000.
+// The admin's key is rootxkeyx0000000.
 const SETTINGS: &[u8] =
     b"[printer]\nports = [\"p\"]\n[limits]\n[admin]\nname = \"root\"\nkey_sha256 = \"470dc872b1b47dac8456c9f0800583d1176d1a2f194b626000379d1d7d7fc920\"\n";
 
@@ -22,7 +22,7 @@ const SHUTDOWN: &[u8] =
 
 const VERSION: &[u8] = b"GET /api/version HTTP/1.1\r\nX-Api-Key: rootxkeyx0000000\r\n\r\n";
 
-/// A host's surroundings, and which of their calls fail.
+// A host's surroundings, and which of their calls fail.
 #[derive(Clone, Copy)]
 struct Row {
     settings: &'static [u8],
@@ -65,7 +65,7 @@ fn files(rt: &impl Abort, alloc: Global, row: &Row) -> MemorySource {
     files
 }
 
-/// What a host works with.
+// What a host works with.
 #[derive(Drop)]
 struct HostBench {
     files: MemorySource,

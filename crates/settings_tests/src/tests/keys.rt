@@ -4,7 +4,7 @@ use std::alloc::Global;
 use std::process::Abort;
 use std::test::Fail;
 
-/// A key of the printer that is out of its range, or of the wrong kind.
+// A key of the printer that is out of its range, or of the wrong kind.
 const PRINTERS: [(&str, Why, &str); 12] = [
     ("window = 0", Why::Range, "printer.window"),
     ("window = 17", Why::Range, "printer.window"),
@@ -25,7 +25,7 @@ fn printers(rt: HostRuntime) -> Result<(), Fail> {
     faults(&rt, rt.alloc(), PRINTER, ADMIN, &PRINTERS)
 }
 
-/// Ports that are missing, of the wrong kind, too few, too many or without a name.
+// Ports that are missing, of the wrong kind, too few, too many or without a name.
 const PORTS: [(&str, Why, &str); 8] = [
     ("", Why::Missing, "printer.ports"),
     ("[printer]", Why::Missing, "printer.ports"),
@@ -37,7 +37,7 @@ const PORTS: [(&str, Why, &str); 8] = [
     (SEVENTEEN, Why::Range, "printer.ports"),
 ];
 
-/// Seventeen ports.
+// Seventeen ports.
 const SEVENTEEN: &str =
     "[printer]\nports = ['1', '2', '3', '4', '5', '6', '7', '8', '9', '10', '11', \
 '12', '13', '14', '15', '16', '17']";
@@ -47,7 +47,7 @@ fn ports(rt: HostRuntime) -> Result<(), Fail> {
     faults(&rt, rt.alloc(), "", ADMIN, &PORTS)
 }
 
-/// A value of a hundred bytes between these texts is read.
+// A value of a hundred bytes between these texts is read.
 fn hundred_read(
     rt: &impl Abort,
     alloc: Global,
@@ -61,7 +61,7 @@ fn hundred_read(
     Ok(())
 }
 
-/// A value of a hundred bytes between these texts is read, and one of a byte more is out of range.
+// A value of a hundred bytes between these texts is read, and one of a byte more is out of range.
 fn hundred_at_most(
     rt: &impl Abort,
     alloc: Global,
@@ -75,15 +75,15 @@ fn hundred_at_most(
     faults(rt, alloc, head, "", &[(longer.as_str(), Why::Range, key)])
 }
 
-/// Fifteen ports, and the beginning of one more.
+// Fifteen ports, and the beginning of one more.
 const SIXTEEN: &str =
     "[printer]\nports = ['1', '2', '3', '4', '5', '6', '7', '8', '9', '10', '11', \
 '12', '13', '14', '15', '";
 
-/// A port, and the beginning of the material.
+// A port, and the beginning of the material.
 const MATERIAL: &str = "[printer]\nports = ['p']\nmaterial = '";
 
-/// A printer and the admin's key; lines that follow belong to him.
+// A printer and the admin's key; lines that follow belong to him.
 const NAMELESS: &str = "[printer]\nports = ['p']\n[admin]\n\
 key_sha256 = '3d6dc258f967781f8598c11af4d699e0a7f3f5f52f6b1a0f0931150933a2d5ae'";
 
@@ -95,11 +95,11 @@ fn long_names(rt: HostRuntime) -> Result<(), Fail> {
     hundred_at_most(&rt, alloc, NAMELESS, "name = '", "'", "admin.name")
 }
 
-/// A printer and an admin.
+// A printer and an admin.
 const PRINTER_AND_ADMIN: &str = "[printer]\nports = ['p']\n[admin]\nname = 'root'\n\
 key_sha256 = '3d6dc258f967781f8598c11af4d699e0a7f3f5f52f6b1a0f0931150933a2d5ae'\n";
 
-/// The other sections: not a table, out of range, of the wrong kind, missing.
+// The other sections: not a table, out of range, of the wrong kind, missing.
 const SECTIONS: [(&str, Why, &str); 16] = [
     ("limits = 5", Why::Kind, "limits"),
     ("[limits]\ntool = -1", Why::Range, "limits.tool"),
@@ -141,10 +141,10 @@ fn sections(rt: HostRuntime) -> Result<(), Fail> {
     faults(&rt, rt.alloc(), "", PRINTER_AND_ADMIN, &SECTIONS)
 }
 
-/// A printer, and an admin; lines that follow belong to him.
+// A printer, and an admin; lines that follow belong to him.
 const IN_ADMIN: &str = "[printer]\nports = ['p']\n[admin]";
 
-/// The admin: his name, and then his key.
+// The admin: his name, and then his key.
 const ADMINS: [(&str, Why, &str); 9] = [
     ("", Why::Missing, "admin.name"),
     ("name = 1", Why::Kind, "admin.name"),
@@ -182,7 +182,7 @@ fn admins(rt: HostRuntime) -> Result<(), Fail> {
     faults(&rt, rt.alloc(), "admin = 1", PRINTER, &no_table)
 }
 
-/// Whether these bytes aren't TOML.
+// Whether these bytes aren't TOML.
 fn is_not_toml(alloc: Global, bytes: &[u8]) -> bool {
     matches!(read_settings(alloc, bytes), Err(SettingsFault::NotToml))
 }
@@ -199,14 +199,14 @@ fn not_toml(rt: HostRuntime) {
     }
 }
 
-/// Good settings that a comment makes that long, in bytes.
+// Good settings that a comment makes that long, in bytes.
 fn settings_of(alloc: Global, length: usize) -> Result<String, Fail> {
     let shorter = PRINTER_AND_ADMIN.len() + 1;
     let rest = "x".repeat(alloc, length.saturating_sub(shorter))?;
     Ok(format!(in alloc; "{PRINTER_AND_ADMIN}#{rest}")?)
 }
 
-/// Settings may have 1,048,576 bytes.
+// Settings may have 1,048,576 bytes.
 #[test]
 fn longest(rt: HostRuntime) -> Result<(), Fail> {
     let settings = settings_of(rt.alloc(), 1_048_576)?;
@@ -216,7 +216,7 @@ fn longest(rt: HostRuntime) -> Result<(), Fail> {
     Ok(())
 }
 
-/// Those of one byte more aren't TOML.
+// Those of one byte more aren't TOML.
 #[test]
 fn too_long(rt: HostRuntime) -> Result<(), Fail> {
     let settings = settings_of(rt.alloc(), 1_048_577)?;

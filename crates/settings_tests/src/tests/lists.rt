@@ -4,7 +4,7 @@ use job_desk::Point;
 use std::alloc::Global;
 use std::test::Fail;
 
-/// Groups: their names, and then what each has, by byte order of their names.
+// Groups: their names, and then what each has, by byte order of their names.
 const GROUPS: [(&str, Why, &str); 10] = [
     ("users = []", Why::Range, "groups"),
     ("admins = []", Why::Range, "groups"),
@@ -18,14 +18,14 @@ const GROUPS: [(&str, Why, &str); 10] = [
     ("b = 1\nB = []\na = ['BAKE']", Why::Range, "groups.a"),
 ];
 
-/// Sixteen groups.
+// Sixteen groups.
 const MANY: &str = "a = []\nb = []\nc = []\nd = []\ne = []\nf = []\ng = []\nh = []\n\
 i = []\nj = []\nk = []\nl = []\nm = []\nn = []\no = []\np = []";
 
-/// One more. Their number is tested before their names.
+// One more. Their number is tested before their names.
 const ONE_MORE: [(&str, Why, &str); 1] = [("A = ['BAKE']", Why::Range, "groups")];
 
-/// A printer; lines that follow are groups.
+// A printer; lines that follow are groups.
 const IN_GROUPS: &str = "[printer]\nports = ['p']\n[groups]";
 
 #[test]
@@ -41,7 +41,7 @@ fn many_groups(rt: HostRuntime) -> Result<(), Fail> {
     faults(&rt, alloc, head.as_str(), ADMIN, &ONE_MORE)
 }
 
-/// A group's key, of its first 93 bytes.
+// A group's key, of its first 93 bytes.
 const NINETY_THREE: &str =
     "groups.0123456789012345678901234567890123456789012345678901234567890123456789\
 01234567890123456789012";
@@ -55,7 +55,7 @@ fn long_group(rt: HostRuntime) -> Result<(), Fail> {
     faults(&rt, alloc, IN_GROUPS, ADMIN, &long)
 }
 
-/// Scripts that aren't lists of commands.
+// Scripts that aren't lists of commands.
 const SCRIPTS: [(&str, Why, &str); 8] = [
     (
         "afterPrintDone = 'M84'",
@@ -100,7 +100,7 @@ const SCRIPTS: [(&str, Why, &str); 8] = [
     ),
 ];
 
-/// A printer; lines that follow are scripts.
+// A printer; lines that follow are scripts.
 const IN_SCRIPTS: &str = "[printer]\nports = ['p']\n[scripts]";
 
 #[test]
@@ -108,7 +108,7 @@ fn scripts(rt: HostRuntime) -> Result<(), Fail> {
     faults(&rt, rt.alloc(), IN_SCRIPTS, ADMIN, &SCRIPTS)
 }
 
-/// The point of a script that has a template.
+// The point of a script that has a template.
 fn template_of(alloc: Global, scripts: &str) -> Result<Option<Point>, Fail> {
     match read(alloc, IN_SCRIPTS, scripts, ADMIN)?.err() {
         Some(SettingsFault::Template { script }) => Ok(Some(script)),
@@ -116,7 +116,7 @@ fn template_of(alloc: Global, scripts: &str) -> Result<Option<Point>, Fail> {
     }
 }
 
-/// A script of one line and that many more.
+// A script of one line and that many more.
 fn script(alloc: Global, more: usize) -> Result<String, Fail> {
     let more = ", 'M84'".repeat(alloc, more)?;
     Ok(format!(in alloc; "afterPrintDone = ['{{%'{more}]")?)
@@ -137,7 +137,7 @@ fn many_lines(rt: HostRuntime) -> Result<(), Fail> {
     faults(&rt, rt.alloc(), IN_SCRIPTS, ADMIN, &long)
 }
 
-/// Scripts of which a line has a template.
+// Scripts of which a line has a template.
 const TEMPLATES: [&str; 3] = [
     "beforePrintStarted = ['M104 S{{x}}']",
     "beforePrintStarted = ['G28', '{% if x %}']",
@@ -153,7 +153,7 @@ fn templates(rt: HostRuntime) -> Result<(), Fail> {
     Ok(())
 }
 
-/// The point and the line of a script that is too hot.
+// The point and the line of a script that is too hot.
 fn hot_line(alloc: Global, head: &str, scripts: &str) -> Result<Option<(Point, u32)>, Fail> {
     match read(alloc, head, ADMIN, scripts)?.err() {
         Some(SettingsFault::TooHot { script, line }) => Ok(Some((script, line))),

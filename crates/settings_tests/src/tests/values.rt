@@ -8,11 +8,11 @@ use std::alloc::Global;
 use std::process::Abort;
 use std::test::Fail;
 
-/// Every key at its least.
+// Every key at its least.
 const LEAST: &str = "[printer]\nports = ['p']\nwindow = 1\nlimit_ms = 1000\npoll_ms = 1000\n\
 material = 'A'\n[limits]\ntool = 0\nbed = 0\n[serve]\npatience = 1\n[groups]\n[scripts]\n";
 
-/// Every whole number at its greatest.
+// Every whole number at its greatest.
 const GREATEST: &str = "[printer]\nports = ['a:1', 'unix:b']\nwindow = 16\nlimit_ms = 600000\n\
 poll_ms = 600_000\nmaterial = 'PLA-1.0_(x)+'\n[limits]\ntool = 500\nbed = 200\n\
 [serve]\npatience = 4000000000\n";
@@ -28,7 +28,7 @@ fn has(rt: &impl Abort, scripts: &Scripts, point: Point, wanted: &[&str]) {
     }
 }
 
-/// Its whole numbers, in the order of their keys.
+// Its whole numbers, in the order of their keys.
 fn numbers(settings: &Settings) -> [u64; 6] {
     [
         settings.window as u64,
@@ -40,7 +40,7 @@ fn numbers(settings: &Settings) -> [u64; 6] {
     ]
 }
 
-/// It has this number of ports, this material, and these whole numbers.
+// It has this number of ports, this material, and these whole numbers.
 fn assert_values(
     rt: &impl Abort,
     settings: &Settings,
@@ -95,7 +95,7 @@ fn plain(rt: HostRuntime) {
     assert!(&rt; settings.admin.is_none());
 }
 
-/// Whether these settings' admin is root, with the digest of this key.
+// Whether these settings' admin is root, with the digest of this key.
 fn have_root(settings: &Settings, key: &[u8]) -> bool {
     match &settings.admin {
         Some(admin) => admin.name.as_str() == "root" && admin.digest == digest_of(key),
@@ -103,7 +103,7 @@ fn have_root(settings: &Settings, key: &[u8]) -> bool {
     }
 }
 
-/// The same admin, in capitals.
+// The same admin, in capitals.
 const CAPITALS: &str = "[admin]\nname = 'root'\n\
 key_sha256 = '3D6DC258F967781F8598C11AF4D699E0A7F3F5F52F6B1A0F0931150933A2D5AE'\n";
 
@@ -116,7 +116,7 @@ fn admin(rt: HostRuntime) -> Result<(), Fail> {
     Ok(())
 }
 
-/// An active user of one group.
+// An active user of one group.
 fn member(group: &str) -> Result<UserRow, Fail> {
     let mut groups = ArrayVec::new();
     groups.push(Name::of(group)?);
@@ -128,7 +128,7 @@ fn member(group: &str) -> Result<UserRow, Fail> {
     })
 }
 
-/// Whether a user of each group has a permission.
+// Whether a user of each group has a permission.
 fn assert_allowed(
     rt: &impl Abort,
     policy: &Policy,
@@ -189,7 +189,7 @@ fn scripts(rt: HostRuntime) -> Result<(), Fail> {
     Ok(())
 }
 
-/// Each call that allocates; allocation succeeds.
+// Each call that allocates; allocation succeeds.
 #[test]
 fn ample(rt: HostRuntime) -> Result<(), Fail> {
     let text = b"[printer]\nports = ['p']\n[admin]\nname = 'root'\n\

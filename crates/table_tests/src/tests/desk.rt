@@ -26,7 +26,7 @@ fn turn(rt: &impl Abort, desk: &mut HostDesk, link: &mut MemoryLink) {
     desk.session.turn(link, 7);
 }
 
-/// Turns until the desk is operational, 50 at most.
+// Turns until the desk is operational, 50 at most.
 fn make_ready(rt: &impl Abort, desk: &mut HostDesk, link: &mut MemoryLink) {
     for _ in 0..50 {
         if desk.session.desk().state() == State::Operational {
@@ -37,7 +37,7 @@ fn make_ready(rt: &impl Abort, desk: &mut HostDesk, link: &mut MemoryLink) {
     panic!(rt; "not operational");
 }
 
-/// The number of ports that are shown, and the state.
+// The number of ports that are shown, and the state.
 fn connection_of(desk: &HostDesk) -> Option<(usize, State)> {
     match desk.connection() {
         Answer::Connection { state, ports, .. } => Some((ports.as_slice().len(), state)),
@@ -49,7 +49,7 @@ fn is_accepted(answer: Answer) -> bool {
     matches!(answer, Answer::Accepted)
 }
 
-/// A desk that is connected.
+// A desk that is connected.
 fn ready_desk(rt: &impl Abort, alloc: Global) -> HostDesk {
     let mut desk = desk(rt, alloc);
     let mut link = link_at(alloc, "p", FateList::new(alloc)).expect(rt, "no memory");

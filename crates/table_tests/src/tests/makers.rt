@@ -14,7 +14,7 @@ use print_records::PrintRow;
 use std::alloc::Global;
 use std::process::Abort;
 
-/// An active user without groups.
+// An active user without groups.
 pub(super) fn user(rt: &impl Abort, alloc: Global, text: &str) -> UserRow {
     let key = Blob::from_slice(alloc, b"key-0123456789abc").expect(rt, "no memory");
     new_user(
@@ -25,7 +25,7 @@ pub(super) fn user(rt: &impl Abort, alloc: Global, text: &str) -> UserRow {
     )
 }
 
-/// Three copies of ana's entry.
+// Three copies of ana's entry.
 pub(super) fn entry(rt: &impl Abort) -> QueueEntry
     ensures priority { result.priority ≤ 100 }
     ensures whole { IsWholeRow result }
@@ -42,7 +42,7 @@ pub(super) fn entry(rt: &impl Abort) -> QueueEntry
     )
 }
 
-/// The record of ana's first print.
+// The record of ana's first print.
 pub(super) fn print(rt: &impl Abort) -> PrintRow {
     new_row(
         1,
@@ -52,7 +52,7 @@ pub(super) fn print(rt: &impl Abort) -> PrintRow {
     )
 }
 
-/// A keeper that keeps ana alone.
+// A keeper that keeps ana alone.
 pub(super) fn keeper(rt: &impl Abort, alloc: Global) -> MemoryKeeper {
     let mut tables = no_rows(alloc);
     assert!(rt; tables.users.push(user(rt, alloc, "ana")).is_ok());

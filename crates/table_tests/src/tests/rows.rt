@@ -11,13 +11,13 @@ use print_records::{Outcome, PrintRow};
 use std::alloc::Global;
 use std::process::Abort;
 
-/// Adds a name.
+// Adds a name.
 fn grow_names(rt: &impl Abort, names: &mut Vec<Name>, text: &str) {
     assert!(rt; reserve_name(names).is_ok());
     add_name(names, &Name::from_text(text).expect(rt, "a long name"));
 }
 
-/// Whether names have this many, and this first one.
+// Whether names have this many, and this first one.
 fn begin_with(names: &[Name], count: usize, first: &str) -> bool {
     match names.first() {
         Some(name) => names.len() == count && name.as_str() == first,
@@ -25,7 +25,7 @@ fn begin_with(names: &[Name], count: usize, first: &str) -> bool {
     }
 }
 
-/// Whether the names' copy begins with the same.
+// Whether the names' copy begins with the same.
 fn is_copied(alloc: Global, names: &[Name]) -> bool {
     match copy_names(alloc, names) {
         Ok(copy) => begin_with(copy.as_slice(), 2, "a.gcode"),
@@ -48,25 +48,25 @@ fn ample_names(rt: HostRuntime) {
     assert!(rt; is_copied(rt.alloc(), &names));
 }
 
-/// The size of the only file that is shown.
+// The size of the only file that is shown.
 fn size_shown(alloc: Global, file: &Name) -> Option<u64> {
     let list = shown_files(alloc, &[(file.copy(), 4)]).ok()?;
     Some(list.as_slice().first()?.size)
 }
 
-/// Whether the only user that is shown is active.
+// Whether the only user that is shown is active.
 fn active_shown(rt: &impl Abort, alloc: Global) -> Option<bool> {
     let list = shown_users(alloc, &[user(rt, alloc, "ana")]).ok()?;
     Some(list.as_slice().first()?.active)
 }
 
-/// The copies of the only entry that is shown.
+// The copies of the only entry that is shown.
 fn copies_shown(rt: &impl Abort, alloc: Global) -> Option<u8> {
     let list = shown_entries(alloc, &[entry(rt)], &None).ok()?;
     Some(list.as_slice().first()?.left)
 }
 
-/// The outcome of the only print that is shown.
+// The outcome of the only print that is shown.
 fn outcome_shown(alloc: Global, rows: &[PrintRow]) -> Option<Outcome> {
     let list = shown_prints(alloc, rows, &None).ok()?;
     Some(list.as_slice().first()?.outcome)
@@ -94,14 +94,14 @@ fn ample_shown_print(rt: HostRuntime) {
     assert!(rt; outcome_shown(rt.alloc(), &rows) == Some(Outcome::Active));
 }
 
-/// A shelf that holds a file of one command.
+// A shelf that holds a file of one command.
 fn shelf(rt: &impl Abort, alloc: Global, file: &Name) -> MemoryShelf {
     let mut shelf = MemoryShelf::new(alloc, CallList::new(alloc));
     assert!(rt; shelf.put(alloc, file, b"G28\n").is_ok());
     shelf
 }
 
-/// The number of bytes of a file at a shelf, and of its commands.
+// The number of bytes of a file at a shelf, and of its commands.
 fn file_read<S: Shelf>(alloc: Global, shelf: &mut S, file: &Name) -> Option<(usize, usize)> {
     let bytes = match read_bytes(alloc, shelf, file) {
         Ok(bytes) => bytes.as_slice().len(),
@@ -113,7 +113,7 @@ fn file_read<S: Shelf>(alloc: Global, shelf: &mut S, file: &Name) -> Option<(usi
     }
 }
 
-/// The number of lines that a text is.
+// The number of lines that a text is.
 fn lines_read(rt: &impl Abort, alloc: Global) -> Option<usize> {
     match read_lines(
         alloc,

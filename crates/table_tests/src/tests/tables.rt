@@ -13,7 +13,7 @@ use print_records::{Ending, Outcome};
 use std::alloc::Global;
 use std::process::Abort;
 
-/// The tables of a host that begins with what the keeper keeps.
+// The tables of a host that begins with what the keeper keeps.
 fn tables_of<K: Keeper>(rt: &impl Abort, alloc: Global, keeper: &mut K) -> HostTables {
     match keeper.load(alloc) {
         Ok(tables) => HostTables::new(alloc, tables),
@@ -21,7 +21,7 @@ fn tables_of<K: Keeper>(rt: &impl Abort, alloc: Global, keeper: &mut K) -> HostT
     }
 }
 
-/// How many users, entries and prints are shown.
+// How many users, entries and prints are shown.
 fn counts(tables: &HostTables) -> Option<(usize, usize, usize)> {
     let users = tables.shown_users().ok()?;
     let entries = tables.shown_entries(&None).ok()?;
@@ -110,7 +110,7 @@ fn ample_entries(rt: HostRuntime) {
     assert!(rt; counts(&tables) == Some((1, 0, 0)));
 }
 
-/// Begins a print of ana's.
+// Begins a print of ana's.
 fn begins<K: Keeper>(rt: &impl Abort, tables: &mut HostTables, keeper: &mut K) -> bool {
     if tables.check_room().is_err() {
         return false;

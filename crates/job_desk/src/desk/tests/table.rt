@@ -1,7 +1,7 @@
 //! Each call in each state.
 use super::*;
 
-/// For each call the states in which it is accepted, each with the state after it. In all others it is refused.
+// For each call the states in which it is accepted, each with the state after it. In all others it is refused.
 const TABLE: [(Call, &[(State, State)]); 10] = [
     (
         Call::Connect,
@@ -102,7 +102,7 @@ const CANCEL: Step = Step::Does(Call::Cancel);
 
 const DISCONNECT: Step = Step::Does(Call::Disconnect);
 
-/// The steps from a new desk without scripts, but with a file selected, to a state.
+// The steps from a new desk without scripts, but with a file selected, to a state.
 fn way_to(state: State) -> &'static [Step] {
     match state {
         State::Offline => &[],

@@ -1,7 +1,7 @@
 //! Prints over a link of whose calls one fails, and over a prompt one.
 use super::*;
 
-/// The call of the link that fails, and how many lines were sent and executed before it.
+// The call of the link that fails, and how many lines were sent and executed before it.
 #[derive(Clone, Copy)]
 struct Failing {
     call: u64,
@@ -9,8 +9,8 @@ struct Failing {
     ran: usize,
 }
 
-/// The calls of a print of two lines: the dial, a `recv`, the hello, two of `recv` (the first one returns its `ok`), the two
-/// lines, and a `recv` for each `ok`, before which the printer runs the line.
+// The calls of a print of two lines: the dial, a `recv`, the hello, two of `recv` (the first one returns its `ok`), the two
+// lines, and a `recv` for each `ok`, before which the printer runs the line.
 const CALLS: [Failing; 9] = [
     Failing {
         call: 1,
@@ -59,12 +59,12 @@ const CALLS: [Failing; 9] = [
     },
 ];
 
-/// The link failed, and is down.
+// The link failed, and is down.
 fn check_failed(rt: &impl Abort, printed: &Printed) {
     assert!(rt; printed.end == PrintEnd::LinkFailed && !printed.link.is_up());
 }
 
-/// Two lines over a link whose call of this number fails.
+// Two lines over a link whose call of this number fails.
 fn failing_at(number: u64) -> Asked {
     Asked {
         file: "G28\nG1 X10\n",
@@ -82,7 +82,7 @@ fn check_row(rt: &impl Abort, printed: &Printed, row: Failing) {
     assert_eq!(rt; (printed.link.sends(), ran), (row.sends, row.ran));
 }
 
-/// Each call of the link fails in turn.
+// Each call of the link fails in turn.
 #[test]
 fn each_call_failing(rt: HostRuntime) -> Result<(), Fail> {
     for row in CALLS {
@@ -92,14 +92,14 @@ fn each_call_failing(rt: HostRuntime) -> Result<(), Fail> {
     Ok(())
 }
 
-/// There is no tenth call.
+// There is no tenth call.
 #[test]
 fn no_call_failing(rt: HostRuntime) -> Result<(), Fail> {
     let end = PrintEnd::Done;
     comes_to(&rt, rt.alloc(), failing_at(10), end, 3, &["G28", "G1 X10"])
 }
 
-/// Four lines, the second of which is lost, over a link whose call of this number fails.
+// Four lines, the second of which is lost, over a link whose call of this number fails.
 fn losing(number: u64) -> Asked {
     Asked {
         file: FOUR_LINES,
@@ -112,7 +112,7 @@ fn losing(number: u64) -> Asked {
     }
 }
 
-/// Whether the print is done; if it isn't, its link failed.
+// Whether the print is done; if it isn't, its link failed.
 fn is_done(rt: &impl Abort, printed: &Printed) -> bool {
     if printed.end == PrintEnd::Done {
         check_print(rt, printed, PrintEnd::Done, 8, &FOUR);
@@ -123,7 +123,7 @@ fn is_done(rt: &impl Abort, printed: &Printed) -> bool {
     false
 }
 
-/// Each call of the link fails in turn in a print that sends three lines again, until no call is left that could fail.
+// Each call of the link fails in turn in a print that sends three lines again, until no call is left that could fail.
 #[test]
 fn each_call_failing_after_a_loss(rt: HostRuntime) -> Result<(), Fail> {
     for number in 1..=100 {
@@ -134,7 +134,7 @@ fn each_call_failing_after_a_loss(rt: HostRuntime) -> Result<(), Fail> {
     Err("never done")?
 }
 
-/// Three commands in 35 turns, by a clock whose every rest makes a poll for temperatures due.
+// Three commands in 35 turns, by a clock whose every rest makes a poll for temperatures due.
 #[test]
 fn enough_turns(rt: HostRuntime) -> Result<(), Fail> {
     let asked = Asked {

@@ -2,7 +2,7 @@
 use super::*;
 use desk_steps::Point;
 
-/// A script of one line at each point of a print.
+// A script of one line at each point of a print.
 const SCRIPTS: [(Point, &str); 4] = [
     (Point::Connected, "M155 S0"),
     (Point::Started, "M107"),
@@ -10,7 +10,7 @@ const SCRIPTS: [(Point, &str); 4] = [
     (Point::Disconnect, "M140 S0"),
 ];
 
-/// Each script of a print has its place.
+// Each script of a print has its place.
 #[test]
 fn scripts(rt: HostRuntime) -> Result<(), Fail> {
     let scripts = scripts_of(&rt, rt.alloc(), &SCRIPTS);

@@ -1,7 +1,7 @@
 //! Turns over a link of whose calls one fails, and to a port that isn't listed.
 use super::*;
 
-/// The call of the link that fails, and the turns up to it.
+// The call of the link that fails, and the turns up to it.
 const FAILING: [(u64, &[Row]); 4] = [
     (1, &[(Ask::Nothing, Gives::Finds(LinkFact::Failed))]),
     (
@@ -28,7 +28,7 @@ const FAILING: [(u64, &[Row]); 4] = [
     ),
 ];
 
-/// The same in the turn after the start of a print.
+// The same in the turn after the start of a print.
 const FAILING_IN_PRINT: [(u64, Row); 2] = [
     (5, (Ask::Nothing, Gives::Breaks(&[]))),
     (6, (Ask::Nothing, Gives::Breaks(&["M107"]))),
@@ -40,7 +40,7 @@ fn check_failed(rt: &impl Abort, session: &mut Session, link: &mut MemoryLink) {
     do_row(rt, session, link, (Ask::Nothing, Gives::Nothing));
 }
 
-/// The turns of a session to this port over this link, of which the last one fails.
+// The turns of a session to this port over this link, of which the last one fails.
 fn fails_in(
     rt: &impl Abort,
     alloc: Global,
@@ -63,7 +63,7 @@ fn failing_calls(rt: HostRuntime) -> Result<(), Fail> {
     Ok(())
 }
 
-/// The first turn of a print over this link fails.
+// The first turn of a print over this link fails.
 fn fails_in_print(
     rt: &impl Abort,
     alloc: Global,
@@ -85,7 +85,7 @@ fn failing_calls_in_a_print(rt: HostRuntime) -> Result<(), Fail> {
     Ok(())
 }
 
-/// No call of a session takes memory; this one makes the parts that it needs, and dials a port that isn't listed.
+// No call of a session takes memory; this one makes the parts that it needs, and dials a port that isn't listed.
 #[test]
 fn ample(rt: HostRuntime) -> Result<(), Fail> {
     let mut link = link_failing(rt.alloc(), None)?;
