@@ -17,9 +17,7 @@ pub use chars::{is_space, same_text, spaces_in_front};
 pub use laws::{byte_law, m110_law, number_law, xor_law};
 pub use marks::{has_byte, has_m110, split_at_last};
 pub use name::{LongName, MOST_NAME_BYTES, Name};
-pub use numbers::{
-    are_digits, digits_in_front, leading_digits, number, number_in, whole_number,
-};
+pub use numbers::{are_digits, digits_in_front, leading_digits, number, number_in, whole_number};
 pub use parts::after;
 pub use texts::{
     Line, MOST_LINE_BYTES, MOST_TEXT_BYTES, ReplyLine, Text, append, append_decimal, append_number,
