@@ -9,4 +9,4 @@ pub use desk::{Desk, NotSelected};
 pub use desk_steps::{
     Ending, Issued, LinkFact, Note, Outcome, Point, Refusal, SessionEnd, State, Tag,
 };
-pub use scripts::{AddFault, Scripts};
+pub use scripts::{AddFault, MOST_SCRIPT_LINES, Scripts};

@@ -12,4 +12,4 @@ mod values;
 
 pub use fault::SettingsFault;
 pub use scripts::script_key;
-pub use settings::{Settings, read_settings};
+pub use settings::{MOST_SETTINGS_BYTES, Settings, read_settings};
