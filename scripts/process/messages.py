@@ -9,7 +9,7 @@ import tempfile
 
 CRATE = os.path.abspath("crates/client_messages")
 PROGRAM = os.path.join(CRATE, "out", "client_messages")
-ENDED = b"Error: the input ended\n"
+ENDED = b"Error: message: the input ended\n"
 SECONDS = 60
 
 
