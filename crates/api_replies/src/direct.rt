@@ -51,7 +51,7 @@ fn fault_status(fault: &MessageFault) -> Option<u16>
     }
 }
 
-/// The reply to a message that is no request; takes no memory. Source: RFC 9110, section 15.5.
+/// The reply to a message that is no request; takes no memory. Source: RFC 9110, section 15.5, and RFC 4918, section 11.5, for 507.
 pub fn direct_bytes(alloc: Global, direct: Direct) -> HttpReply
     ensures { result ≡ empty_reply (direct_status direct) }
 {

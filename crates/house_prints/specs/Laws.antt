@@ -157,7 +157,7 @@ EachEndedIsSentNoMore kind front s timeline =
     → IsSentNoMore kind front print fate (history_of first) (history_of timeline) (past_after front first) (events_of later)
 
 -- the end of a session that an entry notes had a cause that the link's history showed then, for each entry: a session never ends
--- for a Resend that asks for a line acknowledged or not issued, nor for an `ok` of another line; as restarted only after a restart
+-- for a Resend of a line acknowledged or after the next one to issue, nor for an `ok` of another line; as restarted only after a restart
 -- of the printer in that session; for no answer only if the printer was silent
 abbrev pub EachEndIsTrue : LinkKind → List WorldEvent → Timeline → Type 0
 EachEndIsTrue kind front timeline =

@@ -111,7 +111,7 @@ pub record IsFilePrint (kind : LinkKind) (files : Option Files) (settings : Opti
   pub reads : Reads files settings file found
   pub follows : Follows kind asked h r found
 
--- a print by settings that ended with no answer waited five of their limits, by a clock that showed this moment first
+-- a print by settings that ended with no answer waited five of their limits, by a clock that showed `began` before and `now` after
 pub record WaitedBySettings (files : Option Files) (settings : Option (List ℕ)) (count : ℕ) (began now : Option ℕ) : Type 0 where
   pub read : Settings
   pub have : HaveSettings files settings (Ok read)

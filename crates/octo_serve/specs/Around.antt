@@ -31,7 +31,7 @@ pub record DoorState : Type 0 where
   pub served : Option (List ConnState)
   pub faults : ℕ
 
--- the same by the meanings of each kind
+-- the same, made of an object by what its type says of it
 abbrev pub link_state : {L : Type 0} → (L → LinkKind) → (L → Option (List WorldEvent)) → (L → Option ℕ) → (L → Bool) → (L → ℕ) → L → LinkState
 link_state kind past calls up faults link = record { kind = kind link; past = past link; calls = calls link; up = up link; faults = faults link }
 

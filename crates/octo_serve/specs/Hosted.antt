@@ -26,7 +26,7 @@ pub record Setting : Type 0 where
   pub keeper : KeeperState
   pub shelf : ShelfState
 
--- the same by the meanings of each kind
+-- the same, made of a house and four objects by what the objects' types say of them
 abbrev pub setting : {L T K S : Type 0} → (L → LinkState) → (T → Option ℕ) → (K → KeeperState) → (S → ShelfState) → House → L → T → K → S → Setting
 setting link_state moment keeper_state shelf_state house link clock keeper shelf =
     record { house = house; link = link_state link; moment = moment clock; keeper = keeper_state keeper; shelf = shelf_state shelf }

@@ -5,7 +5,8 @@ use Rattle.send_window.specs.Hearing.{last_moment}
 use Rattle.printer_model.specs.declared.event.WorldEvent.{WorldEvent}
 use Rattle.printer_link.specs.Link.{LinkKind}
 
--- a clock shows this moment, which any sum of a session may follow: the limit of an answer, and the time to the next poll
+-- a clock that records its time; that time plus a time limit is at most 2^64 - 1, and so is that time plus a polling interval; polls
+-- are at least a millisecond apart
 pub record IsUnsaturated (clock : Option ℕ) (limit poll_ms : ℕ) : Type 0 where
   pub last : ℕ
   pub shown : clock ≡ Some last

@@ -1,6 +1,6 @@
 //! How a session on the line may end.
 
-/// Why a session ended by its own rules. Line numbers are those on the wire, from 2.
+/// Why a session ended by its own rules. Line numbers are those on the wire, from 2; `NumbersUsed` has a count of lines.
 #[derive(Clone, Copy, Debug, PartialEq, Eq)]
 pub enum SessionEnd {
     /// Nothing was received for this number of time limits in a row.

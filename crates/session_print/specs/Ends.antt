@@ -35,7 +35,7 @@ pub record IsUnlisted (hot : Option HotLine) (turns : ℕ) (listed : Bool) : Typ
   pub some : 1 ≤ turns
   pub unlisted : listed ≡ false
 
--- a print that sent nothing
+-- a print that ended as too hot or without such a port; nothing was sent
 abbrev pub IsUnsent : PrintEnd → Type 0
 IsUnsent (end.TooHot line asked limit) = Unit {0}
 IsUnsent end.NoPort = Unit {0}

@@ -29,9 +29,9 @@ pub record HasPrinted (kind : LinkKind) (plan : List (List ℕ)) (how : PrintEnd
   pub history : HasIssued kind issued acked past added
   -- a print that is done has made the whole of it
   pub done : how ≡ end.Done → IsWholePrint kind plan issued acked past added
-  -- one that had no answer in five limits had none to its hello, or not to all of its lines
+  -- one that ended with no answer names five limits; nothing was issued, or not all issued lines are acknowledged
   pub unanswered : (count : ℕ) → how ≡ end.Ended (NoAnswer count) → (count ≡ 5) × ((issued ≡ []) ⊎ (acked < length issued))
-  -- one whose session had no numbers left has had an answer to all that there are
+  -- one whose session used all its numbers names `most_lines`, and that many lines are acknowledged
   pub all_used : (all : ℕ) → how ≡ end.Ended (NumbersUsed all) → (all ≡ most_lines) × (acked ≡ most_lines)
 
 -- a session ended so: its sender has, with the numbers that it names, and the history shows the cause

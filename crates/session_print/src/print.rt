@@ -57,12 +57,13 @@ pub fn run_print<L: Link, T: Clock>(
     requires new { IsNew session.old }
     requires down { L.up link.old ≡ false }
 
-    // The first lines of the plan were printed, in one session at most; all of it if the print is done.
+    // If the link records its history: a prefix of the plan was issued, with `M105` put in, and a prefix of that was executed, in one
+    // session at most. Each line sent in it is the hello or wasn't acknowledged then. All was executed if the print is done.
     ensures printed { Recorded (L.past link.old) (L.past link.new)
         (HasPrinted (L.kind link.old) (plan session.old.desk.scripts (texts_of job))
         result session.new.sender.acked) }
 
-    // Each end by its cause.
+    // Each end by its cause; that of `LinkFailed` is in `counts` below.
     ensures too_hot { IsTooHot (first_hot_of session.old.desk.limits job.commands) result }
     ensures no_port { (result ≡ end.NoPort)
         ↔ IsUnlisted (first_hot_of session.old.desk.limits job.commands)
@@ -81,7 +82,7 @@ pub fn run_print<L: Link, T: Clock>(
         (T.moment clock.new) session.old.sender.limit session.old.desk.poll_ms
         → length (plan session.old.desk.scripts (texts_of job)) + 32 ≤ turns → result ≡ end.Done }
 
-    // The link afterwards, and what a print leaves that sent nothing.
+    // The link afterwards, and that a print which was too hot or had no port added nothing.
     ensures down { L.up link.new ≡ false }
     ensures kind { L.kind link.new ≡ L.kind link.old }
     ensures counts { Counts (result ≡ end.LinkFailed) (L.faults link.old) (L.faults link.new) }
