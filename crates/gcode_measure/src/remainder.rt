@@ -80,7 +80,7 @@ fn put_command(text: &mut Blob, command: &[u8]) -> Result<(), AllocError>
     append_line(text, command)
 }
 
-// The file that goes on at a command where a head is.
+// The file that goes on at a command, from the modes and positions that a head has.
 fn write_rest(alloc: Global, job: &Job, from: usize, head: &Head) -> Result<Blob, AllocError>
     requires { from ≤ length job.now.commands }
     ensures { IfOk result (λ text.
