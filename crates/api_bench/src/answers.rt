@@ -1,6 +1,6 @@
 //! Answers of each kind.
 use byte_text::Name;
-use desk_steps::State;
+use job_desk::State;
 use octo_asks::{
     Answer, Progress, ShownEntry, ShownEntryList, ShownFile, ShownFileList, ShownHeat,
 };

@@ -9,10 +9,10 @@ mod answers;
 mod messages;
 
 use answers::answer_of;
-use api_replies::to_bytes;
-use api_routes::Routes;
 use byte_text::whole_number;
 use messages::{Pattern, is_request, pattern_of};
+use octo_api_replies::to_bytes;
+use octo_api_routes::Routes;
 use octo_outside::{WordList, arguments};
 use std::alloc::Global;
 

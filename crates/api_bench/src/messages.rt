@@ -1,7 +1,7 @@
 //! Messages of each kind.
-use api_requests::request_by;
-use api_routes::Routes;
 use http::Method;
+use octo_api_requests::request_by;
+use octo_api_routes::Routes;
 use octo_http::Message;
 use octo_outside::Blob;
 use std::alloc::Global;
@@ -21,7 +21,6 @@ pub struct Pattern {
     body: Blob,
 }
 
-// A GET.
 fn get(alloc: Global, path: &'static str) -> Pattern {
     Pattern {
         posts: false,

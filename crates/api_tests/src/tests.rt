@@ -1,6 +1,6 @@
 //! Paths, messages and answers, and a worker that turns messages into replies.
 ghost use Rattle.std.specs.Prelude.{IfOk};
-ghost use Rattle.octo_doors.specs.Memory.{IsUntouched};
+ghost use Rattle.octo_outside_doors.specs.Memory.{IsUntouched};
 
 mod replies;
 mod requests;

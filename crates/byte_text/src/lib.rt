@@ -35,6 +35,3 @@ pub fn xor(bytes: &[u8]) -> u8
     }
     sum
 }
-
-#[cfg(test)]
-mod tests;

@@ -1,8 +1,8 @@
 //! The parts of a message's form.
-ghost use Rattle.http_parts.specs.Parts.{ArePartsIn};
+ghost use Rattle.octo_http_forms.specs.Parts.{ArePartsIn};
 
-use http_parts::{PartFault, Parts, multipart};
 use octo_http::Message;
+use octo_http_forms::{PartFault, Parts, multipart};
 use std::str;
 
 // Prints a form's file and its two flags.

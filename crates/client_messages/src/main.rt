@@ -1,6 +1,6 @@
 //! Reads HTTP messages from connections in memory, and prints what they say.
 //!
-//! Without arguments these are messages that common clients sent (data/, made by scripts/record_clients.py). With `FILE` it is the one
+//! Without arguments these are messages that common clients sent (data/, made by scripts/lib/record_clients.py). With `FILE` it is the one
 //! that this file holds. `FILE parts` prints the parts of its form too, and with `FILE bytes` each read returns one byte.
 #![tactic(auto)]
 

@@ -1,7 +1,6 @@
 //! Reading a message from memory, and what it says.
-use byte_conn::ByteConn;
 use octo_http::{Message, read_message};
-use octo_outside::{CallList, MemoryConn};
+use octo_outside::{ByteConn, CallList, MemoryConn};
 use std::alloc::Global;
 use std::str;
 

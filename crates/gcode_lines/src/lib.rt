@@ -19,6 +19,3 @@ pub use laws::{job_law, line_law, single_law};
 pub use reading::{MOST_FILE_BYTES, read_commands, take_commands};
 pub use single::one_command;
 pub use text::is_numbered;
-
-#[cfg(test)]
-mod tests;

@@ -8,6 +8,3 @@ mod word;
 pub use number::{Number, decimal_up_to, read_number};
 pub use scan::words;
 pub use word::{CodeWord, Words};
-
-#[cfg(test)]
-mod tests;

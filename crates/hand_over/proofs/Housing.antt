@@ -10,7 +10,7 @@ use lib.Seq.{set-get_or}
 use prog.Atomic.{either}
 use Rattle.atomic_table.specs.Table.{State, Me, step, Act, keeps, takes, gives, Allows}
 use Rattle.atomic_table.proofs.Lists.{set_here, set_else, set_again, exchanged}
-use Rattle.desk_steps.specs.declared.issued.Note.{Note}
+use Rattle.job_desk.specs.declared.issued.Note.{Note}
 use Rattle.octo_asks.specs.declared.request.Ask.{Ask}
 use Rattle.octo_asks.specs.declared.answer.Answer.{Answer}
 use Rattle.octo_asks.specs.declared.entry.Entry.TheVariants as entry

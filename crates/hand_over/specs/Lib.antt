@@ -1,4 +1,4 @@
-pub mod Views
+pub mod Ends
 pub mod Rule
 pub mod Steps
-pub mod Ends
+pub mod Views

@@ -5,7 +5,7 @@ ghost use Rattle.atomic_table.specs.Table.{rest};
 ghost use Rattle.hand_over.specs.declared.board.Letter.{Letter};
 
 use atomic_table::{Seat, Shared, Table, TableRule};
-use desk_steps::Note;
+use job_desk::Note;
 use octo_asks::{Answer, Ask, Entry, Given};
 use std::alloc::Global;
 

@@ -7,7 +7,7 @@ use crate::board::{
     ANSWERED, ASKED, Board, ENDED, Letter, NOTE_WORD, Place, RUNS, WORKERS, write_letter,
 };
 use crate::plays::{LookForAsk, PutAnswer, PutClose, PutNote};
-use desk_steps::Note;
+use job_desk::Note;
 use octo_asks::{Answer, Ask, Counter, Next};
 use std::marker::Model;
 use std::sync::Arc;

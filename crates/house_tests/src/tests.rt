@@ -1,16 +1,19 @@
 //! Lists of asks over a keeper, a shelf and a link in memory.
 mod bench;
+mod faults;
 mod prints;
 mod queue;
 mod seen;
+mod sums;
 mod turns;
 mod uploads;
+mod wishes;
 
 use bench::Bench;
-use desk_steps::State;
-use host_makers::{ANA, BEN, EVE, ROOT};
-use octo_asks::Request;
-use print_records::Outcome;
+use job_desk::State;
+use print_queue::Outcome;
 use seen::Seen;
 use std::alloc::Global;
 use std::process::Abort;
+use test_makers::{ANA, BEN, EVE, ROOT};
+use wishes::Wish;

@@ -1,5 +1,5 @@
-//! Tests of HTTP messages: of their pieces, of replies, and of inputs that are cut at each place, that come byte by byte, and that
-//! contradict themselves. They are apart from `http_grammar` and `octo_http` because their proofs are slow.
+//! Tests of HTTP messages: of their pieces, of replies, of inputs that are cut at each place, that come byte by byte, and that
+//! contradict themselves, and of the parts of forms. They are in a crate of their own because their proofs are slow.
 #![tactic(auto)]
 
 #[cfg(test)]

@@ -4,14 +4,13 @@ mod cuts;
 mod heads;
 mod lengths;
 mod limits;
+mod parts;
 mod pieces;
 mod replies;
 mod slow;
 
-use byte_conn::ByteConn;
-use http_grammar::MessageFault;
-use octo_http::{Message, read_message};
-use octo_outside::{Blob, CallList, MemoryConn};
+use octo_http::{Message, MessageFault, read_message};
+use octo_outside::{Blob, ByteConn, CallList, MemoryConn};
 use std::alloc::{AllocError, Global};
 use std::process::Abort;
 use std::test::Fail;
@@ -22,6 +21,14 @@ const PATIENCE: u32 = 3;
 // A connection of this input, none of whose calls fails or finds nothing.
 fn conn_of(alloc: Global, input: &[u8]) -> Result<MemoryConn, AllocError> {
     MemoryConn::new(alloc, input, CallList::new(alloc), CallList::new(alloc))
+}
+
+// Whether this was written on a connection.
+fn has_written(conn: &MemoryConn, text: &[u8]) -> bool {
+    match conn.written() {
+        Some(written) => written == text,
+        None => false,
+    }
 }
 
 // What is read of an input.
@@ -71,7 +78,10 @@ fn refuses(
 
 // Whether a message was read that has this body.
 fn has_body(read: Result<Message, MessageFault>, body: &str) -> bool {
-    read.is_ok_and(|message| message.body.as_slice() == body.as_bytes())
+    match read {
+        Ok(message) => message.body.as_slice() == body.as_bytes(),
+        Err(_) => false,
+    }
 }
 
 // Whether a `POST` that goes on with this text is read, whole and byte by byte, and has this body.

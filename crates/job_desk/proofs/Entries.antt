@@ -3,9 +3,9 @@ use Rattle.std.proofs.Common.{◌≡◌, ℕ, zero, suc, ◌+◌, ◌<◌, ◌�
 use Rattle.std.proofs.lemmas.List.{append-nil, drop_all, take_at}
 use Rattle.std.specs.List.{refill, remove}
 use Rattle.std.proofs.lemmas.Bool.Decides.{nat_tests}
-use Rattle.desk_steps.specs.Data.{ScriptTexts, Line, tagged, script_lines, texts_at}
-use Rattle.desk_steps.specs.declared.state.Tag.{Tag}
-use Rattle.desk_steps.specs.declared.state.Tag.TheVariants.{Script}
+use Rattle.job_desk.specs.Data.{ScriptTexts, Line, tagged, script_lines, texts_at}
+use Rattle.job_desk.specs.declared.state.Tag.{Tag}
+use Rattle.job_desk.specs.declared.state.Tag.TheVariants.{Script}
 use Rattle.job_desk.specs.declared.waiting.Entry.{Entry}
 use Rattle.job_desk.specs.Entries.{entry_lines, lines_left, HaveLines}
 

@@ -1,2 +1,15 @@
+pub mod Connecting
+pub mod Current
+pub mod Endings
 pub mod Entries
+pub mod Foreign
+pub mod Going
+pub mod Known
+pub mod Lines
 pub mod Lists
+pub mod Noted
+pub mod Plain
+pub mod Quiet
+pub mod Runs
+pub mod Settled
+pub mod Steady

@@ -3,12 +3,13 @@ use Rattle.std.specs.Prelude.{◌≡◌, ℕ, ◌≤◌, true, List, All}
 use Rattle.std.specs.Option.{option_map}
 use Rattle.byte_text.specs.Sendable.{IsSendable}
 use Rattle.gcode_lines.specs.Job.{JobData}
-use Rattle.desk_steps.specs.Data.{Data, File, named_file}
-use Rattle.desk_steps.specs.Endings.{has_print}
-use Rattle.desk_steps.specs.declared.state.State.{State}
-use Rattle.desk_steps.specs.declared.state.State.TheVariants.{Offline, Connecting, Operational, Printing, Pausing, Paused, Cancelling, Finishing, Closing, Fault}
-use Rattle.desk_steps.specs.declared.link_fact.LinkFact.{LinkFact}
-use Rattle.desk_steps.specs.declared.link_fact.LinkFact.TheVariants as fact
+use Rattle.job_desk.specs.Data.{Data, File, named_file}
+use Rattle.job_desk.specs.Endings.{has_print}
+use Rattle.job_desk.specs.Table.{most_manual}
+use Rattle.job_desk.specs.declared.state.State.{State}
+use Rattle.job_desk.specs.declared.state.State.TheVariants.{Offline, Connecting, Operational, Printing, Pausing, Paused, Cancelling, Finishing, Closing, Fault}
+use Rattle.job_desk.specs.declared.link_fact.LinkFact.{LinkFact}
+use Rattle.job_desk.specs.declared.link_fact.LinkFact.TheVariants as fact
 use Rattle.job_desk.specs.Views.{bytes_of}
 use Rattle.job_desk.specs.declared.desk.Selected.{Selected}
 use Rattle.job_desk.specs.declared.desk.Desk.TheInside.{Inside}
@@ -57,7 +58,7 @@ most_in Fault = 0
 -- is active
 pub record IsDesk (desk : Inside) : Type 0 where
   pub few : desk.waiting.count ≤ most_in desk.state
-  pub room : desk.manual.capacity ≡ 256
+  pub room : desk.manual.capacity ≡ most_manual
   pub sendable : All IsSendable (bytes_of desk.manual.items)
   pub going : has_print desk.state ≡ true → desk.prints.active ≡ true
 

@@ -1,6 +1,6 @@
 -- The scripts that wait, as lines.
 use Rattle.std.specs.Prelude.{◌<◌, List, [], ◌∷◌, ◌++◌, length, drop}
-use Rattle.desk_steps.specs.Data.{ScriptTexts, Line, script_lines, texts_at}
+use Rattle.job_desk.specs.Data.{ScriptTexts, Line, script_lines, texts_at}
 use Rattle.job_desk.specs.declared.waiting.Entry.{Entry}
 
 -- the lines that are left of a script

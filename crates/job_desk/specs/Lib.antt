@@ -1,4 +1,15 @@
+pub mod Course
+pub mod Data
 pub mod DeskViews
+pub mod Endings
 pub mod Entries
+pub mod Issued
+pub mod Note
+pub mod Plain
+pub mod Pull
+pub mod Run
 pub mod Scripts
+pub mod Settled
+pub mod Story
+pub mod Table
 pub mod Views

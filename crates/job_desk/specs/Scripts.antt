@@ -1,9 +1,9 @@
 -- Scripts, and the scripts that wait.
 use Rattle.std.specs.Prelude.{ℕ, ◌+◌, ◌≤◌, List, [], ◌∷◌, ◌++◌, length, All}
 use Rattle.byte_text.specs.Sendable.{IsSendable}
-use Rattle.desk_steps.specs.Data.{ScriptTexts, Line, texts_at}
-use Rattle.desk_steps.specs.declared.state.Point.{Point}
-use Rattle.desk_steps.specs.declared.state.Point.TheVariants as point
+use Rattle.job_desk.specs.Data.{ScriptTexts, Line, texts_at}
+use Rattle.job_desk.specs.declared.state.Point.{Point}
+use Rattle.job_desk.specs.declared.state.Point.TheVariants as point
 
 -- the most lines of a script
 abbrev pub most_script_lines : ℕ

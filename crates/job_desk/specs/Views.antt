@@ -1,10 +1,10 @@
 -- The values of the desk's calls as plain data.
 use Rattle.std.specs.Prelude.{◌≡◌, ℕ, List, map, Option, None, Some}
 use Rattle.arrayvec.specs.ArrayVec.{ArrayVec}
-use Rattle.desk_steps.specs.Data.{Data}
-use Rattle.desk_steps.specs.Pull.{Drawn}
-use Rattle.desk_steps.specs.Issued.{line_of}
-use Rattle.desk_steps.specs.declared.issued.Issued.{Issued}
+use Rattle.job_desk.specs.Data.{Data}
+use Rattle.job_desk.specs.Pull.{Drawn}
+use Rattle.job_desk.specs.Issued.{line_of}
+use Rattle.job_desk.specs.declared.issued.Issued.{Issued}
 
 -- the bytes of texts
 abbrev pub bytes_of : List (ArrayVec ℕ) → List (List ℕ)

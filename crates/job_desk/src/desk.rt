@@ -1,9 +1,9 @@
 //! The desk of a print host.
 ghost use Rattle.std.specs.Prelude.{◌≡◌, ◌≤◌, ◌*◌, IfOk};
 ghost use Rattle.std.specs.Option.{option_map, option_copied};
-ghost use Rattle.desk_steps.specs.Data.{new_desk};
-ghost use Rattle.desk_steps.specs.Endings.{IsActive};
-ghost use Rattle.desk_steps.specs.Table.{active_print, is_closable_at};
+ghost use Rattle.job_desk.specs.Data.{new_desk};
+ghost use Rattle.job_desk.specs.Endings.{IsActive};
+ghost use Rattle.job_desk.specs.Table.{active_print, is_closable_at};
 ghost use Rattle.job_desk.specs.Scripts.{most_script_lines, own_lines};
 
 mod calls;
@@ -14,9 +14,9 @@ mod tests;
 
 use crate::scripts::Scripts;
 use crate::waiting::Waiting;
+use crate::{Limits, Point, Refusal, State};
 use byte_text::{Name, Text};
 use circular_buffer::HeapCircularBuffer;
-use desk_steps::{Limits, Point, Refusal, State};
 use gcode_lines::Job;
 use std::alloc::{AllocError, Global};
 use std::marker::Model;
@@ -78,7 +78,7 @@ pub struct Desk {
 }
 
 impl Model for Desk {
-    ghost use Rattle.desk_steps.specs.Data.{Data};
+    ghost use Rattle.job_desk.specs.Data.{Data};
 
     ghost Value = { Data };
 

@@ -2,11 +2,11 @@
 ghost use Rattle.std.specs.Prelude.{◌≡◌, ◌<◌, ◌≤◌, ◌++◌, ◌↔◌, [], ◌∷◌, length, map, slice_get, Some, None, IfSome, OnOk, OnErr};
 ghost use Rattle.std.specs.Option.{option_map, option_copied};
 ghost use Rattle.byte_text.specs.Sendable.{IsSendable};
-ghost use Rattle.desk_steps.specs.Data.{texts_at};
+ghost use Rattle.job_desk.specs.Data.{texts_at};
 ghost use Rattle.job_desk.specs.Scripts.{most_script_lines, no_scripts, with_text};
 
+use crate::Point;
 use byte_text::{Text, bounded_text};
-use desk_steps::Point;
 use std::alloc::Global;
 use std::marker::Model;
 use thiserror::Error;
@@ -95,7 +95,7 @@ pub struct Scripts {
 }
 
 impl Model for Scripts {
-    ghost use Rattle.desk_steps.specs.Data.{ScriptTexts};
+    ghost use Rattle.job_desk.specs.Data.{ScriptTexts};
 
     ghost Value = { ScriptTexts };
 

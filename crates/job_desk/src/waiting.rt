@@ -2,14 +2,14 @@
 ghost use Rattle.std.specs.Prelude.{◌≡◌, ◌+◌, ◌<◌, ◌≤◌, ◌++◌, ◌==◌, [], length, drop, slice_get, IsTrue, IfSome};
 ghost use Rattle.std.specs.Option.{option_map};
 ghost use Rattle.byte_text.specs.Sendable.{IsSendable};
-ghost use Rattle.desk_steps.specs.Data.{script_lines};
+ghost use Rattle.job_desk.specs.Data.{script_lines};
 ghost use Rattle.job_desk.specs.Scripts.{most_waiting};
-ghost use Rattle.desk_steps.specs.Issued.{line_of};
+ghost use Rattle.job_desk.specs.Issued.{line_of};
 
 use crate::scripts::Scripts;
+use crate::{Issued, Point, Tag};
 use arrayvec::ArrayVec;
 use byte_text::bounded_text;
-use desk_steps::{Issued, Point, Tag};
 use std::marker::Model;
 
 // A script that waits from one of its lines on.
@@ -55,7 +55,6 @@ impl Waiting {
         }
     }
 
-    // The scripts.
     pub(crate) fn scripts(&self) -> &Scripts
         ensures { result.now ≡ self.now.scripts }
     {

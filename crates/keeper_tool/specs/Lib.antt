@@ -1,4 +1,4 @@
 pub mod Commands
-pub mod Lines
 pub mod Ends
+pub mod Lines
 pub mod Prints

@@ -2,9 +2,9 @@
 use Rattle.std.specs.Prelude.{ℕ, Bool, if◌then◌else◌, List, [], ◌∷◌, ◌++◌, length, codes, decimal, flat_map}
 use Rattle.octo_access.specs.declared.row.UserRow.{UserRow}
 use Rattle.print_queue.specs.declared.entry.QueueEntry.{QueueEntry}
-use Rattle.print_records.specs.declared.ending.Outcome.{Outcome}
-use Rattle.print_records.specs.declared.ending.Outcome.TheVariants.{Active, Done, Cancelled, Failed}
-use Rattle.print_records.specs.declared.row.PrintRow.{PrintRow}
+use Rattle.print_queue.specs.declared.ending.Outcome.{Outcome}
+use Rattle.print_queue.specs.declared.ending.Outcome.TheVariants.{Active, Done, Cancelled, Failed}
+use Rattle.print_queue.specs.declared.row.PrintRow.{PrintRow}
 use Rattle.octo_keeper.specs.declared.tables.Tables.{Tables}
 
 -- a blank and a word

@@ -11,7 +11,7 @@ ghost use Rattle.keeper_tool.specs.Prints.{AddsFrom, AddsUpTo, finished_row, wit
 use crate::end::{ToolEnd, end_of};
 use byte_text::Name;
 use octo_keeper::{Change, Keeper, KeeperFault};
-use print_records::{Outcome, PrintRow};
+use print_queue::{Outcome, PrintRow};
 use std::alloc::Global;
 
 // The record of a finished print.

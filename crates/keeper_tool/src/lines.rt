@@ -7,8 +7,7 @@ use itoa::Buffer;
 use octo_access::UserRow;
 use octo_keeper::Tables;
 use octo_outside::Blob;
-use print_queue::QueueEntry;
-use print_records::{Outcome, PrintRow};
+use print_queue::{Outcome, PrintRow, QueueEntry};
 use std::alloc::{AllocError, Global};
 
 fn put_name(text: &mut Blob, name: &Name) -> Result<(), AllocError>

@@ -14,8 +14,8 @@ use carry::carry_out;
 use command::{Command, read_command};
 use end::ToolEnd;
 use octo_keeper::KeeperFault;
+use octo_keeper_file::{close_keeper, open_keeper};
 use octo_outside::{ArgumentsFault, Failed, StdSink, WordList, arguments};
-use sql_file::{close_keeper, open_keeper};
 use std::process::ExitCode;
 use texts::{write_end, write_path};
 

@@ -35,7 +35,6 @@ fn end_text(end: ToolEnd) -> EndText
     }
 }
 
-// A path and a colon.
 fn path_and_colon(path: &Name) -> PathText
     ensures { result.items ≡ path.now ++ codes ": " }
 {

@@ -15,7 +15,7 @@ use Rattle.byte_text.proofs.XorLaws.{xor_of-lt}
 use Rattle.marlin_frame.specs.declared.read.Read.{Read}
 use Rattle.marlin_frame.specs.declared.read.Read.TheVariants.{Numbered, BadSum, NoSum, Plain}
 use Rattle.marlin_frame.specs.Reading.{IsReading, IsNumbered}
-use Rattle.marlin_frame.specs.Frame.{head_of, frame_of, begins_with_n, checked_part, has_checksum, checksum_matches, fails, lead_of, has_second_n, line_number_of, after_first_digits, after_space, text_of, IsNumberedLine}
+use Rattle.marlin_frame.specs.Frame.{head_of, frame_of, begins_with_n, checked_part, has_checksum, checksum_matches, fails, n_parameter_of, has_second_n, line_number_of, after_first_digits, after_space, text_of, IsNumberedLine}
 
 -- the checksum of a command under a number
 abbrev pub sum_of : ℕ → List ℕ → ℕ
@@ -82,9 +82,9 @@ fails-frame n text small =
     ∙ ap (λ b. not (b && checksum_matches (frame_of n text))) (has_checksum-frame n text)
     ∙ ap not (checksum_matches-frame n text small)
 
-pub lead_of-frame : (n : ℕ) (text : List ℕ) → n < 2 ^ 32 → lead_of (frame_of n text) ≡ n
-unfolding lead_of begins_with_digit
-lead_of-frame n text small =
+pub n_parameter_of-frame : (n : ℕ) (text : List ℕ) → n < 2 ^ 32 → n_parameter_of (frame_of n text) ≡ n
+unfolding n_parameter_of begins_with_digit
+n_parameter_of-frame n text small =
     ap (λ line. number_of (drop 1 line)) (frame_pieces n text)
     ∙ number_of-decimal n (32 ∷ (text ++ 42 ∷ decimal (sum_of n text))) small refl
 
@@ -116,9 +116,9 @@ has_m110-frame n text small fits none =
 pub line_number_of-frame : (n : ℕ) (text : List ℕ) → n < 2 ^ 32 → sum_of n text < 2 ^ 8 → has_m110 text ≡ false → line_number_of (frame_of n text) ≡ n
 unfolding line_number_of has_second_n
 line_number_of-frame n text small fits none =
-    ap (λ b. cond b (number_of (after_first (λ byte. byte == 78) (drop 4 (frame_of n text)))) (lead_of (frame_of n text)))
+    ap (λ b. cond b (number_of (after_first (λ byte. byte == 78) (drop 4 (frame_of n text)))) (n_parameter_of (frame_of n text)))
     (and_left _ _ (has_m110-frame n text small fits none))
-    ∙ lead_of-frame n text small
+    ∙ n_parameter_of-frame n text small
 
 pub length-frame : (n : ℕ) (text : List ℕ) → n < 10 ^ 10 → sum_of n text < 2 ^ 8 → length text ≤ 79 → length (frame_of n text) ≤ 95
 length-frame n text small fits short =

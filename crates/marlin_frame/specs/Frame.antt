@@ -35,8 +35,8 @@ unfoldable pub fails : List ℕ → Bool
 fails line = begins_with_n line && not (has_checksum line && checksum_matches line)
 
 -- the number after the `N` that a numbered line begins with
-unfoldable pub lead_of : List ℕ → ℕ
-lead_of line = number_of (drop 1 line)
+unfoldable pub n_parameter_of : List ℕ → ℕ
+n_parameter_of line = number_of (drop 1 line)
 
 -- whether a line that sets the printer's number has it after a second `N`, at its fifth byte or later
 unfoldable pub has_second_n : List ℕ → Bool
@@ -48,7 +48,7 @@ unfoldable pub line_number_of : List ℕ → ℕ
 line_number_of line =
     if has_second_n line
     then number_of (after_first (λ byte. byte == 78) (drop 4 line))
-    else lead_of line
+    else n_parameter_of line
 
 -- what follows the digits at the front
 unfoldable pub after_first_digits : List ℕ → List ℕ

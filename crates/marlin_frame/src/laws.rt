@@ -7,7 +7,7 @@ ghost use Rattle.byte_text.specs.Sendable.{IsSendable};
 ghost use Rattle.byte_text.specs.declared.texts.TheConstants.{MOST_LINE_BYTES};
 ghost use Rattle.marlin_frame.specs.declared.read.Read.{Read};
 ghost use Rattle.marlin_frame.specs.declared.written.TheConstants.{LAST_NUMBER};
-ghost use Rattle.marlin_frame.specs.Frame.{frame_of, begins_with_n, fails, lead_of, text_of, IsNumberedLine};
+ghost use Rattle.marlin_frame.specs.Frame.{frame_of, begins_with_n, fails, n_parameter_of, text_of, IsNumberedLine};
 ghost use Rattle.marlin_frame.specs.Numbering.{hello_number, hello_text, hello_frame};
 ghost use Rattle.marlin_frame.specs.Reading.{IsReading, IsNumbered};
 
@@ -18,7 +18,7 @@ pub fn frame_law()
     ensures read_as { (n : ℕ) (text : List ℕ) (reading : Read) → n ≤ LAST_NUMBER → IsSendable text
         → All (λ b. b < 2 ^ 8) text → IsReading reading (frame_of n text)
         → IsNumbered n text reading }
-    ensures lead { (n : ℕ) (text : List ℕ) → n ≤ LAST_NUMBER → lead_of (frame_of n text) ≡ n }
+    ensures n_parameter { (n : ℕ) (text : List ℕ) → n ≤ LAST_NUMBER → n_parameter_of (frame_of n text) ≡ n }
     ensures no_m110 { (n : ℕ) (text : List ℕ) → n ≤ LAST_NUMBER → IsSendable text
         → All (λ b. b < 2 ^ 8) text → has_m110 (frame_of n text) ≡ false }
     ensures no_line_feed { (n : ℕ) (text : List ℕ) → n ≤ LAST_NUMBER → IsSendable text
@@ -31,7 +31,7 @@ pub fn frame_law()
 pub fn hello_law()
     ensures bytes { hello_frame ≡ codes "N0 M110 N1*124" }
     ensures reads_back { IsNumberedLine hello_number hello_text hello_frame }
-    ensures lead { lead_of hello_frame ≡ 0 }
+    ensures n_parameter { n_parameter_of hello_frame ≡ 0 }
     ensures sets_number { has_m110 hello_frame ≡ true }
 {}
 

@@ -8,15 +8,14 @@ mod laws;
 mod numbering;
 mod parts;
 mod read;
-#[cfg(test)]
-mod tests;
 mod written;
 
 pub use byte_text::xor;
 pub use laws::{frame_law, hello_law, line_law};
 pub use numbering::{HELLO_NUMBER, hello_frame, wire_number};
 pub use parts::{
-    begins_with_n, checksum_matches, fails, has_checksum, has_second_n, lead, line_number, text,
+    begins_with_n, checksum_matches, fails, has_checksum, has_second_n, line_number, n_parameter,
+    text,
 };
 pub use read::{Read, read_frame};
 pub use written::{LAST_NUMBER, frame};

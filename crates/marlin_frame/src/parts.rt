@@ -2,7 +2,7 @@
 //! says there, so callers ask `begins_with_n` first.
 ghost use Rattle.std.specs.Prelude.{◌≡◌, ◌≤◌, ◌==◌, length};
 ghost use Rattle.std.specs.List.{position_or_len, after_first, before_last, after_last};
-ghost use Rattle.marlin_frame.specs.Frame.{begins_with_n, has_checksum, checksum_matches, fails, lead_of, has_second_n, line_number_of, after_first_digits, after_space, text_of};
+ghost use Rattle.marlin_frame.specs.Frame.{begins_with_n, has_checksum, checksum_matches, fails, n_parameter_of, has_second_n, line_number_of, after_first_digits, after_space, text_of};
 
 use byte_text::{after, has_byte, has_m110, leading_digits, number, split_at_last, xor};
 
@@ -64,9 +64,9 @@ fn after_first_n(bytes: &[u8]) -> &[u8]
 }
 
 /// The number after the `N` that the line begins with: 0 for no digits, 4,294,967,295 for everything above it.
-#[tactic(auto, unfolding(crate::specs::Frame::lead_of))]
-pub fn lead(line: &[u8]) -> u32
-    ensures { result ≡ lead_of line.now }
+#[tactic(auto, unfolding(crate::specs::Frame::n_parameter_of))]
+pub fn n_parameter(line: &[u8]) -> u32
+    ensures { result ≡ n_parameter_of line.now }
 {
     number(after(line, 1))
 }
@@ -88,7 +88,7 @@ pub fn line_number(line: &[u8]) -> u32
     if has_second_n(line) {
         number(after_first_n(after(line, 4)))
     } else {
-        lead(line)
+        n_parameter(line)
     }
 }
 

@@ -4,7 +4,7 @@
 ghost use Rattle.std.specs.Prelude.{◌≡◌, ◌≤◌, ◌+◌, ◌++◌, false, true, length, decimal};
 ghost use Rattle.byte_text.specs.Marks.{has_byte, has_m110};
 ghost use Rattle.byte_text.specs.declared.texts.TheConstants.{MOST_LINE_BYTES, MOST_TEXT_BYTES};
-ghost use Rattle.marlin_frame.specs.Frame.{head_of, frame_of, begins_with_n, fails, lead_of, IsNumberedLine};
+ghost use Rattle.marlin_frame.specs.Frame.{head_of, frame_of, begins_with_n, fails, n_parameter_of, IsNumberedLine};
 
 use byte_text::{Line, append, append_decimal, xor};
 
@@ -43,7 +43,7 @@ pub fn frame(n: u32, text: &[u8], into: &mut Line)
     // How it is read.
     ensures numbered { begins_with_n into.new.items ≡ true }
     ensures whole { fails into.new.items ≡ false }
-    ensures lead { lead_of into.new.items ≡ n }
+    ensures n_parameter { n_parameter_of into.new.items ≡ n }
     ensures reads_back { has_m110 text.now ≡ false → IsNumberedLine n text.now into.new.items }
 {
     write_head(n, text, into);

@@ -13,6 +13,3 @@ mod temperatures;
 pub use laws::{ok_law, request_law};
 pub use read::read_reply;
 pub use reply::{Heat, Reply, Temps};
-
-#[cfg(test)]
-mod tests;

@@ -111,7 +111,7 @@ not_listed (place ∷ places) n small far =
 -- all numbers above the places are alike
 arriving-far : (plan : SimPlan) (n : ℕ) (line : List ℕ) → IsPlan plan → 4294967295 < n → arriving plan n line ≡ line ∷ []
 unfolding arriving
-arriving-far plan n line is far = rw (not_listed plan.drop n is.dropped far, not_listed plan.garble n is.garbled far) refl
+arriving-far plan n line is far = rw (not_listed plan.drop n is.dropped far, not_listed plan.corrupt n is.corrupted far) refl
 
 planned-far : (plan : SimPlan) (n m : ℕ) (lines : List (List ℕ)) → IsPlan plan → 4294967295 < n → 4294967295 < m → planned plan n lines ≡ planned plan m lines
 planned-far plan n m [] is far far' = refl

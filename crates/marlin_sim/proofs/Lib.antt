@@ -1,5 +1,5 @@
-pub mod Places
-pub mod Pieces
 pub mod Coming
-pub mod Steps
+pub mod Pieces
+pub mod Places
 pub mod Serving
+pub mod Steps

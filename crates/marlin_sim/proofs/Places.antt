@@ -77,14 +77,14 @@ unfolding fits
 count_fits None = tt
 count_fits (Some n) = cond_both (is_places n) (Some n) None fits (λ is. places_fit n is) (λ _. tt)
 
-with_plan : (last places : Option ℕ) (dropped garbled : Option (List ℕ)) → fits places → bounded dropped → bounded garbled → IfSome (plan_with last places dropped garbled) IsPlan
+with_plan : (last slots : Option ℕ) (dropped corrupted : Option (List ℕ)) → fits slots → bounded dropped → bounded corrupted → IfSome (plan_with last slots dropped corrupted) IsPlan
 unfolding fits bounded
-with_plan None places dropped garbled count first second = tt
-with_plan (Some last) None dropped garbled count first second = tt
-with_plan (Some last) (Some places) None garbled count first second = tt
-with_plan (Some last) (Some places) (Some dropped) None count first second = tt
-with_plan (Some last) (Some places) (Some dropped) (Some garbled) count first second =
-    record { some = count.0; few = count.1; dropped = first; garbled = second; turns = lit≤ tt }
+with_plan None slots dropped corrupted count first second = tt
+with_plan (Some last) None dropped corrupted count first second = tt
+with_plan (Some last) (Some slots) None corrupted count first second = tt
+with_plan (Some last) (Some slots) (Some dropped) None count first second = tt
+with_plan (Some last) (Some slots) (Some dropped) (Some corrupted) count first second =
+    record { some = count.0; few = count.1; dropped = first; corrupted = second; turns = lit≤ tt }
 
 -- what the arguments say is a plan
 pub plan_given : (words : List (List ℕ)) → IfSome (plan_of words) IsPlan
@@ -93,9 +93,9 @@ plan_given (a ∷ []) = tt
 plan_given (a ∷ b ∷ []) = tt
 plan_given (a ∷ b ∷ c ∷ []) = tt
 plan_given (a ∷ b ∷ c ∷ d ∷ []) = tt
-plan_given (address ∷ last ∷ places ∷ dropped ∷ garbled ∷ []) =
-    cond_both (is_address address) (plan_with (number_in last) (count_in places) (places_in dropped) (places_in garbled)) None (λ plan. IfSome plan IsPlan)
-    (λ _. with_plan (number_in last) (count_in places) (places_in dropped) (places_in garbled) (count_fits (number_in places)) (word_bounded dropped) (word_bounded garbled))
+plan_given (address ∷ last ∷ slots ∷ dropped ∷ corrupted ∷ []) =
+    cond_both (is_address address) (plan_with (number_in last) (count_in slots) (places_in dropped) (places_in corrupted)) None (λ plan. IfSome plan IsPlan)
+    (λ _. with_plan (number_in last) (count_in slots) (places_in dropped) (places_in corrupted) (count_fits (number_in slots)) (word_bounded dropped) (word_bounded corrupted))
     (λ _. tt)
 plan_given (a ∷ b ∷ c ∷ d ∷ e ∷ f ∷ more) = tt
 

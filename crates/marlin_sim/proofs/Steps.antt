@@ -31,16 +31,16 @@ pub arrive_world : (p : PrinterData) (log : List Logged) (line : List ℕ) (line
 arrive_world p log line lines down room = happens (world_at p log (line ∷ lines) down) Arrive (ap not room)
 
 -- the front of a queue is run
-run_entry : (last places : ℕ) (advanced : Bool) (queue : List Entry) (log : List Logged) (up down : List (List ℕ)) (ran : RanLine) → (run_queue (record { last = last; places = places; advanced = advanced; queue = queue }) queue).0 ≡ Some ran → apply (world_at (record { last = last; places = places; advanced = advanced; queue = queue }) log up down) Run ≡ world_at (run_queue (record { last = last; places = places; advanced = advanced; queue = queue }) queue).1 (log ++ log_line_of ran ∷ []) up (down ++ ran.reply ∷ [])
-run_entry last places advanced [] log up down ran is = absurd (cc)
-run_entry last places advanced (entry ∷ queue) log up down ran is =
-    let p : PrinterData = record { last = last; places = places; advanced = advanced; queue = entry ∷ queue } in
+run_entry : (last slots : ℕ) (numbered : Bool) (queue : List Entry) (log : List Logged) (up down : List (List ℕ)) (ran : RanLine) → (run_queue (record { last = last; slots = slots; numbered = numbered; queue = queue }) queue).0 ≡ Some ran → apply (world_at (record { last = last; slots = slots; numbered = numbered; queue = queue }) log up down) Run ≡ world_at (run_queue (record { last = last; slots = slots; numbered = numbered; queue = queue }) queue).1 (log ++ log_line_of ran ∷ []) up (down ++ ran.reply ∷ [])
+run_entry last slots numbered [] log up down ran is = absurd (cc)
+run_entry last slots numbered (entry ∷ queue) log up down ran is =
+    let p : PrinterData = record { last = last; slots = slots; numbered = numbered; queue = entry ∷ queue } in
     let same : ran_line p entry ≡ ran = cc in
     happens (world_at p log up down) Run refl
     ∙ ap (λ (r : RanLine). world_at (run_queue p (entry ∷ queue)).1 (log ++ log_line_of r ∷ []) up (down ++ r.reply ∷ [])) same
 
 pub run_world : (p : PrinterData) (log : List Logged) (up down : List (List ℕ)) (ran : RanLine) → (run_front p).0 ≡ Some ran → apply (world_at p log up down) Run ≡ world_at (run_front p).1 (log ++ log_line_of ran ∷ []) up (down ++ ran.reply ∷ [])
-run_world p log up down ran is = run_entry p.last p.places p.advanced p.queue log up down ran is
+run_world p log up down ran is = run_entry p.last p.slots p.numbered p.queue log up down ran is
 
 -- what is written and printed after a step
 added_text : {X : Type 0} (f : X → List ℕ) (start : List ℕ) (xs more : List X) (out rest added : List ℕ) → start ++ flat_map f xs ≡ out ++ rest → added ≡ flat_map f more → start ++ flat_map f (xs ++ more) ≡ out ++ (rest ++ added)
@@ -89,13 +89,13 @@ ran_follows plan input rest wrote printed old new r t =
     })
 
 -- what a taken line leaves of the queue and the buffer slots
-judged_queue : (p : PrinterData) (result : Result Entry Reason) → (length (take_judged p result).1.queue ≤ length p.queue + 1) × ((take_judged p result).1.places ≡ p.places)
+judged_queue : (p : PrinterData) (result : Result Entry Reason) → (length (take_judged p result).1.queue ≤ length p.queue + 1) × ((take_judged p result).1.slots ≡ p.slots)
 judged_queue p (Ok entry) = (simp length-append (omega arith), refl)
 judged_queue p (Err reason) = (omega arith, refl)
 
-pub taken_queue : (p : PrinterData) (line : List ℕ) → (length (take_line p line).1.queue ≤ length p.queue + 1) × ((take_line p line).1.places ≡ p.places)
+pub taken_queue : (p : PrinterData) (line : List ℕ) → (length (take_line p line).1.queue ≤ length p.queue + 1) × ((take_line p line).1.slots ≡ p.slots)
 taken_queue p line =
-    let P : Taken × PrinterData → Type 0 = λ t. (length t.1.queue ≤ length p.queue + 1) × (t.1.places ≡ p.places) in
+    let P : Taken × PrinterData → Type 0 = λ t. (length t.1.queue ≤ length p.queue + 1) × (t.1.slots ≡ p.slots) in
     cond_both (is_full p) (Full, p) (take_judged p (judged p.last line)) P (λ _. (omega arith, refl)) (λ _. judged_queue p (judged p.last line))
 
 -- a line that is looked at isn't left
@@ -115,10 +115,10 @@ room_else p line =
     cond_both (is_full p) (Full, p) (take_judged p (judged p.last line)) P (λ _ other. absurd (other refl)) (λ room _. room)
 
 -- a line that arrives is less to do
-pub arrived_work : (old new : SimData) → Arrived old new → (work new < work old) × (new.printer.places ≡ old.printer.places)
+pub arrived_work : (old new : SimData) → Arrived old new → (work new < work old) × (new.printer.slots ≡ old.printer.slots)
 arrived_work old new a =
     let queue = taken_queue old.printer a.line in
-    let Less : SimData → Type 0 = λ s. (work s < work old) × (s.printer.places ≡ old.printer.places) in
+    let Less : SimData → Type 0 = λ s. (work s < work old) × (s.printer.slots ≡ old.printer.slots) in
     let waiting : length old.lines.waiting ≡ suc (length (drop 1 old.lines.waiting)) = ap length a.first in
     subst Less (sym a.is) (omega (arith, queue.0, waiting), queue.1)
 

@@ -1,5 +1,5 @@
 pub mod Lines
 pub mod Plan
 pub mod Run
-pub mod Sim
 pub mod Served
+pub mod Sim

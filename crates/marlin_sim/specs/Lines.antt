@@ -3,7 +3,7 @@ use Rattle.std.specs.Prelude.{ℕ, suc, ◌-◌, Bool, ◌==◌, if◌then◌els
 use Rattle.std.specs.Char.{is_ascii_digit}
 use Rattle.std.specs.List.{slice_split}
 use Rattle.octo_outside.specs.Memory.{is_listed}
-use Rattle.printer_model.specs.Garble.{garbled}
+use Rattle.printer_model.specs.Corrupt.{corrupted}
 use Rattle.marlin_sim.specs.declared.plan.SimPlan.{SimPlan}
 
 -- whether a byte ends a line
@@ -29,13 +29,13 @@ abbrev pub ends_with_digit : List ℕ → Bool
 ends_with_digit line = is_ascii_digit (slice_index line (length line - 1))
 
 -- what arrives of a line that is to be corrupted: the line with another last digit, if it has one
-abbrev pub if_garbled : List ℕ → List (List ℕ)
-if_garbled line = if ends_with_digit line then garbled line ∷ [] else []
+abbrev pub if_corrupted : List ℕ → List (List ℕ)
+if_corrupted line = if ends_with_digit line then corrupted line ∷ [] else []
 
 -- what arrives of the received line of that number
 unfoldable pub arriving : SimPlan → ℕ → List ℕ → List (List ℕ)
 arriving plan n line =
-    if is_listed plan.drop n then [] else if is_listed plan.garble n then if_garbled line else line ∷ []
+    if is_listed plan.drop n then [] else if is_listed plan.corrupt n then if_corrupted line else line ∷ []
 
 -- what arrives of received lines, the first of which has this number
 abbrev pub planned : SimPlan → ℕ → List (List ℕ) → List (List ℕ)

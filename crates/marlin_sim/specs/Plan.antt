@@ -37,8 +37,8 @@ count_in word = only_if is_places (number_in word)
 
 -- a plan of these parts, if none is missing; a connection is served for 4,000,000,000,000 turns
 abbrev pub plan_with : Option ℕ → Option ℕ → Option (List ℕ) → Option (List ℕ) → Option SimPlan
-plan_with (Some last) (Some places) (Some dropped) (Some garbled) =
-    Some (record { last = last; places = places; drop = dropped; garble = garbled; turns = 4000000000000 })
+plan_with (Some last) (Some slots) (Some dropped) (Some corrupted) =
+    Some (record { last = last; slots = slots; drop = dropped; corrupt = corrupted; turns = 4000000000000 })
 plan_with _ _ _ _ = None
 
 -- whether a word may be an address: 1 to 100 bytes
@@ -47,8 +47,8 @@ is_address word = nat_le 1 (length word) && nat_le (length word) 100
 
 -- the plan that the arguments are: the address, the last number, the buffer slots, and the lines to drop and to corrupt
 abbrev pub plan_of : List (List ℕ) → Option SimPlan
-plan_of (address ∷ last ∷ places ∷ dropped ∷ garbled ∷ []) =
-    if is_address address then plan_with (number_in last) (count_in places) (places_in dropped) (places_in garbled) else None
+plan_of (address ∷ last ∷ slots ∷ dropped ∷ corrupted ∷ []) =
+    if is_address address then plan_with (number_in last) (count_in slots) (places_in dropped) (places_in corrupted) else None
 plan_of _ = None
 
 -- whether a number may be the number of a received line
@@ -57,8 +57,8 @@ is_place n = nat_le n most_u32
 
 -- a plan as arguments can name it
 pub record IsPlan (plan : SimPlan) : Type 0 where
-  pub some : 1 ≤ plan.places
-  pub few : plan.places ≤ 16
+  pub some : 1 ≤ plan.slots
+  pub few : plan.slots ≤ 16
   pub dropped : list_all is_place plan.drop ≡ true
-  pub garbled : list_all is_place plan.garble ≡ true
+  pub corrupted : list_all is_place plan.corrupt ≡ true
   pub turns : 1 ≤ plan.turns

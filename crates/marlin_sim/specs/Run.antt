@@ -20,7 +20,7 @@ abbrev pub first_world : SimPlan → List ℕ → WorldData
 first_world plan input =
     record {
       linked = true;
-      printer = record { last = plan.last; places = plan.places; advanced = false; queue = [] };
+      printer = record { last = plan.last; slots = plan.slots; numbered = false; queue = [] };
       log = [];
       up = planned plan 1 (whole_lines input);
       down = [];

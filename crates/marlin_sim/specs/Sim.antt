@@ -21,7 +21,7 @@ pub record SimData : Type 0 where
 abbrev pub new_sim : SimPlan → SimData
 new_sim plan =
     record {
-      printer = record { last = plan.last; places = plan.places; advanced = false; queue = [] };
+      printer = record { last = plan.last; slots = plan.slots; numbered = false; queue = [] };
       lines = record { waiting = []; begun = []; received = 0 };
       replies = start_text;
       text = [];

@@ -2,7 +2,7 @@
 ghost use Rattle.std.specs.Prelude.{◌≡◌, ◌≤◌, ◌+◌, ◌∷◌, ◌++◌, [], length, MatchOption};
 ghost use Rattle.byte_text.specs.declared.texts.TheConstants.{MOST_LINE_BYTES};
 ghost use Rattle.octo_outside.specs.Memory.{is_listed};
-ghost use Rattle.printer_model.specs.Garble.{garbled};
+ghost use Rattle.printer_model.specs.Corrupt.{corrupted};
 ghost use Rattle.marlin_sim.specs.Lines.{cut, ends_with_digit, arriving};
 
 use crate::cuts::split_at_first;
@@ -10,7 +10,7 @@ use crate::plan::SimPlan;
 use arrayvec::ArrayVec;
 use byte_text::{MOST_LINE_BYTES, append, bounded_text};
 use octo_outside::CallList;
-use printer_model::garbled;
+use printer_model::corrupted;
 use std::alloc::{AllocError, Global};
 use std::collections::VecDeque;
 use std::marker::Model;
@@ -44,11 +44,11 @@ fn ends_with_digit(line: &CutLine) -> bool
 }
 
 // The line with another last digit.
-#[tactic(auto, unfolding(printer_model::specs::Garble::garbled))]
-fn garbled_line(line: &CutLine) -> CutLine
-    ensures { result.items ≡ garbled line.now.items }
+#[tactic(auto, unfolding(printer_model::specs::Corrupt::corrupted))]
+fn corrupted_line(line: &CutLine) -> CutLine
+    ensures { result.items ≡ corrupted line.now.items }
 {
-    let line = garbled(&bounded_text(line.as_slice()));
+    let line = corrupted(&bounded_text(line.as_slice()));
     bounded_text(line.as_slice())
 }
 
@@ -61,11 +61,11 @@ fn arriving(plan: &SimPlan, number: u64, line: CutLine) -> Option<CutLine>
     if is_listed(&plan.drop, number) {
         return None;
     }
-    if !is_listed(&plan.garble, number) {
+    if !is_listed(&plan.corrupt, number) {
         return Some(line);
     }
     if ends_with_digit(&line) {
-        return Some(garbled_line(&line));
+        return Some(corrupted_line(&line));
     }
     None
 }

@@ -15,7 +15,7 @@ mod tests;
 use absent::AbsentConn;
 use end::SimEnd;
 use octo_outside::{ArgumentsFault, StdSink, WordList, arguments};
-use octo_sockets::TcpConn;
+use octo_outside_sockets::TcpConn;
 use plan::read_plan;
 use simulate::sim;
 use std::process::ExitCode;

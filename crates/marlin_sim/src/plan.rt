@@ -13,11 +13,11 @@ pub struct SimPlan {
     /// Its last line number at the beginning.
     pub last: u32,
     /// Its buffer slots: how many lines it keeps waiting, 1 to 16.
-    pub places: u8,
+    pub slots: u8,
     /// The received lines, counted from 1, that don't arrive.
     pub drop: CallList,
     /// The received lines that arrive with another last digit.
-    pub garble: CallList,
+    pub corrupt: CallList,
     /// For how many reads the connection is served.
     pub turns: u64,
 }
@@ -75,7 +75,7 @@ fn read_count(word: &str) -> Option<u8>
     ensures { result ≡ count_in word.now }
 {
     match number_in(word) {
-        Some(places) if places >= 1 && places <= 16 => Some(places as u8),
+        Some(slots) if slots >= 1 && slots <= 16 => Some(slots as u8),
         _ => None,
     }
 }
@@ -84,24 +84,24 @@ fn read_count(word: &str) -> Option<u8>
 fn plan_with(
     alloc: Global,
     last: u32,
-    places: u8,
+    slots: u8,
     drop: &str,
-    garble: &str,
+    corrupt: &str,
 ) -> Result<Option<SimPlan>, AllocError>
     ensures { IfOk result (λ plan. plan
-        ≡ plan_with (Some last) (Some places) (places_in drop.now) (places_in garble.now)) }
+        ≡ plan_with (Some last) (Some slots) (places_in drop.now) (places_in corrupt.now)) }
 {
     let Some(drop) = read_places(alloc, drop)? else {
         return Ok(None);
     };
-    let Some(garble) = read_places(alloc, garble)? else {
+    let Some(corrupt) = read_places(alloc, corrupt)? else {
         return Ok(None);
     };
     Ok(Some(SimPlan {
         last,
-        places,
+        slots,
         drop,
-        garble,
+        corrupt,
         turns: TURNS,
     }))
 }
@@ -116,10 +116,10 @@ fn plan_in(alloc: Global, words: &WordList) -> Result<Option<SimPlan>, AllocErro
     let Some(last) = number_in(words.get(1)) else {
         return Ok(None);
     };
-    let Some(places) = read_count(words.get(2)) else {
+    let Some(slots) = read_count(words.get(2)) else {
         return Ok(None);
     };
-    plan_with(alloc, last, places, words.get(3), words.get(4))
+    plan_with(alloc, last, slots, words.get(3), words.get(4))
 }
 
 // Whether an argument may be an address: 1 to 100 bytes.

@@ -107,10 +107,10 @@ fn step_and_reply<C: Conn, O: Sink>(conn: &mut C, out: &mut O, sim: &mut Sim) ->
         → After result plan input first
         (outside (C.left conn.new) (C.written conn.new) (O.written out.new)) sim.new }
     ensures acts { (result ≡ next.On) ⊎ (result ≡ next.Over) → StepsAndReplies sim.old sim.new }
-    ensures idle { result ≡ next.Over → 1 ≤ sim.old.printer.places → IsIdle sim.new }
+    ensures idle { result ≡ next.Over → 1 ≤ sim.old.printer.slots → IsIdle sim.new }
     ensures work { result ≡ next.On → work sim.new < work sim.old }
-    ensures places { (result ≡ next.On) ⊎ (result ≡ next.Over)
-        → sim.new.printer.places ≡ sim.old.printer.places }
+    ensures slots { (result ≡ next.On) ⊎ (result ≡ next.Over)
+        → sim.new.printer.slots ≡ sim.old.printer.slots }
     ensures left { C.left conn.new ≡ C.left conn.old }
     ensures quiets { C.quiets conn.new ≡ C.quiets conn.old }
     ensures conn { Counts (result ≡ next.ConnFailed) (C.faults conn.old) (C.faults conn.new) }
@@ -124,7 +124,7 @@ fn step_and_reply<C: Conn, O: Sink>(conn: &mut C, out: &mut O, sim: &mut Sim) ->
 
 // Does what is left to do once the peer has closed.
 fn drain<C: Conn, O: Sink>(conn: &mut C, out: &mut O, sim: &mut Sim) -> SimEnd
-    requires { 1 ≤ sim.old.printer.places }
+    requires { 1 ≤ sim.old.printer.slots }
     ensures follows { (plan : SimPlan) (input : List ℕ) (first : Outside)
         → Serves plan input first
         (outside (C.left conn.old) (C.written conn.old) (O.written out.old)) sim.old
@@ -157,7 +157,7 @@ fn go_on<C: Conn, O: Sink>(conn: &mut C, out: &mut O, sim: &mut Sim) -> Next
         (outside (C.left conn.new) (C.written conn.new) (O.written out.new)) sim.new }
     ensures acts { result ≡ next.On → StepsAndReplies sim.old sim.new }
     ensures open { result ≢ next.Over }
-    ensures places { result ≡ next.On → sim.new.printer.places ≡ sim.old.printer.places }
+    ensures slots { result ≡ next.On → sim.new.printer.slots ≡ sim.old.printer.slots }
     ensures left { C.left conn.new ≡ C.left conn.old }
     ensures quiets { C.quiets conn.new ≡ C.quiets conn.old }
     ensures conn { Counts (result ≡ next.ConnFailed) (C.faults conn.old) (C.faults conn.new) }
@@ -187,7 +187,7 @@ fn receive<C: Conn, O: Sink>(
         (outside (C.left conn.new) (C.written conn.new) (O.written out.new)) sim.new }
     ensures acts { result ≡ next.On → StepsAndRepliesOn sim.old.printer sim.new }
     ensures open { result ≢ next.Over }
-    ensures places { result ≡ next.On → sim.new.printer.places ≡ sim.old.printer.places }
+    ensures slots { result ≡ next.On → sim.new.printer.slots ≡ sim.old.printer.slots }
     ensures left { C.left conn.new ≡ C.left conn.old }
     ensures quiets { C.quiets conn.new ≡ C.quiets conn.old }
     ensures conn { Counts (result ≡ next.ConnFailed) (C.faults conn.old) (C.faults conn.new) }
@@ -215,8 +215,8 @@ pub fn take_turn<C: Conn, O: Sink>(conn: &mut C, out: &mut O, sim: &mut Sim, pla
         → IfSome (C.left conn.old) (λ _. C.left conn.new ≡ Some []) }
     ensures used { result ≡ next.On → IfSome (C.left conn.old)
         (λ before. IsUsed 1 before (C.left conn.new) (C.quiets conn.old) (C.quiets conn.new)) }
-    ensures places { (result ≡ next.On) ⊎ (result ≡ next.Over)
-        → sim.new.printer.places ≡ sim.old.printer.places }
+    ensures slots { (result ≡ next.On) ⊎ (result ≡ next.Over)
+        → sim.new.printer.slots ≡ sim.old.printer.slots }
     ensures quiets_counted { C.quiets conn.old ≤ C.quiets conn.new }
     ensures conn { Counts (result ≡ next.ConnFailed) (C.faults conn.old) (C.faults conn.new) }
     ensures sink { Counts (result ≡ next.SinkFailed) (O.faults out.old) (O.faults out.new) }
@@ -238,7 +238,7 @@ pub fn take_turns<C: Conn, O: Sink>(
     plan: &SimPlan,
 ) -> SimEnd
     requires plan { IsPlan plan.now }
-    requires places { sim.old.printer.places ≡ plan.now.places }
+    requires slots { sim.old.printer.slots ≡ plan.now.slots }
     ensures follows { (input : List ℕ) (first : Outside)
         → Going plan.now input first
         (outside (C.left conn.old) (C.written conn.old) (O.written out.old)) sim.old

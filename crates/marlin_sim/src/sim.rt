@@ -85,7 +85,7 @@ impl Sim {
         ensures { IfOk result (λ s. s ≡ new_sim plan.now) }
     {
         Ok(Sim {
-            printer: Printer::new(plan.last, plan.places, false),
+            printer: Printer::new(plan.last, plan.slots, false),
             lines: Lines::new(alloc),
             replies: Blob::from_slice(alloc, b"start\n")?,
             text: Blob::new(alloc),
@@ -156,7 +156,7 @@ impl Sim {
         ensures arrives { OnOk result (Arrives self.old self.new) }
         ensures all { OnOk result (IsStuck self.new) }
         ensures work { OnOk result (work self.new ≤ work self.old) }
-        ensures places { OnOk result (self.new.printer.places ≡ self.old.printer.places) }
+        ensures slots { OnOk result (self.new.printer.slots ≡ self.old.printer.slots) }
     {
         while self.arrive_next()? {}
         Ok(())
@@ -182,9 +182,9 @@ impl Sim {
         ensures steps { IfOk result (λ ran. Steps ran self.old self.new) }
         ensures kept { OnOk result (Keeps self.old self.new) }
         ensures idle { IfOk result
-            (λ ran. ran ≡ false → 1 ≤ self.old.printer.places → IsIdle self.new) }
+            (λ ran. ran ≡ false → 1 ≤ self.old.printer.slots → IsIdle self.new) }
         ensures work { IfOk result (λ ran. ran ≡ true → work self.new < work self.old) }
-        ensures places { OnOk result (self.new.printer.places ≡ self.old.printer.places) }
+        ensures slots { OnOk result (self.new.printer.slots ≡ self.old.printer.slots) }
     {
         self.arrive_all()?;
         self.run_next()

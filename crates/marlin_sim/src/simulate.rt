@@ -16,7 +16,7 @@ use std::alloc::Global;
 // Writes `start`, and then serves the connection.
 fn begin<C: Conn, O: Sink>(conn: &mut C, out: &mut O, sim: &mut Sim, plan: &SimPlan) -> SimEnd
     requires plan { IsPlan plan.now }
-    requires places { sim.old.printer.places ≡ plan.now.places }
+    requires slots { sim.old.printer.slots ≡ plan.now.slots }
     ensures follows { (input : List ℕ) (first : Outside)
         → Serves plan.now input first
         (outside (C.left conn.old) (C.written conn.old) (O.written out.old)) sim.old

@@ -86,7 +86,7 @@ fn assert_rows(rt: &(impl Abort + Alloc<A = Global>), rows: &[Row]) -> Result<()
 }
 
 // A print of G28 whose first sending is corrupted, so that the printer asks for it again.
-const GARBLED: Row = Row {
+const CORRUPTED: Row = Row {
     words: &["127.0.0.1:7100", "4", "4", "-", "2"],
     input: b"N0 M110 N1*124\nN2 G28*17\nN2 G28*17\n",
     quiet_at: &[],
@@ -99,7 +99,7 @@ const GARBLED: Row = Row {
 
 #[test]
 fn ample(rt: HostRuntime) -> Result<(), Fail> {
-    assert_row(&rt, &GARBLED)
+    assert_row(&rt, &CORRUPTED)
 }
 
 #[test]
@@ -109,21 +109,21 @@ fn planned_lines(rt: HostRuntime) -> Result<(), Fail> {
             words: &["p", "4", "4", "2", "-"],
             printed: b"N1 M110 N1\nN2 G28\n",
             written: b"start\nok\nok\n",
-            ..GARBLED
+            ..CORRUPTED
         },
         Row {
             words: &["p", "0", "1", "-", "-"],
             input: b"N1 G28*18\nM105\nno end",
             written: b"start\nok\nok T:21.30 /0.00 B:21.22 /0.00 @:0 B@:0\n",
             printed: b"N1 G28\nM105\n",
-            ..GARBLED
+            ..CORRUPTED
         },
         Row {
             words: &["p", "0", "4", "-", "1,2,3"],
             input: b"G28\nG1 X9\nM84 S\n",
             written: b"start\nok\nok\n",
             printed: b"G29\nG1 X0\n",
-            ..GARBLED
+            ..CORRUPTED
         },
     ];
     assert_rows(&rt, &rows)
@@ -137,13 +137,13 @@ fn short_inputs(rt: HostRuntime) -> Result<(), Fail> {
             input: b"G28\n\nM84\n",
             written: b"start\nok\n",
             printed: b"\n",
-            ..GARBLED
+            ..CORRUPTED
         },
         Row {
             input: b"",
             written: b"start\n",
             printed: b"",
-            ..GARBLED
+            ..CORRUPTED
         },
     ];
     assert_rows(&rt, &rows)
@@ -158,31 +158,31 @@ fn failing_calls(rt: HostRuntime) -> Result<(), Fail> {
             end: SimEnd::ConnFailed,
             written: b"",
             printed: b"",
-            ..GARBLED
+            ..CORRUPTED
         },
         Row {
             conn_fails: &[2],
             end: SimEnd::ConnFailed,
             written: b"start\n",
             printed: b"",
-            ..GARBLED
+            ..CORRUPTED
         },
         Row {
             conn_fails: &[3],
             end: SimEnd::ConnFailed,
             written: b"start\n",
             printed: b"N1 M110 N1\n",
-            ..GARBLED
+            ..CORRUPTED
         },
         Row {
             sink_fails: &[1],
             end: SimEnd::SinkFailed,
             printed: b"",
-            ..GARBLED
+            ..CORRUPTED
         },
         Row {
             quiet_at: &[2, 3],
-            ..GARBLED
+            ..CORRUPTED
         },
     ];
     assert_rows(&rt, &rows)
@@ -194,9 +194,9 @@ fn turns_of(alloc: Global, conn: &mut MemoryConn, out: &mut MemorySink, turns: u
 {
     let plan = SimPlan {
         last: 4,
-        places: 4,
+        slots: 4,
         drop: CallList::new(alloc),
-        garble: CallList::new(alloc),
+        corrupt: CallList::new(alloc),
         turns,
     };
     simulate(alloc, conn, out, &plan)
@@ -207,7 +207,7 @@ fn turns_of(alloc: Global, conn: &mut MemoryConn, out: &mut MemorySink, turns: u
 fn turns_used(rt: HostRuntime) -> Result<(), Fail> {
     let row = Row {
         quiet_at: &[2, 3],
-        ..GARBLED
+        ..CORRUPTED
     };
     for (turns, printed) in [(1, b"".as_slice()), (3, b"N1 M110 N1\n".as_slice())] {
         let mut conn = conn_of(rt.alloc(), &row)?;
@@ -247,7 +247,7 @@ fn bad_plans(rt: HostRuntime) -> Result<(), Fail> {
                 end: SimEnd::BadPlan,
                 written: b"",
                 printed: b"",
-                ..GARBLED
+                ..CORRUPTED
             },
         )?;
     }

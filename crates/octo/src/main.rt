@@ -4,16 +4,24 @@
 ghost use Rattle.std.specs.Prelude.{◌≡◌};
 ghost use Rattle.octo_commands.specs.Commands.{arguments_fault_report};
 
-mod objects;
+mod absent;
 
-use objects::{close, objects_of};
+use absent::{AbsentKeeper, absent_doors};
+use byte_text::Name;
 use octo_commands::octo;
-use octo_host::{HostReport, write_host_report};
-use octo_outside::{ArgumentsFault, FileSource, StdSink, SystemClock, arguments};
-use octo_report::{OUTPUT_FAILED, Report};
-use socket_link::SocketLink;
+use octo_files::{OUTPUT_FAILED, Report};
+use octo_keeper::Keeper;
+use octo_keeper_file::{close_keeper, open_keeper};
+use octo_keeper_folder::FolderShelf;
+use octo_outside::{ArgumentsFault, FileSource, StdSink, SystemClock, WordList, arguments};
+use octo_outside_doors::{Doors, TcpDoor};
+use octo_serve_command::{HostReport, Opened, write_host_report};
+use octo_words::{Command, read_words};
+use printer_link_socket::SocketLink;
 use std::alloc::AllocError;
 use std::process::ExitCode;
+use std::sync::Wait;
+use std::thread::Threads;
 
 // The report on arguments that can't be used.
 fn arguments_fault_report(fault: ArgumentsFault) -> HostReport
@@ -33,31 +41,109 @@ fn end_with(out: &mut StdSink<HostRuntime>, report: &HostReport) -> ExitCode {
     }
 }
 
+// Carries out the command that the arguments are, over the system's files and sockets, and returns the program's exit status.
+// `rt` starts threads and waits; `system` opens what the program works with. The program has one handle for both.
+fn carry_out<R: Threads + Wait + Clone + Send + Sync + Drop, K: Keeper>(
+    rt: &R,
+    system: &HostRuntime,
+    words: &WordList,
+    out: &mut StdSink<HostRuntime>,
+    keeper: &mut K,
+    folder: &Name,
+    doors: &mut Doors<TcpDoor<HostRuntime>>,
+) -> ExitCode {
+    let mut files = FileSource::new(*system);
+    let mut link = SocketLink::new(system);
+    let mut clock = SystemClock::new(*system);
+    let mut shelf = FolderShelf::new(*system, folder);
+    let status = octo(
+        rt,
+        system.alloc(),
+        words,
+        &mut files,
+        &mut link,
+        out,
+        &mut clock,
+        keeper,
+        &mut shelf,
+        doors,
+    );
+    ExitCode::from(status.code)
+}
+
+// Serves at an address, over a folder and a database, which is closed at the end. A database that can't be opened, a missing
+// folder and an address that can't be bound fail at each call.
+//
+// This function alone holds the keeper of a database, so only its proof takes SQLite's types in.
+fn serve_with<R: Threads + Wait + Clone + Send + Sync + Drop>(
+    rt: &R,
+    system: &HostRuntime,
+    words: &WordList,
+    out: &mut StdSink<HostRuntime>,
+    address: &Name,
+    folder: &Name,
+    database: &Name,
+) -> ExitCode {
+    let mut doors = match TcpDoor::four(system, system.alloc(), address.as_str()) {
+        Ok(doors) => doors,
+        Err(AllocError) => return end_with(out, &HostReport::Command(Report::NoMemory)),
+    };
+    let mut keeper = Opened::new(open_keeper(system, database));
+    let code = carry_out(rt, system, words, out, &mut keeper, folder, &mut doors);
+    match keeper.into_keeper() {
+        Ok(keeper) => close_keeper(keeper),
+        Err(_) => {}
+    }
+    code
+}
+
+// Carries out a command that doesn't serve: it has no database, no folder and no address.
+fn carry_out_unserved<R: Threads + Wait + Clone + Send + Sync + Drop>(
+    rt: &R,
+    system: &HostRuntime,
+    words: &WordList,
+    out: &mut StdSink<HostRuntime>,
+) -> ExitCode {
+    let mut keeper = AbsentKeeper::new();
+    let mut doors = absent_doors(system);
+    carry_out(
+        rt,
+        system,
+        words,
+        out,
+        &mut keeper,
+        &Name::new(),
+        &mut doors,
+    )
+}
+
+// Carries out this command, which the arguments are.
+fn carry_out_command<R: Threads + Wait + Clone + Send + Sync + Drop>(
+    rt: &R,
+    system: &HostRuntime,
+    words: &WordList,
+    out: &mut StdSink<HostRuntime>,
+    command: &Command,
+) -> ExitCode {
+    match command {
+        Command::Serve {
+            address,
+            folder,
+            database,
+            ..
+        } => serve_with(rt, system, words, out, address, folder, database),
+        _ => carry_out_unserved(rt, system, words, out),
+    }
+}
+
 fn main(rt: HostRuntime) -> ExitCode {
     let mut out = StdSink::new(rt);
     let words = match arguments(&rt) {
         Ok(words) => words,
         Err(fault) => return end_with(&mut out, &arguments_fault_report(fault)),
     };
-    let mut objects = match objects_of(&rt, &words) {
-        Ok(objects) => objects,
-        Err(AllocError) => return end_with(&mut out, &HostReport::Command(Report::NoMemory)),
-    };
-    let mut files = FileSource::new(rt);
-    let mut link = SocketLink::new(&rt);
-    let mut clock = SystemClock::new(rt);
-    let status = octo(
-        &rt,
-        rt.alloc(),
-        &words,
-        &mut files,
-        &mut link,
-        &mut out,
-        &mut clock,
-        &mut objects.keeper,
-        &mut objects.shelf,
-        &mut objects.doors,
-    );
-    close(objects);
-    ExitCode::from(status.code)
+    match read_words(rt.alloc(), &words) {
+        Ok(command) => carry_out_command(&rt, &rt, &words, &mut out, &command),
+        Err(_) => carry_out_unserved(&rt, &rt, &words, &mut out),
+    }
 }

@@ -1,7 +1,8 @@
-//! Who may do what on a print host: permissions, groups, users and their keys.
+//! Who may do what on a print host: permissions, groups, users and their keys; and which texts are names of print files.
 #![tactic(auto)]
 
 mod checks;
+mod file_names;
 mod groups;
 mod names;
 mod order;
@@ -13,6 +14,7 @@ mod row;
 mod users;
 
 pub use checks::MOST_USERS;
+pub use file_names::{is_file_name, is_gcode, read_file_name};
 pub use groups::{GroupFault, Groups, MOST_GROUPS};
 pub use names::{is_among, is_name_byte, read_name};
 pub use permission::Permission;

@@ -3,7 +3,7 @@ use Rattle.std.specs.Prelude.{ℤ, pos, int_div}
 use Rattle.marlin_reply.specs.declared.reply.Heat.{Heat}
 use Rattle.octo_access.specs.declared.row.UserRow.{UserRow}
 use Rattle.print_queue.specs.declared.entry.QueueEntry.{QueueEntry}
-use Rattle.print_records.specs.declared.row.PrintRow.{PrintRow}
+use Rattle.print_queue.specs.declared.row.PrintRow.{PrintRow}
 use Rattle.octo_asks.specs.declared.shown.ShownHeat.{ShownHeat}
 use Rattle.octo_asks.specs.declared.shown.ShownUser.{ShownUser}
 use Rattle.octo_asks.specs.declared.shown.ShownEntry.{ShownEntry}

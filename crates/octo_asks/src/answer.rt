@@ -4,8 +4,8 @@ use crate::shown::{
     ShownUser, ShownUserList,
 };
 use byte_text::Name;
-use desk_steps::State;
 use gcode_lines::FileFault;
+use job_desk::State;
 use octo_access::Permission;
 use octo_outside::{Blob, NameList};
 

@@ -1,6 +1,6 @@
 //! The counter at which a print host takes asks and returns answers.
 use crate::{Answer, Ask, Entry};
-use desk_steps::Note;
+use job_desk::Note;
 
 /// A worker's ask that was given out and isn't answered.
 #[derive(Drop)]

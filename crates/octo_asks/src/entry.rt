@@ -1,6 +1,6 @@
 //! The history of a print host.
 use crate::{Answer, Ask};
-use desk_steps::Note;
+use job_desk::Note;
 
 /// An entry of the history.
 #[derive(Drop)]

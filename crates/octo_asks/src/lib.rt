@@ -23,6 +23,3 @@ pub use shown::{
     Progress, ShownEntry, ShownEntryList, ShownFile, ShownFileList, ShownHeat, ShownPrint,
     ShownPrintList, ShownUser, ShownUserList,
 };
-
-#[cfg(test)]
-mod tests;

@@ -7,7 +7,7 @@ ghost use Rattle.octo_asks.specs.Waiting.{ask_of};
 
 use crate::asked::Asked;
 use crate::{Answer, Ask, Counter, Entry, Given, Next};
-use desk_steps::Note;
+use job_desk::Note;
 use octo_outside::ItemList;
 use std::alloc::{AllocError, Global};
 use std::collections::VecDeque;

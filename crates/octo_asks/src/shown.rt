@@ -6,8 +6,7 @@ use byte_text::Name;
 use marlin_reply::Heat;
 use octo_access::{GroupNames, UserRow};
 use octo_outside::ItemList;
-use print_queue::QueueEntry;
-use print_records::{Outcome, PrintRow};
+use print_queue::{Outcome, PrintRow, QueueEntry};
 
 /// A heater's temperatures in whole degrees Celsius, rounded toward zero.
 #[derive(Clone, Copy, Debug, PartialEq, Eq)]

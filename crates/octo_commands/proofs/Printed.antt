@@ -6,23 +6,23 @@ use Rattle.octo_outside.specs.Traits.{Files}
 use Rattle.gcode_lines.specs.Job.{JobData}
 use Rattle.temp_rules.specs.declared.limits.Limits.{Limits}
 use Rattle.printer_link.specs.Link.{LinkKind}
-use Rattle.session_print.specs.declared.end.PrintEnd.{PrintEnd}
+use Rattle.octo_session_print.specs.declared.end.PrintEnd.{PrintEnd}
 use Rattle.octo_settings.specs.Config.{config, plain_settings}
 use Rattle.octo_settings.specs.declared.settings.Settings.{Settings}
 use Rattle.octo_words.specs.Words.{command_of}
 use Rattle.octo_words.specs.declared.command.Command.{Command}
 use Rattle.octo_words.specs.declared.command.Command.TheVariants as command
-use Rattle.octo_report.specs.declared.report.Report.{Report}
-use Rattle.octo_report.specs.declared.report.Report.TheVariants as report
+use Rattle.octo_files.specs.declared.report.Report.{Report}
+use Rattle.octo_files.specs.declared.report.Report.TheVariants as report
 use Rattle.octo_files.specs.Jobs.{job_in}
 use Rattle.octo_files.specs.Reading.{IsHeld, IsTrouble}
 use Rattle.octo_files.specs.Settings.{HaveSettings, settings_or}
-use Rattle.octo_print.specs.Printing.{Seen, HaveJob, Reads, no_settings, no_job, both, Follows, IsRun, print_end_report, over_port}
+use Rattle.octo_commands_print.specs.Printing.{Seen, HaveJob, Reads, no_settings, no_job, both, Follows, IsRun, print_end_report, over_port}
 use Rattle.octo_commands.specs.Commands.{Comes, out_of_memory, no_command, carried_out, hosted, hosted_by, Reports, seen_in}
 use Rattle.hand_over.specs.Ends.{HistoryData}
-use Rattle.octo_host.specs.Hosting.{Around}
-use Rattle.octo_host.specs.declared.report.HostReport.{HostReport}
-use Rattle.octo_host.specs.declared.report.HostReport.TheVariants as host
+use Rattle.octo_serve_command.specs.Hosting.{Around}
+use Rattle.octo_serve_command.specs.declared.report.HostReport.{HostReport}
+use Rattle.octo_serve_command.specs.declared.report.HostReport.TheVariants as host
 use Rattle.octo_commands.specs.Enough.{Holds, GiveSettings, HasEnough, IsPrinted}
 
 ok_of : {A : Type 0} → A → Result A Report → A

@@ -4,8 +4,8 @@ use Rattle.octo_outside.specs.Traits.{Files}
 use Rattle.gcode_lines.specs.Job.{JobData}
 use Rattle.printer_link.specs.Link.{LinkKind}
 use Rattle.octo_settings.specs.declared.settings.Settings.{Settings}
-use Rattle.octo_report.specs.declared.report.Report.{Report}
-use Rattle.octo_print.specs.Printing.{Asked, Seen, Follows, IsFilePrint}
+use Rattle.octo_files.specs.declared.report.Report.{Report}
+use Rattle.octo_commands_print.specs.Printing.{Asked, Seen, Follows, IsFilePrint}
 
 -- whatever was read: a refusal adds nothing
 follows_recorded : (kind : LinkKind) (asked : Asked) (h : Seen) (r : Report) (found : Result (Settings × JobData) Report) → Follows kind asked h r found →

@@ -1,12 +1,12 @@
 -- No refusal of settings has the status of an output that failed.
 use Rattle.std.proofs.Common.{◌≡◌, refl, true, false, arith}
 use Rattle.octo_files.specs.Settings.{is_settings_refusal}
-use Rattle.octo_host.specs.Reports.{host_code}
-use Rattle.octo_host.specs.declared.report.HostReport.{HostReport}
-use Rattle.octo_host.specs.declared.report.HostReport.TheVariants as host
-use Rattle.octo_report.specs.Status.{code_of, settings_code}
-use Rattle.octo_report.specs.declared.report.Report.{Report}
-use Rattle.octo_report.specs.declared.report.Report.TheVariants as report
+use Rattle.octo_serve_command.specs.Reports.{host_code}
+use Rattle.octo_serve_command.specs.declared.report.HostReport.{HostReport}
+use Rattle.octo_serve_command.specs.declared.report.HostReport.TheVariants as host
+use Rattle.octo_files.specs.Status.{code_of, settings_code}
+use Rattle.octo_files.specs.declared.report.Report.{Report}
+use Rattle.octo_files.specs.declared.report.Report.TheVariants as report
 use Rattle.octo_settings.specs.declared.fault.SettingsFault.{SettingsFault}
 use Rattle.octo_settings.specs.declared.fault.SettingsFault.TheVariants as settings
 

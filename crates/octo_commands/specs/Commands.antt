@@ -4,29 +4,29 @@ use Rattle.octo_outside.specs.Recorded.{Adds, AddsPrefix, Rose}
 use Rattle.octo_outside.specs.Traits.{Files}
 use Rattle.printer_link.specs.Link.{LinkKind, RoseBy}
 use Rattle.send_window.specs.declared.session_end.SessionEnd.TheVariants.{NoAnswer}
-use Rattle.session_print.specs.declared.end.PrintEnd.{PrintEnd}
-use Rattle.session_print.specs.declared.end.PrintEnd.TheVariants as end
-use Rattle.demo_print.specs.Run.{IsDemo, counts_of}
-use Rattle.demo_print.specs.Summary.{summary_of}
-use Rattle.demo_print.specs.declared.run.Demo.{Demo}
+use Rattle.octo_session_print.specs.declared.end.PrintEnd.{PrintEnd}
+use Rattle.octo_session_print.specs.declared.end.PrintEnd.TheVariants as end
+use Rattle.octo_session_demo.specs.Run.{IsDemo, counts_of}
+use Rattle.octo_session_demo.specs.Summary.{summary_of}
+use Rattle.octo_session_demo.specs.declared.run.Demo.{Demo}
 use Rattle.octo_settings.specs.declared.settings.Settings.{Settings}
 use Rattle.octo_words.specs.Words.{command_of}
 use Rattle.octo_words.specs.declared.command.Command.{Command}
 use Rattle.octo_words.specs.declared.command.Command.TheVariants as command
-use Rattle.octo_report.specs.Status.{code_of}
-use Rattle.octo_report.specs.Texts.{report_text}
-use Rattle.octo_report.specs.declared.report.Report.{Report}
-use Rattle.octo_report.specs.declared.report.Report.TheVariants as report
+use Rattle.octo_files.specs.Status.{code_of}
+use Rattle.octo_files.specs.Texts.{report_text}
+use Rattle.octo_files.specs.declared.report.Report.{Report}
+use Rattle.octo_files.specs.declared.report.Report.TheVariants as report
 use Rattle.octo_files.specs.Checks.{check_report}
 use Rattle.octo_files.specs.Measures.{measure_report, IsRestReport}
 use Rattle.octo_files.specs.Reading.{FileGives, IsTrouble}
 use Rattle.octo_files.specs.Settings.{HaveSettings}
-use Rattle.octo_print.specs.Printing.{Seen, IsFilePrint, WaitedBySettings, over_port, seen_of}
+use Rattle.octo_commands_print.specs.Printing.{Seen, IsFilePrint, WaitedBySettings, over_port, seen_of}
 use Rattle.hand_over.specs.Ends.{HistoryData}
-use Rattle.octo_host.specs.Hosting.{Around, Hosts, HasHostCauses}
-use Rattle.octo_host.specs.Reports.{host_code, host_text}
-use Rattle.octo_host.specs.declared.report.HostReport.{HostReport}
-use Rattle.octo_host.specs.declared.report.HostReport.TheVariants as host
+use Rattle.octo_serve_command.specs.Hosting.{Around, Hosts, HasHostCauses}
+use Rattle.octo_serve_command.specs.Reports.{host_code, host_text}
+use Rattle.octo_serve_command.specs.declared.report.HostReport.{HostReport}
+use Rattle.octo_serve_command.specs.declared.report.HostReport.TheVariants as host
 use Rattle.octo_words.specs.declared.command.WordsFault.{WordsFault}
 use Rattle.octo_words.specs.declared.command.WordsFault.TheVariants as words
 use Rattle.octo_outside.specs.declared.command_line.ArgumentsFault.{ArgumentsFault}

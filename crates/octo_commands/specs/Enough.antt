@@ -3,15 +3,15 @@ use Rattle.std.specs.Prelude.{◌≡◌, ◌⊎◌, ℕ, ◌+◌, ◌≤◌, Lis
 use Rattle.octo_outside.specs.Traits.{Files}
 use Rattle.gcode_lines.specs.Job.{JobData}
 use Rattle.printer_link.specs.Link.{LinkKind}
-use Rattle.prompt_print.specs.Smooth.{IsSmooth}
+use Rattle.octo_session.specs.Smooth.{IsSmooth}
 use Rattle.octo_settings.specs.Config.{config, plain_settings}
 use Rattle.octo_settings.specs.declared.settings.Settings.{Settings}
 use Rattle.octo_words.specs.Words.{command_of}
 use Rattle.octo_words.specs.declared.command.Command.TheVariants as command
-use Rattle.octo_report.specs.declared.report.Report.{Report}
-use Rattle.octo_report.specs.declared.report.Report.TheVariants as report
+use Rattle.octo_files.specs.declared.report.Report.{Report}
+use Rattle.octo_files.specs.declared.report.Report.TheVariants as report
 use Rattle.octo_files.specs.Jobs.{job_in}
-use Rattle.octo_print.specs.Printing.{Seen, lines_planned}
+use Rattle.octo_commands_print.specs.Printing.{Seen, lines_planned}
 
 -- a source that records what it holds has these bytes in a file
 abbrev pub Holds : Option Files → List ℕ → List ℕ → Type 0

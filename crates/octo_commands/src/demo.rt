@@ -1,12 +1,12 @@
 //! The command `demo`.
 ghost use Rattle.std.specs.Prelude.{◌≡◌, ◌≤◌, ◌⊎◌, IfOk};
-ghost use Rattle.demo_print.specs.declared.file.TheConstants.{MOST_COMMANDS};
-ghost use Rattle.octo_report.specs.declared.report.Report.TheVariants as report;
+ghost use Rattle.octo_session_demo.specs.declared.file.TheConstants.{MOST_COMMANDS};
+ghost use Rattle.octo_files.specs.declared.report.Report.TheVariants as report;
 ghost use Rattle.octo_commands.specs.Commands.{IsOther, IsSummary, status_of};
 
-use demo_print::{Demo, run_demo, summary};
-use octo_report::{FILE_REFUSED, LINK_FAILED, Report, SESSION_ENDED, SUCCESS, TURNS_USED};
-use session_print::PrintEnd;
+use octo_files::{FILE_REFUSED, LINK_FAILED, Report, SESSION_ENDED, SUCCESS, TURNS_USED};
+use octo_session_demo::{Demo, run_demo, summary};
+use octo_session_print::PrintEnd;
 use std::alloc::{AllocError, Global};
 
 // The exit status of a print that ended so.

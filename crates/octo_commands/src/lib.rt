@@ -3,7 +3,5 @@
 
 mod demo;
 mod run;
-#[cfg(test)]
-mod tests;
 
 pub use run::{Status, octo};

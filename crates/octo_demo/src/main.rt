@@ -2,9 +2,9 @@
 //! than `octo`.
 #![tactic(auto)]
 
-use demo_print::{run_demo, summary};
 use octo_outside::{Failed, StdSink, write_all};
-use session_print::PrintEnd;
+use octo_session_demo::{run_demo, summary};
+use octo_session_print::PrintEnd;
 use std::alloc::{AllocError, Global};
 use std::process::ExitCode;
 

@@ -3,7 +3,7 @@ use Rattle.std.proofs.Common.{◌≡◌, ◌<◌, ◌⊎◌, inl, inr, ℕ, ◌+
 use Rattle.std.specs.Prelude.{IfSome}
 use Rattle.std.proofs.lemmas.List.{length-replicate}
 use Rattle.octo_outside.specs.Traits.{Files, HoldsOver}
-use Rattle.octo_report.specs.declared.report.Report.{Report}
+use Rattle.octo_files.specs.declared.report.Report.{Report}
 use Rattle.octo_files.specs.Reading.{FileGives, IsTroubled}
 
 over_held : (all : Files) (file : List ℕ) (held : Option (List ℕ)) (most : ℕ) (Gives : List ℕ → Type 0) → all file ≡ held → HoldsOver held most → ((bytes : List ℕ) → most < length bytes → Gives bytes) → FileGives (Some all) file Gives

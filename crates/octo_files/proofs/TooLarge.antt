@@ -7,8 +7,8 @@ use Rattle.gcode_lines.specs.Job.{JobData, most_bytes}
 use Rattle.gcode_lines.specs.declared.fault.FileFault.TheVariants.{TooLarge}
 use Rattle.octo_files.specs.Jobs.{unless_refused, any_job_in}
 use Rattle.octo_files.specs.Settings.{AreSettings, settings_or}
-use Rattle.octo_report.specs.declared.report.Report.{Report}
-use Rattle.octo_report.specs.declared.report.Report.TheVariants as report
+use Rattle.octo_files.specs.declared.report.Report.{Report}
+use Rattle.octo_files.specs.declared.report.Report.TheVariants as report
 use Rattle.octo_settings.specs.Config.{most_config_bytes as most_settings, document_of, settings_or as settings_by}
 use Rattle.octo_settings.specs.declared.fault.SettingsFault.TheVariants.{NotToml}
 

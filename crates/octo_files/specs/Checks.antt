@@ -2,8 +2,8 @@
 use Rattle.std.specs.Prelude.{ℕ, Bool, true, List, length}
 use Rattle.gcode_lines.specs.Job.{JobData, texts_of}
 use Rattle.octo_files.specs.Jobs.{job_in, report_or_refusal, is_refusal}
-use Rattle.octo_report.specs.declared.report.Report.{Report}
-use Rattle.octo_report.specs.declared.report.Report.TheVariants as report
+use Rattle.octo_files.specs.declared.report.Report.{Report}
+use Rattle.octo_files.specs.declared.report.Report.TheVariants as report
 use Rattle.temp_rules.specs.Most.{TargetsData, hottest}
 use Rattle.temp_rules.specs.declared.heater.Heater.TheVariants.{Tool, Bed}
 use Rattle.temp_rules.specs.declared.limits.Limits.{Limits}

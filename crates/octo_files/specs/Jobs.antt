@@ -4,8 +4,8 @@ use Rattle.gcode_lines.specs.Commands.{job_of}
 use Rattle.gcode_lines.specs.Job.{JobData, most_bytes}
 use Rattle.gcode_lines.specs.declared.fault.FileFault.{FileFault}
 use Rattle.gcode_lines.specs.declared.fault.FileFault.TheVariants.{TooLarge}
-use Rattle.octo_report.specs.declared.report.Report.{Report}
-use Rattle.octo_report.specs.declared.report.Report.TheVariants as report
+use Rattle.octo_files.specs.declared.report.Report.{Report}
+use Rattle.octo_files.specs.declared.report.Report.TheVariants as report
 use Rattle.temp_rules.specs.Hot.{first_hot_of}
 use Rattle.temp_rules.specs.declared.job.HotLine.{HotLine}
 use Rattle.temp_rules.specs.declared.limits.Limits.{Limits}

@@ -8,8 +8,8 @@ use Rattle.gcode_measure.specs.declared.fault.RestFault.{RestFault}
 use Rattle.gcode_measure.specs.declared.fault.RestFault.TheVariants as fault
 use Rattle.gcode_measure.specs.declared.totals.Measure.{Measure}
 use Rattle.octo_files.specs.Jobs.{any_job_in, report_or_refusal, is_file_refusal}
-use Rattle.octo_report.specs.declared.report.Report.{Report}
-use Rattle.octo_report.specs.declared.report.Report.TheVariants as report
+use Rattle.octo_files.specs.declared.report.Report.{Report}
+use Rattle.octo_files.specs.declared.report.Report.TheVariants as report
 
 -- a measure, unless the job can't be measured
 abbrev pub measure_or : Result Measure MeasureFault → Report

@@ -1,8 +1,8 @@
 -- What reading a file comes to.
 use Rattle.std.specs.Prelude.{◌≡◌, ◌⊎◌, ℕ, List, Option, Some, Result, Ok, Err, IfSome}
 use Rattle.octo_outside.specs.Traits.{Files}
-use Rattle.octo_report.specs.declared.report.Report.{Report}
-use Rattle.octo_report.specs.declared.report.Report.TheVariants as report
+use Rattle.octo_files.specs.declared.report.Report.{Report}
+use Rattle.octo_files.specs.declared.report.Report.TheVariants as report
 
 -- a file has these bytes, if the source records what it holds
 abbrev pub IsHeld : Option Files → List ℕ → List ℕ → Type 0

@@ -2,8 +2,8 @@
 use Rattle.std.specs.Prelude.{◌≡◌, ◌⊎◌, ℕ, Bool, true, false, List, Option, Some, None, Result, Ok, Err, IsUtf8}
 use Rattle.octo_files.specs.Reading.{FileGives, IsTroubled}
 use Rattle.octo_outside.specs.Traits.{Files}
-use Rattle.octo_report.specs.declared.report.Report.{Report}
-use Rattle.octo_report.specs.declared.report.Report.TheVariants as report
+use Rattle.octo_files.specs.declared.report.Report.{Report}
+use Rattle.octo_files.specs.declared.report.Report.TheVariants as report
 use Rattle.octo_settings.specs.Config.{config, plain_settings}
 use Rattle.octo_settings.specs.declared.fault.SettingsFault.{SettingsFault}
 use Rattle.octo_settings.specs.declared.fault.SettingsFault.TheVariants.{NotToml}

@@ -1,17 +1,17 @@
 //! A check of a file.
 ghost use Rattle.std.specs.Prelude.{◌≡◌, ◌≢◌, ◌⊎◌, ◌↔◌, ◌≤◌, true, IsTrue};
 ghost use Rattle.octo_outside.specs.Recorded.{Counts};
-ghost use Rattle.octo_report.specs.declared.report.Report.TheVariants as report;
+ghost use Rattle.octo_files.specs.declared.report.Report.TheVariants as report;
 ghost use Rattle.gcode_lines.specs.Job.{texts_of};
 ghost use Rattle.temp_rules.specs.Hot.{first_hot_of};
 ghost use Rattle.octo_files.specs.Checks.{targets_in, job_check_report, check_report, is_check};
 ghost use Rattle.octo_files.specs.Jobs.{unless_hot, report_or_refusal};
 ghost use Rattle.octo_files.specs.Reading.{FileGives, IsTrouble};
 
+use crate::Report;
 use crate::jobs::read_any_job;
 use gcode_lines::Job;
 use octo_outside::Source;
-use octo_report::Report;
 use std::alloc::Global;
 use temp_rules::{Limits, Targets, first_hot};
 

@@ -2,14 +2,14 @@
 ghost use Rattle.std.specs.Prelude.{◌≡◌, ◌≢◌, ◌⊎◌, Err, IfErr, IfOk, None, true};
 ghost use Rattle.octo_outside.specs.Recorded.{Counts};
 ghost use Rattle.gcode_lines.specs.Commands.{job_of};
-ghost use Rattle.octo_report.specs.declared.report.Report.TheVariants as report;
+ghost use Rattle.octo_files.specs.declared.report.Report.TheVariants as report;
 ghost use Rattle.temp_rules.specs.Hot.{first_hot_of};
 ghost use Rattle.octo_files.specs.Jobs.{unless_hot, unless_refused, any_job_in, job_in, is_file_refusal, is_refusal};
 ghost use Rattle.octo_files.specs.Reading.{FileGives, IsTroubled};
 
+use crate::Report;
 use gcode_lines::{FileFault, Job, MOST_FILE_BYTES, take_commands};
 use octo_outside::{Blob, ReadAll, Source, read_all};
-use octo_report::Report;
 use std::alloc::Global;
 use temp_rules::{Limits, first_hot};
 

@@ -2,18 +2,17 @@
 ghost use Rattle.std.specs.Prelude.{◌≡◌, ◌≢◌, ◌⊎◌, Ok, true};
 ghost use Rattle.octo_outside.specs.Recorded.{Counts};
 ghost use Rattle.gcode_lines.specs.Commands.{job_of};
-ghost use Rattle.octo_report.specs.declared.report.Report.TheVariants as report;
+ghost use Rattle.octo_files.specs.declared.report.Report.TheVariants as report;
 ghost use Rattle.octo_files.specs.Measures.{job_measure_report, measure_report, is_measure, job_rest_report, is_rest, GoesOnFrom, IsRestReport};
 ghost use Rattle.octo_files.specs.Reading.{FileGives, IsTrouble};
 
+use crate::Report;
 use crate::jobs::read_any_job;
 use gcode_lines::Job;
 use gcode_measure::{RestFault, measure, rest};
 use octo_outside::Source;
-use octo_report::Report;
 use std::alloc::Global;
 
-// What a job measures.
 fn measure_job(job: &Job) -> Report
     ensures exact { result ≡ job_measure_report job.now }
     ensures kind { is_measure result ≡ true }

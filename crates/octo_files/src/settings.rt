@@ -1,15 +1,15 @@
 //! The settings of a command.
 ghost use Rattle.std.specs.Prelude.{◌≡◌, ◌≢◌, ◌⊎◌, Err, IfErr, IfOk, Ok, true, IsUtf8};
 ghost use Rattle.octo_outside.specs.Recorded.{Counts};
-ghost use Rattle.octo_report.specs.declared.report.Report.TheVariants as report;
+ghost use Rattle.octo_files.specs.declared.report.Report.TheVariants as report;
 ghost use Rattle.octo_settings.specs.Config.{plain_settings};
 ghost use Rattle.octo_settings.specs.Sound.{IsSettings};
 ghost use Rattle.octo_files.specs.Reading.{FileGives, IsTroubled};
 ghost use Rattle.octo_files.specs.Settings.{AreSettings, HaveSettings, is_settings_refusal};
 ghost use Rattle.std.specs.Option.{option_map};
 
+use crate::Report;
 use octo_outside::{ReadAll, Source, read_all};
-use octo_report::Report;
 use octo_settings::{MOST_SETTINGS_BYTES, Settings, SettingsFault, read_settings};
 use std::alloc::Global;
 

@@ -7,13 +7,13 @@ use Rattle.octo_keeper.specs.Tables.{AreNumbered, AreSound, with_due_end}
 use Rattle.octo_keeper.specs.declared.shelf.ShelfFile.{ShelfFile}
 use Rattle.octo_keeper.specs.declared.tables.Tables.{Tables}
 use Rattle.print_queue.specs.Lawful.{IsLawful}
-use Rattle.print_records.specs.declared.row.PrintRow.{PrintRow}
-use Rattle.house_verdicts.specs.Known.{names_of}
-use Rattle.house_history.specs.Begins.{row_read}
-use Rattle.house_tables.specs.Data.{TablesData, IsReadFrom}
-use Rattle.house_tables.specs.Kept.{AreRows, Kept}
-use Rattle.house_tables.specs.declared.tables.Unwritten.{Unwritten}
-use Rattle.house_tables.proofs.Records.{rows-read}
+use Rattle.print_queue.specs.declared.row.PrintRow.{PrintRow}
+use Rattle.octo_house_rules.specs.Known.{names_of}
+use Rattle.octo_house_rules.specs.Begins.{row_read}
+use Rattle.octo_house_tables.specs.Data.{TablesData, IsReadFrom}
+use Rattle.octo_house_tables.specs.Kept.{AreRows, Kept}
+use Rattle.octo_house_tables.specs.declared.tables.Unwritten.{Unwritten}
+use Rattle.octo_house_tables.proofs.Records.{rows-read}
 use Rattle.octo_house.proofs.Names.{names-sized}
 
 -- what is recorded is what was read

@@ -10,11 +10,11 @@ use Rattle.octo_asks.specs.Rights.{needed}
 use Rattle.octo_asks.specs.declared.answer.Answer.{Answer}
 use Rattle.octo_asks.specs.declared.answer.Answer.TheVariants as answer
 use Rattle.octo_asks.specs.declared.request.Ask.{Ask}
-use Rattle.house_verdicts.specs.Access.{is_denied, Accessed, free, nobody, lacks, may}
-use Rattle.house_verdicts.specs.Answers.{verdict, request_verdict, lacking}
-use Rattle.house_verdicts.specs.Known.{Known}
-use Rattle.house_verdicts.specs.Verdict.{Verdict, May, IsDone, gives, answer_in, is_fault, files_after}
-use Rattle.house_verdicts.proofs.Denied.{access}
+use Rattle.octo_house_rules.specs.Access.{is_denied, Accessed, free, nobody, lacks, may}
+use Rattle.octo_house_rules.specs.Answers.{verdict, request_verdict, lacking}
+use Rattle.octo_house_rules.specs.Known.{Known}
+use Rattle.octo_house_rules.specs.Verdict.{Verdict, May, IsDone, gives, answer_in, is_fault, files_after}
+use Rattle.octo_house_rules.proofs.Denied.{access}
 use Rattle.octo_house.specs.Answered.{asks_files}
 use Rattle.octo_house.specs.Groups.{is_reading}
 use Rattle.octo_house.proofs.Fileless.{request-unasked}

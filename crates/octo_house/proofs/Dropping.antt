@@ -2,18 +2,18 @@
 use Rattle.std.proofs.Common.{◌≡◌, ℕ, Bool, true, false, ◌&&◌, ◌||◌, cond, is_none, List, None, Err, refl, ap, ◌∙◌}
 use Rattle.temp_rules.specs.Hot.{first_hot_of}
 use Rattle.temp_rules.specs.declared.limits.Limits.{Limits}
-use Rattle.desk_steps.specs.Data.{Data, File}
-use Rattle.desk_steps.specs.Table.{ok_answer, is_named, drop_file_step}
-use Rattle.desk_steps.specs.Table as table
-use Rattle.desk_steps.specs.declared.state.State.{State}
-use Rattle.desk_steps.specs.declared.state.Refusal.TheVariants as refusal
+use Rattle.job_desk.specs.Data.{Data, File}
+use Rattle.job_desk.specs.Table.{ok_answer, is_named, drop_file_step}
+use Rattle.job_desk.specs.Table as table
+use Rattle.job_desk.specs.declared.state.State.{State}
+use Rattle.job_desk.specs.declared.state.Refusal.TheVariants as refusal
 use Rattle.octo_access.specs.Rights.{has}
 use Rattle.octo_access.specs.declared.permission.Permission.TheVariants as permission
 use Rattle.octo_access.specs.declared.row.UserRow.{UserRow}
-use Rattle.house_verdicts.specs.Known.{Known}
-use Rattle.house_verdicts.specs.Prints.{has_room}
-use Rattle.house_verdicts.specs.States.{may_select, may_start}
-use Rattle.house_verdicts.specs.Uploads.{is_selected, is_printed}
+use Rattle.octo_house_rules.specs.Known.{Known}
+use Rattle.octo_house_rules.specs.Prints.{has_room}
+use Rattle.octo_house_rules.specs.States.{may_select, may_start}
+use Rattle.octo_house_rules.specs.Uploads.{is_selected, is_printed}
 use Rattle.octo_house.specs.Storing.{with_stored}
 
 abbrev dropped : Bool → Bool → Data → table.Answer

@@ -5,9 +5,9 @@ use Rattle.gcode_lines.specs.Commands.{job_of}
 use Rattle.gcode_lines.specs.Job.{JobData}
 use Rattle.gcode_lines.specs.declared.fault.FileFault.{FileFault}
 use Rattle.temp_rules.specs.declared.limits.TooHot.{TooHot}
-use Rattle.desk_steps.specs.Data.{File, named_file}
-use Rattle.desk_steps.specs.Table.{connect_at, start_at, start_file, restart_at, pause_at, resume_at, toggle_at, cancel_at, manual_at, drop_file_step}
-use Rattle.desk_steps.specs.declared.state.Refusal.{Refusal}
+use Rattle.job_desk.specs.Data.{File, named_file}
+use Rattle.job_desk.specs.Table.{connect_at, start_at, start_file, restart_at, pause_at, resume_at, toggle_at, cancel_at, manual_at, drop_file_step}
+use Rattle.job_desk.specs.declared.state.Refusal.{Refusal}
 use Rattle.octo_access.specs.declared.refusal.UserRefusal.{UserRefusal}
 use Rattle.octo_access.specs.declared.row.UserRow.{UserRow}
 use Rattle.octo_keeper.specs.Files.{bytes_of}
@@ -21,18 +21,18 @@ use Rattle.print_queue.specs.Rows as queue_rows
 use Rattle.print_queue.specs.declared.entry.QueueEntry.{QueueEntry}
 use Rattle.print_queue.specs.declared.refusal.Put.{Put}
 use Rattle.print_queue.specs.declared.refusal.QueueRefusal.{QueueRefusal}
-use Rattle.house_verdicts.specs.Answers.{request_verdict}
-use Rattle.house_verdicts.specs.Known.{Known, next_print_number, is_held}
-use Rattle.house_verdicts.specs.Prints.{port_for, commands_in, first_hot_text, manual_verdict, has_room}
-use Rattle.house_verdicts.specs.States.{may_select, may_show, may_shut_down, may_start}
-use Rattle.house_verdicts.specs.Uploads.{has_file_room, is_selected, is_printed, after_storing, read_file, print_verdict, select_by, store_verdict, take_verdict}
-use Rattle.house_verdicts.specs.Refusals.{refused_if, if_desk_allows, if_users_allow, unless_too_hot, found_or, read_as}
+use Rattle.octo_house_rules.specs.Answers.{request_verdict}
+use Rattle.octo_house_rules.specs.Known.{Known, next_print_number, is_held}
+use Rattle.octo_house_rules.specs.Prints.{port_for, commands_in, first_hot_text, manual_verdict, has_room}
+use Rattle.octo_house_rules.specs.States.{may_select, may_show, may_shut_down, may_start}
+use Rattle.octo_house_rules.specs.Uploads.{has_file_room, is_selected, is_printed, after_storing, read_file, print_verdict, select_by, store_verdict, take_verdict}
+use Rattle.octo_house_rules.specs.Refusals.{refused_if, if_desk_allows, if_users_allow, unless_too_hot, found_or, read_as}
 use Rattle.octo_access.specs.Changes.{put_refusal, change_refusal}
 use Rattle.octo_access.specs.Rows.{row_named, with_row, replaced}
-use Rattle.house_verdicts.specs.Rows.{put_by, put_user_verdict, replace_verdict, with_users, new_user, changed_user}
+use Rattle.octo_house_rules.specs.Rows.{put_by, put_user_verdict, replace_verdict, with_users, new_user, changed_user}
 use Rattle.octo_asks.specs.Shown.{shown_entry, shown_user}
-use Rattle.desk_steps.specs.Run.{Select}
-use Rattle.house_verdicts.specs.Verdict.{Verdict, at_desk, gives, makes, writes, reads, removes, stores, begins, is_fault, files_in, files_after}
+use Rattle.job_desk.specs.Run.{Select}
+use Rattle.octo_house_rules.specs.Verdict.{Verdict, at_desk, gives, makes, writes, reads, removes, stores, begins, is_fault, files_in, files_after}
 use Rattle.octo_house.specs.Answered.{Shelves, asks_files}
 use Rattle.octo_house.specs.Groups.{is_reading}
 use Rattle.byte_text.proofs.BoolLaws.{same_if}

@@ -2,7 +2,7 @@
 use Rattle.std.proofs.Common.{◌≡◌, ℕ, List, Option, None, Some, option_map, refl, sym, ap, ◌∙◌}
 use Rattle.octo_keeper.specs.Files.{with_file, without_file}
 use Rattle.octo_keeper.specs.declared.shelf.ShelfFile.{ShelfFile}
-use Rattle.house_verdicts.specs.Known.{names_of, with_name, without_name}
+use Rattle.octo_house_rules.specs.Known.{names_of, with_name, without_name}
 use Rattle.octo_house.proofs.Names.{names-with, names-without}
 
 -- these are the names, if the shelf records its files

@@ -4,7 +4,7 @@ use Rattle.std.specs.List.{prefix_len}
 use Rattle.std.proofs.lemmas.List.{map-append, take-map, drop-map}
 use Rattle.octo_keeper.specs.Files.{sizes_of, with_file, without_file}
 use Rattle.octo_keeper.specs.declared.shelf.ShelfFile.{ShelfFile}
-use Rattle.house_verdicts.specs.Known.{names_of, with_name, without_name}
+use Rattle.octo_house_rules.specs.Known.{names_of, with_name, without_name}
 use Rattle.octo_access.specs.Rows.{is_before}
 
 module _ {X Y : Type 0} (f : X → Y) (p : Y → Bool) where

@@ -5,8 +5,8 @@ use Rattle.octo_access.specs.declared.permission.Permission.{Permission}
 use Rattle.octo_access.specs.declared.row.UserRow.{UserRow}
 use Rattle.octo_keeper.specs.declared.shelf.ShelfFile.{ShelfFile}
 use Rattle.octo_asks.specs.declared.request.Request.{Request}
-use Rattle.house_verdicts.specs.Answers.{verdict_by, verdict_of_caller, unless_lacking, lacking, request_verdict}
-use Rattle.house_verdicts.specs.Known.{Known}
+use Rattle.octo_house_rules.specs.Answers.{verdict_by, verdict_of_caller, unless_lacking, lacking, request_verdict}
+use Rattle.octo_house_rules.specs.Known.{Known}
 
 module _ (key : List ℕ) (asked : Request) (files : List ShelfFile) (k : Known) where
   -- nothing is lacking

@@ -4,15 +4,15 @@ use Rattle.std.proofs.lemmas.Bool.{false≢true}
 use Rattle.gcode_lines.specs.Commands.{job_of}
 use Rattle.gcode_lines.specs.Job.{JobData}
 use Rattle.gcode_lines.specs.declared.fault.FileFault.{FileFault}
-use Rattle.desk_steps.specs.declared.state.State.{State}
-use Rattle.desk_steps.specs.declared.state.State.TheVariants.{Offline, Connecting, Operational, Printing, Pausing, Paused, Cancelling, Finishing, Closing, Fault}
+use Rattle.job_desk.specs.declared.state.State.{State}
+use Rattle.job_desk.specs.declared.state.State.TheVariants.{Offline, Connecting, Operational, Printing, Pausing, Paused, Cancelling, Finishing, Closing, Fault}
 use Rattle.octo_asks.specs.declared.answer.Answer.{Answer}
 use Rattle.octo_asks.specs.declared.answer.Answer.TheVariants as answer
-use Rattle.house_verdicts.specs.Known.{Known}
-use Rattle.house_verdicts.specs.Refusals.{refused_if, found_or, read_as}
-use Rattle.house_verdicts.specs.States.{may_start}
-use Rattle.house_verdicts.specs.Verdict.{Verdict, Deed, May, IsDone, gives, makes, reads, is_fault, known_after}
-use Rattle.house_rows.specs.Reading.{IsReadAs, found_bytes, job_in, job_or}
+use Rattle.octo_house_rules.specs.Known.{Known}
+use Rattle.octo_house_rules.specs.Refusals.{refused_if, found_or, read_as}
+use Rattle.octo_house_rules.specs.States.{may_start}
+use Rattle.octo_house_rules.specs.Verdict.{Verdict, Deed, May, IsDone, gives, makes, reads, is_fault, known_after}
+use Rattle.octo_house_tables.specs.Reading.{IsReadAs, found_bytes, job_in, job_or}
 use Rattle.octo_house.specs.Answered.{asks_files}
 use Rattle.byte_text.proofs.BoolLaws.{same_if}
 

@@ -2,13 +2,13 @@
 use Rattle.std.proofs.Common.{◌≡◌, ◌≢◌, ◌⊎◌, inl, inr, ℕ, ◌≤◌, List, length, arith, Bool, true, false, Option, None, Some, option_map, IfSome, refl, sym, ap, ◌∙◌}
 use Rattle.std.specs.Option.{option_or}
 use Rattle.std.proofs.lemmas.Bool.{false≢true}
-use Rattle.print_records.specs.declared.ending.Ending.{Ending}
+use Rattle.print_queue.specs.declared.ending.Ending.{Ending}
 use Rattle.std.proofs.lemmas.List.{length-map}
 use Rattle.octo_keeper.specs.Tables.{ended_row, with_due_end}
-use Rattle.print_records.specs.declared.row.PrintRow.{PrintRow}
-use Rattle.house_tables.specs.Data.{TablesData, IsRested, due_of}
-use Rattle.house_tables.specs.declared.tables.Unwritten.{Unwritten}
-use Rattle.house_history.proofs.Histories.{as_many}
+use Rattle.print_queue.specs.declared.row.PrintRow.{PrintRow}
+use Rattle.octo_house_tables.specs.Data.{TablesData, IsRested, due_of}
+use Rattle.octo_house_tables.specs.declared.tables.Unwritten.{Unwritten}
+use Rattle.octo_house_rules.proofs.Histories.{as_many}
 
 abbrev due : Option Unwritten → Option Ending
 due unwritten = option_map (λ (u : Unwritten). u.ending) unwritten

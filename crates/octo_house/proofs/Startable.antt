@@ -3,19 +3,19 @@ use Rattle.std.proofs.Common.{◌≡◌, ℕ, Bool, true, ◌&&◌, is_none, len
 use Rattle.std.proofs.lemmas.Bool.{and_parts}
 use Rattle.gcode_lines.specs.Job.{JobData}
 use Rattle.temp_rules.specs.Hot.{first_hot_of}
-use Rattle.desk_steps.specs.Table.{select_at}
-use Rattle.desk_steps.specs.declared.state.State.{State}
-use Rattle.desk_steps.specs.declared.state.State.TheVariants.{Operational}
+use Rattle.job_desk.specs.Table.{select_at}
+use Rattle.job_desk.specs.declared.state.State.{State}
+use Rattle.job_desk.specs.declared.state.State.TheVariants.{Operational}
 use Rattle.octo_access.specs.Rights.{has}
 use Rattle.octo_access.specs.declared.permission.Permission.TheVariants as permission
 use Rattle.octo_access.specs.declared.row.UserRow.{UserRow}
-use Rattle.house_verdicts.specs.Known.{Known}
-use Rattle.house_verdicts.specs.Prints.{has_room}
-use Rattle.house_verdicts.specs.States.{may_start}
-use Rattle.house_verdicts.specs.Uploads.{is_printed}
+use Rattle.octo_house_rules.specs.Known.{Known}
+use Rattle.octo_house_rules.specs.Prints.{has_room}
+use Rattle.octo_house_rules.specs.States.{may_start}
+use Rattle.octo_house_rules.specs.Uploads.{is_printed}
 use Rattle.octo_house.specs.Storing.{IsStartable}
 use Rattle.octo_house.proofs.ReadDone.{start-state}
-use Rattle.desk_steps.specs.Data.{named_file}
+use Rattle.job_desk.specs.Data.{named_file}
 
 none-if : {A : Type 0} (o : Option A) → is_none o ≡ true → o ≡ None
 none-if None is = refl

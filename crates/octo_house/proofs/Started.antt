@@ -3,11 +3,11 @@ use Rattle.std.proofs.Common.{◌≡◌, ℕ, ◌+◌, ◌<◌, ◌≤◌, List,
 use Rattle.std.proofs.lemmas.List.{length-append}
 use Rattle.temp_rules.specs.Hot.{first_hot_of}
 use Rattle.temp_rules.specs.declared.job.HotLine.{HotLine}
-use Rattle.desk_steps.specs.Data.{Data, File}
-use Rattle.desk_steps.specs.Table.{start_at, start_file, start_checked, restart_at}
-use Rattle.print_records.specs.declared.row.PrintRow.{PrintRow}
-use Rattle.desk_steps.specs.declared.state.State.{State}
-use Rattle.desk_steps.specs.declared.state.State.TheVariants.{Offline, Connecting, Operational, Printing, Pausing, Paused, Cancelling, Finishing, Closing, Fault}
+use Rattle.job_desk.specs.Data.{Data, File}
+use Rattle.job_desk.specs.Table.{start_at, start_file, start_checked, restart_at}
+use Rattle.print_queue.specs.declared.row.PrintRow.{PrintRow}
+use Rattle.job_desk.specs.declared.state.State.{State}
+use Rattle.job_desk.specs.declared.state.State.TheVariants.{Offline, Connecting, Operational, Printing, Pausing, Paused, Cancelling, Finishing, Closing, Fault}
 
 checked-number : (hot : Option HotLine) (print : ℕ) (d : Data) → d.greatest < print → (start_checked hot print d).1.greatest ≤ print
 checked-number None print d below = omega arith

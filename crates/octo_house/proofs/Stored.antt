@@ -4,23 +4,23 @@ use Rattle.gcode_lines.specs.Commands.{job_of}
 use Rattle.gcode_lines.specs.Job.{JobData}
 use Rattle.gcode_lines.specs.declared.fault.FileFault.{FileFault}
 use Rattle.gcode_lines.specs.declared.fault.FileFault.TheVariants as file_fault
-use Rattle.desk_steps.specs.Data.{File, named_file}
-use Rattle.desk_steps.specs.Run.{Start}
-use Rattle.desk_steps.specs.Table.{drop_file_step, select_at}
-use Rattle.desk_steps.specs.declared.state.Refusal.{Refusal}
+use Rattle.job_desk.specs.Data.{File, named_file}
+use Rattle.job_desk.specs.Run.{Start}
+use Rattle.job_desk.specs.Table.{drop_file_step, select_at}
+use Rattle.job_desk.specs.declared.state.Refusal.{Refusal}
 use Rattle.octo_access.specs.declared.row.UserRow.{UserRow}
 use Rattle.octo_keeper.specs.Files.{with_file}
 use Rattle.octo_keeper.specs.declared.shelf.ShelfFile.{ShelfFile}
 use Rattle.octo_keeper.specs.declared.tables.Tables.{Tables}
 use Rattle.octo_asks.specs.declared.answer.Answer.{Answer}
 use Rattle.octo_asks.specs.declared.answer.Answer.TheVariants as answer
-use Rattle.house_verdicts.specs.Known.{Known, next_print_number, shown_count}
-use Rattle.house_verdicts.specs.Prints.{start_deed}
-use Rattle.house_verdicts.specs.Refusals.{refused_if, if_desk_allows, read_as, answer_of_refusal}
-use Rattle.house_verdicts.specs.Uploads.{has_file_room, is_selected, is_printed, store_deed, after_storing, store_verdict, put_file_verdict}
-use Rattle.house_verdicts.specs.Verdict.{Verdict, Deed, May, IsDone, gives, stores, begins, is_fault, is_stored, known_after, files_in, files_after}
-use Rattle.house_tables.specs.Data.{TablesData}
-use Rattle.house_tables.specs.Kept.{KeepsRows}
+use Rattle.octo_house_rules.specs.Known.{Known, next_print_number, shown_count}
+use Rattle.octo_house_rules.specs.Prints.{start_deed}
+use Rattle.octo_house_rules.specs.Refusals.{refused_if, if_desk_allows, read_as, answer_of_refusal}
+use Rattle.octo_house_rules.specs.Uploads.{has_file_room, is_selected, is_printed, store_deed, after_storing, store_verdict, put_file_verdict}
+use Rattle.octo_house_rules.specs.Verdict.{Verdict, Deed, May, IsDone, gives, stores, begins, is_fault, is_stored, known_after, files_in, files_after}
+use Rattle.octo_house_tables.specs.Data.{TablesData}
+use Rattle.octo_house_tables.specs.Kept.{KeepsRows}
 use Rattle.octo_house.specs.Answered.{Shelves}
 use Rattle.octo_house.specs.Storing.{refused_or, full_unless, store_refusal, with_stored}
 use Rattle.octo_house.proofs.ReadDone.{given}

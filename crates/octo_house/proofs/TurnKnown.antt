@@ -1,20 +1,20 @@
 -- What a turn makes of a host.
 use Rattle.std.proofs.Common.{◌≡◌, ℕ, List, IfSome, Option, None, Some, refl, sym, ap, ◌∙◌, subst, map}
-use Rattle.desk_steps.specs.Data.{Data}
-use Rattle.desk_steps.specs.Endings.{IsActive}
-use Rattle.desk_steps.specs.Issued.{line_of}
-use Rattle.desk_steps.specs.declared.issued.Note.{Note}
-use Rattle.desk_steps.proofs.Going.{Goes}
-use Rattle.print_records.specs.declared.ending.Ending.{Ending}
+use Rattle.job_desk.specs.Data.{Data}
+use Rattle.job_desk.specs.Endings.{IsActive}
+use Rattle.job_desk.specs.Issued.{line_of}
+use Rattle.job_desk.specs.declared.issued.Note.{Note}
+use Rattle.job_desk.proofs.Going.{Goes}
+use Rattle.print_queue.specs.declared.ending.Ending.{Ending}
 use Rattle.octo_keeper.specs.Tables.{with_due_end}
-use Rattle.session_steps.specs.Data.{doing}
-use Rattle.session_steps.specs.DeskTurn.{IsNoted, IsQuietTurn}
-use Rattle.session_steps.specs.Turn.{IsNoteOn}
-use Rattle.session_steps.specs.declared.found.Doing.{Doing}
+use Rattle.octo_session.specs.Data.{doing}
+use Rattle.octo_session.specs.DeskTurn.{IsNoted, IsQuietTurn}
+use Rattle.octo_session.specs.Turn.{IsNoteOn}
+use Rattle.octo_session.specs.declared.found.Doing.{Doing}
 use Rattle.marlin_reply.specs.declared.reply.Temps.{Temps}
-use Rattle.print_records.specs.declared.row.PrintRow.{PrintRow}
-use Rattle.house_tables.specs.Data.{TablesData}
-use Rattle.house_verdicts.specs.Known.{Known}
+use Rattle.print_queue.specs.declared.row.PrintRow.{PrintRow}
+use Rattle.octo_house_tables.specs.Data.{TablesData}
+use Rattle.octo_house_rules.specs.Known.{Known}
 use Rattle.octo_house.specs.declared.house.House.{House}
 use Rattle.octo_house.specs.State.{known_of}
 use Rattle.octo_house.specs.Turned.{Turns, known_temps}

@@ -1,28 +1,28 @@
 -- What a turn's note makes of what a host knows.
 use Rattle.std.proofs.Common.{◌≡◌, ℕ, Bool, true, false, List, [], ◌∷◌, ◌++◌, map, IfSome, Option, None, Some, refl, sym, ap, ◌∙◌, subst}
 use Rattle.std.specs.Option.{option_or}
-use Rattle.desk_steps.specs.Data.{Data, Line}
-use Rattle.desk_steps.specs.Endings.{IsActive, IsEnding}
-use Rattle.desk_steps.specs.Issued.{line_of}
-use Rattle.desk_steps.specs.Note.{Noted, note_step, first_fact}
-use Rattle.desk_steps.specs.Pull.{pull_step}
-use Rattle.desk_steps.specs.Run.{DeskCall, Pull}
-use Rattle.desk_steps.specs.Run as run
-use Rattle.desk_steps.specs.declared.issued.Issued.{Issued}
-use Rattle.desk_steps.specs.declared.issued.Note.{Note}
-use Rattle.desk_steps.specs.declared.link_fact.LinkFact.{LinkFact}
-use Rattle.desk_steps.specs.declared.link_fact.LinkFact.TheVariants as fact
-use Rattle.desk_steps.proofs.Endings.{ending_is, ending_rests}
-use Rattle.desk_steps.proofs.Going.{Goes, goes_then, goes_pull, goes_note}
-use Rattle.print_records.specs.declared.ending.Ending.{Ending}
-use Rattle.print_records.specs.declared.row.PrintRow.{PrintRow}
+use Rattle.job_desk.specs.Data.{Data, Line}
+use Rattle.job_desk.specs.Endings.{IsActive, IsEnding}
+use Rattle.job_desk.specs.Issued.{line_of}
+use Rattle.job_desk.specs.Note.{Noted, note_step, first_fact}
+use Rattle.job_desk.specs.Pull.{pull_step}
+use Rattle.job_desk.specs.Run.{DeskCall, Pull}
+use Rattle.job_desk.specs.Run as run
+use Rattle.job_desk.specs.declared.issued.Issued.{Issued}
+use Rattle.job_desk.specs.declared.issued.Note.{Note}
+use Rattle.job_desk.specs.declared.link_fact.LinkFact.{LinkFact}
+use Rattle.job_desk.specs.declared.link_fact.LinkFact.TheVariants as fact
+use Rattle.job_desk.proofs.Endings.{ending_is, ending_rests}
+use Rattle.job_desk.proofs.Going.{Goes, goes_then, goes_pull, goes_note}
+use Rattle.print_queue.specs.declared.ending.Ending.{Ending}
+use Rattle.print_queue.specs.declared.row.PrintRow.{PrintRow}
 use Rattle.octo_keeper.specs.Tables.{with_due_end}
-use Rattle.session_steps.specs.declared.found.Doing.{Doing}
-use Rattle.session_steps.specs.declared.found.Doing.TheVariants.{Dialling, HangingUp, UsingLink, Resting}
-use Rattle.session_steps.specs.DeskTurn.{Pulls, IsNoted, IsQuietTurn}
-use Rattle.house_verdicts.specs.Known.{Known}
-use Rattle.house_history.specs.Noted.{last_call, known_after_calls, known_after_note, kept_unless, forgets, with_temps}
-use Rattle.session_steps.proofs.Endings.{pulls_go}
+use Rattle.octo_session.specs.declared.found.Doing.{Doing}
+use Rattle.octo_session.specs.declared.found.Doing.TheVariants.{Dialling, HangingUp, UsingLink, Resting}
+use Rattle.octo_session.specs.DeskTurn.{Pulls, IsNoted, IsQuietTurn}
+use Rattle.octo_house_rules.specs.Known.{Known}
+use Rattle.octo_house_rules.specs.Noted.{last_call, known_after_calls, known_after_note, kept_unless, forgets, with_temps}
+use Rattle.octo_session.proofs.Endings.{pulls_go}
 use Rattle.byte_text.proofs.BoolLaws.{off_on}
 
 -- a desk with the prints and the desk of a turn

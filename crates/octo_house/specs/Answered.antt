@@ -4,9 +4,9 @@ use Rattle.octo_outside.specs.Recorded.{Counts}
 use Rattle.octo_keeper.specs.declared.shelf.ShelfFile.{ShelfFile}
 use Rattle.octo_keeper.specs.declared.tables.Tables.{Tables}
 use Rattle.octo_asks.specs.declared.answer.Answer.{Answer}
-use Rattle.house_verdicts.specs.Verdict.{Verdict, reads, IsDone, files_after}
-use Rattle.house_rows.specs.Counts.{is_keepers, is_shelfs}
-use Rattle.house_tables.specs.Kept.{KeepsRows}
+use Rattle.octo_house_rules.specs.Verdict.{Verdict, reads, IsDone, files_after}
+use Rattle.octo_house_rules.specs.Faults.{is_keepers, is_shelfs}
+use Rattle.octo_house_tables.specs.Kept.{KeepsRows}
 use Rattle.octo_house.specs.declared.house.House.{House}
 use Rattle.octo_house.specs.State.{IsApartFrom, IsListed, known_of, session_of, tables_of}
 

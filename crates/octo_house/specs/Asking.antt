@@ -6,10 +6,10 @@ use Rattle.octo_asks.specs.Rights.{needed}
 use Rattle.octo_asks.specs.declared.answer.Answer.{Answer}
 use Rattle.octo_asks.specs.declared.request.Ask.{Ask}
 use Rattle.octo_keeper.specs.declared.shelf.ShelfFile.{ShelfFile}
-use Rattle.house_rows.specs.Counts.{is_keepers, is_shelfs}
-use Rattle.house_verdicts.specs.Answers.{lacking, verdict}
-use Rattle.house_verdicts.specs.Known.{Known}
-use Rattle.house_verdicts.specs.Verdict.{gives}
+use Rattle.octo_house_rules.specs.Faults.{is_keepers, is_shelfs}
+use Rattle.octo_house_rules.specs.Answers.{lacking, verdict}
+use Rattle.octo_house_rules.specs.Known.{Known}
+use Rattle.octo_house_rules.specs.Verdict.{gives}
 
 -- the ask needs permissions, and its key's user has them all
 pub record IsPermitted (ask : Ask) (k : Known) (user : UserRow) : Type 0 where

@@ -4,10 +4,10 @@ use Rattle.octo_access.specs.declared.policy.Policy.{Policy}
 use Rattle.octo_keeper.specs.Tables.{AreNumbered, AreSound}
 use Rattle.octo_keeper.specs.declared.shelf.ShelfFile.{ShelfFile}
 use Rattle.octo_keeper.specs.declared.tables.Tables.{Tables}
-use Rattle.session_steps.specs.Data.{SessionData}
-use Rattle.house_history.specs.Begins.{Begins}
-use Rattle.house_history.specs.Noted.{no_temps}
-use Rattle.house_tables.specs.Data.{TablesData, IsReadFrom}
+use Rattle.octo_session.specs.Data.{SessionData}
+use Rattle.octo_house_rules.specs.Begins.{Begins}
+use Rattle.octo_house_rules.specs.Noted.{no_temps}
+use Rattle.octo_house_tables.specs.Data.{TablesData, IsReadFrom}
 use Rattle.octo_house.specs.declared.house.House.{House}
 use Rattle.octo_house.specs.State.{known_of}
 

@@ -1,9 +1,10 @@
-pub mod Faults
-pub mod State
-pub mod Groups
-pub mod Beginning
 pub mod Answered
 pub mod Asking
-pub mod Taken
+pub mod Beginning
+pub mod Facing
+pub mod Faults
+pub mod Groups
+pub mod State
 pub mod Storing
+pub mod Taken
 pub mod Turned

@@ -1,9 +1,9 @@
 -- A host's fields as plain data.
 use Rattle.std.specs.Prelude.{◌≡◌, ◌⊎◌, List, Option, None, Some}
 use Rattle.octo_keeper.specs.declared.shelf.ShelfFile.{ShelfFile}
-use Rattle.session_steps.specs.Data.{SessionData}
-use Rattle.house_tables.specs.Data.{TablesData}
-use Rattle.house_verdicts.specs.Known.{Known, names_of}
+use Rattle.octo_session.specs.Data.{SessionData}
+use Rattle.octo_house_tables.specs.Data.{TablesData}
+use Rattle.octo_house_rules.specs.Known.{Known, names_of}
 use Rattle.octo_house.specs.declared.house.House.{House}
 
 -- what the host knows

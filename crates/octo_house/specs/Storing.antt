@@ -1,22 +1,22 @@
 -- How an upload is stored, and when its print may begin.
 use Rattle.std.specs.Prelude.{◌≡◌, ◌⊎◌, ℕ, Bool, true, false, List, [], ◌∷◌, length, Option, None, Some, Result, Ok, Err}
 use Rattle.temp_rules.specs.Hot.{first_hot_of}
-use Rattle.desk_steps.specs.Data.{File}
-use Rattle.desk_steps.specs.Run.{DropFile}
-use Rattle.desk_steps.specs.Table.{drop_file_step}
-use Rattle.desk_steps.specs.declared.state.Refusal.{Refusal}
-use Rattle.desk_steps.specs.declared.state.State.TheVariants.{Operational}
+use Rattle.job_desk.specs.Data.{File}
+use Rattle.job_desk.specs.Run.{DropFile}
+use Rattle.job_desk.specs.Table.{drop_file_step}
+use Rattle.job_desk.specs.declared.state.Refusal.{Refusal}
+use Rattle.job_desk.specs.declared.state.State.TheVariants.{Operational}
 use Rattle.octo_keeper.specs.declared.keeper.KeeperFault.{KeeperFault}
 use Rattle.octo_keeper.specs.declared.keeper.KeeperFault.TheVariants as keeper_fault
 use Rattle.octo_asks.specs.declared.answer.Answer.{Answer}
 use Rattle.octo_asks.specs.declared.answer.Answer.TheVariants as answer
 use Rattle.octo_asks.specs.declared.answer.StoredCause.{StoredCause}
 use Rattle.octo_asks.specs.declared.answer.StoredCause.TheVariants as cause
-use Rattle.house_verdicts.specs.Known.{Known, with_name, shown_count}
-use Rattle.house_verdicts.specs.Prints.{has_room}
-use Rattle.house_verdicts.specs.Refusals.{answer_of_refusal}
-use Rattle.house_verdicts.specs.Uploads.{has_file_room}
-use Rattle.house_verdicts.specs.Verdict.{at_desk, known_after}
+use Rattle.octo_house_rules.specs.Known.{Known, with_name, shown_count}
+use Rattle.octo_house_rules.specs.Prints.{has_room}
+use Rattle.octo_house_rules.specs.Refusals.{answer_of_refusal}
+use Rattle.octo_house_rules.specs.Uploads.{has_file_room}
+use Rattle.octo_house_rules.specs.Verdict.{at_desk, known_after}
 use Rattle.octo_house.specs.declared.house.House.{House}
 use Rattle.octo_house.specs.State.{known_of}
 

@@ -1,12 +1,12 @@
 -- What a turn makes of a host.
 use Rattle.std.specs.Prelude.{◌≡◌, ℕ, Option, None, Some}
-use Rattle.desk_steps.specs.declared.issued.Note.{Note}
-use Rattle.session_steps.specs.Data.{doing}
-use Rattle.session_steps.specs.DeskTurn.{IsQuietTurn}
+use Rattle.job_desk.specs.declared.issued.Note.{Note}
+use Rattle.octo_session.specs.Data.{doing}
+use Rattle.octo_session.specs.DeskTurn.{IsQuietTurn}
 use Rattle.octo_keeper.specs.Tables.{with_due_end}
-use Rattle.print_records.specs.declared.ending.Ending.{Ending}
+use Rattle.print_queue.specs.declared.ending.Ending.{Ending}
 use Rattle.marlin_reply.specs.declared.reply.Temps.{Temps}
-use Rattle.house_history.specs.Noted.{forgets, kept_unless, with_temps, known_after_note}
+use Rattle.octo_house_rules.specs.Noted.{forgets, kept_unless, with_temps, known_after_note}
 use Rattle.octo_house.specs.declared.house.House.{House}
 use Rattle.octo_house.specs.State.{known_of}
 

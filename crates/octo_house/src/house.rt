@@ -1,6 +1,6 @@
 //! A print host.
 ghost use Rattle.std.specs.Prelude.{◌≡◌, ◌≤◌, length, option_map};
-ghost use Rattle.house_tables.specs.Data.{IsRested};
+ghost use Rattle.octo_house_tables.specs.Data.{IsRested};
 
 mod ask;
 mod begin;
@@ -11,10 +11,10 @@ mod select;
 mod turn;
 mod upload;
 
+use crate::HostDesk;
 use byte_text::Name;
-use house_desk::HostDesk;
-use house_tables::HostTables;
 use octo_access::{Policy, is_among};
+use octo_house_tables::HostTables;
 use octo_keeper::KeeperFault;
 use octo_session::Session;
 
@@ -32,7 +32,7 @@ pub struct House {
 }
 
 impl House {
-    ghost use Rattle.house_verdicts.specs.Known.{is_held};
+    ghost use Rattle.octo_house_rules.specs.Known.{is_held};
     ghost use Rattle.octo_house.specs.State.{known_of};
 
     /// The print whose end isn't written yet, by its number, and the keeper's fault at the last try.

@@ -2,13 +2,13 @@
 use Rattle.std.proofs.Common.{◌≡◌, ◌≢◌, ℕ, ◌+◌, ◌-◌, ◌<◌, ◌≤◌, List, [], ◌++◌, length, Option, Result, Ok, Err, refl, sym, ap, ◌∙◌, subst, append_assoc, arith, length-append}
 use Rattle.octo_http.specs.Input.{Took}
 use Rattle.octo_http.specs.Stops.{Grammar, Unfinished, IsFaultOf, Stops, IsShort}
-use Rattle.http_grammar.specs.Part.{crlf, IsChunkHead, IsPart, PartFault}
-use Rattle.http_grammar.specs.Chunks.{Fits, Chunked, chunk, last, no_line, large, short, no_end, no_trailers, IsChunkFault}
+use Rattle.octo_http.specs.Part.{crlf, IsChunkHead, IsPart, PartFault}
+use Rattle.octo_http.specs.Chunks.{Fits, Chunked, chunk, last, no_line, large, short, no_end, no_trailers, IsChunkFault}
 use Rattle.octo_http.specs.Taken.{AddsChunk}
 use Rattle.octo_http.specs.declared.chunks.Added.TheVariants.{Chunk, Last}
-use Rattle.http_grammar.specs.declared.part.Part.TheVariants.{Line, LineEnd, Trailers}
-use Rattle.http_grammar.specs.declared.fault.MessageFault.{MessageFault}
-use Rattle.http_grammar.specs.declared.fault.MessageFault.TheVariants.{BadHead, HeadTooLarge, BodyTooLarge, BadChunk, Ended, ReadFault, NoMemory, Slow}
+use Rattle.octo_http.specs.declared.part.Part.TheVariants.{Line, LineEnd, Trailers}
+use Rattle.octo_http.specs.declared.fault.MessageFault.{MessageFault}
+use Rattle.octo_http.specs.declared.fault.MessageFault.TheVariants.{BadHead, HeadTooLarge, BodyTooLarge, BadChunk, Ended, ReadFault, NoMemory, Slow}
 use Rattle.octo_http.proofs.Reading.{took_none, took_then}
 
 -- a fault after bytes that were taken

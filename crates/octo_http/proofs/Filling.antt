@@ -4,7 +4,7 @@ use Rattle.std.specs.Result.{IfErr, IsErrAnd}
 use Rattle.std.proofs.lemmas.List.{take-append-drop, length-take}
 use Rattle.octo_http.specs.Input.{IntakeData, Took, Knows, IsPause}
 use Rattle.octo_http.specs.Stops.{Stops, IsShort}
-use Rattle.http_grammar.specs.declared.fault.MessageFault.{MessageFault}
+use Rattle.octo_http.specs.declared.fault.MessageFault.{MessageFault}
 use Rattle.octo_http.specs.declared.intake.Came.{Came}
 use Rattle.octo_http.specs.declared.intake.Came.TheVariants as came
 use Rattle.octo_http.proofs.Reading.{took_then, took_read, took_front, knows_since, stops_paused}

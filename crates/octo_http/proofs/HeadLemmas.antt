@@ -6,14 +6,14 @@ use Rattle.httparse.specs.Spans.{RequestExceeds}
 use Rattle.octo_http.specs.Input.{IntakeData, Took}
 use Rattle.octo_http.specs.Stops.{Refuses, Lacks}
 use Rattle.octo_http.specs.declared.intake.Came.{Came}
-use Rattle.http_grammar.specs.declared.fault.MessageFault.{MessageFault}
-use Rattle.http_grammar.specs.declared.fault.MessageFault.TheVariants.{BadHead, HeadTooLarge, BodyTooLarge, BadChunk, Ended, ReadFault, NoMemory, Slow}
-use Rattle.http_grammar.proofs.HeadLemmas.{never_more, exceeds_more}
+use Rattle.octo_http.specs.declared.fault.MessageFault.{MessageFault}
+use Rattle.octo_http.specs.declared.fault.MessageFault.TheVariants.{BadHead, HeadTooLarge, BodyTooLarge, BadChunk, Ended, ReadFault, NoMemory, Slow}
+use Rattle.octo_http.proofs.GrammarHead.{never_more, exceeds_more}
 use Rattle.octo_http.proofs.Reading.{front_more, took_then, took_front}
-use Rattle.http_grammar.specs.Head.{IsHead, HeadFault, bad_head, unframed, many_fields, many_bytes, cut_head, IsRefused, IsOpen, IsFound}
+use Rattle.octo_http.specs.Head.{IsHead, HeadFault, bad_head, unframed, many_fields, many_bytes, cut_head, IsRefused, IsOpen, IsFound}
 use Rattle.octo_http.specs.Taken.{TakesHead}
-use Rattle.http_grammar.specs.declared.head.Head.{Head}
-use Rattle.http_grammar.specs.declared.head.Found.{Found}
+use Rattle.octo_http.specs.declared.head.Head.{Head}
+use Rattle.octo_http.specs.declared.head.Found.{Found}
 
 -- what a look refuses is a fault of every input that begins with the bytes
 refused_head : (bytes : List ℕ) (f : MessageFault) → IsRefused (take 16384 bytes) f → Refuses HeadFault bytes f

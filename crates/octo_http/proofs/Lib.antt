@@ -1,7 +1,10 @@
-pub mod Reading
-pub mod Filling
-pub mod HeadLemmas
-pub mod PartLemmas
 pub mod ChunkLemmas
+pub mod Filling
+pub mod FramingLemmas
+pub mod GrammarHead
+pub mod GrammarParts
+pub mod HeadLemmas
 pub mod MessageLemmas
+pub mod PartLemmas
+pub mod Reading
 pub mod ReplyLemmas

@@ -6,14 +6,14 @@ use Rattle.octo_outside.specs.Recorded.{Adds, AddsPrefix, Rose}
 use Rattle.octo_outside.proofs.Recorded.{became_so, adds_none}
 use Rattle.octo_http.specs.Input.{IntakeData, Holds, Took, Waits}
 use Rattle.octo_http.specs.Stops.{Unfinished, IsFaultOf, Stops, IsShort, HasCause}
-use Rattle.http_grammar.specs.Head.{IsHead, HeadFault}
-use Rattle.http_grammar.specs.Chunks as chunks
+use Rattle.octo_http.specs.Head.{IsHead, HeadFault}
+use Rattle.octo_http.specs.Chunks as chunks
 use Rattle.octo_http.specs.Message.{has_body, continue_line, continue_due, message_of, ReadsBody, no_body, whole, short, in_chunks, IsBodyFault, message, no_head, bad_body, IsUnfinished, Answers, Writes, IsSlow, IsPatient}
-use Rattle.http_grammar.specs.declared.fault.MessageFault.{MessageFault}
-use Rattle.http_grammar.specs.declared.fault.MessageFault.TheVariants.{BadHead, HeadTooLarge, BodyTooLarge, BadChunk, Ended, ReadFault, NoMemory, Slow}
-use Rattle.http_grammar.specs.declared.framing.Framing.{Framing}
-use Rattle.http_grammar.specs.declared.framing.Framing.TheVariants.{NoBody, Length, Chunked}
-use Rattle.http_grammar.specs.declared.head.Head.{Head}
+use Rattle.octo_http.specs.declared.fault.MessageFault.{MessageFault}
+use Rattle.octo_http.specs.declared.fault.MessageFault.TheVariants.{BadHead, HeadTooLarge, BodyTooLarge, BadChunk, Ended, ReadFault, NoMemory, Slow}
+use Rattle.octo_http.specs.declared.framing.Framing.{Framing}
+use Rattle.octo_http.specs.declared.framing.Framing.TheVariants.{NoBody, Length, Chunked}
+use Rattle.octo_http.specs.declared.head.Head.{Head}
 use Rattle.octo_http.specs.declared.message.Message.{Message}
 use Rattle.octo_http.proofs.Reading.{took_none, waits_then}
 use Rattle.octo_http.proofs.ChunkLemmas.{stops_after}

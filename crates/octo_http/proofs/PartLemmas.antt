@@ -1,16 +1,16 @@
 -- What a look at the first bytes says of the parts of a chunked body.
 use Rattle.std.proofs.Common.{◌≡◌, ℕ, ◌<◌, ◌≤◌, List, [], ◌++◌, length, take, drop, Option, refl, sym, ap, ◌∙◌, subst, arith, length-append}
 use Rattle.std.proofs.lemmas.List.{take-append-drop, take-append-le, take_all}
-use Rattle.http_grammar.specs.Part.{IsPart, IsFoundPart}
-use Rattle.http_grammar.specs.declared.part.Part.{Part}
-use Rattle.http_grammar.specs.declared.fault.MessageFault.{MessageFault}
-use Rattle.http_grammar.specs.declared.fault.MessageFault.TheVariants.{BadChunk}
+use Rattle.octo_http.specs.Part.{IsPart, IsFoundPart}
+use Rattle.octo_http.specs.declared.part.Part.{Part}
+use Rattle.octo_http.specs.declared.fault.MessageFault.{MessageFault}
+use Rattle.octo_http.specs.declared.fault.MessageFault.TheVariants.{BadChunk}
 use Rattle.octo_http.specs.declared.intake.Came.{Came}
 use Rattle.octo_http.specs.Input.{IntakeData, Took}
 use Rattle.octo_http.specs.Stops.{Refuses, Lacks}
-use Rattle.http_grammar.specs.Part.{most_of, IsPartial, IsNoPart, PartFault, no_part, long_part, cut_part}
+use Rattle.octo_http.specs.Part.{most_of, IsPartial, IsNoPart, PartFault, no_part, long_part, cut_part}
 use Rattle.octo_http.specs.Taken.{TakesPart}
-use Rattle.http_grammar.proofs.PartLemmas.{never_more}
+use Rattle.octo_http.proofs.GrammarParts.{never_more}
 use Rattle.octo_http.proofs.Reading.{front_more, took_then, took_front}
 
 -- a look at the first bytes that refuses them

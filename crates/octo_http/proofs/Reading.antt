@@ -3,8 +3,8 @@ use Rattle.std.proofs.Common.{◌≡◌, ◌≢◌, ℕ, zero, suc, ◌≤◌, L
 use Rattle.octo_outside.proofs.Recorded.{rose_after}
 use Rattle.octo_http.specs.Input.{IntakeData, Took, Knows, Waits, IsPause}
 use Rattle.octo_http.specs.Stops.{Grammar, Unfinished, IsFaultOf, Stops, Refuses, HasCause, Lacks}
-use Rattle.http_grammar.specs.declared.fault.MessageFault.{MessageFault}
-use Rattle.http_grammar.specs.declared.fault.MessageFault.TheVariants.{BadHead, HeadTooLarge, BodyTooLarge, BadChunk, Ended, ReadFault, NoMemory, Slow}
+use Rattle.octo_http.specs.declared.fault.MessageFault.{MessageFault}
+use Rattle.octo_http.specs.declared.fault.MessageFault.TheVariants.{BadHead, HeadTooLarge, BodyTooLarge, BadChunk, Ended, ReadFault, NoMemory, Slow}
 use Rattle.octo_http.specs.declared.intake.Came.{Came}
 use Rattle.octo_http.specs.declared.intake.Came.TheVariants as came
 

@@ -1,8 +1,8 @@
 -- What was read of an input, what was taken of it, and how long a reader waits.
 use Rattle.std.specs.Prelude.{◌≡◌, ℕ, ◌+◌, ◌<◌, ◌≤◌, List, ◌++◌, length, Option, Some}
 use Rattle.octo_outside.specs.Recorded.{Rose, last_count}
-use Rattle.http_grammar.specs.declared.fault.MessageFault.{MessageFault}
-use Rattle.http_grammar.specs.declared.fault.MessageFault.TheVariants.{Ended, ReadFault, Slow}
+use Rattle.octo_http.specs.declared.fault.MessageFault.{MessageFault}
+use Rattle.octo_http.specs.declared.fault.MessageFault.TheVariants.{Ended, ReadFault, Slow}
 use Rattle.octo_http.specs.declared.intake.Came.{Came}
 use Rattle.octo_http.specs.declared.intake.Came.TheVariants as came
 

@@ -1,5 +1,10 @@
+pub mod Chunks
+pub mod Fields
+pub mod Framing
+pub mod Head
 pub mod Input
+pub mod Message
+pub mod Part
+pub mod Reply
 pub mod Stops
 pub mod Taken
-pub mod Message
-pub mod Reply

@@ -1,14 +1,14 @@
 -- What an input says as a message, and what a reader of it answers and writes.
 use Rattle.std.specs.Prelude.{◌≡◌, ℕ, ◌+◌, ◌<◌, ◌≤◌, ◌⊎◌, Bool, true, false, ◌&&◌, nat_lt, nat_le, if◌then◌else◌, List, [], ◌++◌, length, take, codes, Option, Some, Result, Ok, Err, IfErr}
 use Rattle.octo_outside.specs.Recorded.{Became, last_count}
-use Rattle.http_grammar.specs.Head.{IsHead, HeadFault}
-use Rattle.http_grammar.specs.Part.{crlf_crlf}
-use Rattle.http_grammar.specs.Chunks as chunks
-use Rattle.http_grammar.specs.declared.fault.MessageFault.{MessageFault}
-use Rattle.http_grammar.specs.declared.fault.MessageFault.TheVariants.{BadHead, HeadTooLarge, BodyTooLarge, BadChunk, Ended, ReadFault, NoMemory, Slow}
-use Rattle.http_grammar.specs.declared.framing.Framing.{Framing}
-use Rattle.http_grammar.specs.declared.framing.Framing.TheVariants.{NoBody, Length, Chunked}
-use Rattle.http_grammar.specs.declared.head.Head.{Head}
+use Rattle.octo_http.specs.Head.{IsHead, HeadFault}
+use Rattle.octo_http.specs.Part.{crlf_crlf}
+use Rattle.octo_http.specs.Chunks as chunks
+use Rattle.octo_http.specs.declared.fault.MessageFault.{MessageFault}
+use Rattle.octo_http.specs.declared.fault.MessageFault.TheVariants.{BadHead, HeadTooLarge, BodyTooLarge, BadChunk, Ended, ReadFault, NoMemory, Slow}
+use Rattle.octo_http.specs.declared.framing.Framing.{Framing}
+use Rattle.octo_http.specs.declared.framing.Framing.TheVariants.{NoBody, Length, Chunked}
+use Rattle.octo_http.specs.declared.head.Head.{Head}
 use Rattle.octo_http.specs.declared.message.Message.{Message}
 
 -- whether a length or chunks were given
@@ -20,7 +20,7 @@ is_sized Chunked = true
 -- whether there is a body to read
 abbrev pub has_body : Framing → Bool
 has_body NoBody = false
-has_body (Length n) = nat_lt 0 n && nat_le n 68157440
+has_body (Length n) = nat_lt 0 n && nat_le n chunks.most_body
 has_body Chunked = true
 
 -- what lets the client send the body
@@ -46,9 +46,9 @@ message_of head body = record {
 -- what an input says as a body of this length
 pub data ReadsBody : Framing → List ℕ → Result (List ℕ) MessageFault → Type 0 where
   no_body : (input : List ℕ) → ReadsBody NoBody input (Ok [])
-  whole : (n : ℕ) (body rest : List ℕ) → n ≤ 68157440 → length body ≡ n → ReadsBody (Length n) (body ++ rest) (Ok body)
-  large : (n : ℕ) (input : List ℕ) → 68157440 < n → ReadsBody (Length n) input (Err BodyTooLarge)
-  short : (n : ℕ) (input : List ℕ) → n ≤ 68157440 → length input < n → ReadsBody (Length n) input (Err Ended)
+  whole : (n : ℕ) (body rest : List ℕ) → n ≤ chunks.most_body → length body ≡ n → ReadsBody (Length n) (body ++ rest) (Ok body)
+  large : (n : ℕ) (input : List ℕ) → chunks.most_body < n → ReadsBody (Length n) input (Err BodyTooLarge)
+  short : (n : ℕ) (input : List ℕ) → n ≤ chunks.most_body → length input < n → ReadsBody (Length n) input (Err Ended)
   in_chunks : (input : List ℕ) (r : Result (List ℕ) MessageFault) → chunks.Chunked [] input r → ReadsBody Chunked input r
 
 -- the faults of a body

@@ -1,7 +1,7 @@
 -- The bytes of a reply (RFC 9112, section 4).
 use Rattle.std.specs.Prelude.{ℕ, ◌==◌, ◌&&◌, nat_le, nat_lt, if◌then◌else◌, List, [], ◌++◌, length, codes, decimal, unwrap_or}
 use Rattle.http.specs.StatusCode.{reason_phrase}
-use Rattle.http_grammar.specs.Part.{crlf}
+use Rattle.octo_http.specs.Part.{crlf}
 use Rattle.octo_http.specs.declared.reply.ReplyKind.{ReplyKind}
 use Rattle.octo_http.specs.declared.reply.ReplyKind.TheVariants.{Empty, Json, Bytes}
 use Rattle.octo_http.specs.declared.reply.HttpReply.{HttpReply}

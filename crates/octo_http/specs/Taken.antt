@@ -1,11 +1,11 @@
 -- What was taken of the bytes at hand.
 use Rattle.std.specs.Prelude.{◌≡◌, ℕ, ◌<◌, ◌≤◌, List, ◌++◌, length, Result, Ok}
-use Rattle.http_grammar.specs.Head.{IsHead}
-use Rattle.http_grammar.specs.Part.{IsPart}
-use Rattle.http_grammar.specs.Chunks.{Chunked}
-use Rattle.http_grammar.specs.declared.fault.MessageFault.{MessageFault}
-use Rattle.http_grammar.specs.declared.head.Head.{Head}
-use Rattle.http_grammar.specs.declared.part.Part.{Part}
+use Rattle.octo_http.specs.Head.{IsHead}
+use Rattle.octo_http.specs.Part.{IsPart}
+use Rattle.octo_http.specs.Chunks.{Chunked, most_body}
+use Rattle.octo_http.specs.declared.fault.MessageFault.{MessageFault}
+use Rattle.octo_http.specs.declared.head.Head.{Head}
+use Rattle.octo_http.specs.declared.part.Part.{Part}
 use Rattle.octo_http.specs.Input.{IntakeData}
 use Rattle.octo_http.specs.declared.chunks.Added.{Added}
 use Rattle.octo_http.specs.declared.chunks.Added.TheVariants.{Chunk, Last}
@@ -29,6 +29,6 @@ pub record TakesPart (part : Part) (old new : IntakeData) (n : ℕ) : Type 0 whe
 -- what was taken is a chunk, or the last one with the trailers: what follows says what it says after the new body
 abbrev pub AddsChunk : List ℕ → List ℕ → Added → List ℕ → Type 0
 AddsChunk old new Chunk taken =
-    (length old < length new) × (length new ≤ 68157440)
+    (length old < length new) × (length new ≤ most_body)
     × ((input : List ℕ) (r : Result (List ℕ) MessageFault) → Chunked new input r → Chunked old (taken ++ input) r)
 AddsChunk old new Last taken = (new ≡ old) × ((more : List ℕ) → Chunked old (taken ++ more) (Ok old))

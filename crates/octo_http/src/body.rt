@@ -7,7 +7,7 @@ ghost use Rattle.octo_http.specs.Message.{ReadsBody, IsBodyFault};
 use crate::chunks::{MOST_BODY, read_chunks};
 use crate::fill::fill;
 use crate::intake::Intake;
-use http_grammar::{Framing, MessageFault};
+use crate::{Framing, MessageFault};
 use octo_outside::{Blob, Conn};
 use std::alloc::Global;
 

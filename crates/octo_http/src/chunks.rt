@@ -2,13 +2,13 @@
 ghost use Rattle.std.specs.Prelude.{◌≡◌, ◌<◌, ◌≤◌, ◌++◌, ℕ, List, [], length, Ok, Err, Result, IfOk, IfErr};
 ghost use Rattle.octo_http.specs.Input.{Took, Waits};
 ghost use Rattle.octo_http.specs.Stops.{Stops, HasCause};
-ghost use Rattle.http_grammar.specs.Chunks.{Chunked, IsChunkFault};
+ghost use Rattle.octo_http.specs.Chunks.{Chunked, IsChunkFault, most_body};
 ghost use Rattle.octo_http.specs.Taken.{AddsChunk};
 
 use crate::fill::fill;
 use crate::intake::Intake;
 use crate::read_part::read_part;
-use http_grammar::{MessageFault, Part};
+use crate::{MessageFault, Part};
 use octo_outside::{Blob, Conn};
 use std::alloc::Global;
 
@@ -29,7 +29,7 @@ fn read_chunk<C: Conn>(
     conn: &mut C,
     body: &mut Blob,
 ) -> Result<Added, MessageFault>
-    requires { length body.old ≤ 68157440 }
+    requires { length body.old ≤ most_body }
     ensures chunk { IfOk result (λ added. (taken : List ℕ) × AddsChunk body.old body.new added taken
         × Took intake.old.bytes (C.left conn.old) intake.new.bytes (C.left conn.new) taken) }
     ensures stops { IfErr result

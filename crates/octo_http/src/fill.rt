@@ -3,8 +3,8 @@ ghost use Rattle.std.specs.Prelude.{◌≡◌, ◌≤◌, ◌++◌, ℕ, List, l
 ghost use Rattle.octo_http.specs.Input.{Took, Waits};
 ghost use Rattle.octo_http.specs.Stops.{Stops, HasCause, IsShort};
 
+use crate::MessageFault;
 use crate::intake::{Came, Intake};
-use http_grammar::MessageFault;
 use octo_outside::{Blob, Conn};
 use std::alloc::AllocError;
 

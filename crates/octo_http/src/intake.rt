@@ -1,7 +1,7 @@
 //! What was read of a connection and isn't taken yet.
 ghost use Rattle.std.specs.Prelude.{◌≡◌, ◌<◌, ◌≤◌, ◌+◌, ◌-◌, ◌++◌, ◌↔◌, ℕ, List, [], length, drop, take, IfOk, OnOk, IfErr, OnErr, IsOk, Err, Ok};
 
-use http_grammar::MessageFault;
+use crate::MessageFault;
 use octo_outside::{Conn, Failed, Got};
 use std::alloc::{AllocError, Global};
 use std::marker::Model;

@@ -7,8 +7,8 @@ use crate::body::read_body;
 use crate::chunks::MOST_BODY;
 use crate::intake::Intake;
 use crate::read_head::read_head;
+use crate::{Framing, Head, MessageFault};
 use http::Method;
-use http_grammar::{Framing, Head, MessageFault};
 use octo_outside::{Blob, Conn, Failed, send_all};
 use std::alloc::Global;
 

@@ -2,12 +2,12 @@
 ghost use Rattle.std.specs.Prelude.{◌≡◌, ◌≢◌, ◌<◌, ◌≤◌, ◌++◌, ℕ, List, length, IfOk, IfErr, IfSome, IfNone, OnErr};
 ghost use Rattle.octo_http.specs.Input.{Took, Waits};
 ghost use Rattle.octo_http.specs.Stops.{Stops, HasCause, Refuses, Lacks};
-ghost use Rattle.http_grammar.specs.Head.{IsHead, HeadFault};
+ghost use Rattle.octo_http.specs.Head.{IsHead, HeadFault, most_head};
 ghost use Rattle.octo_http.specs.Taken.{TakesHead};
 
 use crate::intake::{Came, Intake};
 use crate::looks::{Looks, front_of};
-use http_grammar::{Head, MessageFault, look};
+use crate::{Head, MessageFault, look};
 use octo_outside::Conn;
 use std::alloc::Global;
 
@@ -23,7 +23,7 @@ fn try_head(
 ) -> Result<Option<Head>, MessageFault>
     ensures head { IfOk result (λ found. IfSome found (TakesHead intake.old intake.new)) }
     ensures none { IfOk result
-        (λ found. IfNone found (Lacks HeadFault 16384 intake.new.bytes came)) }
+        (λ found. IfNone found (Lacks HeadFault most_head intake.new.bytes came)) }
     ensures same { IfOk result (λ found. IfNone found (intake.new ≡ intake.old)) }
     ensures refused { IfErr result (Refuses HeadFault intake.old.bytes) }
     ensures err { OnErr result (intake.new ≡ intake.old) }

@@ -2,12 +2,12 @@
 ghost use Rattle.std.specs.Prelude.{◌≡◌, ◌++◌, ℕ, List, length, IfOk, IfErr, IfSome, IfNone, OnErr};
 ghost use Rattle.octo_http.specs.Input.{Took, Waits};
 ghost use Rattle.octo_http.specs.Stops.{Stops, HasCause, Refuses, Lacks};
-ghost use Rattle.http_grammar.specs.Part.{most_of, IsPart, PartFault};
+ghost use Rattle.octo_http.specs.Part.{most_of, IsPart, PartFault};
 ghost use Rattle.octo_http.specs.Taken.{TakesPart};
 
 use crate::intake::{Came, Intake};
 use crate::looks::{Looks, front_of};
-use http_grammar::{MessageFault, Part, look_part};
+use crate::{MessageFault, Part, look_part};
 use octo_outside::Conn;
 
 // Takes a part from the bytes at hand, if they begin with it and it's time to look.

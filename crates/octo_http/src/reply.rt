@@ -2,7 +2,7 @@
 ghost use Rattle.std.specs.Prelude.{◌≡◌, ◌≤◌, ◌<◌, ◌+◌, ◌++◌, length, codes, decimal, OnOk, OnErr, IsErr};
 ghost use Rattle.arrayvec.specs.ArrayVec.{array_vec_len};
 ghost use Rattle.octo_outside.specs.Recorded.{Adds, AddsPrefix, Counts};
-ghost use Rattle.http_grammar.specs.Part.{crlf};
+ghost use Rattle.octo_http.specs.Part.{crlf};
 ghost use Rattle.octo_http.specs.Reply.{reason_of, phrase_of, first_lines, type_line, head_bytes, sent_body, reply_bytes};
 
 use arrayvec::ArrayVec;
@@ -119,7 +119,6 @@ fn head_of(status: u16, kind: ReplyKind, count: usize) -> ReplyHead
     head
 }
 
-// The body that is sent.
 fn sent_body(reply: &HttpReply) -> &[u8]
     ensures { result.now ≡ sent_body reply.now.status reply.now.kind reply.now.body }
 {

@@ -12,7 +12,7 @@ use Rattle.octo_access.specs.Rows.{is_named, has_digest, IsUserList}
 use Rattle.print_queue.specs.declared.entry.QueueEntry.{QueueEntry}
 use Rattle.print_queue.specs.Rows.{is_key, is_of}
 use Rattle.print_queue.specs.Lawful.{IsApart, IsWholeRow, IsSound}
-use Rattle.print_records.specs.declared.row.PrintRow.{PrintRow}
+use Rattle.print_queue.specs.declared.row.PrintRow.{PrintRow}
 use Rattle.octo_keeper.specs.declared.tables.Tables.{Tables}
 use Rattle.octo_keeper.specs.Tables.{AreNumbered, AreSound}
 use Rattle.octo_keeper.specs.Sound.{is_apart, are_apart, is_whole, is_within, is_queue, is_alone, is_user_list, are_numbered_from, are_sound}

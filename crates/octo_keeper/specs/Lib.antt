@@ -1,4 +1,4 @@
-pub mod Tables
-pub mod Sound
 pub mod Files
 pub mod Memory
+pub mod Sound
+pub mod Tables

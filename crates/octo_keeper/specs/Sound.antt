@@ -5,7 +5,7 @@ use Rattle.octo_access.specs.declared.row.UserRow.{UserRow}
 use Rattle.octo_access.specs.Rows.{is_named, has_digest}
 use Rattle.print_queue.specs.declared.entry.QueueEntry.{QueueEntry}
 use Rattle.print_queue.specs.Rows.{is_key, is_of}
-use Rattle.print_records.specs.declared.row.PrintRow.{PrintRow}
+use Rattle.print_queue.specs.declared.row.PrintRow.{PrintRow}
 use Rattle.octo_keeper.specs.declared.tables.Tables.{Tables}
 
 -- two entries differ in their arrival, and in their user or their name

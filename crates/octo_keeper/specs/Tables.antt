@@ -5,8 +5,8 @@ use Rattle.octo_access.specs.Rows.{is_named, with_row, IsUserList}
 use Rattle.print_queue.specs.declared.entry.QueueEntry.{QueueEntry}
 use Rattle.print_queue.specs.Lawful.{IsSound}
 use Rattle.print_queue.specs.Rows.{is_key, insert_row, without, without_copy}
-use Rattle.print_records.specs.declared.ending.Ending.{Ending}
-use Rattle.print_records.specs.declared.row.PrintRow.{PrintRow}
+use Rattle.print_queue.specs.declared.ending.Ending.{Ending}
+use Rattle.print_queue.specs.declared.row.PrintRow.{PrintRow}
 use Rattle.octo_keeper.specs.declared.tables.Tables.{Tables}
 use Rattle.octo_keeper.specs.declared.tables.Change.{Change}
 use Rattle.octo_keeper.specs.declared.tables.Change.TheVariants as change

@@ -8,8 +8,7 @@ ghost use Rattle.octo_keeper.specs.Sound.{are_apart, are_numbered_from, are_soun
 
 use crate::Tables;
 use octo_access::{MOST_USERS, UserRow};
-use print_queue::{MOST_COPIES, MOST_ENTRIES, QueueEntry};
-use print_records::PrintRow;
+use print_queue::{MOST_COPIES, MOST_ENTRIES, PrintRow, QueueEntry};
 
 fn is_apart(a: &QueueEntry, b: &QueueEntry) -> bool
     ensures { result ≡ is_apart a.now b.now }

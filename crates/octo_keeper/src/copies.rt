@@ -2,8 +2,7 @@
 ghost use Rattle.std.specs.Prelude.{◌≡◌, IfOk};
 
 use octo_access::{UserList, UserRow};
-use print_queue::{EntryList, QueueEntry};
-use print_records::{PrintList, PrintRow};
+use print_queue::{EntryList, PrintList, PrintRow, QueueEntry};
 use std::alloc::{AllocError, Global};
 
 /// A copy of users. Fails if out of memory.

@@ -6,8 +6,7 @@ ghost use Rattle.octo_keeper.specs.Tables.{ended_row, with_user, with_end, with_
 
 use byte_text::Name;
 use octo_access::{UserRow, place_for_name};
-use print_queue::{QueueEntry, place_for};
-use print_records::{Ending, PrintRow};
+use print_queue::{Ending, PrintRow, QueueEntry, place_for};
 use std::alloc::AllocError;
 
 /// Adds a user in the place of its name. Fails if out of memory.

@@ -10,8 +10,7 @@ use crate::edits::{
 use byte_text::Name;
 use octo_access::{UserList, UserRow};
 use octo_outside::ItemList;
-use print_queue::{EntryList, QueueEntry};
-use print_records::{Ending, PrintList, PrintRow};
+use print_queue::{Ending, EntryList, PrintList, PrintRow, QueueEntry};
 use std::alloc::{AllocError, Global};
 use std::mem;
 

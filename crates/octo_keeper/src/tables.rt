@@ -4,8 +4,7 @@ use crate::lists::{add_entry, add_print, add_user, remove_entry, set_end, set_us
 use byte_text::Name;
 use octo_access::{UserList, UserRow};
 use octo_outside::ItemList;
-use print_queue::{EntryList, QueueEntry};
-use print_records::{Ending, PrintList, PrintRow};
+use print_queue::{Ending, EntryList, PrintList, PrintRow, QueueEntry};
 use std::alloc::{AllocError, Global};
 
 /// What a keeper keeps.

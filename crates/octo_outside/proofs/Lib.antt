@@ -1,2 +1,2 @@
-pub mod Recorded
 pub mod Held
+pub mod Recorded

@@ -2,6 +2,7 @@
 #![tactic(auto)]
 
 mod blob;
+mod byte_conn;
 mod calls;
 mod clock;
 mod command_line;
@@ -16,6 +17,7 @@ mod system_clock;
 mod types;
 
 pub use blob::{Blob, append_line};
+pub use byte_conn::ByteConn;
 pub use calls::Calls;
 pub use clock::{Clock, MemoryClock};
 pub use command_line::{ArgumentsFault, arguments};

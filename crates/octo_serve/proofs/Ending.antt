@@ -1,10 +1,10 @@
 -- What four workers' work says once their calls are those of a finished history.
 use Rattle.std.proofs.Common.{◌≡◌, ℕ, Bool, true, List, [], ◌∷◌, Option, Some, inl, inr, sym, refl, subst}
-use Rattle.octo_doors.specs.Doors.{ConnState}
-use Rattle.octo_doors.specs.declared.door.Doors.{Doors}
+use Rattle.octo_outside_doors.specs.Doors.{ConnState}
+use Rattle.octo_outside_doors.specs.declared.door.Doors.{Doors}
 use Rattle.octo_asks.specs.History.{History, calls_of}
 use Rattle.octo_outside.proofs.Recorded.{became_so}
-use Rattle.api_worker.specs.Worked.{AreOfReturned, HasReturned, HasWorked}
+use Rattle.octo_api_worker.specs.Worked.{AreOfReturned, HasReturned, HasWorked}
 use Rattle.hand_over.specs.declared.workers.Workers.{Workers}
 use Rattle.hand_over.specs.Views.{AreCalls}
 use Rattle.octo_serve.specs.Around.{DoorState}

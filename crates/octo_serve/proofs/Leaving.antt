@@ -4,22 +4,22 @@ use Rattle.std.specs.Prelude.{All}
 use Rattle.std.proofs.lemmas.Bool.Decides.{nat_tests}
 use Rattle.std.proofs.lemmas.List.Elements.{All-head, All-tail}
 use Rattle.octo_outside.specs.Recorded.{Became}
-use Rattle.octo_doors.specs.Doors.{ConnState}
-use Rattle.octo_doors.specs.declared.door.Doors.{Doors}
+use Rattle.octo_outside_doors.specs.Doors.{ConnState}
+use Rattle.octo_outside_doors.specs.declared.door.Doors.{Doors}
 use Rattle.octo_asks.specs.declared.answer.Answer.{Answer}
 use Rattle.octo_asks.specs.declared.request.Ask.{Ask}
 use Rattle.octo_asks.specs.declared.request.Request.{Request}
 use Rattle.octo_asks.specs.declared.request.Request.TheVariants.{Leave}
 use Rattle.octo_asks.specs.declared.entry.Entry.TheVariants as entry
 use Rattle.octo_asks.specs.History.{History, calls_of}
-use Rattle.api_worker.specs.Served.{IsServed, no_message, message}
-use Rattle.api_worker.specs.Worked.{Served, none_served, one_more, Leaves, no_leave, one_leave, IsAsk, HasReturned, HasWorked}
-use Rattle.api_worker.proofs.Asked.{leads_to, leads_asks}
+use Rattle.octo_api_worker.specs.Served.{IsServed, no_message, message}
+use Rattle.octo_api_worker.specs.Worked.{Served, none_served, one_more, Leaves, no_leave, one_leave, IsAsk, HasReturned, HasWorked}
+use Rattle.octo_api_worker.proofs.Asked.{leads_to, leads_asks}
 use Rattle.hand_over.specs.Ends.{HistoryData}
 use Rattle.hand_over.specs.Views.{AreCalls, has_close, all_of_four}
-use Rattle.house_walks.specs.Counted.{is_leave, leaves_made, is_shut}
-use Rattle.house_run.specs.Runs.{IsOver}
-use Rattle.house_run.proofs.Tallying.{leaves_append}
+use Rattle.octo_house_rules.specs.Counted.{is_leave, leaves_made, is_shut}
+use Rattle.octo_house_run.specs.Runs.{IsOver}
+use Rattle.octo_house_run.proofs.Tallying.{leaves_append}
 use Rattle.octo_serve.specs.Around.{DoorState}
 use Rattle.octo_serve.specs.Doors.{IsServedBy, AreServed, HasNoMore, AllHaveNoMore}
 use Rattle.octo_serve.specs.Hosted.{Setting, Ran, HasHosted}

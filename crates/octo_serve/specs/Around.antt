@@ -4,8 +4,8 @@ use Rattle.printer_model.specs.declared.event.WorldEvent.{WorldEvent}
 use Rattle.printer_link.specs.Link.{LinkKind}
 use Rattle.octo_keeper.specs.declared.tables.Tables.{Tables}
 use Rattle.octo_keeper.specs.declared.shelf.ShelfFile.{ShelfFile}
-use Rattle.octo_doors.specs.Doors.{ConnState}
-use Rattle.octo_doors.specs.declared.door.Doors.{Doors}
+use Rattle.octo_outside_doors.specs.Doors.{ConnState}
+use Rattle.octo_outside_doors.specs.declared.door.Doors.{Doors}
 
 -- a link: what no call changes, its events and its number of calls, if it records them, whether it is made, and its faults
 pub record LinkState : Type 0 where

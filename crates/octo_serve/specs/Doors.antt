@@ -1,10 +1,10 @@
 -- What four workers did at their doors.
 use Rattle.std.specs.Prelude.{◌≡◌, ℕ, Bool, true, false, ◌&&◌, List, [], Option, Some, IfSome}
 use Rattle.octo_outside.specs.Recorded.{Rose}
-use Rattle.octo_doors.specs.declared.door.Doors.{Doors}
+use Rattle.octo_outside_doors.specs.declared.door.Doors.{Doors}
 use Rattle.octo_asks.specs.History.{History, calls_of}
 use Rattle.octo_asks.specs.Place.{Place}
-use Rattle.api_worker.specs.Worked.{HasReturned, HasWorked}
+use Rattle.octo_api_worker.specs.Worked.{HasReturned, HasWorked}
 use Rattle.hand_over.specs.declared.workers.Workers.{Workers}
 use Rattle.hand_over.specs.Ends.{WorkerData, worker_place}
 use Rattle.octo_serve.specs.Around.{DoorState}

@@ -1,20 +1,20 @@
 -- What a host did from its first connection to its end.
 use Rattle.std.specs.Prelude.{◌≡◌, ◌⊎◌, ℕ, ◌≤◌, Bool, true, false, [], Option, Some, is_some}
 use Rattle.octo_outside.specs.Recorded.{Became}
-use Rattle.octo_doors.specs.declared.door.Doors.{Doors}
+use Rattle.octo_outside_doors.specs.declared.door.Doors.{Doors}
 use Rattle.octo_asks.specs.History.{History}
 use Rattle.hand_over.specs.Ends.{HistoryData}
 use Rattle.hand_over.specs.Views.{AreCalls, has_close}
-use Rattle.house_walks.specs.Counted.{is_shut}
-use Rattle.house_counts.specs.Faults.{AreCounted}
-use Rattle.house_counts.specs.LinkUse.{UsesLink}
-use Rattle.house_counts.specs.Shows.{Shows}
-use Rattle.house_counts.specs.Temps.{NotesTemps}
-use Rattle.house_line.specs.InStep.{TiesLines}
-use Rattle.house_tables.specs.Kept.{KeepsRows}
+use Rattle.octo_house_rules.specs.Counted.{is_shut}
+use Rattle.octo_house_rules.specs.Faults.{AreCounted}
+use Rattle.octo_house_rules.specs.LinkUse.{UsesLink}
+use Rattle.octo_house_rules.specs.Shows.{Shows}
+use Rattle.octo_house_rules.specs.Temps.{NotesTemps}
+use Rattle.octo_house_rules.specs.Tied.{TiesLines}
+use Rattle.octo_house_tables.specs.Kept.{KeepsRows}
 use Rattle.octo_house.specs.declared.house.House.{House}
 use Rattle.octo_house.specs.State.{IsListed, session_of, tables_of}
-use Rattle.house_run.specs.Runs.{HasRun, RunKeepsPrints, IsOver, ArePassed, begins}
+use Rattle.octo_house_run.specs.Runs.{HasRun, RunKeepsPrints, IsOver, ArePassed, begins}
 use Rattle.octo_serve.specs.Around.{LinkState, KeeperState, ShelfState, DoorState}
 use Rattle.octo_serve.specs.Doors.{AreServed, AllHaveNoMore}
 

@@ -4,10 +4,11 @@ ghost use Rattle.std.specs.Thread.{IsSend, IsSync};
 ghost use Rattle.octo_serve.specs.Around.{door_state, door_states};
 ghost use Rattle.octo_serve.specs.Doors.{WorksAt, AllWork, asker_state, worker_state};
 
-use api_worker::worker;
 use hand_over::Workers;
+use octo_api_routes::Routes;
+use octo_api_worker::worker;
 use octo_asks::Asker;
-use octo_doors::{Door, Doors};
+use octo_outside_doors::{Door, Doors};
 use std::alloc::Global;
 use std::sync::Wait;
 use std::thread::{Threads, join_mut};
@@ -16,6 +17,7 @@ use std::thread::{Threads, join_mut};
 fn work_at<R: Wait, D: Door, A: Asker>(
     rt: &R,
     alloc: Global,
+    routes: &Routes,
     door: &mut D,
     asker: &mut A,
     patience: u32,
@@ -25,7 +27,7 @@ fn work_at<R: Wait, D: Door, A: Asker>(
         (asker_state A.mine A.saw_close A.place asker.old)
         (asker_state A.mine A.saw_close A.place asker.new) result }
 {
-    worker(rt, alloc, door, asker, patience)
+    worker(rt, alloc, routes, door, asker, patience)
 }
 
 // A worker at its door in a thread of its own, and other work in this one. Returns whether the
@@ -33,6 +35,7 @@ fn work_at<R: Wait, D: Door, A: Asker>(
 fn one_beside<R: Threads + Wait + Sync, D: Door + Send, A: Asker + Send, G: FnMut() -> B, B>(
     rt: &R,
     alloc: Global,
+    routes: &Routes,
     door: &mut D,
     asker: &mut A,
     patience: u32,
@@ -45,13 +48,18 @@ fn one_beside<R: Threads + Wait + Sync, D: Door + Send, A: Asker + Send, G: FnMu
         (asker_state A.mine A.saw_close A.place asker.new) result.0 }
     ensures work { G.step work.old result.1 work.new }
 {
-    join_mut(rt, &mut || work_at(rt, alloc, door, asker, patience), work)
+    join_mut(
+        rt,
+        &mut || work_at(rt, alloc, routes, door, asker, patience),
+        work,
+    )
 }
 
 // Two workers at their doors, and other work in this thread. Returns whether both doors held.
 fn two_beside<R: Threads + Wait + Sync, D: Door + Send, A: Asker + Send, G: FnMut() -> B, B>(
     rt: &R,
     alloc: Global,
+    routes: &Routes,
     one: &mut D,
     two: &mut D,
     first: &mut A,
@@ -73,6 +81,7 @@ fn two_beside<R: Threads + Wait + Sync, D: Door + Send, A: Asker + Send, G: FnMu
     one_beside(
         rt,
         alloc,
+        routes,
         one,
         first,
         patience,
@@ -84,12 +93,12 @@ fn two_beside<R: Threads + Wait + Sync, D: Door + Send, A: Asker + Send, G: FnMu
                 (asker_state A.mine A.saw_close A.place second.entry.now)
                 (asker_state A.mine A.saw_close A.place second.exit.now) result.0 }
             ensures work { G.step work.entry.now result.1 work.exit.now }
-        { one_beside(rt, alloc, two, second, patience, work) },
+        { one_beside(rt, alloc, routes, two, second, patience, work) },
     )
 }
 
-// Four workers at four doors, each in a thread of its own, and other work in this one. Returns
-// whether all doors held, and what the work returned.
+// Four workers at four doors, each in a thread of its own, and other work in this one. The workers share a table of routes.
+// Returns whether all doors held, and what the work returned.
 pub(crate) fn four_beside<
     R: Threads + Wait + Send + Sync,
     D: Door + Send + Drop,
@@ -98,6 +107,7 @@ pub(crate) fn four_beside<
 >(
     rt: &R,
     alloc: Global,
+    routes: &Routes,
     doors: &mut Doors<D>,
     workers: &mut Workers<R>,
     patience: u32,
@@ -120,6 +130,7 @@ pub(crate) fn four_beside<
     let (a_held, (b_held, (c_held, (d_held, done)))) = two_beside(
         rt,
         alloc,
+        routes,
         a,
         b,
         first,
@@ -135,7 +146,7 @@ pub(crate) fn four_beside<
                 (door_state D.coming D.served D.faults d.exit.now)
                 (worker_state fourth.entry.now) (worker_state fourth.exit.now) result.1.0 }
             ensures work { G.step work.entry.now result.1.1 work.exit.now }
-        { two_beside(rt, alloc, c, d, third, fourth, patience, work) },
+        { two_beside(rt, alloc, routes, c, d, third, fourth, patience, work) },
     );
     (a_held && b_held && c_held && d_held, done)
 }

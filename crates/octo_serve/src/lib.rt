@@ -3,10 +3,6 @@
 #![tactic(auto)]
 
 mod beside;
-mod gate_conn;
-mod gate_door;
 mod serving;
 
-pub use gate_conn::GateConn;
-pub use gate_door::GateDoor;
 pub use serving::{Served, serve};

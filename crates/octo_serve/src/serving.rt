@@ -2,18 +2,19 @@
 ghost use Rattle.std.specs.Prelude.{◌≡◌, false, true, None, Some, IfOk, OnErr};
 ghost use Rattle.hand_over.specs.Ends.{house_place};
 ghost use Rattle.octo_house.specs.State.{session_of};
-ghost use Rattle.house_run.specs.Runs.{IsFresh};
+ghost use Rattle.octo_house_run.specs.Runs.{IsFresh};
 ghost use Rattle.octo_serve.specs.Around.{link_state, keeper_state, shelf_state};
 ghost use Rattle.octo_serve.specs.Around.{door_state, door_states};
 ghost use Rattle.octo_serve.specs.Hosted.{setting, Ran, HasHosted};
 
 use crate::beside::four_beside;
 use hand_over::{History, HouseEnd, ends};
-use house_run::run;
-use octo_doors::{Door, Doors};
+use octo_api_routes::Routes;
 use octo_house::House;
+use octo_house_run::run;
 use octo_keeper::{Keeper, Shelf};
 use octo_outside::Clock;
+use octo_outside_doors::{Door, Doors};
 use printer_link::Link;
 use std::alloc::{AllocError, Global};
 use std::sync::Wait;
@@ -94,7 +95,7 @@ pub fn serve<
         (doors_at doors.old) (doors_at doors.new)
         served.calls served.doors_held served.history) }
 
-    // Without memory for the workers' places nothing was touched.
+    // Without memory for the table of routes or for the workers' ends nothing was touched.
     ensures house { OnErr result (house.new ≡ house.old) }
     ensures link { OnErr result (link.new ≡ link.old) }
     ensures clock { OnErr result (clock.new ≡ clock.old) }
@@ -102,10 +103,12 @@ pub fn serve<
     ensures shelf { OnErr result (shelf.new ≡ shelf.old) }
     ensures doors { OnErr result (doors.new ≡ doors.old) }
 {
+    let routes = Routes::new(alloc)?;
     let (mut counter, mut workers) = ends(rt, alloc)?;
     let (doors_held, calls) = four_beside(
         rt,
         alloc,
+        &routes,
         doors,
         &mut workers,
         patience,

@@ -1,5 +1,5 @@
 -- A session's fields, seen as plain data.
-use Rattle.session_steps.specs.Data.{SessionData, IsSession}
+use Rattle.octo_session.specs.Data.{SessionData, IsSession}
 use Rattle.octo_session.specs.declared.session.Session.TheInside.{Inside}
 
 -- the data that the fields hold

@@ -1,11 +1,11 @@
 -- What a turn finds and issues, by what it received.
 use Rattle.std.specs.Prelude.{◌≡◌, ◌↔◌, ℕ, true, false, [], None, Some}
-use Rattle.desk_steps.specs.declared.link_fact.LinkFact.TheVariants as fact
+use Rattle.job_desk.specs.declared.link_fact.LinkFact.TheVariants as fact
 use Rattle.send_window.specs.declared.session_end.SessionEnd.{SessionEnd}
 use Rattle.send_window.specs.Data.{SenderData}
 use Rattle.send_window.specs.Sending.{next_of}
-use Rattle.session_steps.specs.Found.{Got, lost, temps_kept, temps_in, end_by, may_issue}
-use Rattle.session_steps.specs.declared.found.Found.{Found}
+use Rattle.octo_session.specs.Found.{Got, lost, temps_kept, temps_in, end_by, may_issue}
+use Rattle.octo_session.specs.declared.found.Found.{Found}
 
 -- what a turn found and issued, by what it received and by the sender before and after it
 pub record IsFoundBy (moment : ℕ) (got : Got) (found : Found) (old new : SenderData) : Type 0 where

@@ -1,6 +1,6 @@
 -- What the sending of a frame is among the steps of a turn.
 use Rattle.std.specs.Prelude.{Bool, true, false, List, [], ◌∷◌}
-use Rattle.session_steps.specs.Steps.{Step, gives, fails_to_send}
+use Rattle.octo_session.specs.Steps.{Step, gives, fails_to_send}
 use Rattle.octo_session.specs.declared.open_turn.Gave.{Gave}
 use Rattle.octo_session.specs.declared.open_turn.Gave.TheVariants as gave
 

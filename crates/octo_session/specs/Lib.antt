@@ -1,3 +1,13 @@
+pub mod Causes
+pub mod Data
+pub mod DeskTurn
 pub mod Fields
+pub mod Found
 pub mod FoundBy
 pub mod Given
+pub mod Plan
+pub mod Sends
+pub mod Smooth
+pub mod Steps
+pub mod Tied
+pub mod Turn

@@ -1,30 +1,30 @@
 //! A turn over an open link, part by part: each part is a call on the sender, on the link, or both.
 ghost use Rattle.std.specs.Prelude.{◌≡◌, ◌≢◌, ◌↔◌, ◌⊎◌, ◌<◌, ◌≤◌, ◌+◌, ◌++◌, [], map, length, true, false, None, is_some};
 ghost use Rattle.octo_outside.specs.Recorded.{Counts};
-ghost use Rattle.desk_steps.specs.Pull.{pull_step, settled};
-ghost use Rattle.desk_steps.specs.Issued.{line_of};
-ghost use Rattle.desk_steps.specs.declared.link_fact.LinkFact.TheVariants as fact;
+ghost use Rattle.job_desk.specs.Pull.{pull_step, settled};
+ghost use Rattle.job_desk.specs.Issued.{line_of};
+ghost use Rattle.job_desk.specs.declared.link_fact.LinkFact.TheVariants as fact;
 ghost use Rattle.send_window.specs.declared.session_end.SessionEnd.{SessionEnd};
 ghost use Rattle.send_window.specs.Data.{IsSound};
 ghost use Rattle.send_window.specs.Hearing.{tick_step};
 ghost use Rattle.send_window.specs.Sending.{next_of, room_of};
-ghost use Rattle.session_steps.specs.Data.{IsJoined};
-ghost use Rattle.session_steps.specs.DeskTurn.{IsNoted, Pulls};
-ghost use Rattle.session_steps.specs.Found.{got_of, temps_kept, temps_in, temps_of_reply, is_got, may_have_issued, up_after, can_find, unasked};
-ghost use Rattle.session_steps.specs.Steps.{AreBytes, Takes, TakesSome, Issues, received_by, sends, issues_then_sends, clock_steps, steps_over_link};
+ghost use Rattle.octo_session.specs.Data.{IsJoined};
+ghost use Rattle.octo_session.specs.DeskTurn.{IsNoted, Pulls};
+ghost use Rattle.octo_session.specs.Found.{got_of, temps_kept, temps_in, temps_of_reply, is_got, may_have_issued, up_after, can_find, unasked};
+ghost use Rattle.octo_session.specs.Steps.{Takes, TakesSome, Issues, received_by, sends, issues_then_sends, clock_steps, steps_over_link};
 ghost use Rattle.octo_session.specs.FoundBy.{IsFoundBy};
-ghost use Rattle.session_steps.specs.Turn.{lines_drawn, texts_in, is_unbroken, IsSpent};
+ghost use Rattle.octo_session.specs.Turn.{lines_drawn, texts_in, is_unbroken, IsSpent};
 ghost use Rattle.octo_session.specs.Given.{steps_of_sending, is_up_by};
 ghost use Rattle.octo_session.specs.declared.open_turn.Gave.TheVariants as gave;
-ghost use Rattle.session_steps.specs.declared.found.Doing.TheVariants as doing_now;
+ghost use Rattle.octo_session.specs.declared.found.Doing.TheVariants as doing_now;
 
+use crate::{Found, Received};
 use arrayvec::ArrayVec;
 use byte_text::{Line, ReplyLine};
 use job_desk::{Desk, Ending, Issued, LinkFact};
 use marlin_reply::{Reply, Temps, read_reply};
 use printer_link::{Heard, Link};
 use send_window::Sender;
-use session_steps::{Found, Received};
 
 // What became of the next frame.
 #[derive(Clone, Copy)]
@@ -78,11 +78,6 @@ fn receive<L: Link>(
     }
 }
 
-// Does nothing: its contract states for the prover that a text consists of bytes, as its type says.
-fn text_has_bytes_fact(text: &[u8])
-    ensures { AreBytes text.now }
-{}
-
 // Issues the desk's next line, if it has one.
 fn pull_one(
     desk: &mut Desk,
@@ -104,7 +99,6 @@ fn pull_one(
 {
     match desk.pull(moment) {
         Some(issued) => {
-            text_has_bytes_fact(issued.text.as_slice());
             sender.push(issued.text.as_slice());
             lines.push(issued);
             true

@@ -1,23 +1,23 @@
 //! The session: a desk and a sender, and the turns that join them with a link.
 ghost use Rattle.std.specs.Prelude.{◌≡◌, true, false};
 ghost use Rattle.octo_outside.specs.Recorded.{Counts};
-ghost use Rattle.desk_steps.specs.Data.{new_desk};
-ghost use Rattle.desk_steps.specs.Endings.{IsActive};
-ghost use Rattle.desk_steps.specs.declared.link_fact.LinkFact.TheVariants as fact;
+ghost use Rattle.job_desk.specs.Data.{new_desk};
+ghost use Rattle.job_desk.specs.Endings.{IsActive};
+ghost use Rattle.job_desk.specs.declared.link_fact.LinkFact.TheVariants as fact;
 ghost use Rattle.printer_link.specs.Link.{RoseBy};
 ghost use Rattle.send_window.specs.Data.{IsSound, new_sender};
-ghost use Rattle.session_steps.specs.Data.{IsSession, doing, is_calling};
-ghost use Rattle.session_steps.specs.Turn.{fact_of, IsTurn, IsTurnByNote};
-ghost use Rattle.session_steps.specs.declared.found.Doing.TheVariants as now_doing;
+ghost use Rattle.octo_session.specs.Data.{IsSession, doing, is_calling};
+ghost use Rattle.octo_session.specs.Turn.{fact_of, IsTurn, IsTurnByNote};
+ghost use Rattle.octo_session.specs.declared.found.Doing.TheVariants as now_doing;
 
 mod calls;
 mod turns;
 
+use crate::{Turned, turned_of};
 use byte_text::ReplyLine;
 use job_desk::Desk;
 use printer_link::Link;
 use send_window::Sender;
-use session_steps::{Turned, turned_of};
 use std::marker::Model;
 
 /// The session of a print host with its printer: a desk that says which lines are to be issued, a sender that carries
@@ -30,7 +30,7 @@ pub struct Session {
 }
 
 impl Model for Session {
-    ghost use Rattle.session_steps.specs.Data.{SessionData};
+    ghost use Rattle.octo_session.specs.Data.{SessionData};
 
     ghost Value = { SessionData };
 
@@ -115,6 +115,9 @@ impl Session {
         // lines, the desk, and the print that ended. A print ends as Done, and as Cancelled unless the turn hung up, only
         // once no script line waits and the last issued line of the print is acknowledged.
         ensures by_note { IsTurnByNote moment (L.kind link.old) self.old self.new result }
+
+        // If a print went on before the turn, it was active.
+        ensures active { IsActive self.old.desk }
 
         // The link: whether it is up, what stays, and its counts of faults and calls.
         ensures link { L.up link.new ≡ self.new.up }

@@ -5,9 +5,9 @@ use Rattle.std.proofs.lemmas.Bool.Decides.{nat_tests}
 use Rattle.std.specs.List.{starts_with}
 use Rattle.toml.specs.Data.{Data, Members, get_member}
 use Rattle.byte_text.specs.Marks.{contains_text}
-use Rattle.desk_steps.specs.Data.{ScriptTexts, texts_at}
-use Rattle.desk_steps.specs.declared.state.Point.{Point}
-use Rattle.desk_steps.specs.declared.state.Point.TheVariants as point
+use Rattle.job_desk.specs.Data.{ScriptTexts, texts_at}
+use Rattle.job_desk.specs.declared.state.Point.{Point}
+use Rattle.job_desk.specs.declared.state.Point.TheVariants as point
 use Rattle.job_desk.specs.Scripts.{with_text}
 use Rattle.temp_rules.specs.declared.limits.Limits.{Limits}
 use Rattle.octo_access.specs.Groups.{GroupData}

@@ -4,9 +4,9 @@ use Rattle.std.proofs.lemmas.List.Elements.{All-append, All-cons, All-nil}
 use Rattle.toml.specs.Data.{Data, Members, get_member}
 use Rattle.byte_text.specs.Marks.{has_byte, has_m110}
 use Rattle.byte_text.specs.Sendable.{IsSendable}
-use Rattle.desk_steps.specs.Data.{ScriptTexts, texts_at}
-use Rattle.desk_steps.specs.declared.state.Point.{Point}
-use Rattle.desk_steps.specs.declared.state.Point.TheVariants as point
+use Rattle.job_desk.specs.Data.{ScriptTexts, texts_at}
+use Rattle.job_desk.specs.declared.state.Point.{Point}
+use Rattle.job_desk.specs.declared.state.Point.TheVariants as point
 use Rattle.gcode_lines.specs.Single.{single_of}
 use Rattle.gcode_lines.specs.Text.{command_text, is_too_long, has_control}
 use Rattle.gcode_lines.specs.declared.fault.NotOne.{NotOne}

@@ -2,7 +2,7 @@
 use Rattle.std.proofs.Common.{◌≡◌, ℕ, ◌≤◌, pos, negsuc, Bool, true, false, ◌&&◌, nat_le, cond, List, Option, Some, None, Result, Ok, Err, IfOk, refl, subst, codes, rules, arith}
 use Rattle.std.proofs.lemmas.Bool.Decides.{nat_tests}
 use Rattle.toml.specs.Data.{Data, string, integer, float, boolean, datetime, array, table, Members, get_member}
-use Rattle.desk_steps.specs.Data.{ScriptTexts}
+use Rattle.job_desk.specs.Data.{ScriptTexts}
 use Rattle.temp_rules.specs.declared.limits.Limits.{Limits}
 use Rattle.octo_access.specs.Groups.{GroupData}
 use Rattle.octo_access.specs.declared.row.Admin.{Admin}

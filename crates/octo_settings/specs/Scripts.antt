@@ -2,9 +2,9 @@
 use Rattle.std.specs.Prelude.{ℕ, ◌+◌, Bool, ◌||◌, nat_le, if◌then◌else◌, List, [], ◌∷◌, ◌++◌, length, codes, Option, None, Some, Result, Ok, Err}
 use Rattle.toml.specs.Data.{Data, Members, get_member}
 use Rattle.byte_text.specs.Marks.{contains_text}
-use Rattle.desk_steps.specs.Data.{ScriptTexts, texts_at}
-use Rattle.desk_steps.specs.declared.state.Point.{Point}
-use Rattle.desk_steps.specs.declared.state.Point.TheVariants as point
+use Rattle.job_desk.specs.Data.{ScriptTexts, texts_at}
+use Rattle.job_desk.specs.declared.state.Point.{Point}
+use Rattle.job_desk.specs.declared.state.Point.TheVariants as point
 use Rattle.gcode_lines.specs.Single.{single_of}
 use Rattle.gcode_lines.specs.declared.fault.NotOne.{NotOne}
 use Rattle.job_desk.specs.Scripts.{most_script_lines, no_scripts, with_text}

@@ -1,8 +1,8 @@
 -- What a sender, a desk and a print may rely on, whichever settings were read.
 use Rattle.std.specs.Prelude.{◌≡◌, ℕ, ◌≤◌, List, None, All}
 use Rattle.byte_text.specs.Sendable.{IsSendable}
-use Rattle.desk_steps.specs.Data.{ScriptTexts, texts_at}
-use Rattle.desk_steps.specs.declared.state.Point.{Point}
+use Rattle.job_desk.specs.Data.{ScriptTexts, texts_at}
+use Rattle.job_desk.specs.declared.state.Point.{Point}
 use Rattle.temp_rules.specs.Hot.{hot_of}
 use Rattle.temp_rules.specs.declared.limits.Limits.{Limits}
 use Rattle.octo_settings.specs.declared.settings.Settings.{Settings}

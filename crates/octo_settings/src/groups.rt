@@ -24,7 +24,6 @@ use toml::{Table, Value};
 // The most bytes of a group's name that are part of its key.
 const MOST_OF_NAME: usize = 93;
 
-// The key of a group.
 fn group_key(name: &Name) -> Name
     requires { list_all is_name_byte name.now ≡ true }
     ensures { result ≡ group_key name.now }

@@ -3,7 +3,7 @@ ghost use Rattle.std.specs.Prelude.{◌≡◌, ◌≤◌, ◌+◌, ◌⊎◌, �
 ghost use Rattle.byte_text.specs.Marks.{contains_text};
 ghost use Rattle.byte_text.specs.Sendable.{IsSendable};
 ghost use Rattle.byte_text.specs.declared.name.TheConstants.{MOST_NAME_BYTES};
-ghost use Rattle.desk_steps.specs.Data.{texts_at};
+ghost use Rattle.job_desk.specs.Data.{texts_at};
 ghost use Rattle.job_desk.specs.Scripts.{most_script_lines, no_scripts};
 ghost use Rattle.toml.specs.Data.{get_member};
 ghost use Rattle.octo_settings.specs.Scripts.{script_name, script_key, all_points, is_template, command_of, with_lines, with_texts, with_script, scripts_at, scripts_of};

@@ -59,7 +59,6 @@ impl Settings {
     }
 }
 
-// The defaults.
 fn defaults(alloc: Global) -> Settings
     ensures { result ≡ plain_settings }
 {

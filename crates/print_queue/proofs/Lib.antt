@@ -1,7 +1,7 @@
-pub mod Pairs
 pub mod Comparisons
 pub mod Edits
 pub mod Kept
 pub mod Next
+pub mod Pairs
 pub mod Restored
 pub mod Sorted

@@ -27,7 +27,7 @@ grows_by l added now Kind is kind = record {
 
 -- the world after more events of a link
 pub grown_world : (l : MemoryLinkData) (added : List WorldEvent) → link_world (with_added l added) ≡ world_from (link_world l) added
-grown_world l added = world_of-append l.story.places l.story.advanced l.story.past added
+grown_world l added = world_of-append l.story.slots l.story.numbered l.story.past added
 
 -- a link that is made is closed by one event, another by none
 pub closing_open : (w : WorldData) → w.linked ≡ true → closing_events w ≡ Closed ∷ []

@@ -97,10 +97,10 @@ arrived_more w n all joined lines room =
 
 -- the world of a story with one more event
 pub story_push : (s : StoryData) (event : WorldEvent) → story_world (with_events s (event ∷ [])) ≡ apply (story_world s) event
-story_push s event = world_of-push s.places s.advanced s.past event
+story_push s event = world_of-push s.slots s.numbered s.past event
 
 pub story_append : (s : StoryData) (added : List WorldEvent) → story_world (with_events s added) ≡ world_from (story_world s) added
-story_append s added = world_of-append s.places s.advanced s.past added
+story_append s added = world_of-append s.slots s.numbered s.past added
 
 -- a fact of every failure
 pub on_err : {T E P : Type 0} (r : Result T E) → P → OnErr r P

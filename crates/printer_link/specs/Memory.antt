@@ -4,7 +4,7 @@ use Rattle.std.specs.List.{list_all, list_any}
 use Rattle.std.specs.Str.{bytes_eq}
 use Rattle.arrayvec.specs.ArrayVec.{ArrayVec}
 use Rattle.octo_outside.specs.Memory.{one_more}
-use Rattle.printer_model.specs.Garble.{garbled}
+use Rattle.printer_model.specs.Corrupt.{corrupted}
 use Rattle.printer_model.specs.World.{WorldData, world_from, world_of, is_empty, is_free, IsFrontReply, is_send, is_opened}
 use Rattle.printer_link.specs.Link.{LinkKind, printer_events}
 use Rattle.printer_model.specs.declared.event.WorldEvent.{WorldEvent}
@@ -17,8 +17,8 @@ use Rattle.printer_link.specs.declared.schedule.Fate.TheVariants.{Whole, Lost, G
 
 -- a recorded history over a printer, with the fates of the lines that are sent in it
 pub record StoryData : Type 0 where
-  pub places : ℕ
-  pub advanced : Bool
+  pub slots : ℕ
+  pub numbered : Bool
   pub fates : List Fate
   pub past : List WorldEvent
 
@@ -36,7 +36,7 @@ pub record MemoryLinkData : Type 0 where
 
 -- the world at the end of a recorded history
 abbrev pub story_world : StoryData → WorldData
-story_world s = world_of s.places s.advanced s.past
+story_world s = world_of s.slots s.numbered s.past
 
 -- a recorded history with more events
 abbrev pub with_events : StoryData → List WorldEvent → StoryData
@@ -54,7 +54,7 @@ next_fate s = slice_index_or s.fates (sends s.past) Whole
 abbrev pub harm_events : Fate → ℕ → ArrayVec ℕ → List WorldEvent
 harm_events Whole at line = []
 harm_events Lost at line = Lose at ∷ []
-harm_events Garbled at line = Garble at (record { items = garbled line.items }) ∷ []
+harm_events Garbled at line = Garble at (record { items = corrupted line.items }) ∷ []
 
 -- a call of `send`: the line, and what becomes of it
 abbrev pub send_events : WorldData → ArrayVec ℕ → Fate → List WorldEvent
@@ -93,10 +93,10 @@ pub record FreeOnly (old new : StoryData) : Type 0 where
   pub free : list_all is_free added ≡ true
 
 -- what is kept beside a recorded history: its world, and the place of the next fate
-pub record IsKept (places : ℕ) (advanced : Bool) (fates : List Fate) (past : List WorldEvent) (world : WorldData) (next : ℕ) : Type 0 where
-  pub some : 1 ≤ places
-  pub few : places ≤ 16
-  pub world_is : world ≡ world_of places advanced past
+pub record IsKept (slots : ℕ) (numbered : Bool) (fates : List Fate) (past : List WorldEvent) (world : WorldData) (next : ℕ) : Type 0 where
+  pub some : 1 ≤ slots
+  pub few : slots ≤ 16
+  pub world_is : world ≡ world_of slots numbered past
   pub next_is : next ≡ min (sends past) (length fates)
 
 -- the world of a link
@@ -115,7 +115,7 @@ is_due slow recvs = recvs % (slow + 1) == 0
 abbrev pub new_link : Schedule → MemoryLinkData
 new_link schedule =
     record {
-      story = record { places = schedule.places; advanced = schedule.advanced; fates = schedule.fates; past = [] };
+      story = record { slots = schedule.slots; numbered = schedule.numbered; fates = schedule.fates; past = [] };
       names = schedule.names;
       last = schedule.last;
       slow = schedule.slow;
@@ -154,7 +154,7 @@ is_prompt l = list_all is_whole l.story.fates && (l.slow == 0 && (is_empty l.fai
 
 -- what no call of a link in memory changes
 abbrev pub link_kind : MemoryLinkData → LinkKind
-link_kind l = record { slots = l.story.places; numbered = l.story.advanced; prompt = is_prompt l; listed = lists_name l.names }
+link_kind l = record { slots = l.story.slots; numbered = l.story.numbered; prompt = is_prompt l; listed = lists_name l.names }
 
 -- a link that only let the printer run
 pub record LinkRan (old new : MemoryLinkData) : Type 0 where

@@ -9,6 +9,3 @@ mod story;
 pub use link::{Heard, Link, LinkFault};
 pub use memory_link::MemoryLink;
 pub use schedule::{Fate, FateList, Schedule};
-
-#[cfg(test)]
-mod tests;

@@ -4,7 +4,7 @@ ghost use Rattle.byte_text.specs.declared.texts.TheConstants.{MOST_LINE_BYTES};
 ghost use Rattle.octo_outside.specs.Memory.{one_more, is_listed};
 ghost use Rattle.octo_outside.specs.Recorded.{Counts};
 ghost use Rattle.printer_model.specs.World.{is_loss};
-ghost use Rattle.link_history.specs.Executed.{executed};
+ghost use Rattle.printer_model.specs.Executed.{executed};
 ghost use Rattle.printer_link.specs.Memory.{with_one_call, closing_events, after_fault, with_added, with_one_recv, is_due, is_prompt, link_kind, lists_name, link_world, new_link, next_fate, opening_last, send_events, sends, LinkReceived};
 ghost use Rattle.printer_link.specs.Link.{HasSlots, Grows, IsDial, IsHangUp, IsHeard, IsLoss, IsNothing, IsOpenAs, IsRuns, IsSend, IsSendLoss, IsSendOf, IsSilence, counted_one, dial_events, recv_events};
 ghost use Rattle.printer_model.specs.declared.event.WorldEvent.{WorldEvent};
@@ -16,8 +16,8 @@ use crate::link::{Heard, Link, LinkFault};
 use crate::schedule::Schedule;
 use crate::story::Story;
 use byte_text::{Line, ReplyLine};
-use link_history::Executed;
 use octo_outside::{CallList, Calls, NameList};
+use printer_model::Executed;
 use std::alloc::{AllocError, Global};
 use std::marker::Model;
 
@@ -54,21 +54,21 @@ impl Model for MemoryLink {
       faults = l.calls.faults;
     } };
 
-    ghost invariant = { λ l. (1 ≤ l.story.places) × (l.story.places ≤ 16) };
+    ghost invariant = { λ l. (1 ≤ l.story.slots) × (l.story.slots ≤ 16) };
 }
 
 impl MemoryLink {
     /// A link that does as the schedule says, to a printer of 1 to 16 buffer slots that has run nothing. Fails if out of memory.
     pub fn new(alloc: Global, schedule: Schedule) -> Result<Self, AllocError>
-        requires some { 1 ≤ schedule.places }
-        requires few { schedule.places ≤ 16 }
+        requires some { 1 ≤ schedule.slots }
+        requires few { schedule.slots ≤ 16 }
         ensures { IfOk result (λ l. l ≡ new_link schedule) }
     {
         let Schedule {
             names,
             last,
-            places,
-            advanced,
+            slots,
+            numbered,
             fates,
             slow,
             fail_at,
@@ -76,7 +76,7 @@ impl MemoryLink {
         } = schedule;
         Ok(MemoryLink {
             alloc,
-            story: Story::new(alloc, places, advanced, fates),
+            story: Story::new(alloc, slots, numbered, fates),
             names,
             last,
             slow,
@@ -117,13 +117,13 @@ impl MemoryLink {
 
     /// The lines that the printer ran in a session, without those of the hello's number; the first session is 1. Fails if out of memory.
     pub fn executed(&self, session: u32) -> Result<Executed, AllocError>
-        ensures { IfOk result (λ e. e ≡ executed self.now.story.places self.now.story.advanced
+        ensures { IfOk result (λ e. e ≡ executed self.now.story.slots self.now.story.numbered
             self.now.story.past session) }
     {
         Executed::of_session(
             self.alloc,
-            self.story.places(),
-            self.story.advanced(),
+            self.story.slots(),
+            self.story.numbered(),
             self.story.past(),
             session,
         )

@@ -23,9 +23,9 @@ pub struct Schedule {
     /// The printer's last line number when the first link is made.
     pub last: u32,
     /// How many lines the printer keeps waiting, 1 to 16.
-    pub places: u8,
+    pub slots: u8,
     /// Whether the printer's replies name the line.
-    pub advanced: bool,
+    pub numbered: bool,
     /// The fate of each line that is sent; later ones arrive whole.
     pub fates: FateList,
     /// The printer runs a line at each (`slow` + 1)-th call of `recv`.

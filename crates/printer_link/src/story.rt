@@ -11,15 +11,15 @@ ghost use Rattle.printer_link.specs.declared.schedule.Fate.TheVariants.{Whole};
 use crate::link::Heard;
 use crate::schedule::{Fate, FateList};
 use byte_text::{Line, ReplyLine, bounded_text};
-use printer_model::{World, WorldEvent, garbled};
+use printer_model::{World, WorldEvent, corrupted};
 use std::alloc::{AllocError, Global};
 use std::marker::Model;
 
 // A world, the events that led to it, and the fates of the lines that are sent. While a link is made, one more event fits without memory.
 #[derive(Drop)]
 pub(crate) struct Story {
-    places: u8,
-    advanced: bool,
+    slots: u8,
+    numbered: bool,
     fates: FateList,
     past: Vec<WorldEvent>,
     world: World,
@@ -34,34 +34,34 @@ impl Model for Story {
     ghost Value = { StoryData };
 
     ghost view = { λ s. record {
-      places = s.places;
-      advanced = s.advanced;
+      slots = s.slots;
+      numbered = s.numbered;
       fates = s.fates;
       past = s.past.items;
     } };
 
-    ghost invariant = { λ s. IsKept s.places s.advanced s.fates s.past.items s.world s.next
+    ghost invariant = { λ s. IsKept s.slots s.numbered s.fates s.past.items s.world s.next
         × (s.world.linked ≡ true → vec_len s.past < vec_capacity s.past) };
 }
 
 impl Story {
     // A story with no event.
-    pub(crate) fn new(alloc: Global, places: u8, advanced: bool, fates: FateList) -> Self
-        requires some { 1 ≤ places }
-        requires few { places ≤ 16 }
+    pub(crate) fn new(alloc: Global, slots: u8, numbered: bool, fates: FateList) -> Self
+        requires some { 1 ≤ slots }
+        requires few { slots ≤ 16 }
         ensures { result ≡ record {
-          places = places;
-          advanced = advanced;
+          slots = slots;
+          numbered = numbered;
           fates = fates;
           past = [];
         } }
     {
         Story {
-            places,
-            advanced,
+            slots,
+            numbered,
             fates,
             past: Vec::new(alloc),
-            world: World::new(alloc, places, advanced),
+            world: World::new(alloc, slots, numbered),
             next: 0,
         }
     }
@@ -74,19 +74,19 @@ impl Story {
     }
 
     // How many lines the printer keeps waiting.
-    pub(crate) fn places(&self) -> u8
-        ensures value { result ≡ self.now.places }
+    pub(crate) fn slots(&self) -> u8
+        ensures value { result ≡ self.now.slots }
         ensures some { 1 ≤ result }
         ensures few { result ≤ 16 }
     {
-        self.places
+        self.slots
     }
 
     // Whether the printer's replies name the line.
-    pub(crate) fn advanced(&self) -> bool
-        ensures { result ≡ self.now.advanced }
+    pub(crate) fn numbered(&self) -> bool
+        ensures { result ≡ self.now.numbered }
     {
-        self.advanced
+        self.numbered
     }
 
     // The events so far.
@@ -295,7 +295,7 @@ fn harm(world: &mut World, past: &mut Vec<WorldEvent>, fate: Fate, at: u32, line
             past,
             WorldEvent::Garble {
                 at,
-                line: garbled(line),
+                line: corrupted(line),
             },
         ),
     }

@@ -2,7 +2,7 @@
 use Rattle.std.proofs.Common.{◌≡◌, ◌≢◌, inl, inr, ℕ, ◌+◌, ◌<◌, ◌^◌, min, Bool, true, false, not, ◌&&◌, List, ◌++◌, codes, decimal, refl, ◌∙◌, ap, pos, arith}
 use Rattle.std.specs.Prelude.{Option, Some, None, Ok, Err, bytes_eq, ◌==◌}
 use Rattle.byte_text.specs.Marks.{has_m110}
-use Rattle.marlin_frame.specs.Frame.{begins_with_n, has_checksum, fails, lead_of, line_number_of, text_of, IsNumberedLine, checksum_matches}
+use Rattle.marlin_frame.specs.Frame.{begins_with_n, has_checksum, fails, n_parameter_of, line_number_of, text_of, IsNumberedLine, checksum_matches}
 use Rattle.marlin_frame.proofs.PartLaws.{begins_with_n-fails}
 use Rattle.marlin_reply.specs.Kind.{kind_of}
 use Rattle.marlin_reply.specs.declared.reply.Reply.TheVariants as reply
@@ -59,7 +59,7 @@ unfolding fails
 has_checksum-whole line numbered whole = summed_of (begins_with_n line) (has_checksum line) (checksum_matches line) whole numbered
 
 -- a command under its number, in turn
-pub judged-numbered : (last n : ℕ) (text line : List ℕ) → IsNumberedLine n text line → IsInTurn last line → judged last line ≡ Ok (record { number = Some n; lead = Some (lead_of line); text = text })
+pub judged-numbered : (last n : ℕ) (text line : List ℕ) → IsNumberedLine n text line → IsInTurn last line → judged last line ≡ Ok (record { number = Some n; n_parameter = Some (n_parameter_of line); text = text })
 unfolding judged
 judged-numbered last n text line is turn =
     let on : is_out_of_turn last line ≡ false = in_turn last line turn in
@@ -102,23 +102,23 @@ pub kind_of-temperatures_line : kind_of temperatures_line ≡ reply.Ok None None
 unfolding temperatures_line
 kind_of-temperatures_line = kind_of-temps_ok
 
-pub kind_of-named : (lead free : ℕ) → lead < 2 ^ 32 → free < 2 ^ 32 → kind_of (numbered_ok (Some lead) free) ≡ reply.Ok (Some lead) (Some 15) (Some free) None
+pub kind_of-named : (n_parameter free : ℕ) → n_parameter < 2 ^ 32 → free < 2 ^ 32 → kind_of (numbered_ok (Some n_parameter) free) ≡ reply.Ok (Some n_parameter) (Some 15) (Some free) None
 unfolding numbered_ok
-kind_of-named lead free small few = kind_of-numbered_ok lead free small few
+kind_of-named n_parameter free small few = kind_of-numbered_ok n_parameter free small few
 
 pub kind_of-unnamed : (free : ℕ) → free < 2 ^ 32 → kind_of (numbered_ok None free) ≡ reply.Ok None (Some 15) (Some free) None
 unfolding numbered_ok
 kind_of-unnamed free few = kind_of-plain_ok free few
 
 -- which of them it is
-pub run_reply-temperatures : (advanced : Bool) (lead : Option ℕ) (text : List ℕ) (free : ℕ) → bytes_eq text (codes "M105") ≡ true → run_reply advanced lead text free ≡ temperatures_line
+pub run_reply-temperatures : (numbered : Bool) (n_parameter : Option ℕ) (text : List ℕ) (free : ℕ) → bytes_eq text (codes "M105") ≡ true → run_reply numbered n_parameter text free ≡ temperatures_line
 unfolding run_reply
-run_reply-temperatures advanced lead text free asks = rw asks refl
+run_reply-temperatures numbered n_parameter text free asks = rw asks refl
 
-pub run_reply-numbered : (lead : Option ℕ) (text : List ℕ) (free : ℕ) → bytes_eq text (codes "M105") ≡ false → run_reply true lead text free ≡ numbered_ok lead free
+pub run_reply-numbered : (n_parameter : Option ℕ) (text : List ℕ) (free : ℕ) → bytes_eq text (codes "M105") ≡ false → run_reply true n_parameter text free ≡ numbered_ok n_parameter free
 unfolding run_reply
-run_reply-numbered lead text free other = rw other refl
+run_reply-numbered n_parameter text free other = rw other refl
 
-pub run_reply-plain : (lead : Option ℕ) (text : List ℕ) (free : ℕ) → bytes_eq text (codes "M105") ≡ false → run_reply false lead text free ≡ ok_line
+pub run_reply-plain : (n_parameter : Option ℕ) (text : List ℕ) (free : ℕ) → bytes_eq text (codes "M105") ≡ false → run_reply false n_parameter text free ≡ ok_line
 unfolding run_reply
-run_reply-plain lead text free other = rw other refl
+run_reply-plain n_parameter text free other = rw other refl

@@ -21,11 +21,11 @@ world_from-append w first more = fold-append apply w first more
 pub world_from-push : (w : WorldData) (past : List WorldEvent) (event : WorldEvent) → world_from w (past ++ event ∷ []) ≡ apply (world_from w past) event
 world_from-push w past event = world_from-append w past (event ∷ [])
 
-pub world_of-append : (places : ℕ) (advanced : Bool) (past added : List WorldEvent) → world_of places advanced (past ++ added) ≡ world_from (world_of places advanced past) added
-world_of-append places advanced past added = world_from-append (new_world places advanced) past added
+pub world_of-append : (slots : ℕ) (numbered : Bool) (past added : List WorldEvent) → world_of slots numbered (past ++ added) ≡ world_from (world_of slots numbered past) added
+world_of-append slots numbered past added = world_from-append (new_world slots numbered) past added
 
-pub world_of-push : (places : ℕ) (advanced : Bool) (past : List WorldEvent) (event : WorldEvent) → world_of places advanced (past ++ event ∷ []) ≡ apply (world_of places advanced past) event
-world_of-push places advanced past event = world_from-push (new_world places advanced) past event
+pub world_of-push : (slots : ℕ) (numbered : Bool) (past : List WorldEvent) (event : WorldEvent) → world_of slots numbered (past ++ event ∷ []) ≡ apply (world_of slots numbered past) event
+world_of-push slots numbered past event = world_from-push (new_world slots numbered) past event
 
 -- an event that can happen happens
 pub happens : (w : WorldData) (event : WorldEvent) → can_happen w event ≡ true → apply w event ≡ happen w event
@@ -99,10 +99,10 @@ pub apply-log : (w : WorldData) (event : WorldEvent) → is_run event ≡ false 
 apply-log w event no_run = after_event (λ (v : WorldData). v.log ≡ w.log) w event refl (λ _. happen-log w event no_run)
 
 pub IsSameKind-refl : (p : PrinterData) → IsSameKind p p
-IsSameKind-refl p = record { places = refl; advanced = refl }
+IsSameKind-refl p = record { slots = refl; numbered = refl }
 
 take_judged-IsSameKind : (p : PrinterData) (what : Result Entry Reason) → IsSameKind p (take_judged p what).1
-take_judged-IsSameKind p (Ok entry) = record { places = refl; advanced = refl }
+take_judged-IsSameKind p (Ok entry) = record { slots = refl; numbered = refl }
 take_judged-IsSameKind p (Err reason) = IsSameKind-refl p
 
 -- a line that is taken leaves the buffer slots and the kind of acknowledgements
@@ -117,16 +117,16 @@ arrived-IsSameKind w (line ∷ behind) = take_line-IsSameKind w.printer line
 
 ran-IsSameKind : (w : WorldData) (queue : List Entry) → IsSameKind w.printer (after_run w (run_queue w.printer queue)).printer
 ran-IsSameKind w [] = IsSameKind-refl w.printer
-ran-IsSameKind w (entry ∷ behind) = record { places = refl; advanced = refl }
+ran-IsSameKind w (entry ∷ behind) = record { slots = refl; numbered = refl }
 
 happen-IsSameKind : (w : WorldData) (event : WorldEvent) → IsSameKind w.printer (happen w event).printer
-happen-IsSameKind w (Opened last) = record { places = refl; advanced = refl }
+happen-IsSameKind w (Opened last) = record { slots = refl; numbered = refl }
 happen-IsSameKind w (Send line) = IsSameKind-refl w.printer
 happen-IsSameKind w Arrive = arrived-IsSameKind w w.up
 happen-IsSameKind w (Lose at) = IsSameKind-refl w.printer
 happen-IsSameKind w (Garble at line) = IsSameKind-refl w.printer
 happen-IsSameKind w Run = ran-IsSameKind w w.printer.queue
-happen-IsSameKind w Restart = record { places = refl; advanced = refl }
+happen-IsSameKind w Restart = record { slots = refl; numbered = refl }
 happen-IsSameKind w (Chatter reply) = IsSameKind-refl w.printer
 happen-IsSameKind w Recv = IsSameKind-refl w.printer
 happen-IsSameKind w Closed = IsSameKind-refl w.printer
@@ -141,7 +141,7 @@ world_from-IsSameKind w [] = IsSameKind-refl w.printer
 world_from-IsSameKind w (event ∷ events) =
     let here = apply-IsSameKind w event in
     let behind = world_from-IsSameKind (apply w event) events in
-    record { places = behind.places ∙ here.places; advanced = behind.advanced ∙ here.advanced }
+    record { slots = behind.slots ∙ here.slots; numbered = behind.numbered ∙ here.numbered }
 
 arrived_linked : (w : WorldData) (up : List (List ℕ)) → (arrive_front w up).linked ≡ w.linked
 arrived_linked w [] = refl
@@ -304,8 +304,8 @@ pub world_from-tidy : (w : WorldData) (events : List WorldEvent) → IsTidy w �
 world_from-tidy w [] tidy = tidy
 world_from-tidy w (event ∷ events) tidy = world_from-tidy (apply w event) events (apply-tidy w event tidy)
 
-pub world_of-tidy : (places : ℕ) (advanced : Bool) (past : List WorldEvent) → IsTidy (world_of places advanced past)
-world_of-tidy places advanced past = world_from-tidy (new_world places advanced) past (λ _. record { up = refl; down = refl })
+pub world_of-tidy : (slots : ℕ) (numbered : Bool) (past : List WorldEvent) → IsTidy (world_of slots numbered past)
+world_of-tidy slots numbered past = world_from-tidy (new_world slots numbered) past (λ _. record { up = refl; down = refl })
 
 -- what an arrival is, by the line at the front of the wire
 pub arrive_front_of : (w : WorldData) (line : List ℕ) (behind : List (List ℕ)) → w.up ≡ line ∷ behind → is_full w.printer ≡ false → apply w Arrive ≡ after_arrival w behind (take_judged w.printer (judged w.printer.last line))

@@ -1,4 +1,6 @@
-pub mod Garble
+pub mod Corrupt
+pub mod Exchanged
+pub mod Executed
 pub mod Printer
 pub mod Replies
 pub mod World

@@ -1,17 +1,17 @@
 -- The modelled printer: what it holds, how it takes a line and how it runs one.
 use Rattle.std.specs.Prelude.{◌≡◌, ◌⊎◌, true, ℕ, ◌+◌, ◌-◌, Bool, ◌&&◌, ◌==◌, not, nat_le, if◌then◌else◌, List, [], ◌∷◌, ◌++◌, length, Option, Some, None, Result, Ok, Err}
 use Rattle.byte_text.specs.Marks.{has_m110}
-use Rattle.marlin_frame.specs.Frame.{begins_with_n, has_checksum, fails, lead_of, line_number_of, text_of}
+use Rattle.marlin_frame.specs.Frame.{begins_with_n, has_checksum, fails, n_parameter_of, line_number_of, text_of}
 use Rattle.printer_model.specs.Replies.{run_reply}
 use Rattle.printer_model.specs.declared.printer.Reason.{Reason}
 use Rattle.printer_model.specs.declared.printer.Reason.TheVariants.{WrongNumber, NoChecksum, Mismatch}
 use Rattle.printer_model.specs.declared.printer.Taken.{Taken}
 use Rattle.printer_model.specs.declared.printer.Taken.TheVariants.{Accepted, Full, Refused}
 
--- a line that waits to be run; `lead` is the N parameter at the front, which a second N may overrule
+-- a line that waits to be run; `n_parameter` is the N parameter at the front, which a second N may overrule
 pub record Entry : Type 0 where
   pub number : Option ℕ
-  pub lead : Option ℕ
+  pub n_parameter : Option ℕ
   pub text : List ℕ
 
 -- a line that was run
@@ -28,21 +28,21 @@ pub record RanLine : Type 0 where
 -- the printer: the last line number, how many entries may wait, whether a reply names its line, and what waits
 pub record PrinterData : Type 0 where
   pub last : ℕ
-  pub places : ℕ
-  pub advanced : Bool
+  pub slots : ℕ
+  pub numbered : Bool
   pub queue : List Entry
 
 -- whether as many entries wait as may
 abbrev pub is_full : PrinterData → Bool
-is_full p = nat_le p.places (length p.queue)
+is_full p = nat_le p.slots (length p.queue)
 
 -- a line without a number
 abbrev pub plain_entry : List ℕ → Entry
-plain_entry line = record { number = None; lead = None; text = line }
+plain_entry line = record { number = None; n_parameter = None; text = line }
 
 -- a line with its number
 abbrev pub numbered_entry : List ℕ → Entry
-numbered_entry line = record { number = Some (line_number_of line); lead = Some (lead_of line); text = text_of line }
+numbered_entry line = record { number = Some (line_number_of line); n_parameter = Some (n_parameter_of line); text = text_of line }
 
 -- whether a line's number doesn't follow the last one, and the line doesn't set the number either
 unfoldable pub is_out_of_turn : ℕ → List ℕ → Bool
@@ -82,7 +82,7 @@ ran_line p entry =
     record {
       number = entry.number;
       text = entry.text;
-      reply = run_reply p.advanced entry.lead entry.text (p.places - length p.queue);
+      reply = run_reply p.numbered entry.n_parameter entry.text (p.slots - length p.queue);
     }
 
 -- the front of a queue is run
@@ -108,8 +108,8 @@ waiting_as entry = record { number = entry.number; text = entry.text }
 
 -- two states of a printer of the same make
 pub record IsSameKind (old new : PrinterData) : Type 0 where
-  pub places : new.places ≡ old.places
-  pub advanced : new.advanced ≡ old.advanced
+  pub slots : new.slots ≡ old.slots
+  pub numbered : new.numbered ≡ old.numbered
 
 -- a line follows the last number or sets it
 abbrev pub IsInTurn : ℕ → List ℕ → Type 0

@@ -43,17 +43,17 @@ unfoldable pub temperatures_line : List ℕ
 temperatures_line = codes "ok T:21.30 /0.00 B:21.22 /0.00 @:0 B@:0"
 
 -- the N parameter in a numbered acknowledgement
-abbrev pub lead_text : Option ℕ → List ℕ
-lead_text None = []
-lead_text (Some lead) = codes " N" ++ decimal lead
+abbrev pub n_parameter_text : Option ℕ → List ℕ
+n_parameter_text None = []
+n_parameter_text (Some n_parameter) = codes " N" ++ decimal n_parameter
 
 -- a numbered acknowledgement, with the free buffer slots
 unfoldable pub numbered_ok : Option ℕ → ℕ → List ℕ
-numbered_ok lead free = codes "ok" ++ lead_text lead ++ codes " P15 B" ++ decimal free
+numbered_ok n_parameter free = codes "ok" ++ n_parameter_text n_parameter ++ codes " P15 B" ++ decimal free
 
 -- the reply to a run line, with numbered acknowledgements or without
 unfoldable pub run_reply : Bool → Option ℕ → List ℕ → ℕ → List ℕ
-run_reply advanced lead text free =
+run_reply numbered n_parameter text free =
     if bytes_eq text (codes "M105") then temperatures_line
-    else if advanced then numbered_ok lead free
+    else if numbered then numbered_ok n_parameter free
     else ok_line

@@ -19,10 +19,10 @@ pub record WorldData : Type 0 where
 
 -- before the first event: the printer has this many buffer slots, and its `ok`s are numbered or not
 abbrev pub new_world : ℕ → Bool → WorldData
-new_world places advanced =
+new_world slots numbered =
     record {
       linked = false;
-      printer = record { last = 0; places = places; advanced = advanced; queue = [] };
+      printer = record { last = 0; slots = slots; numbered = numbered; queue = [] };
       log = [];
       up = [];
       down = [];
@@ -56,6 +56,11 @@ is_opened _ = false
 abbrev pub is_send : WorldEvent → Bool
 is_send (Send line) = true
 is_send _ = false
+
+-- whether an event is a restart
+abbrev pub is_restart : WorldEvent → Bool
+is_restart Restart = true
+is_restart _ = false
 
 -- whether an event is a line lost or corrupted on its way to the printer
 abbrev pub is_loss : WorldEvent → Bool
@@ -168,7 +173,7 @@ world_from w events = fold apply w events
 
 -- the world after a recorded history
 abbrev pub world_of : ℕ → Bool → List WorldEvent → WorldData
-world_of places advanced past = world_from (new_world places advanced) past
+world_of slots numbered past = world_from (new_world slots numbered) past
 
 -- without a link nothing is on the wires
 pub record IsShut (w : WorldData) : Type 0 where

@@ -10,7 +10,7 @@ ghost use Rattle.printer_model.specs.Printer.{is_full, judged, is_out_of_turn, n
 use crate::replies::run_reply;
 use arrayvec::ArrayVec;
 use byte_text::{Line, ReplyLine, bounded_text, has_m110};
-use marlin_frame::{begins_with_n, fails, has_checksum, lead, line_number, text};
+use marlin_frame::{begins_with_n, fails, has_checksum, line_number, n_parameter, text};
 use std::marker::Model;
 
 /// Why the printer refuses a line that begins with `N`.
@@ -51,11 +51,11 @@ impl Model for Ran {
     ghost view = { λ r. record { number = r.number; text = r.text.items; reply = r.reply.items } };
 }
 
-// A line that waits to be run. `lead` is its N parameter; if a second `N` follows, the number is after that one.
+// A line that waits to be run. `n_parameter` is its N parameter; if a second `N` follows, the number is after that one.
 #[derive(Default, Drop)]
 struct Waiting {
     number: Option<u32>,
-    lead: Option<u32>,
+    n_parameter: Option<u32>,
     text: Line,
 }
 
@@ -64,7 +64,7 @@ impl Model for Waiting {
 
     ghost Value = { Entry };
 
-    ghost view = { λ w. record { number = w.number; lead = w.lead; text = w.text.items } };
+    ghost view = { λ w. record { number = w.number; n_parameter = w.n_parameter; text = w.text.items } };
 }
 
 /// The printer without a record of what it ran: its last line number, its buffer slots, whether its
@@ -72,8 +72,8 @@ impl Model for Waiting {
 #[derive(Drop)]
 pub struct Printer {
     last: u32,
-    places: u8,
-    advanced: bool,
+    slots: u8,
+    numbered: bool,
     queue: ArrayVec<Waiting, 16>,
 }
 
@@ -85,31 +85,31 @@ impl Model for Printer {
 
     ghost view = { λ p. record {
       last = p.last;
-      places = p.places;
-      advanced = p.advanced;
+      slots = p.slots;
+      numbered = p.numbered;
       queue = p.queue.items;
     } };
 
-    ghost invariant = { λ p. (p.places ≤ 16) × (length p.queue.items ≤ p.places) };
+    ghost invariant = { λ p. (p.slots ≤ 16) × (length p.queue.items ≤ p.slots) };
 }
 
 impl Printer {
-    /// A printer with this last line number, 1 to 16 buffer slots, and numbered acknowledgements if `advanced` is
+    /// A printer with this last line number, 1 to 16 buffer slots, and numbered acknowledgements if `numbered` is
     /// set. Nothing waits.
-    pub fn new(last: u32, places: u8, advanced: bool) -> Self
-        requires some { 1 ≤ places }
-        requires few { places ≤ 16 }
+    pub fn new(last: u32, slots: u8, numbered: bool) -> Self
+        requires some { 1 ≤ slots }
+        requires few { slots ≤ 16 }
         ensures { result ≡ record {
           last = last;
-          places = places;
-          advanced = advanced;
+          slots = slots;
+          numbered = numbered;
           queue = [];
         } }
     {
         Printer {
             last,
-            places,
-            advanced,
+            slots,
+            numbered,
             queue: ArrayVec::new(),
         }
     }
@@ -164,8 +164,8 @@ impl Printer {
         match self.queue.as_slice() {
             [] => None,
             [entry, ..] => Some(ran_line(
-                self.advanced,
-                self.places - self.queue.len() as u8,
+                self.numbered,
+                self.slots - self.queue.len() as u8,
                 entry,
             )),
         }
@@ -202,7 +202,7 @@ impl Printer {
     pub(crate) fn is_full(&self) -> bool
         ensures { result ≡ is_full self.now }
     {
-        self.queue.len() >= usize::from(self.places)
+        self.queue.len() >= usize::from(self.slots)
     }
 
     // The last line number.
@@ -221,18 +221,18 @@ impl Printer {
 }
 
 // The reply after an entry ran, with this number of free buffer slots.
-fn ran_line(advanced: bool, free: u8, entry: &Waiting) -> Ran
+fn ran_line(numbered: bool, free: u8, entry: &Waiting) -> Ran
     ensures { result ≡ record {
       number = entry.now.number;
       text = entry.now.text;
       reply = run_reply
-          advanced entry.now.lead entry.now.text free;
+          numbered entry.now.n_parameter entry.now.text free;
     } }
 {
     Ran {
         number: entry.number,
         text: bounded_text(entry.text.as_slice()),
-        reply: run_reply(advanced, entry.lead, entry.text.as_slice(), free),
+        reply: run_reply(numbered, entry.n_parameter, entry.text.as_slice(), free),
     }
 }
 
@@ -251,7 +251,7 @@ fn plain_entry(line: &[u8]) -> Waiting
 {
     Waiting {
         number: None,
-        lead: None,
+        n_parameter: None,
         text: bounded_text(line),
     }
 }
@@ -263,7 +263,7 @@ fn numbered_entry(line: &[u8]) -> Waiting
 {
     Waiting {
         number: Some(line_number(line)),
-        lead: Some(lead(line)),
+        n_parameter: Some(n_parameter(line)),
         text: bounded_text(text(line)),
     }
 }

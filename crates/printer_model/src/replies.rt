@@ -4,7 +4,7 @@
 //! temperature.cpp for the report of temperatures.
 ghost use Rattle.std.specs.Prelude.{◌≡◌, ◌+◌, ◌≤◌, ◌++◌, length, decimal, codes, min};
 ghost use Rattle.arrayvec.specs.ArrayVec.{array_vec_len};
-ghost use Rattle.printer_model.specs.Replies.{reason_text, asked_after, error_line, resend_line, ok_line, start_line, temperatures_line, lead_text, numbered_ok, run_reply};
+ghost use Rattle.printer_model.specs.Replies.{reason_text, asked_after, error_line, resend_line, ok_line, start_line, temperatures_line, n_parameter_text, numbered_ok, run_reply};
 
 use crate::printer::Reason;
 use byte_text::{ReplyLine, append, append_number};
@@ -75,26 +75,26 @@ fn temperatures_line() -> ReplyLine
     line
 }
 
-// Adds the N parameter, ` N<lead>`, if the line has one.
-fn append_lead(line: &mut ReplyLine, lead: Option<u32>)
+// Adds the N parameter, ` N<n_parameter>`, if the line has one.
+fn append_n_parameter(line: &mut ReplyLine, n_parameter: Option<u32>)
     requires { array_vec_len line.old + 12 ≤ 256 }
-    ensures items { line.new.items ≡ line.old.items ++ lead_text lead }
+    ensures items { line.new.items ≡ line.old.items ++ n_parameter_text n_parameter }
     ensures short { array_vec_len line.new ≤ array_vec_len line.old + 12 }
 {
-    if let Some(number) = lead {
+    if let Some(number) = n_parameter {
         append(line, b" N");
         append_number(line, number);
     }
 }
 
-// A numbered acknowledgement, with the free buffer slots: `ok N<lead> P15 B<free>`.
+// A numbered acknowledgement, with the free buffer slots: `ok N<n_parameter> P15 B<free>`.
 #[tactic(auto, unfolding(crate::specs::Replies::numbered_ok))]
-fn numbered_ok(lead: Option<u32>, free: u8) -> ReplyLine
-    ensures { result.items ≡ numbered_ok lead free }
+fn numbered_ok(n_parameter: Option<u32>, free: u8) -> ReplyLine
+    ensures { result.items ≡ numbered_ok n_parameter free }
 {
     let mut line = ReplyLine::new();
     append(&mut line, b"ok");
-    append_lead(&mut line, lead);
+    append_n_parameter(&mut line, n_parameter);
     append(&mut line, b" P15 B");
     append_number(&mut line, u32::from(free));
     line
@@ -102,13 +102,18 @@ fn numbered_ok(lead: Option<u32>, free: u8) -> ReplyLine
 
 // The reply to a line that was run, numbered if the printer answers so.
 #[tactic(auto, unfolding(crate::specs::Replies::run_reply))]
-pub(crate) fn run_reply(advanced: bool, lead: Option<u32>, text: &[u8], free: u8) -> ReplyLine
-    ensures { result.items ≡ run_reply advanced lead text.now free }
+pub(crate) fn run_reply(
+    numbered: bool,
+    n_parameter: Option<u32>,
+    text: &[u8],
+    free: u8,
+) -> ReplyLine
+    ensures { result.items ≡ run_reply numbered n_parameter text.now free }
 {
     if text == b"M105".as_slice() {
         temperatures_line()
-    } else if advanced {
-        numbered_ok(lead, free)
+    } else if numbered {
+        numbered_ok(n_parameter, free)
     } else {
         ok_line()
     }

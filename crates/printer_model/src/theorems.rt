@@ -3,7 +3,7 @@
 ghost use Rattle.std.specs.Prelude.{◌≡◌, ◌≢◌, ℕ, ◌<◌, ◌+◌, ◌^◌, Bool, true, false, List, Option, Some, None, Ok, Err, bytes_eq, codes, pos};
 ghost use Rattle.std.specs.List.{list_all};
 ghost use Rattle.byte_text.specs.Marks.{has_m110};
-ghost use Rattle.marlin_frame.specs.Frame.{IsNumberedLine, begins_with_n, fails, has_checksum, lead_of, line_number_of};
+ghost use Rattle.marlin_frame.specs.Frame.{IsNumberedLine, begins_with_n, fails, has_checksum, n_parameter_of, line_number_of};
 ghost use Rattle.marlin_reply.specs.Kind.{kind_of};
 ghost use Rattle.marlin_reply.specs.declared.reply.Reply.TheVariants as reply;
 ghost use Rattle.printer_model.specs.Replies.{asked_after, error_line, ok_line, resend_line, run_reply, start_line};
@@ -32,8 +32,8 @@ pub fn world_law()
         → (apply w event).down ≡ w.down }
     ensures linked { (w : WorldData) (events : List WorldEvent) → list_all is_free events ≡ true
         → (world_from w events).linked ≡ w.linked }
-    ensures tidy { (places : ℕ) (advanced : Bool) (past : List WorldEvent)
-        → IsTidy (world_of places advanced past) }
+    ensures tidy { (slots : ℕ) (numbered : Bool) (past : List WorldEvent)
+        → IsTidy (world_of slots numbered past) }
 {}
 
 /// What the printer makes of a line at a last number, by the first rule that the line breaks.
@@ -52,7 +52,7 @@ pub fn line_law()
         → IsInTurn last line
         → judged last line ≡ Ok (record {
           number = Some n;
-          lead = Some (lead_of line);
+          n_parameter = Some (n_parameter_of line);
           text = text;
         }) }
     ensures failing { (last : ℕ) (line : List ℕ) → fails line ≡ true → IsRefusal last line }
@@ -64,19 +64,19 @@ pub fn reply_law()
     ensures resend { (last : ℕ) → kind_of (resend_line last) ≡ reply.Resend (asked_after last) }
     ensures ok { kind_of ok_line ≡ reply.Ok None None None None }
     ensures start { kind_of start_line ≡ reply.Start }
-    ensures temperatures { (advanced : Bool) (lead : Option ℕ) (text : List ℕ) (free : ℕ)
+    ensures temperatures { (numbered : Bool) (n_parameter : Option ℕ) (text : List ℕ) (free : ℕ)
         → bytes_eq text (codes "M105") ≡ true
-        → kind_of (run_reply advanced lead text free) ≡ reply.Ok None None None (Some (record {
+        → kind_of (run_reply numbered n_parameter text free) ≡ reply.Ok None None None (Some (record {
           tool = Some (record { actual = pos 21300000; target = pos 0 });
           bed = Some (record { actual = pos 21220000; target = pos 0 });
         })) }
-    ensures plain { (lead : Option ℕ) (text : List ℕ) (free : ℕ)
+    ensures plain { (n_parameter : Option ℕ) (text : List ℕ) (free : ℕ)
         → bytes_eq text (codes "M105") ≡ false
-        → kind_of (run_reply false lead text free) ≡ reply.Ok None None None None }
-    ensures named { (lead : ℕ) (text : List ℕ) (free : ℕ) → bytes_eq text (codes "M105") ≡ false
-        → lead < 2 ^ 32 → free < 2 ^ 32
-        → kind_of (run_reply true (Some lead) text free)
-        ≡ reply.Ok (Some lead) (Some 15) (Some free) None }
+        → kind_of (run_reply false n_parameter text free) ≡ reply.Ok None None None None }
+    ensures named { (n_parameter : ℕ) (text : List ℕ) (free : ℕ) → bytes_eq text (codes "M105") ≡ false
+        → n_parameter < 2 ^ 32 → free < 2 ^ 32
+        → kind_of (run_reply true (Some n_parameter) text free)
+        ≡ reply.Ok (Some n_parameter) (Some 15) (Some free) None }
     ensures unnamed { (text : List ℕ) (free : ℕ) → bytes_eq text (codes "M105") ≡ false
         → free < 2 ^ 32
         → kind_of (run_reply true None text free) ≡ reply.Ok None (Some 15) (Some free) None }

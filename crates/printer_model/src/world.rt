@@ -42,14 +42,14 @@ impl Model for World {
 
 impl World {
     /// A world with a closed link and a printer of 1 to 16 buffer slots that has run nothing.
-    pub fn new(alloc: Global, places: u8, advanced: bool) -> Self
-        requires some { 1 ≤ places }
-        requires few { places ≤ 16 }
-        ensures { result ≡ new_world places advanced }
+    pub fn new(alloc: Global, slots: u8, numbered: bool) -> Self
+        requires some { 1 ≤ slots }
+        requires few { slots ≤ 16 }
+        ensures { result ≡ new_world slots numbered }
     {
         World {
             linked: false,
-            printer: Printer::new(0, places, advanced),
+            printer: Printer::new(0, slots, numbered),
             log: Vec::new(alloc),
             up: Wire::new(alloc),
             down: Wire::new(alloc),
@@ -119,7 +119,7 @@ impl World {
             WorldEvent::Send(line) => self.send(line),
             WorldEvent::Arrive => self.arrive(),
             WorldEvent::Lose { at } => Ok(self.lose(*at)),
-            WorldEvent::Garble { at, line } => Ok(self.garble(*at, line)),
+            WorldEvent::Garble { at, line } => Ok(self.corrupt(*at, line)),
             WorldEvent::Run => self.run(),
             WorldEvent::Restart => self.restart(),
             WorldEvent::Chatter(reply) => self.chatter(reply),
@@ -185,7 +185,7 @@ impl World {
     }
 
     // The event Garble.
-    fn garble(&mut self, at: u32, line: &Line) -> bool
+    fn corrupt(&mut self, at: u32, line: &Line) -> bool
         ensures happened { result ≡ can_happen self.old (WorldEvent.Garble at line.now) }
         ensures after { self.new ≡ apply self.old (WorldEvent.Garble at line.now) }
     {

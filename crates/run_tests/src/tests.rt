@@ -1,12 +1,16 @@
-//! Runs over a counter, a keeper, a shelf and a link in memory.
+//! Runs over a counter, a keeper, a shelf and a link in memory; and each call of rows, tables and the desk that takes memory, once.
 mod asks;
+mod desk;
+mod makers;
 mod prints;
 mod ran;
+mod rows;
 mod runs;
 mod seen;
+mod tables;
 
 use asks::{add, leave, put_file, versions};
-use host_makers::ROOT;
 use octo_asks::{AskList, Request};
 use ran::Ran;
 use seen::{Seen, SeenEntry};
+use test_makers::ROOT;

@@ -1,5 +1,5 @@
 //! The sender of one session after another.
-ghost use Rattle.std.specs.Prelude.{◌≡◌, ◌<◌, ◌≤◌, ◌+◌, length, IfOk, IfSome, IsNone, None, option_map, true, false};
+ghost use Rattle.std.specs.Prelude.{◌≡◌, ◌<◌, ◌≤◌, ◌+◌, ◌^◌, All, length, IfOk, IfSome, IsNone, None, option_map, true, false};
 ghost use Rattle.byte_text.specs.Marks.{has_byte};
 ghost use Rattle.byte_text.specs.declared.texts.TheConstants.{MOST_LINE_BYTES};
 ghost use Rattle.marlin_frame.specs.Numbering.{wire_number, hello_frame};
@@ -17,8 +17,6 @@ use std::marker::Model;
 
 mod clock;
 mod hearing;
-#[cfg(test)]
-mod tests;
 
 // The most lines of a session: their numbers go from 2 to `LAST_NUMBER`.
 const MOST_LINES: u32 = 1_999_999_999;
@@ -197,6 +195,9 @@ impl Sender {
         ensures state { self.new ≡ push_step text.now self.old }
         ensures number { result ≡ wire_number (self.old.issued + 1) }
         ensures sound { IsSound self.new }
+
+        // What the text's type says of it.
+        ensures bytes { All (λ b. b < 2 ^ 8) text.now }
     {
         self.held.push(text);
         self.issued += 1;

@@ -1,7 +1,10 @@
-//! Hosts over doors, a link, a keeper and a shelf in memory, and the ends at which their workers hand over asks.
+//! Hosts over doors, a link, a keeper and a shelf in memory, the ends at which their workers hand over asks, and all commands.
 mod bench;
+mod commands;
 mod doors;
 mod ends;
+mod gate_conn;
+mod gate_door;
 mod handing;
 mod hosts;
 mod late_door;

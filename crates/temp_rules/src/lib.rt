@@ -13,6 +13,3 @@ pub use job::{HotLine, first_hot};
 pub use laws::{hot_law, targets_law};
 pub use limits::{Limits, TooHot, check};
 pub use targets::Targets;
-
-#[cfg(test)]
-mod tests;

@@ -4,10 +4,10 @@ mod shown;
 mod states;
 mod written;
 
-use api_replies::to_bytes;
 use byte_text::Name;
-use desk_steps::State;
+use job_desk::State;
 use octo_access::Permission;
+use octo_api_replies::to_bytes;
 use octo_asks::{Answer, ShownEntry, ShownEntryList, StoredCause};
 use octo_http::ReplyKind;
 use octo_outside::Blob;

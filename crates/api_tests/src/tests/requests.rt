@@ -5,10 +5,9 @@ mod queue;
 mod uploads;
 mod users;
 
-use api_direct::Direct;
-use api_requests::{request_by, to_request};
-use api_routes::Routes;
 use http::Method;
+use octo_api_requests::{request_by, to_request};
+use octo_api_routes::{Direct, Routes};
 use octo_asks::{Ask, Request};
 use octo_http::Message;
 use octo_outside::Blob;

@@ -1,6 +1,5 @@
 //! Paths and methods, and what they are about.
-use api_direct::Direct;
-use api_routes::{Routes, Target, Wanted, target_of, wanted_of};
+use octo_api_routes::{Direct, Routes, Target, Wanted, target_of, wanted_of};
 use octo_asks::Request;
 use std::alloc::{AllocError, Global};
 use std::process::Abort;
@@ -23,7 +22,12 @@ fn is_taken(method: &str, target: &Target) -> bool {
 
 // Whether this is one of the methods.
 fn is_among(method: &str, methods: &[&str]) -> bool {
-    methods.iter().any(|one| *one == method)
+    for one in methods {
+        if *one == method {
+            return true;
+        }
+    }
+    false
 }
 
 // The target takes these methods and no others.

@@ -1,14 +1,14 @@
 //! A worker at a door in memory, whose asks are answered by a list of answers.
 ghost use Rattle.std.specs.Prelude.{None, All, IfOk};
 ghost use Rattle.octo_asks.specs.Place.{no_place};
-ghost use Rattle.octo_doors.specs.Memory.{IsUntouched};
+ghost use Rattle.octo_outside_doors.specs.Memory.{IsUntouched};
 
 use super::conn_of;
-use api_routes::Routes;
-use api_worker::{serve_conn, worker};
+use octo_api_routes::Routes;
+use octo_api_worker::{serve_conn, worker};
 use octo_asks::{Answer, Ask, Asker, Closed, Request};
-use octo_doors::{ConnList, MemoryDoor};
 use octo_outside::{CallList, MemoryConn, calls_of};
+use octo_outside_doors::{ConnList, MemoryDoor};
 use std::alloc::{AllocError, Global};
 use std::process::Abort;
 use std::sync::Wait;
@@ -134,7 +134,8 @@ fn left_by(
     host: &mut Host,
 ) -> Result<(bool, Vec<u8>), AllocError> {
     let mut door = door;
-    let holds = worker(rt, alloc, &mut door, host, 3);
+    let routes = Routes::new(alloc)?;
+    let holds = worker(rt, alloc, &routes, &mut door, host, 3);
     Ok((holds, statuses(alloc, &door)?))
 }
 
@@ -236,7 +237,8 @@ fn upload_door(alloc: Global, number: u64) -> Result<MemoryDoor, AllocError> {
 fn serve_upload(rt: &(impl Wait + Abort), alloc: Global, number: u64) -> Result<MemoryDoor, Fail> {
     let mut door = upload_door(alloc, number)?;
     let mut host = Host::open_for(10);
-    let holds = worker(rt, alloc, &mut door, &mut host, 3);
+    let routes = Routes::new(alloc)?;
+    let holds = worker(rt, alloc, &routes, &mut door, &mut host, 3);
     assert_eq!(rt; (holds, host.left), (true, 1));
     Ok(door)
 }
@@ -268,27 +270,27 @@ fn each_call_of_an_upload_failing(rt: HostRuntime) -> Result<(), Fail> {
     Err("no whole reply")?
 }
 
-// Whether a message is replied to, with this table of routes or with none.
-fn serves(alloc: Global, routes: Option<&Routes>, host: &mut Host) -> Result<bool, AllocError> {
+// Whether a message is replied to.
+fn serves(alloc: Global, routes: &Routes, host: &mut Host) -> Result<bool, AllocError> {
     let mut conn = conn_of(alloc, VERSION)?;
     let is_open = serve_conn(alloc, routes, &mut conn, host, 3);
     let written = conn.written().unwrap_or(b"");
     Ok(is_open && written.get(9..12).unwrap_or(b"-") == b"200".as_slice())
 }
 
-// Two messages are replied to, the one with a table of routes and the other without.
+// Two messages are replied to by the same table of routes.
 fn serves_two(
     rt: &impl Abort,
     alloc: Global,
     routes: &Routes,
     host: &mut Host,
 ) -> Result<(), Fail> {
-    assert!(rt; serves(alloc, Some(routes), host)?);
-    assert!(rt; serves(alloc, None, host)?);
+    assert!(rt; serves(alloc, routes, host)?);
+    assert!(rt; serves(alloc, routes, host)?);
     Ok(())
 }
 
-// The calls that take memory, each once: two connections, with and without a table of routes, and then one at a door.
+// The calls that take memory, each once: two connections, and then one at a door.
 #[test]
 fn ample(rt: HostRuntime) -> Result<(), Fail> {
     let alloc = rt.alloc();

@@ -1,16 +1,16 @@
 //! A host with its keeper, its shelf and its link.
 use super::seen::{Seen, seen_of};
-use byte_text::Name;
-use desk_steps::State;
-use host_makers::{ANA, house_of, keeper_of, kept_outcome, link_at, shelf_of, three_users};
-use octo_asks::{Ask, Request};
+use super::wishes::{Wish, request_of};
+use job_desk::State;
+use octo_asks::Ask;
 use octo_house::House;
 use octo_keeper::{KeeperFault, MemoryKeeper, MemoryShelf};
 use octo_outside::Blob;
-use print_records::Outcome;
+use print_queue::Outcome;
 use printer_link::{FateList, MemoryLink};
 use std::alloc::Global;
 use std::process::Abort;
+use test_makers::{ANA, house_of, keeper_of, kept_outcome, link_at, shelf_of, three_users};
 
 // The time limit of a line, in milliseconds.
 pub(super) const LIMIT: u64 = 30_000;
@@ -20,7 +20,7 @@ pub(super) const LIMIT: u64 = 30_000;
 pub(super) struct Bench {
     alloc: Global,
     house: House,
-    keeper: MemoryKeeper,
+    pub keeper: MemoryKeeper,
     shelf: MemoryShelf,
     link: MemoryLink,
 }
@@ -56,7 +56,7 @@ impl Bench {
         Bench::failing(rt, alloc, "any", &[], &[])
     }
 
-    // Drops the bench in one place. A test in which it goes out of scope would have to prove that drop itself.
+    // Drops the bench in one place. A function in which it goes out of scope would have to prove that drop itself.
     pub(super) fn end(self) {}
 
     // Another host takes the place of this one, on what the keeper and the shelf hold.
@@ -66,10 +66,11 @@ impl Bench {
         );
     }
 
-    pub(super) fn ask(&mut self, rt: &impl Abort, key: &[u8], request: Request) -> Seen {
+    pub(super) fn ask(&mut self, rt: &impl Abort, key: &[u8], wish: Wish) -> Seen {
         let key = Blob::from_slice(self.alloc, key).expect(rt, "no memory");
+        let request = request_of(rt, self.alloc, wish);
         let ask = Ask { key, request };
-        let answer = self.house.ask(&mut self.keeper, &mut self.shelf, ask, 7);
+        let answer = self.house.ask(&mut self.keeper, &mut self.shelf, ask);
         seen_of(&answer)
     }
 
@@ -98,42 +99,28 @@ impl Bench {
     }
 
     // Asks, and sees this.
-    pub(super) fn sees(&mut self, rt: &impl Abort, key: &[u8], request: Request, wanted: Seen) {
-        assert!(rt; self.ask(rt, key, request) == wanted);
+    pub(super) fn sees(&mut self, rt: &impl Abort, key: &[u8], wish: Wish, wanted: Seen) {
+        assert!(rt; self.ask(rt, key, wish) == wanted);
     }
 
-    pub(super) fn accepts(&mut self, rt: &impl Abort, key: &[u8], request: Request) {
-        self.sees(rt, key, request, Seen::Accepted);
+    pub(super) fn accepts(&mut self, rt: &impl Abort, key: &[u8], wish: Wish) {
+        self.sees(rt, key, wish, Seen::Accepted);
     }
 
     pub(super) fn connect(&mut self, rt: &impl Abort) {
-        self.accepts(rt, ANA, Request::Connect { port: None });
+        self.accepts(rt, ANA, Wish::Connect);
         self.turn_until(rt, State::Operational);
     }
 
-    pub(super) fn upload(&mut self, rt: &impl Abort, file: &str, text: &[u8], print: bool) -> Seen {
-        let request = Request::PutFile {
-            name: Name::from_text(file).expect(rt, "a long name"),
-            bytes: Blob::from_slice(self.alloc, text).expect(rt, "no memory"),
-            select: false,
-            print,
-        };
-        self.ask(rt, ANA, request)
-    }
-
-    // Stores and selects a file.
-    pub(super) fn select(&mut self, rt: &impl Abort, file: &str, text: &[u8]) {
-        assert!(rt;
-            matches!(
-                self.upload(rt, file, text, false),
-                Seen::Uploaded(false, false)
-            )
+    // Stores and selects the file.
+    pub(super) fn select(&mut self, rt: &impl Abort, text: &'static [u8]) {
+        self.sees(
+            rt,
+            ANA,
+            Wish::Upload(text, false),
+            Seen::Uploaded(false, false),
         );
-        let request = Request::SelectFile {
-            name: Name::from_text(file).expect(rt, "a long name"),
-            print: false,
-        };
-        self.accepts(rt, ANA, request);
+        self.accepts(rt, ANA, Wish::Select(false));
     }
 
     // The first two records have these outcomes; `None` where there is no record.

@@ -1,7 +1,6 @@
 //! Prints are started, paused, cancelled and refused.
 use super::*;
 use octo_access::Permission;
-use octo_outside::{Blob, ItemList};
 
 const SIX: &[u8] = b"G28\nG1 X1\nG1 X2\nG1 X3\nG1 X4\nG1 X5\n";
 
@@ -9,8 +8,8 @@ const SIX: &[u8] = b"G28\nG1 X1\nG1 X2\nG1 X3\nG1 X4\nG1 X5\n";
 fn printing(rt: &impl Abort, alloc: Global) -> Bench {
     let mut bench = Bench::sound(rt, alloc);
     bench.connect(rt);
-    bench.select(rt, "a.gcode", SIX);
-    bench.accepts(rt, ANA, Request::Start);
+    bench.select(rt, SIX);
+    bench.accepts(rt, ANA, Wish::Start);
     bench
 }
 
@@ -18,11 +17,11 @@ fn printing(rt: &impl Abort, alloc: Global) -> Bench {
 #[test]
 fn resume_and_restart_while_printing(rt: HostRuntime) {
     let mut bench = printing(&rt, rt.alloc());
-    bench.accepts(&rt, ANA, Request::Resume);
+    bench.accepts(&rt, ANA, Wish::Resume);
     assert_eq!(rt; bench.state(), State::Printing);
     let wrong = Seen::WrongState(State::Printing);
-    bench.sees(&rt, ANA, Request::Restart, wrong);
-    bench.sees(&rt, ROOT, Request::Shutdown, wrong);
+    bench.sees(&rt, ANA, Wish::Restart, wrong);
+    bench.sees(&rt, ROOT, Wish::Shutdown, wrong);
     bench.end();
 }
 
@@ -31,11 +30,11 @@ fn resume_and_restart_while_printing(rt: HostRuntime) {
 fn cancel_while_paused(rt: HostRuntime) {
     let mut bench = printing(&rt, rt.alloc());
     bench.turn(&rt);
-    bench.accepts(&rt, ANA, Request::Pause);
+    bench.accepts(&rt, ANA, Wish::Pause);
     bench.turn_until(&rt, State::Paused);
-    bench.accepts(&rt, ANA, Request::Cancel);
+    bench.accepts(&rt, ANA, Wish::Cancel);
     let wrong = Seen::WrongState(State::Cancelling);
-    bench.sees(&rt, ANA, Request::Cancel, wrong);
+    bench.sees(&rt, ANA, Wish::Cancel, wrong);
     bench.turn_until(&rt, State::Operational);
     assert_eq!(rt; bench.kept_outcome(0), Some(Outcome::Cancelled));
     bench.end();
@@ -45,24 +44,13 @@ fn cancel_while_paused(rt: HostRuntime) {
 #[test]
 fn restart_while_paused(rt: HostRuntime) {
     let mut bench = printing(&rt, rt.alloc());
-    bench.accepts(&rt, ANA, Request::Toggle);
+    bench.accepts(&rt, ANA, Wish::Toggle);
     bench.turn_until(&rt, State::Paused);
-    bench.accepts(&rt, ANA, Request::Restart);
+    bench.accepts(&rt, ANA, Wish::Restart);
     bench.keeps(&rt, Some(Outcome::Cancelled), Some(Outcome::Active));
     bench.turn_until(&rt, State::Operational);
     assert_eq!(rt; bench.kept_outcome(1), Some(Outcome::Done));
     bench.end();
-}
-
-// Asks to send a line, and sees this.
-fn sends(bench: &mut Bench, rt: &impl Abort, alloc: Global, text: &[u8], wanted: Seen) {
-    let mut texts = ItemList::new(alloc);
-    assert!(rt;
-        texts
-            .push(Blob::from_slice(alloc, text).expect(rt, "no memory"))
-            .is_ok()
-    );
-    bench.sees(rt, ANA, Request::Lines { texts }, wanted);
 }
 
 // Lines above the limit of the tool, 250 degrees, at it, and one that isn't a command.
@@ -70,28 +58,10 @@ fn sends(bench: &mut Bench, rt: &impl Abort, alloc: Global, text: &[u8], wanted:
 fn too_hot(rt: HostRuntime) {
     let mut bench = Bench::sound(&rt, rt.alloc());
     bench.connect(&rt);
-    sends(
-        &mut bench,
-        &rt,
-        rt.alloc(),
-        b"M109 R260",
-        Seen::TooHot(260, 250),
-    );
-    sends(
-        &mut bench,
-        &rt,
-        rt.alloc(),
-        b"M104 S250.1",
-        Seen::TooHot(251, 250),
-    );
-    sends(&mut bench, &rt, rt.alloc(), b"M104 S250", Seen::Accepted);
-    sends(
-        &mut bench,
-        &rt,
-        rt.alloc(),
-        b"M117 M110 N9",
-        Seen::BadCommand,
-    );
+    bench.sees(&rt, ANA, Wish::Line(b"M109 R260"), Seen::TooHot(260, 250));
+    bench.sees(&rt, ANA, Wish::Line(b"M104 S250.1"), Seen::TooHot(251, 250));
+    bench.sees(&rt, ANA, Wish::Line(b"M104 S250"), Seen::Accepted);
+    bench.sees(&rt, ANA, Wish::Line(b"M117 M110 N9"), Seen::BadCommand);
     bench.end();
 }
 
@@ -100,9 +70,8 @@ fn too_hot(rt: HostRuntime) {
 fn too_hot_tool(rt: HostRuntime) {
     let mut bench = Bench::sound(&rt, rt.alloc());
     bench.connect(&rt);
-    bench.accepts(&rt, ANA, Request::HeatBed { degrees: 100 });
-    let request = Request::HeatTool { degrees: 251 };
-    bench.sees(&rt, ANA, request, Seen::TooHot(251, 250));
+    bench.accepts(&rt, ANA, Wish::HeatBed(100));
+    bench.sees(&rt, ANA, Wish::HeatTool(251), Seen::TooHot(251, 250));
     bench.end();
 }
 
@@ -110,8 +79,8 @@ fn too_hot_tool(rt: HostRuntime) {
 fn too_hot_file(rt: HostRuntime) {
     let mut bench = Bench::sound(&rt, rt.alloc());
     bench.connect(&rt);
-    bench.select(&rt, "a.gcode", b"G28\nG1 X10\nM109 R260\n");
-    bench.sees(&rt, ANA, Request::Start, Seen::TooHotLine(3, 260, 250));
+    bench.select(&rt, b"G28\nG1 X10\nM109 R260\n");
+    bench.sees(&rt, ANA, Wish::Start, Seen::TooHotLine(3, 260, 250));
     bench.end();
 }
 
@@ -120,11 +89,11 @@ fn too_hot_file(rt: HostRuntime) {
 fn denied(rt: HostRuntime) {
     let mut bench = Bench::sound(&rt, rt.alloc());
     let reader = Seen::Denied(Some(Permission::Print));
-    bench.sees(&rt, EVE, Request::Start, reader);
+    bench.sees(&rt, EVE, Wish::Start, reader);
     let unknown = Seen::Denied(None);
-    bench.sees(&rt, b"no-key-0123456789", Request::Start, unknown);
-    bench.sees(&rt, b"", Request::Version, unknown);
-    bench.accepts(&rt, b"", Request::Leave);
+    bench.sees(&rt, b"no-key-0123456789", Wish::Start, unknown);
+    bench.sees(&rt, b"", Wish::Version, unknown);
+    bench.accepts(&rt, b"", Wish::Leave);
     bench.end();
 }
 
@@ -133,11 +102,11 @@ fn denied(rt: HostRuntime) {
 fn failed_start(rt: HostRuntime) {
     let mut bench = Bench::failing(&rt, rt.alloc(), "any", &[2], &[]);
     bench.connect(&rt);
-    bench.select(&rt, "a.gcode", b"G28\n");
-    bench.sees(&rt, ANA, Request::Start, Seen::KeeperFault);
+    bench.select(&rt, b"G28\n");
+    bench.sees(&rt, ANA, Wish::Start, Seen::KeeperFault);
     assert_eq!(rt; bench.state(), State::Operational);
     assert_eq!(rt; bench.kept_outcome(0), None);
-    bench.accepts(&rt, ANA, Request::Start);
+    bench.accepts(&rt, ANA, Wish::Start);
     assert_eq!(rt; bench.kept_outcome(0), Some(Outcome::Active));
     bench.end();
 }

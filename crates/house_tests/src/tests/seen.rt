@@ -1,28 +1,35 @@
 //! What a test sees of an answer.
-use desk_steps::State;
+use super::sums::{active_users, left_sum, newest, size_sum};
 use gcode_lines::FileFault;
+use job_desk::State;
 use octo_access::Permission;
-use octo_asks::{Answer, Progress, ShownFile, ShownPrintList, StoredCause};
-use print_records::Outcome;
+use octo_asks::{Answer, ShownEntry, ShownFile, StoredCause};
+use print_queue::Outcome;
 
-// An answer by its plain values: what tests compare, and of a list its length.
+// What came of a step, by its plain values.
 #[derive(Clone, Copy, PartialEq, Eq)]
 pub(super) enum Seen {
     Accepted,
     // The number of ports.
     Connection(usize),
-    // The size of the selected file while nothing is printed, and the state.
-    Job(u64, State),
-    Files(usize),
+    // The size of the selected file, whether a print is going on, and the state.
+    Job(Option<u64>, bool, State),
+    // The number of files, and their bytes.
+    Files(usize, u64),
     // A file by its size.
     File(u64),
+    // The number of bytes.
+    Download(usize),
     // Whether the file was selected, and its print started.
     Uploaded(bool, bool),
+    // A file was stored and selected, and its print not started.
     Stored(StoredCause),
-    Users(usize),
+    // The number of users, and of those that are active.
+    Users(usize, usize),
     // Whether the user is active.
     User(bool),
-    Entries(usize),
+    // The number of entries, and their copies that are left.
+    Entries(usize, u64),
     // An entry by its priority and the copies that are left.
     OneEntry(u8, u8),
     // The copies that were left before.
@@ -46,6 +53,10 @@ pub(super) enum Seen {
     Full(u32),
     KeeperFault,
     ShelfFault,
+    // Turns of the link were taken.
+    Turned,
+    // The same, and the end of a print wasn't written.
+    Unwritten,
     Other,
 }
 
@@ -57,17 +68,27 @@ pub(super) fn seen_of(answer: &Answer) -> Seen {
             file,
             progress,
             state,
-        } => job_of(file, progress, *state),
-        Answer::Files { files } => Seen::Files(files.as_slice().len()),
+        } => Seen::Job(size_of(file), progress.is_some(), *state),
+        Answer::Files { files } => Seen::Files(files.as_slice().len(), size_sum(files.as_slice())),
         Answer::File { file } => Seen::File(file.size),
+        Answer::Download { bytes } => Seen::Download(bytes.as_slice().len()),
         Answer::Uploaded { select, print, .. } => Seen::Uploaded(*select, *print),
         Answer::Stored { cause, .. } => Seen::Stored(*cause),
-        Answer::Users { users } => Seen::Users(users.as_slice().len()),
+        Answer::Users { users } => Seen::Users(
+            users.as_slice().len(),
+            active_users(users.as_slice()),
+        ),
         Answer::User { user } => Seen::User(user.active),
-        Answer::Entries { entries } => Seen::Entries(entries.as_slice().len()),
+        Answer::Entries { entries } => Seen::Entries(
+            entries.as_slice().len(),
+            left_sum(entries.as_slice()),
+        ),
         Answer::OneEntry { entry } => Seen::OneEntry(entry.priority, entry.left),
         Answer::TakenEntry { entry } => Seen::TakenEntry(entry.left),
-        Answer::Prints { prints } => Seen::Prints(prints.as_slice().len(), newest_of(prints)),
+        Answer::Prints { prints } => Seen::Prints(
+            prints.as_slice().len(),
+            newest(prints.as_slice()),
+        ),
         Answer::Denied { permission } => Seen::Denied(*permission),
         Answer::BadCommand => Seen::BadCommand,
         Answer::BadFile { fault } => Seen::BadFile(*fault),
@@ -78,7 +99,7 @@ pub(super) fn seen_of(answer: &Answer) -> Seen {
         Answer::WrongState { state } => Seen::WrongState(*state),
         Answer::FileBusy => Seen::FileBusy,
         Answer::TooHotLine { line, asked, limit } => Seen::TooHotLine(*line, *asked, *limit),
-        Answer::NameTaken { kept } => Seen::NameTaken(kept.as_ref().map(|kept| kept.priority)),
+        Answer::NameTaken { kept } => Seen::NameTaken(priority_of(kept)),
         Answer::Full { count } => Seen::Full(*count),
         Answer::KeeperFault => Seen::KeeperFault,
         Answer::ShelfFault => Seen::ShelfFault,
@@ -86,16 +107,16 @@ pub(super) fn seen_of(answer: &Answer) -> Seen {
     }
 }
 
-fn job_of(file: &Option<ShownFile>, progress: &Option<Progress>, state: State) -> Seen {
-    match (file, progress) {
-        (Some(file), None) => Seen::Job(file.size, state),
-        _ => Seen::Other,
+fn size_of(file: &Option<ShownFile>) -> Option<u64> {
+    match file {
+        Some(file) => Some(file.size),
+        None => None,
     }
 }
 
-fn newest_of(prints: &ShownPrintList) -> Option<Outcome> {
-    match prints.as_slice().first() {
-        Some(print) => Some(print.outcome),
+fn priority_of(entry: &Option<ShownEntry>) -> Option<u8> {
+    match entry {
+        Some(entry) => Some(entry.priority),
         None => None,
     }
 }

@@ -1,16 +1,16 @@
 //! Turns, and ends that are written later.
 use super::bench::LIMIT;
 use super::*;
-use host_makers::{house_of, keeper_of, shelf_of, three_users};
 use octo_house::BeginFault;
 use octo_keeper::KeeperFault;
+use test_makers::{house_of, keeper_of, shelf_of, three_users};
 
 // A host whose print has ended, and whose keeper failed at that end.
 fn ended_bench(rt: &impl Abort, alloc: Global) -> Bench {
     let mut bench = Bench::failing(rt, alloc, "any", &[3], &[]);
     bench.connect(rt);
-    bench.select(rt, "a.gcode", b"G28\n");
-    bench.accepts(rt, ANA, Request::Start);
+    bench.select(rt, b"G28\n");
+    bench.accepts(rt, ANA, Wish::Start);
     bench.turn_until(rt, State::Operational);
     bench
 }
@@ -31,7 +31,7 @@ fn end_written_later(rt: HostRuntime) {
 #[test]
 fn end_written_by_a_start(rt: HostRuntime) {
     let mut bench = ended_bench(&rt, rt.alloc());
-    bench.accepts(&rt, ANA, Request::Start);
+    bench.accepts(&rt, ANA, Wish::Start);
     bench.keeps(&rt, Some(Outcome::Done), Some(Outcome::Active));
     assert_eq!(rt; bench.unwritten(), None);
     bench.end();
@@ -42,11 +42,11 @@ fn end_written_by_a_start(rt: HostRuntime) {
 fn begin_after_a_print(rt: HostRuntime) {
     let mut bench = Bench::sound(&rt, rt.alloc());
     bench.connect(&rt);
-    bench.upload(&rt, "a.gcode", b"G28\n", true);
+    bench.ask(&rt, ANA, Wish::Upload(b"G28\n", true));
     bench.begin_again(&rt);
     assert!(rt;
         matches!(
-            bench.ask(&rt, ANA, Request::ListPrints),
+            bench.ask(&rt, ANA, Wish::Prints),
             Seen::Prints(_, Some(Outcome::Failed))
         )
     );
@@ -86,7 +86,7 @@ fn no_beginning(rt: HostRuntime) {
 #[test]
 fn ample(rt: HostRuntime) {
     let mut bench = Bench::sound(&rt, rt.alloc());
-    bench.sees(&rt, ANA, Request::GetConnection, Seen::Connection(1));
+    bench.sees(&rt, ANA, Wish::Connection, Seen::Connection(1));
     bench.turn(&rt);
     bench.end();
 }

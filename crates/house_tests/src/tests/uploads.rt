@@ -1,41 +1,11 @@
 //! Files are stored, printed, shown and deleted.
 use super::*;
-use byte_text::Name;
 use gcode_lines::FileFault;
 use octo_asks::StoredCause;
 
-fn deletes(bench: &mut Bench, rt: &impl Abort) -> Seen {
-    let request = Request::DeleteFile {
-        name: Name::from_text("a.gcode").expect(rt, "a long name"),
-    };
-    bench.ask(rt, ANA, request)
-}
-
-fn shows(bench: &mut Bench, rt: &impl Abort) -> Seen {
-    let request = Request::GetFile {
-        name: Name::from_text("a.gcode").expect(rt, "a long name"),
-    };
-    bench.ask(rt, ANA, request)
-}
-
-fn downloads(bench: &mut Bench, rt: &impl Abort) -> Seen {
-    let request = Request::Download {
-        name: Name::from_text("a.gcode").expect(rt, "a long name"),
-    };
-    bench.ask(rt, ANA, request)
-}
-
-fn selects(bench: &mut Bench, rt: &impl Abort) -> Seen {
-    let request = Request::SelectFile {
-        name: Name::from_text("a.gcode").expect(rt, "a long name"),
-        print: false,
-    };
-    bench.ask(rt, ANA, request)
-}
-
 // Uploads the file, perhaps to print it, and sees this.
-fn uploads(bench: &mut Bench, rt: &impl Abort, text: &[u8], print: bool, wanted: Seen) {
-    assert!(rt; bench.upload(rt, "a.gcode", text, print) == wanted);
+fn uploads(bench: &mut Bench, rt: &impl Abort, text: &'static [u8], print: bool, wanted: Seen) {
+    bench.sees(rt, ANA, Wish::Upload(text, print), wanted);
 }
 
 // An upload with the flag is selected and printed.
@@ -61,8 +31,13 @@ fn stored_upload(rt: HostRuntime) {
         true,
         Seen::Stored(StoredCause::KeeperFault),
     );
-    bench.sees(&rt, ANA, Request::ListFiles, Seen::Files(1));
-    bench.sees(&rt, ANA, Request::GetJob, Seen::Job(4, State::Operational));
+    bench.sees(&rt, ANA, Wish::Files, Seen::Files(1, 4));
+    bench.sees(
+        &rt,
+        ANA,
+        Wish::Job,
+        Seen::Job(Some(4), false, State::Operational),
+    );
     bench.end();
 }
 
@@ -79,12 +54,12 @@ fn upload_while_offline(rt: HostRuntime) {
 fn delete_printed(rt: HostRuntime) {
     let mut bench = Bench::sound(&rt, rt.alloc());
     bench.connect(&rt);
-    bench.upload(&rt, "a.gcode", b"G28\n", true);
-    assert!(rt; matches!(deletes(&mut bench, &rt), Seen::FileBusy));
+    bench.ask(&rt, ANA, Wish::Upload(b"G28\n", true));
+    bench.sees(&rt, ANA, Wish::Delete, Seen::FileBusy);
     uploads(&mut bench, &rt, b"G1 X1\n", false, Seen::FileBusy);
     bench.turn_until(&rt, State::Operational);
-    assert!(rt; matches!(deletes(&mut bench, &rt), Seen::Accepted));
-    assert!(rt; matches!(downloads(&mut bench, &rt), Seen::NoFile));
+    bench.sees(&rt, ANA, Wish::Delete, Seen::Accepted);
+    bench.sees(&rt, ANA, Wish::Download, Seen::NoFile);
     bench.end();
 }
 
@@ -92,9 +67,9 @@ fn delete_printed(rt: HostRuntime) {
 #[test]
 fn failed_remove(rt: HostRuntime) {
     let mut bench = Bench::failing(&rt, rt.alloc(), "any", &[], &[3]);
-    bench.upload(&rt, "a.gcode", b"G28\n", false);
-    assert!(rt; matches!(deletes(&mut bench, &rt), Seen::ShelfFault));
-    assert!(rt; matches!(shows(&mut bench, &rt), Seen::File(4)));
+    bench.ask(&rt, ANA, Wish::Upload(b"G28\n", false));
+    bench.sees(&rt, ANA, Wish::Delete, Seen::ShelfFault);
+    bench.sees(&rt, ANA, Wish::Show, Seen::File(4));
     bench.end();
 }
 
@@ -103,10 +78,10 @@ fn failed_remove(rt: HostRuntime) {
 fn failed_put(rt: HostRuntime) {
     let mut bench = Bench::failing(&rt, rt.alloc(), "any", &[], &[2, 4]);
     uploads(&mut bench, &rt, b"G28\n", true, Seen::ShelfFault);
-    assert!(rt; matches!(shows(&mut bench, &rt), Seen::NoFile));
-    bench.upload(&rt, "a.gcode", b"G28\n", false);
-    assert!(rt; matches!(selects(&mut bench, &rt), Seen::ShelfFault));
-    bench.sees(&rt, ANA, Request::Start, Seen::WrongState(State::Offline));
+    bench.sees(&rt, ANA, Wish::Show, Seen::NoFile);
+    bench.ask(&rt, ANA, Wish::Upload(b"G28\n", false));
+    bench.sees(&rt, ANA, Wish::Select(false), Seen::ShelfFault);
+    bench.sees(&rt, ANA, Wish::Start, Seen::WrongState(State::Offline));
     bench.end();
 }
 

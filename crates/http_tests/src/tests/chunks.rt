@@ -1,6 +1,6 @@
 //! Chunks that aren't chunks, and those that are.
 use super::{reads, refuses};
-use http_grammar::MessageFault;
+use octo_http::MessageFault;
 use std::test::Fail;
 
 // Sizes with a sign, a blank or a prefix and without a digit; lines and chunks that don't end with CR LF.

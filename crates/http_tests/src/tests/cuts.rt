@@ -1,7 +1,6 @@
 //! Messages that end at each of their places.
-use super::{PATIENCE, conn_of, read};
-use http_grammar::MessageFault;
-use octo_http::read_message;
+use super::{PATIENCE, conn_of, has_written, read};
+use octo_http::{MessageFault, read_message};
 use std::alloc::{AllocError, Global};
 use std::process::Abort;
 use std::test::Fail;
@@ -56,7 +55,7 @@ fn chunks(rt: HostRuntime) -> Result<(), Fail> {
 fn writes(alloc: Global, input: &[u8], text: &[u8]) -> Result<bool, AllocError> {
     let mut conn = conn_of(alloc, input)?;
     let _ = read_message(alloc, &mut conn, PATIENCE);
-    Ok(conn.written() == Some(text))
+    Ok(has_written(&conn, text))
 }
 
 // `100 Continue` is written as soon as the head has come, and not before.

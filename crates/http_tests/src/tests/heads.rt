@@ -1,6 +1,6 @@
 //! Heads that two readers could take for different messages.
 use super::{reads, refuses};
-use http_grammar::MessageFault;
+use octo_http::MessageFault;
 use std::test::Fail;
 
 // A length beside chunks, and codings other than chunks alone.

@@ -1,6 +1,6 @@
 //! Lengths that contradict themselves or each other, and those that don't.
 use super::{reads, refuses};
-use http_grammar::MessageFault;
+use octo_http::MessageFault;
 use std::test::Fail;
 
 // Two lengths, signs, a prefix, 19 digits and none.

@@ -1,6 +1,6 @@
 //! Heads, chunk lines and trailers at their limits, and one byte or field over them.
 use super::{reads, refuses};
-use http_grammar::MessageFault;
+use octo_http::MessageFault;
 use std::alloc::{AllocError, Global};
 use std::process::Abort;
 use std::test::Fail;

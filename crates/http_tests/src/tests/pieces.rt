@@ -1,6 +1,6 @@
 //! A head, and the parts of a chunked body.
 use super::has_value;
-use http_grammar::{Framing, Head, MessageFault, Part, look, look_part};
+use octo_http::{Framing, Head, MessageFault, Part, look, look_part};
 use std::alloc::Global;
 use std::test::Fail;
 

@@ -1,6 +1,6 @@
 //! A message whose sender waits for `100 Continue`, and a reply.
 use super::cuts::UPLOAD;
-use super::{PATIENCE, conn_of, has_value, read};
+use super::{PATIENCE, conn_of, has_value, has_written, read};
 use octo_http::{HttpReply, ReplyKind, read_message, write_reply};
 use octo_outside::{Blob, MemoryConn};
 use std::alloc::{AllocError, Global};
@@ -42,6 +42,6 @@ fn leave_and_reply(rt: HostRuntime) -> Result<(), Fail> {
     let written =
         b"HTTP/1.1 100 Continue\r\n\r\nHTTP/1.1 409 Conflict\r\nConnection: close\r\nContent-Length: 41\r\n\
 Content-Type: application/json\r\n\r\n{\"error\":\"WrongState\",\"state\":\"Printing\"}";
-    assert!(rt; conn.written() == Some(written.as_slice()));
+    assert!(rt; has_written(&conn, written));
     Ok(())
 }

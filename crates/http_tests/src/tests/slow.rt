@@ -1,14 +1,11 @@
 //! Messages whose bytes come one by one, with reads between them that find nothing.
 use super::cuts::{LEAVE, UPLOAD};
 use super::{PATIENCE, conn_of};
-use byte_conn::ByteConn;
-use http_grammar::MessageFault;
-use octo_http::{Message, read_message};
-use octo_outside::{CallList, MemoryConn, calls_of};
+use octo_http::{Message, MessageFault, read_message};
+use octo_outside::{ByteConn, CallList, MemoryConn, calls_of};
 use std::alloc::{AllocError, Global};
 use std::test::Fail;
 
-// Whether the upload is read.
 fn reads_upload(alloc: Global, conn: &mut ByteConn<MemoryConn>) -> Result<bool, MessageFault> {
     let message = read_message(alloc, conn, PATIENCE)?;
     Ok(

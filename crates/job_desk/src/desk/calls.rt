@@ -1,14 +1,14 @@
 //! The calls of the table: what a user asks of the desk.
 ghost use Rattle.std.specs.Prelude.{◌≡◌, ◌<◌, ◌≤◌, ◌+◌, ◌++◌, ◌⊎◌, length, Ok, Err, MatchResult, All};
 ghost use Rattle.byte_text.specs.Sendable.{IsSendable};
-ghost use Rattle.desk_steps.specs.Table.{add_manual, cancel_at, connect_at, disconnect_at, drop_file_step, manual_at, pause_at, printing, restart_at, resume_at, select_at, start_at, toggle_at};
-ghost use Rattle.desk_steps.specs.Data.{named_file};
+ghost use Rattle.job_desk.specs.Table.{add_manual, cancel_at, connect_at, disconnect_at, drop_file_step, manual_at, pause_at, printing, restart_at, resume_at, select_at, start_at, toggle_at};
+ghost use Rattle.job_desk.specs.Data.{named_file};
 ghost use Rattle.job_desk.specs.Views.{bytes_of};
 
 use super::{Desk, MOST_MANUAL, NotSelected, Prints, Selected};
+use crate::{Point, Refusal, State};
 use byte_text::{Name, Text, bounded_text};
 use circular_buffer::HeapCircularBuffer;
-use desk_steps::{Point, Refusal, State};
 use gcode_lines::Job;
 use temp_rules::first_hot;
 

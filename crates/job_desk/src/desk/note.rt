@@ -1,11 +1,11 @@
 //! What the desk makes of a turn of the link.
 ghost use Rattle.std.specs.Prelude.{◌≡◌, ◌⊎◌, true, false, IfSome};
-ghost use Rattle.desk_steps.specs.Endings.{IsEnding};
-ghost use Rattle.desk_steps.specs.Note.{after_ending, fail, leave, note_fact, note_step, after_open, ready_at};
+ghost use Rattle.job_desk.specs.Endings.{IsEnding};
+ghost use Rattle.job_desk.specs.Note.{after_ending, fail, leave, note_fact, note_step, after_open, ready_at};
 ghost use Rattle.job_desk.specs.DeskViews.{MayNote};
 
 use super::{Desk, Lines, Prints};
-use desk_steps::{Ending, LinkFact, Outcome, Point, State};
+use crate::{Ending, LinkFact, Outcome, Point, State};
 
 impl Prints {
     // The print is no longer active.

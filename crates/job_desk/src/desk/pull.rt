@@ -2,14 +2,14 @@
 ghost use Rattle.std.specs.Prelude.{◌≡◌, length, IfSome, slice_get};
 ghost use Rattle.std.specs.Option.{option_map};
 ghost use Rattle.byte_text.specs.Sendable.{IsSendable};
-ghost use Rattle.desk_steps.specs.Data.{commands_of};
-ghost use Rattle.desk_steps.specs.Pull.{draw_at, from_file, from_manual, from_poll, from_scripts, keep_number, next_number, poll_is_due, pull_step, settled, draw_in_order};
-ghost use Rattle.desk_steps.specs.Issued.{line_of};
+ghost use Rattle.job_desk.specs.Data.{commands_of};
+ghost use Rattle.job_desk.specs.Pull.{draw_at, from_file, from_manual, from_poll, from_scripts, keep_number, next_number, poll_is_due, pull_step, settled, draw_in_order};
+ghost use Rattle.job_desk.specs.Issued.{line_of};
 ghost use Rattle.job_desk.specs.Views.{DrawsFrom};
 
 use super::Desk;
+use crate::{Issued, Point, State, Tag};
 use byte_text::bounded_text;
-use desk_steps::{Issued, Point, State, Tag};
 
 // Marlin's question for temperatures.
 const POLL: &[u8] = b"M105";

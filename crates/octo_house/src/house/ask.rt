@@ -5,10 +5,10 @@ ghost use Rattle.octo_asks.specs.declared.answer.Answer.TheVariants as answer;
 ghost use Rattle.octo_keeper.specs.declared.shelf.ShelfFile.{ShelfFile};
 ghost use Rattle.print_queue.specs.Calls.{new_entry};
 ghost use Rattle.print_queue.specs.Lawful.{IsWholeRow};
-ghost use Rattle.house_verdicts.specs.Access.{is_denied};
-ghost use Rattle.house_verdicts.specs.Answers.{verdict, request_verdict, lacking};
-ghost use Rattle.house_verdicts.specs.Rows.{put_entry_verdict};
-ghost use Rattle.house_verdicts.specs.Verdict.{gives};
+ghost use Rattle.octo_house_rules.specs.Access.{is_denied};
+ghost use Rattle.octo_house_rules.specs.Answers.{verdict, request_verdict, lacking};
+ghost use Rattle.octo_house_rules.specs.Rows.{put_entry_verdict};
+ghost use Rattle.octo_house_rules.specs.Verdict.{gives};
 ghost use Rattle.octo_house.specs.Answered.{Answers, AnswersOn, Shelves, IsUntouched, AskDone, KeeperDone};
 ghost use Rattle.octo_house.specs.Asking.{IsPermitted, IsTurnedAway};
 ghost use Rattle.octo_house.specs.Groups.{is_edit, is_row, is_reading};
@@ -16,23 +16,16 @@ ghost use Rattle.octo_house.specs.State.{known_of};
 
 use super::House;
 use super::upload::Wanted;
-use house_rows::asked_entry;
 use octo_access::{Permission, UserRow};
 use octo_asks::{Answer, Ask, Request, needed};
+use octo_house_tables::asked_entry;
 use octo_keeper::{Keeper, Shelf};
 use print_queue::QueueEntry;
 
 impl House {
     /// Answers an ask: the first refusal that applies, or what is done. If the keeper or the shelf fails, or memory runs out,
-    /// nothing changes, except that a file that was stored already stays stored. The moment, in milliseconds, is the answer's in
-    /// the history.
-    pub fn ask<K: Keeper, S: Shelf>(
-        &mut self,
-        keeper: &mut K,
-        shelf: &mut S,
-        ask: Ask,
-        _moment: u64,
-    ) -> Answer
+    /// nothing changes, except that a file that was stored already stays stored.
+    pub fn ask<K: Keeper, S: Shelf>(&mut self, keeper: &mut K, shelf: &mut S, ask: Ask) -> Answer
         // Who is denied, whatever the files are; nothing changes then.
         ensures denied { (files : List ShelfFile) (permission : Option Permission)
             → (result ≡ answer.Denied permission)

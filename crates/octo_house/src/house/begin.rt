@@ -1,25 +1,24 @@
 //! A host begins.
 ghost use Rattle.std.specs.Prelude.{◌≡◌, ℕ, false, length, Some, IfOk, IfSome, IsErrOf};
 ghost use Rattle.octo_outside.specs.Recorded.{Counts};
-ghost use Rattle.desk_steps.specs.Data.{new_desk};
+ghost use Rattle.job_desk.specs.Data.{new_desk};
 ghost use Rattle.octo_keeper.specs.declared.tables.Tables.{Tables};
 ghost use Rattle.send_window.specs.Data.{new_sender};
 ghost use Rattle.octo_house.specs.Beginning.{IsMadeOf, BeginsOn, IsLoaded};
 ghost use Rattle.octo_access.specs.Rows.{IsUserTable};
 ghost use Rattle.print_queue.specs.Lawful.{IsLawful};
-ghost use Rattle.house_tables.specs.Kept.{IsKept};
-ghost use Rattle.house_verdicts.specs.Known.{names_of};
+ghost use Rattle.octo_house_tables.specs.Kept.{IsKept};
+ghost use Rattle.octo_house_rules.specs.Known.{names_of};
 ghost use Rattle.octo_house.specs.State.{IsListed};
 ghost use Rattle.octo_house.specs.declared.faults.BeginFault.TheVariants as fault;
 
 use super::House;
+use crate::HostDesk;
 use crate::faults::{BeginFault, of_keeper, of_shelf};
 use byte_text::Name;
-use house_desk::HostDesk;
-use house_rows::names_in;
-use house_tables::HostTables;
 use marlin_reply::Temps;
 use octo_access::Policy;
+use octo_house_tables::{HostTables, names_in};
 use octo_keeper::{Keeper, Shelf};
 use octo_outside::NameList;
 use octo_session::Session;

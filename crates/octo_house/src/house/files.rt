@@ -1,19 +1,21 @@
 //! The requests that list, show and delete files.
 ghost use Rattle.std.specs.Prelude.{◌≡◌, true, false};
-ghost use Rattle.desk_steps.specs.Table.{drop_file_step};
-ghost use Rattle.house_verdicts.specs.Reads.{list_files_verdict, get_file_verdict, download_verdict};
-ghost use Rattle.house_verdicts.specs.Access.{is_denied};
-ghost use Rattle.house_verdicts.specs.Uploads.{delete_verdict};
+ghost use Rattle.job_desk.specs.Table.{drop_file_step};
+ghost use Rattle.octo_house_rules.specs.Reads.{list_files_verdict, get_file_verdict, download_verdict};
+ghost use Rattle.octo_house_rules.specs.Access.{is_denied};
+ghost use Rattle.octo_house_rules.specs.Uploads.{delete_verdict};
 ghost use Rattle.octo_house.specs.Answered.{Answers, AnswersOn, Shelves, ShelfDone};
 ghost use Rattle.octo_outside.specs.Recorded.{Counts};
-ghost use Rattle.house_rows.specs.Counts.{is_keepers, is_shelfs};
+ghost use Rattle.octo_house_rules.specs.Faults.{is_keepers, is_shelfs};
 ghost use Rattle.octo_house.specs.State.{AreRowsLeft, IsListed, known_of};
 
 use super::House;
 use byte_text::Name;
-use desk_steps::Refusal;
-use house_rows::{answer_of_refusal, answer_of_shelf_fault, drop_name, read_bytes, shown_files};
+use job_desk::Refusal;
 use octo_asks::{Answer, ShownFile};
+use octo_house_tables::{
+    answer_of_refusal, answer_of_shelf_fault, drop_name, read_bytes, shown_files,
+};
 use octo_keeper::Shelf;
 
 impl House {

@@ -1,18 +1,18 @@
 //! The selected file is printed: the keeper writes the record first, and then what can't fail is changed.
 ghost use Rattle.std.specs.Prelude.{◌≡◌, ℕ, true, OnOk};
-ghost use Rattle.desk_steps.specs.Table.{restart_at, start_at};
-ghost use Rattle.house_verdicts.specs.Known.{next_print_number};
-ghost use Rattle.house_verdicts.specs.Prints.{has_room, new_row, start_verdict, restart_verdict};
+ghost use Rattle.job_desk.specs.Table.{restart_at, start_at};
+ghost use Rattle.octo_house_rules.specs.Known.{next_print_number};
+ghost use Rattle.octo_house_rules.specs.Prints.{has_room, new_row, start_verdict, restart_verdict};
 ghost use Rattle.octo_house.specs.Answered.{Answers, KeeperDone};
 ghost use Rattle.octo_house.specs.State.{known_of};
 
 use super::House;
 use byte_text::Name;
-use desk_steps::{Refusal, State};
-use house_rows::{answer_of_keeper_fault, answer_of_refusal, check_job};
+use job_desk::{Refusal, State};
 use octo_asks::Answer;
+use octo_house_tables::{answer_of_keeper_fault, answer_of_refusal, check_job};
 use octo_keeper::Keeper;
-use print_records::{Ending, Outcome, PrintRow};
+use print_queue::{Ending, Outcome, PrintRow};
 
 impl House {
     // Refuses a start that the desk would refuse.

@@ -1,9 +1,9 @@
 //! The requests that show rows.
 ghost use Rattle.std.specs.Prelude.{◌≡◌};
-ghost use Rattle.house_verdicts.specs.Known.{whose};
-ghost use Rattle.house_verdicts.specs.Reads.{list_users_verdict, list_queue_verdict, list_prints_verdict};
+ghost use Rattle.octo_house_rules.specs.Known.{whose};
+ghost use Rattle.octo_house_rules.specs.Reads.{list_users_verdict, list_queue_verdict, list_prints_verdict};
 ghost use Rattle.octo_house.specs.Answered.{Answers};
-ghost use Rattle.house_rows.specs.Counts.{IsPlain};
+ghost use Rattle.octo_house_tables.specs.Counts.{IsPlain};
 ghost use Rattle.octo_house.specs.State.{known_of};
 
 use super::House;

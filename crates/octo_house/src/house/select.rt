@@ -1,20 +1,22 @@
 //! Files that the shelf holds are selected and printed.
 ghost use Rattle.std.specs.Prelude.{◌≡◌, [], true, false};
-ghost use Rattle.desk_steps.specs.declared.state.State.TheVariants as state;
+ghost use Rattle.job_desk.specs.declared.state.State.TheVariants as state;
 ghost use Rattle.octo_keeper.specs.Tables.{with_taken};
-ghost use Rattle.house_verdicts.specs.Access.{is_denied};
-ghost use Rattle.desk_steps.specs.Data.{named_file};
-ghost use Rattle.house_verdicts.specs.Uploads.{select_verdict, next_verdict, take_verdict, print_verdict};
+ghost use Rattle.octo_house_rules.specs.Access.{is_denied};
+ghost use Rattle.job_desk.specs.Data.{named_file};
+ghost use Rattle.octo_house_rules.specs.Uploads.{select_verdict, next_verdict, take_verdict, print_verdict};
 ghost use Rattle.octo_house.specs.Answered.{Answers, AnswersOn, KeeperDone, PrintDone, ShelfDone};
 ghost use Rattle.octo_house.specs.State.{IsDeskAlone, known_of};
 ghost use Rattle.octo_house.specs.Taken.{taken_answer};
 
 use super::House;
 use byte_text::Name;
-use desk_steps::State;
 use gcode_lines::Job;
-use house_rows::{answer_of_keeper_fault, answer_of_refusal, check_job, may_select, read_job};
+use job_desk::State;
 use octo_asks::{Answer, ShownEntry};
+use octo_house_tables::{
+    answer_of_keeper_fault, answer_of_refusal, check_job, may_select, read_job,
+};
 use octo_keeper::{Keeper, Shelf};
 use print_queue::QueueEntry;
 

@@ -1,32 +1,23 @@
 //! Turns of the link, and the ends of prints that they bring.
 ghost use Rattle.std.specs.Prelude.{◌≡◌, ◌⊎◌, true, None};
-ghost use Rattle.desk_steps.specs.Endings.{IsActive};
-ghost use Rattle.desk_steps.specs.declared.link_fact.LinkFact.TheVariants as fact;
+ghost use Rattle.job_desk.specs.declared.link_fact.LinkFact.TheVariants as fact;
 ghost use Rattle.printer_link.specs.Link.{RoseBy};
-ghost use Rattle.session_steps.specs.Data.{doing, is_calling};
-ghost use Rattle.session_steps.specs.declared.found.Doing.TheVariants as now_doing;
-ghost use Rattle.session_steps.specs.Turn.{fact_of, IsTurn, IsTurnByNote};
-ghost use Rattle.house_tables.specs.Kept.{KeepsRows};
+ghost use Rattle.octo_session.specs.Data.{doing, is_calling};
+ghost use Rattle.octo_session.specs.declared.found.Doing.TheVariants as now_doing;
+ghost use Rattle.octo_session.specs.Turn.{fact_of, IsTurn, IsTurnByNote};
+ghost use Rattle.octo_house_tables.specs.Kept.{KeepsRows};
 ghost use Rattle.octo_outside.specs.Recorded.{Counts};
 ghost use Rattle.std.specs.Option.{option_or};
-ghost use Rattle.house_tables.specs.Data.{due_of, is_unwritten_by_fault};
+ghost use Rattle.octo_house_tables.specs.Data.{due_of, is_unwritten_by_fault};
 ghost use Rattle.octo_house.specs.Turned.{Turns, known_temps};
 
 use super::House;
-use desk_steps::Note;
-use house_rows::temps_after;
-use job_desk::Desk;
+use job_desk::Note;
 use marlin_reply::Temps;
+use octo_house_tables::temps_after;
 use octo_keeper::Keeper;
 use octo_session::Turned;
 use printer_link::Link;
-
-// While a print goes on it is active: stated for proofs.
-fn is_active(desk: &Desk)
-    ensures { IsActive desk.now }
-{
-    desk.state();
-}
 
 // The temperatures that are known after a turn with this note, or without one.
 fn temps_after_turn(note: &Option<Note>, kept: Temps) -> Temps
@@ -70,7 +61,6 @@ impl House {
         ensures unwritten { Counts (is_unwritten_by_fault self.new.tables.unwritten ≡ true)
             (K.faults keeper.old) (K.faults keeper.new) }
     {
-        is_active(self.desk.session.desk());
         let turned = self.desk.session.turn(link, moment);
         self.desk.temps = temps_after_turn(&turned.note, self.desk.temps);
         self.tables.note_end(keeper, turned.ending);

@@ -1,34 +1,33 @@
 //! Uploads: a file is stored, and as it is asked selected and printed.
 ghost use Rattle.std.specs.Prelude.{◌≡◌, ◌≤◌, ℕ, List, true, false, [], ◌∷◌, length, is_none, option_map, OnOk, OnErr, MatchResult};
-ghost use Rattle.desk_steps.specs.Run.{Start};
+ghost use Rattle.job_desk.specs.Run.{Start};
 ghost use Rattle.gcode_lines.specs.Job.{most_bytes};
 ghost use Rattle.octo_keeper.specs.Files.{with_file};
 ghost use Rattle.octo_asks.specs.declared.answer.Answer.TheVariants as answer;
-ghost use Rattle.house_verdicts.specs.Known.{next_print_number, shown_count};
+ghost use Rattle.octo_house_rules.specs.Known.{next_print_number, shown_count};
 ghost use Rattle.temp_rules.specs.Hot.{first_hot_of};
-ghost use Rattle.house_verdicts.specs.Prints.{has_room, start_deed};
-ghost use Rattle.desk_steps.specs.Data.{named_file};
-ghost use Rattle.house_verdicts.specs.Uploads.{put_file_verdict, has_file_room, is_selected, is_printed};
-ghost use Rattle.house_verdicts.specs.Verdict.{begins, is_fault};
+ghost use Rattle.octo_house_rules.specs.Prints.{has_room, start_deed};
+ghost use Rattle.job_desk.specs.Data.{named_file};
+ghost use Rattle.octo_house_rules.specs.Uploads.{put_file_verdict, has_file_room, is_selected, is_printed};
+ghost use Rattle.octo_house_rules.specs.Verdict.{begins, is_fault};
 ghost use Rattle.octo_house.specs.Answered.{Answers, Shelves, AskDone, KeeperDone};
 ghost use Rattle.octo_outside.specs.Recorded.{Counts};
-ghost use Rattle.house_rows.specs.Reading.{is_keepers_fault, is_shelfs_fault};
+ghost use Rattle.octo_house_tables.specs.Reading.{is_keepers_fault, is_shelfs_fault};
 ghost use Rattle.octo_house.specs.State.{AreRowsLeft, IsListed, known_of};
 ghost use Rattle.octo_house.specs.Storing.{IsStored, IsNotStored, IsStartable, cause_of};
 
 use super::House;
 use byte_text::Name;
-use desk_steps::{Limits, State};
 use gcode_lines::{Job, read_commands};
-use house_rows::{
-    add_name, answer_of_refusal, answer_of_shelf_fault, bad_file, may_select, reserve_name,
-};
+use job_desk::{Limits, State};
 use octo_access::{Permission, UserRow};
 use octo_asks::{Answer, StoredCause};
+use octo_house_tables::{
+    add_name, answer_of_refusal, answer_of_shelf_fault, bad_file, may_select, reserve_name,
+};
 use octo_keeper::{Keeper, KeeperFault, Shelf};
 use temp_rules::first_hot;
 
-// The most files.
 const MOST_FILES: usize = 1_000;
 
 // What an upload asks for beside storing, or may have of it.

@@ -1,16 +1,15 @@
 //! The calls of the desk, which a session hands on: they change the desk alone.
 ghost use Rattle.std.specs.Prelude.{◌≡◌, ◌<◌, Ok, Err, MatchResult, All};
 ghost use Rattle.byte_text.specs.Sendable.{IsSendable};
-ghost use Rattle.desk_steps.specs.Table.{cancel_at, connect_at, disconnect_at, drop_file_step, manual_at, pause_at, restart_at, resume_at, select_at, start_at, toggle_at};
-ghost use Rattle.desk_steps.specs.Data.{named_file};
+ghost use Rattle.job_desk.specs.Table.{cancel_at, connect_at, disconnect_at, drop_file_step, manual_at, pause_at, restart_at, resume_at, select_at, start_at, toggle_at};
+ghost use Rattle.job_desk.specs.Data.{named_file};
 ghost use Rattle.job_desk.specs.Views.{bytes_of};
-ghost use Rattle.session_steps.specs.Data.{IsSession};
+ghost use Rattle.octo_session.specs.Data.{IsSession};
 
 use super::Session;
 use byte_text::{Name, Text};
-use desk_steps::Refusal;
 use gcode_lines::Job;
-use job_desk::NotSelected;
+use job_desk::{NotSelected, Refusal};
 
 impl Session {
     /// Begins to connect to a port. Refused as WrongState except in Offline and Fault.

@@ -1,26 +1,26 @@
 //! The kinds of turn: it dials, hangs up, or receives and then sends.
 ghost use Rattle.std.specs.Prelude.{◌≡◌, ◌≢◌, ◌↔◌, ◌≤◌, ℕ, [], ◌∷◌, map, true, false, None, OnOk, OnErr, IsErrOf};
 ghost use Rattle.octo_outside.specs.Recorded.{Counts};
-ghost use Rattle.desk_steps.specs.Issued.{line_of};
-ghost use Rattle.desk_steps.specs.declared.link_fact.LinkFact.TheVariants as fact;
+ghost use Rattle.job_desk.specs.Issued.{line_of};
+ghost use Rattle.job_desk.specs.declared.link_fact.LinkFact.TheVariants as fact;
 ghost use Rattle.printer_link.specs.Link.{HasSlots, Grows, IsDial, IsNothing, IsRuns, RoseBy, counted_one, dial_events};
 ghost use Rattle.printer_link.specs.declared.link.LinkFault.TheVariants as fault;
 ghost use Rattle.send_window.specs.Data.{sender_after_dial};
-ghost use Rattle.session_steps.specs.Data.{IsSession, doing, is_calling, port_of};
-ghost use Rattle.session_steps.specs.DeskTurn.{IsNoted};
-ghost use Rattle.session_steps.specs.Found.{got_of, up_after, can_find, unasked};
-ghost use Rattle.session_steps.specs.Steps.{Takes, TakesSome, hangs_up, dial_steps, steps_over_link, turn_steps};
+ghost use Rattle.octo_session.specs.Data.{IsSession, doing, is_calling, port_of};
+ghost use Rattle.octo_session.specs.DeskTurn.{IsNoted};
+ghost use Rattle.octo_session.specs.Found.{got_of, up_after, can_find, unasked};
+ghost use Rattle.octo_session.specs.Steps.{Takes, TakesSome, hangs_up, dial_steps, steps_over_link, turn_steps};
 ghost use Rattle.octo_session.specs.FoundBy.{IsFoundBy};
-ghost use Rattle.session_steps.specs.Turn.{texts_in, IsDeskTurn, IsSpent};
-ghost use Rattle.session_steps.specs.declared.found.Doing.TheVariants as now_doing;
-ghost use Rattle.session_steps.specs.declared.found.Received.TheVariants as received;
+ghost use Rattle.octo_session.specs.Turn.{texts_in, IsDeskTurn, IsSpent};
+ghost use Rattle.octo_session.specs.declared.found.Doing.TheVariants as now_doing;
+ghost use Rattle.octo_session.specs.declared.found.Received.TheVariants as received;
 
 use super::Session;
 use crate::open_turn::{note_failure, receive_then_send};
+use crate::{Doing, Found, Received};
 use byte_text::ReplyLine;
 use job_desk::{Desk, LinkFact, State};
 use printer_link::{Link, LinkFault};
-use session_steps::{Doing, Found, Received};
 
 // Dials the port of the desk.
 fn dial_port<L: Link>(desk: &Desk, link: &mut L) -> Result<(), LinkFault>

@@ -1,10 +1,10 @@
 //! Files, fates and summaries of demos.
 ghost use Rattle.std.specs.Prelude.{◌≤◌};
-ghost use Rattle.demo_print.specs.declared.file.TheConstants.{MOST_COMMANDS};
+ghost use Rattle.octo_session_demo.specs.declared.file.TheConstants.{MOST_COMMANDS};
 
-use demo_print::{DemoCounts, Draws, demo_file, demo_job, demo_schedule, run_demo, summary};
+use octo_session_demo::{DemoCounts, Draws, demo_file, demo_job, demo_schedule, run_demo, summary};
+use octo_session_print::PrintEnd;
 use printer_link::Fate;
-use session_print::PrintEnd;
 use std::alloc::Global;
 use std::process::Abort;
 use std::test::Fail;

@@ -1,9 +1,9 @@
 //! A print of a file, and its report.
 use super::makers::{SOUND, link_of};
 use byte_text::Name;
+use octo_commands_print::print_file;
+use octo_files::{Report, write_report};
 use octo_outside::{CallList, MemoryClock, MemorySink, MemorySource};
-use octo_print::print_file;
-use octo_report::{Report, write_report};
 use std::alloc::Global;
 use std::process::Abort;
 use std::test::Fail;

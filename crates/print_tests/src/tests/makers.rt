@@ -1,12 +1,11 @@
 //! The links, scripts and sessions with which the tests begin, and what a printer ran.
 ghost use Rattle.std.specs.Prelude.{◌≡◌, ◌≤◌, false, IfOk};
 ghost use Rattle.printer_link.specs.Memory.{link_world};
-ghost use Rattle.session_print.specs.Ends.{IsNew};
+ghost use Rattle.octo_session_print.specs.Ends.{IsNew};
 
 use byte_text::Name;
-use desk_steps::{Limits, Point};
 use gcode_lines::one_command;
-use job_desk::{Desk, Scripts};
+use job_desk::{Desk, Limits, Point, Scripts};
 use octo_outside::{CallList, NameList, calls_of};
 use octo_session::Session;
 use printer_link::{Fate, FateList, MemoryLink, Schedule};
@@ -20,7 +19,7 @@ use std::test::Fail;
 pub(super) struct Wire {
     // Whether port p is listed.
     pub(super) listed: bool,
-    pub(super) advanced: bool,
+    pub(super) numbered: bool,
     pub(super) fates: &'static [Fate],
     pub(super) slow: u32,
     pub(super) fails_at: Option<u64>,
@@ -30,7 +29,7 @@ pub(super) struct Wire {
 // A wire without faults.
 pub(super) const SOUND: Wire = Wire {
     listed: true,
-    advanced: false,
+    numbered: false,
     fates: &[],
     slow: 0,
     fails_at: None,
@@ -61,8 +60,8 @@ pub(super) fn link_of(alloc: Global, wire: &Wire) -> Result<MemoryLink, Fail>
     let schedule = Schedule {
         names: ports(alloc, wire.listed)?,
         last: 4,
-        places: 4,
-        advanced: wire.advanced,
+        slots: 4,
+        numbered: wire.numbered,
         fates: FateList::from_items(Vec::from_slice(alloc, wire.fates)?),
         slow: wire.slow,
         fail_at: calls(alloc, wire.fails_at)?,

@@ -1,7 +1,7 @@
 //! Whole prints.
 ghost use Rattle.std.specs.Prelude.{◌≡◌, false};
 ghost use Rattle.printer_link.specs.Memory.{link_world};
-ghost use Rattle.session_print.specs.Ends.{IsNew};
+ghost use Rattle.octo_session_print.specs.Ends.{IsNew};
 
 mod ends;
 mod scripts;
@@ -12,8 +12,8 @@ use gcode_lines::read_commands;
 use job_desk::Scripts;
 use octo_outside::MemoryClock;
 use octo_session::{Session, SessionEnd};
+use octo_session_print::{PrintEnd, run_print};
 use printer_link::{Fate, MemoryLink};
-use session_print::{PrintEnd, run_print};
 use std::alloc::Global;
 use std::process::Abort;
 use std::test::Fail;
@@ -218,7 +218,7 @@ fn numbered(rt: HostRuntime) -> Result<(), Fail> {
     let asked = Asked {
         file: "G1 X1\nG1 X1\nG1 X1\nG1 X1\nG1 X1\n",
         wire: Wire {
-            advanced: true,
+            numbered: true,
             fates: &[W, L, G, L, W],
             ..SOUND
         },

@@ -5,8 +5,8 @@ mod failing;
 
 use super::makers::{SOUND, Wire, check_first, link_of, plain_session, scripts_of};
 use byte_text::Name;
-use desk_steps::{Outcome, Point, State};
 use gcode_lines::read_commands;
+use job_desk::{Outcome, Point, State};
 use octo_session::{Ending, Issued, LinkFact, Note, Session, Turned};
 use printer_link::MemoryLink;
 use std::alloc::Global;

@@ -53,8 +53,8 @@ impl MemoryLink {
     // Whether a name is listed.
     pub(super) fn lists(&self, name: &str) -> bool
         ensures lists { result ≡ lists_name self.now.names name.now }
-        ensures some { 1 ≤ self.now.story.places }
-        ensures few { self.now.story.places ≤ 16 }
+        ensures some { 1 ≤ self.now.story.slots }
+        ensures few { self.now.story.slots ≤ 16 }
     {
         self.names
             .as_slice()

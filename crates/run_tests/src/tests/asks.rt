@@ -1,10 +1,10 @@
 //! Lists of asks.
 use byte_text::Name;
-use host_makers::ROOT;
 use octo_asks::{Ask, AskList, Request};
 use octo_outside::Blob;
 use std::alloc::Global;
 use std::process::Abort;
+use test_makers::ROOT;
 
 fn push(
     rt: &impl Abort,

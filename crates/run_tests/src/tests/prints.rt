@@ -1,8 +1,8 @@
 //! Runs in which a file is printed.
 use super::*;
-use desk_steps::{LinkFact, State};
+use job_desk::{LinkFact, State};
 use octo_keeper::KeeperFault;
-use print_records::Outcome;
+use print_queue::Outcome;
 use std::alloc::Global;
 use std::process::Abort;
 use std::sync::Wait;

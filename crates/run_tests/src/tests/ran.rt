@@ -3,17 +3,17 @@ ghost use Rattle.std.specs.Prelude.{◌≡◌};
 ghost use Rattle.octo_asks.specs.Memory.{new_counter};
 
 use super::seen::{Seen, SeenEntry, entry_of};
-use host_makers::{house_of, keeper_of, kept_outcome, link_at, no_rows, shelf_of};
-use house_run::run;
 use octo_asks::{AskList, Entry, MemoryCounter};
 use octo_house::House;
+use octo_house_run::run;
 use octo_keeper::{KeeperFault, MemoryKeeper, MemoryShelf};
 use octo_outside::MemoryClock;
-use print_records::Outcome;
+use print_queue::Outcome;
 use printer_link::{FateList, MemoryLink};
 use std::alloc::Global;
 use std::process::Abort;
 use std::sync::Wait;
+use test_makers::{house_of, keeper_of, kept_outcome, link_at, no_rows, shelf_of};
 
 fn counter_of(rt: &impl Abort, alloc: Global, asks: AskList) -> MemoryCounter
     ensures { result ≡ new_counter asks }

@@ -1,5 +1,5 @@
 //! What a test sees of a history.
-use desk_steps::{LinkFact, State};
+use job_desk::{LinkFact, State};
 use octo_asks::{Answer, Entry};
 
 // An answer by its plain values, if a test compares it.

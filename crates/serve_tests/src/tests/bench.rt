@@ -1,14 +1,13 @@
 //! A host with all that it serves with but its doors.
 ghost use Rattle.octo_house.specs.State.{session_of};
-ghost use Rattle.house_run.specs.Runs.{IsFresh};
+ghost use Rattle.octo_house_run.specs.Runs.{IsFresh};
 
 use super::real_rests::RealRests;
-use host_makers::{ROOT, house_of, keeper_of, link_at, no_rows, shelf_of};
 use octo_asks::{Ask, Request};
-use octo_doors::{Door, Doors};
 use octo_house::House;
 use octo_keeper::{MemoryKeeper, MemoryShelf};
 use octo_outside::Blob;
+use octo_outside_doors::{Door, Doors};
 use octo_serve::serve;
 use printer_link::{Fate, FateList, MemoryLink};
 use std::alloc::Global;
@@ -16,6 +15,7 @@ use std::process::Abort;
 use std::sync::Wait;
 use std::thread::Threads;
 use std::time::Clock;
+use test_makers::{ROOT, house_of, keeper_of, link_at, no_rows, shelf_of};
 
 // The quiet reads for which a worker waits.
 const PATIENCE: u32 = 10_000;
@@ -68,7 +68,7 @@ impl Bench {
     {
         let key = Blob::from_slice(self.alloc, ROOT).expect(rt, "no memory");
         self.house
-            .ask(&mut self.keeper, &mut self.shelf, Ask { key, request }, 0);
+            .ask(&mut self.keeper, &mut self.shelf, Ask { key, request });
     }
 
     // Serves at these doors; returns the number of calls, and whether no door failed.

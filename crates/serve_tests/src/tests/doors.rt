@@ -1,6 +1,6 @@
 //! Doors in memory, and what was replied at them.
-use octo_doors::{Doors, MemoryDoor};
-use octo_serve::GateDoor;
+use super::gate_door::GateDoor;
+use octo_outside_doors::{Doors, MemoryDoor};
 use std::alloc::Global;
 use std::process::Abort;
 
@@ -33,10 +33,12 @@ pub(super) fn has_status(reply: &[u8], wanted: &str) -> bool {
 // Whether this number of connections was given back, each with a reply of status 200.
 pub(super) fn has_served(door: &MemoryDoor, count: usize) -> bool {
     let conns = door.served().unwrap_or(&[]);
+    for conn in conns {
+        if !has_status(conn.written().unwrap_or(b""), "200") {
+            return false;
+        }
+    }
     conns.len() == count
-        && conns
-            .iter()
-            .all(|conn| has_status(conn.written().unwrap_or(b""), "200"))
 }
 
 // The reply to the connection at this place, counted from 0.

@@ -1,12 +1,12 @@
 //! Workers at work at once, and how a host ends.
 use super::*;
-use host_makers::door_of;
-use octo_doors::{Door, Doors, MemoryDoor};
+use octo_outside_doors::{Door, Doors, MemoryDoor};
 use std::alloc::Global;
 use std::process::Abort;
 use std::sync::Wait;
 use std::thread::Threads;
 use std::time::Clock;
+use test_makers::door_of;
 
 // Serves at these doors with a host whose link loses no line; returns the number of calls, and whether no door failed.
 fn serve_at<R: Threads + Wait + Abort + Clock + Copy + Send + Sync + Drop, D: Door + Send + Drop>(

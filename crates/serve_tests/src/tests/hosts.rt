@@ -2,16 +2,16 @@
 ghost use Rattle.std.specs.Prelude.{◌≡◌, false};
 ghost use Rattle.printer_link.specs.Memory.{link_world};
 
-use host_makers::{calls, door_of, keeper_of, link_at, no_rows, shelf_of};
-use octo_doors::{Doors, MemoryDoor};
-use octo_host::{HostEnd, Opened, host, write_host_report};
-use octo_keeper::{KeeperFault, MemoryKeeper, MemoryShelf};
+use octo_keeper::{Keeper, KeeperFault, MemoryKeeper, MemoryShelf};
 use octo_outside::{CallList, MemoryClock, MemorySink, MemorySource};
+use octo_outside_doors::{Doors, MemoryDoor};
+use octo_serve_command::{HostEnd, Opened, host, write_host_report};
 use printer_link::{FateList, MemoryLink};
 use std::alloc::Global;
 use std::process::Abort;
 use std::sync::Wait;
 use std::thread::Threads;
+use test_makers::{calls, door_of, keeper_of, link_at, no_rows, shelf_of};
 
 // The admin's key is rootxkeyx0000000.
 const SETTINGS: &[u8] =
@@ -217,19 +217,27 @@ fn a_door_that_fails(rt: HostRuntime) {
     assert_row(&rt, rt.alloc(), &later);
 }
 
+// Why the tables of a keeper aren't loaded.
+fn load_fault<K: Keeper>(alloc: Global, keeper: &mut K) -> Option<KeeperFault> {
+    match keeper.load(alloc) {
+        Ok(_) => None,
+        Err(fault) => Some(fault),
+    }
+}
+
 // A keeper that wasn't opened returns the fault of its opening, and one that was its tables.
 #[test]
 fn opened_keepers(rt: HostRuntime) {
     let alloc = rt.alloc();
     for fault in [KeeperFault::Failed, KeeperFault::NoMemory] {
         let mut unopened: Opened<MemoryKeeper> = Opened::new(Err(fault));
-        assert!(rt; octo_keeper::Keeper::load(&mut unopened, alloc).is_err_and(|f| f == fault));
+        assert!(rt; load_fault(alloc, &mut unopened) == Some(fault));
         assert!(rt; unopened.into_keeper().is_err());
     }
     let mut opened = Opened::new(Ok(keeper_of(alloc, no_rows(alloc), &[]).expect(
         &rt,
         "no memory",
     )));
-    assert!(rt; octo_keeper::Keeper::load(&mut opened, alloc).is_ok());
+    assert!(rt; load_fault(alloc, &mut opened).is_none());
     assert!(rt; opened.into_keeper().is_ok());
 }

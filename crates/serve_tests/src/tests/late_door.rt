@@ -1,13 +1,13 @@
 //! A door that waits for another.
-use host_makers::door_of;
-use octo_doors::{Door, Knock, MemoryDoor};
 use octo_outside::{Failed, MemoryConn};
+use octo_outside_doors::{Door, Knock, MemoryDoor};
 use std::alloc::Global;
 use std::process::Abort;
 use std::sync::Arc;
 use std::sync::atomic::{AtomicBool, Ordering};
 use std::thread;
 use std::time::{Clock, Duration};
+use test_makers::door_of;
 
 // A door in memory that may wait, for at most ten seconds, until another one has given back a number of connections.
 #[derive(Drop)]

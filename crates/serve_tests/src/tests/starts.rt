@@ -1,13 +1,13 @@
 //! Two workers ask at once to start a print.
 ghost use Rattle.octo_house.specs.State.{session_of};
-ghost use Rattle.house_run.specs.Runs.{IsFresh};
+ghost use Rattle.octo_house_run.specs.Runs.{IsFresh};
 
 use super::late_door::{LateDoor, gate};
 use super::*;
 use byte_text::Name;
 use octo_asks::Request;
-use octo_doors::Doors;
 use octo_outside::Blob;
+use octo_outside_doors::Doors;
 use std::alloc::Global;
 use std::process::Abort;
 

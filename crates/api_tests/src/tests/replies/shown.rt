@@ -5,7 +5,7 @@ use octo_asks::{
     Progress, ShownFile, ShownFileList, ShownPrint, ShownPrintList, ShownUser, ShownUserList,
 };
 use octo_outside::NameList;
-use print_records::Outcome;
+use print_queue::Outcome;
 
 #[test]
 fn version(rt: HostRuntime) -> Result<(), Fail> {

@@ -1,10 +1,9 @@
 //! Replies as a client reads them, to the byte.
 use super::*;
 use crate::tests::conn_of;
-use api_direct::Direct;
-use api_replies::{direct_bytes, fault_bytes};
-use http_grammar::MessageFault;
-use octo_http::{HttpReply, write_reply};
+use octo_api_replies::{direct_bytes, fault_bytes};
+use octo_api_routes::Direct;
+use octo_http::{HttpReply, MessageFault, write_reply};
 
 // Whether a reply puts these bytes on a connection.
 fn is_written(alloc: Global, reply: &HttpReply, bytes: &str) -> Result<bool, AllocError> {

@@ -57,7 +57,6 @@ fn put(alloc: Global, body: &str) -> Result<Result<Ask, Direct>, Fail> {
 // Of a user's key, groups and activity: whether the first two change, and how the last does.
 type Changes = (bool, bool, Option<bool>);
 
-// The changes that are asked for.
 fn asked_changes(request: &Request) -> Option<Changes> {
     match request {
         Request::ChangeUser {

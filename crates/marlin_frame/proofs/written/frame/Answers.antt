@@ -2,8 +2,8 @@ use Rattle.std.proofs.Common.{◌≡◌, ◌<◌, ◌^◌, ◌++◌, [], ◌∷�
 use Rattle.std.proofs.lemmas.Fmt.{length-decimal-le}
 use Rattle.byte_text.specs.Marks.{has_byte}
 use Rattle.byte_text.specs.Xor.{xor_of}
-use Rattle.marlin_frame.specs.Frame.{frame_of, begins_with_n, fails, lead_of, IsNumberedLine}
-use Rattle.marlin_frame.proofs.FrameLaws.{sum_of, begins_with_n-frame, fails-frame, lead_of-frame, no_line_feed-frame, numbered_line}
+use Rattle.marlin_frame.specs.Frame.{frame_of, begins_with_n, fails, n_parameter_of, IsNumberedLine}
+use Rattle.marlin_frame.proofs.FrameLaws.{sum_of, begins_with_n-frame, fails-frame, n_parameter_of-frame, no_line_feed-frame, numbered_line}
 use Rattle.marlin_frame.proofs.written.frame.Goals as goal
 
 pub append_decimal-requires : goal.append_decimal-requires
@@ -35,8 +35,8 @@ returns-clause-numbered c = ap begins_with_n (returns-clause-written c) ∙ begi
 pub returns-clause-whole : goal.returns-clause-whole
 returns-clause-whole c = ap fails (returns-clause-written c) ∙ fails-frame c.args.n c.args.text.now (sum_fits c)
 
-pub returns-clause-lead : goal.returns-clause-lead
-returns-clause-lead c = ap lead_of (returns-clause-written c) ∙ lead_of-frame c.args.n c.args.text.now (omega arith)
+pub returns-clause-n_parameter : goal.returns-clause-n_parameter
+returns-clause-n_parameter c = ap n_parameter_of (returns-clause-written c) ∙ n_parameter_of-frame c.args.n c.args.text.now (omega arith)
 
 pub returns-clause-reads_back : goal.returns-clause-reads_back
 returns-clause-reads_back c none =

@@ -9,7 +9,7 @@ loop-preserved g c =
     record {
       follows = λ input first going. c.in-On.ensures.follows input first (i.follows input first going);
       used = used_more c.loop.counter _ _ _ _ _ _ e.quiets_counted i.used (c.in-On.ensures.used refl);
-      places = c.in-On.ensures.places (inl refl) ∙ i.places;
+      slots = c.in-On.ensures.slots (inl refl) ∙ i.slots;
       quiets_counted = omega (arith, i.quiets_counted, e.quiets_counted);
       conn_counted = omega (arith, i.conn_counted, e.conn.later);
       sink_counted = omega (arith, i.sink_counted, e.sink.later);

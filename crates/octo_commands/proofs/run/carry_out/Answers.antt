@@ -1,5 +1,5 @@
 use Rattle.std.proofs.Common.{subst, sym, refl}
-use Rattle.octo_print.specs.Printing.{seen_of}
+use Rattle.octo_commands_print.specs.Printing.{seen_of}
 use Rattle.octo_commands.specs.Commands.{Reports}
 use Rattle.octo_commands.proofs.Recorded.{print_recorded}
 use Rattle.octo_commands.proofs.run.carry_out.Goals as goal

@@ -1,9 +1,9 @@
 use Rattle.std.proofs.Common.{◌≡◌, ◌⊎◌, refl, inl, inr, ◌∙◌, ap}
 use Rattle.octo_outside.proofs.Recorded.{steady_not_rose}
-use Rattle.octo_report.specs.Status.{code_of}
+use Rattle.octo_files.specs.Status.{code_of}
 use Rattle.octo_serve.specs.Around.{link_state, keeper_state, shelf_state, door_state}
-use Rattle.octo_host.specs.Hosting.{around}
-use Rattle.octo_host.specs.Reports.{host_code}
+use Rattle.octo_serve_command.specs.Hosting.{around}
+use Rattle.octo_serve_command.specs.Reports.{host_code}
 use Rattle.octo_commands.proofs.Printed.{EndsPrinted, comes_printed}
 use Rattle.octo_commands.proofs.run.octo.Goals as goal
 

@@ -1,6 +1,6 @@
 use Rattle.std.proofs.Common.{◌≡◌, refl, sym, ap, true, false}
-use Rattle.octo_host.specs.declared.hosting.HostEnd.{HostEnd}
-use Rattle.octo_report.specs.declared.report.Report.TheVariants as report
+use Rattle.octo_serve_command.specs.declared.hosting.HostEnd.{HostEnd}
+use Rattle.octo_files.specs.declared.report.Report.TheVariants as report
 use Rattle.octo_commands.specs.Commands.{carried_out, hosted}
 use Rattle.octo_commands.proofs.Refusals.{other_host}
 use Rattle.octo_commands.proofs.run.run.Goals as goal

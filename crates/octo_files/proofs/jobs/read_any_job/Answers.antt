@@ -4,8 +4,8 @@ use Rattle.gcode_lines.specs.declared.fault.FileFault.TheVariants.{TooLarge}
 use Rattle.octo_files.specs.Jobs.{any_job_in}
 use Rattle.octo_files.proofs.Gives.{over_gives}
 use Rattle.octo_files.proofs.TooLarge.{no_job}
-use Rattle.octo_report.specs.declared.report.Report.{Report}
-use Rattle.octo_report.specs.declared.report.Report.TheVariants as report
+use Rattle.octo_files.specs.declared.report.Report.{Report}
+use Rattle.octo_files.specs.declared.report.Report.TheVariants as report
 use Rattle.octo_files.proofs.jobs.read_any_job.Goals as goal
 
 pub returns-in-Err-TooLong-clause-exact : goal.returns-in-Err-TooLong-clause-exact

@@ -2,8 +2,8 @@ use Rattle.std.proofs.Common.{◌≡◌, inr, refl, ℕ, List, Result, Err}
 use Rattle.octo_files.specs.Settings.{AreSettings}
 use Rattle.octo_files.proofs.Gives.{over_gives}
 use Rattle.octo_files.proofs.TooLarge.{no_settings}
-use Rattle.octo_report.specs.declared.report.Report.{Report}
-use Rattle.octo_report.specs.declared.report.Report.TheVariants as report
+use Rattle.octo_files.specs.declared.report.Report.{Report}
+use Rattle.octo_files.specs.declared.report.Report.TheVariants as report
 use Rattle.octo_settings.specs.Config.{most_config_bytes}
 use Rattle.octo_settings.specs.declared.fault.SettingsFault.TheVariants.{NotToml}
 use Rattle.octo_settings.specs.declared.settings.Settings.{Settings}

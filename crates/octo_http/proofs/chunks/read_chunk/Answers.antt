@@ -1,5 +1,5 @@
 use Rattle.std.proofs.Common.{ℕ, arith, subst}
-use Rattle.http_grammar.specs.Part.{IsChunkHead}
+use Rattle.octo_http.specs.Part.{IsChunkHead}
 use Rattle.octo_http.proofs.Filling.{on_exit}
 use Rattle.octo_http.proofs.ChunkLemmas.{stops_line, stops_trailers, stops_large, stops_short, stops_end, adds_last, adds_chunk, fits_by}
 use Rattle.octo_http.proofs.chunks.read_chunk.Goals as goal

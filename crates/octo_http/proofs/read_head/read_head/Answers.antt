@@ -1,5 +1,5 @@
 use Rattle.std.proofs.Common.{rules}
-use Rattle.http_grammar.specs.Head.{HeadFault}
+use Rattle.octo_http.specs.Head.{HeadFault}
 use Rattle.octo_http.proofs.Filling.{on_exit}
 use Rattle.octo_http.proofs.Reading.{stops_refused, stops_lacking, took_on, knows_on}
 use Rattle.octo_http.proofs.HeadLemmas.{took_head}

@@ -1,5 +1,5 @@
 use Rattle.std.proofs.Common.{rules}
-use Rattle.http_grammar.specs.Part.{PartFault, most_of}
+use Rattle.octo_http.specs.Part.{PartFault, most_of}
 use Rattle.octo_http.proofs.Filling.{on_exit}
 use Rattle.octo_http.proofs.Reading.{stops_refused, stops_lacking, took_on, knows_on}
 use Rattle.octo_http.proofs.PartLemmas.{took_part}

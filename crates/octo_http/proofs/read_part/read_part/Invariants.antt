@@ -1,6 +1,6 @@
 use Rattle.std.proofs.Common.{◌≡◌, ◌+◌, ◌-◌, [], length}
 use Rattle.octo_http.specs.Input.{Took, Knows, Waits}
-use Rattle.http_grammar.specs.Part.{most_of}
+use Rattle.octo_http.specs.Part.{most_of}
 use Rattle.octo_http.proofs.Reading.{weight}
 use Rattle.octo_http.proofs.read_part.read_part.Given as goal
 

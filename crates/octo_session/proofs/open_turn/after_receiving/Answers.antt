@@ -1,9 +1,9 @@
 use Rattle.std.proofs.Common.{refl, sym, ap, ◌∙◌}
-use Rattle.desk_steps.specs.declared.link_fact.LinkFact.TheVariants as fact
+use Rattle.job_desk.specs.declared.link_fact.LinkFact.TheVariants as fact
 use Rattle.send_window.specs.Data.{SenderData}
-use Rattle.session_steps.proofs.Counts.{noted_issued, noted_acked}
-use Rattle.session_steps.proofs.Desk.{noted_once, answer_none, ended_down}
-use Rattle.session_steps.proofs.Keeping.{ticked_keeps, ready_unsent}
+use Rattle.octo_session.proofs.Counts.{noted_issued, noted_acked}
+use Rattle.octo_session.proofs.Desk.{noted_once, answer_none, ended_down}
+use Rattle.octo_session.proofs.Keeping.{ticked_keeps, ready_unsent}
 use Rattle.octo_session.proofs.open_turn.after_receiving.Goals as goal
 
 pub returns-in-Err-clause-noted : goal.returns-in-Err-clause-noted

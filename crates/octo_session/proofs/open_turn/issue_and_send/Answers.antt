@@ -1,11 +1,11 @@
 use Rattle.std.proofs.Common.{true, false, map, refl, sym, ◌∙◌, arith}
-use Rattle.desk_steps.specs.Issued.{line_of}
-use Rattle.desk_steps.specs.declared.link_fact.LinkFact.TheVariants as fact
-use Rattle.session_steps.specs.Turn.{texts_in}
-use Rattle.session_steps.proofs.Counts.{noted_issued, noted_acked}
-use Rattle.session_steps.proofs.Desk.{noted_quiet, noted_failed}
-use Rattle.session_steps.proofs.Keeping.{said, spent_after}
-use Rattle.session_steps.proofs.Stepping.{takes_said}
+use Rattle.job_desk.specs.Issued.{line_of}
+use Rattle.job_desk.specs.declared.link_fact.LinkFact.TheVariants as fact
+use Rattle.octo_session.specs.Turn.{texts_in}
+use Rattle.octo_session.proofs.Counts.{noted_issued, noted_acked}
+use Rattle.octo_session.proofs.Desk.{noted_quiet, noted_failed}
+use Rattle.octo_session.proofs.Keeping.{said, spent_after}
+use Rattle.octo_session.proofs.Stepping.{takes_said}
 use Rattle.octo_session.proofs.open_turn.issue_and_send.Goals as goal
 
 pub returns-then-send_all-clause-noted : goal.returns-then-send_all-clause-noted

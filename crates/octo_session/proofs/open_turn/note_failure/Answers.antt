@@ -1,6 +1,6 @@
 use Rattle.std.proofs.Common.{refl, ◌∙◌}
-use Rattle.desk_steps.specs.declared.link_fact.LinkFact.TheVariants as fact
-use Rattle.session_steps.proofs.Counts.{noted_issued}
+use Rattle.job_desk.specs.declared.link_fact.LinkFact.TheVariants as fact
+use Rattle.octo_session.proofs.Counts.{noted_issued}
 use Rattle.octo_session.proofs.open_turn.note_failure.Goals as goal
 
 pub returns-clause-counts_issued : goal.returns-clause-counts_issued

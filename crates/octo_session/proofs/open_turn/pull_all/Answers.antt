@@ -1,12 +1,12 @@
 use Rattle.std.proofs.Common.{inr, ◌≡◌, ◌+◌, map, sym, ap, ◌∙◌, arith}
-use Rattle.desk_steps.specs.Data.{Data}
-use Rattle.desk_steps.specs.Pull.{next_number}
-use Rattle.desk_steps.specs.Issued.{line_of}
+use Rattle.job_desk.specs.Data.{Data}
+use Rattle.job_desk.specs.Pull.{next_number}
+use Rattle.job_desk.specs.Issued.{line_of}
 use Rattle.send_window.specs.Data.{SenderData}
 use Rattle.send_window.specs.Sending.{room_of, push_step}
-use Rattle.session_steps.proofs.Counts.{counted_pull, pull_some}
-use Rattle.session_steps.proofs.Desk.{pull_again, pull_settles, pulled_by, pulls_next, issuing_next}
-use Rattle.session_steps.proofs.Keeping.{room_push}
+use Rattle.octo_session.proofs.Counts.{counted_pull, pull_some}
+use Rattle.octo_session.proofs.Desk.{pull_again, pull_settles, pulled_by, pulls_next, issuing_next}
+use Rattle.octo_session.proofs.Keeping.{room_push}
 use Rattle.octo_session.proofs.open_turn.pull_all.Goals as goal
 
 pub returns-then-not-pull_one-clause-spent : goal.returns-then-not-pull_one-clause-spent

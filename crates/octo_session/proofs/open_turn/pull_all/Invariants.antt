@@ -1,11 +1,11 @@
 use Rattle.std.proofs.Common.{◌≡◌, ◌+◌, length, map}
-use Rattle.desk_steps.specs.Pull.{settled}
-use Rattle.desk_steps.specs.Issued.{line_of}
+use Rattle.job_desk.specs.Pull.{settled}
+use Rattle.job_desk.specs.Issued.{line_of}
 use Rattle.send_window.specs.Data.{IsSound}
 use Rattle.send_window.specs.Sending.{room_of}
-use Rattle.session_steps.specs.DeskTurn.{Pulls}
-use Rattle.session_steps.specs.Steps.{Issues}
-use Rattle.session_steps.specs.Turn.{texts_in}
+use Rattle.octo_session.specs.DeskTurn.{Pulls}
+use Rattle.octo_session.specs.Steps.{Issues}
+use Rattle.octo_session.specs.Turn.{texts_in}
 use Rattle.octo_session.proofs.open_turn.pull_all.Given as goal
 
 abbrev pub invariant-loop : goal.invariant-loop

@@ -2,8 +2,8 @@ use Rattle.std.proofs.Common.{◌≡◌, refl, ap, ◌∙◌}
 use Rattle.marlin_reply.specs.Kind.{kind_of}
 use Rattle.marlin_reply.specs.declared.reply.Reply.{Reply}
 use Rattle.send_window.specs.Hearing.{hear_step}
-use Rattle.session_steps.specs.Steps.{hears, listens}
-use Rattle.session_steps.proofs.Stepping.{takes_both}
+use Rattle.octo_session.specs.Steps.{hears, listens}
+use Rattle.octo_session.proofs.Stepping.{takes_both}
 use Rattle.octo_session.proofs.open_turn.receive.Goals as goal
 
 pub returns-in-Ok-Line-clause-steps : goal.returns-in-Ok-Line-clause-steps

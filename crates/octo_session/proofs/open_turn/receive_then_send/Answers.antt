@@ -1,11 +1,11 @@
 use Rattle.std.proofs.Common.{◌≡◌, inr, true, map, sym, ap, subst, ◌∙◌}
 use Rattle.octo_outside.proofs.Recorded.{counts_then}
-use Rattle.desk_steps.specs.Issued.{line_of}
-use Rattle.session_steps.specs.Found.{Got, got_of, temps_in, temps_kept, is_got, end_by}
-use Rattle.session_steps.specs.Steps.{TakesSome, steps_over_link}
-use Rattle.session_steps.specs.Turn.{texts_in}
-use Rattle.session_steps.specs.declared.found.Received.{Received}
-use Rattle.session_steps.proofs.Stepping.{takes_talk, end_by_is, got_some, got_kept, none_said}
+use Rattle.job_desk.specs.Issued.{line_of}
+use Rattle.octo_session.specs.Found.{Got, got_of, temps_in, temps_kept, is_got, end_by}
+use Rattle.octo_session.specs.Steps.{TakesSome, steps_over_link}
+use Rattle.octo_session.specs.Turn.{texts_in}
+use Rattle.octo_session.specs.declared.found.Received.{Received}
+use Rattle.octo_session.proofs.Stepping.{takes_talk, end_by_is, got_some, got_kept, none_said}
 use Rattle.octo_session.proofs.open_turn.receive_then_send.Goals as goal
 
 pub returns-in_default : goal.returns-in_default

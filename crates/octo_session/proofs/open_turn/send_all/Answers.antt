@@ -1,5 +1,5 @@
 use Rattle.std.proofs.Common.{◌∙◌, arith}
-use Rattle.session_steps.proofs.Stepping.{takes_more, takes_last, takes_at}
+use Rattle.octo_session.proofs.Stepping.{takes_more, takes_last, takes_at}
 use Rattle.octo_session.proofs.open_turn.send_all.Goals as goal
 
 pub loop-preserved : goal.loop-preserved

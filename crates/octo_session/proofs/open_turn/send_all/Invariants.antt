@@ -1,6 +1,6 @@
 use Rattle.std.proofs.Common.{◌≡◌, ◌≤◌, true}
-use Rattle.session_steps.specs.Steps.{TakesSome, sends}
-use Rattle.session_steps.proofs.Keeping.{unsent}
+use Rattle.octo_session.specs.Steps.{TakesSome, sends}
+use Rattle.octo_session.proofs.Keeping.{unsent}
 use Rattle.octo_session.proofs.open_turn.send_all.Given as goal
 
 abbrev pub invariant-loop : goal.invariant-loop

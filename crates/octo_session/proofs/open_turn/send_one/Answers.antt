@@ -1,7 +1,7 @@
 use Rattle.std.proofs.Common.{sym, ◌∙◌}
 use Rattle.send_window.specs.Sending.{next_of}
-use Rattle.session_steps.specs.Steps.{gives}
-use Rattle.session_steps.proofs.Stepping.{takes_both, gives_written}
+use Rattle.octo_session.specs.Steps.{gives}
+use Rattle.octo_session.proofs.Stepping.{takes_both, gives_written}
 use Rattle.octo_session.proofs.open_turn.send_one.Goals as goal
 
 pub returns-in-Ok-clause-steps : goal.returns-in-Ok-clause-steps

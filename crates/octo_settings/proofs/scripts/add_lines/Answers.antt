@@ -1,6 +1,6 @@
 use Rattle.std.proofs.Common.{◌≡◌, ◌+◌, ◌≤◌, length, drop, ◌∙◌, inr, rules, arith}
 use Rattle.std.proofs.lemmas.Result.{err_from_is_err_and}
-use Rattle.desk_steps.specs.Data.{texts_at}
+use Rattle.job_desk.specs.Data.{texts_at}
 use Rattle.job_desk.specs.Scripts.{most_script_lines, with_text}
 use Rattle.octo_settings.proofs.Each.{drop-got}
 use Rattle.octo_settings.proofs.Lines.{lines-err, lines-ok, texts-more}

@@ -1,5 +1,5 @@
 use Rattle.std.proofs.Common.{◌≡◌, ◌+◌, ◌≤◌, length, drop}
-use Rattle.desk_steps.specs.Data.{texts_at}
+use Rattle.job_desk.specs.Data.{texts_at}
 use Rattle.job_desk.specs.Scripts.{most_script_lines}
 use Rattle.octo_settings.specs.Scripts.{with_lines}
 use Rattle.octo_settings.proofs.scripts.add_lines.Given as goal

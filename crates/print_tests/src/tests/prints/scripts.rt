@@ -1,6 +1,6 @@
 //! A print with a script at each of its points.
 use super::*;
-use desk_steps::Point;
+use job_desk::Point;
 
 // A script of one line at each point of a print.
 const SCRIPTS: [(Point, &str); 4] = [

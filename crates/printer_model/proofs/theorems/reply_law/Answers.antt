@@ -17,13 +17,13 @@ pub returns-clause-start : goal.returns-clause-start
 returns-clause-start c = kind_of-start_line
 
 pub returns-clause-temperatures : goal.returns-clause-temperatures
-returns-clause-temperatures c = λ advanced lead text free asks. ap kind_of (run_reply-temperatures advanced lead text free asks) ∙ kind_of-temperatures_line
+returns-clause-temperatures c = λ numbered n_parameter text free asks. ap kind_of (run_reply-temperatures numbered n_parameter text free asks) ∙ kind_of-temperatures_line
 
 pub returns-clause-plain : goal.returns-clause-plain
-returns-clause-plain c = λ lead text free other. ap kind_of (run_reply-plain lead text free other) ∙ kind_of-ok_line
+returns-clause-plain c = λ n_parameter text free other. ap kind_of (run_reply-plain n_parameter text free other) ∙ kind_of-ok_line
 
 pub returns-clause-named : goal.returns-clause-named
-returns-clause-named c = λ lead text free other small few. ap kind_of (run_reply-numbered (Some lead) text free other) ∙ kind_of-named lead free small few
+returns-clause-named c = λ n_parameter text free other small few. ap kind_of (run_reply-numbered (Some n_parameter) text free other) ∙ kind_of-named n_parameter free small few
 
 pub returns-clause-unnamed : goal.returns-clause-unnamed
 returns-clause-unnamed c = λ text free other few. ap kind_of (run_reply-numbered None text free other) ∙ kind_of-unnamed free few

@@ -1,11 +1,11 @@
 use Rattle.std.proofs.Common.{◌≡◌, false, sym, ◌∙◌, ap, subst}
 use Rattle.std.specs.Prelude.{Option, IfSome}
-use Rattle.desk_steps.specs.Data.{Data}
-use Rattle.desk_steps.specs.Endings.{IsEnding}
-use Rattle.desk_steps.specs.Note.{note_step}
-use Rattle.desk_steps.specs.Pull.{settled}
-use Rattle.desk_steps.proofs.Endings.{ending_is, ending_rests}
-use Rattle.print_records.specs.declared.ending.Ending.{Ending}
+use Rattle.job_desk.specs.Data.{Data}
+use Rattle.job_desk.specs.Endings.{IsEnding}
+use Rattle.job_desk.specs.Note.{note_step}
+use Rattle.job_desk.specs.Pull.{settled}
+use Rattle.job_desk.proofs.Endings.{ending_is, ending_rests}
+use Rattle.print_queue.specs.declared.ending.Ending.{Ending}
 use Rattle.job_desk.specs.DeskViews.{desk_data}
 use Rattle.job_desk.proofs.desk.Desk.note.Goals as goal
 

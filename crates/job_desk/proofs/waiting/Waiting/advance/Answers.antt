@@ -1,6 +1,6 @@
 use Rattle.std.proofs.Common.{◌<◌, ◌≤◌, ◌+◌, length, slice_index_or, arith}
-use Rattle.desk_steps.specs.Data.{texts_at}
-use Rattle.desk_steps.specs.declared.state.Point.TheVariants as point
+use Rattle.job_desk.specs.Data.{texts_at}
+use Rattle.job_desk.specs.declared.state.Point.TheVariants as point
 use Rattle.job_desk.specs.declared.waiting.Entry.{Entry}
 use Rattle.job_desk.specs.Entries.{lines_left}
 use Rattle.job_desk.proofs.Entries.{put_first, drop_first, some_entry}

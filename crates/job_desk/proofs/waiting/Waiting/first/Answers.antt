@@ -1,5 +1,5 @@
 use Rattle.std.proofs.Common.{◌≡◌, sym, slice_get, Some, None}
-use Rattle.desk_steps.specs.Data.{texts_at}
+use Rattle.job_desk.specs.Data.{texts_at}
 use Rattle.job_desk.proofs.Entries.{first_line, no_missing}
 use Rattle.job_desk.proofs.waiting.Waiting.first.Goals as goal
 

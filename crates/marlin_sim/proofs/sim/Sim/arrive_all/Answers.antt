@@ -4,7 +4,7 @@ use Rattle.marlin_sim.proofs.Steps.{arrived_follows, arrived_work, keeps_then}
 use Rattle.marlin_sim.proofs.sim.Sim.arrive_all.Goals as goal
 
 pub loop-init : goal.loop-init
-loop-init c = record { arrives = no_line c.args.self.now; kept = λ plan input rest wrote printed t. t; work = omega arith; places = refl }
+loop-init c = record { arrives = no_line c.args.self.now; kept = λ plan input rest wrote printed t. t; work = omega arith; slots = refl }
 
 pub loop-preserved : goal.loop-preserved
 loop-preserved c =
@@ -15,5 +15,5 @@ loop-preserved c =
       arrives = one_line c.args.self.now c.loop.self c.arrive_next.new.self c.loop.invariant.arrives arrived;
       kept = keeps_then c.args.self.now c.loop.self c.arrive_next.new.self c.loop.invariant.kept (λ plan input rest wrote printed t. arrived_follows plan input rest wrote printed _ _ arrived t);
       work = omega (arith, less.0, c.loop.invariant.work);
-      places = less.1 ∙ c.loop.invariant.places;
+      slots = less.1 ∙ c.loop.invariant.slots;
     }

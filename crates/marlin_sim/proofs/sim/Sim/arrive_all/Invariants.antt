@@ -7,7 +7,7 @@ invariant-loop l = record {
   arrives : Arrives l.initial.self l.self;
   kept : Keeps l.initial.self l.self;
   work : work l.self ≤ work l.initial.self;
-  places : l.self.printer.places ≡ l.initial.self.printer.places;
+  slots : l.self.printer.slots ≡ l.initial.self.printer.slots;
 }
 
 abbrev pub decreases-loop : goal.decreases-loop

@@ -1,7 +1,7 @@
 use Rattle.std.proofs.Common.{ℕ, List, refl, ap, subst}
-use Rattle.house_desk.specs.Facing.{Faces}
-use Rattle.house_verdicts.specs.Answers.{request_verdict}
-use Rattle.house_verdicts.specs.Prints.{lines_verdict}
+use Rattle.octo_house.specs.Facing.{Faces}
+use Rattle.octo_house_rules.specs.Answers.{request_verdict}
+use Rattle.octo_house_rules.specs.Prints.{lines_verdict}
 use Rattle.octo_house.specs.State.{known_of}
 use Rattle.octo_house.proofs.Fileless.{shelves-same, request-leaves, is_storing}
 use Rattle.octo_house.proofs.house.House.answer.Goals as goal

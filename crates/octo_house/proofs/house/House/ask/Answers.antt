@@ -1,9 +1,9 @@
 use Rattle.std.proofs.Common.{◌≡◌, ◌⊎◌, inr, false, List, [], Some, refl, sym, ap, ◌∙◌, subst}
 use Rattle.std.proofs.lemmas.Bool.{false≢true}
 use Rattle.octo_asks.specs.Rights.{needed}
-use Rattle.house_verdicts.specs.Access.{is_denied}
-use Rattle.house_verdicts.specs.Answers.{verdict}
-use Rattle.house_verdicts.specs.Verdict.{Verdict, IsDone, files_after}
+use Rattle.octo_house_rules.specs.Access.{is_denied}
+use Rattle.octo_house_rules.specs.Answers.{verdict}
+use Rattle.octo_house_rules.specs.Verdict.{Verdict, IsDone, files_after}
 use Rattle.octo_keeper.specs.declared.shelf.ShelfFile.{ShelfFile}
 use Rattle.octo_house.specs.Answered.{asks_files}
 use Rattle.octo_house.specs.State.{known_of}

@@ -1,7 +1,7 @@
 use Rattle.std.proofs.Common.{◌≡◌, List, sym, ◌∙◌, refl}
 use Rattle.octo_keeper.specs.declared.shelf.ShelfFile.{ShelfFile}
 use Rattle.octo_keeper.specs.declared.tables.Tables.{Tables}
-use Rattle.house_verdicts.specs.Known.{names_of}
+use Rattle.octo_house_rules.specs.Known.{names_of}
 use Rattle.octo_house.proofs.Begun.{read-is, read-from, kept-begun, numbered-read}
 use Rattle.octo_house.proofs.house.House.begin.Goals as goal
 

@@ -1,7 +1,7 @@
 use Rattle.std.proofs.Common.{◌≡◌, false, rules, arith, refl, ap, sym, ◌∙◌}
 use Rattle.std.proofs.lemmas.Bool.{false≢true}
-use Rattle.house_verdicts.specs.Answers.{request_verdict}
-use Rattle.house_tables.proofs.Keeping.{keeps-same}
+use Rattle.octo_house_rules.specs.Answers.{request_verdict}
+use Rattle.octo_house_tables.proofs.Keeping.{keeps-same}
 use Rattle.octo_house.specs.State.{known_of}
 use Rattle.octo_house.proofs.Fileless.{shelves-same, request-leaves, is_storing}
 use Rattle.octo_house.proofs.house.House.edit.Goals as goal

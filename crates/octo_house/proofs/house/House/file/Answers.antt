@@ -1,9 +1,9 @@
 use Rattle.std.proofs.Common.{◌≡◌, true, not, length, ap}
 use Rattle.octo_keeper.specs.Files.{bytes_of}
 use Rattle.octo_asks.specs.declared.answer.Answer.TheVariants as answer
-use Rattle.house_verdicts.specs.Known.{is_held}
-use Rattle.house_verdicts.specs.Reads.{file_shown}
-use Rattle.house_verdicts.specs.Verdict.{gives}
+use Rattle.octo_house_rules.specs.Known.{is_held}
+use Rattle.octo_house_rules.specs.Reads.{file_shown}
+use Rattle.octo_house_rules.specs.Verdict.{gives}
 use Rattle.octo_house.specs.State.{known_of}
 use Rattle.octo_house.proofs.ReadDone.{given, passed-on, read-on, bytes-read, bytes-missed}
 use Rattle.octo_house.proofs.house.House.file.Goals as goal

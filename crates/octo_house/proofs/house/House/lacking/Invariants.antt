@@ -1,5 +1,5 @@
 use Rattle.std.proofs.Common.{◌≡◌, drop}
-use Rattle.house_verdicts.specs.Answers.{lacking}
+use Rattle.octo_house_rules.specs.Answers.{lacking}
 use Rattle.octo_house.specs.State.{known_of}
 use Rattle.octo_house.proofs.house.House.lacking.Given as goal
 

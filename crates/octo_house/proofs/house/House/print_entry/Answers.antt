@@ -4,14 +4,14 @@ use Rattle.octo_keeper.specs.Files.{bytes_of}
 use Rattle.octo_asks.specs.Shown.{shown_entry}
 use Rattle.octo_asks.specs.declared.answer.Answer.TheVariants as answer
 use Rattle.print_queue.specs.Rows.{without_copy}
-use Rattle.house_verdicts.specs.Known.{is_held}
-use Rattle.house_verdicts.specs.Uploads.{print_verdict}
-use Rattle.house_verdicts.specs.Verdict.{Verdict, IsDone}
-use Rattle.house_rows.specs.Reading.{IsReadAs, job_at}
+use Rattle.octo_house_rules.specs.Known.{is_held}
+use Rattle.octo_house_rules.specs.Uploads.{print_verdict}
+use Rattle.octo_house_rules.specs.Verdict.{Verdict, IsDone}
+use Rattle.octo_house_tables.specs.Reading.{IsReadAs, job_at}
 use Rattle.octo_house.specs.State.{known_of}
 use Rattle.octo_house.proofs.ReadDone.{passed-on, read-on, job-read, job-missed}
 use Rattle.octo_house.proofs.house.House.print_entry.Goals as goal
-use Rattle.desk_steps.specs.Data.{named_file}
+use Rattle.job_desk.specs.Data.{named_file}
 
 pub returns-in-Ok-clause-done : goal.returns-in-Ok-clause-done
 returns-in-Ok-clause-done g c = λ files.

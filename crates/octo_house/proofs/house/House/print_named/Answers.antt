@@ -1,14 +1,14 @@
 use Rattle.std.proofs.Common.{◌≡◌, true, not, ap, rules}
 use Rattle.octo_keeper.specs.Files.{bytes_of}
 use Rattle.octo_asks.specs.declared.answer.Answer.TheVariants as answer
-use Rattle.desk_steps.specs.declared.state.State.TheVariants.{Operational}
-use Rattle.house_verdicts.specs.Known.{is_held}
-use Rattle.house_verdicts.specs.States.{may_start}
-use Rattle.house_verdicts.specs.Uploads.{print_verdict}
+use Rattle.job_desk.specs.declared.state.State.TheVariants.{Operational}
+use Rattle.octo_house_rules.specs.Known.{is_held}
+use Rattle.octo_house_rules.specs.States.{may_start}
+use Rattle.octo_house_rules.specs.Uploads.{print_verdict}
 use Rattle.octo_house.specs.State.{known_of}
 use Rattle.octo_house.proofs.ReadDone.{passed-on, read-on, job-read, job-missed}
 use Rattle.octo_house.proofs.house.House.print_named.Goals as goal
-use Rattle.desk_steps.specs.Data.{named_file}
+use Rattle.job_desk.specs.Data.{named_file}
 
 pub returns-in-Ok-clause-done : goal.returns-in-Ok-clause-done
 returns-in-Ok-clause-done g c = λ files.

@@ -1,5 +1,5 @@
 use Rattle.std.proofs.Common.{◌≡◌, true}
-use Rattle.house_verdicts.specs.Known.{is_held}
+use Rattle.octo_house_rules.specs.Known.{is_held}
 use Rattle.octo_house.specs.State.{known_of}
 use Rattle.octo_house.proofs.house.House.put_entry.Goals as goal
 

@@ -1,14 +1,14 @@
 use Rattle.std.proofs.Common.{◌≡◌, true, false, refl, sym, ap, ◌∙◌, rules}
 use Rattle.std.proofs.lemmas.Bool.{not-true, not-false}
 use Rattle.octo_asks.specs.declared.answer.Answer.TheVariants as answer
-use Rattle.house_verdicts.specs.Uploads.{is_selected, is_printed}
-use Rattle.house_tables.proofs.Keeping.{keeps-same}
-use Rattle.session_steps.specs.Data.{SessionData}
+use Rattle.octo_house_rules.specs.Uploads.{is_selected, is_printed}
+use Rattle.octo_house_tables.proofs.Keeping.{keeps-same}
+use Rattle.octo_session.specs.Data.{SessionData}
 use Rattle.octo_house.specs.State.{known_of}
 use Rattle.octo_house.proofs.Startable.{startable, has-it}
 use Rattle.octo_house.proofs.Stored.{job-is, keeps-over, not-stored, not-shelved, done-alone, done-selected, done-printed, shelved}
 use Rattle.octo_house.proofs.house.House.put_file.Goals as goal
-use Rattle.desk_steps.specs.Data.{named_file}
+use Rattle.job_desk.specs.Data.{named_file}
 
 pub returns-in-Err-store-clause-done : goal.returns-in-Err-store-clause-done
 returns-in-Err-store-clause-done g c =

@@ -1,15 +1,15 @@
 use Rattle.std.proofs.Common.{◌≡◌, true, not, [], ◌∷◌, refl, ap}
-use Rattle.desk_steps.specs.Run.{Select}
+use Rattle.job_desk.specs.Run.{Select}
 use Rattle.octo_keeper.specs.Files.{bytes_of}
 use Rattle.octo_asks.specs.declared.answer.Answer.TheVariants as answer
-use Rattle.house_verdicts.specs.Known.{is_held}
-use Rattle.house_verdicts.specs.States.{may_select}
-use Rattle.house_verdicts.specs.Verdict.{makes, at_desk}
-use Rattle.session_steps.specs.Data.{SessionData}
+use Rattle.octo_house_rules.specs.Known.{is_held}
+use Rattle.octo_house_rules.specs.States.{may_select}
+use Rattle.octo_house_rules.specs.Verdict.{makes, at_desk}
+use Rattle.octo_session.specs.Data.{SessionData}
 use Rattle.octo_house.specs.State.{known_of}
 use Rattle.octo_house.proofs.ReadDone.{made, passed-on, read-on, job-read, job-missed}
 use Rattle.octo_house.proofs.house.House.select_named.Goals as goal
-use Rattle.desk_steps.specs.Data.{named_file}
+use Rattle.job_desk.specs.Data.{named_file}
 
 pub returns-in-Ok-clause-done : goal.returns-in-Ok-clause-done
 returns-in-Ok-clause-done g c = λ files.

@@ -1,8 +1,5 @@
-use Rattle.std.proofs.Common.{subst}
-use Rattle.desk_steps.specs.Data.{Data}
-use Rattle.desk_steps.specs.Endings.{IsActive}
 use Rattle.octo_keeper.specs.Tables.{with_due_end}
-use Rattle.session_steps.specs.Data.{doing}
+use Rattle.octo_session.specs.Data.{doing}
 use Rattle.octo_house.specs.Turned.{known_temps}
 use Rattle.octo_house.proofs.Rested.{rested-after, numbered-after, ends-rested}
 use Rattle.octo_house.proofs.TurnKnown.{turned-knows, turned-goes, known-turned}
@@ -26,7 +23,7 @@ invariant_of-self g c =
 pub returns-clause-knows : goal.returns-clause-knows
 returns-clause-knows g c =
     turned-knows c.args.moment c.turn-turned.new.self.sender.acked c.turn-turned.result.ending c.args.self.now _
-    (subst (λ (d : Data). IsActive d) c.desk.ensures c.is_active.ensures) c.turn-turned.result.note
+    c.turn-turned.ensures.active c.turn-turned.result.note
     (known-turned c.args.self.now c.turn-turned.new.self.desk c.temps_after_turn-self.result (known_temps c.turn-turned.result.note c.args.self.now.desk.temps)
     c.note_end.new.self (with_due_end c.turn-turned.result.ending c.args.self.now.tables.prints) c.temps_after_turn-self.ensures c.note_end.ensures.rest)
     c.turn-turned.ensures.by_note.noted c.turn-turned.ensures.by_note.still

@@ -1,8 +1,8 @@
 use Rattle.std.proofs.Common.{◌≡◌, sym, subst}
-use Rattle.desk_steps.specs.declared.link_fact.LinkFact.{LinkFact}
+use Rattle.job_desk.specs.declared.link_fact.LinkFact.{LinkFact}
 use Rattle.send_window.specs.Data.{sender_after_dial}
-use Rattle.session_steps.specs.Steps.{Takes, opens, dial_steps}
-use Rattle.session_steps.proofs.Stepping.{takes_both, opens_placed}
+use Rattle.octo_session.specs.Steps.{Takes, opens, dial_steps}
+use Rattle.octo_session.proofs.Stepping.{takes_both, opens_placed}
 use Rattle.octo_session.proofs.session.Session.dial.Goals as goal
 
 pub returns-in-Ok-clause-steps : goal.returns-in-Ok-clause-steps

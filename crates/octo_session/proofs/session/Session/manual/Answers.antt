@@ -1,5 +1,5 @@
-use Rattle.session_steps.proofs.Counts.{counts_manual}
-use Rattle.session_steps.proofs.Desk.{joined_by}
+use Rattle.octo_session.proofs.Counts.{counts_manual}
+use Rattle.octo_session.proofs.Desk.{joined_by}
 use Rattle.octo_session.proofs.session.Session.manual.Goals as goal
 
 pub invariant_of-self : goal.invariant_of-self

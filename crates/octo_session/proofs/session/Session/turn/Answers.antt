@@ -1,17 +1,17 @@
 use Rattle.std.proofs.Common.{◌≡◌, ◌↔◌, ℕ, List, [], ◌∷◌, true, false, sym, ap, ◌∙◌, refl, rules, map, subst}
 use Rattle.std.specs.Prelude.{Option, None}
-use Rattle.desk_steps.specs.Issued.{line_of}
-use Rattle.desk_steps.specs.Endings.{IsActive}
-use Rattle.desk_steps.specs.declared.issued.Issued.{Issued}
-use Rattle.desk_steps.specs.declared.link_fact.LinkFact.{LinkFact}
-use Rattle.desk_steps.specs.declared.link_fact.LinkFact.TheVariants as fact
-use Rattle.desk_steps.specs.declared.issued.Note.{Note}
+use Rattle.job_desk.specs.Issued.{line_of}
+use Rattle.job_desk.specs.Endings.{IsActive}
+use Rattle.job_desk.specs.declared.issued.Issued.{Issued}
+use Rattle.job_desk.specs.declared.link_fact.LinkFact.{LinkFact}
+use Rattle.job_desk.specs.declared.link_fact.LinkFact.TheVariants as fact
+use Rattle.job_desk.specs.declared.issued.Note.{Note}
 use Rattle.send_window.specs.Data.{IsSound}
-use Rattle.session_steps.specs.Data.{SessionData, IsSession, doing}
-use Rattle.session_steps.specs.Found.{got_of, temps_in, temps_kept, can_find, up_after}
-use Rattle.session_steps.specs.Turn.{IsStill, IsUneventful, fact_of}
-use Rattle.session_steps.specs.declared.found.Found.{Found}
-use Rattle.session_steps.proofs.Noting.{turn_ready, turn_not_fallen, turn_within, turn_none_acked, turn_noted, turn_still, turn_ending}
+use Rattle.octo_session.specs.Data.{SessionData, IsSession, doing}
+use Rattle.octo_session.specs.Found.{got_of, temps_in, temps_kept, can_find, up_after}
+use Rattle.octo_session.specs.Turn.{IsStill, IsUneventful, fact_of}
+use Rattle.octo_session.specs.declared.found.Found.{Found}
+use Rattle.octo_session.proofs.Noting.{turn_ready, turn_not_fallen, turn_within, turn_none_acked, turn_noted, turn_still, turn_ending}
 use Rattle.octo_session.proofs.session.Session.turn.Goals as goal
 
 none_listed : (issued : List Issued) → map line_of issued ≡ [] → issued ≡ []
@@ -91,3 +91,6 @@ returns-clause-by_note g c =
       before = before;
       joined = e.joined;
     }
+
+pub returns-clause-active : goal.returns-clause-active
+returns-clause-active g c = subst (λ (x : SessionData). IsActive x.desk) c.self.view_is c.desk_is_active_fact.ensures

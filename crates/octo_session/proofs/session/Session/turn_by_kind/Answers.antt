@@ -1,10 +1,10 @@
 use Rattle.std.proofs.Common.{map, sym, ◌∙◌}
-use Rattle.desk_steps.specs.Issued.{line_of}
-use Rattle.session_steps.specs.Data.{doing}
-use Rattle.session_steps.specs.Found.{got_of}
-use Rattle.session_steps.specs.Turn.{texts_in}
-use Rattle.session_steps.proofs.Desk.{noted_greatest}
-use Rattle.session_steps.proofs.Stepping.{takes_rest, dial_calls, talk_calls}
+use Rattle.job_desk.specs.Issued.{line_of}
+use Rattle.octo_session.specs.Data.{doing}
+use Rattle.octo_session.specs.Found.{got_of}
+use Rattle.octo_session.specs.Turn.{texts_in}
+use Rattle.octo_session.proofs.Desk.{noted_greatest}
+use Rattle.octo_session.proofs.Stepping.{takes_rest, dial_calls, talk_calls}
 use Rattle.octo_session.proofs.session.Session.turn_by_kind.Goals as goal
 
 pub returns-in-UsingLink-clause-greatest : goal.returns-in-UsingLink-clause-greatest

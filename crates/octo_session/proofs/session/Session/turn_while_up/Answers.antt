@@ -1,6 +1,6 @@
 use Rattle.std.proofs.Common.{subst}
-use Rattle.session_steps.specs.Data.{SessionData}
-use Rattle.session_steps.specs.Found.{got_of}
+use Rattle.octo_session.specs.Data.{SessionData}
+use Rattle.octo_session.specs.Found.{got_of}
 use Rattle.octo_session.specs.FoundBy.{IsFoundBy}
 use Rattle.octo_session.proofs.session.Session.turn_while_up.Goals as goal
 

@@ -1,4 +1,0 @@
-pub mod Cleaned
-pub mod Items
-pub mod Asked
-pub mod Others

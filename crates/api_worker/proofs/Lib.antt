@@ -1,4 +1,0 @@
-pub mod Calls
-pub mod Asked
-pub mod Walking
-pub mod Writing

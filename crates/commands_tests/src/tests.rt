@@ -1,0 +1,5 @@
+//! The command line, measures, reports and settings.
+mod measure;
+mod report;
+mod settings;
+mod words;

@@ -1,0 +1,205 @@
+//! Settings that are read: what each key says, its default, and the ends of its range.
+use super::*;
+use arrayvec::ArrayVec;
+use byte_text::Name;
+use job_desk::{Point, Scripts};
+use octo_access::{Permission, Policy, UserRow, digest_of};
+use std::alloc::Global;
+use std::process::Abort;
+use std::test::Fail;
+
+// Every key at its least.
+const LEAST: &str = "[printer]\nports = ['p']\nwindow = 1\nlimit_ms = 1000\npoll_ms = 1000\n\
+material = 'A'\n[limits]\ntool = 0\nbed = 0\n[serve]\npatience = 1\n[groups]\n[scripts]\n";
+
+// Every whole number at its greatest.
+const GREATEST: &str = "[printer]\nports = ['a:1', 'unix:b']\nwindow = 16\nlimit_ms = 600000\n\
+poll_ms = 600_000\nmaterial = 'PLA-1.0_(x)+'\n[limits]\ntool = 500\nbed = 200\n\
+[serve]\npatience = 4000000000\n";
+
+// Whether the script's line at a place is this.
+fn is_line(scripts: &Scripts, point: Point, place: usize, line: &str) -> bool {
+    match scripts.get(point, place) {
+        Some(text) => text.as_slice() == line.as_bytes(),
+        None => false,
+    }
+}
+
+fn has(rt: &impl Abort, scripts: &Scripts, point: Point, wanted: &[&str]) {
+    assert_eq!(rt; scripts.count(point), wanted.len());
+    for (i, line) in wanted.iter().enumerate() {
+        assert!(rt; is_line(scripts, point, i, line));
+    }
+}
+
+// Its whole numbers, in the order of their keys.
+fn numbers(settings: &Settings) -> [u64; 6] {
+    [
+        settings.window as u64,
+        settings.limit_ms,
+        settings.poll_ms,
+        settings.limits.tool as u64,
+        settings.limits.bed as u64,
+        settings.patience as u64,
+    ]
+}
+
+// It has this number of ports, this material, and these whole numbers.
+fn assert_values(
+    rt: &impl Abort,
+    settings: &Settings,
+    ports: usize,
+    material: &str,
+    wanted: [u64; 6],
+) {
+    assert_eq!(rt; settings.ports.as_slice().len(), ports);
+    assert_eq!(rt; settings.material.as_str(), material);
+    assert_eq!(rt; numbers(settings), wanted);
+}
+
+#[test]
+fn least(rt: HostRuntime) -> Result<(), Fail> {
+    let settings = read(rt.alloc(), LEAST, ADMIN, "")??;
+    assert_values(&rt, &settings, 1, "A", [1, 1_000, 1_000, 0, 0, 1]);
+    Ok(())
+}
+
+#[test]
+fn greatest(rt: HostRuntime) -> Result<(), Fail> {
+    let settings = read(rt.alloc(), GREATEST, ADMIN, "")??;
+    let wanted = [16, 600_000, 600_000, 500, 200, 4_000_000_000];
+    assert_values(&rt, &settings, 2, "PLA-1.0_(x)+", wanted);
+    Ok(())
+}
+
+fn are_defaults(rt: &impl Abort, settings: &Settings, ports: usize) {
+    let wanted = [4, 30_000, 5_000, 300, 120, 6_000];
+    assert_values(rt, settings, ports, "any", wanted);
+    assert_eq!(rt; settings.scripts.count(Point::Started), 0);
+}
+
+#[test]
+fn defaults(rt: HostRuntime) -> Result<(), Fail> {
+    are_defaults(&rt, &read(rt.alloc(), PRINTER, ADMIN, "")??, 1);
+    Ok(())
+}
+
+// Keys that aren't named, and scripts by other names, are passed over.
+#[test]
+fn other_keys(rt: HostRuntime) -> Result<(), Fail> {
+    let other = "colour = 'red'\n[scripts]\nbeforeToolChange = ['{{x}}']\n[slicer]\nlayers = 1\n";
+    are_defaults(&rt, &read(rt.alloc(), PRINTER, ADMIN, other)??, 1);
+    Ok(())
+}
+
+#[test]
+fn plain(rt: HostRuntime) {
+    let settings = Settings::plain(rt.alloc());
+    are_defaults(&rt, &settings, 0);
+    assert!(&rt; settings.admin.is_none());
+}
+
+// Whether these settings' admin is root, with the digest of this key.
+fn have_root(settings: &Settings, key: &[u8]) -> bool {
+    match &settings.admin {
+        Some(admin) => admin.name.as_str() == "root" && admin.digest == digest_of(key),
+        None => false,
+    }
+}
+
+// The same admin, in capitals.
+const CAPITALS: &str = "[admin]\nname = 'root'\n\
+key_sha256 = '3D6DC258F967781F8598C11AF4D699E0A7F3F5F52F6B1A0F0931150933A2D5AE'\n";
+
+#[test]
+fn admin(rt: HostRuntime) -> Result<(), Fail> {
+    for admin in [ADMIN, CAPITALS] {
+        let settings = read(rt.alloc(), PRINTER, admin, "")??;
+        assert!(&rt; have_root(&settings, b"ana-key-0123456789"));
+    }
+    Ok(())
+}
+
+// An active user of one group.
+fn member(group: &str) -> Result<UserRow, Fail> {
+    let mut groups = ArrayVec::new();
+    groups.push(Name::of(group)?);
+    Ok(UserRow {
+        name: Name::of("ana")?,
+        digest: [0; 32],
+        groups,
+        active: true,
+    })
+}
+
+// Whether a user of each group has a permission.
+fn assert_allowed(
+    rt: &impl Abort,
+    policy: &Policy,
+    rows: &[(&str, Permission, bool)],
+) -> Result<(), Fail> {
+    for (group, permission, wanted) in rows {
+        let allowed = policy.allowed(&member(group)?, *permission);
+        assert!(rt; allowed == *wanted, "{group}");
+    }
+    Ok(())
+}
+
+const GROUPS: &str =
+    "[groups]\nprinters = ['PRINT', 'STATUS']\nselectors = ['FILES_SELECT']\nidle = []\n";
+
+fn policy_of(alloc: Global, groups: &str) -> Result<Policy, Fail> {
+    let settings = read(alloc, PRINTER, ADMIN, groups)??;
+    Ok(Policy::new(settings.groups, settings.admin))
+}
+
+#[test]
+fn groups(rt: HostRuntime) -> Result<(), Fail> {
+    let policy = policy_of(rt.alloc(), GROUPS)?;
+    let rows = [
+        ("printers", Permission::Print, true),
+        ("printers", Permission::Control, false),
+        ("selectors", Permission::FilesSelect, true),
+        ("idle", Permission::Status, false),
+    ];
+    assert_allowed(&rt, &policy, rows.as_slice())
+}
+
+const SCRIPTS: &str =
+    "[scripts]\nbeforePrintStarted = ['M107']\nafterPrintDone = [' M84 ; off', 'N1 G28']\n\
+afterPrinterConnected = ['M115']\nbeforePrinterDisconnected = ['M18']\nafterPrintPaused = ['G91']\n\
+beforePrintResumed = ['G90']\nafterPrintCancelled = ['M104 S0']\n";
+
+fn scripts_of(alloc: Global, scripts: &str) -> Result<Scripts, Fail> {
+    Ok(read(alloc, PRINTER, ADMIN, scripts)??.scripts)
+}
+
+// Scripts are the commands of their lines; each is at its point.
+#[test]
+fn scripts(rt: HostRuntime) -> Result<(), Fail> {
+    let scripts = scripts_of(rt.alloc(), SCRIPTS)?;
+    let rows: [(Point, &[&str]); 7] = [
+        (Point::Started, &["M107"]),
+        (Point::Done, &["M84", "G28"]),
+        (Point::Connected, &["M115"]),
+        (Point::Disconnect, &["M18"]),
+        (Point::Paused, &["G91"]),
+        (Point::Resumed, &["G90"]),
+        (Point::Cancelled, &["M104 S0"]),
+    ];
+    for (point, wanted) in rows {
+        has(&rt, &scripts, point, wanted);
+    }
+    Ok(())
+}
+
+// Each call that allocates; allocation succeeds.
+#[test]
+fn ample(rt: HostRuntime) -> Result<(), Fail> {
+    let text = b"[printer]\nports = ['p']\n[admin]\nname = 'root'\n\
+key_sha256 = '470dc872b1b47dac8456c9f0800583d1176d1a2f194b626000379d1d7d7fc920'\n\
+[groups]\nprinters = ['PRINT']\n[scripts]\nbeforePrintStarted = ['M107']\n";
+    let settings = read_settings(rt.alloc(), text)?;
+    assert_eq!(rt; settings.scripts.count(Point::Started), 1);
+    Ok(())
+}

@@ -1,5 +1,0 @@
-pub mod Runs
-pub mod Fates
-pub mod Played
-pub mod Asked
-pub mod Histories

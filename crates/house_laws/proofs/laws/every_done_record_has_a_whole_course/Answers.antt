@@ -1,5 +1,0 @@
-use Rattle.house_laws.proofs.Courses.{every_done_record}
-use Rattle.house_laws.proofs.laws.every_done_record_has_a_whole_course.Goals as goal
-
-pub returns : goal.returns
-returns c = every_done_record

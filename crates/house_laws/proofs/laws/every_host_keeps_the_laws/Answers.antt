@@ -1,5 +1,0 @@
-use Rattle.house_laws.proofs.Hosts.{every_host}
-use Rattle.house_laws.proofs.laws.every_host_keeps_the_laws.Goals as goal
-
-pub returns : goal.returns
-returns c = every_host

@@ -1,5 +1,0 @@
-use Rattle.house_laws.proofs.Limits.{every_line}
-use Rattle.house_laws.proofs.laws.every_line_is_within_limits.Goals as goal
-
-pub returns : goal.returns
-returns c = every_line

@@ -1,5 +1,0 @@
-use Rattle.house_laws.proofs.Courses.{every_print}
-use Rattle.house_laws.proofs.laws.every_print_follows_a_course.Goals as goal
-
-pub returns : goal.returns
-returns c = every_print

@@ -1,4 +1,0 @@
-pub mod Limits
-pub mod Courses
-pub mod Calls
-pub mod Hosts

@@ -1,4 +1,0 @@
-pub mod Commands
-pub mod Newest
-pub mod Heated
-pub mod Found

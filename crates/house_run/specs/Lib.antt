@@ -1,5 +1,0 @@
--- The words of a host's run over a counter.
-pub mod Runs
-pub mod Tallies
-pub mod Turns
-pub mod Asks

@@ -1,4 +1,0 @@
-pub mod Verdicts
-pub mod Isolated
-pub mod Repeated
-pub mod Denied

@@ -1,9 +1,0 @@
-pub mod Called
-pub mod Found
-pub mod Noted
-pub mod Quiet
-pub mod Rising
-pub mod Turned
-pub mod Still
-pub mod Taking
-pub mod Walking

@@ -1,3 +1,0 @@
-pub mod FramingLemmas
-pub mod HeadLemmas
-pub mod PartLemmas

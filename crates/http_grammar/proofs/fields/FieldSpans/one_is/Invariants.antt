@@ -1,7 +1,0 @@
-use Rattle.std.proofs.Common.{◌≡◌, map, drop}
-use Rattle.httparse.specs.Spans.{header_bytes}
-use Rattle.http_grammar.specs.Fields.{values, one_is}
-use Rattle.http_grammar.proofs.fields.FieldSpans.one_is.Given as goal
-
-abbrev pub invariant-loop-span : goal.invariant-loop-span
-invariant-loop-span l = one_is l.text (values l.name l.self) ≡ one_is l.text (values l.name (map (header_bytes l.self-inside.head.now) (drop l.span-index l.span-items)))

@@ -1,5 +1,0 @@
-pub mod Fields
-pub mod Framing
-pub mod Head
-pub mod Part
-pub mod Chunks

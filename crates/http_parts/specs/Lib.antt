@@ -1,4 +1,0 @@
-pub mod Texts
-pub mod Values
-pub mod Delimiters
-pub mod Parts

@@ -1,0 +1,102 @@
+-- The next line to issue.
+use Rattle.std.specs.Prelude.{ℕ, ◌+◌, Bool, ◌&&◌, ◌==◌, nat_le, min, codes, List, [], ◌∷◌, length, slice_get, Option, None, Some, if◌then◌else◌}
+use Rattle.byte_text.specs.Number.{most_u64}
+use Rattle.job_desk.specs.Data.{Data, Line, commands_of, with_script, moment_after}
+use Rattle.job_desk.specs.declared.state.State.{State}
+use Rattle.job_desk.specs.declared.state.State.TheVariants.{Offline, Connecting, Operational, Printing, Pausing, Paused, Cancelling, Finishing, Closing, Fault}
+use Rattle.job_desk.specs.declared.state.Point.TheVariants as point
+use Rattle.job_desk.specs.declared.state.Tag.{Tag}
+use Rattle.job_desk.specs.declared.state.Tag.TheVariants.{Script, Job, Manual, Poll}
+
+-- the line that was drawn, if any, and the desk after it
+abbrev pub Drawn : Type 0
+Drawn = Option Line × Data
+
+-- no line
+abbrev pub nothing : Data → Drawn
+nothing d = (None, d)
+
+-- a print or the poll keeps the number of its last line; print 0 is none
+abbrev pub keep_number : Tag → ℕ → Data → Data
+keep_number (Script point print) number d = if print == 0 then d else record d { print_line = number }
+keep_number (Job print index) number d = record d { print_line = number }
+keep_number Manual number d = d
+keep_number Poll number d = record d { poll_line = number }
+
+-- the greatest number of a line
+abbrev pub last_number : ℕ
+last_number = most_u64
+
+-- the number of the next line of a session; the count stays at the greatest one
+abbrev pub next_number : ℕ → ℕ
+next_number issued = min (issued + 1) last_number
+
+-- a line counts as issued under the next number
+abbrev pub issue : Line → Data → Drawn
+issue line d = (Some line, keep_number line.tag (next_number d.issued) (record d { issued = next_number d.issued }))
+
+-- the first waiting script line, or else what is next
+abbrev pub from_scripts : List Line → Data → Drawn → Drawn
+from_scripts [] d next = next
+from_scripts (line ∷ lines) d next = issue line (record d { waiting = lines })
+
+-- the oldest line of a user, or else what is next
+abbrev pub from_manual : List (List ℕ) → Data → Drawn → Drawn
+from_manual [] d next = next
+from_manual (text ∷ texts) d next = issue (record { text = text; tag = Manual }) (record d { manual = texts })
+
+-- a poll is due, and every earlier one was acknowledged
+abbrev pub poll_is_due : ℕ → Data → Bool
+poll_is_due moment d = nat_le d.poll_at moment && nat_le d.poll_line d.acked
+
+-- a due poll, or else what is next
+abbrev pub from_poll : ℕ → Data → Drawn → Drawn
+from_poll moment d next =
+    if poll_is_due moment d then issue (record { text = codes "M105"; tag = Poll }) (record d { poll_at = moment_after moment d.poll_ms }) else next
+
+-- the file command at the cursor, which moves on
+abbrev pub from_file : Option (List ℕ) → Data → Drawn
+from_file None d = nothing d
+from_file (Some text) d = issue (record { text = text; tag = Job d.greatest d.cursor }) (record d { cursor = d.cursor + 1 })
+
+-- scripts, then users' lines, then a due poll, or else what is next
+abbrev pub draw_in_order : ℕ → Data → Drawn → Drawn
+draw_in_order moment d next = from_scripts d.waiting d (from_manual d.manual d (from_poll moment d next))
+
+-- the line that a desk draws in each state
+abbrev pub draw_at : State → ℕ → Data → Drawn
+draw_at Offline moment d = nothing d
+draw_at Connecting moment d = nothing d
+draw_at Operational moment d = draw_in_order moment d (nothing d)
+draw_at Printing moment d = draw_in_order moment d (from_file (slice_get (commands_of d.file) d.cursor) d)
+draw_at Pausing moment d = draw_in_order moment d (nothing d)
+draw_at Paused moment d = draw_in_order moment d (nothing d)
+draw_at Cancelling moment d = draw_in_order moment d (nothing d)
+draw_at Finishing moment d = draw_in_order moment d (nothing d)
+draw_at Closing moment d = from_scripts d.waiting d (nothing d)
+draw_at Fault moment d = nothing d
+
+-- all lines of the print but the script for its end were issued
+abbrev pub is_issued : Data → Bool
+is_issued d = (length d.waiting == 0) && (d.cursor == length (commands_of d.file))
+
+-- a print whose commands were all issued goes on to its last script
+abbrev pub settle_at : State → Data → Data
+settle_at Offline d = d
+settle_at Connecting d = d
+settle_at Operational d = d
+settle_at Printing d = if is_issued d then with_script point.Done d.greatest (record d { state = Finishing }) else d
+settle_at Pausing d = d
+settle_at Paused d = d
+settle_at Cancelling d = d
+settle_at Finishing d = d
+settle_at Closing d = d
+settle_at Fault d = d
+
+-- the desk, whose print goes on to its last script if its commands were all issued
+abbrev pub settled : Data → Data
+settled d = settle_at d.state d
+
+-- what one pull returns and leaves
+abbrev pub pull_step : ℕ → Data → Drawn
+pull_step moment d = let drawn = draw_at d.state moment d in (drawn.0, settled drawn.1)

@@ -1,3 +1,0 @@
-pub mod Issuing
-pub mod Linked
-pub mod Tied

@@ -1,0 +1,4 @@
+pub mod Asked
+pub mod Cleaned
+pub mod Items
+pub mod Others

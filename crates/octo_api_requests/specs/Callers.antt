@@ -1,0 +1,14 @@
+-- The requests that callers make.
+use Rattle.std.specs.Prelude.{◌≡◌, ◌≢◌}
+use Rattle.octo_asks.specs.declared.request.Request.{Request}
+use Rattle.octo_asks.specs.declared.request.Request.TheVariants.{Leave}
+use Rattle.octo_api_routes.specs.declared.wanted.Wanted.{Wanted}
+use Rattle.octo_api_routes.specs.declared.wanted.Wanted.TheVariants.{Nothing}
+
+-- a caller's request: it isn't the one with which a worker leaves
+abbrev pub IsCallers : Request → Type 0
+IsCallers request = request ≢ Leave
+
+-- what a path and a method want is a caller's request, or a body that says one
+abbrev pub WantsCallers : Wanted → Type 0
+WantsCallers wanted = (request : Request) → wanted ≡ Nothing request → IsCallers request

@@ -1,0 +1,184 @@
+//! What JSON bodies ask of the printer, and of each form.
+ghost use Rattle.std.specs.Prelude.{◌≡◌, ◌∷◌, [], Some, false};
+ghost use Rattle.serde_json.specs.View.{view};
+ghost use Rattle.octo_api_requests.specs.Fields.{Gives};
+ghost use Rattle.octo_api_requests.specs.Bodies.{as_port, connection_asked, tool_asked, bed_asked, pause_asked, job_asked, selection_asked, lines_asked, asked_in, takes_memory};
+
+use crate::Direct;
+use crate::entry_body::entry_of;
+use crate::fields::{degrees_at, flag_at, is_text_at, text_at};
+use crate::lists::as_lines;
+use crate::user_bodies::{change_of, user_of};
+use byte_text::Name;
+use octo_api_routes::Form;
+use octo_asks::{BlobList, Request};
+use octo_outside::Blob;
+use serde_json::Value;
+use std::alloc::Global;
+
+// A port's name: 1 to 100 bytes.
+fn port_of(found: &Value) -> Option<Option<Name>>
+    ensures { result ≡ as_port (view found.now) }
+{
+    let text = found.as_str()?;
+    if text.is_empty() {
+        return None;
+    }
+    let name = Name::from_text(text)?;
+    Some(Some(name))
+}
+
+// What a body asks of the connection: to connect, to a port if it names one, or to disconnect.
+fn connection_of(body: &Value) -> Option<Request>
+    ensures { result ≡ connection_asked (view body.now) }
+{
+    if is_text_at(body, "command", "connect") {
+        let port = match body.get("port") {
+            Some(found) => port_of(found)?,
+            None => None,
+        };
+        return Some(Request::Connect { port });
+    }
+    if is_text_at(body, "command", "disconnect") {
+        return Some(Request::Disconnect);
+    }
+    None
+}
+
+// What a body asks of the tool: its target temperature. Other tools are ignored.
+fn tool_of(body: &Value) -> Option<Request>
+    ensures { result ≡ tool_asked (view body.now) }
+{
+    if is_text_at(body, "command", "target") {
+        let targets = body.get("targets")?;
+        let degrees = degrees_at(targets, "tool0")?;
+        return Some(Request::HeatTool { degrees });
+    }
+    None
+}
+
+// What a body asks of the bed: its target temperature.
+fn bed_of(body: &Value) -> Option<Request>
+    ensures { result ≡ bed_asked (view body.now) }
+{
+    if is_text_at(body, "command", "target") {
+        let degrees = degrees_at(body, "target")?;
+        return Some(Request::HeatBed { degrees });
+    }
+    None
+}
+
+// What a pause asks, by its action.
+fn pause_of(body: &Value) -> Option<Request>
+    ensures { result ≡ pause_asked (view body.now) }
+{
+    if body.get("action").is_none() {
+        return Some(Request::Toggle);
+    }
+    if is_text_at(body, "action", "pause") {
+        return Some(Request::Pause);
+    }
+    if is_text_at(body, "action", "resume") {
+        return Some(Request::Resume);
+    }
+    if is_text_at(body, "action", "toggle") {
+        return Some(Request::Toggle);
+    }
+    None
+}
+
+// What a body asks of the job: to start, to cancel, to restart or to pause.
+fn job_of(body: &Value) -> Option<Request>
+    ensures { result ≡ job_asked (view body.now) }
+{
+    if is_text_at(body, "command", "start") {
+        return Some(Request::Start);
+    }
+    if is_text_at(body, "command", "cancel") {
+        return Some(Request::Cancel);
+    }
+    if is_text_at(body, "command", "restart") {
+        return Some(Request::Restart);
+    }
+    if is_text_at(body, "command", "pause") {
+        return pause_of(body);
+    }
+    None
+}
+
+// What a body asks of a file: to select it, and whether to print it.
+fn selection_of(name: &Name, body: &Value) -> Option<Request>
+    ensures { result ≡ selection_asked name.now (view body.now) }
+{
+    if is_text_at(body, "command", "select") {
+        let print = flag_at(body, "print", false)?;
+        let name = name.copy();
+        return Some(Request::SelectFile { name, print });
+    }
+    None
+}
+
+// A list of this line alone.
+fn one_line(alloc: Global, text: &str) -> Result<BlobList, Direct>
+    ensures { Gives (Some (text.now ∷ [])) result }
+{
+    let mut texts = BlobList::new(alloc);
+    texts.push(Blob::from_slice(alloc, text.as_bytes())?)?;
+    Ok(texts)
+}
+
+// What a body asks to send: one line, or 1 to 256, and not both.
+fn lines_of(alloc: Global, body: &Value) -> Result<Request, Direct>
+    ensures { Gives (lines_asked (view body.now)) result }
+{
+    if let Some(found) = body.get("commands") {
+        if body.get("command").is_some() {
+            return Err(Direct::BadBody);
+        }
+        let texts = as_lines(alloc, found)?;
+        return Ok(Request::Lines { texts });
+    }
+    let Some(text) = text_at(body, "command") else {
+        return Err(Direct::BadBody);
+    };
+    let texts = one_line(alloc, text)?;
+    Ok(Request::Lines { texts })
+}
+
+// What a body asks in a form whose reading takes no memory.
+fn request_of_form(form: &Form, body: &Value) -> Option<Request>
+    requires { takes_memory form.now ≡ false }
+    ensures { result ≡ asked_in form.now (view body.now) }
+{
+    match form {
+        Form::Connection => connection_of(body),
+        Form::Tool => tool_of(body),
+        Form::Bed => bed_of(body),
+        Form::Job => job_of(body),
+        Form::SelectFile { name } => selection_of(name, body),
+        Form::PutEntry => entry_of(body),
+        _ => unreachable!(),
+    }
+}
+
+// What a reading returns, BadBody if it returns nothing.
+fn or_bad_body(read: Option<Request>) -> Result<Request, Direct>
+    ensures { Gives read result }
+{
+    match read {
+        Some(request) => Ok(request),
+        None => Err(Direct::BadBody),
+    }
+}
+
+// What a body asks in a form.
+pub(crate) fn asked_in(alloc: Global, form: &Form, body: &Value) -> Result<Request, Direct>
+    ensures { Gives (asked_in form.now (view body.now)) result }
+{
+    match form {
+        Form::Lines => lines_of(alloc, body),
+        Form::PutUser => user_of(alloc, body),
+        Form::ChangeUser { name } => change_of(alloc, name, body),
+        _ => or_bad_body(request_of_form(form, body)),
+    }
+}

@@ -1,0 +1,52 @@
+-- The calls that a worker's asks add, and the replies that follow.
+use Rattle.std.proofs.Common.{◌≡◌, ℕ, Bool, true, List, [], ◌∷◌, ◌++◌, Option, Some, None, refl, sym, ap, subst, ◌∙◌}
+use Rattle.std.specs.Prelude.{option_map, Result, Ok, Err, IfOk, OnErr}
+use Rattle.std.specs.Option.{option_map_or}
+use Rattle.octo_outside.specs.Recorded.{Adds}
+use Rattle.octo_outside.proofs.Recorded.{adds_none}
+use Rattle.octo_asks.specs.declared.answer.Answer.{Answer}
+use Rattle.octo_asks.specs.declared.asker.Closed.{Closed}
+use Rattle.octo_asks.specs.declared.request.Ask.{Ask}
+use Rattle.octo_asks.specs.declared.entry.Entry.TheVariants as entry
+use Rattle.octo_asks.specs.History.{History, Finishes}
+use Rattle.octo_http.specs.declared.reply.HttpReply.{HttpReply}
+use Rattle.octo_http.specs.Reply.{reply_bytes}
+use Rattle.octo_api_replies.specs.Replies.{empty_reply}
+use Rattle.octo_api_worker.specs.Worked.{no_leave, one_leave, leave_ask, HasLeft}
+use Rattle.std.proofs.lemmas.Option.{same_Some, none-some}
+
+-- nothing is added if all stays
+pub added_none : {A : Type 0} (old new : Option (List A)) → new ≡ old → Adds old new []
+added_none {A} old new same =
+    let At : Option (List A) → Type 0 = λ now. Adds old now [] in
+    subst At (sym same) (adds_none old)
+
+-- the call that an answered ask adds; of a worker that doesn't record its calls, any
+pub call_of : (ask : Ask) (answer : Answer) (mine mine' : Option History) → Finishes ask answer mine mine'
+    → (worker : ℕ) × (moment : ℕ) × Adds mine mine' (entry.Call worker ask moment answer ∷ [])
+call_of ask answer mine None finishes = (0, 0, λ now e. absurd (none-some now e))
+call_of ask answer mine (Some now) finishes =
+    let got = finishes now refl in
+    (got.4.0, got.4.1, λ other e. (got.0, got.1, got.2, sym (same_Some now other e) ∙ got.3, got.4.2))
+
+-- the bytes of the reply to a fault
+pub fault_reply : (status : Option ℕ) (reply : HttpReply) → Some reply ≡ option_map empty_reply status
+    → reply_bytes reply ≡ option_map_or (λ s. reply_bytes (empty_reply s)) status []
+fault_reply None reply e = absurd cc
+fault_reply (Some status) reply e = ap reply_bytes (same_Some reply (empty_reply status) e)
+
+-- what a worker's last ask adds: a call, or nothing if the host has ended
+left_by : (result : Result Answer Closed) (mine mine' : Option History) (saw_close : Bool)
+    → IfOk result (λ answer. Finishes leave_ask answer mine mine') → OnErr result (mine' ≡ mine) → OnErr result (saw_close ≡ true)
+    → HasLeft mine mine' saw_close
+left_by (Ok answer) mine mine' saw_close finishes same closed =
+    let call = call_of leave_ask answer mine mine' finishes in
+    (entry.Call call.0 leave_ask call.1 answer ∷ [], one_leave call.0 call.1 answer, call.2, λ none. absurd cc)
+left_by (Err end) mine mine' saw_close finishes same closed = ([], no_leave, added_none mine mine' same, λ _. closed)
+
+-- the same of an ask that is that one
+pub left_by_ask : (ask : Ask) (result : Result Answer Closed) (mine mine' : Option History) (saw_close : Bool)
+    → IfOk result (λ answer. Finishes ask answer mine mine') → ask ≡ leave_ask → OnErr result (mine' ≡ mine) → OnErr result (saw_close ≡ true)
+    → HasLeft mine mine' saw_close
+left_by_ask ask result mine mine' saw_close finishes is same closed =
+    left_by result mine mine' saw_close (subst (λ (a : Ask). IfOk result (λ answer. Finishes a answer mine mine')) is finishes) same closed

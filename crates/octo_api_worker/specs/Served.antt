@@ -1,0 +1,70 @@
+-- What a connection's input says to a worker, what is written in reply, and the calls that it leads to.
+use Rattle.std.specs.Prelude.{◌≡◌, ◌⊎◌, ℕ, ◌<◌, Bool, true, false, List, [], ◌∷◌, ◌++◌, take, Option, Result, Ok, Err, IfSome}
+use Rattle.std.specs.Option.{option_map_or}
+use Rattle.octo_outside.specs.Recorded.{Adds, AddsPrefix, Rose}
+use Rattle.octo_outside_doors.specs.Doors.{ConnState, fresh_conn}
+use Rattle.octo_http.specs.declared.fault.MessageFault.{MessageFault}
+use Rattle.octo_http.specs.declared.fault.MessageFault.TheVariants.{ReadFault}
+use Rattle.octo_http.specs.declared.message.Message.{Message}
+use Rattle.octo_http.specs.declared.reply.HttpReply.{HttpReply}
+use Rattle.octo_http.specs.Message.{ReadsMessage, Answers, IsSlow}
+use Rattle.octo_http.specs.Reply.{reply_bytes}
+use Rattle.octo_asks.specs.declared.answer.Answer.{Answer}
+use Rattle.octo_asks.specs.declared.answer.Answer.TheVariants as answer
+use Rattle.octo_asks.specs.declared.request.Ask.{Ask}
+use Rattle.octo_asks.specs.declared.entry.Entry.TheVariants as entry
+use Rattle.octo_asks.specs.History.{History}
+use Rattle.octo_api_routes.specs.declared.direct.Direct.{Direct}
+use Rattle.octo_api_replies.specs.Replies.{empty_reply, reply_of, direct_status, fault_status}
+use Rattle.octo_api_requests.specs.Requests.{MessageReadsAs}
+use Rattle.octo_api_requests.specs.Callers.{IsCallers}
+
+-- a call wrote these bytes; if it failed, which was counted, perhaps only the first of them
+abbrev pub Sends : (written written' : Option (List ℕ)) → (faults faults' : ℕ) → List ℕ → Type 0
+Sends written written' faults faults' bytes = Adds written written' bytes ⊎ (Rose faults faults' × AddsPrefix written written' bytes)
+
+-- these bytes were written; if a call of the connection failed, perhaps only the first of them
+abbrev pub Wrote : ConnState → List ℕ → Type 0
+Wrote conn bytes = IfSome conn.written (λ written. (written ≡ bytes) ⊎ ((0 < conn.faults) × (n : ℕ) × (written ≡ take n bytes)))
+
+-- the reply to a fault of a message; none if the peer has gone
+abbrev pub fault_bytes : MessageFault → List ℕ
+fault_bytes fault = option_map_or (λ status. reply_bytes (empty_reply status)) (fault_status fault) []
+
+-- a failed read was counted, and a slow peer's quiet reads are as many as the worker waits through
+pub record HasCause (patience : ℕ) (conn : ConnState) (fault : MessageFault) : Type 0 where
+  pub failed : fault ≡ ReadFault → 0 < conn.faults
+  pub slow : IsSlow patience 0 conn.quiets fault
+
+-- the reply to an answer, or 507 if memory ran out
+abbrev pub IsReply : Answer → HttpReply → Type 0
+IsReply answer reply = (reply ≡ reply_of answer) ⊎ (reply ≡ empty_reply 507)
+
+-- the reply to a message, whether the host hasn't ended, and the calls that the message led to
+pub data IsReplied (message : Message) : HttpReply → Bool → History → Type 0 where
+  refused : (direct : Direct) → MessageReadsAs message (Err direct) → IsReplied message (empty_reply (direct_status direct)) true []
+  ended : (ask : Ask) (reply : HttpReply) → MessageReadsAs message (Ok ask) → IsReply answer.Closed reply → IsReplied message reply false []
+  answered : (ask : Ask) (worker moment : ℕ) (a : Answer) (reply : HttpReply) → MessageReadsAs message (Ok ask) → IsCallers ask.request → IsReply a reply
+      → IsReplied message reply true (entry.Call worker ask moment a ∷ [])
+
+-- a connection with this input was served: it holds no message, or a message that is replied to
+pub data IsServed (patience : ℕ) (input : List ℕ) (conn : ConnState) : Bool → History → Type 0 where
+  no_message : (fault : MessageFault) (sent : List ℕ) → Answers input conn.left (Err fault) sent → HasCause patience conn fault
+      → Wrote conn (sent ++ fault_bytes fault) → IsServed patience input conn true []
+  message : (m : Message) (sent : List ℕ) (reply : HttpReply) (is_open : Bool) (calls : History) → ReadsMessage input (Ok m) sent
+      → IsReplied m reply is_open calls → Wrote conn (sent ++ reply_bytes reply) → IsServed patience input conn is_open calls
+
+-- the calls that a connection led to: none, or one with a caller's request
+pub data LeadsTo : History → Type 0 where
+  no_call : LeadsTo []
+  one_call : (worker moment : ℕ) (ask : Ask) (a : Answer) → IsCallers ask.request → LeadsTo (entry.Call worker ask moment a ∷ [])
+
+-- a connection was served, whatever it records, and led to at most one call
+abbrev pub AsksOnce : Option History → Option History → Type 0
+AsksOnce mine mine' = (calls : History) × LeadsTo calls × Adds mine mine' calls
+
+-- an untouched connection was served, and the asker's calls grew by those that it led to
+abbrev pub HasServed : ℕ → (old new : ConnState) → (mine mine' : Option History) → Bool → Type 0
+HasServed patience old new mine mine' is_open =
+    (input : List ℕ) → old ≡ fresh_conn input
+    → (calls : History) × Adds mine mine' calls × IsServed patience input new is_open calls

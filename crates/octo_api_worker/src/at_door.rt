@@ -1,0 +1,147 @@
+//! A worker at its door.
+ghost use Rattle.std.specs.Prelude.{◌≡◌, ◌≢◌, ◌⊎◌, ℕ, List, [], ◌∷◌, true, false, Some};
+ghost use Rattle.octo_outside.specs.Recorded.{Adds, Rose};
+ghost use Rattle.octo_asks.specs.History.{History};
+ghost use Rattle.octo_outside_doors.specs.Doors.{ConnState, state_of, fresh_conn};
+ghost use Rattle.octo_api_worker.specs.declared.at_door.Visit.TheVariants as visit;
+ghost use Rattle.octo_api_worker.specs.Served.{IsServed, AsksOnce};
+ghost use Rattle.octo_api_worker.specs.Worked.{leave_ask, HasVisited, HasLeft, HasReturned, HasWorked, is_open};
+
+use crate::serve::serve_conn;
+use octo_api_routes::Routes;
+use octo_asks::{Ask, Asker, Request};
+use octo_outside::{Blob, Failed};
+use octo_outside_doors::{Door, Knock};
+use std::alloc::Global;
+use std::sync::Wait;
+
+// What one look at the door came to.
+#[derive(Clone, Copy, Debug, PartialEq, Eq)]
+pub(crate) enum Visit {
+    // The worker goes on.
+    Open,
+    // The host has ended.
+    Closed,
+    // No connection will come any more.
+    Ended,
+    // The door failed.
+    Failed,
+}
+
+// Looks at the door, and serves the connection that has come.
+fn look_at_door<D: Door, A: Asker>(
+    alloc: Global,
+    routes: &Routes,
+    door: &mut D,
+    asker: &mut A,
+    patience: u32,
+) -> Visit
+    ensures visited { (inputs : List (List ℕ)) → D.coming door.old ≡ Some inputs
+        → HasVisited patience inputs (D.coming door.new) (D.served door.old) (D.served door.new)
+        (A.mine asker.old) (A.mine asker.new) result }
+    ensures once { AsksOnce (A.mine asker.old) (A.mine asker.new) }
+    ensures closed { result ≡ visit.Closed → A.saw_close asker.new ≡ true }
+    ensures place { A.place asker.new ≡ A.place asker.old }
+    ensures held { result ≢ visit.Failed → D.faults door.new ≡ D.faults door.old }
+    ensures failed { result ≡ visit.Failed → Rose (D.faults door.old) (D.faults door.new) }
+{
+    if asker.closed() {
+        return Visit::Closed;
+    }
+    match door.accept() {
+        Ok(Knock::Conn(conn)) => serve_and_finish(alloc, routes, door, conn, asker, patience),
+        Ok(Knock::Quiet) => Visit::Open,
+        Ok(Knock::Ended) => Visit::Ended,
+        Err(Failed) => Visit::Failed,
+    }
+}
+
+// Serves a connection and returns it to the door.
+fn serve_and_finish<D: Door, A: Asker>(
+    alloc: Global,
+    routes: &Routes,
+    door: &mut D,
+    conn: D::Conn,
+    asker: &mut A,
+    patience: u32,
+) -> Visit
+    ensures served { (input : List ℕ)
+        → state_of D.Conn.left D.Conn.written D.Conn.faults D.Conn.quiets conn ≡ fresh_conn input
+        → (after : ConnState) × (calls : History)
+        × IsServed patience input after (is_open result) calls
+        × Adds (D.served door.old) (D.served door.new) (after ∷ [])
+        × Adds (A.mine asker.old) (A.mine asker.new) calls }
+    ensures once { AsksOnce (A.mine asker.old) (A.mine asker.new) }
+    ensures either { (result ≡ visit.Open)
+        ⊎ ((result ≡ visit.Closed) × (A.saw_close asker.new ≡ true)) }
+    ensures place { A.place asker.new ≡ A.place asker.old }
+    ensures coming { D.coming door.new ≡ D.coming door.old }
+    ensures faults { D.faults door.new ≡ D.faults door.old }
+{
+    let mut conn = conn;
+    let is_open = serve_conn(alloc, routes, &mut conn, asker, patience);
+    door.finish(conn);
+    if is_open { Visit::Open } else { Visit::Closed }
+}
+
+// The ask with which a worker leaves.
+fn leave_ask(alloc: Global) -> Ask
+    ensures { result ≡ leave_ask }
+{
+    Ask {
+        key: Blob::new(alloc),
+        request: Request::Leave,
+    }
+}
+
+// Says that this worker leaves. The answer doesn't matter; without one the host has ended.
+fn leave<A: Asker>(alloc: Global, asker: &mut A)
+    ensures left { HasLeft (A.mine asker.old) (A.mine asker.new) (A.saw_close asker.new) }
+    ensures seen { A.saw_close asker.old ≡ true → A.saw_close asker.new ≡ true }
+    ensures place { A.place asker.new ≡ A.place asker.old }
+{
+    let _ = asker.ask(leave_ask(alloc));
+}
+
+/// Serves the connections of a door until no more come, the door fails or the host has ended. Returns whether the door held.
+///
+/// It leaves by an ask of its own if the door has ended or failed. It waits at its door and for its answers. It only reads
+/// the table of routes, which several workers may share.
+pub fn worker<R: Wait, D: Door, A: Asker>(
+    rt: &R,
+    alloc: Global,
+    routes: &Routes,
+    door: &mut D,
+    asker: &mut A,
+    patience: u32,
+) -> bool
+    // The connections of a door that records them are served one after the other.
+    ensures served { (inputs : List (List ℕ)) → D.coming door.old ≡ Some inputs
+        → HasWorked patience inputs (D.coming door.new) (D.served door.old) (D.served door.new)
+        (A.mine asker.old) (A.mine asker.new) (A.saw_close asker.new) result }
+    ensures place { A.place asker.new ≡ A.place asker.old }
+
+    // Whatever its door records, it has left or has seen that the host has ended.
+    ensures returned { HasReturned (A.mine asker.old) (A.mine asker.new)
+        (A.saw_close asker.new) }
+
+    // It returns false exactly if a call of the door failed.
+    ensures held { result ≡ true → D.faults door.new ≡ D.faults door.old }
+    ensures failed { result ≡ false → Rose (D.faults door.old) (D.faults door.new) }
+{
+    for _ in rt.forever() {
+        match look_at_door(alloc, routes, door, asker, patience) {
+            Visit::Open => {}
+            Visit::Closed => return true,
+            Visit::Ended => {
+                leave(alloc, asker);
+                return true;
+            }
+            Visit::Failed => {
+                leave(alloc, asker);
+                return false;
+            }
+        }
+    }
+    unreachable!()
+}

@@ -1,0 +1,75 @@
+//! One connection: a message, and its reply.
+ghost use Rattle.std.specs.Prelude.{◌≡◌, ◌≤◌, true, false};
+ghost use Rattle.octo_outside_doors.specs.Doors.{state_of};
+ghost use Rattle.octo_http.specs.Reply.{reply_bytes};
+ghost use Rattle.octo_api_worker.specs.Served.{Sends, HasServed, AsksOnce, fault_bytes};
+
+use crate::reply::reply_to_message;
+use octo_api_replies::fault_bytes;
+use octo_api_routes::Routes;
+use octo_asks::Asker;
+use octo_http::{HttpReply, MessageFault, read_message, write_reply};
+use octo_outside::{Conn, Failed};
+use std::alloc::Global;
+
+// Writes a reply, and ignores a failure: the connection counts it, and nobody is left who could be answered.
+fn write_reply_or_ignore<C: Conn>(conn: &mut C, reply: &HttpReply)
+    ensures written { Sends (C.written conn.old) (C.written conn.new)
+        (C.faults conn.old) (C.faults conn.new) (reply_bytes reply.now) }
+    ensures left { C.left conn.new ≡ C.left conn.old }
+    ensures quiets { C.quiets conn.new ≡ C.quiets conn.old }
+    ensures counted { C.faults conn.old ≤ C.faults conn.new }
+{
+    match write_reply(conn, reply) {
+        Ok(()) | Err(Failed) => {}
+    }
+}
+
+// Writes the reply to a fault, if the peer is still there.
+fn refuse<C: Conn>(alloc: Global, conn: &mut C, fault: &MessageFault)
+    ensures written { Sends (C.written conn.old) (C.written conn.new)
+        (C.faults conn.old) (C.faults conn.new) (fault_bytes fault.now) }
+    ensures left { C.left conn.new ≡ C.left conn.old }
+    ensures quiets { C.quiets conn.new ≡ C.quiets conn.old }
+    ensures counted { C.faults conn.old ≤ C.faults conn.new }
+{
+    match fault_bytes(alloc, fault) {
+        Some(reply) => write_reply_or_ignore(conn, &reply),
+        None => {}
+    }
+}
+
+/// Reads one message of a connection, asks what it says and writes the reply. Returns whether the host hasn't ended.
+///
+/// It waits through at most `patience` quiet reads. If memory runs out, the reply is 507.
+pub fn serve_conn<C: Conn, A: Asker>(
+    alloc: Global,
+    routes: &Routes,
+    conn: &mut C,
+    asker: &mut A,
+    patience: u32,
+) -> bool
+    ensures served { HasServed patience (state_of C.left C.written C.faults C.quiets conn.old)
+        (state_of C.left C.written C.faults C.quiets conn.new)
+        (A.mine asker.old) (A.mine asker.new) result }
+
+    // Whatever the connection records, it leads to at most one call, of a caller's request.
+    ensures once { AsksOnce (A.mine asker.old) (A.mine asker.new) }
+
+    // Only a host that has ended is seen to have, and what was seen stays.
+    ensures closed { result ≡ false → A.saw_close asker.new ≡ true }
+    ensures seen { A.saw_close asker.old ≡ true → A.saw_close asker.new ≡ true }
+    ensures place { A.place asker.new ≡ A.place asker.old }
+{
+    match read_message(alloc, conn, patience) {
+        Ok(message) => {
+            let replied = reply_to_message(alloc, routes, asker, message);
+            write_reply_or_ignore(conn, &replied.reply);
+            replied.is_open
+        }
+        Err(fault) => {
+            refuse(alloc, conn, &fault);
+            true
+        }
+    }
+}

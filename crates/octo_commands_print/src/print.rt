@@ -1,0 +1,156 @@
+//! A file read, and printed over a link.
+ghost use Rattle.std.specs.Prelude.{◌≡◌, ◌≢◌, ◌↔◌, ◌⊎◌, ℕ, List, length, codes, false, None, Ok, Err, IfOk, IfErr};
+ghost use Rattle.std.specs.Option.{option_map};
+ghost use Rattle.octo_outside.specs.Recorded.{Counts};
+ghost use Rattle.gcode_lines.specs.Job.{JobData};
+ghost use Rattle.temp_rules.specs.Hot.{first_hot_of};
+ghost use Rattle.job_desk.specs.Data.{new_desk};
+ghost use Rattle.send_window.specs.Data.{new_sender};
+ghost use Rattle.send_window.specs.declared.session_end.SessionEnd.TheVariants.{NoAnswer};
+ghost use Rattle.printer_link.specs.Link.{RoseBy};
+ghost use Rattle.octo_session_print.specs.Ends.{IsNew};
+ghost use Rattle.octo_session_print.specs.Waiting.{HasWaited};
+ghost use Rattle.octo_session_print.specs.declared.end.PrintEnd.TheVariants as end;
+ghost use Rattle.octo_settings.specs.Sound.{IsSettings};
+ghost use Rattle.octo_files.specs.declared.report.Report.TheVariants as report;
+ghost use Rattle.octo_commands_print.specs.Printing.{IsFilePrint, IsRefused, IsRun, WaitedBySettings, seen_of, over_port, print_end_report};
+
+use byte_text::Name;
+use gcode_lines::Job;
+use job_desk::Desk;
+use octo_files::{Report, read_job, read_settings_of};
+use octo_outside::{Clock, Source};
+use octo_session::Session;
+use octo_session_print::{PrintEnd, run_print};
+use octo_settings::Settings;
+use printer_link::Link;
+use send_window::Sender;
+use std::alloc::{AllocError, Global};
+use temp_rules::HotLine;
+
+/// A session that sends and keeps its limits as the settings say. Fails if out of memory.
+pub fn session_of(alloc: Global, settings: Settings) -> Result<Session, AllocError>
+    requires { IsSettings settings }
+    ensures new { IfOk result IsNew }
+    ensures desk { IfOk result
+        (λ s. s.desk ≡ new_desk settings.scripts settings.limits settings.poll_ms) }
+    ensures sender { IfOk result (λ s. s.sender ≡ new_sender settings.window settings.limit_ms) }
+{
+    let desk = Desk::new(alloc, settings.scripts, settings.limits, settings.poll_ms)?;
+    let sender = Sender::new(alloc, settings.window, settings.limit_ms)?;
+    Ok(Session::new(desk, sender))
+}
+
+// The name that the file has at the desk.
+fn file_name() -> Name
+    ensures { result ≡ codes "file" }
+{
+    Name::of_short("file")
+}
+
+// How an end of a print over this port is reported, of a job with these numbers of commands and skipped lines.
+fn report_of(end: PrintEnd, port: &Name, commands: u32, skipped: u32) -> Report
+    ensures { (job : JobData) → commands ≡ length job.commands → skipped ≡ job.skipped
+        → result ≡ print_end_report end port.now job }
+{
+    match end {
+        PrintEnd::Done => Report::Printed { commands, skipped },
+        PrintEnd::TooHot { line, asked, limit } => Report::TooHot(HotLine { line, asked, limit }),
+        PrintEnd::NoPort => Report::NoPort { port: port.copy() },
+        PrintEnd::LinkFailed => Report::LinkFailed,
+        PrintEnd::Ended(end) => Report::Ended(end),
+        PrintEnd::TurnsUsed { turns } => Report::TurnsUsed { turns },
+    }
+}
+
+// Prints a job over the port of that name, by the settings.
+fn print_job<L: Link, T: Clock>(
+    alloc: Global,
+    link: &mut L,
+    clock: &mut T,
+    port: &Name,
+    job: Job,
+    settings: Settings,
+    turns: u64,
+) -> Report
+    requires down { L.up link.old ≡ false }
+    requires sound { IsSettings settings }
+    requires cool { first_hot_of settings.limits job.commands ≡ None }
+
+    // The result.
+    ensures run { IsRefused (seen_of (L.past link.old) (L.past link.new)
+        (L.faults link.old) (L.faults link.new) (T.moment clock.new)) result report.NoMemory
+        ⊎ IsRun (L.kind link.old) settings job (over_port port.now turns)
+        (seen_of (L.past link.old) (L.past link.new)
+        (L.faults link.old) (L.faults link.new) (T.moment clock.new)) result }
+
+    // The link.
+    ensures down { L.up link.new ≡ false }
+    ensures kind { L.kind link.new ≡ L.kind link.old }
+    ensures counts { Counts (result ≡ report.LinkFailed) (L.faults link.old) (L.faults link.new) }
+    ensures used { (made : ℕ) → result ≡ report.TurnsUsed made
+        → RoseBy turns (L.calls link.old) (L.calls link.new) }
+    ensures source { result ≢ report.SourceFailed }
+
+    // The clock.
+    ensures waited { (count : ℕ) → result ≡ report.Ended (NoAnswer count)
+        → HasWaited (end.Ended (NoAnswer count)) (T.moment clock.old) settings.limit_ms
+        (T.moment clock.new) }
+{
+    let commands = job.count() as u32;
+    let skipped = job.skipped();
+    match session_of(alloc, settings) {
+        Ok(mut session) => {
+            let end = run_print(&mut session, link, clock, port, &file_name(), job, turns);
+            report_of(end, port, commands, skipped)
+        }
+        Err(AllocError) => Report::NoMemory,
+    }
+}
+
+/// Prints the file of that name over the port of that name, in at most this number of turns, by the settings in the file
+/// named for them, or by the defaults. Settings and file are read before anything is sent.
+pub fn print_file<F: Source, L: Link, T: Clock>(
+    alloc: Global,
+    files: &mut F,
+    link: &mut L,
+    clock: &mut T,
+    port: &Name,
+    file: &str,
+    turns: u64,
+    settings: Option<&str>,
+) -> Report
+    requires down { L.up link.old ≡ false }
+
+    // The result.
+    ensures print { IsFilePrint (L.kind link.old) (F.files files.old)
+        (option_map (λ s. s.now) settings.entry) file.now (over_port port.now turns)
+        (seen_of (L.past link.old) (L.past link.new)
+        (L.faults link.old) (L.faults link.new) (T.moment clock.new)) result }
+
+    // The source.
+    ensures files { F.files files.new ≡ F.files files.old }
+    ensures source { Counts (result ≡ report.SourceFailed)
+        (F.faults files.old) (F.faults files.new) }
+
+    // The link.
+    ensures down { L.up link.new ≡ false }
+    ensures kind { L.kind link.new ≡ L.kind link.old }
+    ensures link { Counts (result ≡ report.LinkFailed) (L.faults link.old) (L.faults link.new) }
+    ensures used { (made : ℕ) → result ≡ report.TurnsUsed made
+        → RoseBy turns (L.calls link.old) (L.calls link.new) }
+
+    // The clock.
+    ensures waited { (count : ℕ) → result ≡ report.Ended (NoAnswer count)
+        → WaitedBySettings (F.files files.old) (option_map (λ s. s.now) settings.entry) count
+        (T.moment clock.old) (T.moment clock.new) }
+{
+    let settings = match read_settings_of(alloc, files, settings) {
+        Ok(settings) => settings,
+        Err(report) => return report,
+    };
+    match read_job(alloc, files, file, &settings.limits) {
+        Ok(job) => print_job(alloc, link, clock, port, job, settings, turns),
+        Err(report) => report,
+    }
+}

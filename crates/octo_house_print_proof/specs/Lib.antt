@@ -1,0 +1,4 @@
+pub mod InStep
+pub mod Laws
+pub mod Prints
+pub mod Tied

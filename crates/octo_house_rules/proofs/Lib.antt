@@ -1,0 +1,9 @@
+pub mod Asked
+pub mod Denied
+pub mod Fates
+pub mod Histories
+pub mod Isolated
+pub mod Played
+pub mod Repeated
+pub mod Runs
+pub mod Verdicts

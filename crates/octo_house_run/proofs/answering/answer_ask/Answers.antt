@@ -1,0 +1,50 @@
+use Rattle.std.proofs.Common.{◌&&◌, inl, [], ◌∷◌, Option, Some, refl, sym, ap, subst, ◌∙◌}
+use Rattle.std.specs.Prelude.{IfSome}
+use Rattle.octo_outside.specs.Recorded.{Adds}
+use Rattle.octo_outside.proofs.Recorded.{became_so}
+use Rattle.octo_asks.specs.History.{History}
+use Rattle.octo_asks.specs.declared.counter.Given.{Given}
+use Rattle.octo_asks.specs.declared.entry.Entry.TheVariants as entry
+use Rattle.octo_house.specs.State.{known_of, session_of}
+use Rattle.octo_house_run.specs.declared.tally.Asked.{Asked}
+use Rattle.octo_house_run_proof.specs.Rounds.{AsksAt}
+use Rattle.octo_house_run_proof.proofs.Counting.{call_asks}
+use Rattle.octo_house_run.specs.Tallies.{AreOf}
+use Rattle.octo_house_run.proofs.Asking.{call_walks}
+use Rattle.octo_house_run.proofs.Tallying.{call_counts}
+use Rattle.octo_house_run.proofs.answering.answer_ask.Goals as goal
+
+pub returns-clause-leads : goal.returns-clause-leads
+returns-clause-leads g c before below =
+    let past = g.C.Counter.past c.args.counter.now in
+    let past' = g.C.Counter.past c.answer.new.self in
+    let Adds_by : Option Given → Type 0 = λ given. IfSome given (λ one. Adds past past' (entry.Call c.args.worker one.ask c.args.moment c.ask-answer.result ∷ [])) in
+    call_walks (known_of c.args.house.now) (known_of c.ask-answer.new.self) (session_of c.args.house.now) (session_of c.ask-answer.new.self) past past' _ _
+    c.args.worker c.args.ask c.args.moment c.ask-answer.result (subst Adds_by c.requires.given c.answer.ensures.past)
+    (λ files at. c.ask-answer.ensures.done files (inl at)) c.ask-answer.ensures.files
+    c.ask-answer.ensures.rest.apart.sender c.ask-answer.ensures.rest.apart.up refl before below
+
+pub returns-clause-counted : goal.returns-clause-counted
+returns-clause-counted g c =
+    let past = g.C.Counter.past c.args.counter.now in
+    let past' = g.C.Counter.past c.answer.new.self in
+    let Adds_by : Option Given → Type 0 = λ given. IfSome given (λ one. Adds past past' (entry.Call c.args.worker one.ask c.args.moment c.ask-answer.result ∷ [])) in
+    became_so past past' _ _ (subst Adds_by c.requires.given c.answer.ensures.past)
+    (λ old added is. subst (λ (h : History). AreOf (Some c.asked_as.result) h) (sym is)
+    (call_counts c.args.worker c.args.ask c.args.moment c.ask-answer.result c.asked_as.result
+    (sym c.is_leave-leaves.ensures ∙ sym (ap (λ (a : Asked). a.is_leave) c.asked_as.ensures))
+    (c.is_shutdown_request-shuts.ensures c.ask-answer.result ∙ ap (λ b. c.is_shutdown_request-shuts.result && b) (sym c.is_accepted-accepted.ensures)
+    ∙ sym (ap (λ (a : Asked). a.is_shutdown) c.asked_as.ensures))))
+
+pub returns-clause-asks : goal.returns-clause-asks
+returns-clause-asks g c =
+    let past = g.C.Counter.past c.args.counter.now in
+    let past' = g.C.Counter.past c.answer.new.self in
+    let keeper = g.K.Keeper.faults c.args.keeper.now in
+    let keeper' = g.K.Keeper.faults c.ask-answer.new.keeper in
+    let shelf = g.S.Shelf.faults c.args.shelf.now in
+    let shelf' = g.S.Shelf.faults c.ask-answer.new.shelf in
+    let Adds_by : Option Given → Type 0 = λ given. IfSome given (λ one. Adds past past' (entry.Call c.args.worker one.ask c.args.moment c.ask-answer.result ∷ [])) in
+    became_so past past' _ _ (subst Adds_by c.requires.given c.answer.ensures.past)
+    (λ old added is. subst (λ (h : History). AsksAt c.args.moment keeper keeper' shelf shelf' h) (sym is)
+    (call_asks c.args.moment keeper keeper' shelf shelf' c.args.worker c.args.ask c.ask-answer.result c.ask-answer.ensures.rest.keeper c.ask-answer.ensures.rest.shelf))

@@ -1,0 +1,5 @@
+-- The words of a host's run over a counter.
+pub mod Asks
+pub mod Runs
+pub mod Tallies
+pub mod Turns

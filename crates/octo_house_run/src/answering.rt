@@ -1,0 +1,114 @@
+//! Asks of a counter, answered by a host.
+ghost use Rattle.std.specs.Prelude.{◌≡◌, ◌&&◌, Some, None, false};
+ghost use Rattle.octo_outside.specs.Recorded.{Became};
+ghost use Rattle.octo_asks.specs.declared.answer.Answer.{Answer};
+ghost use Rattle.octo_asks.specs.declared.request.Request.TheVariants.{Shutdown};
+ghost use Rattle.octo_house_rules.specs.Counted.{is_leave, is_shutdown};
+ghost use Rattle.octo_house_run_proof.specs.Rounds.{AsksAt};
+ghost use Rattle.octo_house_run.specs.Asks.{AskLeaves};
+ghost use Rattle.octo_house_run.specs.Runs.{Leads};
+ghost use Rattle.octo_house_run.specs.Tallies.{AreOf};
+
+use crate::tally::Asked;
+use octo_asks::{Answer, Ask, Counter, Next, Request};
+use octo_house::House;
+use octo_keeper::{Keeper, Shelf};
+
+// Whether a worker leaves with this request.
+fn is_leave(request: &Request) -> bool
+    ensures { result ≡ is_leave request.now }
+{
+    matches!(request, Request::Leave)
+}
+
+// Whether it asks for a shutdown.
+fn is_shutdown_request(request: &Request) -> bool
+    ensures { (x : Answer) → is_shutdown request.now x ≡ (result && is_shutdown Shutdown x) }
+{
+    matches!(request, Request::Shutdown)
+}
+
+// Whether a shutdown with this answer was accepted.
+fn is_accepted(answer: &Answer) -> bool
+    ensures { result ≡ is_shutdown Shutdown answer.now }
+{
+    matches!(answer, Answer::Accepted)
+}
+
+// An ask that was a leave or a shutdown, or neither.
+fn asked_as(leaves: bool, shuts: bool, accepted: bool) -> Asked
+    ensures { result ≡ record { is_leave = leaves; is_shutdown = shuts && accepted } }
+{
+    Asked {
+        is_leave: leaves,
+        is_shutdown: shuts && accepted,
+    }
+}
+
+// Answers the next ask, if there is one, at a moment in milliseconds that isn't before the last entry.
+pub(crate) fn answer_next<C: Counter, K: Keeper, S: Shelf>(
+    house: &mut House,
+    counter: &mut C,
+    keeper: &mut K,
+    shelf: &mut S,
+    moment: u64,
+) -> Option<Asked>
+    requires answered { C.given counter.old ≡ None }
+    requires open { C.closed counter.old ≡ false }
+
+    // The history goes on.
+    ensures leads { Leads (C.past counter.old) (C.past counter.new)
+        (S.files shelf.old) (S.files shelf.new) moment house.old house.new }
+    ensures counted { Became (C.past counter.old) (C.past counter.new)
+        (λ _ added. AreOf result added) }
+    ensures asks { Became (C.past counter.old) (C.past counter.new)
+        (λ _ added. AsksAt moment (K.faults keeper.old) (K.faults keeper.new)
+        (S.faults shelf.old) (S.faults shelf.new) added) }
+
+    // What stays.
+    ensures rest { AskLeaves K.tables K.faults S.files S.faults
+        keeper.old keeper.new shelf.old shelf.new house.old house.new }
+    ensures given { C.given counter.new ≡ None }
+    ensures closed { C.closed counter.new ≡ false }
+    ensures place { C.place counter.new ≡ C.place counter.old }
+{
+    match counter.next() {
+        Next::Nothing => None,
+        Next::Asked { worker, ask } => {
+            Some(answer_ask(house, counter, keeper, shelf, worker, ask, moment))
+        }
+    }
+}
+
+// Answers an ask that was given out.
+fn answer_ask<C: Counter, K: Keeper, S: Shelf>(
+    house: &mut House,
+    counter: &mut C,
+    keeper: &mut K,
+    shelf: &mut S,
+    worker: u8,
+    ask: Ask,
+    moment: u64,
+) -> Asked
+    requires given { C.given counter.old ≡ Some (record { worker = worker; ask = ask }) }
+    requires open { C.closed counter.old ≡ false }
+    ensures leads { Leads (C.past counter.old) (C.past counter.new)
+        (S.files shelf.old) (S.files shelf.new) moment house.old house.new }
+    ensures counted { Became (C.past counter.old) (C.past counter.new)
+        (λ _ added. AreOf (Some result) added) }
+    ensures asks { Became (C.past counter.old) (C.past counter.new)
+        (λ _ added. AsksAt moment (K.faults keeper.old) (K.faults keeper.new)
+        (S.faults shelf.old) (S.faults shelf.new) added) }
+    ensures rest { AskLeaves K.tables K.faults S.files S.faults
+        keeper.old keeper.new shelf.old shelf.new house.old house.new }
+    ensures given { C.given counter.new ≡ None }
+    ensures closed { C.closed counter.new ≡ false }
+    ensures place { C.place counter.new ≡ C.place counter.old }
+{
+    let leaves = is_leave(&ask.request);
+    let shuts = is_shutdown_request(&ask.request);
+    let answer = house.ask(keeper, shelf, ask);
+    let accepted = is_accepted(&answer);
+    counter.answer(worker, moment, answer);
+    asked_as(leaves, shuts, accepted)
+}

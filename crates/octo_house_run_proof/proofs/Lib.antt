@@ -1,0 +1,16 @@
+pub mod Called
+pub mod Counting
+pub mod Dialling
+pub mod Found
+pub mod Hearing
+pub mod Noted
+pub mod Quiet
+pub mod Rising
+pub mod Showing
+pub mod Still
+pub mod Taking
+pub mod Timing
+pub mod Turned
+pub mod Turning
+pub mod Walking
+pub mod Worked

@@ -1,0 +1,11 @@
+pub mod Changed
+pub mod Commands
+pub mod QueueEntries
+pub mod Faults
+pub mod Found
+pub mod Heated
+pub mod Keeping
+pub mod Newest
+pub mod Put
+pub mod Records
+pub mod Replaced

@@ -1,0 +1,139 @@
+//! Single files of a folder.
+ghost use Rattle.std.specs.Prelude.{◌≡◌, ◌↔◌, false, None, Ok, Err, IsOk};
+ghost use Rattle.std.specs.IoError.{error_kind};
+ghost use Rattle.octo_access.specs.FileNames.{is_file_name};
+ghost use Rattle.octo_keeper.specs.declared.shelf.ShelfFault.TheVariants as fault;
+
+use crate::paths::{PART, path_in};
+use byte_text::Name;
+use gcode_lines::MOST_FILE_BYTES;
+use octo_access::is_file_name;
+use octo_keeper::ShelfFault;
+use octo_outside::{Blob, FileSource, ReadAll, read_all};
+use std::alloc::Global;
+use std::fs::{File, OpenFile};
+use std::io::{ErrorKind, Write};
+use std::rt::Files;
+use std::{fs, io};
+
+// The fault of a failed call of the system: out of memory only if the system says so.
+pub(crate) fn fault_of(error: &io::Error) -> ShelfFault
+    ensures { (result ≡ fault.NoMemory) ↔ (error_kind error.now ≡ ErrorKind.OutOfMemory) }
+{
+    match error.kind() {
+        ErrorKind::OutOfMemory => ShelfFault::NoMemory,
+        _ => ShelfFault::Failed,
+    }
+}
+
+// Whether a path names a regular file; a link isn't one.
+fn is_there<R: Files>(rt: &R, path: &str) -> Result<bool, ShelfFault> {
+    match fs::symlink_metadata(rt, path) {
+        Ok(metadata) => Ok(metadata.is_file()),
+        Err(error) if error.kind() == ErrorKind::NotFound => Ok(false),
+        Err(error) => Err(fault_of(&error)),
+    }
+}
+
+// All bytes of a file.
+fn read_bytes<R: Files + AllocGlobal + Clone + Drop>(
+    alloc: Global,
+    rt: &R,
+    path: &str,
+) -> Result<Blob, ShelfFault> {
+    let files = match rt.clone() {
+        Ok(files) => files,
+        Err(_) => return Err(ShelfFault::NoMemory),
+    };
+    let mut source = FileSource::new(files);
+    match read_all(alloc, &mut source, path, MOST_FILE_BYTES) {
+        Ok(bytes) => Ok(bytes),
+        Err(ReadAll::NoMemory) => Err(ShelfFault::NoMemory),
+        Err(_) => Err(ShelfFault::Failed),
+    }
+}
+
+// The bytes of a file, `None` if the folder has none of that name.
+pub(crate) fn read_file<R: Files + AllocGlobal + Clone + Drop>(
+    alloc: Global,
+    rt: &R,
+    folder: &Name,
+    name: &Name,
+) -> Result<Option<Blob>, ShelfFault>
+    ensures other { is_file_name name.now ≡ false → result ≡ Ok None }
+{
+    if !is_file_name(name.as_str()) {
+        return Ok(None);
+    }
+    let path = path_in(folder, name, "");
+    if !is_there(rt, path.as_str())? {
+        return Ok(None);
+    }
+    let bytes = read_bytes(alloc, rt, path.as_str())?;
+    Ok(Some(bytes))
+}
+
+// Writes a new file, and has the disk take it.
+fn write_new<R: Files>(rt: &R, path: &str, bytes: &[u8]) -> io::Result<()> {
+    let mut file = File::create_new(rt, path)?;
+    file.write_all(bytes)?;
+    file.sync_all()
+}
+
+// Has the disk take the names of a folder.
+fn sync_folder<R: Files>(rt: &R, folder: &Name) -> io::Result<()> {
+    let file = fs::open(rt, folder.as_str())?;
+    file.sync_all()
+}
+
+// Writes the new file beside the former one, and renames it.
+fn replace<R: Files>(rt: &R, part: &str, path: &str, bytes: &[u8]) -> io::Result<()> {
+    write_new(rt, part, bytes)?;
+    fs::rename(rt, part, path)
+}
+
+// Sets the bytes of a file: a new one is written beside it, synced and renamed, and then the folder is synced. Until the
+// rename the former file exists, also after a full disk.
+pub(crate) fn write_file<R: Files>(
+    rt: &R,
+    folder: &Name,
+    name: &Name,
+    bytes: &[u8],
+) -> Result<(), ShelfFault>
+    ensures other { is_file_name name.now ≡ false → result ≡ Err fault.Failed }
+{
+    if !is_file_name(name.as_str()) {
+        return Err(ShelfFault::Failed);
+    }
+    let path = path_in(folder, name, "");
+    let part = path_in(folder, name, PART);
+    let _ = fs::remove_file(rt, part.as_str());
+    if let Err(error) = replace(rt, part.as_str(), path.as_str(), bytes) {
+        let _ = fs::remove_file(rt, part.as_str());
+        return Err(fault_of(&error));
+    }
+    match sync_folder(rt, folder) {
+        Ok(()) => Ok(()),
+        Err(error) => Err(fault_of(&error)),
+    }
+}
+
+// Takes the file of that name out, if the folder has it.
+pub(crate) fn remove_file<R: Files>(rt: &R, folder: &Name, name: &Name) -> Result<(), ShelfFault>
+    ensures other { is_file_name name.now ≡ false → IsOk result }
+{
+    if !is_file_name(name.as_str()) {
+        return Ok(());
+    }
+    let path = path_in(folder, name, "");
+    if !is_there(rt, path.as_str())? {
+        return Ok(());
+    }
+    if let Err(error) = fs::remove_file(rt, path.as_str()) {
+        return Err(fault_of(&error));
+    }
+    match sync_folder(rt, folder) {
+        Ok(()) => Ok(()),
+        Err(error) => Err(fault_of(&error)),
+    }
+}

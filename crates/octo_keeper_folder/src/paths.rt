@@ -1,0 +1,25 @@
+//! The paths of the files on a shelf.
+ghost use Rattle.std.specs.Prelude.{◌≡◌, ◌≤◌, codes, length};
+ghost use Rattle.octo_keeper_folder.specs.Paths.{path_in};
+
+use arrayvec::ArrayString;
+use byte_text::Name;
+
+// The path of a file: a folder and a name, of at most 100 bytes each, and an ending.
+pub(crate) type FilePath = ArrayString<206>;
+
+// What the name of a file that isn't written whole yet ends with.
+pub(crate) const PART: &str = ".part";
+
+// The path of a file in a folder, with an ending of at most five bytes.
+pub(crate) fn path_in(folder: &Name, name: &Name, ending: &str) -> FilePath
+    requires { length ending.now ≤ 5 }
+    ensures { result.bytes ≡ path_in folder.now name.now ending.now }
+{
+    let mut path = FilePath::new();
+    path.push_str(folder.as_str());
+    path.push_str("/");
+    path.push_str(name.as_str());
+    path.push_str(ending);
+    path
+}

@@ -1,0 +1,7 @@
+use Rattle.std.proofs.Common.{◌≡◌, map, take}
+use Rattle.octo_keeper_sql.specs.Rows.{entry_row}
+use Rattle.octo_keeper_sql.proofs.entry_rows.entries_of.Given as goal
+
+-- the entries so far are those of the rows so far
+abbrev pub invariant-loop-row : goal.invariant-loop-row
+invariant-loop-row l = map entry_row l.entries ≡ take l.row-index l.rows

@@ -1,0 +1,8 @@
+use Rattle.std.proofs.Common.{inl, IsErrOf, rules}
+use Rattle.octo_keeper.specs.declared.keeper.KeeperFault.TheVariants as fault
+use Rattle.octo_keeper_sql.proofs.load.load_tables.Goals as goal
+
+pub returns-in_err-tables-clause-failed : goal.returns-in_err-tables-clause-failed
+returns-in_err-tables-clause-failed g c failed clean =
+    let is : IsErrOf c.load_rows.result fault.Failed = search rules in
+    inl (c.load_rows.ensures.failed is clean)

@@ -1,0 +1,10 @@
+//! Doors, at which connections come in: the trait, its form in memory, and four doors over one TCP listener.
+#![tactic(auto)]
+
+mod door;
+mod memory_door;
+mod tcp_door;
+
+pub use door::{Door, Doors, Knock};
+pub use memory_door::{ConnList, MemoryDoor};
+pub use tcp_door::{TcpDoor, may_pass};

@@ -1,0 +1,106 @@
+//! A host begins by its settings.
+ghost use Rattle.std.specs.Prelude.{◌≡◌, ◌≤◌, length, Some, IfOk, IfErr, IsErrOf};
+ghost use Rattle.octo_access.specs.Rows.{IsUserTable};
+ghost use Rattle.octo_house.specs.Beginning.{IsMadeOf, BeginsOn};
+ghost use Rattle.octo_house.specs.State.{IsListed, session_of};
+ghost use Rattle.octo_keeper.specs.declared.tables.Tables.{Tables};
+ghost use Rattle.octo_outside.specs.Recorded.{Counts};
+ghost use Rattle.octo_settings.specs.Sound.{IsSettings};
+ghost use Rattle.print_queue.specs.Lawful.{IsLawful};
+ghost use Rattle.octo_house_tables.specs.Kept.{IsKept};
+ghost use Rattle.octo_house_run.specs.Runs.{IsFresh};
+ghost use Rattle.send_window.specs.Data.{IsSound};
+ghost use Rattle.octo_serve_command.specs.Beginning.{new_session, session_by, policy_by};
+ghost use Rattle.octo_house.specs.declared.faults.BeginFault.TheVariants as fault;
+
+use job_desk::{Desk, Scripts};
+use octo_access::Policy;
+use octo_house::{BeginFault, House};
+use octo_keeper::{Keeper, Shelf};
+use octo_session::Session;
+use octo_settings::Settings;
+use send_window::Sender;
+use std::alloc::{AllocError, Global};
+use temp_rules::Limits;
+
+// How a session sends and polls: the lines in flight, and two times in milliseconds.
+#[derive(Clone, Copy, Debug, PartialEq, Eq)]
+pub(crate) struct Pace {
+    pub window: u8,
+    pub limit_ms: u64,
+    pub poll_ms: u64,
+}
+
+// A new session with these scripts and limits.
+fn new_session(
+    alloc: Global,
+    scripts: Scripts,
+    limits: Limits,
+    pace: Pace,
+) -> Result<Session, AllocError>
+    requires open_window { 1 ≤ pace.window }
+    requires small_window { pace.window ≤ 16 }
+    requires some_limit { 1 ≤ pace.limit_ms }
+    requires some_poll { 1 ≤ pace.poll_ms }
+    ensures new { IfOk result (λ s. s ≡ new_session scripts limits pace) }
+    ensures sound { IfOk result (λ s. IsSound s.sender) }
+{
+    let desk = Desk::new(alloc, scripts, limits, pace.poll_ms)?;
+    let sender = Sender::new(alloc, pace.window, pace.limit_ms)?;
+    Ok(Session::new(desk, sender))
+}
+
+// A host with a new session, the ports, the printer's material and the policy of these settings, on what the keeper and the shelf
+// hold.
+pub(crate) fn begin_by<K: Keeper, S: Shelf>(
+    alloc: Global,
+    settings: Settings,
+    keeper: &mut K,
+    shelf: &mut S,
+) -> Result<House, BeginFault>
+    requires { IsSettings settings }
+
+    // The state that it begins with.
+    ensures made { IfOk result (λ house. IsMadeOf (session_by settings) (policy_by settings)
+        settings.ports settings.material house) }
+    ensures begins { IfOk result (λ house. BeginsOn (session_by settings) (policy_by settings)
+        settings.ports settings.material (K.tables keeper.old) (S.files shelf.old) house) }
+    ensures fresh { IfOk result (λ house. IsFresh (session_of house)) }
+
+    // Keeper and shelf hold what they held, and it is the host's.
+    ensures tables { K.tables keeper.new ≡ K.tables keeper.old }
+    ensures files { S.files shelf.new ≡ S.files shelf.old }
+    ensures kept { IfOk result (λ house. (tables : Tables) → K.tables keeper.new ≡ Some tables
+        → IsUserTable tables.users → IsLawful tables.queue
+        → IsKept (length tables.prints) (K.tables keeper.new) house.tables) }
+    ensures listed { IfOk result (λ house. IsListed (S.files shelf.new) house) }
+
+    // Faults, by their counts.
+    ensures keeper { Counts (IsErrOf result fault.KeeperFailed)
+        (K.faults keeper.old) (K.faults keeper.new) }
+    ensures shelf { Counts (IsErrOf result fault.ShelfFailed)
+        (S.faults shelf.old) (S.faults shelf.new) }
+{
+    let Settings {
+        ports,
+        window,
+        limit_ms,
+        poll_ms,
+        material,
+        limits,
+        admin,
+        patience: _,
+        groups,
+        scripts,
+    } = settings;
+    let pace = Pace {
+        window,
+        limit_ms,
+        poll_ms,
+    };
+    let Ok(session) = new_session(alloc, scripts, limits, pace) else {
+        return Err(BeginFault::NoMemory);
+    };
+    let policy = Policy::new(groups, admin);
+    House::begin(alloc, session, policy, ports, material, keeper, shelf)
+}

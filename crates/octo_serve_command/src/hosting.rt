@@ -1,0 +1,196 @@
+//! The command `serve`: settings read, a host begun, and its doors served.
+ghost use Rattle.std.specs.Prelude.{◌≡◌, None, Some, is_some, false, true};
+ghost use Rattle.octo_files.specs.Settings.{HaveSettings, is_settings_refusal};
+ghost use Rattle.octo_house.specs.declared.faults.BeginFault.TheVariants as fault;
+ghost use Rattle.octo_outside.specs.Recorded.{Counts};
+ghost use Rattle.octo_files.specs.declared.report.Report.{Report};
+ghost use Rattle.octo_files.specs.declared.report.Report.TheVariants as report;
+ghost use Rattle.octo_serve.specs.Around.{link_state, keeper_state, shelf_state, door_state};
+ghost use Rattle.octo_settings.specs.Sound.{IsSettings};
+ghost use Rattle.octo_serve_command.specs.Hosting.{around, ServesBy, Hosts, HasHostCauses};
+ghost use Rattle.octo_serve_command.specs.Reports.{begin_fault_report, served_report};
+ghost use Rattle.octo_serve_command.specs.declared.report.HostReport.TheVariants as host;
+
+use crate::beginning::begin_by;
+use crate::report::HostReport;
+use hand_over::History;
+use octo_files::{Report, read_settings_of};
+use octo_house::BeginFault;
+use octo_keeper::{Keeper, Shelf};
+use octo_outside::{Clock, Source};
+use octo_outside_doors::{Door, Doors};
+use octo_serve::{Served, serve};
+use octo_settings::Settings;
+use printer_link::Link;
+use std::alloc::{AllocError, Global};
+use std::sync::Wait;
+use std::thread::Threads;
+
+/// How a command ended, serving or another.
+#[derive(Drop)]
+pub struct HostEnd {
+    /// What is reported.
+    pub report: HostReport,
+    /// What was asked, answered and noted, exactly if the host served.
+    pub history: Option<History>,
+}
+
+impl HostEnd {
+    /// The end of a command that didn't serve.
+    pub fn unserved(report: HostReport) -> HostEnd
+        ensures { result ≡ record { report = report; history = None } }
+    {
+        HostEnd {
+            report,
+            history: None,
+        }
+    }
+}
+
+// Why a host didn't begin.
+fn begin_fault_report(fault: BeginFault) -> HostReport
+    ensures { result ≡ begin_fault_report fault }
+{
+    match fault {
+        BeginFault::KeeperFailed => HostReport::KeeperFailed,
+        BeginFault::ShelfFailed => HostReport::ShelfFailed,
+        BeginFault::NoMemory => HostReport::Command(Report::NoMemory),
+    }
+}
+
+// What is reported of a host that has served.
+fn served_report(calls: u64, doors_held: bool) -> HostReport
+    ensures { result ≡ served_report calls doors_held }
+{
+    if doors_held {
+        return HostReport::Served { calls };
+    }
+    HostReport::DoorFailed { calls }
+}
+
+// The host has served.
+fn has_served(served: Served) -> HostEnd
+    ensures report { result.report ≡ served_report served.calls served.doors_held }
+    ensures history { result.history ≡ Some served.history }
+{
+    let Served {
+        calls,
+        doors_held,
+        history,
+    } = served;
+    HostEnd {
+        report: served_report(calls, doors_held),
+        history: Some(history),
+    }
+}
+
+// Serves by these settings.
+fn serve_by<
+    R: Threads + Wait + Clone + Send + Sync + Drop,
+    L: Link,
+    T: Clock,
+    K: Keeper,
+    S: Shelf,
+    D: Door + Send + Drop,
+>(
+    rt: &R,
+    alloc: Global,
+    settings: Settings,
+    link: &mut L,
+    clock: &mut T,
+    keeper: &mut K,
+    shelf: &mut S,
+    doors: &mut Doors<D>,
+) -> HostEnd
+    requires sound { IsSettings settings }
+    requires down { L.up link.old ≡ false }
+
+    ensures serves { let at = around (link_state L.kind L.past L.calls L.up L.faults) T.moment
+        (keeper_state K.tables K.faults) (shelf_state S.files S.faults)
+        (door_state D.coming D.served D.faults) in
+        ServesBy settings (at link.old clock.old keeper.old shelf.old doors.old)
+        (at link.new clock.new keeper.new shelf.new doors.new)
+        result.report result.history }
+    ensures causes { let at = around (link_state L.kind L.past L.calls L.up L.faults) T.moment
+        (keeper_state K.tables K.faults) (shelf_state S.files S.faults)
+        (door_state D.coming D.served D.faults) in
+        HasHostCauses (at link.old clock.old keeper.old shelf.old doors.old)
+        (at link.new clock.new keeper.new shelf.new doors.new)
+        result.report }
+    ensures refusal { (why : Report) → result.report ≡ host.Command why → why ≡ report.NoMemory }
+    ensures down { L.up link.new ≡ false }
+    ensures kind { L.kind link.new ≡ L.kind link.old }
+    ensures recorded { is_some (L.past link.new) ≡ is_some (L.past link.old) }
+{
+    let patience = settings.patience;
+    let mut house = match begin_by(alloc, settings, keeper, shelf) {
+        Ok(house) => house,
+        Err(fault) => return HostEnd::unserved(begin_fault_report(fault)),
+    };
+    match serve(
+        rt, alloc, &mut house, link, clock, keeper, shelf, doors, patience,
+    ) {
+        Ok(served) => has_served(served),
+        Err(AllocError) => HostEnd::unserved(HostReport::Command(Report::NoMemory)),
+    }
+}
+
+/// Serves at four doors by the settings of that file, on what the keeper and the shelf hold, over a link to the printer, until the
+/// host is shut down, or all doors have ended or failed and no print is active.
+///
+/// The settings are read first, and refused as by any other command; then the tables and the files are. Memory can run out only
+/// before a door or the link is touched. A session with the printer that ends doesn't end the host.
+pub fn host<
+    R: Threads + Wait + Clone + Send + Sync + Drop,
+    F: Source,
+    L: Link,
+    T: Clock,
+    K: Keeper,
+    S: Shelf,
+    D: Door + Send + Drop,
+>(
+    rt: &R,
+    alloc: Global,
+    files: &mut F,
+    settings: &str,
+    link: &mut L,
+    clock: &mut T,
+    keeper: &mut K,
+    shelf: &mut S,
+    doors: &mut Doors<D>,
+) -> HostEnd
+    requires down { L.up link.old ≡ false }
+
+    // What it comes to, and each failure by its cause.
+    ensures hosts { let at = around (link_state L.kind L.past L.calls L.up L.faults) T.moment
+        (keeper_state K.tables K.faults) (shelf_state S.files S.faults)
+        (door_state D.coming D.served D.faults) in
+        Hosts (F.files files.old) settings.now
+        (at link.old clock.old keeper.old shelf.old doors.old)
+        (at link.new clock.new keeper.new shelf.new doors.new)
+        result.report result.history }
+    ensures causes { let at = around (link_state L.kind L.past L.calls L.up L.faults) T.moment
+        (keeper_state K.tables K.faults) (shelf_state S.files S.faults)
+        (door_state D.coming D.served D.faults) in
+        HasHostCauses (at link.old clock.old keeper.old shelf.old doors.old)
+        (at link.new clock.new keeper.new shelf.new doors.new)
+        result.report }
+
+    ensures refusal { (why : Report) → result.report ≡ host.Command why
+        → is_settings_refusal why ≡ true }
+
+    // The link: it is down, what no call changes, and whether its history is recorded.
+    ensures down { L.up link.new ≡ false }
+    ensures kind { L.kind link.new ≡ L.kind link.old }
+    ensures recorded { is_some (L.past link.new) ≡ is_some (L.past link.old) }
+
+    // The source, which is read before.
+    ensures files { F.files files.new ≡ F.files files.old }
+    ensures source { Counts (result.report ≡ host.Command report.SourceFailed)
+        (F.faults files.old) (F.faults files.new) }
+{
+    match read_settings_of(alloc, files, Some(settings)) {
+        Ok(settings) => serve_by(rt, alloc, settings, link, clock, keeper, shelf, doors),
+        Err(report) => HostEnd::unserved(HostReport::Command(report)),
+    }
+}

@@ -1,0 +1,5 @@
+pub mod Draws
+pub mod Fates
+pub mod File
+pub mod Run
+pub mod Summary

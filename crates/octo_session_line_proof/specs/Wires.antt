@@ -1,0 +1,191 @@
+-- What holds of a sender, its two wires and the printer through a session, whatever the line does.
+use Rattle.std.specs.Prelude.{◌≡◌, ℕ, suc, ◌+◌, ◌<◌, ◌≤◌, Bool, true, false, List, [], ◌∷◌, ◌++◌, length, map, Option, Some, None}
+use Rattle.marlin_frame.specs.Numbering.{wire_number}
+use Rattle.send_window.specs.declared.session_end.SessionEnd.{SessionEnd}
+use Rattle.send_window.specs.declared.session_end.SessionEnd.TheVariants.{NoAnswer, AskedBack, AskedAhead, Counts, Restarted, NumbersUsed}
+use Rattle.printer_model.specs.Printer.{Logged}
+use Rattle.printer_model.specs.World.{WorldData}
+use Rattle.send_window.specs.Data.{SenderData, IsSound}
+use Rattle.send_window.specs.Session.{HoldsIssued}
+use Rattle.octo_session_line_proof.specs.Pieces.{Piece, greeting, Sent, Answer, greeting_ok, command_ok, refusal, asking, closing, chat, restart, heard_in, replies_on, entry_in, logged_in, bytes_on, Each, IsFit, IsGreeting, IsSentEarly, IsSentLate, AreLinesFrom}
+
+-- the session as the printer and the wires have it
+pub record Wires : Type 0 where
+  -- the hello has run; the printer restarted after that, which drops its queue
+  pub ran : Bool
+  pub dropped : Bool
+  -- what waits in the printer, and what it ran since the session was opened
+  pub queue : List Piece
+  pub log : List Piece
+  pub up : List Sent
+  pub way : List Answer
+
+-- a world shows these wires; the log had these lines before the session
+pub record Shows (start : List Logged) (a : Wires) (w : WorldData) : Type 0 where
+  pub few : w.printer.slots ≤ 16
+  pub queue : w.printer.queue ≡ map entry_in a.queue
+  pub log : w.log ≡ start ++ map logged_in a.log
+  pub up : w.up ≡ map bytes_on a.up
+  pub down : map heard_in w.down ≡ replies_on a.way
+
+-- the printer's last number: the number of the last line accepted, or 0 after a restart
+abbrev pub last_at : Bool → ℕ → ℕ
+last_at false count = wire_number count
+last_at true count = 0
+
+-- the hello hasn't run, and no line was accepted
+pub record IsBefore (ran dropped : Bool) (queue log : List Piece) : Type 0 where
+  pub unran : ran ≡ false
+  pub kept : dropped ≡ false
+  pub none_run : log ≡ []
+  pub greetings : Each IsGreeting queue
+  pub few : length queue ≤ 1
+
+-- the hello has run, and the lines accepted after it are the first of the issued ones, those in the log first
+pub record IsAfter (issued : List (List ℕ)) (ran dropped : Bool) (last : ℕ) (queue log : List Piece) : Type 0 where
+  pub lines : List Piece
+  pub has_run : ran ≡ true
+  pub logged : log ≡ greeting ∷ lines
+  pub accepted : AreLinesFrom issued 1 (lines ++ queue)
+  pub last_is : last ≡ last_at dropped (length (lines ++ queue))
+  pub emptied : dropped ≡ true → queue ≡ []
+
+-- what the printer accepted and ran
+pub data Printed (issued : List (List ℕ)) (ran dropped : Bool) (last : ℕ) (queue log : List Piece) : Type 0 where
+  before : IsBefore ran dropped queue log → Printed issued ran dropped last queue log
+  after : IsAfter issued ran dropped last queue log → Printed issued ran dropped last queue log
+
+-- how many lines ran, without the hello
+abbrev pub lines_run : List Piece → ℕ
+lines_run [] = 0
+lines_run (piece ∷ log) = length log
+
+-- what an answer on the way weighs against sending the hello again: an `ok` of the hello, or a Resend, unread
+abbrev pub weight_of : Answer → ℕ
+weight_of (greeting_ok named) = 1
+weight_of (command_ok place named) = 0
+weight_of (refusal number) = 1
+weight_of (asking number) = 1
+weight_of closing = 0
+weight_of chat = 0
+weight_of restart = 0
+
+-- what all answers on the way weigh
+abbrev pub weights : List Answer → ℕ
+weights [] = 0
+weights (answer ∷ way) = weight_of answer + weights way
+
+-- how many `ok`s of the hello are on the way
+abbrev pub greeting_count : Answer → ℕ
+greeting_count (greeting_ok named) = 1
+greeting_count (command_ok place named) = 0
+greeting_count (refusal number) = 0
+greeting_count (asking number) = 0
+greeting_count closing = 0
+greeting_count chat = 0
+greeting_count restart = 0
+
+-- the same of all answers on the way
+abbrev pub greetings_on : List Answer → ℕ
+greetings_on [] = 0
+greetings_on (answer ∷ way) = greeting_count answer + greetings_on way
+
+-- whether the next reply is the `ok` after a Resend that was read
+abbrev pub is_closing : List Answer → Bool
+is_closing (closing ∷ way) = true
+is_closing _ = false
+
+-- before the hello's `ok` was read no line has an `ok`; only the first answer may be read in part
+abbrev pub IsEarlyWay : Bool → List Answer → Type 0
+IsEarlyWay first [] = Unit {0}
+IsEarlyWay first (greeting_ok named ∷ way) = IsEarlyWay false way
+IsEarlyWay first (command_ok place named ∷ way) = ⊥
+IsEarlyWay first (refusal number ∷ way) = IsEarlyWay false way
+IsEarlyWay first (asking number ∷ way) = (first ≡ true) × IsEarlyWay false way
+IsEarlyWay first (closing ∷ way) = (first ≡ true) × IsEarlyWay false way
+IsEarlyWay first (chat ∷ way) = IsEarlyWay false way
+IsEarlyWay first (restart ∷ way) = IsEarlyWay false way
+
+-- if the printer restarted, a `start` is on the way
+abbrev pub IsRestartKnown : Bool → List Answer → Type 0
+IsRestartKnown dropped [] = dropped ≡ false
+IsRestartKnown dropped (restart ∷ way) = Unit {0}
+IsRestartKnown dropped (_ ∷ way) = IsRestartKnown dropped way
+
+-- the same of what follows the hello's `ok`
+abbrev pub IsBegun : Bool → List Answer → Type 0
+IsBegun dropped [] = Unit {0}
+IsBegun dropped (greeting_ok named ∷ way) = IsRestartKnown dropped way
+IsBegun dropped (_ ∷ way) = IsBegun dropped way
+
+-- a Resend asks for a line above the acknowledged ones, at most for the next one to issue
+pub record IsAsked (all acked number : ℕ) : Type 0 where
+  pub place : ℕ
+  pub is : number ≡ wire_number place
+  pub above : acked < place
+  pub within : place ≤ all + 1
+
+-- the answers on the way up to a `start`, if `all` lines were issued, `acked` acknowledged and `run` have run: one `ok`
+-- for each line that ran above acked, in order, and refusals, of which only the first answer may be read in part
+abbrev pub Answers : Bool → Bool → ℕ → ℕ → List Answer → ℕ → Type 0
+Answers first dropped all acked [] run = (dropped ≡ false) × (acked ≡ run)
+Answers first dropped all acked (greeting_ok named ∷ way) run = ⊥
+Answers first dropped all acked (command_ok place named ∷ way) run = (place ≡ suc acked) × Answers false dropped all (suc acked) way run
+Answers first dropped all acked (refusal number ∷ way) run = IsAsked all acked number × Answers false dropped all acked way run
+Answers first dropped all acked (asking number ∷ way) run = (first ≡ true) × IsAsked all acked number × Answers false dropped all acked way run
+Answers first dropped all acked (closing ∷ way) run = (first ≡ true) × Answers false dropped all acked way run
+Answers first dropped all acked (chat ∷ way) run = Answers false dropped all acked way run
+Answers first dropped all acked (restart ∷ way) run = acked ≤ run
+
+-- before the hello's `ok` was read
+pub record IsEarly (s : SenderData) (ran dropped : Bool) (queue : List Piece) (up : List Sent) (way : List Answer) : Type 0 where
+  pub ups : Each IsSentEarly up
+  pub one : length up + length queue + weights way ≤ 1
+  pub due : s.hello_due ≡ true → length up + length queue + weights way ≡ 0
+  pub run_ok : ran ≡ true → greetings_on way ≡ 1
+  pub unrun_ok : ran ≡ false → greetings_on way ≡ 0
+  pub way_so : IsEarlyWay true way
+  pub begun_so : IsBegun dropped way
+  pub swallows : s.swallow ≡ is_closing way
+
+-- where a session is: its link is closed, the hello's `ok` wasn't read, or it was
+pub data Phase (issued : List (List ℕ)) (s : SenderData) (linked : Bool) (a : Wires) : Type 0 where
+  shut : linked ≡ false → a.up ≡ [] → a.way ≡ [] → Phase issued s linked a
+  early : linked ≡ true → s.ready ≡ false → IsEarly s a.ran a.dropped a.queue a.up a.way → Phase issued s linked a
+  late : linked ≡ true → s.ready ≡ true → a.ran ≡ true → Each (IsSentLate issued) a.up → Phase issued s linked a
+
+-- the ends that a session may have
+abbrev pub IsFair : Option SessionEnd → Type 0
+IsFair None = Unit {0}
+IsFair (Some (NoAnswer count)) = Unit {0}
+IsFair (Some (AskedBack number acknowledged)) = ⊥
+IsFair (Some (AskedAhead number all)) = ⊥
+IsFair (Some (Counts number expected)) = ⊥
+IsFair (Some Restarted) = Unit {0}
+IsFair (Some (NumbersUsed all)) = Unit {0}
+
+-- what the replies on the way say while the session hasn't ended
+pub record IsRead (s : SenderData) (dropped : Bool) (way : List Answer) (run : ℕ) : Type 0 where
+  pub swallows : s.swallow ≡ is_closing way
+  pub answers : Answers true dropped s.issued s.acked way run
+
+-- the acknowledged lines have run, and the replies on the way are the right ones
+pub record Replies (s : SenderData) (linked dropped : Bool) (log : List Piece) (way : List Answer) : Type 0 where
+  pub fair : IsFair s.ended
+  pub acked_run : s.acked ≤ lines_run log
+  pub reads : s.ended ≡ None → linked ≡ true → s.ready ≡ true → IsRead s dropped way (lines_run log)
+
+-- all of it
+pub record Numbers (issued : List (List ℕ)) (s : SenderData) (linked : Bool) (last : ℕ) (a : Wires) : Type 0 where
+  pub sound : IsSound s
+  pub holds : HoldsIssued issued s
+  pub fit : Each IsFit issued
+  pub printed : Printed issued a.ran a.dropped last a.queue a.log
+  pub phase : Phase issued s linked a
+  pub replies : Replies s linked a.dropped a.log a.way
+
+-- a sender that issued these lines and a world fit together; the log had the lines `start` before the session
+pub record Meets (start : List Logged) (issued : List (List ℕ)) (s : SenderData) (w : WorldData) : Type 0 where
+  pub wires : Wires
+  pub shows : Shows start wires w
+  pub numbers : Numbers issued s w.linked w.printer.last wires

@@ -1,0 +1,74 @@
+-- What a print that is underway has issued.
+use Rattle.std.proofs.Common.{◌≡◌, inl, inr, ℕ, Bool, true, false, cond, codes, List, [], ◌∷◌, ◌++◌, All, sym, ◌∙◌, ap, subst}
+use Rattle.std.proofs.lemmas.List.{append-nil}
+use Rattle.std.proofs.lemmas.Bool.{false≢true}
+use Rattle.std.proofs.lemmas.List.Elements.{All-head}
+use Rattle.job_desk.specs.Data.{Data, Line, moment_after}
+use Rattle.job_desk.specs.Pull.{Drawn, draw_in_order, nothing, issue, from_scripts, from_manual, poll_is_due, draw_at, pull_step}
+use Rattle.job_desk.specs.declared.state.State.TheVariants.{Offline}
+use Rattle.job_desk.specs.declared.state.Tag.TheVariants.{Poll}
+use Rattle.octo_session_plan_proof.specs.Plan.{PrintData, print_commands, plan_lines}
+use Rattle.octo_session.specs.Plan.{plan, Weave, IsPart, WeavesPart}
+use Rattle.octo_session_plan_proof.specs.Underway.{Standing, standing, IsLast, Phase, IsUnderway, IsWhole}
+use Rattle.octo_session_plan_proof.specs.Underway as phase
+use Rattle.octo_session_plan_proof.specs.Progress.{IsLate}
+use Rattle.octo_session_plan_proof.proofs.Weaves.{part_of, part_after, texts_part, plan_is}
+use Rattle.octo_session_plan_proof.proofs.Phases.{zero≢one, in_plan, whole_offline, none_offline}
+use Rattle.octo_session.specs.Turn.{texts_in}
+
+module _ (p : PrintData) where
+  -- what was issued is a weave of a first part of the plan
+  pub underway-part : (d : Data) (issued : List (List ℕ)) → IsUnderway p d issued → WeavesPart issued (plan p.scripts (print_commands p))
+  underway-part d issued h =
+      let part : IsPart h.sent (plan_lines p) = part_of h.sent (h.sent ++ d.waiting) (plan_lines p) (part_after h.sent d.waiting)
+      (subst (λ (l : List Line). IsPart l (plan_lines p)) (sym h.parted) (in_plan p (standing d) h.lines h.phase)) in
+      record {
+        part = texts_in h.sent;
+        is_part = subst (λ (l : List (List ℕ)). IsPart (texts_in h.sent) l) (plan_is p) (texts_part h.sent (plan_lines p) part);
+        woven = h.woven;
+      }
+
+  -- a desk that is offline again has issued the whole plan, and all of it was acknowledged
+  pub underway-whole : (d : Data) (issued : List (List ℕ)) → d.state ≡ Offline → IsUnderway p d issued → IsWhole p d issued
+  underway-whole d issued off h =
+      let none : d.waiting ≡ [] = none_offline p (standing d) h.lines h.phase off in
+      let all : h.sent ≡ plan_lines p = sym (append-nil h.sent) ∙ ap (λ (w : List Line). h.sent ++ w) (sym none) ∙ h.parted
+      ∙ whole_offline p (standing d) h.lines h.phase off in
+      record {
+        woven = subst (λ (l : List (List ℕ)). Weave issued l) (ap texts_in all ∙ plan_is p) h.woven;
+        acknowledged = h.acknowledged off;
+        all = λ below. ((h.counted below).all);
+      }
+
+  none_late : (d : Data) → IsLate (nothing d)
+  none_late d line e = absurd (cc e)
+
+  poll_late : (b : Bool) (d e : Data) → IsLate (cond b (issue (record { text = codes "M105"; tag = Poll }) d) (nothing e))
+  poll_late true d e line is = let same : line ≡ record { text = codes "M105"; tag = Poll } = cc is in inl (ap (λ (l : Line). l.tag) same)
+  poll_late false d e line is = absurd (cc is)
+
+  scripts_late : (w : List Line) (d : Data) → All IsLast w → IsLate (from_scripts w d (nothing d))
+  scripts_late [] d last line e = absurd (cc e)
+  scripts_late (first ∷ rest) d last line e = let same : line ≡ first = cc e in inr (subst IsLast (sym same) (All-head IsLast first rest last))
+
+  talk_late : (moment : ℕ) (d : Data) → d.waiting ≡ [] → d.manual ≡ [] → IsLate (draw_in_order moment d (nothing d))
+  talk_late moment d none no_manual =
+      let asked : Data = record d { poll_at = moment_after moment d.poll_ms } in
+      let next : Drawn = cond (poll_is_due moment d) (issue (record { text = codes "M105"; tag = Poll }) asked) (nothing d) in
+      subst (λ (w : List Line). IsLate (from_scripts w d (from_manual d.manual d next))) (sym none)
+      (subst (λ (m : List (List ℕ)). IsLate (from_manual m d next)) (sym no_manual) (poll_late (poll_is_due moment d) asked d))
+
+  late_in : (moment : ℕ) (d : Data) (lines : List Line) → d.manual ≡ [] → d.active ≡ false → d.greatest ≡ 1 → Phase p (standing d) lines
+      → IsLate (draw_at d.state moment d)
+  late_in moment d _ none i n (phase.connecting at f) = absurd (zero≢one (sym f.print_is ∙ n))
+  late_in moment d _ none i n (phase.connected o f) = absurd (zero≢one (sym f.print_is ∙ n))
+  late_in moment d _ none i n (phase.printing o f below) = absurd (false≢true (sym i ∙ f.active_is))
+  late_in moment d _ none i n (phase.finishing o f) = absurd (false≢true (sym i ∙ f.active_is))
+  late_in moment d _ none i n (phase.ended o f w) = subst (λ s. IsLate (draw_at s moment d)) (sym o.its_state) (talk_late moment d w none)
+  late_in moment d _ none i n (phase.closing o f w) = subst (λ s. IsLate (draw_at s moment d)) (sym o.its_state) (scripts_late d.waiting d w)
+  late_in moment d _ none i n (phase.offline at idle w) = subst (λ s. IsLate (draw_at s moment d)) (sym at) (none_late d)
+  late_in moment d _ none i n (phase.failed at idle lines part) = subst (λ s. IsLate (draw_at s moment d)) (sym at) (none_late d)
+
+  -- once the print has ended, only the Disconnect script and polls are issued
+  pub late-underway : (moment : ℕ) (d : Data) (issued : List (List ℕ)) → d.active ≡ false → d.greatest ≡ 1 → IsUnderway p d issued → IsLate (pull_step moment d)
+  late-underway moment d issued i n h = late_in moment d h.lines h.no_manual i n h.phase

@@ -1,0 +1,48 @@
+-- What a print has made of the history of its link.
+use Rattle.std.specs.Prelude.{◌≡◌, ◌⊎◌, ◌<◌, ℕ, suc, List, [], ◌++◌, length, Option, Some}
+use Rattle.printer_model.specs.Executed.{opens, executed, logged_from}
+use Rattle.printer_model.specs.declared.event.WorldEvent.{WorldEvent}
+use Rattle.printer_link.specs.Link.{LinkKind, Recorded}
+use Rattle.send_window.specs.declared.session_end.SessionEnd.{SessionEnd}
+use Rattle.send_window.specs.declared.session_end.SessionEnd.TheVariants.{NoAnswer, NumbersUsed}
+use Rattle.send_window.specs.Data.{SenderData, most_lines}
+use Rattle.octo_session.specs.Data.{SessionData}
+use Rattle.octo_session.specs.Causes.{EndCausedAs}
+use Rattle.octo_session.specs.Plan.{Weave, WeavesPart}
+use Rattle.octo_session.specs.Tied.{HasIssued}
+use Rattle.send_window.specs.Patience.{FitsEnd}
+use Rattle.octo_session_print.specs.Ends.{IsUnsent}
+use Rattle.octo_session_print.specs.declared.end.PrintEnd.{PrintEnd}
+use Rattle.octo_session_print.specs.declared.end.PrintEnd.TheVariants as end
+
+-- the whole plan was issued, and all of it was executed and acknowledged
+pub record IsWholePrint (kind : LinkKind) (plan issued : List (List ℕ)) (acked : ℕ) (past added : List WorldEvent) : Type 0 where
+  pub woven : Weave issued plan
+  pub all_executed : executed kind.slots kind.numbered (past ++ added) (suc (opens past)) ≡ logged_from 1 issued
+  pub all_acked : acked ≡ length issued
+
+-- what a print of this plan that ended so has made of a history
+pub record HasPrinted (kind : LinkKind) (plan : List (List ℕ)) (how : PrintEnd) (acked : ℕ) (past added : List WorldEvent) : Type 0 where
+  -- the texts of its lines: the first of the plan, with polls for temperatures between them
+  pub issued : List (List ℕ)
+  pub of_plan : WeavesPart issued plan
+  pub history : HasIssued kind issued acked past added
+  -- a print that is done has made the whole of it
+  pub done : how ≡ end.Done → IsWholePrint kind plan issued acked past added
+  -- one that ended with no answer names five limits; nothing was issued, or not all issued lines are acknowledged
+  pub unanswered : (count : ℕ) → how ≡ end.Ended (NoAnswer count) → (count ≡ 5) × ((issued ≡ []) ⊎ (acked < length issued))
+  -- one whose session used all its numbers names `most_lines`, and that many lines are acknowledged
+  pub all_used : (all : ℕ) → how ≡ end.Ended (NumbersUsed all) → (all ≡ most_lines) × (acked ≡ most_lines)
+
+-- a session ended so: its sender has, with the numbers that it names, and the history shows the cause
+pub record HasEnded (kind : LinkKind) (now : Option (List WorldEvent)) (s : SenderData) (why : SessionEnd) : Type 0 where
+  pub its_end : s.ended ≡ Some why
+  pub fits : FitsEnd why s
+  pub caused : EndCausedAs kind now why
+
+-- a print of this plan ended so
+pub record IsOver (kind : LinkKind) (plan : List (List ℕ)) (how : PrintEnd) (first now : Option (List WorldEvent)) (x : SessionData) : Type 0 where
+  pub printed : Recorded first now (HasPrinted kind plan how x.sender.acked)
+  pub ended : (why : SessionEnd) → how ≡ end.Ended why → HasEnded kind now x.sender why
+  -- a print that was refused or had no port added nothing
+  pub unsent : IsUnsent how → now ≡ first

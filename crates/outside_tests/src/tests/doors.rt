@@ -1,0 +1,181 @@
+//! A door in memory through its schedule, and four doors over TCP.
+ghost use Rattle.std.specs.Prelude.{IfOk};
+ghost use Rattle.octo_outside_doors.specs.Memory.{IsUntouched};
+
+use octo_outside::{CallList, Conn, Failed, MemoryConn, calls_of, send_all};
+use octo_outside_doors::{ConnList, Door, Knock, MemoryDoor, TcpDoor, may_pass};
+use std::alloc::{AllocError, Global};
+use std::io::{self, Read, Write};
+use std::net::{SocketAddr, TcpStream};
+use std::process::Abort;
+use std::test::Fail;
+use std::time::Duration;
+
+fn new_conn(alloc: Global, input: &[u8]) -> Result<MemoryConn, AllocError>
+    ensures { IfOk result IsUntouched }
+{
+    MemoryConn::new(alloc, input, CallList::new(alloc), CallList::new(alloc))
+}
+
+// Accepts once, answers a connection and gives it back: `c` for one, `q` for Quiet, `e` for Ended, `f` for Failed.
+fn serve_once<D: Door>(door: &mut D) -> char {
+    match door.accept() {
+        Ok(Knock::Conn(mut conn)) => {
+            let mut into = [0; 4];
+            let _ = conn.read(&mut into);
+            let _ = send_all(&mut conn, &into);
+            door.finish(conn);
+            'c'
+        }
+        Ok(Knock::Quiet) => 'q',
+        Ok(Knock::Ended) => 'e',
+        Err(Failed) => 'f',
+    }
+}
+
+// What was written to the connections that were given back, in order.
+fn bytes_written(alloc: Global, door: &MemoryDoor) -> Result<Vec<u8>, AllocError> {
+    let mut texts = Vec::new(alloc);
+    for conn in door.served().unwrap_or(&[]) {
+        texts.extend_from_slice(conn.written().unwrap_or(b""))?;
+    }
+    Ok(texts)
+}
+
+// A door at which three connections come; its second call finds nothing yet, and its fourth fails.
+fn scheduled_door(alloc: Global) -> Result<MemoryDoor, AllocError> {
+    let mut conns = ConnList::new(alloc);
+    conns.push(new_conn(alloc, b"one.")?)?;
+    conns.push(new_conn(alloc, b"two.")?)?;
+    conns.push(new_conn(alloc, b"lost")?)?;
+    let quiet_at = calls_of(alloc, &[2, 5])?;
+    Ok(MemoryDoor::new(alloc, conns, quiet_at, calls_of(alloc, &[4, 5])?))
+}
+
+// The calls after the fourth find the end, whatever is listed.
+#[test]
+fn scheduled_accepts(rt: HostRuntime) -> Result<(), Fail> {
+    let alloc = rt.alloc();
+    let mut door = scheduled_door(alloc)?;
+    for want in ['c', 'q', 'c', 'f', 'e', 'e'] {
+        assert_eq!(rt; serve_once(&mut door), want);
+    }
+    let written = bytes_written(alloc, &door)?;
+    assert_eq!(rt; written.as_slice(), b"one.two.".as_slice());
+    Ok(())
+}
+
+// A door at which no connection is to come; its first two calls are listed as quiet, and the second fails.
+fn bare_door(alloc: Global) -> Result<MemoryDoor, AllocError> {
+    let quiet_at = calls_of(alloc, &[1, 2])?;
+    Ok(MemoryDoor::new(
+        alloc,
+        ConnList::new(alloc),
+        quiet_at,
+        calls_of(alloc, &[2])?,
+    ))
+}
+
+// A door at which no connection is to come ends at once, unless its call is listed.
+#[test]
+fn no_connections(rt: HostRuntime) -> Result<(), Fail> {
+    let mut door = bare_door(rt.alloc())?;
+    for want in ['e', 'f', 'e'] {
+        assert_eq!(rt; serve_once(&mut door), want);
+    }
+    Ok(())
+}
+
+// A door at which one connection comes, and none of whose calls is listed.
+fn door_of(alloc: Global, input: &[u8]) -> Result<MemoryDoor, AllocError> {
+    let mut conns = ConnList::new(alloc);
+    conns.push(new_conn(alloc, input)?)?;
+    Ok(MemoryDoor::new(alloc, conns, CallList::new(alloc), CallList::new(alloc)))
+}
+
+// The calls of a door in memory that take memory, each once: it keeps the connection that is given back.
+#[test]
+fn ample(rt: HostRuntime) -> Result<(), Fail> {
+    let alloc = rt.alloc();
+    let mut door = door_of(alloc, b"one.")?;
+    assert_eq!(rt; serve_once(&mut door), 'c');
+    assert!(rt; door.served().is_some());
+    let written = bytes_written(alloc, &door)?;
+    assert_eq!(rt; written.as_slice(), b"one.".as_slice());
+    Ok(())
+}
+
+// Four doors share a listener.
+#[test]
+fn ample_doors(rt: HostRuntime) -> Result<(), Fail> {
+    let doors = TcpDoor::four(&rt, rt.alloc(), "127.0.0.1:0")?;
+    let address = doors.a.address();
+    assert!(rt; address.is_some());
+    let others = [doors.b.address(), doors.c.address(), doors.d.address()];
+    assert!(rt; others == [address; 3]);
+    Ok(())
+}
+
+// A peer that has sent 13 bytes to this address.
+fn peer_of(rt: &HostRuntime, address: SocketAddr) -> Result<TcpStream, Fail> {
+    let mut peer = TcpStream::connect(rt, address)?;
+    peer.set_read_timeout(Some(Duration::from_secs(10)))?;
+    peer.write_all(b"four and more")?;
+    Ok(peer)
+}
+
+// The peer reads this, and then the end.
+fn reads_four(rt: &impl Abort, peer: TcpStream) -> Result<(), Fail> {
+    let mut peer = peer;
+    let mut read = [0; 8];
+    assert_eq!(rt; peer.read(&mut read)?, 4);
+    assert_eq!(rt; peer.read(&mut read)?, 0);
+    assert_eq!(rt; &read[..4], b"four".as_slice());
+    Ok(())
+}
+
+// The four doors share one listener: whichever asks first takes the next connection. The peer reads what was written
+// although its own input wasn't read.
+#[test]
+fn tcp_doors(rt: HostRuntime) -> Result<(), Fail> {
+    let mut doors = TcpDoor::four(&rt, rt.alloc(), "127.0.0.1:0")?;
+    assert_eq!(rt; serve_once(&mut doors.a), 'q');
+    let peer = peer_of(&rt, doors.c.address().ok_or("not bound")?)?;
+    assert_eq!(rt; serve_once(&mut doors.b), 'c');
+    assert_eq!(rt; serve_once(&mut doors.d), 'q');
+    reads_four(&rt, peer)
+}
+
+// What isn't an address: the first call fails, and the door has ended then.
+#[test]
+fn absent_doors(rt: HostRuntime) -> Result<(), Fail> {
+    let mut doors = TcpDoor::four(&rt, rt.alloc(), "7100")?;
+    for want in ['f', 'e', 'e'] {
+        assert_eq!(rt;
+            (serve_once(&mut doors.a), serve_once(&mut doors.d)),
+            (want, want)
+        );
+    }
+    Ok(())
+}
+
+#[test]
+fn passing_errors(rt: HostRuntime) {
+    for (number, want) in [
+        // EMFILE, ENFILE, ENOBUFS.
+        (24, true),
+        (23, true),
+        (105, true),
+        // ECONNABORTED, ENOMEM; EBADF, EINVAL.
+        (103, true),
+        (12, true),
+        (9, false),
+        (22, false),
+    ] {
+        assert_eq!(rt;
+            may_pass(&io::Error::from_raw_os_error(number)),
+            want,
+            "at {number}"
+        );
+    }
+}

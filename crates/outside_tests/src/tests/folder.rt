@@ -1,0 +1,149 @@
+//! Files in a folder of their own.
+use byte_text::Name;
+use octo_keeper::{Shelf, ShelfFault};
+use octo_keeper_folder::FolderShelf;
+use std::fs;
+use std::test::Fail;
+
+fn shelf(rt: &HostRuntime, folder: &str) -> Result<FolderShelf<HostRuntime>, Fail> {
+    let _ = fs::remove_dir_all(rt, folder);
+    fs::create_dir(rt, folder)?;
+    Ok(FolderShelf::new(rt.clone()?, &Name::of(folder)?))
+}
+
+fn puts<S: Shelf>(
+    rt: &HostRuntime,
+    shelf: &mut S,
+    text: &str,
+    bytes: &[u8],
+) -> Option<Result<(), ShelfFault>> {
+    Some(shelf.put(rt.alloc(), &Name::from_text(text)?, bytes))
+}
+
+fn removes<S: Shelf>(
+    rt: &HostRuntime,
+    shelf: &mut S,
+    text: &str,
+) -> Option<Result<(), ShelfFault>> {
+    Some(shelf.remove(rt.alloc(), &Name::from_text(text)?))
+}
+
+// Whether a shelf holds these bytes under this name; `None` if it holds nothing there.
+fn holds<S: Shelf>(rt: &HostRuntime, shelf: &mut S, text: &str, bytes: &[u8]) -> Option<bool> {
+    let kept = shelf.get(rt.alloc(), &Name::from_text(text)?).ok()??;
+    Some(kept.as_slice() == bytes)
+}
+
+fn has_none<S: Shelf>(rt: &HostRuntime, shelf: &mut S, text: &str) -> Option<bool> {
+    Some(
+        shelf
+            .get(rt.alloc(), &Name::from_text(text)?)
+            .ok()?
+            .is_none(),
+    )
+}
+
+// The number of files that are listed, and the size of the first.
+fn listed<S: Shelf>(rt: &HostRuntime, shelf: &mut S) -> Option<(usize, u64)> {
+    let list = shelf.list(rt.alloc()).ok()?;
+    Some((list.as_slice().len(), list.as_slice().first()?.1))
+}
+
+#[test]
+fn ample(rt: HostRuntime) -> Result<(), Fail> {
+    let mut shelf = shelf(&rt, "folder_shelf_test")?;
+    assert_eq!(rt; puts(&rt, &mut shelf, "b.gcode", b"G28\n"), Some(Ok(())));
+    assert_eq!(rt; puts(&rt, &mut shelf, "b.gcode", b"G29\n"), Some(Ok(())));
+    assert_eq!(rt; puts(&rt, &mut shelf, "A.GCO", b""), Some(Ok(())));
+    assert_eq!(rt; holds(&rt, &mut shelf, "b.gcode", b"G29\n"), Some(true));
+    assert!(rt; listed(&rt, &mut shelf) == Some((2, 0)));
+    fs::remove_dir_all(&rt, "folder_shelf_test")?;
+    Ok(())
+}
+
+// A file is removed, and then there is none to remove.
+#[test]
+fn ample_removes(rt: HostRuntime) -> Result<(), Fail> {
+    let mut shelf = shelf(&rt, "folder_shelf_removes")?;
+    assert_eq!(rt; puts(&rt, &mut shelf, "b.gcode", b"G29\n"), Some(Ok(())));
+    for _ in 0..2 {
+        assert_eq!(rt; removes(&rt, &mut shelf, "b.gcode"), Some(Ok(())));
+    }
+    assert_eq!(rt; has_none(&rt, &mut shelf, "b.gcode"), Some(true));
+    fs::remove_dir_all(&rt, "folder_shelf_removes")?;
+    Ok(())
+}
+
+// Writes a file of four bytes at each path.
+fn write_each(rt: &HostRuntime, paths: &[&str]) -> Result<(), Fail> {
+    for path in paths {
+        fs::write(rt, *path, "G28\n")?;
+    }
+    Ok(())
+}
+
+// One file to list, and what isn't listed beside it.
+fn write_names(rt: &HostRuntime) -> Result<(), Fail> {
+    fs::create_dir(rt, "folder_shelf_names/folder.gcode")?;
+    let paths = &[
+        "folder_shelf_names/a.gcode.part",
+        "folder_shelf_names/.hidden.gcode",
+        "folder_shelf_names/two words.g",
+        "folder_shelf_names/notes.txt",
+        "folder_shelf_names/a.g",
+    ];
+    write_each(rt, paths)
+}
+
+// Other names, folders and a part of a file are passed over.
+#[test]
+fn what_is_listed(rt: HostRuntime) -> Result<(), Fail> {
+    let mut shelf = shelf(&rt, "folder_shelf_names")?;
+    write_names(&rt)?;
+    assert!(rt; listed(&rt, &mut shelf) == Some((1, 4)));
+    assert_eq!(rt; has_none(&rt, &mut shelf, "notes.txt"), Some(true));
+    fs::remove_dir_all(&rt, "folder_shelf_names")?;
+    Ok(())
+}
+
+// A folder has the place of the file: the put fails, nothing is left of it, and another file is put.
+#[test]
+fn a_failed_put(rt: HostRuntime) -> Result<(), Fail> {
+    let mut shelf = shelf(&rt, "folder_shelf_failed")?;
+    fs::create_dir(&rt, "folder_shelf_failed/a.gcode")?;
+    assert_eq!(rt;
+        puts(&rt, &mut shelf, "a.gcode", b"G28\n"),
+        Some(Err(ShelfFault::Failed))
+    );
+    assert!(rt; !fs::exists(&rt, "folder_shelf_failed/a.gcode.part")?);
+    assert_eq!(rt; puts(&rt, &mut shelf, "b.gcode", b"G28\n"), Some(Ok(())));
+    fs::remove_dir_all(&rt, "folder_shelf_failed")?;
+    Ok(())
+}
+
+// A folder has the place of the file's part: the put fails, and the former file stays.
+#[test]
+fn a_failed_part(rt: HostRuntime) -> Result<(), Fail> {
+    let mut shelf = shelf(&rt, "folder_shelf_part")?;
+    assert_eq!(rt; puts(&rt, &mut shelf, "b.gcode", b"G28\n"), Some(Ok(())));
+    fs::create_dir(&rt, "folder_shelf_part/b.gcode.part")?;
+    assert_eq!(rt;
+        puts(&rt, &mut shelf, "b.gcode", b"G29\n"),
+        Some(Err(ShelfFault::Failed))
+    );
+    assert_eq!(rt; holds(&rt, &mut shelf, "b.gcode", b"G28\n"), Some(true));
+    fs::remove_dir_all(&rt, "folder_shelf_part")?;
+    Ok(())
+}
+
+// A name that leads out of the folder is refused.
+#[test]
+fn a_put_elsewhere(rt: HostRuntime) -> Result<(), Fail> {
+    let mut shelf = shelf(&rt, "folder_shelf_elsewhere")?;
+    assert_eq!(rt;
+        puts(&rt, &mut shelf, "../b.gcode", b"G28\n"),
+        Some(Err(ShelfFault::Failed))
+    );
+    fs::remove_dir_all(&rt, "folder_shelf_elsewhere")?;
+    Ok(())
+}

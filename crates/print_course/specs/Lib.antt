@@ -1,5 +1,0 @@
-pub mod Plan
-pub mod Progress
-pub mod Remaining
-pub mod Turned
-pub mod Underway

@@ -1,0 +1,66 @@
+-- What is heard if no reply line waited.
+use Rattle.std.proofs.Common.{◌≡◌, ℕ, zero, suc, true, false, List, [], ◌∷◌, ◌++◌, Option, Some, None, take, ap, refl, sym, ◌∙◌}
+use Rattle.std.proofs.KnownBytes.{Consumes-nil}
+use Rattle.std.specs.Io.KnownBytes.{Keeps, Consumes}
+use Rattle.std.specs.List.{list_any, before_first, after_first}
+use Rattle.printer_link.specs.declared.link.Heard.TheVariants.{Line, Nothing}
+use Rattle.printer_link_socket.specs.Heard.{Came, HeardLater}
+use Rattle.printer_link_socket.specs.Lines.{LinesData, cut, ends_line}
+use Rattle.printer_link_socket.specs.Sent.{Wrote}
+use Rattle.byte_text.proofs.ListLaws.{take_once}
+
+-- nothing was read
+pub nothing_came : {S : Type 0} (remaining : S → Option (List ℕ)) (stream : S) → Came remaining (Some stream) (Some stream) []
+nothing_came remaining stream = Consumes-nil (remaining stream)
+
+-- a read that failed took nothing
+pub keeps_consumes : (a b : Option (List ℕ)) → Keeps a b → Consumes a b []
+keeps_consumes None b k = tt
+keeps_consumes (Some xs) None k = absurd k
+keeps_consumes (Some xs) (Some ys) k = sym k
+
+pub no_bytes_came : {S : Type 0} (remaining : S → Option (List ℕ)) (before after : S) → Keeps (remaining before) (remaining after) → Came remaining (Some before) (Some after) []
+no_bytes_came remaining before after k = keeps_consumes (remaining before) (remaining after) k
+
+-- the receiving wrote and read, and then a line ended
+pub heard_line : {S : Type 0} (contents remaining : S → Option (List ℕ)) (before between after : Option S) (unsent line : List ℕ) (old read new : LinesData)
+    → Wrote contents before between unsent → Came remaining between after read.waiting
+    → read.begun ≡ cut (old.begun ++ old.waiting) → read.ended ≡ false
+    → list_any ends_line read.waiting ≡ true → line ≡ cut (read.begun ++ before_first ends_line read.waiting)
+    → new ≡ record read { begun = []; waiting = after_first ends_line read.waiting }
+    → HeardLater contents remaining before after unsent old Line line new
+heard_line contents remaining before None after unsent line old read new w c b going any is rest = absurd c
+heard_line contents remaining before (Some s) after unsent line old read new w c b going any is rest = record {
+  written = s;
+  came = read.waiting;
+  wrote = w;
+  comes = c;
+  hears = (
+    any,
+    is
+        ∙ ap (λ l. cut (l ++ before_first ends_line read.waiting)) b
+        ∙ take_once 256 (old.begun ++ old.waiting) (before_first ends_line read.waiting),
+    rest ∙ ap (λ e. record { begun = []; waiting = after_first ends_line read.waiting; ended = e }) going,
+  );
+}
+
+-- the receiving wrote and read, and no line has ended yet
+pub heard_nothing : {S : Type 0} (contents remaining : S → Option (List ℕ)) (before between after : Option S) (unsent line : List ℕ) (old read new : LinesData)
+    → Wrote contents before between unsent → Came remaining between after read.waiting
+    → read.begun ≡ cut (old.begun ++ old.waiting) → read.ended ≡ false
+    → list_any ends_line read.waiting ≡ false → new ≡ record read { begun = cut (read.begun ++ read.waiting); waiting = [] }
+    → HeardLater contents remaining before after unsent old Nothing line new
+heard_nothing contents remaining before None after unsent line old read new w c b going any is = absurd c
+heard_nothing contents remaining before (Some s) after unsent line old read new w c b going any is = record {
+  written = s;
+  came = read.waiting;
+  wrote = w;
+  comes = c;
+  hears = (
+    any,
+    is
+        ∙ ap (λ e. record { begun = cut (read.begun ++ read.waiting); waiting = []; ended = e }) going
+        ∙ ap (λ l. record { begun = l; waiting = []; ended = false })
+        (ap (λ l. cut (l ++ read.waiting)) b ∙ take_once 256 (old.begun ++ old.waiting) read.waiting),
+  );
+}

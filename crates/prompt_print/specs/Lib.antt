@@ -1,2 +1,0 @@
-pub mod OnWay
-pub mod Smooth

@@ -1,5 +1,0 @@
-pub mod Ends
-pub mod Printed
-pub mod BetweenTurns
-pub mod Waiting
-pub mod Enough

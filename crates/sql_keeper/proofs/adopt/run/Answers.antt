@@ -1,4 +1,0 @@
-use Rattle.sql_keeper.proofs.adopt.run.Goals as goal
-
-pub returns-in-Err-clause-failed : goal.returns-in-Err-clause-failed
-returns-in-Err-clause-failed g c failed = c.in-Err.ensures.failed (λ memory. let none = c.fault_of.ensures.1 memory in cc)

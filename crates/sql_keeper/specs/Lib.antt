@@ -1,4 +1,0 @@
-pub mod Kept
-pub mod Loads
-pub mod Settled
-pub mod Statements

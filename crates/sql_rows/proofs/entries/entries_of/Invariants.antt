@@ -1,7 +1,0 @@
-use Rattle.std.proofs.Common.{◌≡◌, map, take}
-use Rattle.sql_rows.specs.Rows.{entry_row}
-use Rattle.sql_rows.proofs.entries.entries_of.Given as goal
-
--- the entries so far are those of the rows so far
-abbrev pub invariant-loop-row : goal.invariant-loop-row
-invariant-loop-row l = map entry_row l.entries ≡ take l.row-index l.rows

@@ -1,7 +1,0 @@
-use Rattle.std.proofs.Common.{◌≡◌, map, take}
-use Rattle.sql_rows.specs.Rows.{print_row}
-use Rattle.sql_rows.proofs.prints.prints_of.Given as goal
-
--- the prints so far are those of the rows so far
-abbrev pub invariant-loop-row : goal.invariant-loop-row
-invariant-loop-row l = map print_row l.prints ≡ take l.row-index l.rows

@@ -1,7 +1,0 @@
-use Rattle.std.proofs.Common.{◌≡◌, ◌++◌, string_bytes, take}
-use Rattle.sql_rows.specs.Rows.{spaced}
-use Rattle.sql_rows.proofs.users.add_spaced.Given as goal
-
--- the names so far
-abbrev pub invariant-loop-name : goal.invariant-loop-name
-invariant-loop-name l = string_bytes l.text ≡ string_bytes l.fn.text ++ spaced (take l.name-index l.names)

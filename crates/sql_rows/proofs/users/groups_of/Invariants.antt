@@ -1,7 +1,0 @@
-use Rattle.std.proofs.Common.{◌≡◌, ◌≤◌, map, length, All}
-use Rattle.sql_rows.specs.Holds.{IsGroup}
-use Rattle.sql_rows.proofs.users.groups_of.Given as goal
-
--- the groups are the pieces so far, each of which can be a group's name
-abbrev pub invariant-loop-word : goal.invariant-loop-word
-invariant-loop-word l = record { are : map (λ word. word.now) l.yielded ≡ l.groups.items; few : length l.groups.items ≤ 8; each : All IsGroup l.groups.items }

@@ -1,0 +1,65 @@
+//! One change, and what is refused.
+use super::rows::user;
+use byte_text::Name;
+use octo_keeper::{Change, Keeper, KeeperFault, Tables};
+use octo_keeper_sql::SqlKeeper;
+use sqlite::{Connection, MemStore};
+use std::alloc::Global;
+use std::test::Fail;
+
+/// A keeper over an empty database in memory.
+pub fn empty_keeper(alloc: Global) -> Result<SqlKeeper<MemStore>, Fail> {
+    let connection = Connection::open_in_memory(alloc)?;
+    Ok(
+        SqlKeeper::adopt(alloc, connection)
+            .ok()
+            .ok_or("not adopted")?,
+    )
+}
+
+// ana, in two groups.
+fn change() -> Result<Change, Fail> {
+    Ok(Change::PutUser(user("ana", 1, &["users", "operators"], true)?))
+}
+
+#[test]
+fn ample(rt: HostRuntime) -> Result<(), Fail> {
+    let change = change()?;
+    let mut keeper = empty_keeper(rt.alloc())?;
+    assert_eq!(rt; keeper.commit(rt.alloc(), &change), Ok(()));
+    assert_eq!(rt;
+        keeper.commit(rt.alloc(), &change),
+        Err(KeeperFault::Failed)
+    );
+    Ok(())
+}
+
+// What is loaded after a change.
+fn tables_after(alloc: Global, change: &Change) -> Result<Tables, Fail> {
+    let mut keeper = empty_keeper(alloc)?;
+    if keeper.commit(alloc, change).is_err() {
+        return Err("refused".into());
+    }
+    Ok(keeper.load(alloc).ok().ok_or("no tables")?)
+}
+
+fn are_users_and_operators(groups: &[Name]) -> bool {
+    match groups {
+        [first, second] => first.as_str() == "users" && second.as_str() == "operators",
+        _ => false,
+    }
+}
+
+#[test]
+fn ample_tables(rt: HostRuntime) -> Result<(), Fail> {
+    let tables = tables_after(rt.alloc(), &change()?)?;
+    let [ana] = tables.users.as_slice() else {
+        return Err("not one user".into());
+    };
+    assert_eq!(rt;
+        (ana.name.as_str(), ana.digest, ana.active),
+        ("ana", [1; 32], true)
+    );
+    assert!(rt; are_users_and_operators(ana.groups.as_slice()));
+    Ok(())
+}
