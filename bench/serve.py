@@ -8,7 +8,7 @@ import sys
 import threading
 import time
 
-sys.path.insert(0, os.path.join(os.path.dirname(__file__), "..", "scripts", "process"))
+sys.path.insert(0, os.path.join(os.path.dirname(__file__), "..", "scripts", "lib"))
 from serving import Host, free_port, listens, until  # noqa: E402
 
 FOLDER, SECONDS, ROUNDS = sys.argv[1], float(sys.argv[2]), int(sys.argv[3])

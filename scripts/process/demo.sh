@@ -3,7 +3,7 @@
 set -u
 cd "$(dirname "$0")/../.." || exit 2
 scripts/build octo || exit 1
-. scripts/with_work
+. scripts/lib/with_work
 timeout 300 crates/octo/out/octo demo 1 200000 >"$work/first"
 first=$?
 timeout 300 crates/octo/out/octo demo 1 200000 >"$work/second"

@@ -7,7 +7,7 @@ import sys
 import tempfile
 from decimal import Decimal
 
-sys.path.insert(0, "scripts")
+sys.path.insert(0, "scripts/lib")
 from plain_measure import commands, measure
 
 OCTO = "crates/octo/out/octo"

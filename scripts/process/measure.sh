@@ -3,4 +3,4 @@
 set -u
 cd "$(dirname "$0")/../.." || exit 2
 scripts/build octo || exit 1
-exec python3 scripts/process/measure.py
+exec python3 -B scripts/process/measure.py

@@ -3,7 +3,7 @@
 set -u
 cd "$(dirname "$0")/../.." || exit 2
 scripts/build octo marlin_sim || exit 1
-. scripts/with_work
+. scripts/lib/with_work
 failed=0
 
 # A line that is lost is sent again after one second.
@@ -30,7 +30,7 @@ EOF
 # and octo's options
 print_row() {
     if [ "$over" = tcp ]; then
-        port=$(scripts/free_port) || exit 1
+        port=$(scripts/lib/free_port) || exit 1
         address=127.0.0.1:$port
     else
         address=unix:$work/printer
@@ -40,7 +40,7 @@ print_row() {
     timeout 60 crates/marlin_sim/out/marlin_sim "$address" $3 >"$work/executed" &
     printer=$!
     started=$printer
-    scripts/octo_when_up print "$address" "$work/a.gcode" ${7:---turns 5000} >"$work/octo"
+    scripts/lib/octo_when_up print "$address" "$work/a.gcode" ${7:---turns 5000} >"$work/octo"
     octo=$?
     wait "$printer"
     sim=$?
@@ -74,7 +74,7 @@ sim_row() {
 
 # A printer that is killed while it prints: octo ends with status 5, and the printer executed the first lines of the print.
 kill_row() {
-    port=$(scripts/free_port) || exit 1
+    port=$(scripts/lib/free_port) || exit 1
     timeout 60 crates/marlin_sim/out/marlin_sim "127.0.0.1:$port" 0 4 - - >"$work/executed" &
     printer=$!
     started=$printer
@@ -83,7 +83,7 @@ for number in range(200_000):
     print("G1 X%d" % number)
 EOF
     (sleep 1; pkill -9 -P "$printer" 2>/dev/null; kill -9 "$printer" 2>/dev/null) &
-    scripts/octo_when_up print "127.0.0.1:$port" "$work/long.gcode" >"$work/octo"
+    scripts/lib/octo_when_up print "127.0.0.1:$port" "$work/long.gcode" >"$work/octo"
     octo=$?
     wait "$printer" 2>/dev/null
     started=

@@ -9,7 +9,8 @@ import tempfile
 import threading
 import time
 
-from serving import LIMIT, Host, Printer, form, message
+sys.path.insert(0, "scripts/lib")
+from serving import LIMIT, Host, Printer, form, message  # noqa: E402
 
 failed = False
 LAYER = b"".join(b"G1 X%d Y%d E%d.5 ; move\n" % (n % 200, n * 7 % 200, n) for n in range(200))
@@ -185,24 +186,17 @@ def quiet(work):
         pass  # the host was killed
 
 
-def install_sqlite3():
-    if shutil.which("sqlite3"):
-        return
-    subprocess.run(["apt-get", "install", "-y", "sqlite3"], stdout=subprocess.DEVNULL, stderr=subprocess.DEVNULL)
-    if not shutil.which("sqlite3"):
-        subprocess.run(["apt-get", "update"], stdout=subprocess.DEVNULL, stderr=subprocess.DEVNULL)
-        subprocess.run(["apt-get", "install", "-y", "sqlite3"], stdout=subprocess.DEVNULL, stderr=subprocess.DEVNULL)
-
-
 def tables(folder):
     """What the host kept, as the stock sqlite3 reads it, and while the host runs that it is locked."""
-    install_sqlite3()
     printer = Printer(folder)
     host = Host(folder, printer.port).start()
 
-    def sqlite(statement):
+    def check_sqlite(name, statement, wanted):
+        if not shutil.which("sqlite3"):
+            print("skipped: %s: sqlite3 is missing" % name, flush=True)
+            return
         run = subprocess.run(["sqlite3", host.database, statement], capture_output=True, timeout=LIMIT)
-        return run.stdout.decode()
+        check(name, run.stdout.decode(), wanted)
 
     try:
         host.connect()
@@ -211,13 +205,13 @@ def tables(folder):
         check("an upload", host.upload("a.gcode", LAYER, True).status, 201)
         host.until_state("Operational")
         check("an entry", host.post("/api/queue", {"name": "job-1", "file": "a.gcode", "priority": 5}).status, 201)
-        check("sqlite3 while the host runs", sqlite("SELECT count(*) FROM prints;"), "")
+        check_sqlite("sqlite3 while the host runs", "SELECT count(*) FROM prints;", "")
         check("the end", host.shut_down()[0], 0)
         printer.end()
-        check("the database", sqlite("PRAGMA integrity_check; SELECT schema FROM meta;"), "ok\n2\n")
-        check("its users", sqlite("SELECT name, length(digest), groups, active FROM users;"), "ana|32|users|1\n")
-        check("its entries", sqlite("SELECT user, name, file, priority FROM entries;"), "root|job-1|a.gcode|5\n")
-        check("its prints", sqlite("SELECT number, user, file, commands, outcome FROM prints;"), "1|root|a.gcode|200|1\n")
+        check_sqlite("the database", "PRAGMA integrity_check; SELECT schema FROM meta;", "ok\n2\n")
+        check_sqlite("its users", "SELECT name, length(digest), groups, active FROM users;", "ana|32|users|1\n")
+        check_sqlite("its entries", "SELECT user, name, file, priority FROM entries;", "root|job-1|a.gcode|5\n")
+        check_sqlite("its prints", "SELECT number, user, file, commands, outcome FROM prints;", "1|root|a.gcode|200|1\n")
         host.start()
         check("the user again", [u["name"] for u in host.ask("GET", "/api/access/users").json()["users"]], ["ana"])
         words = [host.program, "serve", "127.0.0.1:9", host.files, host.database, "--settings", host.settings]

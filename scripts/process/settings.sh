@@ -3,7 +3,7 @@
 set -u
 cd "$(dirname "$0")/../.." || exit 2
 scripts/build octo || exit 1
-. scripts/with_work
+. scripts/lib/with_work
 failed=0
 
 # name, octo's status, what it prints, octo's arguments
@@ -48,7 +48,7 @@ check_row "a limit of the settings" 3 'file: line 3: too hot: 260 over 250\n' \
     check "$work/hot.gcode" --settings "$work/cool.toml"
 # Nobody listens at that port, and nothing is dialled.
 check_row "a print above the settings' limit" 3 'file: line 3: too hot: 260 over 250\n' \
-    print "127.0.0.1:$(scripts/free_port)" "$work/hot.gcode" --settings "$work/cool.toml"
+    print "127.0.0.1:$(scripts/lib/free_port)" "$work/hot.gcode" --settings "$work/cool.toml"
 
 # The digest of the example's key, made as docs/USING.md says.
 digest=$(printf %s rootxkeyx0000000 | sha256sum | cut -d ' ' -f 1)

@@ -2,7 +2,7 @@
 """Records the messages that common HTTP clients send, for client_messages.
 
 Each client that is installed sends a few requests to a listener on this machine, which answers each connection with 200
-and keeps what came: crates/client_messages/data/CLIENT_REQUEST.http. Usage: scripts/record_clients.py
+and keeps what came: crates/client_messages/data/CLIENT_REQUEST.http. Usage: scripts/lib/record_clients.py
 """
 import os
 import shutil
@@ -12,7 +12,7 @@ import tempfile
 import threading
 
 HERE = os.path.dirname(os.path.abspath(__file__))
-DATA = os.path.join(HERE, "..", "crates", "client_messages", "data")
+DATA = os.path.join(HERE, "..", "..", "crates", "client_messages", "data")
 REPLY = b"HTTP/1.1 200 OK\r\nConnection: close\r\nContent-Length: 0\r\n\r\n"
 KEY = "0123456789abcdef"
 JOB = '{"command":"start"}'
