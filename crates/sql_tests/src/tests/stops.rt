@@ -9,15 +9,11 @@ use sqlite_disk::{Crash, Disk};
 use std::alloc::Global;
 use std::test::Fail;
 
-// An entry of two copies is put.
-fn put() -> Result<Change, Fail> {
-    Ok(Change::PutEntry(entry("ana", "job-1", 5, 2, 1)?))
-}
-
-// A print of its first copy begins.
-fn first_print() -> Result<Change, Fail> {
+// An entry of two copies is put, and a print of the first begins.
+fn changes() -> Result<[Change; 2], Fail> {
+    let put = Change::PutEntry(entry("ana", "job-1", 5, 2, 1)?);
     let taken = entry("ana", "job-1", 5, 2, 1)?;
-    begin(1, None, Some(taken))
+    Ok([put, begin(1, None, Some(taken))?])
 }
 
 // How many of the changes are made before one fails.
@@ -98,10 +94,10 @@ fn stop_at_each_call(alloc: Global, log_stops: bool, changes: &[Change]) -> Resu
 
 #[test]
 fn the_log_stops(rt: HostRuntime) -> Result<(), Fail> {
-    stop_at_each_call(rt.alloc(), true, &[put()?, first_print()?])
+    stop_at_each_call(rt.alloc(), true, &changes()?)
 }
 
 #[test]
 fn the_file_stops(rt: HostRuntime) -> Result<(), Fail> {
-    stop_at_each_call(rt.alloc(), false, &[put()?, first_print()?])
+    stop_at_each_call(rt.alloc(), false, &changes()?)
 }
