@@ -43,9 +43,9 @@ def statements_of(crate, known):
     return known[crate.name]
 
 
-def sum_of_trial(crate, edits, kit, known):
+def sum_of_trial(crate, edits, logic, known):
     """Returns the sum of all on which the verdict on these edits of the crate stands."""
-    found = hashlib.sha256(repr((RULES, kit, crate.name, crate.is_program, sorted(crate.of_kit))).encode())
+    found = hashlib.sha256(repr((RULES, logic, crate.name, crate.is_program, sorted(crate.of_kit))).encode())
     for it in files_of(crate):
         found.update(repr((it, text_of(f"{crate.folder}/{it}"))).encode())
     for it in edits:
