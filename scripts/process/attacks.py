@@ -1,0 +1,193 @@
+"""Hostile peers of `octo serve`; see attacks.sh."""
+
+import os
+import re
+import socket
+import struct
+import sys
+
+sys.path.insert(0, "scripts/lib")
+from serving import Host, Printer, form, message, until, with_folder  # noqa: E402
+
+# The longest head, and the most fields in one.
+MOST_HEAD, MOST_FIELDS = 16384, 64
+# How much the host's memory may grow over all attacks, in bytes: a worker keeps room for a body.
+MOST_GROWTH = 32 << 20
+REFUSED = {400, 404, 405, 408, 411, 413, 415, 431}
+failed = False
+
+
+def check(name, good, found=""):
+    global failed
+    print("%s: %s%s" % ("ok" if good else "failed", name, "" if good else ": %r" % (found,)), flush=True)
+    failed = failed or not good
+
+
+def head(start, *fields, body=b"", key="k"):
+    lines = [start, b"Host: x", b"X-Api-Key: " + key.encode(), *fields]
+    return b"\r\n".join(lines) + b"\r\n\r\n" + body
+
+
+def framing(key):
+    """Messages whose length could be read in two ways."""
+    post = b"POST /api/job HTTP/1.1"
+    lengths = [b"+2", b"-2", b"0x2", b"2 2", b"2,3", b"2;", b"", b" ", b"2e0", b"99999999999999999999", b"\xb2"]
+    codings = [b"identity", b"gzip", b"chunked, gzip", b"xchunked", b"chunked;q=1", b"chunke", b"\x0bchunked"]
+    for it in lengths:
+        yield head(post, b"Content-Length: " + it, body=b"{}", key=key)
+    for it in codings:
+        yield head(post, b"Transfer-Encoding: " + it, body=b"2\r\n{}\r\n0\r\n\r\n", key=key)
+    for it in [b"chunked", b"identity"]:
+        yield head(post, b"Content-Length: 2", b"Transfer-Encoding: " + it, body=b"2\r\n{}\r\n0\r\n\r\n", key=key)
+        yield head(post, b"Transfer-Encoding: " + it, b"Content-Length: 2", body=b"2\r\n{}\r\n0\r\n\r\n", key=key)
+    for it in [(b"2", b"3"), (b"3", b"2")]:
+        yield head(post, *[b"Content-Length: " + n for n in it], body=b"{}", key=key)
+    sizes = [b"FFFFFFFF", b"FFFFFFFFFFFFFFFFF", b"-1", b"0x2", b"+2", b" 2", b"G", b"", b"2" * 400]
+    for it in sizes:
+        yield head(post, b"Transfer-Encoding: chunked", body=it + b"\r\n{}\r\n0\r\n\r\n", key=key)
+    for it in [b"2\n{}\r\n0\r\n\r\n", b"2\r\n{}0\r\n\r\n", b"2\r\n{}\r\n", b"2\r\n{}x\r\n0\r\n\r\n", b"1\r\n" * 3000]:
+        yield head(post, b"Transfer-Encoding: chunked", body=it, key=key)
+
+
+def control_bytes(key):
+    """A control byte in each part of a head."""
+    for byte in [*range(9), 11, 12, *range(14, 32), 127]:
+        it = bytes([byte])
+        yield head(b"GE" + it + b"T /api/job HTTP/1.1", key=key)
+        yield head(b"GET /api/" + it + b"job HTTP/1.1", key=key)
+        yield head(b"GET /api/job HTTP/1." + it, key=key)
+        yield head(b"GET /api/job HTTP/1.1", b"X-A" + it + b": 1", key=key)
+        yield head(b"GET /api/job HTTP/1.1", b"X-A: 1" + it + b"2", key=key)
+
+
+def start_lines(key):
+    """Lines that begin no message."""
+    versions = [b"HTTP/0.9", b"HTTP/2.0", b"HTTP/1.10", b"http/1.1", b"HTTP/1.1 x", b"HTTP", b"", b"HTTPS/1.1"]
+    targets = [b"api/job", b"*", b"\\api", b"/api/%", b"/api/%zz", b"/%00", b"/api/files/local/%2e%2e", b"/api/files/local/..%2f..%2fetc%2fpasswd"]
+    targets += [b"/api/files/local/" + it for it in (b"%2e%2e", b".", b"%ff%fe", b"a%00b", b"%0d%0aX:1", b"%E2%80%AEedocg.exe", b"a" * 300)]
+    for it in versions:
+        yield head(b"GET /api/job " + it, key=key)
+    for method in (b"GET", b"DELETE", b"POST"):
+        for it in targets:
+            yield head(method + b" " + it + b" HTTP/1.1", key=key)
+    for it in (b"TRACE", b"CONNECT", b"get", b"G" * 200, b"PATCH", b"(", b"GET/"):
+        yield head(it + b" /api/job HTTP/1.1", key=key)
+
+
+def sizes(key):
+    """Heads that are one byte or one field too long."""
+    for over in (1, 2, 1000):
+        start = head(b"GET /api/nothing HTTP/1.1", key=key)[:-2]
+        yield start + b"X-Pad: " + b"a" * (MOST_HEAD + over - len(start) - 11) + b"\r\n\r\n"
+        yield head(b"GET /api/nothing HTTP/1.1", *[b"X-A: 1"] * (MOST_FIELDS + over - 2), key=key)
+    yield b"GET /" + b"a" * 70000
+    yield b"\x16\x03\x01\x02\x00\x01\x00\x01\xfc\x03\x03" * 40
+
+
+def bodies(key):
+    """Bodies that are no request."""
+    for it in (b"[" * 200, b'{"a":' * 200, b"[" * 60000, b'{"command":"\\ud800"}', b'{"command":"start","command":"cancel"', b"\xff\xfe{}", b"{}{}", b"nul", b"1e400", b'{"a":1,}'):
+        yield head(b"POST /api/job HTTP/1.1", b"Content-Type: application/json", b"Content-Length: %d" % len(it), body=it, key=key)
+    for lines in (257, 5000):
+        it = b'{"commands":[' + b",".join([b'"M117 a"'] * lines) + b"]}"
+        yield head(b"POST /api/printer/command HTTP/1.1", b"Content-Type: application/json", b"Content-Length: %d" % len(it), body=it, key=key)
+    for it in (b'"G28\\nM112"', b'"G28\\u0000"', b'"M110 N5"', b'"' + b"a" * 80 + b'"', b"7", b"null", b"[]", b"{}"):
+        it = b'{"command":' + it + b"}"
+        yield head(b"POST /api/printer/command HTTP/1.1", b"Content-Type: application/json", b"Content-Length: %d" % len(it), body=it, key=key)
+
+
+def forms(key):
+    """Forms that hold no file to store."""
+    many, kind = form([("a", None, b"1")] * 3000)
+    shapes = [(many, kind), (b"", kind), (b"--x", kind), (b"\r\n" * 5000, kind), (many, "multipart/form-data"), (many, "multipart/form-data; boundary=")]
+    shapes += [(many, "multipart/form-data; boundary=" + "b" * 71), (many[:-20], kind)]
+    names = ["../../etc/passwd", "a/../../b.exe", "\\..\\..\\c.stl", "", ".", "..", "/", "a" * 300 + ".gcode", "a.gcode.exe"]
+    shapes += [form([("file", name, b"G28\n")]) for name in names]
+    for body, it in shapes:
+        yield message("POST", "/api/files/local", key, body, it)
+
+
+def drawn(key):
+    """Messages that are cut, doubled or have a byte changed, by a fixed rule, until there are enough."""
+    whole = head(b"POST /api/job HTTP/1.1", b"Content-Type: application/json", b"Content-Length: 21", body=b'{"command":"cancel!"}', key=key)
+    for at in range(len(whole)):
+        yield whole[:at]
+    body, kind = form([("print", None, b"maybe"), ("file", "a.exe", b"G28\n")])
+    whole = message("POST", "/api/files/local", key, body, kind)
+    for at in range(len(whole)):
+        yield whole[:at] + bytes([whole[at] ^ 0x80]) + whole[at + 1:]
+        if at % 4 == 0:
+            yield whole[:at]
+
+
+def send(port, data):
+    """The status of the reply to what is sent on a connection that is then half closed, or 0 without a reply."""
+    with socket.create_connection(("127.0.0.1", port), timeout=20) as conn:
+        parts = []
+        try:
+            conn.sendall(data)
+            conn.shutdown(socket.SHUT_WR)
+        except OSError:
+            pass
+        try:
+            while part := conn.recv(65536):
+                parts.append(part)
+        except ConnectionError:
+            pass
+        found = re.findall(rb"^HTTP/1\.1 ([2-5]\d\d) ", b"".join(parts), re.M)
+        return int(found[-1]) if found else 0
+
+
+def hostile(host):
+    """Each message is refused, or gets no reply as it isn't whole."""
+    groups = {it.__name__: list(it(host.key)) for it in (framing, control_bytes, start_lines, sizes, bodies, forms, drawn)}
+    count = 0
+    for name, sent in groups.items():
+        bad = [(data[-120:], found) for data in sent for found in [send(host.port, data)] if found not in REFUSED | {0}]
+        count += len(sent)
+        check("%d messages of the kind %s are refused" % (len(sent), name), not bad, bad[:3])
+    check("there were a thousand", count >= 1000, count)
+
+
+def vanishing(host):
+    """Connections that are reset in a head, in a body and in a reply, and ones that are closed at once."""
+    whole = message("GET", "/api/files", host.key)
+    for data in [b"", whole[:20], whole, message("POST", "/api/job", host.key, b"x" * 5000)[:-10]] * 50:
+        conn = socket.create_connection(("127.0.0.1", host.port), timeout=20)
+        conn.setsockopt(socket.SOL_SOCKET, socket.SO_LINGER, struct.pack("ii", 1, 0))
+        conn.sendall(data)
+        conn.close()
+    check("200 reset connections", host.ask("GET", "/api/version", seconds=20).status == 200)
+    for _ in range(2000):
+        socket.create_connection(("127.0.0.1", host.port), timeout=20).close()
+    check("2,000 connections", host.ask("GET", "/api/version", seconds=20).status == 200)
+
+
+def memory(host):
+    found = re.search(r"VmRSS:\s+(\d+) kB", open("/proc/%d/status" % host.process.pid).read())
+    return int(found[1]) * 1024
+
+
+def attacks(folder):
+    printer = Printer(folder)
+    host = Host(folder, printer.port).start()
+    try:
+        host.connect()
+        rows = host.ask("GET", "/api/files").body
+        descriptors, before = host.descriptors(), memory(host)
+        hostile(host)
+        vanishing(host)
+        settled = until("no descriptor is left", lambda: host.descriptors() <= descriptors, 10)
+        check("no descriptor is left", settled)
+        check("memory as before", memory(host) - before < MOST_GROWTH, memory(host) - before)
+        check("nothing was stored", host.ask("GET", "/api/files").body == rows and os.listdir(host.files) == [], os.listdir(host.files))
+        status, text = host.shut_down()
+        check("the host ends as asked", status == 0, (status, text))
+        check("nothing reached the printer", (found := printer.end()) == [], found)
+    finally:
+        host.kill()
+        printer.kill()
+
+
+with_folder(attacks)
+sys.exit(failed)
