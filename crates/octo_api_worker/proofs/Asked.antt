@@ -6,16 +6,17 @@ use Rattle.octo_outside.proofs.Recorded.{became_then, became_same, became_so}
 use Rattle.octo_asks.specs.declared.entry.Entry.TheVariants as entry
 use Rattle.octo_asks.specs.History.{History}
 use Rattle.octo_http.specs.declared.message.Message.{Message}
-use Rattle.octo_http.specs.declared.reply.HttpReply.{HttpReply}
-use Rattle.octo_api_worker.specs.Served.{IsReplied, refused, ended, answered, LeadsTo, no_call, one_call, AsksOnce}
+use Rattle.octo_api_worker.specs.declared.reply.WorkerReply.{WorkerReply}
+use Rattle.octo_api_worker.specs.Served.{IsReplied, shown, refused, ended, answered, LeadsTo, no_call, one_call, AsksOnce}
 use Rattle.octo_api_worker.specs.Worked.{IsAsk, AddsAsks, Leaves, no_leave, HasLeft, AreOfReturned, HasReturned}
 use Rattle.octo_api_worker.proofs.Calls.{added_none}
 
 -- a message leads to at most one call
-pub leads_to : (m : Message) (reply : HttpReply) (is_open : Bool) (calls : History) → IsReplied m reply is_open calls → LeadsTo calls
-leads_to m reply is_open calls (refused direct says) = no_call
-leads_to m reply is_open calls (ended ask r says replies) = no_call
-leads_to m reply is_open calls (answered ask worker moment a r says callers replies) = one_call worker moment ask a callers
+pub leads_to : (m : Message) (reply : WorkerReply) (is_open : Bool) (calls : History) → IsReplied m reply is_open calls → LeadsTo calls
+leads_to m reply is_open calls (shown page is) = no_call
+leads_to m reply is_open calls (refused direct of_api says) = no_call
+leads_to m reply is_open calls (ended ask r of_api says replies) = no_call
+leads_to m reply is_open calls (answered ask worker moment a r of_api says callers replies) = one_call worker moment ask a callers
 
 -- nothing was asked
 pub once_none : (mine mine' : Option History) → mine' ≡ mine → AsksOnce mine mine'

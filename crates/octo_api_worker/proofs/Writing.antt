@@ -8,10 +8,9 @@ use Rattle.octo_outside_doors.specs.Doors.{ConnState, fresh_conn}
 use Rattle.octo_http.specs.declared.fault.MessageFault.{MessageFault}
 use Rattle.octo_http.specs.declared.fault.MessageFault.TheVariants.{ReadFault}
 use Rattle.octo_http.specs.declared.message.Message.{Message}
-use Rattle.octo_http.specs.declared.reply.HttpReply.{HttpReply}
 use Rattle.octo_http.specs.Message.{Writes, Answers, IsPatient, IsSlow}
-use Rattle.octo_http.specs.Reply.{reply_bytes}
-use Rattle.octo_api_worker.specs.Served.{Sends, Wrote, HasCause, IsReplied, IsServed, no_message, message, fault_bytes}
+use Rattle.octo_api_worker.specs.declared.reply.WorkerReply.{WorkerReply}
+use Rattle.octo_api_worker.specs.Served.{Sends, Wrote, HasCause, IsReplied, IsServed, no_message, message, fault_bytes, worker_bytes}
 use Rattle.std.proofs.lemmas.Option.{none-some, same_Some}
 
 -- the bytes that a reader wrote at a connection at which nothing was written before
@@ -65,12 +64,12 @@ unread patience input left written faults quiets fault after writes patient rose
     (wrote_then written after.written faults after.faults sent.0 (fault_bytes fault) sent.2 below sends)
 
 -- a connection that held a message was served
-pub served_message : (patience : ℕ) (input : List ℕ) (left written : Option (List ℕ)) (faults : ℕ) (m : Message) (reply : HttpReply)
+pub served_message : (patience : ℕ) (input : List ℕ) (left written : Option (List ℕ)) (faults : ℕ) (m : Message) (reply : WorkerReply)
     (is_open : Bool) (calls : History) (after : ConnState)
     → ((before : List ℕ) → Some input ≡ Some before → Writes (Some []) written (Answers before left (Ok m))) → IsReplied m reply is_open calls
-    → Sends written after.written faults after.faults (reply_bytes reply) → faults ≤ after.faults
+    → Sends written after.written faults after.faults (worker_bytes reply) → faults ≤ after.faults
     → IsServed patience input after is_open calls
 served_message patience input left written faults m reply is_open calls after writes replied sends below =
     let sent = sent_of written (Answers input left (Ok m)) (writes input refl) in
     message m sent.0 reply is_open calls sent.1 replied
-    (wrote_then written after.written faults after.faults sent.0 (reply_bytes reply) sent.2 below sends)
+    (wrote_then written after.written faults after.faults sent.0 (worker_bytes reply) sent.2 below sends)

@@ -1,5 +1,5 @@
 -- What a connection's input says to a worker, what is written in reply, and the calls that it leads to.
-use Rattle.std.specs.Prelude.{◌≡◌, ◌⊎◌, ℕ, ◌<◌, Bool, true, false, List, [], ◌∷◌, ◌++◌, take, Option, Result, Ok, Err, IfSome}
+use Rattle.std.specs.Prelude.{◌≡◌, ◌⊎◌, ℕ, ◌<◌, Bool, true, false, List, [], ◌∷◌, ◌++◌, take, Option, Some, None, Result, Ok, Err, IfSome}
 use Rattle.std.specs.Option.{option_map_or}
 use Rattle.octo_outside.specs.Recorded.{Adds, AddsPrefix, Rose}
 use Rattle.octo_outside_doors.specs.Doors.{ConnState, fresh_conn}
@@ -14,10 +14,14 @@ use Rattle.octo_asks.specs.declared.answer.Answer.TheVariants as answer
 use Rattle.octo_asks.specs.declared.request.Ask.{Ask}
 use Rattle.octo_asks.specs.declared.entry.Entry.TheVariants as entry
 use Rattle.octo_asks.specs.History.{History}
+use Rattle.octo_api_page.specs.declared.page.Page.{Page}
+use Rattle.octo_api_page.specs.Pages.{page_of, page_bytes}
 use Rattle.octo_api_routes.specs.declared.direct.Direct.{Direct}
 use Rattle.octo_api_replies.specs.Replies.{empty_reply, reply_of, direct_status, fault_status}
 use Rattle.octo_api_requests.specs.Requests.{MessageReadsAs}
 use Rattle.octo_api_requests.specs.Callers.{IsCallers}
+use Rattle.octo_api_worker.specs.declared.reply.WorkerReply.{WorkerReply}
+use Rattle.octo_api_worker.specs.declared.reply.WorkerReply.TheVariants as by
 
 -- a call wrote these bytes; if it failed, which was counted, perhaps only the first of them
 abbrev pub Sends : (written written' : Option (List ℕ)) → (faults faults' : ℕ) → List ℕ → Type 0
@@ -40,19 +44,31 @@ pub record HasCause (patience : ℕ) (conn : ConnState) (fault : MessageFault) :
 abbrev pub IsReply : Answer → HttpReply → Type 0
 IsReply answer reply = (reply ≡ reply_of answer) ⊎ (reply ≡ empty_reply 507)
 
--- the reply to a message, whether the host hasn't ended, and the calls that the message led to
-pub data IsReplied (message : Message) : HttpReply → Bool → History → Type 0 where
-  refused : (direct : Direct) → MessageReadsAs message (Err direct) → IsReplied message (empty_reply (direct_status direct)) true []
-  ended : (ask : Ask) (reply : HttpReply) → MessageReadsAs message (Ok ask) → IsReply answer.Closed reply → IsReplied message reply false []
-  answered : (ask : Ask) (worker moment : ℕ) (a : Answer) (reply : HttpReply) → MessageReadsAs message (Ok ask) → IsCallers ask.request → IsReply a reply
-      → IsReplied message reply true (entry.Call worker ask moment a ∷ [])
+-- the bytes of a reply
+abbrev pub worker_bytes : WorkerReply → List ℕ
+worker_bytes (by.Page page) = page_bytes page
+worker_bytes (by.Api reply) = reply_bytes reply
+
+-- a message of the REST API: its path isn't one of the page
+abbrev pub IsOfApi : Message → Type 0
+IsOfApi message = page_of message.method message.path ≡ None
+
+-- the reply to a message, whether the host hasn't ended, and the calls that the message led to; the page is shown without a call
+pub data IsReplied (message : Message) : WorkerReply → Bool → History → Type 0 where
+  shown : (page : Page) → page_of message.method message.path ≡ Some page → IsReplied message (by.Page page) true []
+  refused : (direct : Direct) → IsOfApi message → MessageReadsAs message (Err direct)
+      → IsReplied message (by.Api (empty_reply (direct_status direct))) true []
+  ended : (ask : Ask) (reply : HttpReply) → IsOfApi message → MessageReadsAs message (Ok ask) → IsReply answer.Closed reply
+      → IsReplied message (by.Api reply) false []
+  answered : (ask : Ask) (worker moment : ℕ) (a : Answer) (reply : HttpReply) → IsOfApi message → MessageReadsAs message (Ok ask)
+      → IsCallers ask.request → IsReply a reply → IsReplied message (by.Api reply) true (entry.Call worker ask moment a ∷ [])
 
 -- a connection with this input was served: it holds no message, or a message that is replied to
 pub data IsServed (patience : ℕ) (input : List ℕ) (conn : ConnState) : Bool → History → Type 0 where
   no_message : (fault : MessageFault) (sent : List ℕ) → Answers input conn.left (Err fault) sent → HasCause patience conn fault
       → Wrote conn (sent ++ fault_bytes fault) → IsServed patience input conn true []
-  message : (m : Message) (sent : List ℕ) (reply : HttpReply) (is_open : Bool) (calls : History) → ReadsMessage input (Ok m) sent
-      → IsReplied m reply is_open calls → Wrote conn (sent ++ reply_bytes reply) → IsServed patience input conn is_open calls
+  message : (m : Message) (sent : List ℕ) (reply : WorkerReply) (is_open : Bool) (calls : History) → ReadsMessage input (Ok m) sent
+      → IsReplied m reply is_open calls → Wrote conn (sent ++ worker_bytes reply) → IsServed patience input conn is_open calls
 
 -- the calls that a connection led to: none, or one with a caller's request
 pub data LeadsTo : History → Type 0 where

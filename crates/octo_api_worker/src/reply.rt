@@ -5,8 +5,10 @@ ghost use Rattle.octo_http.specs.declared.message.Message.{Message};
 ghost use Rattle.octo_api_requests.specs.Requests.{MessageReadsAs};
 ghost use Rattle.octo_api_requests.specs.Callers.{IsCallers};
 ghost use Rattle.octo_asks.specs.History.{History};
-ghost use Rattle.octo_api_worker.specs.Served.{IsReply, IsReplied};
+ghost use Rattle.octo_api_page.specs.Pages.{page_of};
+ghost use Rattle.octo_api_worker.specs.Served.{IsReply, IsOfApi, IsReplied};
 
+use octo_api_page::{Page, page_of};
 use octo_api_replies::{direct_bytes, to_bytes};
 use octo_api_requests::request_by;
 use octo_api_routes::{Direct, Routes};
@@ -16,8 +18,16 @@ use std::alloc::{AllocError, Global};
 
 // A reply that is to be written.
 #[derive(Drop)]
+pub(crate) enum WorkerReply {
+    // That of a path of the page.
+    Page { page: Page },
+    // That of the REST API.
+    Api { reply: HttpReply },
+}
+
+#[derive(Drop)]
 pub(crate) struct Replied {
-    pub reply: HttpReply,
+    pub reply: WorkerReply,
     // Whether the host hasn't ended.
     pub is_open: bool,
 }
@@ -34,7 +44,8 @@ fn reply_to(alloc: Global, answer: Answer) -> HttpReply
 
 // Asks, and returns the reply to the answer.
 fn reply_to_ask<A: Asker>(alloc: Global, asker: &mut A, ask: Ask) -> Replied
-    ensures replied { (message : Message) → MessageReadsAs message (Ok ask) → IsCallers ask.request
+    ensures replied { (message : Message) → IsOfApi message
+        → MessageReadsAs message (Ok ask) → IsCallers ask.request
         → (calls : History) × Adds (A.mine asker.old) (A.mine asker.new) calls
         × IsReplied message result.reply result.is_open calls }
     ensures closed { result.is_open ≡ false → A.saw_close asker.new ≡ true }
@@ -43,17 +54,53 @@ fn reply_to_ask<A: Asker>(alloc: Global, asker: &mut A, ask: Ask) -> Replied
 {
     match asker.ask(ask) {
         Ok(answer) => Replied {
-            reply: reply_to(alloc, answer),
+            reply: WorkerReply::Api {
+                reply: reply_to(alloc, answer),
+            },
             is_open: true,
         },
         Err(Closed) => Replied {
-            reply: reply_to(alloc, Answer::Closed),
+            reply: WorkerReply::Api {
+                reply: reply_to(alloc, Answer::Closed),
+            },
             is_open: false,
         },
     }
 }
 
-// Asks what a message says, if it says a request, and returns the reply.
+// Asks what a message of the REST API says, if it says a request, and returns the reply.
+fn reply_to_request<A: Asker>(
+    alloc: Global,
+    routes: &Routes,
+    asker: &mut A,
+    message: Message,
+) -> Replied
+    ensures replied { IsOfApi message → (calls : History)
+        × Adds (A.mine asker.old) (A.mine asker.new) calls
+        × IsReplied message result.reply result.is_open calls }
+    ensures closed { result.is_open ≡ false → A.saw_close asker.new ≡ true }
+    ensures seen { A.saw_close asker.old ≡ true → A.saw_close asker.new ≡ true }
+    ensures place { A.place asker.new ≡ A.place asker.old }
+{
+    match request_by(alloc, routes, message) {
+        Ok(ask) => reply_to_ask(alloc, asker, ask),
+        Err(direct) => Replied {
+            reply: WorkerReply::Api {
+                reply: direct_bytes(alloc, direct),
+            },
+            is_open: true,
+        },
+    }
+}
+
+// What of the page a message is for, `None` if it is one of the REST API.
+fn page_for(message: &Message) -> Option<Page>
+    ensures { result ≡ page_of message.now.method message.now.path }
+{
+    page_of(message.method.as_str(), message.path.as_slice())
+}
+
+// The reply to a message: a path of the page is replied to without asking.
 pub(crate) fn reply_to_message<A: Asker>(
     alloc: Global,
     routes: &Routes,
@@ -66,11 +113,11 @@ pub(crate) fn reply_to_message<A: Asker>(
     ensures seen { A.saw_close asker.old ≡ true → A.saw_close asker.new ≡ true }
     ensures place { A.place asker.new ≡ A.place asker.old }
 {
-    match request_by(alloc, routes, message) {
-        Ok(ask) => reply_to_ask(alloc, asker, ask),
-        Err(direct) => Replied {
-            reply: direct_bytes(alloc, direct),
+    match page_for(&message) {
+        Some(page) => Replied {
+            reply: WorkerReply::Page { page },
             is_open: true,
         },
+        None => reply_to_request(alloc, routes, asker, message),
     }
 }

@@ -2,14 +2,15 @@
 ghost use Rattle.std.specs.Prelude.{◌≡◌, ◌≤◌, true, false};
 ghost use Rattle.octo_outside_doors.specs.Doors.{state_of};
 ghost use Rattle.octo_http.specs.Reply.{reply_bytes};
-ghost use Rattle.octo_api_worker.specs.Served.{Sends, HasServed, AsksOnce, fault_bytes};
+ghost use Rattle.octo_api_worker.specs.Served.{Sends, HasServed, AsksOnce, fault_bytes, worker_bytes};
 
-use crate::reply::reply_to_message;
+use crate::reply::{WorkerReply, reply_to_message};
+use octo_api_page::page_bytes;
 use octo_api_replies::fault_bytes;
 use octo_api_routes::Routes;
 use octo_asks::Asker;
 use octo_http::{HttpReply, MessageFault, read_message, write_reply};
-use octo_outside::{Conn, Failed};
+use octo_outside::{Conn, Failed, send_all};
 use std::alloc::Global;
 
 // Writes a reply, and ignores a failure: the connection counts it, and nobody is left who could be answered.
@@ -22,6 +23,33 @@ fn write_reply_or_ignore<C: Conn>(conn: &mut C, reply: &HttpReply)
 {
     match write_reply(conn, reply) {
         Ok(()) | Err(Failed) => {}
+    }
+}
+
+// Writes bytes, and ignores a failure too.
+fn send_or_ignore<C: Conn>(conn: &mut C, bytes: &[u8])
+    ensures written { Sends (C.written conn.old) (C.written conn.new)
+        (C.faults conn.old) (C.faults conn.new) bytes.now }
+    ensures left { C.left conn.new ≡ C.left conn.old }
+    ensures quiets { C.quiets conn.new ≡ C.quiets conn.old }
+    ensures counted { C.faults conn.old ≤ C.faults conn.new }
+{
+    match send_all(conn, bytes) {
+        Ok(()) | Err(Failed) => {}
+    }
+}
+
+// Writes the reply to a message.
+fn write_worker_reply<C: Conn>(conn: &mut C, reply: &WorkerReply)
+    ensures written { Sends (C.written conn.old) (C.written conn.new)
+        (C.faults conn.old) (C.faults conn.new) (worker_bytes reply.now) }
+    ensures left { C.left conn.new ≡ C.left conn.old }
+    ensures quiets { C.quiets conn.new ≡ C.quiets conn.old }
+    ensures counted { C.faults conn.old ≤ C.faults conn.new }
+{
+    match reply {
+        WorkerReply::Page { page } => send_or_ignore(conn, page_bytes(*page)),
+        WorkerReply::Api { reply } => write_reply_or_ignore(conn, reply),
     }
 }
 
@@ -39,7 +67,8 @@ fn refuse<C: Conn>(alloc: Global, conn: &mut C, fault: &MessageFault)
     }
 }
 
-/// Reads one message of a connection, asks what it says and writes the reply. Returns whether the host hasn't ended.
+/// Reads one message of a connection, asks what it says and writes the reply. Returns whether the host hasn't ended. The page for
+/// browsers is shown without asking.
 ///
 /// It waits through at most `patience` quiet reads. If memory runs out, the reply is 507.
 pub fn serve_conn<C: Conn, A: Asker>(
@@ -64,7 +93,7 @@ pub fn serve_conn<C: Conn, A: Asker>(
     match read_message(alloc, conn, patience) {
         Ok(message) => {
             let replied = reply_to_message(alloc, routes, asker, message);
-            write_reply_or_ignore(conn, &replied.reply);
+            write_worker_reply(conn, &replied.reply);
             replied.is_open
         }
         Err(fault) => {

@@ -3,6 +3,8 @@ ghost use Rattle.std.specs.Prelude.{None, All, IfOk};
 ghost use Rattle.octo_asks.specs.Place.{no_place};
 ghost use Rattle.octo_outside_doors.specs.Memory.{IsUntouched};
 
+mod page;
+
 use super::conn_of;
 use octo_api_routes::Routes;
 use octo_api_worker::{serve_conn, worker};

@@ -1,16 +1,10 @@
-use Rattle.std.proofs.Common.{[], true, sym, subst}
-use Rattle.octo_http.specs.declared.reply.HttpReply.{HttpReply}
+use Rattle.std.proofs.Common.{[], sym}
 use Rattle.octo_outside.proofs.Recorded.{adds_none}
-use Rattle.octo_api_worker.specs.Served.{IsReplied, refused}
+use Rattle.octo_api_worker.specs.Served.{shown}
 use Rattle.octo_api_worker.proofs.reply.reply_to_message.Goals as goal
 
-pub returns-in-Err-clause-replied : goal.returns-in-Err-clause-replied
-returns-in-Err-clause-replied g c =
-    let At : HttpReply → Type 0 = λ reply. IsReplied c.args.message reply true [] in (
-      [],
-      adds_none (g.A.Asker.mine c.args.asker.now),
-      subst At (sym c.direct_bytes.ensures) (refused c.in-Err.direct c.in-Err.ensures.says),
-    )
+pub returns-in-Some-clause-replied : goal.returns-in-Some-clause-replied
+returns-in-Some-clause-replied g c = ([], adds_none (g.A.Asker.mine c.args.asker.now), shown c.in-Some.page (sym c.in-Some.ensures))
 
-pub returns-in-Ok-clause-replied : goal.returns-in-Ok-clause-replied
-returns-in-Ok-clause-replied g c = c.reply_to_ask.ensures.replied c.args.message c.in-Ok.ensures.says c.in-Ok.ensures.callers
+pub returns-in-None-clause-replied : goal.returns-in-None-clause-replied
+returns-in-None-clause-replied g c = c.reply_to_request.ensures.replied (sym c.in-None.ensures)

@@ -18,9 +18,9 @@ returns-in-Ok-clause-served g c input new =
       replied.1,
       served_message c.args.patience input (g.C.Conn.left mid) (g.C.Conn.written mid) (g.C.Conn.faults mid) c.in-Ok.message
           c.reply_to_message-replied.result.reply c.reply_to_message-replied.result.is_open replied.0
-          (state_of g.C.Conn.left g.C.Conn.written g.C.Conn.faults g.C.Conn.quiets c.write_reply_or_ignore.new.conn)
+          (state_of g.C.Conn.left g.C.Conn.written g.C.Conn.faults g.C.Conn.quiets c.write_worker_reply.new.conn)
           (subst At (ap (λ (s : ConnState). s.written) new) (λ before e. c.in-Ok.ensures.answer before (ap (λ (s : ConnState). s.left) new ∙ e)))
-          replied.2 c.write_reply_or_ignore.ensures.written c.write_reply_or_ignore.ensures.counted,
+          replied.2 c.write_worker_reply.ensures.written c.write_worker_reply.ensures.counted,
     )
 
 pub returns-in-Err-clause-served : goal.returns-in-Err-clause-served

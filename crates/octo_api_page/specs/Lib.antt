@@ -1,0 +1,2 @@
+-- The words of the contracts about the page.
+pub mod Pages
