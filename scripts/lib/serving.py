@@ -130,6 +130,8 @@ class Host:
         self.output = os.path.join(folder, "octo")
         os.makedirs(self.files, exist_ok=True)
         self.process = None
+        # The words of a program that starts the host, as strace.
+        self.before = []
         self.extra = extra
         self.set_printer(printer_port)
 
@@ -141,7 +143,7 @@ class Host:
 
     def start(self):
         self.port = free_port()
-        words = [self.program, "serve", "127.0.0.1:%d" % self.port, self.files, self.database, "--settings", self.settings]
+        words = [*self.before, self.program, "serve", "127.0.0.1:%d" % self.port, self.files, self.database, "--settings", self.settings]
         self.process = subprocess.Popen(words, stdout=open(self.output, "wb"))
         until("the host answers", lambda: self.answers() or self.process.poll() is not None)
         if self.process.poll() is not None:

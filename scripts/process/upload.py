@@ -1,0 +1,118 @@
+"""What `octo serve` asks of the system for an upload and a deletion, as strace shows it; see upload.sh."""
+
+import glob
+import os
+import re
+import shutil
+import subprocess
+import sys
+import tempfile
+
+sys.path.insert(0, "scripts/lib")
+from serving import Host, until  # noqa: E402
+
+CALLS = "open,openat,creat,write,pwrite64,writev,sendto,sendmsg,fsync,fdatasync,rename,renameat,renameat2,unlink,unlinkat"
+FIRST, SECOND = b"G28\nG1 X1\n", b"G28\nG1 X2\nG1 X3\n"
+UPLOADED = ["create part", "write part", "sync part", "rename part to file", "sync folder", "reply"]
+failed = False
+
+
+def check(name, found, wanted):
+    global failed
+    if found == wanted:
+        print("ok: " + name, flush=True)
+    else:
+        print("failed: %s: %r, wanted %r" % (name, found, wanted), flush=True)
+        failed = True
+
+
+def cannot_trace():
+    """Why no call can be traced on this machine, or None."""
+    if not shutil.which("strace"):
+        return "strace is missing"
+    run = subprocess.run(["strace", "-o", os.devnull, "true"], capture_output=True)
+    return None if run.returncode == 0 else "strace may not trace here"
+
+
+def step_of(call, folder, name):
+    """What a line of the trace is to the file of that name, or None."""
+    part, file = folder + "/" + name + ".part", folder + "/" + name
+    verb = call.split("(")[0]
+    if call.startswith("unlink") and call.endswith(" = 0"):
+        # A former part or the file itself. Of a missing one nothing is removed.
+        return "remove part" if '"%s"' % part in call else "remove file" if '"%s"' % file in call else None
+    if verb in ("open", "openat", "creat") and '"%s"' % part in call and ("O_CREAT" in call or verb == "creat"):
+        return "create part"
+    if verb in ("open", "openat", "creat") and '"%s"' % file in call and re.search("O_CREAT|O_WRONLY|O_RDWR|O_TRUNC", call):
+        return "write over the file"
+    if verb in ("write", "pwrite64", "writev"):
+        return "write part" if "<%s>" % part in call else "write file" if "<%s>" % file in call else reply_of(call)
+    if verb in ("sendto", "sendmsg"):
+        return reply_of(call)
+    # A sync, or a rename, that failed is none.
+    if not call.endswith(" = 0"):
+        return None
+    if verb == "fsync":
+        return next(("sync " + what for what, path in (("part", part), ("file", file), ("folder", folder)) if "<%s>" % path in call), None)
+    if verb.startswith("rename") and '"%s"' % file in call:
+        return "rename part to file" if '"%s"' % part in call else "rename another file to it"
+    return None
+
+
+def reply_of(call):
+    return "reply" if '"HTTP/1.1 20' in call else None
+
+
+def steps(trace, folder, name):
+    """The steps of all threads by time; a write in several calls is one."""
+    calls = []
+    for path in glob.glob(trace + ".*"):
+        for line in open(path, errors="replace"):
+            time, _, call = line.rstrip("\n").partition(" ")
+            calls.append((float(time), call))
+    found = [step for step in (step_of(call, folder, name) for _, call in sorted(calls)) if step]
+    return [step for at, step in enumerate(found) if at == 0 or step != found[at - 1] or not step.startswith("write")]
+
+
+def traced(folder, work):
+    """The steps to the file a.gcode that a host makes at this work, once it has ended."""
+    trace = os.path.join(folder, "trace")
+    host = Host(folder, 9)
+    host.before = ["strace", "-D", "-ff", "-y", "-ttt", "-s", "16", "-o", trace, "-e", "trace=" + CALLS]
+    host.start()
+    try:
+        work(host)
+        check("the end of the host", host.shut_down()[0], 0)
+    finally:
+        host.kill()
+    until("the trace is whole", lambda: all("+++ exited" in open(path, errors="replace").read() for path in glob.glob(trace + ".*")))
+    return steps(trace, os.path.realpath(host.files), "a.gcode")
+
+
+def uploads(host):
+    """An upload, another one of that name, and one beside the part of an upload that a kill cut off."""
+    check("an upload", host.upload("a.gcode", FIRST).status, 201)
+    check("another one", host.upload("a.gcode", SECOND).status, 201)
+    with open(os.path.join(host.files, "a.gcode.part"), "wb") as part:
+        part.write(b"G2")
+    check("one beside a part", host.upload("a.gcode", FIRST).status, 201)
+    check("the file", open(os.path.join(host.files, "a.gcode"), "rb").read(), FIRST)
+
+
+def main():
+    why = cannot_trace()
+    if why:
+        print("skipped: the system's calls of an upload: " + why, flush=True)
+        return
+    with tempfile.TemporaryDirectory() as folder:
+        found = traced(os.path.realpath(folder), uploads)
+        # The reply to the shutdown is the last one.
+        check("their calls of the system", found, UPLOADED + UPLOADED + ["remove part"] + UPLOADED + ["reply"])
+    with tempfile.TemporaryDirectory() as folder:
+        found = traced(os.path.realpath(folder), lambda host: (host.upload("a.gcode", FIRST), host.ask("DELETE", "/api/files/local/a.gcode")))
+        check("those of a deletion", found, UPLOADED + ["remove file", "sync folder", "reply", "reply"])
+
+
+if __name__ == "__main__":
+    main()
+    sys.exit(1 if failed else 0)
