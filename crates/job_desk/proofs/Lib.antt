@@ -1,5 +1,6 @@
 pub mod Connecting
 pub mod Current
+pub mod Disconnecting
 pub mod Endings
 pub mod Entries
 pub mod Foreign

@@ -75,7 +75,7 @@ steady-connect _ port d = same d
 
 pub steady-disconnect : (s : State) (d : Data) → Steady d (disconnect_at s d)
 steady-disconnect Offline d = same d
-steady-disconnect Closing d = same d
+steady-disconnect Closing d = alike d _ (refl, refl, refl)
 steady-disconnect Connecting d = alike d _ (refl, refl, refl)
 steady-disconnect Fault d = alike d _ (refl, refl, refl)
 steady-disconnect _ d = joins point.Disconnect 0 d (record d { state = Closing; manual = [] }) (refl, refl, refl)

@@ -78,7 +78,8 @@ pub record Data : Type 0 where
   -- the numbers of the print's last issued line and of the last poll, 0 for none
   pub print_line : ℕ
   pub poll_line : ℕ
-  -- whether the hello was acknowledged since the last accepted connect
+  -- whether the end of the connection waits for its script: the hello was acknowledged since the last accepted connect, and no second
+  -- disconnect came
   pub ready : Bool
 
 -- a desk at which nothing was done yet

@@ -43,7 +43,11 @@ connect_at Fault port d = ok_answer (connecting port d)
 abbrev pub closing : Data → Data
 closing d = with_script point.Disconnect 0 (record d { state = Closing; manual = [] })
 
--- a call to disconnect, which no state refuses
+-- the connection is closed at the next turn, whatever waits or is unacknowledged
+abbrev pub hanging_up : Data → Data
+hanging_up d = record d { ready = false }
+
+-- a call to disconnect, which no state refuses; a second one doesn't wait for the script
 abbrev pub disconnect_at : State → Data → Data
 disconnect_at Offline d = d
 disconnect_at Connecting d = record d { state = Closing }
@@ -53,7 +57,7 @@ disconnect_at Pausing d = closing d
 disconnect_at Paused d = closing d
 disconnect_at Cancelling d = closing d
 disconnect_at Finishing d = closing d
-disconnect_at Closing d = d
+disconnect_at Closing d = hanging_up d
 disconnect_at Fault d = record d { state = Offline }
 
 -- a call to select a file
@@ -198,7 +202,7 @@ manual_at Finishing lines d = add_manual lines d
 manual_at Closing lines d = wrong_state d
 manual_at Fault lines d = wrong_state d
 
--- whether the connection may be closed now: its last script is over, or it never became ready
+-- whether the connection may be closed now: its last script is over, or it isn't waited for
 abbrev pub is_closable_at : State → Data → Bool
 is_closable_at Offline d = false
 is_closable_at Connecting d = false

@@ -73,7 +73,8 @@ pub struct Desk {
     // The moment from which on a poll is due.
     poll_at: u64,
     lines: Lines,
-    // Whether the hello was acknowledged since the last accepted connect.
+    // Whether the end of the connection waits for its script: the hello was acknowledged since the last accepted connect, and no
+    // second disconnect came.
     ready: bool,
 }
 
@@ -197,8 +198,8 @@ impl Desk {
         self.prints.cursor
     }
 
-    /// Whether the connection may be closed now: the desk is closing, and its last script is over and acknowledged, or no
-    /// hello was acknowledged since the last accepted connect.
+    /// Whether the connection may be closed now. The desk is closing, and one of these holds: its last script is over and
+    /// acknowledged, no hello was acknowledged since the last accepted connect, or a second disconnect came.
     pub fn closable(&self) -> bool
         ensures { result ≡ is_closable_at self.now.state self.now }
     {

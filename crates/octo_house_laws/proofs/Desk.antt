@@ -92,7 +92,13 @@ module _ (limits : Limits) where
   pub cool_disconnect : (s : State) (d : Data) → Cool limits d → Cool limits (disconnect_at s d)
   cool_disconnect Offline d h = h
   cool_disconnect Connecting d h = in_state Closing d h (λ has. absurd (cc has))
-  cool_disconnect Closing d h = h
+  cool_disconnect Closing d h = record {
+    limits_are = h.limits_are;
+    scripts = h.scripts;
+    waiting = h.waiting;
+    manual = h.manual;
+    file = h.file;
+  }
   cool_disconnect Fault d h = in_state Offline d h (λ has. absurd (cc has))
   cool_disconnect _ d h = cool_closing d h
 

@@ -41,7 +41,7 @@ same-connect _ port d = same d
 
 same-disconnect : (s : State) (d : Data) → IsSame d (disconnect_at s d)
 same-disconnect Offline d = same d
-same-disconnect Closing d = same d
+same-disconnect Closing d = kept d _ refl refl refl refl refl refl refl
 same-disconnect Connecting d = moved d _ refl refl refl refl refl (λ e. cc e)
 same-disconnect Fault d = moved d _ refl refl refl refl refl (λ e. cc e)
 same-disconnect _ d = moved d _ refl refl refl refl refl (λ e. cc e)

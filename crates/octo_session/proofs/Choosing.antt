@@ -1,7 +1,9 @@
 -- What a turn does, by the desk.
-use Rattle.std.proofs.Common.{◌≡◌, Bool, true, false, cond, not, ◌&&◌, refl}
+use Rattle.std.proofs.Common.{◌≡◌, Bool, true, false, cond, not, ◌&&◌, refl, sym, subst}
 use Rattle.std.proofs.lemmas.Bool.{false≢true, and_parts}
-use Rattle.job_desk.specs.Table.{is_closable_at}
+use Rattle.job_desk.specs.Data.{Data}
+use Rattle.job_desk.specs.Table.{disconnect_at, is_closable_at}
+use Rattle.job_desk.proofs.Disconnecting.{closes_at_once, still_closing}
 use Rattle.job_desk.specs.declared.state.State.{State}
 use Rattle.job_desk.specs.declared.state.State.TheVariants.{Offline, Connecting, Operational, Printing, Pausing, Paused, Cancelling, Finishing, Closing, Fault}
 use Rattle.octo_session.specs.Data.{SessionData, doing, is_connecting}
@@ -39,3 +41,22 @@ dials_at x e = connects_at x.desk.state (and_parts (not x.up) (is_connecting x.d
 -- a turn that hangs up finds a desk that may close
 pub hangs_up_at : (x : SessionData) → doing x ≡ HangingUp → is_closable_at x.desk.state x.desk ≡ true
 hangs_up_at x e = chosen_second (not x.up && is_connecting x.desk.state) (is_closable_at x.desk.state x.desk) x.up e
+
+and_false : (b : Bool) → (b && false) ≡ false
+and_false true = refl
+and_false false = refl
+
+chosen_closable : (a b c : Bool) → a ≡ false → b ≡ true → cond a Dialling (cond b HangingUp (cond c UsingLink Resting)) ≡ HangingUp
+chosen_closable false true c e f = refl
+chosen_closable true b c e f = absurd (cc e)
+chosen_closable false false c e f = absurd (cc f)
+
+connects_not : (up : Bool) (s : State) → s ≡ Closing → (not up && is_connecting s) ≡ false
+connects_not up s at = subst (λ (t : State). (not up && is_connecting t) ≡ false) (sym at) (and_false (not up))
+
+-- after a second disconnect the next turn hangs up
+pub hangs_up_at_once : (x : SessionData) → x.desk.state ≡ Closing → doing (record x { desk = disconnect_at x.desk.state x.desk }) ≡ HangingUp
+hangs_up_at_once x at =
+    let d : Data = disconnect_at x.desk.state x.desk in
+    chosen_closable (not x.up && is_connecting d.state) (is_closable_at d.state d) x.up (connects_not x.up d.state (still_closing x.desk at))
+    (closes_at_once x.desk at)

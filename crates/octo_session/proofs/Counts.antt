@@ -38,7 +38,7 @@ counts_connect _ port d = same d
 
 pub counts_disconnect : (s : State) (d : Data) → Counts d (disconnect_at s d)
 counts_disconnect Offline d = same d
-counts_disconnect Closing d = same d
+counts_disconnect Closing d = record { issued = refl; acked = refl }
 counts_disconnect _ d = record { issued = refl; acked = refl }
 
 pub counts_select : (s : State) (file : File) (d : Data) → Counts d (select_at s file d).1

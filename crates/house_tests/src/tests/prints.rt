@@ -40,6 +40,21 @@ fn cancel_while_paused(rt: HostRuntime) {
     bench.end();
 }
 
+// Two disconnects during a print: the link is closed at the next turn, and the record is cancelled.
+#[test]
+fn disconnect_twice(rt: HostRuntime) {
+    let mut bench = printing(&rt, rt.alloc());
+    bench.turn(&rt);
+    bench.accepts(&rt, ANA, Wish::Disconnect);
+    bench.turn(&rt);
+    assert_eq!(rt; bench.state(), State::Closing);
+    bench.accepts(&rt, ANA, Wish::Disconnect);
+    bench.turn(&rt);
+    assert_eq!(rt; bench.state(), State::Offline);
+    assert_eq!(rt; bench.kept_outcome(0), Some(Outcome::Cancelled));
+    bench.end();
+}
+
 // A restart ends the paused print as cancelled in the same commit.
 #[test]
 fn restart_while_paused(rt: HostRuntime) {

@@ -12,6 +12,7 @@ pub(super) enum Wish {
     // No ask: turns of the link, one at least, until the desk is in this state.
     Until(State),
     Connect,
+    Disconnect,
     Connection,
     Version,
     Job,
@@ -75,6 +76,7 @@ pub(super) fn request_of(rt: &impl Abort, alloc: Global, wish: Wish) -> Request 
 fn plain_request(wish: Wish) -> Request {
     match wish {
         Wish::Connect => Request::Connect { port: None },
+        Wish::Disconnect => Request::Disconnect,
         Wish::Connection => Request::GetConnection,
         Wish::Job => Request::GetJob,
         Wish::Start => Request::Start,

@@ -1,7 +1,7 @@
 //! The calls of the table: what a user asks of the desk.
-ghost use Rattle.std.specs.Prelude.{◌≡◌, ◌<◌, ◌≤◌, ◌+◌, ◌++◌, ◌⊎◌, length, Ok, Err, MatchResult, All};
+ghost use Rattle.std.specs.Prelude.{◌≡◌, ◌<◌, ◌≤◌, ◌+◌, ◌++◌, ◌⊎◌, length, true, Ok, Err, MatchResult, All};
 ghost use Rattle.byte_text.specs.Sendable.{IsSendable};
-ghost use Rattle.job_desk.specs.Table.{add_manual, cancel_at, connect_at, disconnect_at, drop_file_step, manual_at, pause_at, printing, restart_at, resume_at, select_at, start_at, toggle_at};
+ghost use Rattle.job_desk.specs.Table.{add_manual, cancel_at, connect_at, disconnect_at, drop_file_step, is_closable_at, manual_at, pause_at, printing, restart_at, resume_at, select_at, start_at, toggle_at};
 ghost use Rattle.job_desk.specs.Data.{named_file};
 ghost use Rattle.job_desk.specs.Views.{bytes_of};
 
@@ -36,12 +36,17 @@ impl Desk {
         }
     }
 
-    /// Ends the connection; if it was ready, the Disconnect script comes first.
+    /// Ends the connection; if it was ready, the Disconnect script comes first. A second call doesn't wait for that script: the
+    /// connection may then be closed whatever is unacknowledged.
+    #[tactic(auto, using(crate::proofs::Disconnecting::closes_at_once))]
     pub fn disconnect(&mut self)
-        ensures { self.new ≡ disconnect_at self.old.state self.old }
+        ensures after { self.new ≡ disconnect_at self.old.state self.old }
+        ensures at_once { self.old.state ≡ State.Closing
+            → is_closable_at self.new.state self.new ≡ true }
     {
         match self.state {
-            State::Offline | State::Closing => {}
+            State::Offline => {}
+            State::Closing => self.ready = false,
             State::Fault => self.state = State::Offline,
             State::Connecting => self.state = State::Closing,
             _ => {

@@ -39,6 +39,8 @@ enum Step {
     // This number of lines is acknowledged, which ends print 1.
     Ends(u32, Outcome),
     Is(State),
+    // Whether the connection may be closed.
+    Closable(bool),
 }
 
 const G28: Step = Step::Issues("G28", Tag::Job { print: 1, index: 0 });
@@ -174,6 +176,7 @@ fn take(rt: &impl Abort, alloc: Global, desk: &mut Desk, step: Step) -> Result<(
             assert_eq!(rt; acknowledge(rt, desk, acked), Some(ending));
         }
         Step::Is(state) => assert_eq!(rt; desk.state(), state),
+        Step::Closable(closable) => assert_eq!(rt; desk.closable(), closable),
     }
     Ok(())
 }
@@ -250,6 +253,37 @@ fn cancel_while_pausing(rt: HostRuntime) -> Result<(), Fail> {
     ];
     let mut desk = desk_with(&rt, rt.alloc(), &scripts)?;
     take_all(&rt, rt.alloc(), &mut desk, &CANCEL_WHILE_PAUSING)
+}
+
+// A script's line of no print.
+const M84: Step = Step::Issues(
+    "M84",
+    Tag::Script {
+        point: Point::Disconnect,
+        print: 0,
+    },
+);
+
+const DISCONNECT_TWICE: [Step; 12] = [
+    Step::Does(Call::Connect),
+    Step::Opens,
+    Step::Does(Call::Start),
+    G28,
+    Step::Does(Call::Disconnect),
+    Step::Is(State::Closing),
+    M84,
+    Step::IssuesNothing,
+    Step::Closable(false),
+    Step::Does(Call::Disconnect),
+    Step::Is(State::Closing),
+    Step::Closable(true),
+];
+
+// The first disconnect waits for the acknowledgements, the second doesn't.
+#[test]
+fn disconnect_twice(rt: HostRuntime) -> Result<(), Fail> {
+    let mut desk = desk_with(&rt, rt.alloc(), &[(Point::Disconnect, "M84")])?;
+    take_all(&rt, rt.alloc(), &mut desk, &DISCONNECT_TWICE)
 }
 
 // Scripts of which one has 64 lines.

@@ -4,7 +4,9 @@ ghost use Rattle.byte_text.specs.Sendable.{IsSendable};
 ghost use Rattle.job_desk.specs.Table.{cancel_at, connect_at, disconnect_at, drop_file_step, manual_at, pause_at, restart_at, resume_at, select_at, start_at, toggle_at};
 ghost use Rattle.job_desk.specs.Data.{named_file};
 ghost use Rattle.job_desk.specs.Views.{bytes_of};
-ghost use Rattle.octo_session.specs.Data.{IsSession};
+ghost use Rattle.octo_session.specs.Data.{IsSession, doing};
+ghost use Rattle.octo_session.specs.declared.found.Doing.TheVariants as now_doing;
+ghost use Rattle.job_desk.specs.declared.state.State.TheVariants as state;
 
 use super::Session;
 use byte_text::{Name, Text};
@@ -22,10 +24,13 @@ impl Session {
         self.desk.connect(port)
     }
 
-    /// Ends the connection; if it was ready, the Disconnect script comes first.
+    /// Ends the connection; if it was ready, the Disconnect script comes first. A second call doesn't wait for that script: the
+    /// next turn hangs up, whatever is unacknowledged.
+    #[tactic(auto, using(crate::proofs::Choosing::hangs_up_at_once))]
     pub fn disconnect(&mut self)
         ensures after { self.new
             ≡ record self.old { desk = (disconnect_at self.old.desk.state self.old.desk) } }
+        ensures at_once { self.old.desk.state ≡ state.Closing → doing self.new ≡ now_doing.HangingUp }
         ensures joined { IsSession self.new }
     {
         self.desk.disconnect();

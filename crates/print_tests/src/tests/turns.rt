@@ -19,6 +19,7 @@ enum Ask {
     Nothing,
     Pause,
     Resume,
+    Disconnect,
 }
 
 // What a turn returns.
@@ -32,6 +33,8 @@ enum Gives {
     Issues(&'static [&'static str]),
     // A quiet note without lines, with the print done.
     Done,
+    // The link is closed, and the print cancelled.
+    Unplugged,
     // A failure, with these lines and the print failed.
     Breaks(&'static [&'static str]),
 }
@@ -62,10 +65,18 @@ const RESUMED: [Row; 3] = [
     (Ask::Nothing, Gives::Done),
 ];
 
+// The first disconnect waits for the acknowledgements of the lines that wait, the second doesn't.
+const DISCONNECTED_TWICE: [Row; 3] = [
+    (Ask::Nothing, Gives::Issues(&["M107"])),
+    (Ask::Disconnect, Gives::Issues(&["G92 E0"])),
+    (Ask::Disconnect, Gives::Unplugged),
+];
+
 impl Gives {
     fn fact(self) -> LinkFact {
         match self {
             Gives::Finds(fact) => fact,
+            Gives::Unplugged => LinkFact::Closed,
             Gives::Breaks(_) => LinkFact::Failed,
             _ => LinkFact::Quiet,
         }
@@ -81,6 +92,7 @@ impl Gives {
     fn ending(self) -> Option<Ending> {
         let outcome = match self {
             Gives::Done => Outcome::Done,
+            Gives::Unplugged => Outcome::Cancelled,
             Gives::Breaks(_) => Outcome::Failed,
             _ => return None,
         };
@@ -146,6 +158,7 @@ fn make_ask(rt: &impl Abort, session: &mut Session, ask: Ask)
         Ask::Nothing => {}
         Ask::Pause => assert!(rt; session.pause().is_ok()),
         Ask::Resume => assert!(rt; session.resume().is_ok()),
+        Ask::Disconnect => session.disconnect(),
     }
 }
 
@@ -213,5 +226,16 @@ fn pause_and_resume(rt: HostRuntime) -> Result<(), Fail> {
     let mut session = start_session(&rt, rt.alloc(), &mut link)?;
     pauses_and_resumes(&rt, &mut session, &mut link);
     check_ran(&rt, &link);
+    Ok(())
+}
+
+// A second disconnect closes the link at the next turn, with a line unacknowledged.
+#[test]
+fn disconnect_twice(rt: HostRuntime) -> Result<(), Fail> {
+    let mut link = link_failing(rt.alloc(), None)?;
+    let mut session = start_session(&rt, rt.alloc(), &mut link)?;
+    do_rows(&rt, &mut session, &mut link, &DISCONNECTED_TWICE);
+    assert_eq!(&rt; session.desk().state(), State::Offline);
+    assert!(&rt; !link.is_up() && session.acked() == 1);
     Ok(())
 }
