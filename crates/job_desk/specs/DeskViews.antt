@@ -1,9 +1,8 @@
 -- The fields of the desk as plain data, and what holds of them.
-use Rattle.std.specs.Prelude.{◌≡◌, ℕ, ◌≤◌, true, List, All}
+use Rattle.std.specs.Prelude.{◌≡◌, ℕ, ◌≤◌, true, All}
 use Rattle.std.specs.Option.{option_map}
 use Rattle.byte_text.specs.Sendable.{IsSendable}
-use Rattle.gcode_lines.specs.Job.{JobData}
-use Rattle.job_desk.specs.Data.{Data, File, named_file}
+use Rattle.job_desk.specs.Data.{Data, File}
 use Rattle.job_desk.specs.Endings.{has_print}
 use Rattle.job_desk.specs.Table.{most_manual}
 use Rattle.job_desk.specs.declared.state.State.{State}

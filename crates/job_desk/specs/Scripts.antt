@@ -1,7 +1,7 @@
 -- Scripts, and the scripts that wait.
 use Rattle.std.specs.Prelude.{ℕ, ◌+◌, ◌≤◌, List, [], ◌∷◌, ◌++◌, length, All}
 use Rattle.byte_text.specs.Sendable.{IsSendable}
-use Rattle.job_desk.specs.Data.{ScriptTexts, Line, texts_at}
+use Rattle.job_desk.specs.Data.{ScriptTexts, Line}
 use Rattle.job_desk.specs.declared.state.Point.{Point}
 use Rattle.job_desk.specs.declared.state.Point.TheVariants as point
 

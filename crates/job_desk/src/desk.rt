@@ -6,6 +6,7 @@ ghost use Rattle.job_desk.specs.Endings.{IsActive};
 ghost use Rattle.job_desk.specs.Table.{active_print, is_closable_at};
 ghost use Rattle.job_desk.specs.Scripts.{most_script_lines, own_lines};
 
+mod allowed;
 mod calls;
 mod note;
 mod pull;

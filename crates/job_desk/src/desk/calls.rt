@@ -10,16 +10,8 @@ use crate::{Point, Refusal, State};
 use byte_text::{Name, Text, bounded_text};
 use circular_buffer::HeapCircularBuffer;
 use gcode_lines::Job;
-use temp_rules::first_hot;
 
 impl Desk {
-    // The call is not for this state.
-    fn wrong_state(&self) -> Refusal
-        ensures { result ≡ Refusal.WrongState self.now.state }
-    {
-        Refusal::WrongState { state: self.state }
-    }
-
     /// Begins to connect to a port. Refused as WrongState except in Offline and Fault.
     pub fn connect(&mut self, port: &Name) -> Result<(), Refusal>
         ensures answer { result ≡ (connect_at self.old.state port.now self.old).0 }
@@ -57,7 +49,7 @@ impl Desk {
         }
     }
 
-    /// Selects a file. Refused as WrongState except in Offline, Connecting, Operational and Fault; a refusal hands the job back.
+    /// Selects a file. Refused as `may_select` says; a refusal hands the job back.
     pub fn select(&mut self, name: &Name, job: Job) -> Result<(), NotSelected>
         ensures answer { let selected = select_at self.old.state (named_file name.now job) self.old
             in MatchResult result
@@ -65,37 +57,25 @@ impl Desk {
             (λ refused. (selected.0 ≡ Err refused.refusal) × (refused.job ≡ job)) }
         ensures after { self.new ≡ (select_at self.old.state (named_file name.now job) self.old).1 }
     {
-        match self.state {
-            State::Offline | State::Connecting | State::Operational | State::Fault => {
-                self.file = Some(Selected {
-                    name: name.copy(),
-                    job,
-                });
-                Ok(())
-            }
-            _ => Err(NotSelected {
-                refusal: self.wrong_state(),
-                job,
-            }),
+        if let Err(refusal) = self.may_select() {
+            return Err(NotSelected { refusal, job });
         }
+        self.file = Some(Selected {
+            name: name.copy(),
+            job,
+        });
+        Ok(())
     }
 
-    /// The file of this name is no longer selected. Refused as FileBusy while it is being printed.
+    /// The file of this name is no longer selected. Refused as `may_drop` says.
     pub fn drop_file(&mut self, name: &Name) -> Result<(), Refusal>
         ensures answer { result ≡ (drop_file_step name.now self.old).0 }
         ensures after { self.new ≡ (drop_file_step name.now self.old).1 }
     {
-        let is_selected = match &self.file {
-            Some(file) => file.name.is(name),
-            None => false,
-        };
-        if !is_selected {
-            return Ok(());
+        self.may_drop(name)?;
+        if self.is_selected(name) {
+            self.file = None;
         }
-        if self.prints.active {
-            return Err(Refusal::FileBusy);
-        }
-        self.file = None;
         Ok(())
     }
 
@@ -114,44 +94,26 @@ impl Desk {
         self.waiting.add(Point::Started, print);
     }
 
-    /// Starts a print of the selected file. Refused as WrongState except in Operational, as NoFile if no file is selected, and
-    /// as TooHotLine if a command of the file is too hot.
+    /// Starts a print of the selected file. Refused as `may_start` says.
     pub fn start(&mut self, print: u32) -> Result<(), Refusal>
         requires { self.old.greatest < print }
         ensures answer { result ≡ (start_at self.old.state print self.old).0 }
         ensures after { self.new ≡ (start_at self.old.state print self.old).1 }
     {
-        if self.state != State::Operational {
-            return Err(self.wrong_state());
-        }
-        let Some(file) = &self.file else {
-            return Err(Refusal::NoFile);
-        };
-        if let Some(hot) = first_hot(&file.job, &self.limits) {
-            return Err(Refusal::TooHotLine {
-                line: hot.line,
-                asked: hot.asked,
-                limit: hot.limit,
-            });
-        }
+        self.may_start()?;
         self.begin(print);
         Ok(())
     }
 
-    /// Ends the paused print as cancelled and starts a new one. Returns the ended print. Refused as WrongState except in Paused.
+    /// Ends the paused print as cancelled and starts a new one. Returns the ended print. Refused as `may_restart` says.
     pub fn restart(&mut self, print: u32) -> Result<u32, Refusal>
         requires { self.old.greatest < print }
         ensures answer { result ≡ (restart_at self.old.state print self.old).0 }
         ensures after { self.new ≡ (restart_at self.old.state print self.old).1 }
     {
-        match self.state {
-            State::Paused => {
-                let ended = self.prints.greatest;
-                self.begin(print);
-                Ok(ended)
-            }
-            _ => Err(self.wrong_state()),
-        }
+        let ended = self.may_restart()?;
+        self.begin(print);
+        Ok(ended)
     }
 
     /// Pauses the print, once the lines that are on their way are acknowledged; does nothing in Pausing and Paused. Refused as
