@@ -4,6 +4,7 @@ use Rattle.std.specs.Option.{option_map}
 use Rattle.byte_text.specs.Sendable.{IsSendable}
 use Rattle.job_desk.specs.Data.{Data, File}
 use Rattle.job_desk.specs.Endings.{has_print}
+use Rattle.job_desk.specs.declared.waiting.TheConstants.{MOST_WAITING}
 use Rattle.job_desk.specs.Table.{most_manual}
 use Rattle.job_desk.specs.declared.state.State.{State}
 use Rattle.job_desk.specs.declared.state.State.TheVariants.{Offline, Connecting, Operational, Printing, Pausing, Paused, Cancelling, Finishing, Closing, Fault}
@@ -50,7 +51,7 @@ most_in Pausing = 3
 most_in Paused = 0
 most_in Cancelling = 4
 most_in Finishing = 1
-most_in Closing = 5
+most_in Closing = MOST_WAITING
 most_in Fault = 0
 
 -- few enough scripts wait, so that the next one finds room, the users' lines may be sent, and a print that is going on

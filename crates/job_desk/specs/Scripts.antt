@@ -32,10 +32,6 @@ pub record IsScriptList (texts : List (List ℕ)) : Type 0 where
   pub few : length texts ≤ most_script_lines
   pub sendable : All IsSendable texts
 
--- the most scripts that wait
-abbrev pub most_waiting : ℕ
-most_waiting = 5
-
 -- the scripts, the lines of those that wait, and how many wait
 pub record WaitingData : Type 0 where
   pub scripts : ScriptTexts

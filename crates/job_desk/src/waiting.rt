@@ -3,7 +3,7 @@ ghost use Rattle.std.specs.Prelude.{◌≡◌, ◌+◌, ◌<◌, ◌≤◌, ◌+
 ghost use Rattle.std.specs.Option.{option_map};
 ghost use Rattle.byte_text.specs.Sendable.{IsSendable};
 ghost use Rattle.job_desk.specs.Data.{script_lines};
-ghost use Rattle.job_desk.specs.Scripts.{most_waiting};
+ghost use Rattle.job_desk.specs.declared.waiting.TheConstants.{MOST_WAITING};
 ghost use Rattle.job_desk.specs.Issued.{line_of};
 
 use crate::scripts::Scripts;
@@ -11,6 +11,9 @@ use crate::{Issued, Point, Tag};
 use arrayvec::ArrayVec;
 use byte_text::bounded_text;
 use std::marker::Model;
+
+// How many scripts wait at most, as the states of the desk follow one another.
+pub(crate) const MOST_WAITING: usize = 5;
 
 // A script that waits from one of its lines on.
 #[derive(Clone, Copy, Default)]
@@ -20,11 +23,11 @@ pub(crate) struct Entry {
     next: usize,
 }
 
-// Up to five scripts that wait, in order, and all the scripts. A script without a line left is taken away.
+// The scripts that wait, in order, and all the scripts. A script without a line left is taken away.
 #[derive(Drop)]
 pub(crate) struct Waiting {
     scripts: Scripts,
-    entries: ArrayVec<Entry, 5>,
+    entries: ArrayVec<Entry, MOST_WAITING>,
 }
 
 impl Model for Waiting {
@@ -63,7 +66,7 @@ impl Waiting {
 
     // A script waits after the others, for a print or, with 0, for none.
     pub(crate) fn add(&mut self, point: Point, print: u32)
-        requires { self.old.count < most_waiting }
+        requires { self.old.count < MOST_WAITING }
         ensures scripts { self.new.scripts ≡ self.old.scripts }
         ensures lines { self.new.lines
             ≡ self.old.lines ++ script_lines self.old.scripts point print }

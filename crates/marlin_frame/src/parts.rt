@@ -2,7 +2,7 @@
 //! says there, so callers ask `begins_with_n` first.
 ghost use Rattle.std.specs.Prelude.{◌≡◌, ◌≤◌, ◌==◌, length};
 ghost use Rattle.std.specs.List.{position_or_len, after_first, before_last, after_last};
-ghost use Rattle.marlin_frame.specs.Frame.{begins_with_n, has_checksum, checksum_matches, fails, n_parameter_of, has_second_n, line_number_of, after_first_digits, after_space, text_of};
+ghost use Rattle.marlin_frame.specs.Frame.{letter_n, star, begins_with_n, has_checksum, checksum_matches, fails, n_parameter_of, has_second_n, line_number_of, after_first_digits, after_space, text_of};
 
 use byte_text::{after, has_byte, has_m110, leading_digits, number, split_at_last, xor};
 
@@ -23,8 +23,8 @@ pub fn has_checksum(line: &[u8]) -> bool
 
 // What is before and after the last `*`; if there is none, nothing before it and all after it.
 fn around_last_star(line: &[u8]) -> (&[u8], &[u8])
-    ensures before { result.0.now ≡ before_last (λ byte. byte == 42) line.now }
-    ensures after { result.1.now ≡ after_last (λ byte. byte == 42) line.now }
+    ensures before { result.0.now ≡ before_last (λ byte. byte == star) line.now }
+    ensures after { result.1.now ≡ after_last (λ byte. byte == star) line.now }
 {
     match split_at_last(line, b'*') {
         Some(parts) => parts,
@@ -51,14 +51,14 @@ pub fn fails(line: &[u8]) -> bool
 
 // How many bytes are before the first `N`, all if there is none.
 fn length_before_n(bytes: &[u8]) -> usize
-    ensures { result ≡ position_or_len (λ byte. byte == 78) bytes.now }
+    ensures { result ≡ position_or_len (λ byte. byte == letter_n) bytes.now }
 {
     bytes.iter().take_while(|byte| **byte != b'N').count()
 }
 
 // What follows the first `N`, nothing if there is none.
 fn after_first_n(bytes: &[u8]) -> &[u8]
-    ensures { result.now ≡ after_first (λ byte. byte == 78) bytes.now }
+    ensures { result.now ≡ after_first (λ byte. byte == letter_n) bytes.now }
 {
     after(after(bytes, length_before_n(bytes)), 1)
 }

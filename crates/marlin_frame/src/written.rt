@@ -4,7 +4,7 @@
 ghost use Rattle.std.specs.Prelude.{◌≡◌, ◌≤◌, ◌+◌, ◌++◌, false, true, length, decimal};
 ghost use Rattle.byte_text.specs.Marks.{has_byte, has_m110};
 ghost use Rattle.byte_text.specs.declared.texts.TheConstants.{MOST_LINE_BYTES, MOST_TEXT_BYTES};
-ghost use Rattle.marlin_frame.specs.Frame.{head_of, frame_of, begins_with_n, fails, n_parameter_of, IsNumberedLine};
+ghost use Rattle.marlin_frame.specs.Frame.{star, head_of, frame_of, begins_with_n, fails, n_parameter_of, IsNumberedLine};
 
 use byte_text::{Line, append, append_decimal, xor};
 
@@ -32,7 +32,7 @@ pub fn frame(n: u32, text: &[u8], into: &mut Line)
     requires number { n ≤ LAST_NUMBER }
     requires some { 1 ≤ length text.now }
     requires short { length text.now ≤ MOST_TEXT_BYTES }
-    requires no_star { has_byte 42 text.now ≡ false }
+    requires no_star { has_byte star text.now ≡ false }
     requires no_line_feed { has_byte 10 text.now ≡ false }
 
     // What is written.

@@ -5,7 +5,7 @@ use Rattle.gcode_lines.specs.Job.{JobData, texts_of}
 use Rattle.temp_rules.specs.declared.limits.Limits.{Limits}
 use Rattle.printer_model.specs.declared.event.WorldEvent.{WorldEvent}
 use Rattle.printer_link.specs.Link.{LinkKind, Recorded}
-use Rattle.send_window.specs.Data.{most_lines}
+use Rattle.send_window.specs.Data.{most_lines, most_silent}
 use Rattle.send_window.specs.declared.session_end.SessionEnd.{SessionEnd}
 use Rattle.send_window.specs.declared.session_end.SessionEnd.TheVariants.{NoAnswer, NumbersUsed}
 use Rattle.octo_session.specs.Causes.{EndCausedAs}
@@ -80,7 +80,7 @@ pub record HasRun (kind : LinkKind) (s : Settings) (job : JobData) (asked : Aske
   pub no_port : (how ≡ end.NoPort) ↔ ((1 ≤ asked.turns) × (kind.listed asked.port ≡ false))
   pub ended : (why : SessionEnd) → how ≡ end.Ended why → EndCausedAs kind h.now why
   -- which names five limits, or how many lines a session may have
-  pub limits : (count : ℕ) → how ≡ end.Ended (NoAnswer count) → count ≡ 5
+  pub limits : (count : ℕ) → how ≡ end.Ended (NoAnswer count) → count ≡ most_silent
   pub numbers : (all : ℕ) → how ≡ end.Ended (NumbersUsed all) → all ≡ most_lines
   pub used : (made : ℕ) → how ≡ end.TurnsUsed made → made ≡ asked.turns
   pub unsent : IsUnsent how → h.now ≡ h.first

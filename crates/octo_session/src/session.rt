@@ -41,20 +41,6 @@ impl Model for Session {
     ghost invariant = { IsKept };
 }
 
-// Does nothing: its contract states for the prover that a sender is sound between its calls.
-fn sender_is_sound_fact(sender: &Sender)
-    ensures { IsSound sender.now }
-{
-    sender.ready();
-}
-
-// Does nothing: its contract states for the prover that a print that goes on is active.
-fn desk_is_active_fact(desk: &Desk)
-    ensures { IsActive desk.now }
-{
-    desk.state();
-}
-
 impl Session {
     /// A session of a new desk and a new sender. The link is not up.
     pub fn new(desk: Desk, sender: Sender) -> Session
@@ -66,7 +52,7 @@ impl Session {
         ensures up { result.up ≡ false }
         ensures joined { IsSession result }
     {
-        sender_is_sound_fact(&sender);
+        prove!(!sender.ready());
         Session {
             desk,
             sender,
@@ -127,7 +113,6 @@ impl Session {
         ensures calls { is_calling (doing self.old) ≡ true
             → RoseBy 1 (L.calls link.old) (L.calls link.new) }
     {
-        desk_is_active_fact(&self.desk);
         let before = self.sender.acked();
         let mut line = ReplyLine::new();
         let found = self.turn_by_kind(link, moment, &mut line);

@@ -1,5 +1,6 @@
 -- How long a print waited for an answer.
 use Rattle.std.specs.Prelude.{ℕ, ◌*◌, ◌≤◌, Option, Some}
+use Rattle.send_window.specs.Data.{most_silent}
 use Rattle.send_window.specs.Hearing.{later}
 use Rattle.send_window.specs.declared.session_end.SessionEnd.TheVariants.{NoAnswer}
 use Rattle.octo_session_print.specs.declared.end.PrintEnd.{PrintEnd}
@@ -7,5 +8,5 @@ use Rattle.octo_session_print.specs.declared.end.PrintEnd.TheVariants as end
 
 -- a print that ended with no answer waited five limits, by a clock that shows its moment
 abbrev pub HasWaited : PrintEnd → Option ℕ → ℕ → Option ℕ → Type 0
-HasWaited (end.Ended (NoAnswer count)) (Some began) limit (Some now) = later began (5 * limit) ≤ now
+HasWaited (end.Ended (NoAnswer count)) (Some began) limit (Some now) = later began (most_silent * limit) ≤ now
 HasWaited _ _ limit _ = Unit {0}

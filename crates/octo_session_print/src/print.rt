@@ -8,7 +8,7 @@ ghost use Rattle.job_desk.specs.Data.{named_file};
 ghost use Rattle.job_desk.specs.declared.link_fact.LinkFact.TheVariants as fact;
 ghost use Rattle.send_window.specs.declared.session_end.SessionEnd.{SessionEnd};
 ghost use Rattle.send_window.specs.declared.session_end.SessionEnd.TheVariants.{NoAnswer};
-ghost use Rattle.send_window.specs.Data.{most_lines};
+ghost use Rattle.send_window.specs.Data.{most_lines, most_silent};
 ghost use Rattle.send_window.specs.Hearing.{later};
 ghost use Rattle.printer_link.specs.Link.{Recorded, RoseBy};
 ghost use Rattle.printer_model.specs.declared.event.WorldEvent.{WorldEvent};
@@ -32,7 +32,8 @@ ghost use Rattle.octo_session_print.specs.declared.end.PrintEnd.TheVariants as e
 
 use crate::end::PrintEnd;
 use byte_text::Name;
-use gcode_lines::Job;
+use gcode_lines::{Job, MOST_FILE_BYTES};
+use job_desk::MOST_SCRIPT_LINES;
 use octo_outside::Clock;
 use octo_session::{Ending, LinkFact, Session, Turned};
 use printer_link::Link;
@@ -97,9 +98,9 @@ pub fn run_print<L: Link, T: Clock>(
             limit: hot.limit,
         };
     }
-    // Both calls are for their contracts alone: a job and its scripts have few lines.
-    let _ = job.count();
-    let _ = session.desk().script_lines();
+    // So a plan has fewer lines than a session has numbers.
+    prove!(job.count() <= MOST_FILE_BYTES);
+    prove!(session.desk().script_lines() <= 4 * MOST_SCRIPT_LINES);
     prepare(session, port, name, job);
     make_turns(session, link, clock, turns)
 }
@@ -198,7 +199,7 @@ fn make_turn<L: Link, T: Clock>(
         → IsPatient start limit session.new.sender }
     ensures waited { (start limit count : ℕ)
         → start ≤ moment → IsPatient start limit session.old.sender
-        → result ≡ Some (end.Ended (NoAnswer count)) → later start (5 * limit) ≤ moment }
+        → result ≡ Some (end.Ended (NoAnswer count)) → later start (most_silent * limit) ≤ moment }
     ensures clock { NotBefore (T.moment clock.old) (T.moment clock.new) }
 
     // Over a prompt link; and which end it never comes to.

@@ -1,10 +1,14 @@
 -- What a sender knows of its session with a printer.
-use Rattle.std.specs.Prelude.{◌≡◌, ℕ, ◌+◌, ◌≤◌, Bool, true, false, List, [], length, Option, None}
+use Rattle.std.specs.Prelude.{◌≡◌, ℕ, ◌+◌, ◌<◌, ◌≤◌, Bool, true, false, List, [], length, Option, None}
 use Rattle.send_window.specs.declared.session_end.SessionEnd.{SessionEnd}
 
 -- the most lines of a session
 abbrev pub most_lines : ℕ
 most_lines = 1999999999
+
+-- the number of silent limits in a row that ends a session
+abbrev pub most_silent : ℕ
+most_silent = 5
 
 -- the sender as plain data; lines go by their places in the session, from 1, and times are in milliseconds
 pub record SenderData : Type 0 where
@@ -87,7 +91,7 @@ pub record IsSound (s : SenderData) : Type 0 where
   -- no answer is waited for if all lines are acknowledged, or if the hello is still to be sent
   pub none_awaited : s.ready ≡ true → s.acked ≡ s.issued → s.deadline ≡ None
   pub hello_unsent : s.hello_due ≡ true → s.deadline ≡ None
-  -- four silent limits are borne, and none is counted if no answer is waited for
-  pub silent_most : s.silent ≤ 5
-  pub silent_few : s.ended ≡ None → s.silent ≤ 4
+  -- a session that goes on has had fewer silent limits, and none is counted if no answer is waited for
+  pub silent_most : s.silent ≤ most_silent
+  pub silent_few : s.ended ≡ None → s.silent < most_silent
   pub silent_none : s.deadline ≡ None → s.silent ≡ 0

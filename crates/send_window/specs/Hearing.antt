@@ -6,7 +6,7 @@ use Rattle.marlin_reply.specs.declared.reply.Reply.TheVariants as reply
 use Rattle.send_window.specs.declared.session_end.SessionEnd.{SessionEnd}
 use Rattle.send_window.specs.declared.session_end.SessionEnd.TheVariants.{NoAnswer, AskedBack, AskedAhead, Counts, Restarted, NumbersUsed}
 use Rattle.marlin_frame.specs.Numbering.{wire_number, place_of}
-use Rattle.send_window.specs.Data.{SenderData, most_lines}
+use Rattle.send_window.specs.Data.{SenderData, most_lines, most_silent}
 
 -- the greatest moment
 abbrev pub last_moment : ℕ
@@ -145,8 +145,8 @@ silent_limits s = if s.heard then 0 else s.silent + 1
 -- a limit passed: from the fifth in silence the session ends, else all that is unacknowledged is sent again
 abbrev pub limit_passed : ℕ → SenderData → SenderData
 limit_passed moment s =
-    if silent_limits s == 5
-    then ended_by (NoAnswer 5) (record s { silent = 5 })
+    if silent_limits s == most_silent
+    then ended_by (NoAnswer most_silent) (record s { silent = most_silent })
     else record s {
       silent = silent_limits s;
       cursor = if s.ready then s.acked + 1 else s.cursor;

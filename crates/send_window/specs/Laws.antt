@@ -6,7 +6,7 @@ use Rattle.marlin_reply.specs.declared.reply.Reply.TheVariants as reply
 use Rattle.send_window.specs.declared.session_end.SessionEnd.{SessionEnd}
 use Rattle.send_window.specs.declared.session_end.SessionEnd.TheVariants.{NoAnswer, AskedBack, AskedAhead, Counts, Restarted, NumbersUsed}
 use Rattle.marlin_frame.specs.Numbering.{wire_number}
-use Rattle.send_window.specs.Data.{SenderData, IsSound, new_sender, sender_after_dial, most_lines}
+use Rattle.send_window.specs.Data.{SenderData, IsSound, new_sender, sender_after_dial, most_lines, most_silent}
 use Rattle.send_window.specs.Hearing.{later, hear_step, tick_step, is_past}
 use Rattle.send_window.specs.Sending.{hello, line, next_of, room_of, push_step, frame_step, IsFramable}
 use Rattle.send_window.specs.Session.{Step, hears, ticks, issues, gives, after_step, after_steps, IsAllowed, AreAllowed, replies_of, texts_issued, HoldsIssued, IsSince, WaitsSince}
@@ -112,7 +112,7 @@ IsEndedBy (NumbersUsed all) heard_line s = IsLastOk heard_line s × (all ≡ s.i
 -- what a tick must find to end the session so: the fifth limit in a row has passed with nothing heard
 abbrev pub IsEndedAt : SessionEnd → ℕ → SenderData → Type 0
 IsEndedAt (NoAnswer count) moment s =
-    (is_past s.deadline moment ≡ true) × (s.heard ≡ false) × (s.silent ≡ 4) × (count ≡ 5)
+    (is_past s.deadline moment ≡ true) × (s.heard ≡ false) × (s.silent + 1 ≡ most_silent) × (count ≡ most_silent)
 IsEndedAt (AskedBack _ _) moment s = ⊥
 IsEndedAt (AskedAhead _ _) moment s = ⊥
 IsEndedAt (Counts _ _) moment s = ⊥
@@ -179,7 +179,7 @@ WaitsFiveLimits =
     × ((start : ℕ) (step : Step) (s : SenderData) → IsSound s → IsSince start step → WaitsSince start s → WaitsSince start (after_step step s))
     × ((heard_line : Reply) (moment : ℕ) (s : SenderData) → s.acked < (hear_step heard_line moment s).acked → WaitsSince moment (hear_step heard_line moment s))
     × ((start moment count : ℕ) (s : SenderData) → IsSound s → WaitsSince start s → s.ended ≡ None → (tick_step moment s).ended ≡ Some (NoAnswer count) →
-    (later start (5 * s.limit) ≤ moment) × ((s.ready ≡ false) ⊎ (s.acked < s.issued)))
+    (later start (most_silent * s.limit) ≤ moment) × ((s.ready ≡ false) ⊎ (s.acked < s.issued)))
 
 -- a text that may be sent is one that a frame can carry
 abbrev pub CarriesSendable : Type 0

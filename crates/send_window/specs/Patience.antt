@@ -1,6 +1,6 @@
 -- How long a session waits for an answer.
 use Rattle.std.specs.Prelude.{◌≡◌, ◌⊎◌, ℕ, ◌<◌, false}
-use Rattle.send_window.specs.Data.{SenderData, IsSound, most_lines}
+use Rattle.send_window.specs.Data.{SenderData, IsSound, most_lines, most_silent}
 use Rattle.send_window.specs.Session.{WaitsSince}
 use Rattle.send_window.specs.declared.session_end.SessionEnd.{SessionEnd}
 use Rattle.send_window.specs.declared.session_end.SessionEnd.TheVariants.{NoAnswer, NumbersUsed}
@@ -18,6 +18,6 @@ IsUnanswered s = (s.ready ≡ false) ⊎ (s.acked < s.issued)
 -- no answer is the end only after five limits, with the hello or a line unacknowledged; used numbers are the end
 -- only once all lines are acknowledged
 abbrev pub FitsEnd : SessionEnd → SenderData → Type 0
-FitsEnd (NoAnswer count) s = (count ≡ 5) × IsUnanswered s
+FitsEnd (NoAnswer count) s = (count ≡ most_silent) × IsUnanswered s
 FitsEnd (NumbersUsed all) s = (all ≡ most_lines) × (s.acked ≡ most_lines)
 FitsEnd _ s = Unit {0}

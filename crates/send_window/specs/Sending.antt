@@ -2,7 +2,7 @@
 use Rattle.std.specs.Prelude.{◌≡◌, ℕ, ◌+◌, ◌-◌, ◌≤◌, min, max, Bool, true, false, List, [], ◌∷◌, ◌++◌, length, Option, None, Some, unwrap_or, is_some, if◌then◌else◌, ◌&&◌, nat_le, slice_index_or}
 use Rattle.send_window.specs.declared.session_end.SessionEnd.{SessionEnd}
 use Rattle.byte_text.specs.Marks.{has_byte}
-use Rattle.marlin_frame.specs.Frame.{frame_of}
+use Rattle.marlin_frame.specs.Frame.{star, frame_of}
 use Rattle.marlin_frame.specs.Numbering.{hello_number, wire_number, hello_frame}
 use Rattle.send_window.specs.Data.{SenderData, most_lines}
 use Rattle.send_window.specs.Hearing.{later}
@@ -11,7 +11,7 @@ use Rattle.send_window.specs.Hearing.{later}
 pub record IsFramable (text : List ℕ) : Type 0 where
   pub some : 1 ≤ length text
   pub short : length text ≤ 79
-  pub no_star : has_byte 42 text ≡ false
+  pub no_star : has_byte star text ≡ false
   pub no_line_feed : has_byte 10 text ≡ false
 
 -- what a sender returns to be sent: the hello, or the line at a place in the session

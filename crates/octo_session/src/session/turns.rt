@@ -1,6 +1,7 @@
 //! The kinds of turn: it dials, hangs up, or receives and then sends.
 ghost use Rattle.std.specs.Prelude.{◌≡◌, ◌≢◌, ◌↔◌, ◌≤◌, ℕ, [], ◌∷◌, map, true, false, None, OnOk, OnErr, IsErrOf};
 ghost use Rattle.octo_outside.specs.Recorded.{Counts};
+ghost use Rattle.job_desk.specs.Endings.{IsActive};
 ghost use Rattle.job_desk.specs.Issued.{line_of};
 ghost use Rattle.job_desk.specs.declared.link_fact.LinkFact.TheVariants as fact;
 ghost use Rattle.printer_link.specs.Link.{HasSlots, Grows, IsDial, IsNothing, IsRuns, RoseBy, counted_one, dial_events};
@@ -62,8 +63,10 @@ impl Session {
         ensures shut { result ≡ now_doing.Dialling → self.now.up ≡ false }
         ensures open { result ≡ now_doing.UsingLink → self.now.up ≡ true }
         ensures joined { IsSession self.now }
+        ensures active { IsActive self.now.desk }
     {
-        if !self.up && self.desk.state() == State::Connecting {
+        let state = self.desk.state();
+        if !self.up && state == State::Connecting {
             return Doing::Dialling;
         }
         if self.desk.closable() {
@@ -226,6 +229,7 @@ impl Session {
         ensures up { self.new.up ≡ up_after result.fact self.old.up }
         ensures link { L.up link.new ≡ self.new.up }
         ensures greatest { self.new.desk.greatest ≡ self.old.desk.greatest }
+        ensures active { IsActive self.old.desk }
         ensures no_port { (result.fact ≡ fact.NoPort)
             ↔ ((doing self.old ≡ now_doing.Dialling)
             × ((L.kind link.old).listed (port_of self.old.desk) ≡ false)) }

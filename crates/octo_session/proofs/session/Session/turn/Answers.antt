@@ -1,7 +1,6 @@
 use Rattle.std.proofs.Common.{◌≡◌, ◌↔◌, ℕ, List, [], ◌∷◌, true, false, sym, ap, ◌∙◌, refl, rules, map, subst}
 use Rattle.std.specs.Prelude.{Option, None}
 use Rattle.job_desk.specs.Issued.{line_of}
-use Rattle.job_desk.specs.Endings.{IsActive}
 use Rattle.job_desk.specs.declared.issued.Issued.{Issued}
 use Rattle.job_desk.specs.declared.link_fact.LinkFact.{LinkFact}
 use Rattle.job_desk.specs.declared.link_fact.LinkFact.TheVariants as fact
@@ -85,12 +84,8 @@ returns-clause-by_note g c =
       none_acked = turn_none_acked c.args.moment _ _ _ _ _ old new turned t finds sound;
       noted = turn_noted c.args.moment _ _ _ _ _ old new turned t finds;
       still = turn_still c.args.moment _ _ _ _ _ old new turned t finds before;
-      ends = turn_ending c.args.moment _ _ _ _ _ old new turned t finds e.joined
-          (subst (λ (x : SessionData). IsActive x.desk) c.self.view_is c.desk_is_active_fact.ensures);
+      ends = turn_ending c.args.moment _ _ _ _ _ old new turned t finds e.joined e.active;
       greatest = e.greatest;
       before = before;
       joined = e.joined;
     }
-
-pub returns-clause-active : goal.returns-clause-active
-returns-clause-active g c = subst (λ (x : SessionData). IsActive x.desk) c.self.view_is c.desk_is_active_fact.ensures
