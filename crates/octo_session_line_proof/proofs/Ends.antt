@@ -22,6 +22,7 @@ use Rattle.send_window.specs.Data.{SenderData}
 use Rattle.send_window.specs.Hearing.{tick_step}
 use Rattle.send_window.specs.Sending.{frame_step, push_step}
 use Rattle.send_window.proofs.Ending.{tick_ends}
+use Rattle.send_window.proofs.Silence.{silent_once_ready}
 use Rattle.octo_session.specs.Found.{Got, can_find}
 use Rattle.octo_session.specs.declared.found.Doing.{Doing}
 use Rattle.octo_session.specs.declared.found.Doing.TheVariants.{Dialling, HangingUp, UsingLink, Resting}
@@ -110,7 +111,7 @@ tick_silent : (moment count : ℕ) (s : SenderData) (since : ℕ) → s.ended �
     (tick_step moment s).ended ≡ Some (NoAnswer count) → s.ready ≡ true → 4 ≤ since
 tick_silent moment count s since running quiet ends ready =
     let at = (tick_ends (NoAnswer count) moment s running).0 ends in
-    omega (arith, at.2, quiet.sent_enough running ready at.1)
+    omega (arith, at.2, quiet.sent_enough running ready (silent_once_ready s at.1 ready))
 
 -- how a running sender ended by a reply or none, and the clock
 pub record IsAt (made : WorldData) (rest : List WorldEvent) (s : SenderData) : Type 0 where

@@ -1,5 +1,5 @@
 -- Each limit that passes in silence brings a line, so the fifth one finds the printer silent.
-use Rattle.std.proofs.Common.{◌≡◌, inl, inr, ℕ, zero, suc, ◌+◌, ◌≤◌, Bool, true, false, List, [], ◌∷◌, ◌++◌, arith, refl, ◌∙◌, ap, subst, append_assoc}
+use Rattle.std.proofs.Common.{◌≡◌, ◌⊎◌, inl, inr, ℕ, zero, suc, ◌+◌, ◌≤◌, Bool, true, false, List, [], ◌∷◌, ◌++◌, arith, refl, ◌∙◌, ap, subst, append_assoc}
 use Rattle.std.specs.Prelude.{Option, None, Some, is_some, if◌then◌else◌}
 use Rattle.std.specs.List.{prefix_len}
 use Rattle.std.proofs.lemmas.Grind.{common_steps}
@@ -98,6 +98,11 @@ received_steps (issues text ∷ steps) s = received_steps steps (after_step (iss
 received_steps (gives moment ∷ steps) s =
     received_given (next_of s) (traffic_of steps (after_step (gives moment) s)) ∙ received_steps steps (after_step (gives moment) s)
 
+-- after the `ok` of the hello a limit counts only in silence
+pub silent_once_ready : (s : SenderData) → (s.heard ≡ false) ⊎ (s.ready ≡ false) → s.ready ≡ true → s.heard ≡ false
+silent_once_ready s (inl unheard_still) is = unheard_still
+silent_once_ready s (inr unready) is = absurd (cc)
+
 silent_by : (ready : Bool) (steps : List Step) (s : SenderData) (moment count : ℕ) → IsSound s → AreAllowed steps (sender_after_dial s) → AreInTurn steps (sender_after_dial s) →
     IsInTurn (ticks moment) (after_steps steps (sender_after_dial s)) → (after_steps steps (sender_after_dial s)).ended ≡ None →
     (tick_step moment (after_steps steps (sender_after_dial s))).ended ≡ Some (NoAnswer count) → (after_steps steps (sender_after_dial s)).ready ≡ ready → IsSilent (traffic_of steps (sender_after_dial s))
@@ -116,7 +121,7 @@ silent_by true steps s moment count sound allowed in_turn last_in_turn open_stil
     let before = after_steps steps (sender_after_dial s) in
     let rule = (tick_ends (NoAnswer count) moment before open_still).0 ends in
     let quiet : IsQuiet (sent_since (traffic_of steps (sender_after_dial s))) before = quiet_in_turn moment _ before owed.sound owed.owes last_in_turn in
-    inr (omega (arith, quiet.sent_enough open_still is_ready rule.1, rule.2))
+    inr (omega (arith, quiet.sent_enough open_still is_ready (silent_once_ready before rule.1 is_ready), rule.2))
 
 pub ends_in_silence : EndsInSilence
 ends_in_silence steps s moment count sound allowed in_turn last_in_turn open_still ends =

@@ -6,7 +6,7 @@ use Rattle.send_window.specs.declared.session_end.SessionEnd.{SessionEnd}
 abbrev pub most_lines : ℕ
 most_lines = 1999999999
 
--- the number of silent limits in a row that ends a session
+-- the number of limits in a row in silence, or before the `ok` of the hello, that ends a session
 abbrev pub most_silent : ℕ
 most_silent = 5
 

@@ -138,11 +138,11 @@ abbrev pub is_past : Option ℕ → ℕ → Bool
 is_past None moment = false
 is_past (Some wanted) moment = nat_le wanted moment
 
--- the count of silent limits if one more has passed
+-- the count of silent limits if one more has passed; before the `ok` of the hello each limit counts, whatever was heard
 abbrev pub silent_limits : SenderData → ℕ
-silent_limits s = if s.heard then 0 else s.silent + 1
+silent_limits s = if s.heard && s.ready then 0 else s.silent + 1
 
--- a limit passed: from the fifth in silence the session ends, else all that is unacknowledged is sent again
+-- a limit passed: at the fifth that counts the session ends, else all that is unacknowledged is sent again
 abbrev pub limit_passed : ℕ → SenderData → SenderData
 limit_passed moment s =
     if silent_limits s == most_silent

@@ -109,10 +109,10 @@ IsEndedBy (Counts number expected) heard_line s =
 IsEndedBy Restarted heard_line s = (heard_line ≡ reply.Start) × (s.ready ≡ true)
 IsEndedBy (NumbersUsed all) heard_line s = IsLastOk heard_line s × (all ≡ s.issued)
 
--- what a tick must find to end the session so: the fifth limit in a row has passed with nothing heard
+-- what a tick must find to end the session so: the fifth limit in a row has passed with nothing heard or without the `ok` of the hello
 abbrev pub IsEndedAt : SessionEnd → ℕ → SenderData → Type 0
 IsEndedAt (NoAnswer count) moment s =
-    (is_past s.deadline moment ≡ true) × (s.heard ≡ false) × (s.silent + 1 ≡ most_silent) × (count ≡ most_silent)
+    (is_past s.deadline moment ≡ true) × ((s.heard ≡ false) ⊎ (s.ready ≡ false)) × (s.silent + 1 ≡ most_silent) × (count ≡ most_silent)
 IsEndedAt (AskedBack _ _) moment s = ⊥
 IsEndedAt (AskedAhead _ _) moment s = ⊥
 IsEndedAt (Counts _ _) moment s = ⊥

@@ -21,7 +21,8 @@ mod hearing;
 // The most lines of a session: their numbers go from 2 to `LAST_NUMBER`.
 const MOST_LINES: u32 = 1_999_999_999;
 
-// After this number of limits in a row in which nothing was received the session ends.
+// After this number of limits in a row the session ends: limits in which nothing was received, and before the `ok` of the
+// hello all of them.
 const MOST_SILENT: u8 = 5;
 
 /// Sends the lines of a session in order, as Marlin's serial protocol asks: each has a number from 2 and a checksum,
@@ -52,7 +53,7 @@ pub struct Sender {
     deadline: Option<u64>,
     // Whether something was heard since the deadline was set.
     heard: bool,
-    // How many limits in a row passed in silence.
+    // How many limits in a row passed in silence, or before the `ok` of the hello.
     silent: u8,
     // Whether the hello is to be sent, and whether it was acknowledged.
     hello_due: bool,
@@ -139,7 +140,8 @@ impl Sender {
     }
 
     /// Notes that it is `moment`, in milliseconds: if the limit has passed, all that is unacknowledged is sent again, and the
-    /// session ends when five limits in a row have passed in silence. After an end it changes nothing and returns that end.
+    /// session ends when five limits in a row have passed in silence, or without the `ok` of the hello. After an end it changes
+    /// nothing and returns that end.
     pub fn tick(&mut self, moment: u64) -> Result<(), SessionEnd>
         ensures state { self.new ≡ tick_step moment self.old }
         ensures answer { result ≡ answer_of self.new.ended }

@@ -3,7 +3,7 @@
 /// Why a session ended by its own rules. Line numbers are those on the wire, from 2; `NumbersUsed` has a count of lines.
 #[derive(Clone, Copy, Debug, PartialEq, Eq)]
 pub enum SessionEnd {
-    /// Nothing was received for this number of time limits in a row.
+    /// For this number of time limits in a row nothing was received, or the hello had no `ok`.
     NoAnswer { silent: u8 },
     /// The printer asked for a line that it had acknowledged.
     AskedBack { asked: u32, acked: u32 },

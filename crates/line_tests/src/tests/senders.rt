@@ -279,6 +279,26 @@ fn lost_hello(rt: HostRuntime) -> Result<(), Fail> {
     Ok(())
 }
 
+// The hello is lost, and the printer says other things within each limit: the session ends after five limits too.
+const LOST_HELLO_BUSY: [Step; 9] = [
+    (0, Act::Begin, Gives::Frames(&[HELLO])),
+    (10_000, Act::Hear(Reply::Busy), NOTHING),
+    (30_000, Act::Tick, NOTHING),
+    (40_000, Act::Hear(Reply::Other), NOTHING),
+    (60_000, Act::Tick, NOTHING),
+    (90_000, Act::Tick, NOTHING),
+    (120_000, Act::Tick, NOTHING),
+    (130_000, Act::Hear(Reply::Busy), NOTHING),
+    (150_000, Act::Tick, SILENCE),
+];
+
+#[test]
+fn lost_hello_busy(rt: HostRuntime) -> Result<(), Fail> {
+    let mut sender = Sender::new(rt.alloc(), 4, LIMIT)?;
+    play(&rt, &mut sender, &LOST_HELLO_BUSY);
+    Ok(())
+}
+
 // The one call that takes memory.
 #[test]
 fn ample(rt: HostRuntime) -> Result<(), Fail> {

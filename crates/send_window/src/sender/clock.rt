@@ -45,7 +45,11 @@ impl Sender {
         requires late { is_past self.old.deadline moment ≡ true }
         ensures { self.new ≡ limit_passed moment self.old }
     {
-        let silent = if self.heard { 0 } else { self.silent + 1 };
+        let silent = if self.heard && self.ready {
+            0
+        } else {
+            self.silent + 1
+        };
         self.silent = silent;
         if silent == MOST_SILENT {
             self.ended = Some(SessionEnd::NoAnswer { silent });
