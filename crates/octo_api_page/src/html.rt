@@ -3,9 +3,9 @@
 // The whole reply: its head and the page.
 pub(crate) const PAGE_REPLY: &[u8] = b"HTTP/1.1 200 OK\r\n\
 Connection: close\r\n\
-Content-Length: 59031\r\n\
+Content-Length: 59133\r\n\
 Content-Type: text/html; charset=utf-8\r\n\
-Content-Security-Policy: default-src 'none'; script-src 'sha256-47emuhh1z6LYH2+m4oC/iIOxig72vMWyrlYphC4dD28='; style-src 'sha256-mwE0BJDAeN9wSPzv9wWxhWKkXbHYdRh7plo6JIgIEXc='; connect-src 'self'; img-src data:; base-uri 'none'; form-action 'none'; frame-ancestors 'none'; require-trusted-types-for 'script'; trusted-types 'none'\r\n\
+Content-Security-Policy: default-src 'none'; script-src 'sha256-cX44aeixJ3Oogmb+M6sveR48a6759bXYQOxl/CfUp/s='; style-src 'sha256-mwE0BJDAeN9wSPzv9wWxhWKkXbHYdRh7plo6JIgIEXc='; connect-src 'self'; img-src data:; base-uri 'none'; form-action 'none'; frame-ancestors 'none'; require-trusted-types-for 'script'; trusted-types 'none'\r\n\
 X-Content-Type-Options: nosniff\r\n\
 Referrer-Policy: no-referrer\r\n\
 Cache-Control: no-cache\r\n\
@@ -691,15 +691,18 @@ $('stop').need = 'CONTROL';
 $('stop').onclick = async () => {
   if (await act($('stop'), 'POST', '/api/printer/command', { command: 'M112' })) {
     stopped = clock();
+    hungUp = false;
     seeStopped();
   } else if (key) say('The printer wasn\\'t stopped from here: use its switch.', true);
 };
 
-// What came of a stop is in sight until it is closed, or until someone connects again. The state shows how far the host got:
-// it may have hung up, or it still waits for acknowledgements.
+// What came of a stop is in sight until it is closed, or until the printer is connected again. The state shows how far the host
+// got: it may have hung up, or it still waits for acknowledgements.
 let stopped = '';
+let hungUp = false;
 function seeStopped() {
-  if (state === 'Connecting') stopped = '';
+  if (FREE.includes(state)) hungUp = true;
+  if (hungUp && state === 'Operational') stopped = '';
   const linked = LINKED.includes(state);
   const runs = RUNS.includes(state);
   if (stopped) {
