@@ -11,7 +11,7 @@ use Rattle.octo_http_forms.specs.declared.types.PartFault.{PartFault}
 use Rattle.octo_http_forms.specs.declared.part.Field.{Field}
 use Rattle.octo_http_forms.specs.declared.form.Seen.{Seen}
 use Rattle.octo_http_forms.specs.Delimiters.{Reaches}
-use Rattle.octo_http_forms.specs.Parts.{AddsField, BodyReadsAs, IsForm, IsSeen, SeenReadsAs, field_of, is_bad, is_file, is_named, is_true, last_such, unclosed, bad, form}
+use Rattle.octo_http_forms.specs.Parts.{AddsField, BodyReadsAs, IsForm, IsSeen, SeenReadsAs, field_of, is_bad, is_file, is_named, is_true, last_such, bad, form}
 
 or_none : {A : Type 0} (a : Option A) → option_or a None ≡ a
 or_none None = refl
@@ -52,6 +52,8 @@ form_more : (body : List ℕ) (fields : List Field) (field : Field) (old new : P
 form_more body fields field old new before adds = record {
   name = reads_more (option_and_then (λ (f : Field). f.filename)) (is_file body) fields field old.name new.name before.name adds.name;
   file = reads_more (option_map (λ (f : Field). f.content)) (is_file body) fields field old.file new.file before.file adds.file;
+  folder = reads_more (option_map (λ (f : Field). f.content))
+      (is_named body (codes "path")) fields field old.folder new.folder before.folder adds.folder;
   select = reads_more (λ last. option_map_or (is_true body) last false)
       (is_named body (codes "select")) fields field old.select new.select before.select adds.select;
   print = reads_more (λ last. option_map_or (is_true body) last false) (is_named body (codes "print")) fields field old.print new.print before.print adds.print;

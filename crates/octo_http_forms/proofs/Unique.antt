@@ -1,5 +1,5 @@
 -- A body says one thing: its delimiters, its parts and what they say are determined.
-use Rattle.std.proofs.Common.{◌≡◌, ℕ, ◌+◌, ◌<◌, ◌≤◌, List, [], ◌∷◌, ◌++◌, length, Option, Some, None, Ok, Err, refl, sym, ap, subst, ◌∙◌, arith, length-append, ⊎_elim}
+use Rattle.std.proofs.Common.{◌≡◌, ℕ, ◌<◌, List, [], ◌∷◌, ◌++◌, length, Option, Some, None, Ok, Err, refl, sym, ap, subst, ◌∙◌, arith, length-append, ⊎_elim}
 use Rattle.std.specs.Prelude.{Result, MatchOption, Bool, find, filter_map, is_some}
 use Rattle.std.proofs.lemmas.Bool.{cases_lt}
 use Rattle.octo_http_forms.specs.declared.types.Span.{Span}
@@ -99,12 +99,13 @@ module _ (body dashes : List ℕ) where
 
 form_unique : (body : List ℕ) (fields : List Field) (p q : Parts) → IsForm body fields p → IsForm body fields q → p ≡ q
 form_unique body fields p q is other =
-    let make : Option Span → Option Span → Bool → Bool → Parts = λ name file select print.
-    record { name = name; file = file; select = select; print = print } in
-    ap (λ v. make v p.file p.select p.print) (is.name ∙ sym other.name)
-    ∙ ap (λ v. make q.name v p.select p.print) (is.file ∙ sym other.file)
-    ∙ ap (λ v. make q.name q.file v p.print) (is.select ∙ sym other.select)
-    ∙ ap (λ v. make q.name q.file q.select v) (is.print ∙ sym other.print)
+    let make : Option Span → Option Span → Option Span → Bool → Bool → Parts = λ name file folder select print.
+    record { name = name; file = file; folder = folder; select = select; print = print } in
+    ap (λ v. make v p.file p.folder p.select p.print) (is.name ∙ sym other.name)
+    ∙ ap (λ v. make q.name v p.folder p.select p.print) (is.file ∙ sym other.file)
+    ∙ ap (λ v. make q.name q.file v p.select p.print) (is.folder ∙ sym other.folder)
+    ∙ ap (λ v. make q.name q.file q.folder v p.print) (is.select ∙ sym other.select)
+    ∙ ap (λ v. make q.name q.file q.folder q.select v) (is.print ∙ sym other.print)
 
 body_unique : (body dashes : List ℕ) {a b : Result Parts PartFault} → BodyReadsAs body dashes a → BodyReadsAs body dashes b → a ≡ b
 body_unique body dashes (unclosed u) (unclosed v) = refl

@@ -1,5 +1,5 @@
 -- What the parts of a form say.
-use Rattle.std.specs.Prelude.{◌≡◌, ℕ, ◌+◌, ◌-◌, Bool, true, false, ◌&&◌, List, [], ◌∷◌, ◌++◌, length, map, find, Option, Some, None, IfSome, MatchOption, is_some, is_none, unwrap_or, option_map, option_and_then, Result, Ok, Err, if◌then◌else◌, filter_map, codes}
+use Rattle.std.specs.Prelude.{◌≡◌, ℕ, ◌+◌, ◌-◌, Bool, false, ◌&&◌, ◌||◌, List, [], ◌∷◌, map, find, Option, Some, None, IfSome, MatchOption, is_some, is_none, unwrap_or, option_map, option_and_then, Result, Ok, Err, if◌then◌else◌, filter_map, codes}
 use Rattle.std.specs.Option.{option_map_or, option_or}
 use Rattle.std.specs.Char.{to_ascii_lowercase}
 use Rattle.std.specs.Str.{bytes_eq}
@@ -62,14 +62,25 @@ is_named body name field = bytes_eq (text_at body field.name) name
 abbrev pub is_file : List ℕ → Field → Bool
 is_file body field = is_named body (codes "file") field && is_some field.filename
 
--- the content is `true`, in any case of its letters
-abbrev pub is_true : List ℕ → Field → Bool
-is_true body field = bytes_eq (map to_ascii_lowercase (text_at body field.content)) (codes "true")
+-- a text is this word, in any case of its letters
+abbrev pub is_word : List ℕ → List ℕ → Bool
+is_word word text = bytes_eq (map to_ascii_lowercase text) word
 
--- what a form's fields say: the last file, and whether the last field of each of two names is true
+-- a text is one of the words by which a flag is true, in any case of its letters
+abbrev pub is_yes : List ℕ → Bool
+is_yes text =
+    is_word (codes "true") text
+    || (is_word (codes "1") text || (is_word (codes "yes") text || (is_word (codes "y") text || is_word (codes "on") text)))
+
+-- the content is a word by which a flag is true
+abbrev pub is_true : List ℕ → Field → Bool
+is_true body field = is_yes (text_at body field.content)
+
+-- what a form's fields say: the last file, the last folder, and whether the last field of each of two names is true
 pub record IsForm (body : List ℕ) (fields : List Field) (parts : Parts) : Type 0 where
   pub name : parts.name ≡ option_and_then (λ (field : Field). field.filename) (last_such (is_file body) fields)
   pub file : parts.file ≡ option_map (λ (field : Field). field.content) (last_such (is_file body) fields)
+  pub folder : parts.folder ≡ option_map (λ (field : Field). field.content) (last_such (is_named body (codes "path")) fields)
   pub select : parts.select ≡ option_map_or (is_true body) (last_such (is_named body (codes "select")) fields) false
   pub print : parts.print ≡ option_map_or (is_true body) (last_such (is_named body (codes "print")) fields) false
 
@@ -77,6 +88,7 @@ pub record IsForm (body : List ℕ) (fields : List Field) (parts : Parts) : Type
 pub record AddsField (body : List ℕ) (field : Field) (old new : Parts) : Type 0 where
   pub name : new.name ≡ (if is_file body field then field.filename else old.name)
   pub file : new.file ≡ (if is_file body field then Some field.content else old.file)
+  pub folder : new.folder ≡ (if is_named body (codes "path") field then Some field.content else old.folder)
   pub select : new.select ≡ (if is_named body (codes "select") field then is_true body field else old.select)
   pub print : new.print ≡ (if is_named body (codes "print") field then is_true body field else old.print)
 
@@ -100,7 +112,9 @@ pub record IsFieldIn (field : Field) (body : List ℕ) : Type 0 where
 
 -- the spans of what parts say lie in the body
 abbrev pub ArePartsIn : Parts → List ℕ → Type 0
-ArePartsIn parts body = IfSome parts.name (λ span. IsWithin span body) × IfSome parts.file (λ span. IsWithin span body)
+ArePartsIn parts body =
+    IfSome parts.name (λ span. IsWithin span body) × IfSome parts.file (λ span. IsWithin span body)
+    × IfSome parts.folder (λ span. IsWithin span body)
 
 -- what was seen of these parts: the first bad one, and what the others say
 pub record IsSeen (body : List ℕ) (spans : List Span) (seen : Seen) : Type 0 where

@@ -35,6 +35,20 @@ ends_word (byte ∷ bytes) = is_space byte || byte == 59
 abbrev pub has_type : List ℕ → List ℕ → Bool
 has_type name value = begins_any_case name (drop (prefix_len is_space value) value) && ends_word (drop (length name) (drop (prefix_len is_space value) value))
 
+-- whether nothing comes next, or the semicolon in front of a parameter
+abbrev pub begins_parameter : List ℕ → Bool
+begins_parameter [] = true
+begins_parameter (byte ∷ bytes) = byte == 59
+
+-- what is after blanks
+abbrev pub after_blanks : List ℕ → List ℕ
+after_blanks bytes = drop (prefix_len is_space bytes) bytes
+
+-- whether a value is this type, in any case of its letters, after which only parameters may come; blanks are passed over
+abbrev pub is_type : List ℕ → List ℕ → Bool
+is_type name value =
+    begins_any_case name (after_blanks value) && begins_parameter (after_blanks (drop (length name) (after_blanks value)))
+
 -- how many bytes blanks and a key with its `=` take up in front, none if something else comes there
 abbrev pub key_end : List ℕ → List ℕ → Option ℕ
 key_end key bytes =

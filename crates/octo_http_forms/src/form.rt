@@ -2,7 +2,7 @@
 ghost use Rattle.std.specs.Prelude.{◌≡◌, ◌≤◌, ◌∷◌, ◌++◌, [], ℕ, List, length, drop, None, OnOk, IfSome, IfOk, IfNone};
 ghost use Rattle.octo_http_forms.specs.Texts.{IsWithin};
 ghost use Rattle.octo_http_forms.specs.Delimiters.{Reaches, IsUnclosed};
-ghost use Rattle.octo_http_forms.specs.Parts.{AddsField, BodyReadsAs, IsFieldIn, IsSeen, ArePartsIn, FormReadsAs, SeenReadsAs, is_named, is_file, is_true};
+ghost use Rattle.octo_http_forms.specs.Parts.{AddsField, BodyReadsAs, IsFieldIn, IsSeen, ArePartsIn, FormReadsAs, SeenReadsAs, is_named, is_file, is_yes, is_true};
 ghost use Rattle.octo_http_forms.specs.declared.types.Span.{Span};
 
 use crate::delimiters::{first_delimiter, next_delimiter};
@@ -39,12 +39,24 @@ fn is_file(body: &[u8], field: Field) -> bool
     is_named(body, field, b"file") && field.filename.is_some()
 }
 
-// Whether a field's content is `true`, in any case of its letters.
+// Whether a text is one of the words by which a flag is true, in any case of its letters. Source: OctoPrint's REST API, whose
+// true values these are, and `on`, which a browser sends for a ticked box.
+fn is_yes(text: &[u8]) -> bool
+    ensures { result ≡ is_yes text.now }
+{
+    text.eq_ignore_ascii_case(b"true")
+        || text.eq_ignore_ascii_case(b"1")
+        || text.eq_ignore_ascii_case(b"yes")
+        || text.eq_ignore_ascii_case(b"y")
+        || text.eq_ignore_ascii_case(b"on")
+}
+
+// Whether a field's content is one of these words.
 fn is_true(body: &[u8], field: Field) -> bool
     requires { IsFieldIn field body.now }
     ensures { result ≡ is_true body.now field }
 {
-    body[field.content.from..field.content.to].eq_ignore_ascii_case(b"true")
+    is_yes(&body[field.content.from..field.content.to])
 }
 
 // What the parts say after one more field.
@@ -61,6 +73,11 @@ fn with_field(body: &[u8], parts: Parts, field: Field) -> Parts
             Some(field.content)
         } else {
             parts.file
+        },
+        folder: if is_named(body, field, b"path") {
+            Some(field.content)
+        } else {
+            parts.folder
         },
         select: if is_named(body, field, b"select") {
             is_true
@@ -86,6 +103,7 @@ impl Seen {
             parts: Parts {
                 name: None,
                 file: None,
+                folder: None,
                 select: false,
                 print: false,
             },

@@ -1,4 +1,4 @@
-//! The parts of a `multipart/form-data` body: an uploaded file and the form's two flags.
+//! The parts of a `multipart/form-data` body: an uploaded file, its folder and the form's two flags.
 #![tactic(auto)]
 
 mod delimiters;
@@ -12,5 +12,5 @@ mod types;
 
 pub use form::multipart;
 pub use laws::one_meaning_law;
-pub use parameters::has_type;
+pub use parameters::{has_type, is_type};
 pub use types::{PartFault, Parts, Span};

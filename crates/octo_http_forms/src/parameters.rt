@@ -3,7 +3,7 @@ ghost use Rattle.std.specs.Prelude.{◌≡◌, ◌≤◌, ◌<◌, ◌+◌, leng
 ghost use Rattle.std.specs.List.{prefix_len};
 ghost use Rattle.std.specs.Option.{option_copied};
 ghost use Rattle.octo_http_forms.specs.Texts.{IsWithin, text_at};
-ghost use Rattle.octo_http_forms.specs.Values.{has_type, ends_word, key_end, value_here, value_place, is_bare, content_span, parameter, boundary_of, bare_end};
+ghost use Rattle.octo_http_forms.specs.Values.{has_type, begins_parameter, after_blanks, is_type, ends_word, key_end, value_here, value_place, is_bare, content_span, parameter, boundary_of, bare_end};
 ghost use Rattle.octo_http_forms.specs.declared.quotes.Quoting.TheVariants as quoting;
 
 use crate::Span;
@@ -30,6 +30,32 @@ pub fn has_type(value: &[u8], name: &[u8]) -> bool
 {
     let word = &value[spaces_in_front(value)..];
     begins_any_case(word, name) && ends_word(&word[name.len()..])
+}
+
+// Whether nothing comes next, or the semicolon in front of a parameter.
+fn begins_parameter(bytes: &[u8]) -> bool
+    ensures { result ≡ begins_parameter bytes.now }
+{
+    match bytes {
+        [] => true,
+        [byte, ..] => *byte == b';',
+    }
+}
+
+// What is after blanks.
+fn after_blanks(bytes: &[u8]) -> &[u8]
+    ensures { result.now ≡ after_blanks bytes.now }
+{
+    &bytes[spaces_in_front(bytes)..]
+}
+
+/// Whether a value is this type, in any case of its letters, and only parameters come after it: `has_type` takes anything after
+/// a blank. Source: RFC 9110, section 8.3.1.
+pub fn is_type(value: &[u8], name: &[u8]) -> bool
+    ensures { result ≡ is_type name.now value.now }
+{
+    let word = after_blanks(value);
+    begins_any_case(word, name) && begins_parameter(after_blanks(&word[name.len()..]))
 }
 
 // How many bytes blanks, the key and its `=` take up in front, `None` if something else comes there.

@@ -10,16 +10,18 @@ pub struct Span {
     pub to: usize,
 }
 
-/// What the parts of a form say: the last part named `file` with a filename, and the last `select` and `print`.
+/// What the parts of a form say: the last part named `file` with a filename, and the last `path`, `select` and `print`.
 #[derive(Clone, Copy, Debug, PartialEq, Eq)]
 pub struct Parts {
     /// The filename, as it is written between its quotes.
     pub name: Option<Span>,
     /// The file's content.
     pub file: Option<Span>,
-    /// Whether the last part named `select` is `true`, in any case of its letters.
+    /// The content of the last part named `path`: the folder in which OctoPrint would store the file.
+    pub folder: Option<Span>,
+    /// Whether the last part named `select` is `true`, `1`, `yes`, `y` or `on`, in any case of its letters.
     pub select: bool,
-    /// Whether the last part named `print` is `true`, in any case of its letters.
+    /// Whether the last part named `print` is one of these words, in any case of its letters.
     pub print: bool,
 }
 

@@ -1,12 +1,15 @@
 //! Uploads as clients send them, and bodies at the edges of the rules.
 use octo_http_forms::{PartFault, Parts, Span, multipart};
+use std::alloc::Global;
 use std::process::Abort;
+use std::test::Fail;
 
 const FORM: &[u8] = b"multipart/form-data; boundary=XY";
 
 const NONE: Parts = Parts {
     name: None,
     file: None,
+    folder: None,
     select: false,
     print: false,
 };
@@ -14,6 +17,7 @@ const NONE: Parts = Parts {
 const PRINT: Parts = Parts {
     name: None,
     file: None,
+    folder: None,
     select: false,
     print: true,
 };
@@ -21,6 +25,7 @@ const PRINT: Parts = Parts {
 const SELECT: Parts = Parts {
     name: None,
     file: None,
+    folder: None,
     select: true,
     print: false,
 };
@@ -58,6 +63,7 @@ fn upload(rt: HostRuntime) {
     let want = Parts {
         name: Some(Span { from: 61, to: 68 }),
         file: Some(Span { from: 113, to: 132 }),
+        folder: None,
         select: false,
         print: false,
     };
@@ -143,6 +149,46 @@ fn bodies_of_parts(rt: HostRuntime) {
         ),
     ];
     each_body(&rt, &rows);
+}
+
+// A form with this print.
+fn prints(alloc: Global, word: &str) -> Result<bool, Fail> {
+    let mut body = Vec::from_slice(
+        alloc,
+        b"--XY\r\nContent-Disposition: form-data; name=\"print\"\r\n\r\n",
+    )?;
+    body.extend_from_slice(word.as_bytes())?;
+    body.extend_from_slice(b"\r\n--XY--")?;
+    Ok(multipart(body.as_slice(), FORM)?.print)
+}
+
+// The words of a flag, and whether it is true by them. Slic3r sends `1`.
+const WORDS: [(&str, bool); 12] = [
+    ("true", true),
+    ("TRUE", true),
+    ("1", true),
+    ("yes", true),
+    ("Y", true),
+    ("On", true),
+    ("false", false),
+    ("0", false),
+    ("", false),
+    ("true ", false),
+    ("11", false),
+    ("o", false),
+];
+
+// Each word makes a flag what is beside it.
+fn each_word(rt: &impl Abort, alloc: Global, rows: &[(&str, bool)]) -> Result<(), Fail> {
+    for (word, wanted) in rows {
+        assert!(rt; prints(alloc, *word)? == *wanted, "at {word}");
+    }
+    Ok(())
+}
+
+#[test]
+fn words(rt: HostRuntime) -> Result<(), Fail> {
+    each_word(&rt, rt.alloc(), &WORDS)
 }
 
 // The last file counts, and a filename is taken with its backslashes.

@@ -1,4 +1,4 @@
-use Rattle.std.proofs.Common.{◌≡◌, ◌+◌, ◌-◌, Some, None, length, take, drop, sym, subst, arith}
+use Rattle.std.proofs.Common.{◌+◌, Some, None, sym, subst, arith}
 use Rattle.std.proofs.lemmas.List.{take_rest}
 use Rattle.memchr.specs.Find.{FindsNeedle}
 use Rattle.octo_http_forms.proofs.Cuts.{occurs_on, none_before, none_past, none_here, next_here}
