@@ -13,7 +13,7 @@ use std::marker::Model;
 use std::sync::Arc;
 
 /// The house's end: it takes the workers' asks and answers them.
-/// None of its calls waits or takes memory.
+/// None of its calls waits or takes memory. An answer wakes the worker that sleeps for it.
 #[derive(Drop)]
 pub struct HouseEnd {
     pub(crate) table: Arc<Board>,
@@ -127,6 +127,7 @@ impl Counter for HouseEnd {
         let letter = Letter::Answered(moment, answer);
         write_letter(words, &mut self.seat, worker as usize, letter);
         words.store::<PutAnswer>(&mut self.seat, worker as usize + 1, ANSWERED);
+        words.wake_one(worker as usize + 1);
     }
 
     fn note(&mut self, note: Note)

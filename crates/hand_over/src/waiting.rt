@@ -11,7 +11,11 @@ use crate::board::{ANSWERED, ASKED, ENDED, IDLE, Letter, NOTE_WORD, Place, Words
 use crate::plays::{LookForAnswer, LookForClose, PutAsk, PutIdle, TakeSlot};
 use octo_asks::{Answer, Ask, Closed};
 use std::sync::Wait;
-use std::thread;
+use std::time::Duration;
+
+// How long a worker sleeps at most before it looks again, in milliseconds. Its answer wakes it at once, and the end of the
+// host, which is on another word, does not.
+const NAP: u64 = 2;
 
 /// What a worker finds while its ask is open.
 #[derive(Drop)]
@@ -93,7 +97,7 @@ pub(crate) fn look_for_close(words: &Words, seat: &mut Place, saw_close: bool) -
     saw_close
 }
 
-// Waits for the answer, or for the end.
+// Waits for the answer, or for the end. It sleeps on its word as long as that shows an open ask.
 pub(crate) fn wait_for_answer<R: Wait>(
     rt: &R,
     words: &Words,
@@ -116,7 +120,7 @@ pub(crate) fn wait_for_answer<R: Wait>(
             AskState::Nothing => {}
         }
         *saw_close = look_for_close(words, seat, *saw_close);
-        thread::yield_now();
+        words.park_timeout(rt, number + 1, ASKED as u32, Duration::from_millis(NAP));
     }
     unreachable!()
 }
