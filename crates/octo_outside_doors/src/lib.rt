@@ -3,8 +3,10 @@
 
 mod door;
 mod memory_door;
+mod passing;
 mod tcp_door;
 
 pub use door::{Door, Doors, Knock};
 pub use memory_door::{ConnList, MemoryDoor};
-pub use tcp_door::{TcpDoor, may_pass};
+pub use passing::may_pass;
+pub use tcp_door::TcpDoor;

@@ -1,14 +1,13 @@
 //! Doors over TCP.
-ghost use Rattle.std.specs.Prelude.{◌≡◌, ◌↔◌, ◌⊎◌, Some, None, false, true, ◌||◌, is_err, IfOk, OnOk, IsErr, IsOkAnd, IsTrue, pos, ⊤};
-ghost use Rattle.std.specs.IoError.{error_kind, raw_os_error};
+ghost use Rattle.std.specs.Prelude.{◌≡◌, None, false, true, ◌||◌, is_err, IfOk, OnOk, IsErr, IsOkAnd, ⊤};
 ghost use Rattle.octo_outside.specs.Recorded.{Counts};
 ghost use Rattle.octo_outside_doors.specs.Doors.{Each, IsNew, IsEnded};
 
+use crate::passing::may_pass;
 use crate::{Door, Doors, Knock};
 use octo_outside::Failed;
 use octo_outside_sockets::{TcpConn, may_come_later};
 use std::alloc::{AllocError, Global};
-use std::io::ErrorKind;
 use std::net::{Net, OpenListener, SocketAddr, TcpListener, TcpStream};
 use std::os::fd::OwnedFd;
 use std::sync::Arc;
@@ -17,15 +16,6 @@ use std::{io, thread};
 
 // How long one call waits for a connection, and rests if the system has no room for one, in milliseconds.
 const WAIT: u64 = 10;
-
-// The number of Linux for a process that has all the open files that it may have.
-const EMFILE: i32 = 24;
-
-// The same of the system.
-const ENFILE: i32 = 23;
-
-// The number of Linux for a lack of buffers.
-const ENOBUFS: i32 = 105;
 
 /// A door over TCP. It says neither which connections come nor what was served.
 ///
@@ -49,19 +39,6 @@ fn listen<R: Net<Listener = TcpListener, Stream = TcpStream>>(
     let same = TcpStream::from(OwnedFd::from(listener.try_clone()?));
     same.set_read_timeout(Some(Duration::from_millis(WAIT)))?;
     Ok(listener)
-}
-
-/// Whether no connection came, and a later call may bring one: the peer left, or the system has no room now.
-pub fn may_pass(error: &io::Error) -> bool
-    ensures { IsTrue result
-        ↔ (error_kind error.now ≡ ErrorKind.ConnectionAborted)
-        ⊎ (error_kind error.now ≡ ErrorKind.OutOfMemory) ⊎ (raw_os_error error.now ≡ Some (pos 24))
-        ⊎ (raw_os_error error.now ≡ Some (pos 23)) ⊎ (raw_os_error error.now ≡ Some (pos 105)) }
-{
-    matches!(
-        error.kind(),
-        ErrorKind::ConnectionAborted | ErrorKind::OutOfMemory
-    ) || matches!(error.raw_os_error(), Some(EMFILE | ENFILE | ENOBUFS))
 }
 
 impl<R: Net + Drop> TcpDoor<R> {
