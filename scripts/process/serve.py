@@ -57,26 +57,29 @@ def slicer_upload(folder):
 
 
 def silent_peers(folder):
-    """Connections that send nothing keep a worker each until its patience ends. Beside three of them others are answered at once,
-    beside four only after the patience has ended."""
-    host = Host(folder, 9, "[serve]\npatience = 1000\n").start()
+    """Connections that send nothing, or a part of a head, keep no worker: they wait at the door, 64 at most. A body that doesn't come
+    keeps one until the host's patience ends."""
+    host = Host(folder, 9, "[serve]\npatience = 100\n").start()
     silent = []
     try:
-        for count in (3, 4):
-            while len(silent) < count:
-                silent.append(socket.create_connection(("127.0.0.1", host.port), timeout=LIMIT))
-                time.sleep(0.05)
-            began = time.monotonic()
-            status = host.ask("GET", "/api/version").status
-            taken = time.monotonic() - began
-            # A worker waits for about 10 seconds. What comes at once comes well within that, on a busy machine too.
-            check("a request beside %d silent connections" % count, (status, taken < 5), (200, count == 3))
-        replies = []
+        for count in range(70):
+            silent.append(socket.create_connection(("127.0.0.1", host.port), timeout=LIMIT))
+            if count % 2:
+                silent[-1].sendall(b"GET /api/version HTTP/1.1\r\n")
+        time.sleep(0.5)
+        began = time.monotonic()
+        status = host.ask("GET", "/api/version").status
+        check("a request beside 70 silent connections", (status, time.monotonic() - began < 1), (200, True))
+        # The host has closed the oldest.
+        silent[0].settimeout(5)
+        check("the oldest of them", silent[0].recv(4096), b"")
+        slow = socket.create_connection(("127.0.0.1", host.port), timeout=LIMIT)
+        slow.sendall(b"POST /api/job HTTP/1.1\r\nHost: a\r\nContent-Length: 40\r\n\r\n{")
+        began = time.monotonic()
+        status = slow.recv(4096).split(b"\r\n")[0].split(b" ")[1:2]
+        check("a body that doesn't come", (status, 0.9 < time.monotonic() - began < 5), ([b"408"], True))
         for conn in silent:
-            conn.settimeout(LIMIT)
-            replies.append(conn.recv(4096).split(b"\r\n")[0].split(b" ")[1:2])
             conn.close()
-        check("the silent connections", replies, [[b"408"]] * 4)
         check("the end after them", host.shut_down()[0], 0)
     finally:
         host.kill()

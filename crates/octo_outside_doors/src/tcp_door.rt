@@ -3,28 +3,29 @@ ghost use Rattle.std.specs.Prelude.{◌≡◌, None, false, true, ◌||◌, is_e
 ghost use Rattle.octo_outside.specs.Recorded.{Counts};
 ghost use Rattle.octo_outside_doors.specs.Doors.{Each, IsNew, IsEnded};
 
-use crate::passing::may_pass;
-use crate::{Door, Doors, Knock};
+use crate::arrivals::{Arrival, Arrivals, address_of, next_of};
+use crate::{Door, DoorConn, Doors, Knock};
 use octo_outside::Failed;
-use octo_outside_sockets::{TcpConn, may_come_later};
 use std::alloc::{AllocError, Global};
+use std::io;
 use std::net::{Net, OpenListener, SocketAddr, TcpListener, TcpStream};
 use std::os::fd::OwnedFd;
-use std::sync::Arc;
+use std::sync::{Arc, Mutex, Wait};
 use std::time::{Clock, Duration};
-use std::{io, thread};
 
-// How long one call waits for a connection, and rests if the system has no room for one, in milliseconds.
+// How long one call of the listener waits for a connection, in milliseconds.
 const WAIT: u64 = 10;
 
 /// A door over TCP. It says neither which connections come nor what was served.
 ///
-/// One call waits for about 10 milliseconds. A connection that is given back is written out and closed in order: see
-/// `TcpConn::finish`.
+/// Four doors share one listener, and one list of the connections whose heads haven't come whole: see `Arrivals`. So a call
+/// returns a connection whose worker needs not wait for its head. It waits for about 10 milliseconds, and for the calls of the
+/// other three doors before it. A connection that is given back is written out and closed in order: see
+/// `DoorConn::finish`.
 #[derive(Drop)]
 pub struct TcpDoor<R: Net + Drop> {
     rt: R,
-    listener: Option<Arc<TcpListener>>,
+    arrivals: Option<Arc<Mutex<Arrivals>>>,
     faults: u64,
     has_failed: bool,
 }
@@ -41,10 +42,10 @@ fn listen<R: Net<Listener = TcpListener, Stream = TcpStream>>(
     Ok(listener)
 }
 
-impl<R: Net + Drop> TcpDoor<R> {
+impl<R: Net + Wait + Drop> TcpDoor<R> {
     /// The address at which the door's listener is bound.
     pub fn address(&self) -> Option<SocketAddr> {
-        self.listener.as_ref()?.local_addr().ok()
+        address_of(&self.rt, self.arrivals.as_ref()?)
     }
 }
 
@@ -52,30 +53,30 @@ impl<R: Net<Listener = TcpListener, Stream = TcpStream> + Copy> TcpDoor<R> {
     /// A door whose first call fails.
     pub fn absent(rt: &R) -> Self
         ensures new { (result.faults ≡ 0) × (result.has_failed ≡ false) }
-        ensures listener { result.listener ≡ None }
+        ensures arrivals { result.arrivals ≡ None }
     {
         TcpDoor {
             rt: *rt,
-            listener: None,
+            arrivals: None,
             faults: 0,
             has_failed: false,
         }
     }
 
-    // A door over this listener.
-    fn over(rt: &R, listener: Arc<TcpListener>) -> Self
+    // A door over this listener and its connections.
+    fn over(rt: &R, arrivals: Arc<Mutex<Arrivals>>) -> Self
         ensures { (result.faults ≡ 0) × (result.has_failed ≡ false) }
     {
         TcpDoor {
             rt: *rt,
-            listener: Some(listener),
+            arrivals: Some(arrivals),
             faults: 0,
             has_failed: false,
         }
     }
 
-    /// Four doors at the address `HOST:PORT`. They share one listener, so that the system wakes one worker for each
-    /// connection. If the address can't be bound, the first call of each door fails. This call fails only if out of memory.
+    /// Four doors at the address `HOST:PORT`. If the address can't be bound, the first call of each door fails. This call fails only if
+    /// out of memory.
     pub fn four(rt: &R, alloc: Global, address: &str) -> Result<Doors<TcpDoor<R>>, AllocError>
         // No call of any of them has failed yet.
         ensures { IfOk result (λ doors.
@@ -89,7 +90,7 @@ impl<R: Net<Listener = TcpListener, Stream = TcpStream> + Copy> TcpDoor<R> {
                 d: TcpDoor::absent(rt),
             });
         };
-        let shared = Arc::new(alloc, listener)?;
+        let shared = Arc::new(alloc, Mutex::new(Arrivals::new(alloc, listener)?))?;
         Ok(Doors {
             a: TcpDoor::over(rt, Arc::try_clone(&shared)?),
             b: TcpDoor::over(rt, Arc::try_clone(&shared)?),
@@ -103,39 +104,31 @@ impl<R: Net<Listener = TcpListener, Stream = TcpStream> + Copy> TcpDoor<R> {
         ensures counts { Counts ⊤ self.old.faults self.new.faults }
         ensures has_failed { self.new.has_failed ≡ true }
     {
-        self.listener = None;
+        self.arrivals = None;
         self.has_failed = true;
         self.faults = self.faults.saturating_add(1);
         Failed
     }
 }
 
-impl<R: Net<Listener = TcpListener, Stream = TcpStream> + Clock + Copy> TcpDoor<R> {
-    // The stream that comes within about 10 milliseconds, if one does; an error if the listener failed.
-    fn next_stream(&self) -> Result<Option<TcpStream>, Failed>
-        ensures { self.now.listener ≡ None → IsErr result }
+impl<R: Net<Listener = TcpListener, Stream = TcpStream> + Clock + Wait + Copy> TcpDoor<R> {
+    // The connection that is handed on within about 10 milliseconds, if one is; an error if the listener failed.
+    fn next_arrival(&self) -> Result<Option<Arrival>, Failed>
+        ensures { self.now.arrivals ≡ None → IsErr result }
     {
-        let Some(listener) = &self.listener else {
+        let Some(arrivals) = &self.arrivals else {
             return Err(Failed);
         };
-        match listener.accept() {
-            Ok((stream, _)) => Ok(Some(stream)),
-            Err(error) => {
-                if may_come_later(&error) {
-                    return Ok(None);
-                }
-                if may_pass(&error) {
-                    thread::sleep(&self.rt, Duration::from_millis(WAIT));
-                    return Ok(None);
-                }
-                Err(Failed)
-            }
+        match next_of(&self.rt, arrivals) {
+            Ok(arrival) => Ok(arrival),
+            Err(_) => Err(Failed),
         }
     }
 }
 
-impl<R: Net<Listener = TcpListener, Stream = TcpStream> + Clock + Copy + Send> Door for TcpDoor<R> {
-    type Conn = TcpConn<R>;
+impl<R: Net<Listener = TcpListener, Stream = TcpStream> + Clock + Wait + Copy + Send> Door
+    for TcpDoor<R> {
+    type Conn = DoorConn<R>;
 
     ghost coming = { λ _. None };
 
@@ -145,11 +138,11 @@ impl<R: Net<Listener = TcpListener, Stream = TcpStream> + Clock + Copy + Send> D
 
     ghost has_failed = { λ d. d.has_failed };
 
-    fn accept(&mut self) -> Result<Knock<TcpConn<R>>, Failed>
-        ensures absent { self.old.listener ≡ None → self.old.has_failed ≡ false → IsErr result }
+    fn accept(&mut self) -> Result<Knock<DoorConn<R>>, Failed>
+        ensures absent { self.old.arrivals ≡ None → self.old.has_failed ≡ false → IsErr result }
         ensures fresh { IfOk result (λ knock. IsNew
-            (λ (conn : TcpConn R TcpStream TcpListener). conn.faults)
-            (λ (conn : TcpConn R TcpStream TcpListener). conn.quiets)
+            (λ (conn : DoorConn R). conn.faults)
+            (λ (conn : DoorConn R). conn.quiets)
             knock) }
         ensures has_failed { self.new.has_failed ≡ (self.old.has_failed || is_err result) }
         ensures after { self.old.has_failed ≡ true → IsOkAnd result IsEnded }
@@ -159,18 +152,14 @@ impl<R: Net<Listener = TcpListener, Stream = TcpStream> + Clock + Copy + Send> D
         if self.has_failed {
             return Ok(Knock::Ended);
         }
-        match self.next_stream() {
-            Ok(Some(stream)) => match TcpConn::over(self.rt, stream) {
-                Ok(conn) => Ok(Knock::Conn(conn)),
-                // The peer is gone already.
-                Err(_) => Ok(Knock::Quiet),
-            },
+        match self.next_arrival() {
+            Ok(Some(arrival)) => Ok(Knock::Conn(DoorConn::new(self.rt, arrival))),
             Ok(None) => Ok(Knock::Quiet),
             Err(_) => Err(self.fail()),
         }
     }
 
-    fn finish(&mut self, conn: TcpConn<R>) {
+    fn finish(&mut self, conn: DoorConn<R>) {
         conn.finish();
     }
 }

@@ -116,11 +116,22 @@ fn ample_doors(rt: HostRuntime) -> Result<(), Fail> {
     Ok(())
 }
 
-// A peer that has sent 13 bytes to this address.
+// What the next call finds that isn't Quiet. One call admits a connection, and a later one returns it.
+fn serve_soon<D: Door>(door: &mut D) -> char {
+    for _ in 0..100 {
+        match serve_once(door) {
+            'q' => {}
+            other => return other,
+        }
+    }
+    'q'
+}
+
+// A peer that has sent the end of a head and more to this address.
 fn peer_of(rt: &HostRuntime, address: SocketAddr) -> Result<TcpStream, Fail> {
     let mut peer = TcpStream::connect(rt, address)?;
     peer.set_read_timeout(Some(Duration::from_secs(10)))?;
-    peer.write_all(b"four and more")?;
+    peer.write_all(b"four\r\n\r\nand more")?;
     Ok(peer)
 }
 
@@ -141,8 +152,26 @@ fn tcp_doors(rt: HostRuntime) -> Result<(), Fail> {
     let mut doors = TcpDoor::four(&rt, rt.alloc(), "127.0.0.1:0")?;
     assert_eq!(rt; serve_once(&mut doors.a), 'q');
     let peer = peer_of(&rt, doors.c.address().ok_or("not bound")?)?;
-    assert_eq!(rt; serve_once(&mut doors.b), 'c');
+    assert_eq!(rt; serve_soon(&mut doors.b), 'c');
     assert_eq!(rt; serve_once(&mut doors.d), 'q');
+    reads_four(&rt, peer)
+}
+
+// A peer that has sent a part of a head isn't served until the rest has come, and one that has closed is never served.
+#[test]
+fn parts_of_heads(rt: HostRuntime) -> Result<(), Fail> {
+    let mut doors = TcpDoor::four(&rt, rt.alloc(), "127.0.0.1:0")?;
+    let address = doors.a.address().ok_or("not bound")?;
+    let gone = TcpStream::connect(&rt, address)?;
+    drop(gone);
+    let mut peer = TcpStream::connect(&rt, address)?;
+    peer.set_read_timeout(Some(Duration::from_secs(10)))?;
+    peer.write_all(b"four\r\n")?;
+    for _ in 0..5 {
+        assert_eq!(rt; serve_once(&mut doors.a), 'q');
+    }
+    peer.write_all(b"\r\n")?;
+    assert_eq!(rt; serve_soon(&mut doors.d), 'c');
     reads_four(&rt, peer)
 }
 

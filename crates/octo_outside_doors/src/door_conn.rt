@@ -1,0 +1,205 @@
+//! A connection of a door over TCP.
+ghost use Rattle.std.specs.Prelude.{◌≡◌, ◌<◌, ◌≤◌, None, IfSome, length, ⊤};
+ghost use Rattle.octo_outside.specs.Memory.{one_more};
+ghost use Rattle.octo_outside.specs.Recorded.{Counts};
+
+use crate::arrivals::Arrival;
+use crate::pace::Pace;
+use libc::net::{POLLIN, POLLOUT, poll};
+use libc::types::pollfd;
+use octo_outside::{Conn, Failed, Got};
+use octo_outside_sockets::{linger, may_come_later, write_some};
+use std::io::Read;
+use std::net::TcpStream;
+use std::os::fd::AsRawFd;
+use std::time::{Clock, Instant};
+
+// How long one call waits for its peer, in milliseconds.
+const WAIT: i32 = 10;
+
+// How many such waits a write takes at most. The pace of its peer ends it before.
+const WAITS: u32 = 1_100;
+
+/// A connection of a door over TCP. It records neither what is left nor what was written.
+///
+/// A read waits for 10 milliseconds by the clock, and a write for 10 seconds at most. A peer may not be slow for long: for each
+/// direction there are 10 seconds for which it may keep the connection waiting in all, and each 12,800 bytes that it sends or
+/// takes add a second, up to those 10. Once they are used up, each read is quiet at once, or each write fails.
+#[derive(Drop)]
+pub struct DoorConn<R: Drop> {
+    rt: R,
+    stream: TcpStream,
+    // What was read at the door, and how many bytes of it were returned.
+    ahead: Vec<u8>,
+    returned: usize,
+    reads: Pace,
+    writes: Pace,
+    faults: u64,
+    quiets: u64,
+}
+
+// Whether a stream is ready for these events, or becomes so within 10 milliseconds. If the poll fails, the call of the
+// stream that follows waits by its own limit.
+fn is_ready(stream: &TcpStream, events: i16) -> bool {
+    let mut asked = [pollfd {
+        fd: stream.as_raw_fd(),
+        events,
+        revents: 0,
+    }];
+    poll(&mut asked, WAIT) != 0
+}
+
+// The same, and for how many nanoseconds it waited: 0 if the clock fails.
+fn wait_until_ready<R: Clock>(rt: &R, stream: &TcpStream, events: i16) -> (bool, u64) {
+    let Ok(start) = Instant::now(rt) else {
+        return (is_ready(stream, events), 0);
+    };
+    let ready = is_ready(stream, events);
+    match start.elapsed(rt) {
+        Ok(waited) => (ready, waited.as_nanos().min(u64::MAX as u128) as u64),
+        Err(_) => (ready, 0),
+    }
+}
+
+impl<R: Drop> DoorConn<R> {
+    // The connection of an arrival, which first returns what was read of it. Of one that is late nothing more is read.
+    pub(crate) fn new(rt: R, arrival: Arrival) -> Self
+        ensures { (result.faults ≡ 0) × (result.quiets ≡ 0) }
+    {
+        DoorConn {
+            rt,
+            stream: arrival.stream,
+            ahead: arrival.ahead,
+            returned: 0,
+            reads: if arrival.is_late {
+                Pace::used_up()
+            } else {
+                Pace::new()
+            },
+            writes: Pace::new(),
+            faults: 0,
+            quiets: 0,
+        }
+    }
+
+    // Copies the next bytes of what was read at the door, and says how many; `None` if all were returned.
+    fn take_ahead(&mut self, into: &mut [u8]) -> Option<usize>
+        requires { 0 < length into.old }
+        ensures taken { IfSome result (λ n. (0 < n) × (n ≤ length into.new)) }
+        ensures faults { self.new.faults ≡ self.old.faults }
+        ensures quiets { self.new.quiets ≡ self.old.quiets }
+    {
+        if self.returned >= self.ahead.len() {
+            return None;
+        }
+        let rest = &self.ahead.as_slice()[self.returned..];
+        let n = into.len().min(rest.len());
+        into[..n].copy_from_slice(&rest[..n]);
+        self.returned = self.returned.saturating_add(n);
+        Some(n)
+    }
+
+    fn fail(&mut self) -> Failed
+        ensures faults { self.new.faults ≡ one_more self.old.faults }
+        ensures quiets { self.new.quiets ≡ self.old.quiets }
+        ensures counts { Counts ⊤ self.old.faults self.new.faults }
+    {
+        self.faults = self.faults.saturating_add(1);
+        Failed
+    }
+
+    // A read found nothing yet.
+    fn count_quiet(&mut self)
+        ensures counts { self.new.quiets ≡ one_more self.old.quiets }
+        ensures counted { self.old.quiets ≤ self.new.quiets }
+        ensures faults { self.new.faults ≡ self.old.faults }
+    {
+        self.quiets = self.quiets.saturating_add(1);
+    }
+}
+
+impl<R: Clock + Drop> DoorConn<R> {
+    // Waits until the stream has something to read, for 10 milliseconds at most, and not at all once the peer was too slow.
+    fn may_read(&mut self) -> bool
+        ensures faults { self.new.faults ≡ self.old.faults }
+        ensures quiets { self.new.quiets ≡ self.old.quiets }
+    {
+        if self.reads.is_used_up() {
+            return false;
+        }
+        let (ready, waited) = wait_until_ready(&self.rt, &self.stream, POLLIN);
+        self.reads.wait(waited);
+        ready
+    }
+
+    // Waits until the stream has room to write, unless the peer is too slow.
+    fn may_write(&mut self) -> bool
+        ensures faults { self.new.faults ≡ self.old.faults }
+        ensures quiets { self.new.quiets ≡ self.old.quiets }
+    {
+        for _ in 0..WAITS {
+            if self.writes.is_used_up() {
+                return false;
+            }
+            let (ready, waited) = wait_until_ready(&self.rt, &self.stream, POLLOUT);
+            self.writes.wait(waited);
+            if ready {
+                return true;
+            }
+        }
+        false
+    }
+
+    /// Gives the connection back. The peer can still read what was written: input that it sends meanwhile is
+    /// dropped until it closes, for about 50 milliseconds at most.
+    pub fn finish(mut self) {
+        linger(&self.rt, &mut self.stream);
+    }
+}
+
+impl<R: Clock + Drop> Conn for DoorConn<R> {
+    ghost left = { λ _. None };
+
+    ghost written = { λ _. None };
+
+    ghost faults = { λ c. c.faults };
+
+    ghost quiets = { λ c. c.quiets };
+
+    fn read(&mut self, into: &mut [u8]) -> Result<Got, Failed> {
+        if let Some(n) = self.take_ahead(into) {
+            return Ok(Got::Bytes(n));
+        }
+        if !self.may_read() {
+            self.count_quiet();
+            return Ok(Got::Quiet);
+        }
+        match self.stream.read(into) {
+            Ok(0) => Ok(Got::Ended),
+            Ok(n) => {
+                self.reads.earn(n);
+                Ok(Got::Bytes(n))
+            }
+            Err(error) => {
+                if may_come_later(&error) {
+                    self.count_quiet();
+                    return Ok(Got::Quiet);
+                }
+                Err(self.fail())
+            }
+        }
+    }
+
+    fn write(&mut self, bytes: &[u8]) -> Result<usize, Failed> {
+        if !self.may_write() {
+            return Err(self.fail());
+        }
+        match write_some(&mut self.stream, bytes) {
+            Some(n) => {
+                self.writes.earn(n);
+                Ok(n)
+            }
+            None => Err(self.fail()),
+        }
+    }
+}
