@@ -4,5 +4,6 @@ pub mod Courses
 pub mod Desk
 pub mod Hosts
 pub mod Limits
+pub mod Own
 pub mod Pulls
 pub mod Texts

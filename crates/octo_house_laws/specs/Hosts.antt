@@ -15,6 +15,7 @@ use Rattle.octo_house_rules.specs.Scripts.{KeepsScripts, run_in}
 use Rattle.octo_house_laws.specs.Calls.{ArePermitted, AreMadeOnce}
 use Rattle.octo_house_laws.specs.Courses.{FollowsCourses, HasCourseIfDone}
 use Rattle.octo_house_laws.specs.Limits.{AreCoolScripts, IssuesCoolLines}
+use Rattle.octo_house_laws.specs.Own.{AreIsolated}
 
 -- what holds of a history from where it began
 pub record KeepsLaws (scripts : ScriptTexts) (limits : Limits) (history : History) (s : Standing) : Type 0 where
@@ -28,6 +29,8 @@ pub record KeepsLaws (scripts : ScriptTexts) (limits : Limits) (history : Histor
   -- calls: who was denied, and puts that were repeated
   pub permitted : ArePermitted history s
   pub once : AreMadeOnce history s
+  -- what callers without the permission ADMIN learn of queue and prints: what their own rows determine
+  pub isolated : AreIsolated history s
 
 -- the law, for a host that begins on kept tables whose prints are numbered from 1 without a gap
 abbrev pub EveryHostKeepsTheLaws : Type 0

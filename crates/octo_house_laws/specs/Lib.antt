@@ -2,3 +2,4 @@ pub mod Calls
 pub mod Courses
 pub mod Hosts
 pub mod Limits
+pub mod Own

@@ -3,6 +3,7 @@ ghost use Rattle.octo_house_laws.specs.Calls.{EveryCallIsPermitted, EveryPutIsMa
 ghost use Rattle.octo_house_laws.specs.Courses.{EveryDoneRecordHasACourse, EveryPrintFollowsACourse};
 ghost use Rattle.octo_house_laws.specs.Hosts.{EveryHostKeepsTheLaws};
 ghost use Rattle.octo_house_laws.specs.Limits.{EveryLineIsCool, EveryLineOfSettingsIsCool};
+ghost use Rattle.octo_house_laws.specs.Own.{EveryCallerIsIsolated};
 
 /// If no line of a script asks a heater for more than its limit, no line does that is issued in a
 /// legal history of a host that begins with a new desk, whether it is a script's, a file's, a
@@ -40,6 +41,14 @@ pub fn every_call_is_by_a_permitted_caller()
 /// out, and is never answered by a fault.
 pub fn every_put_is_made_once()
     ensures { EveryPutIsMadeOnce }
+{}
+
+/// Each call of a legal history by which a caller without the permission ADMIN lists, puts or drops
+/// entries of the own queue, or lists the own prints, is answered as the caller's own rows, the
+/// groups and the names of the files determine, whatever the host knows of others. The answer differs
+/// only if memory runs out, the keeper fails, or the numbers of arrival are used up.
+pub fn every_caller_is_isolated()
+    ensures { EveryCallerIsIsolated }
 {}
 
 /// All laws together, for every legal history of a host that begins on kept tables whose prints
