@@ -4,7 +4,7 @@ use Rattle.clap.proofs.OnLiterals.{clap_on_literals}
 use Rattle.clap.specs.Words.{IsAmong, Kinds, Row, Text, fault_of, is_simple, is_simple_and_free, subcommand_of}
 use Rattle.clap.specs.declared.error.kind.ErrorKind.{ErrorKind}
 use Rattle.clap.specs.declared.error.kind.ErrorKind.TheVariants.{OutOfMemory}
-use Rattle.octo_words.specs.Apps.{octo_app}
+use Rattle.octo_words.specs.Apps.{octo_app, helped_app}
 use Rattle.octo_words.specs.Words.{rows_named, unless}
 
 -- `clap` defines the matches and the faults of this command line
@@ -15,6 +15,11 @@ octo_is_free = refl
 pub octo_is_simple : is_simple octo_app ≡ true
 unfolding clap_on_literals
 octo_is_simple = refl
+
+-- the same of the command line that shows help
+pub helped_is_free : is_simple_and_free helped_app ≡ true
+unfolding clap_on_literals
+helped_is_free = refl
 
 -- without a fault the rows are those of the command that is named
 pub rows_without_fault : (words : List Text) → fault_of octo_app words ≡ [] → rows_named words ≡ subcommand_of octo_app words

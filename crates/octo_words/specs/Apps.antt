@@ -70,14 +70,35 @@ bare_app = record (new_app (codes "octo")) {
   };
 }
 
+-- the program without its commands, if it shows help and its version
+abbrev pub helped_bare_app : App
+helped_bare_app = record (new_app (codes "octo")) {
+  top = record (new_app (codes "octo")).top {
+    no_binary_name = true;
+    has_version = true;
+    subcommand_required = true;
+  };
+}
+
 -- a program with more commands
 abbrev pub with_commands : App → List App → App
 with_commands app commands = fold (λ all command. with_subcommand all command.top) app commands
 
--- the program with the commands that print and check
-abbrev pub printing_app : App
-printing_app = with_commands bare_app (print_app ∷ check_app ∷ demo_app ∷ [])
+-- the commands that print and check, and those that work on files
+abbrev pub printing_commands : List App
+printing_commands = print_app ∷ check_app ∷ demo_app ∷ []
 
--- the program with all its commands
+abbrev pub file_commands : List App
+file_commands = measure_app ∷ rest_app ∷ serve_app ∷ []
+
+-- a program with all of them
+abbrev pub with_all_commands : App → App
+with_all_commands app = with_commands (with_commands app printing_commands) file_commands
+
+-- the program with all its commands, by which the arguments are read
 abbrev pub octo_app : App
-octo_app = with_commands printing_app (measure_app ∷ rest_app ∷ serve_app ∷ [])
+octo_app = with_all_commands bare_app
+
+-- the same that shows help and its version, by which arguments that are no command are explained
+abbrev pub helped_app : App
+helped_app = with_all_commands helped_bare_app

@@ -2,10 +2,13 @@
 ghost use Rattle.std.specs.Prelude.{◌≡◌, false, true, fold, IfOk};
 ghost use Rattle.clap.specs.Words.{App, app_of, new_app, rule_of, with_subcommand};
 ghost use Rattle.clap.specs.declared.builder.command.Command.TheViews.{out-Command};
-ghost use Rattle.octo_words.specs.Apps.{operand, option, needed_option, rule_of_kind, with_argument, print_app, check_app, demo_app, measure_app, rest_app, serve_app, bare_app, printing_app, octo_app};
+ghost use Rattle.octo_words.specs.Apps.{operand, option, needed_option, rule_of_kind, with_argument, print_app, check_app, demo_app, measure_app, rest_app, serve_app, bare_app, helped_bare_app, with_commands, printing_commands, file_commands, octo_app, helped_app};
 
 use clap::{Arg, ArgAction, Command};
 use std::alloc::{AllocError, Global};
+
+// What `octo --version` prints after the program's name.
+const VERSION: &str = "1";
 
 // An argument that has its place and must be given.
 fn operand<'a>(alloc: Global, id: &'a str) -> Arg<'a>
@@ -56,17 +59,18 @@ fn argument<'a>(alloc: Global, kind: Kind, id: &'a str) -> Arg<'a>
     }
 }
 
-// A command with these arguments, in their order.
+// A command with these arguments, in their order, and a line that says what it does.
 fn command<'a>(
     alloc: Global,
     name: &'a str,
+    about: &'a str,
     arguments: &[(Kind, &'a str)],
 ) -> Result<Command<'a>, AllocError>
     ensures app { IfOk result (λ c.
         app_of c ≡ fold with_argument (new_app name.entry.now) arguments.now) }
     ensures local { IfOk result (λ c. (out-Command c).has_globals ≡ false) }
 {
-    let mut command = Command::new(alloc, name);
+    let mut command = Command::new(alloc, name).about(about);
     for (kind, id) in arguments {
         command = command.arg(argument(alloc, *kind, id))?;
     }
@@ -80,6 +84,7 @@ fn print_app<'a>(alloc: Global) -> Result<Command<'a>, AllocError>
     command(
         alloc,
         "print",
+        "Prints a G-code file over the printer at a port, HOST:PORT or unix:PATH",
         &[
             (Kind::Operand, "port"),
             (Kind::Operand, "file"),
@@ -96,6 +101,7 @@ fn check_app<'a>(alloc: Global) -> Result<Command<'a>, AllocError>
     command(
         alloc,
         "check",
+        "Counts the commands of a file, and refuses it as `print` would",
         &[(Kind::Operand, "file"), (Kind::Optional, "settings")],
     )
 }
@@ -107,6 +113,7 @@ fn demo_app<'a>(alloc: Global) -> Result<Command<'a>, AllocError>
     command(
         alloc,
         "demo",
+        "Prints a made-up file over a link in memory that loses and corrupts lines",
         &[(Kind::Operand, "seed"), (Kind::Operand, "commands")],
     )
 }
@@ -115,7 +122,12 @@ fn measure_app<'a>(alloc: Global) -> Result<Command<'a>, AllocError>
     ensures app { IfOk result (λ c. app_of c ≡ measure_app) }
     ensures local { IfOk result (λ c. (out-Command c).has_globals ≡ false) }
 {
-    command(alloc, "measure", &[(Kind::Operand, "file")])
+    command(
+        alloc,
+        "measure",
+        "Measures a file's filament and where its moves end",
+        &[(Kind::Operand, "file")],
+    )
 }
 
 fn rest_app<'a>(alloc: Global) -> Result<Command<'a>, AllocError>
@@ -125,6 +137,7 @@ fn rest_app<'a>(alloc: Global) -> Result<Command<'a>, AllocError>
     command(
         alloc,
         "rest",
+        "Writes the file that goes on at a command, counted from 0",
         &[(Kind::Operand, "file"), (Kind::Operand, "command")],
     )
 }
@@ -136,6 +149,7 @@ fn serve_app<'a>(alloc: Global) -> Result<Command<'a>, AllocError>
     command(
         alloc,
         "serve",
+        "Serves the REST API at HOST:PORT, over a folder of files and a database",
         &[
             (Kind::Operand, "address"),
             (Kind::Operand, "folder"),
@@ -171,20 +185,57 @@ fn with_command<'a>(
     program?.subcommand(command?)
 }
 
-// The program with `print`, `check` and `demo`.
-fn printing_app<'a>(alloc: Global) -> Result<Command<'a>, AllocError>
-    ensures { IfOk result (λ c. app_of c ≡ printing_app) }
+// The program without its commands, if it shows help and its version.
+fn helped_bare_app<'a>(alloc: Global) -> Command<'a>
+    ensures app { app_of result ≡ helped_bare_app }
+    ensures local { (out-Command result).has_globals ≡ false }
 {
-    let program = with_command(Ok(bare_app(alloc)), print_app(alloc));
+    Command::new(alloc, "octo")
+        .about("A print host for one 3D printer with Marlin")
+        .after_help("docs/USING.md and docs/SERVING.md say what each command does.")
+        .version(VERSION)
+        .no_binary_name(true)
+        .subcommand_required(true)
+}
+
+// A program with `print`, `check` and `demo` too.
+fn with_printing<'a>(
+    alloc: Global,
+    program: Result<Command<'a>, AllocError>,
+) -> Result<Command<'a>, AllocError>
+    ensures { (before : App) → IfOk program.entry (λ c. app_of c ≡ before)
+        → IfOk result (λ c. app_of c ≡ with_commands before printing_commands) }
+{
+    let program = with_command(program, print_app(alloc));
     let program = with_command(program, check_app(alloc));
     with_command(program, demo_app(alloc))
+}
+
+// A program with `measure`, `rest` and `serve` too.
+fn with_files<'a>(
+    alloc: Global,
+    program: Result<Command<'a>, AllocError>,
+) -> Result<Command<'a>, AllocError>
+    ensures { (before : App) → IfOk program.entry (λ c. app_of c ≡ before)
+        → IfOk result (λ c. app_of c ≡ with_commands before file_commands) }
+{
+    let program = with_command(program, measure_app(alloc));
+    let program = with_command(program, rest_app(alloc));
+    with_command(program, serve_app(alloc))
 }
 
 // The program with all its commands.
 pub(crate) fn octo_app<'a>(alloc: Global) -> Result<Command<'a>, AllocError>
     ensures { IfOk result (λ c. app_of c ≡ octo_app) }
 {
-    let program = with_command(printing_app(alloc), measure_app(alloc));
-    let program = with_command(program, rest_app(alloc));
-    with_command(program, serve_app(alloc))
+    let program = with_printing(alloc, Ok(bare_app(alloc)));
+    with_files(alloc, program)
+}
+
+// The program with all its commands, if it shows help and its version.
+pub(crate) fn helped_app<'a>(alloc: Global) -> Result<Command<'a>, AllocError>
+    ensures { IfOk result (λ c. app_of c ≡ helped_app) }
+{
+    let program = with_printing(alloc, Ok(helped_bare_app(alloc)));
+    with_files(alloc, program)
 }

@@ -12,12 +12,12 @@ use std::alloc::{AllocError, Global};
 // The turns of a print that names none: about eleven days if nothing is heard.
 const TURNS: u64 = 1_000_000_000;
 
-const MOST_TURNS: u64 = 4_000_000_000_000;
+pub(crate) const MOST_TURNS: u64 = 4_000_000_000_000;
 
 const MOST_DIGITS: usize = 13;
 
 // The text of an argument.
-fn text_in<'a>(found: &ArgMatches<'a>, id: &str) -> Option<&'a str>
+pub(crate) fn text_in<'a>(found: &ArgMatches<'a>, id: &str) -> Option<&'a str>
     ensures { option_map (λ s. s.now) result ≡ first_of id.now (rows_of (found_of found.now)) }
 {
     found.get_str(id)
@@ -52,7 +52,7 @@ pub(crate) fn optional_file_in(
 }
 
 // A text as a name.
-fn name_of(text: &str) -> Option<Name>
+pub(crate) fn name_of(text: &str) -> Option<Name>
     ensures { result ≡ name_of text.now }
 {
     if text.is_empty() {
@@ -83,7 +83,7 @@ fn in_range(least: u64, most: u64, number: u64) -> Option<u64>
 }
 
 // A text of 1 to 13 digits as a number from `least` to `most`.
-fn number_of(least: u64, most: u64, text: &str) -> Option<u64>
+pub(crate) fn number_of(least: u64, most: u64, text: &str) -> Option<u64>
     ensures { result ≡ number_of least most text.now }
 {
     match whole_number(text, MOST_DIGITS) {

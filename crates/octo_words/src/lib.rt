@@ -6,6 +6,8 @@ mod command;
 mod fields;
 mod parse;
 mod read;
+mod remark;
 
 pub use command::{Command, FilePath, WordsFault};
 pub use read::read_words;
+pub use remark::{Remark, remark_on};

@@ -10,11 +10,11 @@ use clap::ArgMatches;
 use octo_outside::WordList;
 use std::alloc::Global;
 
-const MOST_SEED: u64 = 2_147_483_647;
+pub(crate) const MOST_SEED: u64 = 2_147_483_647;
 
-const MOST_COMMANDS: u64 = 200_000;
+pub(crate) const MOST_COMMANDS: u64 = 200_000;
 
-const MOST_PLACE: u64 = 9_999_999_999_999;
+pub(crate) const MOST_PLACE: u64 = 9_999_999_999_999;
 
 fn read_print(alloc: Global, found: &ArgMatches<'_>) -> Result<Command, WordsFault>
     ensures read { Reads (print_of (rows_of (found_of found.now))) result }

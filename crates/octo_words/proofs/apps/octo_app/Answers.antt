@@ -1,11 +1,6 @@
-use Rattle.clap.specs.Words.{App, with_subcommand}
-use Rattle.octo_words.specs.Apps.{printing_app, measure_app, rest_app, serve_app}
+use Rattle.octo_words.specs.Apps.{bare_app, with_commands, printing_commands}
 use Rattle.octo_words.proofs.apps.octo_app.Goals as goal
 
 pub returns : goal.returns
 returns c =
-    let with_measure : App = with_subcommand printing_app measure_app.top in
-    let with_rest : App = with_subcommand with_measure rest_app.top in
-    let first = c.with_command-program.ensures printing_app measure_app c.printing_app.ensures c.measure_app.ensures.app in
-    let second = c.with_command-program-2.ensures with_measure rest_app first c.rest_app.ensures.app in
-    c.with_command.ensures with_rest serve_app second c.serve_app.ensures.app
+    c.with_files.ensures (with_commands bare_app printing_commands) (c.with_printing-program.ensures bare_app c.bare_app.ensures.app)
