@@ -159,6 +159,7 @@ pub hosts : (patience : ℕ) (old new : Setting) (doors doors' : Doors DoorState
 hosts patience old new doors doors' calls held known ran ended mines four served = record {
   ran = ran;
   ended = ended;
+  of_four = four;
   mines = mines;
   served = served;
   why = ends_by patience doors doors' known.history held calls _ served four ran.over;

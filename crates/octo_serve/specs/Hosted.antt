@@ -4,7 +4,7 @@ use Rattle.octo_outside.specs.Recorded.{Became}
 use Rattle.octo_outside_doors.specs.declared.door.Doors.{Doors}
 use Rattle.octo_asks.specs.History.{History}
 use Rattle.hand_over.specs.Ends.{HistoryData}
-use Rattle.hand_over.specs.Views.{AreCalls, has_close}
+use Rattle.hand_over.specs.Views.{AreCalls, all_of_four, has_close}
 use Rattle.octo_house_rules.specs.Counted.{is_shut}
 use Rattle.octo_house_rules.specs.Faults.{AreCounted}
 use Rattle.octo_house_rules.specs.LinkUse.{UsesLink}
@@ -61,6 +61,8 @@ pub record Ran (old new : Setting) (past past' : Option History) (calls : ℕ) :
 pub record HasHosted (patience : ℕ) (old new : Setting) (doors doors' : Doors DoorState) (calls : ℕ) (all_held : Bool) (known : HistoryData) : Type 0 where
   pub ran : Ran old new (Some []) (Some known.history) calls
   pub ended : has_close known.history ≡ true
+  -- each call is one of the four workers'
+  pub of_four : all_of_four known.history ≡ true
   -- each worker's calls are in the history once, in their order, and are those that its door's connections led to
   pub mines : AreCalls known.history 0 known.mines
   pub served : AreServed patience doors doors' known.history all_held
