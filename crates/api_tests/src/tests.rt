@@ -2,6 +2,7 @@
 ghost use Rattle.std.specs.Prelude.{IfOk};
 ghost use Rattle.octo_outside_doors.specs.Memory.{IsUntouched};
 
+mod clients;
 mod replies;
 mod requests;
 mod routes;

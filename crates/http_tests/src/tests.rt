@@ -2,6 +2,7 @@
 mod chunks;
 mod cuts;
 mod heads;
+mod keys;
 mod lengths;
 mod limits;
 mod parts;

@@ -1,6 +1,7 @@
 pub mod Items
 pub mod Objects
 pub mod Pages
+pub mod Reasons
 pub mod Refusals
 pub mod Replies
 pub mod Texts

@@ -7,14 +7,16 @@
 mod direct;
 mod items;
 mod lists;
+mod methods;
 mod objects;
 mod pages;
 mod printer;
+mod reasons;
 mod refusals;
 mod replies;
 mod status;
 mod texts;
 mod written;
 
-pub use direct::{direct_bytes, fault_bytes};
+pub use direct::{direct_bytes, fault_bytes, out_of_memory};
 pub use replies::to_bytes;

@@ -3,17 +3,18 @@ ghost use Rattle.std.specs.Prelude.{◌≡◌, IfOk};
 ghost use Rattle.serde_json.specs.View.{view, members_view};
 ghost use Rattle.octo_api_replies.specs.Objects.{primitive_data};
 ghost use Rattle.octo_api_replies.specs.Pages.{version_data, current_data, options_data, text_or_null, connection_data, selected_data, printed_data, progress_data, course_members, job_data, stored_place, uploaded_data, stored_data};
-ghost use Rattle.octo_api_replies.specs.Replies.{json_reply, stored_reply};
+ghost use Rattle.octo_asks.specs.declared.answer.Answer.TheVariants as answer;
+ghost use Rattle.octo_api_replies.specs.Replies.{json_reply, stored_reply, location_line, reply_of};
 
 use crate::lists::list_of;
 use crate::objects::{Members, Primitive, members_of, object_of, object_with, pair, with_member};
 use crate::status::{CREATED, INSUFFICIENT_STORAGE, OK, SERVICE_UNAVAILABLE};
 use crate::texts::{KEEPER_FAULT, state_text};
 use crate::written::{json_reply, object_reply, object_reply_with};
-use byte_text::Name;
+use byte_text::{Name, append};
 use job_desk::State;
 use octo_asks::{Progress, ShownFile, StoredCause};
-use octo_http::HttpReply;
+use octo_http::{FieldLines, HttpReply};
 use serde_json::Value;
 use std::alloc::{AllocError, Global};
 
@@ -201,8 +202,19 @@ fn stored_place(alloc: Global, name: &Name) -> Result<Value, AllocError>
     object_with(alloc, &[], "local", place)
 }
 
-// An upload. Source: OctoPrint's REST API, file operations.
-pub(crate) fn uploaded_reply(
+// The field with the path of a file that was stored. Source: RFC 9110, section 10.2.2.
+fn location_line(name: &Name) -> FieldLines
+    ensures { result.items ≡ location_line name.now }
+{
+    let mut line = FieldLines::new();
+    append(&mut line, b"Location: /api/files/local/");
+    append(&mut line, name.as_bytes());
+    append(&mut line, b"\r\n");
+    line
+}
+
+// An upload, without its field.
+fn uploaded_page(
     alloc: Global,
     name: &Name,
     select: bool,
@@ -223,6 +235,20 @@ pub(crate) fn uploaded_reply(
         "files",
         files,
     )
+}
+
+// An upload. Source: OctoPrint's REST API, file operations.
+pub(crate) fn uploaded_reply(
+    alloc: Global,
+    name: &Name,
+    select: bool,
+    print: bool,
+) -> Result<HttpReply, AllocError>
+    ensures { IfOk result (λ reply. reply ≡ reply_of (answer.Uploaded name.now select print)) }
+{
+    let mut reply = uploaded_page(alloc, name, select, print)?;
+    reply.fields = location_line(name);
+    Ok(reply)
 }
 
 // An upload whose print was not started for this cause.

@@ -9,7 +9,7 @@ use crate::refusals::refusal_reply;
 use crate::status::{CREATED, OK};
 use crate::written::{item_reply, list_reply};
 use octo_asks::Answer;
-use octo_http::{HttpReply, NO_CONTENT, ReplyKind};
+use octo_http::{FieldLines, HttpReply, NO_CONTENT, ReplyKind};
 use octo_outside::Blob;
 use std::alloc::{AllocError, Global};
 
@@ -20,6 +20,7 @@ fn bytes_reply(bytes: Blob) -> HttpReply
     HttpReply {
         status: OK,
         kind: ReplyKind::Bytes,
+        fields: FieldLines::new(),
         body: bytes,
     }
 }

@@ -10,7 +10,7 @@ ghost use Rattle.octo_api_replies.specs.Replies.{json_reply};
 use crate::lists::{ToJson, list_of};
 use crate::objects::{Primitive, object_of, object_with};
 use crate::status::OK;
-use octo_http::{HttpReply, ReplyKind};
+use octo_http::{FieldLines, HttpReply, ReplyKind};
 use octo_outside::Blob;
 use serde_json::Value;
 use std::alloc::{AllocError, Global};
@@ -24,6 +24,7 @@ pub(crate) fn json_reply(alloc: Global, status: u16, value: Value) -> Result<Htt
     Ok(HttpReply {
         status,
         kind: ReplyKind::Json,
+        fields: FieldLines::new(),
         body: Blob::from_vec(text),
     })
 }

@@ -9,10 +9,13 @@ use Rattle.octo_asks.specs.declared.request.Request.{Request}
 use Rattle.octo_api_routes.specs.declared.direct.Direct.{Direct}
 use Rattle.octo_api_routes.specs.declared.direct.Direct.TheVariants as direct
 use Rattle.octo_api_routes.specs.declared.wanted.Form.{Form}
+use Rattle.octo_api_routes.specs.declared.direct.BodyFault.{BodyFault}
+use Rattle.octo_api_requests.specs.declared.unread.Unread.{Unread}
 use Rattle.octo_api_requests.specs.Fields.{Gives}
+use Rattle.octo_api_requests.specs.BodyFaults.{fault_in}
 use Rattle.octo_api_requests.specs.Bodies.{asked_in}
 use Rattle.octo_api_requests.specs.Uploads.{form_asked}
-use Rattle.octo_api_requests.specs.Requests.{IsJson, json, no_json, or_bad, asked_json, asked_body}
+use Rattle.octo_api_requests.specs.Requests.{IsJson, json, no_json, or_bad, refusal_of, asked_json, asked_body}
 
 -- a body is one JSON, or none
 pub one_json : (body : List ℕ) (a b : Option Data) → IsJson body a → IsJson body b → a ≡ b
@@ -21,19 +24,23 @@ one_json body (Some a) None (json _ u e) (no_json h) = sym e ∙ h u
 one_json body None (Some b) (no_json h) (json _ u e) = sym (h u) ∙ e
 one_json body None None (no_json h) (no_json k) = refl
 
--- a reading returns a request, or BadBody
-pub gives_one : (read : Option Request) (result : Result Request Direct) → Gives read result → (result ≡ Err direct.NoMemory) ⊎ (result ≡ or_bad read)
-gives_one read (Ok request) e = inr (sym (ap or_bad e))
-gives_one read (Err e) (inl none) = inl (ap Err none)
-gives_one read (Err e) (inr h) = inr (ap Err h.1 ∙ sym (ap or_bad h.0))
+-- a reading returned a request
+pub gives_read : (fault : BodyFault) (read : Option Request) (request : Request) → Gives read (Ok request) → Ok request ≡ or_bad fault read
+gives_read fault read request e = sym (ap (or_bad fault) e)
+
+-- a reading returned nothing, or memory ran out
+pub gives_none : (fault : BodyFault) (read : Option Request) (why : Unread) (result : Result Request Direct) → result ≡ Err (refusal_of why fault)
+    → Gives read (Err why) → (result ≡ Err direct.NoMemory) ⊎ (result ≡ or_bad fault read)
+gives_none fault read why result is (inl e) = inl (is ∙ ap (λ u. Err (refusal_of u fault)) e)
+gives_none fault read why result is (inr h) = inr (is ∙ ap (λ u. Err (refusal_of u fault)) h.1 ∙ sym (ap (or_bad fault) h.0))
 
 json_asks : (form : Form) (body : List ℕ) (d : Data) (value : Option Data) → nat_lt 1048576 (length body) ≡ false → Some d ≡ value
-    → or_bad (asked_in form d) ≡ asked_body form body value
+    → or_bad (fault_in form d) (asked_in form d) ≡ asked_body form body value
 json_asks form body d value small e = rw small (ap (asked_json form) e)
 
 -- what is read from a body's JSON is what the body asks
 pub asks_one : (form : Form) (body : List ℕ) (d : Data) (result : Result Request Direct)
-    → nat_lt 1048576 (length body) ≡ false → IsJson body (Some d) → (result ≡ Err direct.NoMemory) ⊎ (result ≡ or_bad (asked_in form d))
+    → nat_lt 1048576 (length body) ≡ false → IsJson body (Some d) → (result ≡ Err direct.NoMemory) ⊎ (result ≡ or_bad (fault_in form d) (asked_in form d))
     → (result ≡ Err direct.NoMemory) ⊎ ((value : Option Data) → IsJson body value → result ≡ asked_body form body value)
 asks_one form body d result small is (inl e) = inl e
 asks_one form body d result small is (inr e) =

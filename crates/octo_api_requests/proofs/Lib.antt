@@ -1,4 +1,5 @@
 pub mod Asked
 pub mod Cleaned
+pub mod Filling
 pub mod Items
 pub mod Others

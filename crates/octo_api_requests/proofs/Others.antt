@@ -3,7 +3,7 @@ use Rattle.std.proofs.Common.{◌≡◌, ◌≢◌, ℕ, Bool, true, false, List
 use Rattle.std.specs.Prelude.{if◌then◌else◌, option_map, option_and_then, codes, is_some}
 use Rattle.arrayvec.specs.ArrayVec.{ArrayVec}
 use Rattle.serde_json.specs.Data.{Data}
-use Rattle.serde_json.specs.Find.{get, as_str, as_bool}
+use Rattle.serde_json.specs.Find.{get, as_bool, as_object}
 use Rattle.octo_asks.specs.declared.request.Request.{Request}
 use Rattle.octo_asks.specs.declared.request.Request.TheVariants as request
 use Rattle.octo_api_routes.specs.declared.direct.Direct.{Direct}
@@ -11,8 +11,9 @@ use Rattle.octo_api_routes.specs.declared.wanted.Form.{Form}
 use Rattle.octo_api_routes.specs.declared.wanted.Form.TheVariants as form
 use Rattle.octo_api_routes.specs.declared.wanted.Wanted.{Wanted}
 use Rattle.octo_api_routes.specs.declared.wanted.Wanted.TheVariants.{Nothing}
-use Rattle.octo_api_requests.specs.Fields.{Gives, or_default, text_at, is_text_at, whole_at, flag_at, name_at, file_at, as_key, as_list}
-use Rattle.octo_api_requests.specs.Bodies.{as_port, degrees_at, one_line, pause_asked, as_groups, optional, asked_in}
+use Rattle.octo_api_requests.specs.declared.unread.Unread.{Unread}
+use Rattle.octo_api_requests.specs.Fields.{Gives, or_default, is_text_at, whole_at, flag_at, name_at, file_at, as_key, as_list}
+use Rattle.octo_api_requests.specs.Bodies.{as_port, degrees_at, as_command, one_line, pause_asked, as_groups, optional, asked_in}
 use Rattle.octo_api_requests.specs.Callers.{IsCallers, WantsCallers}
 
 -- what each form asks, by the readings of its fields
@@ -79,12 +80,13 @@ user_is (Some n) (Some k) None active = tt
 user_is (Some n) None groups active = tt
 user_is None key groups active = tt
 
-change_is : (name : List ℕ) (key : Option (Option (List ℕ))) (groups : Option (Option (ArrayVec (List ℕ)))) (active : Option (Option Bool))
-    → IfSome (option_and_then (λ k. option_and_then (λ g. option_map (request.ChangeUser name k g) active) groups) key) IsCallers
-change_is name (Some k) (Some g) (Some a) = λ e. cc
-change_is name (Some k) (Some g) None = tt
-change_is name (Some k) None active = tt
-change_is name None groups active = tt
+change_is : (name : List ℕ) (object : Bool) (key : Option (Option (List ℕ))) (groups : Option (Option (ArrayVec (List ℕ)))) (active : Option (Option Bool))
+    → IfSome (if object then option_and_then (λ k. option_and_then (λ g. option_map (request.ChangeUser name k g) active) groups) key else None) IsCallers
+change_is name true (Some k) (Some g) (Some a) = λ e. cc
+change_is name true (Some k) (Some g) None = tt
+change_is name true (Some k) None active = tt
+change_is name true None groups active = tt
+change_is name false key groups active = tt
 
 entry_is : (name file : Option (List ℕ)) (priority copies : Option ℕ) (material : Option (List ℕ))
     → IfSome (option_and_then (λ n. option_and_then (λ f. option_and_then (λ p. option_and_then (λ c.
@@ -103,7 +105,8 @@ form_callers form.Connection body = connection_is (is_text_at (codes "command") 
 form_callers form.Tool body = tool_is (is_text_at (codes "command") (codes "target") body) (get (codes "targets") body) (degrees_at (codes "tool0"))
 form_callers form.Bed body = bed_is (is_text_at (codes "command") (codes "target") body) (degrees_at (codes "target") body)
 form_callers form.Lines body = lines_is (is_some (get (codes "commands") body)) (is_some (get (codes "command") body))
-    (option_and_then (as_list as_str 1 256) (get (codes "commands") body)) (text_at (codes "command") body)
+    (option_and_then (as_list (as_command (get (codes "parameters") body)) 1 256) (get (codes "commands") body))
+    (option_and_then (as_command (get (codes "parameters") body)) (get (codes "command") body))
 form_callers form.Job body = job_is (is_text_at (codes "command") (codes "start") body) (is_text_at (codes "command") (codes "cancel") body)
     (is_text_at (codes "command") (codes "restart") body) (is_text_at (codes "command") (codes "pause") body) (pause_asked body)
     (pause_is (is_some (get (codes "action") body)) (is_text_at (codes "action") (codes "pause") body)
@@ -112,14 +115,14 @@ form_callers (form.SelectFile name) body =
     selection_is name (is_text_at (codes "command") (codes "select") body) (flag_at (codes "print") false body)
 form_callers form.PutUser body = user_is (name_at (codes "name") None body) (option_and_then as_key (get (codes "key") body))
     (option_and_then as_groups (get (codes "groups") body)) (flag_at (codes "active") true body)
-form_callers (form.ChangeUser name) body = change_is name (optional as_key (get (codes "key") body)) (optional as_groups (get (codes "groups") body))
+form_callers (form.ChangeUser name) body = change_is name (is_some (as_object body)) (optional as_key (get (codes "key") body)) (optional as_groups (get (codes "groups") body))
     (optional as_bool (get (codes "active") body))
 form_callers form.PutEntry body = entry_is (name_at (codes "name") None body) (file_at (codes "file") body)
     (whole_at (codes "priority") 0 100 (Some 0) body) (whole_at (codes "copies") 1 100 (Some 1) body)
     (name_at (codes "material") (Some (codes "any")) body)
 
 -- what is read from a body
-pub body_callers : (f : Form) (body : Data) (result : Result Request Direct) → Gives (asked_in f body) result → IfOk result IsCallers
+pub body_callers : (f : Form) (body : Data) (result : Result Request Unread) → Gives (asked_in f body) result → IfOk result IsCallers
 body_callers f body (Ok request) gives = subst (λ (read : Option Request). IfSome read IsCallers) gives (form_callers f body)
 body_callers f body (Err e) gives = tt
 

@@ -2,20 +2,25 @@
 use Rattle.std.specs.Prelude.{ℕ, Bool, true, false, List, [], ◌∷◌, length, nat_le, ◌&&◌, codes, if◌then◌else◌, Option, Some, None, option_map, option_and_then, is_some}
 use Rattle.arrayvec.specs.ArrayVec.{ArrayVec}
 use Rattle.serde_json.specs.Data.{Data}
-use Rattle.serde_json.specs.Find.{get, as_str, as_bool}
+use Rattle.std.specs.Str.{bytes_eq}
+use Rattle.serde_json.specs.Find.{get, as_null, as_str, as_bool, as_object}
 use Rattle.octo_asks.specs.declared.request.Request.{Request}
 use Rattle.octo_asks.specs.declared.request.Request.TheVariants as request
 use Rattle.octo_api_routes.specs.declared.wanted.Form.{Form}
 use Rattle.octo_api_routes.specs.declared.wanted.Form.TheVariants as form
-use Rattle.octo_api_requests.specs.Fields.{or_default, text_at, is_text_at, whole_at, flag_at, as_name, name_at, file_at, as_key, as_list}
+use Rattle.octo_api_requests.specs.Filled.{filled}
+use Rattle.octo_api_requests.specs.Fields.{or_default, is_text_at, whole_at, flag_at, as_name, name_at, file_at, as_key, as_list}
 
--- a port's name: 1 to 100 bytes
+-- a port's name: 1 to 100 bytes; `AUTO` names none
 abbrev pub port_name : List ℕ → Option (Option (List ℕ))
-port_name text = if nat_le 1 (length text) && nat_le (length text) 100 then Some (Some text) else None
+port_name text =
+    if bytes_eq text (codes "AUTO") then Some None
+    else if nat_le 1 (length text) && nat_le (length text) 100 then Some (Some text)
+    else None
 
--- a JSON text as the name of a port
+-- a JSON text as the name of a port; null names none
 abbrev pub as_port : Data → Option (Option (List ℕ))
-as_port found = option_and_then port_name (as_str found)
+as_port found = if is_some (as_null found) then Some None else option_and_then port_name (as_str found)
 
 -- what a body about the connection asks
 abbrev pub connection_asked : Data → Option Request
@@ -66,6 +71,11 @@ selection_asked name body =
     then option_map (request.SelectFile name) (flag_at (codes "print") false body)
     else None
 
+-- a command as it is sent: with `parameters` in the place of their names
+abbrev pub as_command : Option Data → Data → Option (List ℕ)
+as_command None found = as_str found
+as_command (Some parameters) found = option_and_then (filled parameters) (as_str found)
+
 -- a request to issue one command
 abbrev pub one_line : List ℕ → Request
 one_line text = request.Lines (text ∷ [])
@@ -75,8 +85,8 @@ abbrev pub lines_asked : Data → Option Request
 lines_asked body =
     if is_some (get (codes "commands") body)
     then if is_some (get (codes "command") body) then None
-    else option_map request.Lines (option_and_then (as_list as_str 1 256) (get (codes "commands") body))
-    else option_map one_line (text_at (codes "command") body)
+    else option_map request.Lines (option_and_then (as_list (as_command (get (codes "parameters") body)) 1 256) (get (codes "commands") body))
+    else option_map one_line (option_and_then (as_command (get (codes "parameters") body)) (get (codes "command") body))
 
 -- up to 8 groups
 abbrev pub as_groups : Data → Option (ArrayVec (List ℕ))
@@ -98,15 +108,17 @@ user_asked body =
 abbrev pub optional : {A : Type 0} → (Data → Option A) → Option Data → Option (Option A)
 optional read found = or_default (Some None) (λ value. option_map Some (read value)) found
 
--- a change of a user; what is missing stays as it is
+-- a change of a user, which is an object; what is missing stays as it is
 abbrev pub change_asked : List ℕ → Data → Option Request
 change_asked name body =
-    option_and_then (λ key.
+    if is_some (as_object body)
+    then option_and_then (λ key.
     option_and_then (λ groups.
     option_map (request.ChangeUser name key groups)
     (optional as_bool (get (codes "active") body)))
     (optional as_groups (get (codes "groups") body)))
     (optional as_key (get (codes "key") body))
+    else None
 
 -- a new entry of the queue
 abbrev pub entry_asked : Data → Option Request

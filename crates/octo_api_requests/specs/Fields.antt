@@ -1,21 +1,24 @@
 -- The fields of JSON bodies. A missing field may have a default; a null isn't missing.
-use Rattle.std.specs.Prelude.{◌≡◌, ◌⊎◌, ℕ, Bool, true, false, ◌&&◌, nat_le, List, [], ◌∷◌, length, if◌then◌else◌, Option, Some, None, option_map, option_and_then, Result, Ok, Err}
-use Rattle.std.specs.Option.{option_map_or}
+use Rattle.std.specs.Prelude.{◌≡◌, ◌⊎◌, ℕ, Bool, true, false, ◌&&◌, nat_le, List, [], ◌∷◌, length, if◌then◌else◌, pos, Float, Option, Some, None, option_map, option_and_then, is_some, Result, Ok, Err}
+use Rattle.std.specs.Option.{option_map_or, option_or}
+use Rattle.std.specs.Int.{w32}
+use Rattle.std.specs.Float.{binary64, float_to_unsigned}
+use Rattle.std.specs.Float.Ieee.{eq, of_int}
 use Rattle.std.specs.Str.{bytes_eq}
 use Rattle.serde_json.specs.Data.{Data, Items, no_items, item}
 use Rattle.serde_json.specs.Events.{items_len}
-use Rattle.serde_json.specs.Find.{get, as_str, as_bool, as_number, as_u64, as_array}
+use Rattle.serde_json.specs.Find.{get, as_str, as_bool, as_number, as_u64, to_float, as_array}
 use Rattle.octo_access.specs.Names.{name_of}
-use Rattle.octo_api_routes.specs.declared.direct.Direct.{Direct}
-use Rattle.octo_api_routes.specs.declared.direct.Direct.TheVariants as direct
+use Rattle.octo_api_requests.specs.declared.unread.Unread.{Unread}
+use Rattle.octo_api_requests.specs.declared.unread.Unread.TheVariants as unread
 use Rattle.octo_access.specs.FileNames.{file_name_of}
 use Rattle.octo_api_routes.specs.Ascii.{is_key}
 use Rattle.byte_text.specs.Number.{in_range}
 
--- a result is what a reading returns, BadBody if it returns nothing; memory may run out
-abbrev pub Gives : {A : Type 0} → Option A → Result A Direct → Type 0
+-- a result is what a reading returns, Wrong if it returns nothing; memory may run out
+abbrev pub Gives : {A : Type 0} → Option A → Result A Unread → Type 0
 Gives read (Ok a) = read ≡ Some a
-Gives read (Err e) = (e ≡ direct.NoMemory) ⊎ ((read ≡ None) × (e ≡ direct.BadBody))
+Gives read (Err e) = (e ≡ unread.NoMemory) ⊎ ((read ≡ None) × (e ≡ unread.Wrong))
 
 -- a reading of a field that may be missing
 abbrev pub or_default : {A : Type 0} → Option A → (Data → Option A) → Option Data → Option A
@@ -30,9 +33,13 @@ text_at key body = option_and_then as_str (get key body)
 abbrev pub is_text_at : List ℕ → List ℕ → Data → Bool
 is_text_at key text body = option_map_or (λ found. bytes_eq found text) (text_at key body) false
 
--- a whole number
+-- the whole number of 32 bits whose value a float has
+abbrev pub whole_float : Float → Option ℕ
+whole_float x = if eq (of_int binary64 (pos (float_to_unsigned w32 x))) x then Some (float_to_unsigned w32 x) else None
+
+-- a whole number; one that is written with a point or an exponent counts by its value
 abbrev pub as_whole : Data → Option ℕ
-as_whole found = option_and_then as_u64 (as_number found)
+as_whole found = option_or (option_and_then as_u64 (as_number found)) (option_and_then whole_float (option_map to_float (as_number found)))
 
 -- a whole number in a range
 abbrev pub as_whole_in : ℕ → ℕ → Data → Option ℕ
@@ -82,6 +89,10 @@ in_bounds least most items = if nat_le least (items_len items) && nat_le (items_
 -- the items of a JSON list, if their number is in a range
 abbrev pub items_in : ℕ → ℕ → Data → Option Items
 items_in least most found = option_and_then (in_bounds least most) (as_array found)
+
+-- a JSON list of 1 to 256 texts
+abbrev pub are_texts : Data → Bool
+are_texts found = is_some (option_and_then (all_of as_str) (items_in 1 256 found))
 
 -- the items as they are read, if each can be read and their number is in a range
 abbrev pub as_list : {A : Type 0} → (Data → Option A) → ℕ → ℕ → Data → Option (List A)

@@ -1,6 +1,6 @@
 -- What uploads ask.
-use Rattle.std.specs.Prelude.{ℕ, ◌==◌, Bool, ◌||◌, List, [], ◌∷◌, length, map, nat_le, if◌then◌else◌, not, Option, Some, None, Result, Ok, Err}
-use Rattle.std.specs.List.{after_last}
+use Rattle.std.specs.Prelude.{ℕ, ◌==◌, Bool, ◌||◌, List, [], ◌∷◌, ◌++◌, length, map, take, nat_le, if◌then◌else◌, not, Option, Some, None, Result, Ok, Err}
+use Rattle.std.specs.List.{after_last, list_all}
 use Rattle.octo_access.specs.Names.{is_name_byte}
 use Rattle.octo_asks.specs.declared.request.Request.{Request}
 use Rattle.octo_asks.specs.declared.request.Request.TheVariants as request
@@ -11,7 +11,11 @@ use Rattle.octo_http_forms.specs.declared.types.PartFault.{PartFault}
 use Rattle.octo_http_forms.specs.declared.types.PartFault.TheVariants as part_fault
 use Rattle.octo_api_routes.specs.declared.direct.Direct.{Direct}
 use Rattle.octo_api_routes.specs.declared.direct.Direct.TheVariants as direct
+use Rattle.octo_api_routes.specs.declared.direct.BodyFault.TheVariants as body_fault
+use Rattle.octo_api_routes.specs.declared.direct.MediaFault.TheVariants as media_fault
 use Rattle.octo_access.specs.FileNames.{is_gcode}
+use Rattle.octo_api_routes.specs.Ascii.{is_ascii_byte}
+use Rattle.octo_api_requests.specs.Marked.{marked}
 
 -- a slash or a backslash
 abbrev pub is_separator : ℕ → Bool
@@ -34,16 +38,35 @@ abbrev pub clean_start : List ℕ → List ℕ
 clean_start [] = []
 clean_start (byte ∷ bytes) = start_byte byte ∷ bytes
 
--- the name that an uploaded file gets from its filename
-abbrev pub stored_name : List ℕ → List ℕ
-stored_name filename = clean_start (map clean_byte (without_folders filename))
+-- a name as it was sent, after the folder of its form if that isn't empty
+abbrev pub sent_name : List ℕ → List ℕ → List ℕ
+sent_name [] name = name
+sent_name (byte ∷ bytes) name = (byte ∷ bytes) ++ 47 ∷ name
 
--- a stored file's name: its ending is tested first, then its length
+-- a sent name with the bytes that a name may have
+abbrev pub cleaned : List ℕ → List ℕ
+cleaned sent = clean_start (map clean_byte sent)
+
+-- a name that isn't too long
+abbrev pub short_name : List ℕ → Result (List ℕ) Direct
+short_name name = if nat_le (length name) 100 then Ok name else Err (direct.BadBody (body_fault.LongName (length name)))
+
+-- the name of a stored file: its ending is tested first. One that was sent with bytes beyond ASCII gets a mark, another is tested for
+-- its length
 abbrev pub checked_name : List ℕ → Result (List ℕ) Direct
-checked_name name =
-    if not (is_gcode name) then Err direct.BadMedia
-    else if nat_le (length name) 100 then Ok name
-    else Err direct.BadBody
+checked_name sent =
+    if not (is_gcode (cleaned sent)) then Err (direct.BadMedia (media_fault.NoEnding (take 100 (cleaned sent))))
+    else if list_all is_ascii_byte sent then short_name (cleaned sent)
+    else short_name (marked sent (cleaned sent))
+
+-- the name that an uploaded file gets from the folder of its form and its filename
+abbrev pub stored_name : List ℕ → List ℕ → Result (List ℕ) Direct
+stored_name folder filename = checked_name (sent_name folder (without_folders filename))
+
+-- the folder of a form, empty if it has none
+abbrev pub folder_of : List ℕ → Option Span → List ℕ
+folder_of body None = []
+folder_of body (Some folder) = text_at body folder
 
 -- the request to store a file under a name, or why the name is refused
 abbrev pub put_file : Parts → List ℕ → Result (List ℕ) Direct → Result Request Direct
@@ -52,15 +75,15 @@ put_file parts bytes (Err e) = Err e
 
 -- what the parts of a form ask; without a file they ask nothing
 abbrev pub file_asked : List ℕ → Parts → Option Span → Option Span → Result Request Direct
-file_asked body parts (Some name) (Some file) = put_file parts (text_at body file) (checked_name (stored_name (text_at body name)))
-file_asked body parts None file = Err direct.BadBody
-file_asked body parts (Some name) None = Err direct.BadBody
+file_asked body parts (Some name) (Some file) = put_file parts (text_at body file) (stored_name (folder_of body parts.folder) (text_at body name))
+file_asked body parts None file = Err (direct.BadBody body_fault.NoFile)
+file_asked body parts (Some name) None = Err (direct.BadBody body_fault.NoFile)
 
 -- what a body that is no such form is refused by
 abbrev pub refused_by : PartFault → Direct
-refused_by part_fault.NoBoundary = direct.BadMedia
-refused_by part_fault.NoClose = direct.BadBody
-refused_by (part_fault.BadPart at) = direct.BadBody
+refused_by part_fault.NoBoundary = direct.BadMedia media_fault.NoForm
+refused_by part_fault.NoClose = direct.BadBody body_fault.NoClose
+refused_by (part_fault.BadPart at) = direct.BadBody body_fault.BadPart
 
 -- what a form asks
 abbrev pub form_asked : List ℕ → Result Parts PartFault → Result Request Direct

@@ -4,10 +4,11 @@ ghost use Rattle.serde_json.specs.View.{view};
 ghost use Rattle.octo_api_requests.specs.Fields.{Gives};
 ghost use Rattle.octo_api_requests.specs.Bodies.{as_port, connection_asked, tool_asked, bed_asked, pause_asked, job_asked, selection_asked, lines_asked, asked_in, takes_memory};
 
-use crate::Direct;
+use crate::commands::command_of;
 use crate::entry_body::entry_of;
-use crate::fields::{degrees_at, flag_at, is_text_at, text_at};
+use crate::fields::{degrees_at, flag_at, is_text_at};
 use crate::lists::as_lines;
+use crate::unread::Unread;
 use crate::user_bodies::{change_of, user_of};
 use byte_text::Name;
 use octo_api_routes::Form;
@@ -16,11 +17,17 @@ use octo_outside::Blob;
 use serde_json::Value;
 use std::alloc::Global;
 
-// A port's name: 1 to 100 bytes.
+// A port's name: 1 to 100 bytes. Null and `AUTO` name none, as OctoPrint takes them.
 fn port_of(found: &Value) -> Option<Option<Name>>
     ensures { result ≡ as_port (view found.now) }
 {
+    if found.is_null() {
+        return Some(None);
+    }
     let text = found.as_str()?;
+    if text == "AUTO" {
+        return Some(None);
+    }
     if text.is_empty() {
         return None;
     }
@@ -119,28 +126,30 @@ fn selection_of(name: &Name, body: &Value) -> Option<Request>
 }
 
 // A list of this line alone.
-fn one_line(alloc: Global, text: &str) -> Result<BlobList, Direct>
-    ensures { Gives (Some (text.now ∷ [])) result }
+fn one_line(alloc: Global, text: Blob) -> Result<BlobList, Unread>
+    ensures { Gives (Some (text ∷ [])) result }
 {
     let mut texts = BlobList::new(alloc);
-    texts.push(Blob::from_slice(alloc, text.as_bytes())?)?;
+    texts.push(text)?;
     Ok(texts)
 }
 
 // What a body asks to send: one line, or 1 to 256, and not both.
-fn lines_of(alloc: Global, body: &Value) -> Result<Request, Direct>
+fn lines_of(alloc: Global, body: &Value) -> Result<Request, Unread>
     ensures { Gives (lines_asked (view body.now)) result }
 {
+    let parameters = body.get("parameters");
     if let Some(found) = body.get("commands") {
         if body.get("command").is_some() {
-            return Err(Direct::BadBody);
+            return Err(Unread::Wrong);
         }
-        let texts = as_lines(alloc, found)?;
+        let texts = as_lines(alloc, parameters, found)?;
         return Ok(Request::Lines { texts });
     }
-    let Some(text) = text_at(body, "command") else {
-        return Err(Direct::BadBody);
+    let Some(found) = body.get("command") else {
+        return Err(Unread::Wrong);
     };
+    let text = command_of(alloc, parameters, found)?;
     let texts = one_line(alloc, text)?;
     Ok(Request::Lines { texts })
 }
@@ -161,24 +170,24 @@ fn request_of_form(form: &Form, body: &Value) -> Option<Request>
     }
 }
 
-// What a reading returns, BadBody if it returns nothing.
-fn or_bad_body(read: Option<Request>) -> Result<Request, Direct>
+// What a reading returns, or that the JSON is wrong if it returns nothing.
+fn or_wrong(read: Option<Request>) -> Result<Request, Unread>
     ensures { Gives read result }
 {
     match read {
         Some(request) => Ok(request),
-        None => Err(Direct::BadBody),
+        None => Err(Unread::Wrong),
     }
 }
 
 // What a body asks in a form.
-pub(crate) fn asked_in(alloc: Global, form: &Form, body: &Value) -> Result<Request, Direct>
+pub(crate) fn asked_in(alloc: Global, form: &Form, body: &Value) -> Result<Request, Unread>
     ensures { Gives (asked_in form.now (view body.now)) result }
 {
     match form {
         Form::Lines => lines_of(alloc, body),
         Form::PutUser => user_of(alloc, body),
         Form::ChangeUser { name } => change_of(alloc, name, body),
-        _ => or_bad_body(request_of_form(form, body)),
+        _ => or_wrong(request_of_form(form, body)),
     }
 }

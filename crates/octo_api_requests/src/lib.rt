@@ -4,13 +4,17 @@
 #![tactic(auto)]
 
 mod bodies;
+mod body_faults;
+mod commands;
 mod entry_body;
 mod fields;
 mod lists;
+mod marked;
 mod request;
 mod stored;
+mod unread;
 mod upload;
 mod user_bodies;
 
-pub use octo_api_routes::Direct;
+pub use octo_api_routes::{BodyFault, Direct, MediaFault, Member};
 pub use request::{request_by, to_request};

@@ -3,17 +3,23 @@ ghost use Rattle.std.specs.Prelude.{◌≡◌, ◌⊎◌, Err, IfOk, IfErr, Opti
 ghost use Rattle.serde_json.specs.Data.{Data};
 ghost use Rattle.serde_json.specs.View.{view};
 ghost use Rattle.octo_api_routes.specs.Places.{target_of};
-ghost use Rattle.octo_api_requests.specs.Requests.{takes_json, key_of, type_of, asked_body, wanted_for, request_in, request_at, IsJson, Asks, MessageReadsAs};
+ghost use Rattle.octo_api_requests.specs.Requests.{takes_json, key_of, type_of, or_bad, refusal_of, asked_body, wanted_for, request_in, request_at, IsJson, Asks, MessageReadsAs};
+ghost use Rattle.octo_api_requests.specs.Bodies.{asked_in};
+ghost use Rattle.octo_api_requests.specs.BodyFaults.{fault_in};
 ghost use Rattle.octo_api_requests.specs.Callers.{IsCallers, WantsCallers};
 ghost use Rattle.octo_api_routes.specs.declared.wanted.Wanted.TheVariants as wanted;
 
 use crate::Direct;
 use crate::bodies::asked_in;
+use crate::body_faults::fault_in;
+use crate::unread::Unread;
 use crate::upload::upload_of;
-use octo_api_routes::{Form, Routes, Wanted, target_of, wanted_of};
+use octo_api_routes::{
+    BodyFault, Form, MediaFault, Routes, Wanted, methods_of, target_of, wanted_of,
+};
 use octo_asks::{Ask, Request};
 use octo_http::Message;
-use octo_http_forms::has_type;
+use octo_http_forms::is_type;
 use octo_outside::Blob;
 use serde_json::Value;
 use std::alloc::Global;
@@ -21,12 +27,12 @@ use std::alloc::Global;
 // The most bytes of a JSON body.
 const MOST_JSON: usize = 1_048_576;
 
-// Whether a type is JSON, or none is given.
+// Whether a type is JSON, perhaps with parameters, or none is given. Source: RFC 9110, section 8.3.1.
 fn takes_json(kind: &Option<Blob>) -> bool
     ensures { result ≡ takes_json kind.now }
 {
     match kind {
-        Some(kind) => has_type(kind.as_slice(), b"application/json"),
+        Some(kind) => is_type(kind.as_slice(), b"application/json"),
         None => true,
     }
 }
@@ -47,6 +53,30 @@ fn json_of(alloc: Global, body: &[u8]) -> Result<Option<Value>, Direct>
     }
 }
 
+// Why JSON that isn't read asks nothing.
+fn refusal_of(unread: Unread, form: &Form, body: &Value) -> Direct
+    ensures { result ≡ refusal_of unread (fault_in form.now (view body.now)) }
+{
+    match unread {
+        Unread::NoMemory => Direct::NoMemory,
+        Unread::Wrong => Direct::BadBody {
+            fault: fault_in(form, body),
+        },
+    }
+}
+
+// What JSON asks in a form, or what is wrong with it.
+fn asked_json(alloc: Global, form: &Form, body: &Value) -> Result<Request, Direct>
+    ensures asks { (result ≡ Err Direct.NoMemory)
+        ⊎ (result ≡ or_bad (fault_in form.now (view body.now)) (asked_in form.now (view body.now))) }
+    ensures callers { IfOk result IsCallers }
+{
+    match asked_in(alloc, form, body) {
+        Ok(request) => Ok(request),
+        Err(unread) => Err(refusal_of(unread, form, body)),
+    }
+}
+
 // What a body of JSON asks.
 fn asked_body(alloc: Global, form: &Form, body: &[u8]) -> Result<Request, Direct>
     ensures asks { (result ≡ Err Direct.NoMemory) ⊎ ((value : Option Data)
@@ -54,11 +84,15 @@ fn asked_body(alloc: Global, form: &Form, body: &[u8]) -> Result<Request, Direct
     ensures callers { IfOk result IsCallers }
 {
     if body.len() > MOST_JSON {
-        return Err(Direct::BadBody);
+        return Err(Direct::BadBody {
+            fault: BodyFault::TooLong,
+        });
     }
     match json_of(alloc, body)? {
-        Some(value) => asked_in(alloc, form, &value),
-        None => Err(Direct::BadBody),
+        Some(value) => asked_json(alloc, form, &value),
+        None => Err(Direct::BadBody {
+            fault: BodyFault::NotJson,
+        }),
     }
 }
 
@@ -68,7 +102,9 @@ fn request_without_body(message: &Message, request: Request) -> Result<Request, 
     ensures same { IfOk result (λ asked. asked ≡ request) }
 {
     if message.encoded {
-        return Err(Direct::BadMedia);
+        return Err(Direct::BadMedia {
+            fault: MediaFault::Coded,
+        });
     }
     Ok(request)
 }
@@ -81,8 +117,15 @@ fn json_request(alloc: Global, message: &Message, form: Form) -> Result<Request,
     if !message.sized {
         return Err(Direct::NoLength);
     }
-    if message.encoded || !takes_json(&message.kind) {
-        return Err(Direct::BadMedia);
+    if message.encoded {
+        return Err(Direct::BadMedia {
+            fault: MediaFault::Coded,
+        });
+    }
+    if !takes_json(&message.kind) {
+        return Err(Direct::BadMedia {
+            fault: MediaFault::NotJson,
+        });
     }
     asked_body(alloc, &form, message.body.as_slice())
 }
@@ -106,7 +149,9 @@ fn upload_request(alloc: Global, message: &Message) -> Result<Request, Direct>
         return Err(Direct::NoLength);
     }
     if message.encoded {
-        return Err(Direct::BadMedia);
+        return Err(Direct::BadMedia {
+            fault: MediaFault::Coded,
+        });
     }
     upload_of(alloc, message.body.as_slice(), type_of(message))
 }
@@ -132,7 +177,11 @@ fn wanted_for(alloc: Global, routes: &Routes, method: &str, path: &[u8]) -> Resu
     let Some(target) = target_of(alloc, routes, path)? else {
         return Err(Direct::NoRoute);
     };
-    wanted_of(method, &target).ok_or(Direct::BadMethod)
+    let allowed = methods_of(&target);
+    if method == "OPTIONS" {
+        return Err(Direct::Options { allowed });
+    }
+    wanted_of(method, &target).ok_or(Direct::BadMethod { allowed })
 }
 
 // What a message asks, without the caller's key.

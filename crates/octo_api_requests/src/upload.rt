@@ -1,17 +1,30 @@
 //! What uploads ask.
-ghost use Rattle.std.specs.Prelude.{◌≡◌, ◌⊎◌, Err, Result, IfOk};
+ghost use Rattle.std.specs.Prelude.{◌≡◌, ◌⊎◌, Err, Result, IfOk, IfSome};
+ghost use Rattle.octo_http_forms.specs.Texts.{IsWithin};
 ghost use Rattle.octo_http_forms.specs.Parts.{ArePartsIn, FormReadsAs};
 ghost use Rattle.octo_http_forms.specs.declared.types.Parts.{Parts};
 ghost use Rattle.octo_http_forms.specs.declared.types.PartFault.{PartFault};
-ghost use Rattle.octo_api_requests.specs.Uploads.{file_asked, refused_by, form_asked};
+ghost use Rattle.octo_api_requests.specs.Uploads.{folder_of, file_asked, refused_by, form_asked};
 ghost use Rattle.octo_api_requests.specs.Callers.{IsCallers};
 
 use crate::Direct;
 use crate::stored::stored_name;
+use octo_api_routes::{BodyFault, MediaFault};
 use octo_asks::Request;
-use octo_http_forms::{PartFault, Parts, multipart};
+use octo_http_forms::{PartFault, Parts, Span, multipart};
 use octo_outside::Blob;
 use std::alloc::Global;
+
+// The folder of a form, empty if it has none.
+fn folder_of(body: &[u8], folder: Option<Span>) -> &[u8]
+    requires { IfSome folder (λ span. IsWithin span body.now) }
+    ensures { result.now ≡ folder_of body.now folder }
+{
+    match folder {
+        Some(span) => &body[span.from..span.to],
+        None => &[],
+    }
+}
 
 // What the parts of a form ask; without a file they ask nothing.
 fn file_of(alloc: Global, body: &[u8], parts: Parts) -> Result<Request, Direct>
@@ -21,9 +34,12 @@ fn file_of(alloc: Global, body: &[u8], parts: Parts) -> Result<Request, Direct>
     ensures callers { IfOk result IsCallers }
 {
     let (Some(name), Some(file)) = (parts.name, parts.file) else {
-        return Err(Direct::BadBody);
+        return Err(Direct::BadBody {
+            fault: BodyFault::NoFile,
+        });
     };
-    let name = stored_name(alloc, &body[name.from..name.to])?;
+    let folder = folder_of(body, parts.folder);
+    let name = stored_name(alloc, folder, &body[name.from..name.to])?;
     let bytes = Blob::from_slice(alloc, &body[file.from..file.to])?;
     Ok(Request::PutFile {
         name,
@@ -38,8 +54,15 @@ fn refused_by(fault: PartFault) -> Direct
     ensures { result ≡ refused_by fault }
 {
     match fault {
-        PartFault::NoBoundary => Direct::BadMedia,
-        PartFault::NoClose | PartFault::BadPart { .. } => Direct::BadBody,
+        PartFault::NoBoundary => Direct::BadMedia {
+            fault: MediaFault::NoForm,
+        },
+        PartFault::NoClose => Direct::BadBody {
+            fault: BodyFault::NoClose,
+        },
+        PartFault::BadPart { .. } => Direct::BadBody {
+            fault: BodyFault::BadPart,
+        },
     }
 }
 

@@ -5,9 +5,9 @@ ghost use Rattle.serde_json.specs.View.{view};
 ghost use Rattle.octo_api_requests.specs.Fields.{Gives, as_key};
 ghost use Rattle.octo_api_requests.specs.Bodies.{as_groups, optional, user_asked, change_asked};
 
-use crate::Direct;
 use crate::fields::{as_key, flag_at, name_at};
 use crate::lists::as_groups;
+use crate::unread::Unread;
 use byte_text::Name;
 use octo_access::GroupNames;
 use octo_asks::Request;
@@ -39,11 +39,11 @@ fn new_user(body: &Value) -> Option<NewUser<'_>>
 }
 
 // A user to be added.
-pub(crate) fn user_of(alloc: Global, body: &Value) -> Result<Request, Direct>
+pub(crate) fn user_of(alloc: Global, body: &Value) -> Result<Request, Unread>
     ensures { Gives (user_asked (view body.now)) result }
 {
     let Some(user) = new_user(body) else {
-        return Err(Direct::BadBody);
+        return Err(Unread::Wrong);
     };
     let key = Blob::from_slice(alloc, user.key.as_bytes())?;
     let NewUser {
@@ -61,7 +61,7 @@ pub(crate) fn user_of(alloc: Global, body: &Value) -> Result<Request, Direct>
 }
 
 // A change's key, which may be missing.
-fn optional_key(body: &Value) -> Option<Option<&str>>
+pub(crate) fn optional_key(body: &Value) -> Option<Option<&str>>
     ensures { option_map (λ key. option_map (λ text. text.now) key) result
         ≡ optional as_key (get (codes "key") (view body.now)) }
 {
@@ -75,7 +75,7 @@ fn optional_key(body: &Value) -> Option<Option<&str>>
 }
 
 // A change's groups, which may be missing.
-fn optional_groups(body: &Value) -> Option<Option<GroupNames>>
+pub(crate) fn optional_groups(body: &Value) -> Option<Option<GroupNames>>
     ensures { result ≡ optional as_groups (get (codes "groups") (view body.now)) }
 {
     match body.get("groups") {
@@ -108,13 +108,16 @@ struct UserChange<'a> {
     active: Option<bool>,
 }
 
-// The fields of a change.
+// The fields of a change, which is an object.
 fn user_change(body: &Value) -> Option<UserChange<'_>>
     ensures { (name : List ℕ) → option_map (λ change.
         Request.ChangeUser name
         (option_map (λ text. text.now) change.key) change.groups change.active) result
         ≡ change_asked name (view body.now) }
 {
+    if !body.is_object() {
+        return None;
+    }
     Some(UserChange {
         key: optional_key(body)?,
         groups: optional_groups(body)?,
@@ -123,9 +126,9 @@ fn user_change(body: &Value) -> Option<UserChange<'_>>
 }
 
 // A copy of a key that may be missing.
-fn copied_key(alloc: Global, key: Option<&str>) -> Result<Option<Blob>, Direct>
+fn copied_key(alloc: Global, key: Option<&str>) -> Result<Option<Blob>, Unread>
     ensures ok { IfOk result (λ copy. copy ≡ option_map (λ text. text.now) key.entry) }
-    ensures err { IfErr result (λ e. e ≡ Direct.NoMemory) }
+    ensures err { IfErr result (λ e. e ≡ Unread.NoMemory) }
 {
     match key {
         Some(text) => Ok(Some(Blob::from_slice(alloc, text.as_bytes())?)),
@@ -134,11 +137,11 @@ fn copied_key(alloc: Global, key: Option<&str>) -> Result<Option<Blob>, Direct>
 }
 
 // A change of a user.
-pub(crate) fn change_of(alloc: Global, name: &Name, body: &Value) -> Result<Request, Direct>
+pub(crate) fn change_of(alloc: Global, name: &Name, body: &Value) -> Result<Request, Unread>
     ensures { Gives (change_asked name.now (view body.now)) result }
 {
     let Some(change) = user_change(body) else {
-        return Err(Direct::BadBody);
+        return Err(Unread::Wrong);
     };
     let key = copied_key(alloc, change.key)?;
     let UserChange { groups, active, .. } = change;

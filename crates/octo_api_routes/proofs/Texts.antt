@@ -8,7 +8,8 @@ use Rattle.std.proofs.lemmas.Str.{IsUtf8-from_ascii}
 use Rattle.octo_access.specs.Names.{is_name_byte, is_name}
 use Rattle.octo_api_routes.specs.Ascii.{is_ascii_byte}
 
-ascii_at : (bytes : List ℕ) → list_all is_ascii_byte bytes ≡ true → IsAscii bytes
+-- each byte of such bytes
+pub ascii_at : (bytes : List ℕ) → list_all is_ascii_byte bytes ≡ true → IsAscii bytes
 ascii_at [] e i = omega arith
 ascii_at (byte ∷ bytes) e zero =
     let small : is_ascii_byte byte ≡ true = (and_parts _ _ e).0 in grind (arith, nat_tests, small)

@@ -1,3 +1,4 @@
 pub mod Ascii
+pub mod Members
 pub mod Places
 pub mod Wants

@@ -1,5 +1,5 @@
 -- What the paths of the interface mean.
-use Rattle.std.specs.Prelude.{ℕ, Bool, true, false, List, [], ◌∷◌, length, drop, take, fold, codes, if◌then◌else◌, Option, Some, None, option_map, option_and_then, Result, Ok, Err, ◌==◌, ◌+◌, not}
+use Rattle.std.specs.Prelude.{ℕ, Bool, true, false, ◌&&◌, List, [], ◌∷◌, length, drop, take, fold, codes, if◌then◌else◌, Option, Some, None, option_map, option_and_then, Result, Ok, Err, ◌==◌, ◌+◌, not}
 use Rattle.std.specs.List.{prefix_len, list_all}
 use Rattle.percent_encoding.specs.Percent.{percent_decode}
 use Rattle.matchit.specs.Rows.{RowsOf}
@@ -103,9 +103,23 @@ target_at place.NextEntry path = Some target.NextEntry
 target_at place.Prints path = Some target.Prints
 target_at place.Shutdown path = Some target.Shutdown
 
+-- whether a part of a path has ended before these bytes
+abbrev pub ends_part : List ℕ → Bool
+ends_part [] = true
+ends_part (byte ∷ bytes) = byte == 47
+
+-- a path without its empty parts: each slash is left out that has a slash or nothing after it
+abbrev pub plain_path : List ℕ → List ℕ
+plain_path [] = []
+plain_path (byte ∷ bytes) = if byte == 47 && ends_part bytes then plain_path bytes else byte ∷ plain_path bytes
+
+-- what a path without empty parts is about
+abbrev pub target_on : List ℕ → Option Target
+target_on path = option_and_then (λ at. target_at at path) (place_of path)
+
 -- what a path is about, none if it is no path of the interface
 abbrev pub target_of : List ℕ → Option Target
-target_of path = option_and_then (λ at. target_at at path) (place_of path)
+target_of path = target_on (plain_path path)
 
 -- a place whose path has names
 abbrev pub has_name : Place → Bool

@@ -1,8 +1,9 @@
 -- What a method asks of a target, and which body it wants.
-use Rattle.std.specs.Prelude.{ℕ, List, codes, Option, Some, None, option_and_then, if◌then◌else◌}
+use Rattle.std.specs.Prelude.{ℕ, ◌||◌, List, codes, Option, Some, None, is_some, option_and_then, if◌then◌else◌}
 use Rattle.std.specs.Str.{bytes_eq}
 use Rattle.octo_asks.specs.declared.request.Request.{Request}
 use Rattle.octo_asks.specs.declared.request.Request.TheVariants as request
+use Rattle.octo_api_routes.specs.declared.direct.Methods.{Methods}
 use Rattle.octo_api_routes.specs.declared.target.Target.{Target}
 use Rattle.octo_api_routes.specs.declared.target.Target.TheVariants as target
 use Rattle.octo_api_routes.specs.declared.wanted.Verb.{Verb}
@@ -11,10 +12,10 @@ use Rattle.octo_api_routes.specs.declared.wanted.Form.TheVariants as form
 use Rattle.octo_api_routes.specs.declared.wanted.Wanted.{Wanted}
 use Rattle.octo_api_routes.specs.declared.wanted.Wanted.TheVariants.{Nothing, Json, Upload}
 
--- the methods that the interface has
+-- the methods that the interface has; HEAD asks what GET does
 abbrev pub verb_of : List ℕ → Option Verb
 verb_of method =
-    if bytes_eq method (codes "GET") then Some Get
+    if bytes_eq method (codes "GET") || bytes_eq method (codes "HEAD") then Some Get
     else if bytes_eq method (codes "POST") then Some Post
     else if bytes_eq method (codes "PUT") then Some Put
     else if bytes_eq method (codes "DELETE") then Some Delete
@@ -77,3 +78,12 @@ wanted_by Put target = wanted_by_put target
 -- what a method, by its name, wants of a target
 abbrev pub wanted_of : List ℕ → Target → Option Wanted
 wanted_of method target = option_and_then (λ verb. wanted_by verb target) (verb_of method)
+
+-- the methods that a target takes
+abbrev pub methods_of : Target → Methods
+methods_of target = record {
+  get = is_some (asked_by_get target);
+  post = is_some (wanted_by_post target);
+  put = is_some (wanted_by_put target);
+  delete = is_some (asked_by_delete target);
+}

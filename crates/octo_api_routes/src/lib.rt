@@ -11,7 +11,7 @@ mod target;
 mod wanted;
 
 pub use ascii::{ascii_text, is_key};
-pub use direct::Direct;
+pub use direct::{BodyFault, Direct, MediaFault, Member, Methods};
 pub use place::Routes;
 pub use target::{Target, target_of};
-pub use wanted::{Form, Wanted, wanted_of};
+pub use wanted::{Form, Wanted, methods_of, wanted_of};

@@ -1,6 +1,6 @@
 //! What the paths of the interface mean.
 ghost use Rattle.std.specs.Prelude.{◌≡◌, map, OnOk, IfOk};
-ghost use Rattle.octo_api_routes.specs.Places.{routes, with_route, rows_of, place_of};
+ghost use Rattle.octo_api_routes.specs.Places.{routes, with_route, rows_of, place_of, ends_part, plain_path};
 
 use crate::ascii::ascii_text;
 use matchit::Router;
@@ -79,6 +79,30 @@ fn router_of(alloc: Global, table: &[(&'static str, Place)]) -> Result<Router<Pl
         add(&mut router, *route, *place)?;
     }
     Ok(router)
+}
+
+// Whether a part of a path has ended before these bytes: nothing or a slash comes next.
+fn ends_part(bytes: &[u8]) -> bool
+    ensures { result ≡ ends_part bytes.now }
+{
+    match bytes {
+        [] => true,
+        [byte, ..] => *byte == b'/',
+    }
+}
+
+// A path without its empty parts: each slash is left out that has a slash or nothing after it.
+#[tactic(auto, using(crate::proofs::Paths::plain_steps))]
+pub(crate) fn plain_path(alloc: Global, path: &[u8]) -> Result<Vec<u8>, AllocError>
+    ensures { IfOk result (λ plain. plain.items ≡ plain_path path.now) }
+{
+    let mut plain = Vec::new(alloc);
+    for place in 0..path.len() {
+        if path[place] != b'/' || !ends_part(&path[place + 1..]) {
+            plain.push(path[place])?;
+        }
+    }
+    Ok(plain)
 }
 
 /// The table of the interface's routes. It is made once, and then looked into for each message.

@@ -5,7 +5,7 @@ ghost use Rattle.octo_api_routes.specs.Places.{has_name, name_of_part, file_name
 
 use crate::Direct;
 use crate::ascii::ascii_text;
-use crate::place::{Place, Routes};
+use crate::place::{Place, Routes, plain_path};
 use byte_text::{Name, after};
 use octo_access::{read_file_name, read_name};
 use percent_encoding::percent_decode;
@@ -158,13 +158,14 @@ fn target_at(alloc: Global, place: Place, path: &[u8]) -> Result<Option<Target>,
     }
 }
 
-/// What a path is about, `None` if it is no path of the interface. Fails as `NoMemory` alone. Source: OctoPrint's REST API.
+/// What a path is about, `None` if it is no path of the interface; its empty parts don't count. Fails as `NoMemory` alone. Source: OctoPrint's REST API.
 pub fn target_of(alloc: Global, routes: &Routes, path: &[u8]) -> Result<Option<Target>, Direct>
     ensures ok { IfOk result (λ target. target ≡ target_of path.now) }
     ensures err { IfErr result (λ e. e ≡ Direct.NoMemory) }
 {
-    match routes.place_of(path) {
-        Some(place) => target_at(alloc, place, path),
+    let path = plain_path(alloc, path)?;
+    match routes.place_of(path.as_slice()) {
+        Some(place) => target_at(alloc, place, path.as_slice()),
         None => Ok(None),
     }
 }

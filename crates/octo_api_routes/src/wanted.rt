@@ -1,7 +1,8 @@
 //! What a method asks of a target, and which body it wants.
 ghost use Rattle.std.specs.Prelude.{◌≡◌};
-ghost use Rattle.octo_api_routes.specs.Wants.{verb_of, asked_by_get, asked_by_delete, wanted_by_post, wanted_by_put, without_body, wanted_of};
+ghost use Rattle.octo_api_routes.specs.Wants.{verb_of, asked_by_get, asked_by_delete, wanted_by_post, wanted_by_put, without_body, methods_of, wanted_of};
 
+use crate::direct::Methods;
 use crate::target::Target;
 use byte_text::Name;
 use octo_asks::Request;
@@ -40,11 +41,11 @@ pub enum Wanted {
     Upload,
 }
 
-// A method of the interface; letters in another case make another method. Source: RFC 9110, section 9.1.
+// A method of the interface, HEAD as GET; letters in another case make another method. Source: RFC 9110, section 9.1.
 fn verb_of(method: &str) -> Option<Verb>
     ensures { result ≡ verb_of method.now }
 {
-    if method == "GET" {
+    if method == "GET" || method == "HEAD" {
         return Some(Verb::Get);
     }
     if method == "POST" {
@@ -133,6 +134,18 @@ fn wanted_by_put(target: &Target) -> Option<Wanted>
             form: Form::ChangeUser { name: name.copy() },
         }),
         _ => None,
+    }
+}
+
+/// The methods that a target takes.
+pub fn methods_of(target: &Target) -> Methods
+    ensures { result ≡ methods_of target.now }
+{
+    Methods {
+        get: asked_by_get(target).is_some(),
+        post: wanted_by_post(target).is_some(),
+        put: wanted_by_put(target).is_some(),
+        delete: asked_by_delete(target).is_some(),
     }
 }
 

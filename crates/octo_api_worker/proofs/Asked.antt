@@ -14,7 +14,7 @@ use Rattle.octo_api_worker.proofs.Calls.{added_none}
 -- a message leads to at most one call
 pub leads_to : (m : Message) (reply : WorkerReply) (is_open : Bool) (calls : History) → IsReplied m reply is_open calls → LeadsTo calls
 leads_to m reply is_open calls (shown page is) = no_call
-leads_to m reply is_open calls (refused direct of_api says) = no_call
+leads_to m reply is_open calls (refused direct r of_api says replies) = no_call
 leads_to m reply is_open calls (ended ask r of_api says replies) = no_call
 leads_to m reply is_open calls (answered ask worker moment a r of_api says callers replies) = one_call worker moment ask a callers
 

@@ -1,7 +1,6 @@
 -- The calls that a worker's asks add, and the replies that follow.
-use Rattle.std.proofs.Common.{◌≡◌, ℕ, Bool, true, List, [], ◌∷◌, ◌++◌, Option, Some, None, refl, sym, ap, subst, ◌∙◌}
-use Rattle.std.specs.Prelude.{option_map, Result, Ok, Err, IfOk, OnErr}
-use Rattle.std.specs.Option.{option_map_or}
+use Rattle.std.proofs.Common.{◌≡◌, ℕ, Bool, true, List, [], ◌∷◌, ◌++◌, Option, Some, None, refl, sym, subst, ◌∙◌}
+use Rattle.std.specs.Prelude.{Result, Ok, Err, IfOk, OnErr}
 use Rattle.octo_outside.specs.Recorded.{Adds}
 use Rattle.octo_outside.proofs.Recorded.{adds_none}
 use Rattle.octo_asks.specs.declared.answer.Answer.{Answer}
@@ -9,9 +8,6 @@ use Rattle.octo_asks.specs.declared.asker.Closed.{Closed}
 use Rattle.octo_asks.specs.declared.request.Ask.{Ask}
 use Rattle.octo_asks.specs.declared.entry.Entry.TheVariants as entry
 use Rattle.octo_asks.specs.History.{History, Finishes}
-use Rattle.octo_http.specs.declared.reply.HttpReply.{HttpReply}
-use Rattle.octo_http.specs.Reply.{reply_bytes}
-use Rattle.octo_api_replies.specs.Replies.{empty_reply}
 use Rattle.octo_api_worker.specs.Worked.{no_leave, one_leave, leave_ask, HasLeft}
 use Rattle.std.proofs.lemmas.Option.{same_Some, none-some}
 
@@ -28,12 +24,6 @@ call_of ask answer mine None finishes = (0, 0, λ now e. absurd (none-some now e
 call_of ask answer mine (Some now) finishes =
     let got = finishes now refl in
     (got.4.0, got.4.1, λ other e. (got.0, got.1, got.2, sym (same_Some now other e) ∙ got.3, got.4.2))
-
--- the bytes of the reply to a fault
-pub fault_reply : (status : Option ℕ) (reply : HttpReply) → Some reply ≡ option_map empty_reply status
-    → reply_bytes reply ≡ option_map_or (λ s. reply_bytes (empty_reply s)) status []
-fault_reply None reply e = absurd cc
-fault_reply (Some status) reply e = ap reply_bytes (same_Some reply (empty_reply status) e)
 
 -- what a worker's last ask adds: a call, or nothing if the host has ended
 left_by : (result : Result Answer Closed) (mine mine' : Option History) (saw_close : Bool)

@@ -1,5 +1,5 @@
 -- What a connection's input says to a worker, what is written in reply, and the calls that it leads to.
-use Rattle.std.specs.Prelude.{◌≡◌, ◌⊎◌, ℕ, ◌<◌, Bool, true, false, List, [], ◌∷◌, ◌++◌, take, Option, Some, None, Result, Ok, Err, IfSome}
+use Rattle.std.specs.Prelude.{◌≡◌, ◌⊎◌, ℕ, ◌<◌, Bool, true, false, List, [], ◌∷◌, ◌++◌, take, codes, bytes_eq, if◌then◌else◌, Option, Some, None, Result, Ok, Err, IfSome}
 use Rattle.std.specs.Option.{option_map_or}
 use Rattle.octo_outside.specs.Recorded.{Adds, AddsPrefix, Rose}
 use Rattle.octo_outside_doors.specs.Doors.{ConnState, fresh_conn}
@@ -8,7 +8,7 @@ use Rattle.octo_http.specs.declared.fault.MessageFault.TheVariants.{ReadFault}
 use Rattle.octo_http.specs.declared.message.Message.{Message}
 use Rattle.octo_http.specs.declared.reply.HttpReply.{HttpReply}
 use Rattle.octo_http.specs.Message.{ReadsMessage, Answers, IsSlow}
-use Rattle.octo_http.specs.Reply.{reply_bytes}
+use Rattle.octo_http.specs.Reply.{reply_head, reply_bytes}
 use Rattle.octo_asks.specs.declared.answer.Answer.{Answer}
 use Rattle.octo_asks.specs.declared.answer.Answer.TheVariants as answer
 use Rattle.octo_asks.specs.declared.request.Ask.{Ask}
@@ -17,7 +17,7 @@ use Rattle.octo_asks.specs.History.{History}
 use Rattle.octo_api_page.specs.declared.page.Page.{Page}
 use Rattle.octo_api_page.specs.Pages.{page_of, page_bytes}
 use Rattle.octo_api_routes.specs.declared.direct.Direct.{Direct}
-use Rattle.octo_api_replies.specs.Replies.{empty_reply, reply_of, direct_status, fault_status}
+use Rattle.octo_api_replies.specs.Replies.{empty_reply, reply_of, IsDirectReply, IsFaultReply}
 use Rattle.octo_api_requests.specs.Requests.{MessageReadsAs}
 use Rattle.octo_api_requests.specs.Callers.{IsCallers}
 use Rattle.octo_api_worker.specs.declared.reply.WorkerReply.{WorkerReply}
@@ -31,9 +31,9 @@ Sends written written' faults faults' bytes = Adds written written' bytes ⊎ (R
 abbrev pub Wrote : ConnState → List ℕ → Type 0
 Wrote conn bytes = IfSome conn.written (λ written. (written ≡ bytes) ⊎ ((0 < conn.faults) × (n : ℕ) × (written ≡ take n bytes)))
 
--- the reply to a fault of a message; none if the peer has gone
-abbrev pub fault_bytes : MessageFault → List ℕ
-fault_bytes fault = option_map_or (λ status. reply_bytes (empty_reply status)) (fault_status fault) []
+-- the bytes of the reply to a fault of a message; none if the peer has gone
+abbrev pub AreFaultBytes : MessageFault → List ℕ → Type 0
+AreFaultBytes fault bytes = (reply : Option HttpReply) × IsFaultReply fault reply × (bytes ≡ option_map_or reply_bytes reply [])
 
 -- a failed read was counted, and a slow peer's quiet reads are as many as the worker waits through
 pub record HasCause (patience : ℕ) (conn : ConnState) (fault : MessageFault) : Type 0 where
@@ -44,10 +44,14 @@ pub record HasCause (patience : ℕ) (conn : ConnState) (fault : MessageFault) :
 abbrev pub IsReply : Answer → HttpReply → Type 0
 IsReply answer reply = (reply ≡ reply_of answer) ⊎ (reply ≡ empty_reply 507)
 
--- the bytes of a reply
-abbrev pub worker_bytes : WorkerReply → List ℕ
-worker_bytes (by.Page page) = page_bytes page
-worker_bytes (by.Api reply) = reply_bytes reply
+-- a message that asks for the head of a reply alone (RFC 9110, section 9.3.2)
+abbrev pub is_head : Message → Bool
+is_head message = bytes_eq message.method (codes "HEAD")
+
+-- the bytes of a reply, without the body if its head alone is asked for
+abbrev pub worker_bytes : Bool → WorkerReply → List ℕ
+worker_bytes head_alone (by.Page page) = page_bytes page
+worker_bytes head_alone (by.Api reply) = if head_alone then reply_head reply else reply_bytes reply
 
 -- a message of the REST API: its path isn't one of the page
 abbrev pub IsOfApi : Message → Type 0
@@ -56,8 +60,8 @@ IsOfApi message = page_of message.method message.path ≡ None
 -- the reply to a message, whether the host hasn't ended, and the calls that the message led to; the page is shown without a call
 pub data IsReplied (message : Message) : WorkerReply → Bool → History → Type 0 where
   shown : (page : Page) → page_of message.method message.path ≡ Some page → IsReplied message (by.Page page) true []
-  refused : (direct : Direct) → IsOfApi message → MessageReadsAs message (Err direct)
-      → IsReplied message (by.Api (empty_reply (direct_status direct))) true []
+  refused : (direct : Direct) (reply : HttpReply) → IsOfApi message → MessageReadsAs message (Err direct) → IsDirectReply direct reply
+      → IsReplied message (by.Api reply) true []
   ended : (ask : Ask) (reply : HttpReply) → IsOfApi message → MessageReadsAs message (Ok ask) → IsReply answer.Closed reply
       → IsReplied message (by.Api reply) false []
   answered : (ask : Ask) (worker moment : ℕ) (a : Answer) (reply : HttpReply) → IsOfApi message → MessageReadsAs message (Ok ask)
@@ -65,10 +69,10 @@ pub data IsReplied (message : Message) : WorkerReply → Bool → History → Ty
 
 -- a connection with this input was served: it holds no message, or a message that is replied to
 pub data IsServed (patience : ℕ) (input : List ℕ) (conn : ConnState) : Bool → History → Type 0 where
-  no_message : (fault : MessageFault) (sent : List ℕ) → Answers input conn.left (Err fault) sent → HasCause patience conn fault
-      → Wrote conn (sent ++ fault_bytes fault) → IsServed patience input conn true []
+  no_message : (fault : MessageFault) (sent bytes : List ℕ) → Answers input conn.left (Err fault) sent → HasCause patience conn fault
+      → AreFaultBytes fault bytes → Wrote conn (sent ++ bytes) → IsServed patience input conn true []
   message : (m : Message) (sent : List ℕ) (reply : WorkerReply) (is_open : Bool) (calls : History) → ReadsMessage input (Ok m) sent
-      → IsReplied m reply is_open calls → Wrote conn (sent ++ worker_bytes reply) → IsServed patience input conn is_open calls
+      → IsReplied m reply is_open calls → Wrote conn (sent ++ worker_bytes (is_head m) reply) → IsServed patience input conn is_open calls
 
 -- the calls that a connection led to: none, or one with a caller's request
 pub data LeadsTo : History → Type 0 where

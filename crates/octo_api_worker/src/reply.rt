@@ -9,9 +9,9 @@ ghost use Rattle.octo_api_page.specs.Pages.{page_of};
 ghost use Rattle.octo_api_worker.specs.Served.{IsReply, IsOfApi, IsReplied};
 
 use octo_api_page::{Page, page_of};
-use octo_api_replies::{direct_bytes, to_bytes};
+use octo_api_replies::{direct_bytes, out_of_memory, to_bytes};
 use octo_api_requests::request_by;
-use octo_api_routes::{Direct, Routes};
+use octo_api_routes::Routes;
 use octo_asks::{Answer, Ask, Asker, Closed};
 use octo_http::{HttpReply, Message};
 use std::alloc::{AllocError, Global};
@@ -38,7 +38,7 @@ fn reply_to(alloc: Global, answer: Answer) -> HttpReply
 {
     match to_bytes(alloc, answer) {
         Ok(reply) => reply,
-        Err(AllocError) => direct_bytes(alloc, Direct::NoMemory),
+        Err(AllocError) => out_of_memory(alloc),
     }
 }
 
@@ -86,7 +86,7 @@ fn reply_to_request<A: Asker>(
         Ok(ask) => reply_to_ask(alloc, asker, ask),
         Err(direct) => Replied {
             reply: WorkerReply::Api {
-                reply: direct_bytes(alloc, direct),
+                reply: direct_bytes(alloc, &direct),
             },
             is_open: true,
         },

@@ -1,15 +1,15 @@
 //! One connection: a message, and its reply.
-ghost use Rattle.std.specs.Prelude.{◌≡◌, ◌≤◌, true, false};
+ghost use Rattle.std.specs.Prelude.{◌≡◌, ◌≤◌, ℕ, List, true, false};
 ghost use Rattle.octo_outside_doors.specs.Doors.{state_of};
-ghost use Rattle.octo_http.specs.Reply.{reply_bytes};
-ghost use Rattle.octo_api_worker.specs.Served.{Sends, HasServed, AsksOnce, fault_bytes, worker_bytes};
+ghost use Rattle.octo_http.specs.Reply.{reply_head, reply_bytes};
+ghost use Rattle.octo_api_worker.specs.Served.{Sends, HasServed, AsksOnce, AreFaultBytes, is_head, worker_bytes};
 
 use crate::reply::{WorkerReply, reply_to_message};
 use octo_api_page::page_bytes;
 use octo_api_replies::fault_bytes;
 use octo_api_routes::Routes;
 use octo_asks::Asker;
-use octo_http::{HttpReply, MessageFault, read_message, write_reply};
+use octo_http::{HttpReply, Message, MessageFault, read_message, write_head, write_reply};
 use octo_outside::{Conn, Failed, send_all};
 use std::alloc::Global;
 
@@ -22,6 +22,19 @@ fn write_reply_or_ignore<C: Conn>(conn: &mut C, reply: &HttpReply)
     ensures counted { C.faults conn.old ≤ C.faults conn.new }
 {
     match write_reply(conn, reply) {
+        Ok(()) | Err(Failed) => {}
+    }
+}
+
+// Writes a reply without its body, and ignores a failure too.
+fn write_head_or_ignore<C: Conn>(conn: &mut C, reply: &HttpReply)
+    ensures written { Sends (C.written conn.old) (C.written conn.new)
+        (C.faults conn.old) (C.faults conn.new) (reply_head reply.now) }
+    ensures left { C.left conn.new ≡ C.left conn.old }
+    ensures quiets { C.quiets conn.new ≡ C.quiets conn.old }
+    ensures counted { C.faults conn.old ≤ C.faults conn.new }
+{
+    match write_head(conn, reply) {
         Ok(()) | Err(Failed) => {}
     }
 }
@@ -39,24 +52,47 @@ fn send_or_ignore<C: Conn>(conn: &mut C, bytes: &[u8])
     }
 }
 
-// Writes the reply to a message.
-fn write_worker_reply<C: Conn>(conn: &mut C, reply: &WorkerReply)
+// Whether a message asks for the head of a reply alone. Source: RFC 9110, section 9.3.2.
+fn is_head(message: &Message) -> bool
+    ensures { result ≡ is_head message.now }
+{
+    message.method.as_str() == "HEAD"
+}
+
+// Writes the reply of the REST API.
+fn write_api_reply<C: Conn>(conn: &mut C, reply: &HttpReply, head_alone: bool)
+    ensures written { Sends (C.written conn.old) (C.written conn.new) (C.faults conn.old)
+        (C.faults conn.new) (worker_bytes head_alone (WorkerReply.Api reply.now)) }
+    ensures left { C.left conn.new ≡ C.left conn.old }
+    ensures quiets { C.quiets conn.new ≡ C.quiets conn.old }
+    ensures counted { C.faults conn.old ≤ C.faults conn.new }
+{
+    if head_alone {
+        write_head_or_ignore(conn, reply);
+        return;
+    }
+    write_reply_or_ignore(conn, reply);
+}
+
+// Writes the reply to a message, without the body if its head alone is asked for.
+fn write_worker_reply<C: Conn>(conn: &mut C, reply: &WorkerReply, head_alone: bool)
     ensures written { Sends (C.written conn.old) (C.written conn.new)
-        (C.faults conn.old) (C.faults conn.new) (worker_bytes reply.now) }
+        (C.faults conn.old) (C.faults conn.new) (worker_bytes head_alone reply.now) }
     ensures left { C.left conn.new ≡ C.left conn.old }
     ensures quiets { C.quiets conn.new ≡ C.quiets conn.old }
     ensures counted { C.faults conn.old ≤ C.faults conn.new }
 {
     match reply {
         WorkerReply::Page { page } => send_or_ignore(conn, page_bytes(*page)),
-        WorkerReply::Api { reply } => write_reply_or_ignore(conn, reply),
+        WorkerReply::Api { reply } => write_api_reply(conn, reply, head_alone),
     }
 }
 
 // Writes the reply to a fault, if the peer is still there.
 fn refuse<C: Conn>(alloc: Global, conn: &mut C, fault: &MessageFault)
-    ensures written { Sends (C.written conn.old) (C.written conn.new)
-        (C.faults conn.old) (C.faults conn.new) (fault_bytes fault.now) }
+    ensures written { (bytes : List ℕ) × AreFaultBytes fault.now bytes
+        × Sends (C.written conn.old) (C.written conn.new)
+        (C.faults conn.old) (C.faults conn.new) bytes }
     ensures left { C.left conn.new ≡ C.left conn.old }
     ensures quiets { C.quiets conn.new ≡ C.quiets conn.old }
     ensures counted { C.faults conn.old ≤ C.faults conn.new }
@@ -70,7 +106,8 @@ fn refuse<C: Conn>(alloc: Global, conn: &mut C, fault: &MessageFault)
 /// Reads one message of a connection, asks what it says and writes the reply. Returns whether the host hasn't ended. The page for
 /// browsers is shown without asking.
 ///
-/// It waits through at most `patience` quiet reads. If memory runs out, the reply is 507.
+/// It waits through at most `patience` quiet reads. If memory runs out, the reply to a request is 507, and that to a refused
+/// message or a fault has no body. The reply to a HEAD of the REST API has no body either.
 pub fn serve_conn<C: Conn, A: Asker>(
     alloc: Global,
     routes: &Routes,
@@ -92,8 +129,9 @@ pub fn serve_conn<C: Conn, A: Asker>(
 {
     match read_message(alloc, conn, patience) {
         Ok(message) => {
+            let head_alone = is_head(&message);
             let replied = reply_to_message(alloc, routes, asker, message);
-            write_worker_reply(conn, &replied.reply);
+            write_worker_reply(conn, &replied.reply, head_alone);
             replied.is_open
         }
         Err(fault) => {

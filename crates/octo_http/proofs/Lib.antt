@@ -6,5 +6,6 @@ pub mod GrammarParts
 pub mod HeadLemmas
 pub mod MessageLemmas
 pub mod PartLemmas
+pub mod QueryLemmas
 pub mod Reading
 pub mod ReplyLemmas

@@ -6,7 +6,7 @@ use Rattle.std.proofs.Math.Seq.{take-append-add}
 use Rattle.std.proofs.lemmas.Bool.Decides.{nat_tests}
 use Rattle.http.specs.StatusCode.{reason_phrase, IsStatusCode}
 use Rattle.std.proofs.lemmas.Fmt.{length-decimal-le}
-use Rattle.octo_http.specs.Reply.{reason_of, phrase_of, head_bytes, sent_body, reply_bytes}
+use Rattle.octo_http.specs.Reply.{reason_of, phrase_of, head_bytes, sent_body, reply_head, reply_bytes}
 use Rattle.octo_http.specs.declared.reply.HttpReply.{HttpReply}
 use Rattle.octo_outside.specs.Recorded.{Adds, AddsPrefix}
 use Rattle.octo_outside.proofs.Recorded.{became_so, became_then, adds_then}
@@ -100,12 +100,17 @@ prefix_then old mid new a b first second =
 pub decimal_short : (n : ℕ) → n < 2 ^ 64 → length (decimal n) ≤ 20
 decimal_short n below = length-decimal-le 20 n (lit< tt) (omega arith) below
 
+-- what is before a body of this length is the head of the reply
+pub head_is : (r : HttpReply) (head body : List ℕ) → body ≡ sent_body r.status r.kind r.body → head ≡ head_bytes r.status r.kind (length body) r.fields.items
+    → head ≡ reply_head r
+head_is r head body is at = at ∙ ap (λ text. head_bytes r.status r.kind (length text) r.fields.items) is
+
 -- head and body are the reply
-pub joined : (r : HttpReply) (head body : List ℕ) (n : ℕ) → body ≡ sent_body r.status r.kind r.body → n ≡ length body → head ≡ head_bytes r.status r.kind n
+pub joined : (r : HttpReply) (head body : List ℕ) (n : ℕ) → body ≡ sent_body r.status r.kind r.body → n ≡ length body → head ≡ head_bytes r.status r.kind n r.fields.items
     → head ++ body ≡ reply_bytes r
 joined r head body n is long at =
-    ap (λ text. text ++ body) (at ∙ ap (λ k. head_bytes r.status r.kind k) (long ∙ ap length is)) ∙ ap
-    (λ text. head_bytes r.status r.kind (length (sent_body r.status r.kind r.body)) ++ text) is
+    ap (λ text. text ++ body) (at ∙ ap (λ k. head_bytes r.status r.kind k r.fields.items) (long ∙ ap length is)) ∙ ap
+    (λ text. head_bytes r.status r.kind (length (sent_body r.status r.kind r.body)) r.fields.items ++ text) is
 
 -- both were written
 pub replied : (r : HttpReply) (old mid new : Option (List ℕ)) (head body : List ℕ) → head ++ body ≡ reply_bytes r → Adds old mid head → Adds mid new body

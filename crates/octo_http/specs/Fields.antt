@@ -1,6 +1,6 @@
 -- The fields of a head, and what they say.
-use Rattle.std.specs.Prelude.{ℕ, Bool, not, if◌then◌else◌, List, [], ◌∷◌, take, drop, codes, Option, Some, None, option_and_then}
-use Rattle.std.specs.List.{list_any}
+use Rattle.std.specs.Prelude.{ℕ, Bool, true, not, ◌&&◌, ◌==◌, bytes_eq, if◌then◌else◌, List, [], ◌∷◌, take, drop, codes, Option, Some, None, option_and_then}
+use Rattle.std.specs.List.{list_any, take_while}
 use Rattle.std.specs.Str.{str_eq_ignore_ascii_case}
 
 -- names and values, in the order of the head
@@ -40,6 +40,21 @@ or_else (Some value) other = Some value
 abbrev pub key_of : FieldList → Option (List ℕ)
 key_of fields =
     or_else (first_of (values (codes "X-Api-Key") fields)) (option_and_then bearer_of (first_of (values (codes "Authorization") fields)))
+
+-- whether a byte belongs to a part of a query
+abbrev pub is_part_byte : ℕ → Bool
+is_part_byte byte = not (byte == 38)
+
+-- the value of the first `apikey` of a query; a part begins at the front and after each `&`
+abbrev pub query_key : Bool → List ℕ → Option (List ℕ)
+query_key begins [] = None
+query_key begins (byte ∷ bytes) =
+    if begins && bytes_eq (take 7 (byte ∷ bytes)) (codes "apikey=") then Some (take_while is_part_byte (drop 7 (byte ∷ bytes)))
+    else query_key (byte == 38) bytes
+
+-- the caller's key: that of the fields, else that of the query
+abbrev pub caller_key : FieldList → List ℕ → Option (List ℕ)
+caller_key fields query = or_else (key_of fields) (query_key true query)
 
 -- the body's type
 abbrev pub kind_of : FieldList → Option (List ℕ)

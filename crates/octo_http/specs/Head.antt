@@ -1,9 +1,9 @@
 -- The head of a message, and why an input begins with none.
-use Rattle.std.specs.Prelude.{◌≡◌, ℕ, ◌<◌, ◌≤◌, ◌⊎◌, Bool, not, ◌==◌, List, [], ◌++◌, length, map, take, Some, None}
-use Rattle.std.specs.List.{take_while}
+use Rattle.std.specs.Prelude.{◌≡◌, ℕ, ◌<◌, ◌≤◌, ◌⊎◌, Bool, not, ◌==◌, List, [], ◌++◌, ◌+◌, length, map, take, drop, Some, None}
+use Rattle.std.specs.List.{take_while, prefix_len}
 use Rattle.httparse.specs.Grammar.{RequestHead, ReadsRequest, HasNoRequest, NeverHasRequest, MayBecomeRequest}
 use Rattle.httparse.specs.Spans.{name_and_value, RequestExceeds}
-use Rattle.octo_http.specs.Fields.{FieldList, key_of, kind_of, is_encoded, expects_continue}
+use Rattle.octo_http.specs.Fields.{FieldList, caller_key, kind_of, is_encoded, expects_continue}
 use Rattle.octo_http.specs.Framing.{framing_of}
 use Rattle.octo_http.specs.declared.fault.MessageFault.{MessageFault}
 use Rattle.octo_http.specs.declared.fault.MessageFault.TheVariants.{BadHead, HeadTooLarge, BodyTooLarge, BadChunk, Ended, ReadFault, NoMemory, Slow}
@@ -23,6 +23,10 @@ most_fields = 64
 abbrev pub is_path_byte : ℕ → Bool
 is_path_byte b = not (b == 63)
 
+-- the query of a target: what follows its first `?`
+abbrev pub query_of : List ℕ → List ℕ
+query_of target = drop (prefix_len is_path_byte target + 1) target
+
 -- the names and values of a head
 abbrev pub fields_of : RequestHead → FieldList
 fields_of h = map name_and_value h.fields
@@ -32,7 +36,7 @@ abbrev pub head_with : List ℕ → List ℕ → FieldList → Framing → Head
 head_with method target fields framing = record {
   method = method;
   path = take_while is_path_byte target;
-  key = key_of fields;
+  key = caller_key fields (query_of target);
   kind = kind_of fields;
   encoded = is_encoded fields;
   expects = expects_continue fields;

@@ -25,11 +25,11 @@ type_line Empty = []
 type_line Json = codes "Content-Type: application/json" ++ crlf
 type_line Bytes = codes "Content-Type: application/octet-stream" ++ crlf
 
--- all that is before a body of n bytes; 204 has no length
-abbrev pub head_bytes : ℕ → ReplyKind → ℕ → List ℕ
-head_bytes status kind n =
-    if status == 204 then first_lines status ++ crlf
-    else first_lines status ++ codes "Content-Length: " ++ decimal n ++ crlf ++ type_line kind ++ crlf
+-- all that is before a body of n bytes: further fields come last; 204 has no length
+abbrev pub head_bytes : ℕ → ReplyKind → ℕ → List ℕ → List ℕ
+head_bytes status kind n fields =
+    if status == 204 then first_lines status ++ fields ++ crlf
+    else first_lines status ++ codes "Content-Length: " ++ decimal n ++ crlf ++ type_line kind ++ fields ++ crlf
 
 -- the body that is sent: none with 204, nor if the reply is empty
 abbrev pub sent_body : ℕ → ReplyKind → List ℕ → List ℕ
@@ -37,7 +37,11 @@ sent_body status Empty body = []
 sent_body status Json body = if status == 204 then [] else body
 sent_body status Bytes body = if status == 204 then [] else body
 
+-- all that is before the body of a reply
+abbrev pub reply_head : HttpReply → List ℕ
+reply_head r = head_bytes r.status r.kind (length (sent_body r.status r.kind r.body)) r.fields.items
+
 -- the bytes of a reply
 abbrev pub reply_bytes : HttpReply → List ℕ
 reply_bytes r =
-    head_bytes r.status r.kind (length (sent_body r.status r.kind r.body)) ++ sent_body r.status r.kind r.body
+    head_bytes r.status r.kind (length (sent_body r.status r.kind r.body)) r.fields.items ++ sent_body r.status r.kind r.body

@@ -1,15 +1,15 @@
 //! The head of a message.
-ghost use Rattle.std.specs.Prelude.{◌≡◌, ◌≤◌, ◌++◌, ℕ, List, length, map, take, drop, not, ◌==◌, Ok, None, Some, IfOk, IfErr, IfSome, IfNone, OnOk, option_copied, All};
+ghost use Rattle.std.specs.Prelude.{◌≡◌, ◌≤◌, ◌++◌, ℕ, List, length, map, take, drop, not, true, ◌==◌, bytes_eq, Ok, None, Some, IfOk, IfErr, IfSome, IfNone, OnOk, option_copied, All};
 ghost use Rattle.std.specs.List.{take_while, prefix_len};
 ghost use Rattle.httparse.specs.Grammar.{RequestHead};
 ghost use Rattle.httparse.specs.Spans.{IsWithin, IsRequestWithin, IsRequestAt, IsRequestOf, header_bytes, span_bytes};
-ghost use Rattle.octo_http.specs.Fields.{key_of, bearer_of, or_else};
-ghost use Rattle.octo_http.specs.Head.{most_fields, most_head, is_path_byte, IsHead, IsRefused, IsOpen, IsFound, head_with};
+ghost use Rattle.octo_http.specs.Fields.{key_of, bearer_of, or_else, is_part_byte, query_key, caller_key};
+ghost use Rattle.octo_http.specs.Head.{most_fields, most_head, is_path_byte, query_of, IsHead, IsRefused, IsOpen, IsFound, head_with};
 
 use crate::MessageFault;
 use crate::fields::FieldSpans;
 use crate::framing::{Framing, framing_of};
-use byte_text::same_text;
+use byte_text::{after, same_text};
 use http::Method;
 use httparse::spans::{EMPTY_HEADER_SPAN, HeaderSpan, RequestSpans, parse_request};
 use httparse::{Error, Status};
@@ -69,7 +69,8 @@ fn key_of<'a>(fields: &FieldSpans<'a>) -> Option<&'a [u8]>
 
 // How many bytes of a target are before its `?`.
 fn path_length(target: &[u8]) -> usize
-    ensures { result ≡ prefix_len is_path_byte target.now }
+    ensures value { result ≡ prefix_len is_path_byte target.now }
+    ensures most { result ≤ length target.now }
 {
     target.iter().take_while(|byte| **byte != b'?').count()
 }
@@ -79,6 +80,59 @@ fn path_of(target: &[u8]) -> &[u8]
     ensures { result.now ≡ take_while is_path_byte target.now }
 {
     &target[..path_length(target)]
+}
+
+// The query of a target: what follows its first `?`.
+fn query_of(target: &[u8]) -> &[u8]
+    ensures { result.now ≡ query_of target.now }
+{
+    after(target, path_length(target) + 1)
+}
+
+// How many bytes of a query are before its next `&`.
+fn part_length(query: &[u8]) -> usize
+    ensures { result ≡ prefix_len is_part_byte query.now }
+{
+    query.iter().take_while(|byte| **byte != b'&').count()
+}
+
+// A part of a query: up to the next `&`.
+fn part_of(query: &[u8]) -> &[u8]
+    ensures { result.now ≡ take_while is_part_byte query.now }
+{
+    &query[..part_length(query)]
+}
+
+// Whether bytes begin with a text.
+fn has_front(bytes: &[u8], text: &[u8]) -> bool
+    ensures { result ≡ bytes_eq (take (length text.now) bytes.now) text.now }
+{
+    text.len() <= bytes.len() && &bytes[..text.len()] == text
+}
+
+// The value of the first `apikey` of a query.
+#[tactic(auto, using(crate::proofs::QueryLemmas::query_steps))]
+fn query_key(query: &[u8]) -> Option<&[u8]>
+    ensures { option_copied result ≡ query_key true query.now }
+{
+    let mut begins = true;
+    for place in 0..query.len() {
+        if begins && has_front(&query[place..], b"apikey=") {
+            return Some(part_of(after(&query[place..], 7)));
+        }
+        begins = query[place] == b'&';
+    }
+    None
+}
+
+// The caller's key: that of the fields, else that of the query.
+fn caller_key<'a>(fields: &FieldSpans<'a>, query: &'a [u8]) -> Option<&'a [u8]>
+    ensures { option_copied result ≡ caller_key fields.now query.now }
+{
+    match key_of(fields) {
+        Some(key) => Some(key),
+        None => query_key(query),
+    }
 }
 
 // A copy of bytes that may be absent.
@@ -115,8 +169,9 @@ fn head_of(
         (span_bytes bytes.now request.now.path) fields.now framing) }
 {
     let method = method_of(alloc, request.method.of(bytes))?;
-    let path = Blob::from_slice(alloc, path_of(request.path.of(bytes)))?;
-    let key = copy_of(alloc, key_of(fields))?;
+    let target = request.path.of(bytes);
+    let path = Blob::from_slice(alloc, path_of(target))?;
+    let key = copy_of(alloc, caller_key(fields, query_of(target)))?;
     let kind = copy_of(alloc, fields.first(b"Content-Type"))?;
     Ok(Head {
         method,

@@ -24,4 +24,4 @@ pub use framing::Framing;
 pub use head::{Found, Head, look};
 pub use message::{Message, read_message};
 pub use part::{Part, look_part};
-pub use reply::{HttpReply, NO_CONTENT, ReplyKind, write_reply};
+pub use reply::{FieldLines, HttpReply, NO_CONTENT, ReplyKind, write_head, write_reply};

@@ -18,7 +18,7 @@ pub struct Message {
     pub method: Method,
     /// The target up to `?`.
     pub path: Blob,
-    /// The caller's key: the first X-Api-Key, else the key of an `Authorization: Bearer`.
+    /// The caller's key: the first X-Api-Key, else the key of an `Authorization: Bearer`, else the `apikey` of the query.
     pub key: Option<Blob>,
     /// The body's type, as Content-Type names it.
     pub kind: Option<Blob>,

@@ -40,7 +40,7 @@ asks_leave_none (entry.Close ∷ es) all = absurd (All-head IsAsk entry.Close es
 
 conn_leaves_none : (patience : ℕ) (input : List ℕ) (conn : ConnState) (is_open : Bool) (calls : History) → IsServed patience input conn is_open calls
     → leaves_made calls ≡ 0
-conn_leaves_none patience input conn is_open calls (no_message fault sent answers cause wrote) = refl
+conn_leaves_none patience input conn is_open calls (no_message fault sent bytes answers cause replied wrote) = refl
 conn_leaves_none patience input conn is_open calls (message m sent reply is made says replied wrote) =
     asks_leave_none made (leads_asks made (leads_to m reply is made replied))
 

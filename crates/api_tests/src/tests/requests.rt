@@ -1,5 +1,6 @@
 //! Messages, and what they ask.
 mod bodies;
+mod commands;
 mod faults;
 mod queue;
 mod uploads;
@@ -70,11 +71,12 @@ fn name_of(request: &Request) -> &'static str {
 fn outcome(answer: &Result<Ask, Direct>) -> &'static str {
     match answer {
         Ok(ask) => name_of(&ask.request),
-        Err(Direct::BadBody) => "BadBody",
+        Err(Direct::BadBody { .. }) => "BadBody",
         Err(Direct::NoRoute) => "NoRoute",
-        Err(Direct::BadMethod) => "BadMethod",
+        Err(Direct::BadMethod { .. }) => "BadMethod",
+        Err(Direct::Options { .. }) => "Options",
         Err(Direct::NoLength) => "NoLength",
-        Err(Direct::BadMedia) => "BadMedia",
+        Err(Direct::BadMedia { .. }) => "BadMedia",
         Err(Direct::NoMemory) => "NoMemory",
     }
 }

@@ -54,13 +54,13 @@ fn each_takes(rt: &impl Abort, alloc: Global, rows: &[(&str, &[&str])]) -> Resul
 
 // The paths of the printer and its job, and the methods that they take.
 const PRINTER_PATHS: [(&str, &[&str]); 8] = [
-    ("/api/version", &["GET"]),
-    ("/api/connection", &["GET", "POST"]),
-    ("/api/printer", &["GET"]),
+    ("/api/version", &["GET", "HEAD"]),
+    ("/api/connection", &["GET", "HEAD", "POST"]),
+    ("/api/printer", &["GET", "HEAD"]),
     ("/api/printer/tool", &["POST"]),
     ("/api/printer/bed", &["POST"]),
     ("/api/printer/command", &["POST"]),
-    ("/api/job", &["GET", "POST"]),
+    ("/api/job", &["GET", "HEAD", "POST"]),
     ("/api/system/commands/core/shutdown", &["POST"]),
 ];
 
@@ -71,10 +71,10 @@ fn printer_paths(rt: HostRuntime) -> Result<(), Fail> {
 
 // Those of files.
 const FILE_PATHS: [(&str, &[&str]); 4] = [
-    ("/api/files", &["GET"]),
-    ("/api/files/local", &["GET", "POST"]),
-    ("/api/files/local/a.gcode", &["GET", "POST", "DELETE"]),
-    ("/downloads/files/local/a.gcode", &["GET"]),
+    ("/api/files", &["GET", "HEAD"]),
+    ("/api/files/local", &["GET", "HEAD", "POST"]),
+    ("/api/files/local/a.gcode", &["GET", "HEAD", "POST", "DELETE"]),
+    ("/downloads/files/local/a.gcode", &["GET", "HEAD"]),
 ];
 
 #[test]
@@ -84,14 +84,29 @@ fn file_paths(rt: HostRuntime) -> Result<(), Fail> {
 
 // Those of users, the queue and the prints.
 const OTHER_PATHS: [(&str, &[&str]); 7] = [
-    ("/api/access/users", &["GET", "POST"]),
+    ("/api/access/users", &["GET", "HEAD", "POST"]),
     ("/api/access/users/ana", &["PUT"]),
-    ("/api/queue", &["GET", "POST"]),
+    ("/api/queue", &["GET", "HEAD", "POST"]),
     ("/api/queue/job-1", &["DELETE"]),
     ("/api/queue/ana/job-1", &["DELETE"]),
     ("/api/queue-next", &["POST"]),
-    ("/api/prints", &["GET"]),
+    ("/api/prints", &["GET", "HEAD"]),
 ];
+
+// Paths with empty parts, which don't count.
+const PLAIN_PATHS: [(&str, &[&str]); 6] = [
+    ("/api/version/", &["GET", "HEAD"]),
+    ("//api/version", &["GET", "HEAD"]),
+    ("/api//job///", &["GET", "HEAD", "POST"]),
+    ("/api/queue/", &["GET", "HEAD", "POST"]),
+    ("/api/access/users//ana/", &["PUT"]),
+    ("//downloads/files//local/a.gcode", &["GET", "HEAD"]),
+];
+
+#[test]
+fn plain_paths(rt: HostRuntime) -> Result<(), Fail> {
+    each_takes(&rt, rt.alloc(), &PLAIN_PATHS)
+}
 
 #[test]
 fn other_paths(rt: HostRuntime) -> Result<(), Fail> {
@@ -132,12 +147,8 @@ fn no_paths(rt: HostRuntime) -> Result<(), Fail> {
         "/api",
         "/api/",
         "/api/nothing",
-        "/api/version/",
-        "//api/version",
         "/API/version",
         "/api/queue/a/b/c",
-        "/api/queue/",
-        "/api/files/local/",
         "/api/files/sdcard",
         "http://127.0.0.1/api/version",
     ];

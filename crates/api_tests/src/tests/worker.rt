@@ -3,6 +3,7 @@ ghost use Rattle.std.specs.Prelude.{None, All, IfOk};
 ghost use Rattle.octo_asks.specs.Place.{no_place};
 ghost use Rattle.octo_outside_doors.specs.Memory.{IsUntouched};
 
+mod methods;
 mod page;
 
 use super::conn_of;
@@ -96,7 +97,7 @@ Content-Type: application/octet-stream\r\n\r\nG28 ; --XY\r\nG1 X10\n\r\n--XY--\r
 // `100 Continue`, and the reply.
 const UPLOAD_REPLY: &[u8] = b"HTTP/1.1 100 Continue\r\n\r\n\
 HTTP/1.1 201 Created\r\nConnection: close\r\nContent-Length: 131\r\n\
-Content-Type: application/json\r\n\r\n\
+Content-Type: application/json\r\nLocation: /api/files/local/a.gcode\r\n\r\n\
 {\"done\":true,\"effectivePrint\":false,\"effectiveSelect\":false,\"files\":{\"local\":\
 {\"name\":\"a.gcode\",\"origin\":\"local\",\"path\":\"a.gcode\"}}}";
 

@@ -1,7 +1,8 @@
 //! A message whose sender waits for `100 Continue`, and a reply.
 use super::cuts::UPLOAD;
 use super::{PATIENCE, conn_of, has_value, has_written, read};
-use octo_http::{HttpReply, ReplyKind, read_message, write_reply};
+use byte_text::append;
+use octo_http::{FieldLines, HttpReply, ReplyKind, read_message, write_head, write_reply};
 use octo_outside::{Blob, MemoryConn};
 use std::alloc::{AllocError, Global};
 use std::test::Fail;
@@ -28,8 +29,36 @@ fn is_printing(alloc: Global) -> Result<HttpReply, AllocError> {
     Ok(HttpReply {
         status: 409,
         kind: ReplyKind::Json,
+        fields: FieldLines::new(),
         body,
     })
+}
+
+// A reply with two further fields.
+#[test]
+fn further_fields(rt: HostRuntime) -> Result<(), Fail> {
+    let alloc = rt.alloc();
+    let mut conn = conn_of(alloc, b"")?;
+    let mut reply = is_printing(alloc)?;
+    reply.fields = FieldLines::new();
+    append(&mut reply.fields, b"Allow: GET\r\nX: y\r\n");
+    assert_eq!(rt; write_reply(&mut conn, &reply), Ok(()));
+    let written = b"HTTP/1.1 409 Conflict\r\nConnection: close\r\nContent-Length: 41\r\n\
+Content-Type: application/json\r\nAllow: GET\r\nX: y\r\n\r\n{\"error\":\"WrongState\",\"state\":\"Printing\"}";
+    assert!(rt; has_written(&conn, written));
+    Ok(())
+}
+
+// The same without its body, as `HEAD` gets it.
+#[test]
+fn head_alone(rt: HostRuntime) -> Result<(), Fail> {
+    let alloc = rt.alloc();
+    let mut conn = conn_of(alloc, b"")?;
+    assert_eq!(rt; write_head(&mut conn, &is_printing(alloc)?), Ok(()));
+    let written = b"HTTP/1.1 409 Conflict\r\nConnection: close\r\nContent-Length: 41\r\n\
+Content-Type: application/json\r\n\r\n";
+    assert!(rt; has_written(&conn, written));
+    Ok(())
 }
 
 // `100 Continue` is written before the body is read, and the reply after it.

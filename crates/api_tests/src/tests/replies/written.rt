@@ -2,7 +2,7 @@
 use super::*;
 use crate::tests::conn_of;
 use octo_api_replies::{direct_bytes, fault_bytes};
-use octo_api_routes::Direct;
+use octo_api_routes::{BodyFault, Direct, MediaFault, Member, Methods};
 use octo_http::{HttpReply, MessageFault, write_reply};
 
 // Whether a reply puts these bytes on a connection.
@@ -152,7 +152,7 @@ fn uploads(rt: HostRuntime) -> Result<(), Fail> {
             print: false,
         },
         "HTTP/1.1 201 Created\r\nConnection: close\r\nContent-Length: 131\r\n\
-Content-Type: application/json\r\n\r\n{\"done\":true,\"effectivePrint\":false,\"effectiveSelect\":false,\"files\":{\"local\":{\"name\":\"a.gcode\",\"origin\":\"local\",\"path\":\"a.gcode\"}}}",
+Content-Type: application/json\r\nLocation: /api/files/local/a.gcode\r\n\r\n{\"done\":true,\"effectivePrint\":false,\"effectiveSelect\":false,\"files\":{\"local\":{\"name\":\"a.gcode\",\"origin\":\"local\",\"path\":\"a.gcode\"}}}",
     )?;
     replies(
         &rt,
@@ -215,26 +215,97 @@ Content-Type: application/octet-stream\r\n\r\n",
 }
 
 // Messages that are no request.
-const DIRECT: [(Direct, &str); 6] = [
+const DIRECT: [(Direct, &str); 12] = [
     (
-        Direct::BadBody,
-        "HTTP/1.1 400 Bad Request\r\nConnection: close\r\nContent-Length: 0\r\n\r\n",
+        Direct::BadBody {
+            fault: BodyFault::LongName { bytes: 109 },
+        },
+        "HTTP/1.1 400 Bad Request\r\nConnection: close\r\nContent-Length: 73\r\n\
+Content-Type: application/json\r\n\r\n{\"error\":\"BadBody\",\"reason\":\"the name has 109 bytes and 100 are allowed\"}",
+    ),
+    (
+        Direct::BadBody {
+            fault: BodyFault::Missing {
+                member: Member::Command,
+            },
+        },
+        "HTTP/1.1 400 Bad Request\r\nConnection: close\r\nContent-Length: 62\r\n\
+Content-Type: application/json\r\n\r\n{\"error\":\"BadBody\",\"reason\":\"the member `command` is missing\"}",
+    ),
+    (
+        Direct::BadBody {
+            fault: BodyFault::Wrong {
+                member: Member::Target,
+            },
+        },
+        "HTTP/1.1 400 Bad Request\r\nConnection: close\r\nContent-Length: 85\r\n\
+Content-Type: application/json\r\n\r\n{\"error\":\"BadBody\",\"reason\":\"the member `target` is no whole number from 0 to 65535\"}",
+    ),
+    (
+        Direct::BadBody {
+            fault: BodyFault::NotJson,
+        },
+        "HTTP/1.1 400 Bad Request\r\nConnection: close\r\nContent-Length: 50\r\n\
+Content-Type: application/json\r\n\r\n{\"error\":\"BadBody\",\"reason\":\"the body is no JSON\"}",
+    ),
+    (
+        Direct::BadBody {
+            fault: BodyFault::NoObject,
+        },
+        "HTTP/1.1 400 Bad Request\r\nConnection: close\r\nContent-Length: 57\r\n\
+Content-Type: application/json\r\n\r\n{\"error\":\"BadBody\",\"reason\":\"the body is no JSON object\"}",
+    ),
+    (
+        Direct::Options {
+            allowed: Methods {
+                get: true,
+                post: false,
+                put: false,
+                delete: true,
+            },
+        },
+        "HTTP/1.1 204 No Content\r\nConnection: close\r\nAllow: GET, HEAD, DELETE\r\n\r\n",
     ),
     (
         Direct::NoRoute,
-        "HTTP/1.1 404 Not Found\r\nConnection: close\r\nContent-Length: 0\r\n\r\n",
+        "HTTP/1.1 404 Not Found\r\nConnection: close\r\nContent-Length: 52\r\n\
+Content-Type: application/json\r\n\r\n{\"error\":\"NoRoute\",\"reason\":\"there is no such path\"}",
     ),
     (
-        Direct::BadMethod,
-        "HTTP/1.1 405 Method Not Allowed\r\nConnection: close\r\nContent-Length: 0\r\n\r\n",
+        Direct::BadMethod {
+            allowed: Methods {
+                get: true,
+                post: false,
+                put: false,
+                delete: true,
+            },
+        },
+        "HTTP/1.1 405 Method Not Allowed\r\nConnection: close\r\nContent-Length: 86\r\n\
+Content-Type: application/json\r\nAllow: GET, HEAD, DELETE\r\n\r\n{\"error\":\"BadMethod\",\"reason\":\"this path takes GET, HEAD, DELETE and no other method\"}",
+    ),
+    (
+        Direct::BadMethod {
+            allowed: Methods {
+                get: false,
+                post: false,
+                put: true,
+                delete: false,
+            },
+        },
+        "HTTP/1.1 405 Method Not Allowed\r\nConnection: close\r\nContent-Length: 72\r\n\
+Content-Type: application/json\r\nAllow: PUT\r\n\r\n{\"error\":\"BadMethod\",\"reason\":\"this path takes PUT and no other method\"}",
     ),
     (
         Direct::NoLength,
-        "HTTP/1.1 411 Length Required\r\nConnection: close\r\nContent-Length: 0\r\n\r\n",
+        "HTTP/1.1 411 Length Required\r\nConnection: close\r\nContent-Length: 80\r\n\
+Content-Type: application/json\r\n\r\n{\"error\":\"NoLength\",\"reason\":\"the body has neither a Content-Length nor chunks\"}",
     ),
     (
-        Direct::BadMedia,
-        "HTTP/1.1 415 Unsupported Media Type\r\nConnection: close\r\nContent-Length: 0\r\n\r\n",
+        Direct::BadMedia {
+            fault: MediaFault::NotJson,
+        },
+        "HTTP/1.1 415 Unsupported Media Type\r\nConnection: close\r\nContent-Length: 64\r\n\
+Content-Type: application/json\r\n\r\n{\"error\":\"BadMedia\",\"reason\":\"this path takes application/json\"}",
     ),
     (
         Direct::NoMemory,
@@ -245,7 +316,7 @@ const DIRECT: [(Direct, &str); 6] = [
 // The replies to messages that are no request put these bytes on a connection.
 fn direct_put(rt: &impl Abort, alloc: Global, rows: &[(Direct, &str)]) -> Result<(), Fail> {
     for (direct, bytes) in rows {
-        puts(rt, alloc, &direct_bytes(alloc, *direct), *bytes)?;
+        puts(rt, alloc, &direct_bytes(alloc, direct), *bytes)?;
     }
     Ok(())
 }
@@ -253,6 +324,22 @@ fn direct_put(rt: &impl Abort, alloc: Global, rows: &[(Direct, &str)]) -> Result
 #[test]
 fn no_requests(rt: HostRuntime) -> Result<(), Fail> {
     direct_put(&rt, rt.alloc(), &DIRECT)
+}
+
+// A file whose name has no ending of a print file is refused with its name.
+#[test]
+fn wrong_ending(rt: HostRuntime) -> Result<(), Fail> {
+    let alloc = rt.alloc();
+    let fault = MediaFault::NoEnding {
+        name: Name::of_short("a.stl"),
+    };
+    puts(
+        &rt,
+        alloc,
+        &direct_bytes(alloc, &Direct::BadMedia { fault }),
+        "HTTP/1.1 415 Unsupported Media Type\r\nConnection: close\r\nContent-Length: 78\r\n\
+Content-Type: application/json\r\n\r\n{\"error\":\"BadMedia\",\"reason\":\"`a.stl` has no print ending (.gcode, .gco, .g)\"}",
+    )
 }
 
 // The bytes that the reply to a faulty message puts on a connection.
@@ -270,23 +357,28 @@ fn fault_puts(
 const FAULTY: [(MessageFault, &str); 6] = [
     (
         MessageFault::BadHead,
-        "HTTP/1.1 400 Bad Request\r\nConnection: close\r\nContent-Length: 0\r\n\r\n",
+        "HTTP/1.1 400 Bad Request\r\nConnection: close\r\nContent-Length: 89\r\n\
+Content-Type: application/json\r\n\r\n{\"error\":\"BadHead\",\"reason\":\"the head is malformed, or its fields contradict each other\"}",
     ),
     (
         MessageFault::BadChunk,
-        "HTTP/1.1 400 Bad Request\r\nConnection: close\r\nContent-Length: 0\r\n\r\n",
+        "HTTP/1.1 400 Bad Request\r\nConnection: close\r\nContent-Length: 76\r\n\
+Content-Type: application/json\r\n\r\n{\"error\":\"BadChunk\",\"reason\":\"a chunk of the body is malformed or too long\"}",
     ),
     (
         MessageFault::HeadTooLarge,
-        "HTTP/1.1 431 Request Header Fields Too Large\r\nConnection: close\r\nContent-Length: 0\r\n\r\n",
+        "HTTP/1.1 431 Request Header Fields Too Large\r\nConnection: close\r\nContent-Length: 93\r\n\
+Content-Type: application/json\r\n\r\n{\"error\":\"HeadTooLarge\",\"reason\":\"the head has more than 16384 bytes or more than 64 fields\"}",
     ),
     (
         MessageFault::BodyTooLarge,
-        "HTTP/1.1 413 Payload Too Large\r\nConnection: close\r\nContent-Length: 0\r\n\r\n",
+        "HTTP/1.1 413 Payload Too Large\r\nConnection: close\r\nContent-Length: 73\r\n\
+Content-Type: application/json\r\n\r\n{\"error\":\"BodyTooLarge\",\"reason\":\"the body has more than 68157440 bytes\"}",
     ),
     (
         MessageFault::Slow { quiet: 3 },
-        "HTTP/1.1 408 Request Timeout\r\nConnection: close\r\nContent-Length: 0\r\n\r\n",
+        "HTTP/1.1 408 Request Timeout\r\nConnection: close\r\nContent-Length: 60\r\n\
+Content-Type: application/json\r\n\r\n{\"error\":\"Slow\",\"reason\":\"the message did not come in time\"}",
     ),
     (
         MessageFault::NoMemory,

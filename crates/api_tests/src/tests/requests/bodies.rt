@@ -59,6 +59,28 @@ fn tools(rt: HostRuntime) -> Result<(), Fail> {
     come_to(&rt, alloc, path, "BadBody", &bodies)
 }
 
+// Targets of a bed, and the degrees that they are. A number counts by its value.
+const DEGREES: [(&str, u16); 5] = [
+    ("{\"command\":\"target\",\"target\":60.0}", 60),
+    ("{\"command\":\"target\",\"target\":5e0}", 5),
+    ("{\"command\":\"target\",\"target\":6.5535E4}", 65535),
+    ("{\"command\":\"target\",\"target\":0.0}", 0),
+    ("{\"command\":\"target\",\"target\":-0}", 0),
+];
+
+// Each body asks for the degrees beside it.
+fn each_asks(rt: &impl Abort, alloc: Global, rows: &[(&str, u16)]) -> Result<(), Fail> {
+    for (body, wanted) in rows {
+        assert!(rt; degrees(alloc, "/api/printer/bed", *body)? == *wanted);
+    }
+    Ok(())
+}
+
+#[test]
+fn whole_numbers(rt: HostRuntime) -> Result<(), Fail> {
+    each_asks(&rt, rt.alloc(), &DEGREES)
+}
+
 #[test]
 fn beds(rt: HostRuntime) -> Result<(), Fail> {
     let alloc = rt.alloc();
@@ -67,11 +89,12 @@ fn beds(rt: HostRuntime) -> Result<(), Fail> {
     assert_eq!(rt; degrees(alloc, path, body)?, 0);
     let bodies = [
         "{\"command\":\"target\",\"target\":65536}",
-        "{\"command\":\"target\",\"target\":5.0}",
         "{\"command\":\"target\",\"target\":5.5}",
-        "{\"command\":\"target\",\"target\":5e0}",
+        "{\"command\":\"target\",\"target\":65535.5}",
+        "{\"command\":\"target\",\"target\":-5.0}",
+        "{\"command\":\"target\",\"target\":5e-1}",
+        "{\"command\":\"target\",\"target\":1e300}",
         "{\"command\":\"target\",\"target\":-1}",
-        "{\"command\":\"target\",\"target\":-0}",
         "{\"command\":\"target\",\"target\":\"60\"}",
         "{\"command\":\"target\"}",
         "{\"target\":60}",
@@ -80,14 +103,19 @@ fn beds(rt: HostRuntime) -> Result<(), Fail> {
 }
 
 // What bodies for the connection come to.
-const CONNECTIONS: [(&str, &str); 6] = [
+const CONNECTIONS: [(&str, &str); 8] = [
     (
         "{\"command\":\"connect\",\"port\":\"p\"}",
         "Connect with a port",
     ),
     ("{\"command\":\"connect\",\"baudrate\":115200}", "Connect"),
     ("{\"command\":\"disconnect\",\"port\":7}", "Disconnect"),
-    ("{\"command\":\"connect\",\"port\":null}", "BadBody"),
+    ("{\"command\":\"connect\",\"port\":null}", "Connect"),
+    ("{\"command\":\"connect\",\"port\":\"AUTO\"}", "Connect"),
+    (
+        "{\"command\":\"connect\",\"port\":\"auto\"}",
+        "Connect with a port",
+    ),
     ("{\"command\":\"connect\",\"port\":\"\"}", "BadBody"),
     (
         "{\"command\":\"connect\",\"port\":\"ppppppppppppppppppppppppppppppppppppppppppppppppppppppppppppppppppppppppppppppppppppppppppppppppppppp\"}",

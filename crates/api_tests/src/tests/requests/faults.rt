@@ -54,18 +54,39 @@ fn path_and_method(rt: HostRuntime) -> Result<(), Fail> {
 }
 
 // Of a body of JSON: whether it has a length, whether it is in a coding, its type, and what the message comes to.
-const JSON_FAULTS: [(bool, bool, &str, &str); 6] = [
+const JSON_FAULTS: [(bool, bool, &str, &str); 11] = [
     (false, true, "text/plain", "NoLength"),
     (true, true, JSON, "BadMedia"),
     (true, false, "text/json", "BadMedia"),
     (true, false, "application/jsonx", "BadMedia"),
     (true, false, "", "BadMedia"),
     (true, false, "Application/JSON;charset=utf-8", "BadBody"),
+    (
+        true,
+        false,
+        " application/json \t; charset=utf-8",
+        "BadBody",
+    ),
+    (true, false, "application/json ", "BadBody"),
+    (true, false, "application/json \"", "BadMedia"),
+    (true, false, "application/json ,", "BadMedia"),
+    (true, false, "application/json charset=utf-8", "BadMedia"),
 ];
 
 #[test]
 fn faults_of_json(rt: HostRuntime) -> Result<(), Fail> {
     posts_are(&rt, rt.alloc(), "/api/job", &JSON_FAULTS)
+}
+
+// OPTIONS asks nothing, whatever its body is.
+#[test]
+fn options(rt: HostRuntime) -> Result<(), Fail> {
+    let alloc = rt.alloc();
+    let options = Method::from_bytes(alloc, b"OPTIONS")?;
+    assert!(rt; faulty(alloc, options, "/api/job", false, true, "")? == "Options");
+    let options = Method::from_bytes(alloc, b"OPTIONS")?;
+    assert!(rt; faulty(alloc, options, "/api/nothing", true, false, JSON)? == "NoRoute");
+    Ok(())
 }
 
 // The same of a form.

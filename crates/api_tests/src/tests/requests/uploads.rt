@@ -69,6 +69,67 @@ fn uploads(rt: HostRuntime) -> Result<(), Fail> {
     are_stored(&rt, rt.alloc(), &UPLOADS)
 }
 
+// Names with bytes beyond ASCII, and those under which they are stored: the last is cut to 100 bytes. The digits are the
+// first of the SHA-256 of the name without its folder.
+const MARKED: [(&str, &str); 5] = [
+    ("деталь.gcode", "____________-89164d85.gcode"),
+    ("крышка.gcode", "____________-6a5ad0e1.gcode"),
+    ("dir/деталь.gcode", "____________-89164d85.gcode"),
+    (".é.G", "___-c04c1682.G"),
+    (
+        "Крышка_редуктора_левая_версия_3_исправленная_0.2mm_PLA_MK3S_3h22m.gcode",
+        "________________________________________________________3__________________________0.-157c59fc.gcode",
+    ),
+];
+
+#[test]
+fn marked_names(rt: HostRuntime) -> Result<(), Fail> {
+    are_stored(&rt, rt.alloc(), &MARKED)
+}
+
+// A form with the folder in which the file is to be stored, and a file.
+fn folder_body(alloc: Global, folder: &str, filename: &str) -> Result<Vec<u8>, AllocError> {
+    let mut body = Vec::from_slice(
+        alloc,
+        b"--XY\r\nContent-Disposition: form-data; name=\"path\"\r\n\r\n",
+    )?;
+    body.extend_from_slice(folder.as_bytes())?;
+    body.extend_from_slice(b"\r\n")?;
+    body.extend_from_slice(upload_body(alloc, filename)?.as_slice())?;
+    Ok(body)
+}
+
+// Whether an upload into a folder is stored under this name.
+fn stores_in(alloc: Global, folder: &str, filename: &str, wanted: &str) -> Result<bool, Fail> {
+    let body = folder_body(alloc, folder, filename)?;
+    let path = "/api/files/local";
+    let message = message(alloc, Method::POST, path, FORM, body.as_slice())?;
+    let ask = to_request(alloc, message)?;
+    Ok(is_file(&ask.request, wanted))
+}
+
+// Folders, names of uploads, and the names under which they are stored.
+const FOLDERS: [(&str, &str, &str); 5] = [
+    ("", "a.gcode", "a.gcode"),
+    ("parts", "offline box.gcode", "parts_offline_box.gcode"),
+    ("parts/left", "dir/a.gcode", "parts_left_a.gcode"),
+    ("..", "a.gcode", "_._a.gcode"),
+    ("части", "a.gcode", "___________a-10c477da.gcode"),
+];
+
+// Each upload into a folder is stored under the name beside it.
+fn are_stored_in(rt: &impl Abort, alloc: Global, rows: &[(&str, &str, &str)]) -> Result<(), Fail> {
+    for (folder, filename, wanted) in rows {
+        assert!(rt; stores_in(alloc, *folder, *filename, *wanted)?, "{wanted}");
+    }
+    Ok(())
+}
+
+#[test]
+fn folders(rt: HostRuntime) -> Result<(), Fail> {
+    are_stored_in(&rt, rt.alloc(), &FOLDERS)
+}
+
 // The name of what an upload of this filename comes to.
 fn upload(alloc: Global, filename: &str) -> Result<&'static str, Fail> {
     let answer = ask_of_upload(alloc, filename)?;

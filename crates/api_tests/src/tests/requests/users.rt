@@ -99,7 +99,12 @@ fn changes(rt: HostRuntime) -> Result<(), Fail> {
 }
 
 // Bodies that change nothing.
-const NO_CHANGES: [&str; 4] = [
+const NO_CHANGES: [&str; 9] = [
+    "[]",
+    "null",
+    "1",
+    "\"x\"",
+    "[{\"active\":false}]",
     "{\"active\": 0, \"groups\": [\"users\"]}",
     "{\"groups\": [\"g0\", \"g1\", \"g2\", \"g3\", \"g4\", \"g5\", \"g6\", \"g7\", \"g8\"]}",
     "{\"key\":null}",

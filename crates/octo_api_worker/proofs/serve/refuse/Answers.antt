@@ -1,12 +1,11 @@
-use Rattle.std.proofs.Common.{ℕ, List, subst}
-use Rattle.octo_api_replies.specs.Replies.{fault_status}
-use Rattle.octo_api_worker.specs.Served.{Sends}
-use Rattle.octo_api_worker.proofs.Calls.{fault_reply}
+use Rattle.std.proofs.Common.{[], Some, None, inl, refl}
+use Rattle.octo_outside.proofs.Recorded.{adds_none}
+use Rattle.octo_http.specs.Reply.{reply_bytes}
 use Rattle.octo_api_worker.proofs.serve.refuse.Goals as goal
 
 pub returns-in-Some-clause-written : goal.returns-in-Some-clause-written
 returns-in-Some-clause-written g c =
-    let At : List ℕ → Type 0 = λ bytes.
-    Sends (g.C.Conn.written c.args.conn.now) (g.C.Conn.written c.write_reply_or_ignore.new.conn) (g.C.Conn.faults c.args.conn.now)
-    (g.C.Conn.faults c.write_reply_or_ignore.new.conn) bytes in
-    subst At (fault_reply (fault_status c.args.fault.now) c.in-Some.reply c.in-Some.ensures) c.write_reply_or_ignore.ensures.written
+    (reply_bytes c.in-Some.reply, (Some c.in-Some.reply, c.in-Some.ensures, refl), c.write_reply_or_ignore.ensures.written)
+
+pub returns-in-None-clause-written : goal.returns-in-None-clause-written
+returns-in-None-clause-written g c = ([], (None, c.in-None.ensures, refl), inl (adds_none (g.C.Conn.written c.args.conn.now)))

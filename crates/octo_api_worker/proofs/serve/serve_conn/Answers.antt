@@ -18,7 +18,7 @@ returns-in-Ok-clause-served g c input new =
       replied.1,
       served_message c.args.patience input (g.C.Conn.left mid) (g.C.Conn.written mid) (g.C.Conn.faults mid) c.in-Ok.message
           c.reply_to_message-replied.result.reply c.reply_to_message-replied.result.is_open replied.0
-          (state_of g.C.Conn.left g.C.Conn.written g.C.Conn.faults g.C.Conn.quiets c.write_worker_reply.new.conn)
+          (state_of g.C.Conn.left g.C.Conn.written g.C.Conn.faults g.C.Conn.quiets c.write_worker_reply.new.conn) c.is_head-head_alone.result c.is_head-head_alone.ensures
           (subst At (ap (λ (s : ConnState). s.written) new) (λ before e. c.in-Ok.ensures.answer before (ap (λ (s : ConnState). s.left) new ∙ e)))
           replied.2 c.write_worker_reply.ensures.written c.write_worker_reply.ensures.counted,
     )
@@ -32,11 +32,11 @@ returns-in-Err-clause-served g c input new =
       [],
       adds_none (g.A.Asker.mine c.args.asker.now),
       unread c.args.patience input (g.C.Conn.left mid) (g.C.Conn.written mid) (g.C.Conn.faults mid) (g.C.Conn.quiets mid) c.in-Err.fault
-          (state_of g.C.Conn.left g.C.Conn.written g.C.Conn.faults g.C.Conn.quiets c.refuse.new.conn)
+          (state_of g.C.Conn.left g.C.Conn.written g.C.Conn.faults g.C.Conn.quiets c.refuse.new.conn) c.refuse.ensures.written.0
           (subst At (ap (λ (s : ConnState). s.written) new) (λ before e. c.in-Err.ensures.answer before (ap (λ (s : ConnState). s.left) new ∙ e)))
           (subst Patient (ap (λ (s : ConnState). s.quiets) new) c.in-Err.ensures.patient)
           (λ is. subst Rises (ap (λ (s : ConnState). s.faults) new) (c.in-Err.ensures.counts.rose (ap Err is)))
-          c.refuse.ensures.written c.refuse.ensures.left c.refuse.ensures.quiets c.refuse.ensures.counted,
+          c.refuse.ensures.written.1 c.refuse.ensures.written.2 c.refuse.ensures.left c.refuse.ensures.quiets c.refuse.ensures.counted,
     )
 
 pub returns-in-Ok-clause-once : goal.returns-in-Ok-clause-once
