@@ -9,6 +9,9 @@ use Rattle.octo_asks.specs.declared.shown.ShownHeat.{ShownHeat}
 use Rattle.octo_asks.specs.declared.shown.ShownFile.{ShownFile}
 use Rattle.octo_api_replies.specs.Texts.{state_text}
 use Rattle.octo_api_replies.specs.Items.{count, texts_data, heat_data}
+use Rattle.octo_asks.specs.declared.answer.PrintRefusal.{PrintRefusal}
+use Rattle.octo_asks.specs.declared.answer.PrintRefusal.TheVariants as refusal
+use Rattle.octo_api_replies.specs.Refusals.{denied_data, wrong_state_data, too_hot_line_data, full_data}
 
 -- the version
 abbrev pub version_data : Data
@@ -186,6 +189,23 @@ uploaded_data name select print = object (
     (member (codes "effectiveSelect") (boolean select)
     (member (codes "files") (stored_place name)
     no_members))))
+
+-- what the print of an upload is refused for, as the refusal of a start
+abbrev pub print_refusal_data : PrintRefusal → Data
+print_refusal_data (refusal.Denied permission) = denied_data (Some permission)
+print_refusal_data (refusal.WrongState state) = wrong_state_data state
+print_refusal_data (refusal.TooHotLine line asked limit) = too_hot_line_data line asked limit
+print_refusal_data (refusal.Full held) = full_data held
+
+-- an upload whose print is refused
+abbrev pub unprinted_data : List ℕ → Bool → PrintRefusal → Data
+unprinted_data name select why = object (
+    member (codes "done") (boolean true)
+    (member (codes "effectivePrint") (boolean false)
+    (member (codes "effectiveSelect") (boolean select)
+    (member (codes "files") (stored_place name)
+    (member (codes "printRefused") (print_refusal_data why)
+    no_members)))))
 
 -- an upload whose print wasn't started for this cause
 abbrev pub stored_data : List ℕ → List ℕ → Data

@@ -15,7 +15,7 @@ use Rattle.octo_asks.specs.declared.answer.Answer.TheVariants as answer
 use Rattle.octo_asks.specs.declared.answer.StoredCause.{StoredCause}
 use Rattle.octo_asks.specs.declared.answer.StoredCause.TheVariants as cause
 use Rattle.octo_api_replies.specs.Items.{file_data, user_data, entry_data, print_data}
-use Rattle.octo_api_replies.specs.Pages.{version_data, connection_data, printer_data, job_data, list_data, uploaded_data, stored_data}
+use Rattle.octo_api_replies.specs.Pages.{version_data, connection_data, printer_data, job_data, list_data, uploaded_data, unprinted_data, stored_data}
 use Rattle.octo_api_replies.specs.Reasons.{body_reason, media_reason, method_reason, allow_line}
 use Rattle.octo_api_replies.specs.Refusals.{refusal_data, noted_data, denied_data, wrong_state_data, bad_line_data, too_large_data, too_hot_data, too_hot_line_data, name_taken_data, full_data}
 use Rattle.octo_api_routes.specs.declared.direct.Methods.{Methods}
@@ -73,6 +73,7 @@ reply_of (answer.Files files) = json_reply 200 (list_data (codes "files") (map f
 reply_of (answer.File file) = json_reply 200 (file_data file)
 reply_of (answer.Download bytes) = bytes_reply bytes
 reply_of (answer.Uploaded name select print) = with_location name (json_reply 201 (uploaded_data name select print))
+reply_of (answer.Unprinted name select why) = with_location name (json_reply 201 (unprinted_data name select why))
 reply_of (answer.Stored name cause) = stored_reply name cause
 reply_of (answer.Users users) = json_reply 200 (list_data (codes "users") (map user_data users))
 reply_of (answer.User user) = json_reply 201 (user_data user)

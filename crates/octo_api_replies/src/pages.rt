@@ -2,18 +2,18 @@
 ghost use Rattle.std.specs.Prelude.{◌≡◌, IfOk};
 ghost use Rattle.serde_json.specs.View.{view, members_view};
 ghost use Rattle.octo_api_replies.specs.Objects.{primitive_data};
-ghost use Rattle.octo_api_replies.specs.Pages.{version_data, current_data, options_data, text_or_null, connection_data, selected_data, printed_data, progress_data, course_members, job_data, stored_place, uploaded_data, stored_data};
+ghost use Rattle.octo_api_replies.specs.Pages.{version_data, current_data, options_data, text_or_null, connection_data, selected_data, printed_data, progress_data, course_members, job_data, stored_place, uploaded_data, print_refusal_data, unprinted_data, stored_data};
 ghost use Rattle.octo_asks.specs.declared.answer.Answer.TheVariants as answer;
 ghost use Rattle.octo_api_replies.specs.Replies.{json_reply, stored_reply, location_line, reply_of};
 
 use crate::lists::list_of;
 use crate::objects::{Members, Primitive, members_of, object_of, object_with, pair, with_member};
 use crate::status::{CREATED, INSUFFICIENT_STORAGE, OK, SERVICE_UNAVAILABLE};
-use crate::texts::{KEEPER_FAULT, state_text};
+use crate::texts::{KEEPER_FAULT, permission_text, state_text};
 use crate::written::{json_reply, object_reply, object_reply_with};
 use byte_text::{Name, append};
 use job_desk::State;
-use octo_asks::{Progress, ShownFile, StoredCause};
+use octo_asks::{PrintRefusal, Progress, ShownFile, StoredCause};
 use octo_http::{FieldLines, HttpReply};
 use serde_json::Value;
 use std::alloc::{AllocError, Global};
@@ -247,6 +247,86 @@ pub(crate) fn uploaded_reply(
     ensures { IfOk result (λ reply. reply ≡ reply_of (answer.Uploaded name.now select print)) }
 {
     let mut reply = uploaded_page(alloc, name, select, print)?;
+    reply.fields = location_line(name);
+    Ok(reply)
+}
+
+// What the print of an upload is refused for.
+fn print_refusal_value(alloc: Global, refusal: PrintRefusal) -> Result<Value, AllocError>
+    ensures { IfOk result (λ value. view value ≡ print_refusal_data refusal) }
+{
+    match refusal {
+        PrintRefusal::Denied { permission } => object_of(
+            alloc,
+            &[
+                ("error", Primitive::Text("Denied")),
+                (
+                    "permission",
+                    Primitive::Text(permission_text(Some(permission))),
+                ),
+            ],
+        ),
+        PrintRefusal::WrongState { state } => object_of(
+            alloc,
+            &[
+                ("error", Primitive::Text("WrongState")),
+                ("state", Primitive::Text(state_text(state))),
+            ],
+        ),
+        PrintRefusal::TooHotLine { line, asked, limit } => object_of(
+            alloc,
+            &[
+                ("asked", Primitive::Count(asked)),
+                ("error", Primitive::Text("TooHotLine")),
+                ("limit", Primitive::Count(limit.into())),
+                ("line", Primitive::Count(line.into())),
+            ],
+        ),
+        PrintRefusal::Full { count } => object_of(
+            alloc,
+            &[
+                ("count", Primitive::Count(count.into())),
+                ("error", Primitive::Text("Full")),
+            ],
+        ),
+    }
+}
+
+// An upload whose print, which was asked for, is refused, without its field.
+fn unprinted_page(
+    alloc: Global,
+    name: &Name,
+    select: bool,
+    refusal: PrintRefusal,
+) -> Result<HttpReply, AllocError>
+    ensures { IfOk result (λ reply. reply
+        ≡ json_reply 201 (unprinted_data name.now select refusal)) }
+{
+    let members = members_of(
+        alloc,
+        &[
+            ("done", Primitive::Flag(true)),
+            ("effectivePrint", Primitive::Flag(false)),
+            ("effectiveSelect", Primitive::Flag(select)),
+        ],
+    )?;
+    let members = with_member(alloc, members, "files", stored_place(alloc, name)?)?;
+    let refused = print_refusal_value(alloc, refusal)?;
+    let members = with_member(alloc, members, "printRefused", refused)?;
+    json_reply(alloc, CREATED, Value::Object(members))
+}
+
+// An upload whose print, which was asked for, is refused.
+pub(crate) fn unprinted_reply(
+    alloc: Global,
+    name: &Name,
+    select: bool,
+    refusal: PrintRefusal,
+) -> Result<HttpReply, AllocError>
+    ensures { IfOk result (λ reply. reply
+        ≡ reply_of (answer.Unprinted name.now select refusal)) }
+{
+    let mut reply = unprinted_page(alloc, name, select, refusal)?;
     reply.fields = location_line(name);
     Ok(reply)
 }

@@ -3,7 +3,9 @@ ghost use Rattle.std.specs.Prelude.{◌≡◌, false, IfOk};
 ghost use Rattle.octo_api_replies.specs.Replies.{bytes_reply, reply_of, is_file};
 
 use crate::direct::empty_reply;
-use crate::pages::{connection_reply, job_reply, stored_reply, uploaded_reply, version_reply};
+use crate::pages::{
+    connection_reply, job_reply, stored_reply, unprinted_reply, uploaded_reply, version_reply,
+};
 use crate::printer::printer_reply;
 use crate::refusals::refusal_reply;
 use crate::status::{CREATED, OK};
@@ -49,6 +51,11 @@ fn page_reply(alloc: Global, answer: &Answer) -> Result<HttpReply, AllocError>
             select,
             print,
         } => uploaded_reply(alloc, name, *select, *print),
+        Answer::Unprinted {
+            name,
+            select,
+            refusal,
+        } => unprinted_reply(alloc, name, *select, *refusal),
         Answer::Stored { name, cause } => stored_reply(alloc, name, *cause),
         Answer::Users { users } => list_reply(alloc, "users", users.as_slice()),
         Answer::User { user } => item_reply(alloc, CREATED, user),

@@ -18,6 +18,19 @@ pub enum StoredCause {
     NoMemory,
 }
 
+/// Why the print that an upload asks for isn't started: what a start of the file would be refused for.
+#[derive(Clone, Copy, Debug, PartialEq, Eq)]
+pub enum PrintRefusal {
+    /// The user lacks a permission.
+    Denied { permission: Permission },
+    /// The printer isn't operational.
+    WrongState { state: State },
+    /// A command of the file asks for more degrees than the limit; lines are counted from 1.
+    TooHotLine { line: u32, asked: u64, limit: u16 },
+    /// This number of records of prints is held, the most.
+    Full { count: u32 },
+}
+
 /// An answer: the values that a reply shows and no others, or why a request is refused.
 #[derive(Drop)]
 pub enum Answer {
@@ -60,6 +73,12 @@ pub enum Answer {
         name: Name,
         select: bool,
         print: bool,
+    },
+    /// A file was stored, and its print, which was asked for, is refused; whether it was selected.
+    Unprinted {
+        name: Name,
+        select: bool,
+        refusal: PrintRefusal,
     },
     /// A file was stored and selected, but its print was not started.
     Stored {

@@ -12,7 +12,7 @@ mod request;
 mod rights;
 mod shown;
 
-pub use answer::{Answer, StoredCause};
+pub use answer::{Answer, PrintRefusal, StoredCause};
 pub use asker::{Asker, Closed};
 pub use counter::{Counter, Given, Next};
 pub use entry::Entry;

@@ -1,5 +1,5 @@
 -- Dropping a selection changes the selected file alone, so a stored upload is selected and printed as it would have been before.
-use Rattle.std.proofs.Common.{◌≡◌, ℕ, Bool, true, false, ◌&&◌, ◌||◌, cond, is_none, List, None, Err, refl, ap, ◌∙◌}
+use Rattle.std.proofs.Common.{◌≡◌, ℕ, Bool, true, false, ◌&&◌, ◌||◌, cond, not, is_none, List, Option, Some, None, Err, refl, ap, ◌∙◌}
 use Rattle.temp_rules.specs.Hot.{first_hot_of}
 use Rattle.temp_rules.specs.declared.limits.Limits.{Limits}
 use Rattle.job_desk.specs.Data.{Data, File}
@@ -10,10 +10,12 @@ use Rattle.job_desk.specs.declared.state.Refusal.TheVariants as refusal
 use Rattle.octo_access.specs.Rights.{has}
 use Rattle.octo_access.specs.declared.permission.Permission.TheVariants as permission
 use Rattle.octo_access.specs.declared.row.UserRow.{UserRow}
+use Rattle.octo_asks.specs.declared.answer.PrintRefusal.{PrintRefusal}
+use Rattle.octo_asks.specs.declared.answer.PrintRefusal.TheVariants as why
 use Rattle.octo_house_rules.specs.Known.{Known}
 use Rattle.octo_house_rules.specs.Prints.{has_room}
 use Rattle.octo_house_rules.specs.States.{may_select, may_start}
-use Rattle.octo_house_rules.specs.Uploads.{is_selected, is_printed}
+use Rattle.octo_house_rules.specs.Uploads.{is_selected, is_printed, hot_or_full, refusal_of}
 use Rattle.octo_house.specs.Storing.{with_stored}
 
 abbrev dropped : Bool → Bool → Data → table.Answer
@@ -47,3 +49,17 @@ same-printed user print file name k =
     (print && (has k.policy user permission.Print && may_start s)) && (is_none (first_hot_of limits file.job.commands) && has_room k) in
     ap (λ s. printed s (drop_file_step name k.desk).1.limits) (same-state name k.desk)
     ∙ ap (λ limits. printed k.desk.state limits) (same-limits name k.desk)
+
+pub same-refusal : (user : UserRow) (select print : Bool) (file : File) (name : List ℕ) (k : Known)
+    → refusal_of user select print file (with_stored name k) ≡ refusal_of user select print file k
+same-refusal user select print file name k =
+    let reason : State → Limits → PrintRefusal = λ s limits.
+    cond (not (has k.policy user permission.FilesSelect)) (why.Denied permission.FilesSelect)
+    (cond (not (has k.policy user permission.Print)) (why.Denied permission.Print)
+    (cond (not (may_start s)) (why.WrongState s) (hot_or_full (first_hot_of limits file.job.commands) k))) in
+    let refused : State → Limits → Option PrintRefusal = λ s limits.
+    cond (print && not (((select || print) && (has k.policy user permission.FilesSelect && may_select s))
+    && ((print && (has k.policy user permission.Print && may_start s)) && (is_none (first_hot_of limits file.job.commands) && has_room k))))
+    (Some (reason s limits)) None in
+    ap (λ s. refused s (drop_file_step name k.desk).1.limits) (same-state name k.desk)
+    ∙ ap (λ limits. refused k.desk.state limits) (same-limits name k.desk)

@@ -12,6 +12,7 @@ use Rattle.octo_access.specs.declared.refusal.UserRefusal.{UserRefusal}
 use Rattle.octo_access.specs.declared.row.UserRow.{UserRow}
 use Rattle.octo_keeper.specs.Files.{bytes_of}
 use Rattle.octo_keeper.specs.declared.shelf.ShelfFile.{ShelfFile}
+use Rattle.octo_asks.specs.declared.answer.PrintRefusal.{PrintRefusal}
 use Rattle.octo_asks.specs.declared.answer.Answer.{Answer}
 use Rattle.octo_asks.specs.declared.answer.Answer.TheVariants as answer
 use Rattle.octo_asks.specs.declared.request.Request.{Request}
@@ -25,7 +26,7 @@ use Rattle.octo_house_rules.specs.Answers.{request_verdict}
 use Rattle.octo_house_rules.specs.Known.{Known, next_print_number, is_held}
 use Rattle.octo_house_rules.specs.Prints.{port_for, commands_in, first_hot_text, manual_verdict, has_room}
 use Rattle.octo_house_rules.specs.States.{may_select, may_show, may_shut_down, may_start}
-use Rattle.octo_house_rules.specs.Uploads.{has_file_room, is_selected, is_printed, after_storing, read_file, print_verdict, select_by, store_verdict, take_verdict}
+use Rattle.octo_house_rules.specs.Uploads.{has_file_room, is_selected, is_printed, refusal_of, after_storing, read_file, print_verdict, select_by, store_verdict, take_verdict}
 use Rattle.octo_house_rules.specs.Refusals.{refused_if, if_desk_allows, if_users_allow, unless_too_hot, found_or, read_as}
 use Rattle.octo_access.specs.Changes.{put_refusal, change_refusal}
 use Rattle.octo_access.specs.Rows.{row_named, with_row, replaced}
@@ -134,16 +135,16 @@ module _ (asks changes : Bool) where
   user-set : (row : UserRow) (k : Known) → Within asks changes (replace_verdict row k)
   user-set row k = user-allowed (change_refusal k.policy row k.users) (writes answer.Accepted (with_users (replaced row k.users) k)) tt
 
-  storing : (select print : Bool) (user : List ℕ) (one : File) (k : Known) → Within asks changes (after_storing select print user one k)
-  storing false print user one k = tt
-  storing true false user one k = tt
-  storing true true user one k = tt
+  storing : (select print : Bool) (why : Option PrintRefusal) (user : List ℕ) (one : File) (k : Known) → Within asks changes (after_storing select print why user one k)
+  storing false print why user one k = tt
+  storing true false why user one k = tt
+  storing true true why user one k = tt
 
   stores-it : changes ≡ true → (user : UserRow) (bytes : List ℕ) (select print : Bool) (k : Known) (one : File)
       → Within asks changes (store_verdict user bytes select print k one)
   stores-it on user bytes select print k one =
       allowed (drop_file_step one.name k.desk).0 _ (refused (not (has_file_room one.name k)) _ _
-      (on, storing (is_selected user select print k) (is_printed user print one k) user.name one _))
+      (on, storing (is_selected user select print k) (is_printed user print one k) (refusal_of user select print one k) user.name one _))
 
 -- whether a request stores or deletes a file
 abbrev pub is_storing : Request → Bool

@@ -20,6 +20,7 @@ use Rattle.job_desk.specs.Data.{File, named_file}
 use Rattle.job_desk.specs.Run.{DeskCall, Connect, Disconnect, Select, Pause, Resume, Toggle, Cancel, Manually}
 use Rattle.job_desk.specs.declared.state.Refusal.{Refusal}
 use Rattle.octo_asks.specs.Shown.{shown_entry}
+use Rattle.octo_asks.specs.declared.answer.PrintRefusal.{PrintRefusal}
 use Rattle.octo_asks.specs.declared.answer.Answer.{Answer}
 use Rattle.octo_asks.specs.declared.answer.Answer.TheVariants as answer
 use Rattle.octo_asks.specs.declared.request.Request.{Request}
@@ -28,7 +29,7 @@ use Rattle.octo_house_rules.specs.Known.{Known}
 use Rattle.octo_house_rules.specs.Refusals.{answer_of_refusal, answer_of_user_refusal, answer_of_queue_refusal, refused_if, if_desk_allows, if_users_allow, unless_too_hot, found_or, read_as}
 use Rattle.octo_house_rules.specs.Prints.{port_for, commands_in, first_hot_text, manual_verdict, restart_deed}
 use Rattle.octo_house_rules.specs.Rows.{with_queue, put_by}
-use Rattle.octo_house_rules.specs.Uploads.{read_file, print_verdict, select_by, store_deed, after_storing, is_selected, is_printed, store_verdict, take_verdict}
+use Rattle.octo_house_rules.specs.Uploads.{read_file, print_verdict, select_by, store_deed, after_storing, is_selected, is_printed, refusal_of, unprinted, store_verdict, take_verdict}
 use Rattle.octo_house_rules.specs.Verdict.{Verdict, Deed, at_desk, gives, makes, writes, reads, removes, stores, begins, is_fault, is_stored, known_after, known_in, after}
 use Rattle.octo_house_rules.specs.Answers.{request_verdict, unless_lacking, verdict_of_caller, lacking, verdict_by}
 use Rattle.octo_house_laws.specs.Limits.{IsCool}
@@ -126,10 +127,10 @@ module _ (limits : Limits) where
   stored_cool false file k = (tt, tt)
   stored_cool true file k = (tt, (tt, tt))
 
-  by-storing : (select print : Bool) (user : List ℕ) (file : File) (k : Known) → CoolVerdict (after_storing select print user file k)
-  by-storing false print user file k = gives-cool (answer.Uploaded file.name false false)
-  by-storing true false user file k = gives-cool (answer.Uploaded file.name true false)
-  by-storing true true user file k = begins-cool (answer.Uploaded file.name true true) _ file.name (tt, tt)
+  by-storing : (select print : Bool) (why : Option PrintRefusal) (user : List ℕ) (file : File) (k : Known) → CoolVerdict (after_storing select print why user file k)
+  by-storing false print why user file k = gives-cool (unprinted file.name false why)
+  by-storing true false why user file k = gives-cool (unprinted file.name true why)
+  by-storing true true why user file k = begins-cool (answer.Uploaded file.name true true) _ file.name (tt, tt)
 
   -- one call at the desk that brings no text
   by-call : (call : DeskCall) (k : Known) → IsCoolCall limits call → CoolVerdict (makes answer.Accepted (at_desk (call ∷ []) k))
@@ -140,7 +141,7 @@ module _ (limits : Limits) where
     by-store bytes select print file =
         by-desk _ _ (by-test _ _ _ (stores-cool file.name bytes (store_deed (is_selected user select print k) file k) _ (stored_cool
         (is_selected user select print k) file k)
-        (by-storing (is_selected user select print k) (is_printed user print file k) user.name file (known_after (store_deed
+        (by-storing (is_selected user select print k) (is_printed user print file k) (refusal_of user select print file k) user.name file (known_after (store_deed
         (is_selected user select print k) file k) k))))
 
     by-take : (entry : QueueEntry) → CoolVerdict (take_verdict files k entry)

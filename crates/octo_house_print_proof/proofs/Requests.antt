@@ -24,6 +24,7 @@ use Rattle.job_desk.specs.Table.{connect_at, restart_at}
 use Rattle.job_desk.specs.declared.state.Refusal.{Refusal}
 use Rattle.print_queue.specs.Rows.{insert_row, without_copy}
 use Rattle.octo_asks.specs.Shown.{shown_entry}
+use Rattle.octo_asks.specs.declared.answer.PrintRefusal.{PrintRefusal}
 use Rattle.octo_asks.specs.declared.answer.Answer.{Answer}
 use Rattle.octo_asks.specs.declared.answer.Answer.TheVariants as answer
 use Rattle.octo_asks.specs.declared.request.Request.{Request}
@@ -32,7 +33,7 @@ use Rattle.octo_house_rules.specs.Known.{Known, next_print_number}
 use Rattle.octo_house_rules.specs.Refusals.{answer_of_refusal, answer_of_user_refusal, answer_of_queue_refusal, refused_if, if_desk_allows, if_users_allow, unless_too_hot, found_or, read_as}
 use Rattle.octo_house_rules.specs.Prints.{port_for, commands_in, manual_verdict, restart_deed}
 use Rattle.octo_house_rules.specs.Rows.{with_queue, put_by}
-use Rattle.octo_house_rules.specs.Uploads.{read_file, print_verdict, select_by, store_deed, after_storing, is_selected, is_printed, store_verdict, take_verdict}
+use Rattle.octo_house_rules.specs.Uploads.{read_file, print_verdict, select_by, store_deed, after_storing, is_selected, is_printed, refusal_of, unprinted, store_verdict, take_verdict}
 use Rattle.octo_house_rules.specs.Verdict.{Verdict, Deed, at_desk, gives, makes, writes, reads, removes, stores, begins, known_after, is_fault, is_stored, calls_in, calls_after, files_in, files_after}
 use Rattle.job_desk.specs.Run.{DeskCall, Connect, Select, Start, Restart}
 use Rattle.octo_house_rules.specs.Selected.{IsOnShelf}
@@ -196,10 +197,10 @@ module _ (files : List ShelfFile) (k : Known) where
   stored-made true false user file next on = ((tt, tt, inl refl), ((tt, on, inl refl), tt))
   stored-made true true user file next on = ((tt, tt, inl refl), ((tt, on, inl refl), tt))
 
-by-storing : (files : List ShelfFile) (select print : Bool) (user : List ℕ) (file : File) (k : Known) → Asks files (after_storing select print user file k)
-by-storing files false print user file k = gives-one (answer.Uploaded file.name false false)
-by-storing files true false user file k = gives-one (answer.Uploaded file.name true false)
-by-storing files true true user file k = begins-one (answer.Uploaded file.name true true) _ file.name ((tt, tt, inr refl), tt)
+by-storing : (files : List ShelfFile) (select print : Bool) (why : Option PrintRefusal) (user : List ℕ) (file : File) (k : Known) → Asks files (after_storing select print why user file k)
+by-storing files false print why user file k = gives-one (unprinted file.name false why)
+by-storing files true false why user file k = gives-one (unprinted file.name true why)
+by-storing files true true why user file k = begins-one (answer.Uploaded file.name true true) _ file.name ((tt, tt, inr refl), tt)
 
 module _ (user : UserRow) (files : List ShelfFile) (k : Known) where
   by-store : (bytes : List ℕ) (select print : Bool) (file : File) → job_of bytes ≡ Ok file.job → Asks files (store_verdict user bytes select print k file)
@@ -211,7 +212,7 @@ module _ (user : UserRow) (files : List ShelfFile) (k : Known) where
       by-desk files k _ _ (by-test files k _ _ _
       (stores-one file.name bytes (store_deed selects file k) _ (stored-none held k selects file)
       (stored-made held k selects prints user.name file next (record { bytes = bytes; held = stored_bytes file.name bytes files; read = read }))
-      (by-storing held selects prints user.name file next)))
+      (by-storing held selects prints (refusal_of user select print file k) user.name file next)))
 
   by-take : (entry : QueueEntry) → Asks files (take_verdict files k entry)
   by-take entry = by-test files k _ _ _

@@ -20,6 +20,7 @@ use Rattle.job_desk.specs.declared.state.Refusal.{Refusal}
 use Rattle.job_desk.proofs.Steady.{steady-connect, steady-disconnect, steady-select, steady-drop_file, steady-pause, steady-resume, steady-toggle, steady-cancel, steady-manual}
 use Rattle.print_queue.specs.Rows.{insert_row, without_copy}
 use Rattle.octo_asks.specs.Shown.{shown_entry}
+use Rattle.octo_asks.specs.declared.answer.PrintRefusal.{PrintRefusal}
 use Rattle.octo_asks.specs.declared.answer.Answer.{Answer}
 use Rattle.octo_asks.specs.declared.answer.Answer.TheVariants as answer
 use Rattle.octo_asks.specs.declared.request.Request.{Request}
@@ -28,7 +29,7 @@ use Rattle.octo_house_rules.specs.Known.{Known, next_print_number}
 use Rattle.octo_house_rules.specs.Refusals.{answer_of_refusal, answer_of_user_refusal, answer_of_queue_refusal, refused_if, if_desk_allows, if_users_allow, unless_too_hot, found_or, read_as}
 use Rattle.octo_house_rules.specs.Prints.{port_for, commands_in, manual_verdict, restart_deed}
 use Rattle.octo_house_rules.specs.Rows.{with_queue, put_by}
-use Rattle.octo_house_rules.specs.Uploads.{read_file, print_verdict, select_by, store_deed, after_storing, is_selected, is_printed, store_verdict, take_verdict}
+use Rattle.octo_house_rules.specs.Uploads.{read_file, print_verdict, select_by, store_deed, after_storing, is_selected, is_printed, refusal_of, unprinted, store_verdict, take_verdict}
 use Rattle.octo_house_rules.specs.Verdict.{Verdict, Deed, at_desk, gives, writes, known_after}
 use Rattle.octo_house_rules.specs.Answers.{request_verdict, unless_lacking, verdict_of_caller, lacking, verdict_by}
 use Rattle.octo_house_rules.proofs.Played.{IsNumbered, Played, Plays, gives-one, makes-one, writes-one, reads-one, removes-one, stores-one, begins-one, played_none, played_start, played_select_start, played_restart, played_call, stays_numbered}
@@ -96,16 +97,16 @@ module _ (k : Known) where
       told = λ before ends t. t;
     }
 
-by-storing : (select print : Bool) (user : List ℕ) (file : File) (k : Known) → IsNumbered k → Plays (after_storing select print user file k) k
-by-storing false print user file k n = gives-one (answer.Uploaded file.name false false) k
-by-storing true false user file k n = gives-one (answer.Uploaded file.name true false) k
-by-storing true true user file k n = begins-one (answer.Uploaded file.name true true) _ file.name k (played_start user (Some file) k n)
+by-storing : (select print : Bool) (why : Option PrintRefusal) (user : List ℕ) (file : File) (k : Known) → IsNumbered k → Plays (after_storing select print why user file k) k
+by-storing false print why user file k n = gives-one (unprinted file.name false why) k
+by-storing true false why user file k n = gives-one (unprinted file.name true why) k
+by-storing true true why user file k n = begins-one (answer.Uploaded file.name true true) _ file.name k (played_start user (Some file) k n)
 
 module _ (user : UserRow) (files : List ShelfFile) (k : Known) (n : IsNumbered k) where
   by-store : (bytes : List ℕ) (select print : Bool) (file : File) → Plays (store_verdict user bytes select print k file) k
   by-store bytes select print file =
       let played = stored-played k n (is_selected user select print k) file in
-      by-desk k _ _ (by-test k _ _ _ (stores-one file.name bytes (store_deed (is_selected user select print k) file k) _ k played (by-storing (is_selected user select print k) (is_printed user print file k) user.name file (known_after (store_deed (is_selected user select print k) file k) k) played.numbered)))
+      by-desk k _ _ (by-test k _ _ _ (stores-one file.name bytes (store_deed (is_selected user select print k) file k) _ k played (by-storing (is_selected user select print k) (is_printed user print file k) (refusal_of user select print file k) user.name file (known_after (store_deed (is_selected user select print k) file k) k) played.numbered)))
 
   by-take : (entry : QueueEntry) → Plays (take_verdict files k entry) k
   by-take entry = by-test k _ _ _ (by-file k entry.file files _ (λ file. by-print k n (answer.TakenEntry (shown_entry entry)) entry.user (without_copy entry.user entry.name k.queue) file))

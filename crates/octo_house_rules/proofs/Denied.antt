@@ -23,6 +23,7 @@ use Rattle.print_queue.specs.declared.refusal.QueueRefusal.TheVariants as queue_
 use Rattle.print_queue.specs.Rows.{without_copy}
 use Rattle.octo_asks.specs.Rights.{needed}
 use Rattle.octo_asks.specs.Shown.{shown_entry}
+use Rattle.octo_asks.specs.declared.answer.PrintRefusal.{PrintRefusal}
 use Rattle.octo_asks.specs.declared.answer.Answer.{Answer}
 use Rattle.octo_asks.specs.declared.answer.Answer.TheVariants as answer
 use Rattle.octo_asks.specs.declared.request.Ask.{Ask}
@@ -140,13 +141,15 @@ by-select : (print : Bool) (user name : List ℕ) (files : List ShelfFile) (k : 
 by-select false user name files k = by-test _ (answer.WrongState k.desk.state) _ refl (by-file name files _ (λ file. by-makes answer.Accepted (at_desk (Select file ∷ []) k) refl))
 by-select true user name files k = by-test _ (answer.WrongState k.desk.state) _ refl (by-file name files _ (λ file. by-print answer.Accepted user k.queue k file refl))
 
-by-storing : (select print : Bool) (user : List ℕ) (file : File) (k : Known) → Grants (after_storing select print user file k)
-by-storing false print user file k = by-gives (answer.Uploaded file.name false false) refl
-by-storing true false user file k = by-gives (answer.Uploaded file.name true false) refl
-by-storing true true user file k = by-begins (answer.Uploaded file.name true true) _ file.name refl
+by-storing : (select print : Bool) (why : Option PrintRefusal) (user : List ℕ) (file : File) (k : Known) → Grants (after_storing select print why user file k)
+by-storing false print None user file k = by-gives (answer.Uploaded file.name false false) refl
+by-storing false print (Some why) user file k = by-gives (answer.Unprinted file.name false why) refl
+by-storing true false None user file k = by-gives (answer.Uploaded file.name true false) refl
+by-storing true false (Some why) user file k = by-gives (answer.Unprinted file.name true why) refl
+by-storing true true why user file k = by-begins (answer.Uploaded file.name true true) _ file.name refl
 
 by-store : (user : UserRow) (bytes : List ℕ) (select print : Bool) (k : Known) (file : File) → Grants (store_verdict user bytes select print k file)
-by-store user bytes select print k file = by-desk _ _ (by-test _ (answer.Full _) _ refl (by-stores file.name bytes _ _ (by-storing _ _ user.name file _)))
+by-store user bytes select print k file = by-desk _ _ (by-test _ (answer.Full _) _ refl (by-stores file.name bytes _ _ (by-storing _ _ _ user.name file _)))
 
 by-take : (files : List ShelfFile) (k : Known) (entry : QueueEntry) → Grants (take_verdict files k entry)
 by-take files k entry = by-test _ answer.NoFile _ refl (by-file entry.file files _ (λ file. by-print (answer.TakenEntry (shown_entry entry)) entry.user (without_copy entry.user entry.name k.queue) k file refl))

@@ -3,7 +3,7 @@ use super::sums::{active_users, left_sum, newest, size_sum};
 use gcode_lines::FileFault;
 use job_desk::State;
 use octo_access::Permission;
-use octo_asks::{Answer, ShownEntry, ShownFile, StoredCause};
+use octo_asks::{Answer, PrintRefusal, ShownEntry, ShownFile, StoredCause};
 use print_queue::Outcome;
 
 // What came of a step, by its plain values.
@@ -22,6 +22,7 @@ pub(super) enum Seen {
     Download(usize),
     // Whether the file was selected, and its print started.
     Uploaded(bool, bool),
+    Unprinted(bool, PrintRefusal),
     // A file was stored and selected, and its print not started.
     Stored(StoredCause),
     // The number of users, and of those that are active.
@@ -73,6 +74,11 @@ pub(super) fn seen_of(answer: &Answer) -> Seen {
         Answer::File { file } => Seen::File(file.size),
         Answer::Download { bytes } => Seen::Download(bytes.as_slice().len()),
         Answer::Uploaded { select, print, .. } => Seen::Uploaded(*select, *print),
+        Answer::Unprinted {
+            select,
+            refusal,
+            ..
+        } => Seen::Unprinted(*select, *refusal),
         Answer::Stored { cause, .. } => Seen::Stored(*cause),
         Answer::Users { users } => Seen::Users(
             users.as_slice().len(),

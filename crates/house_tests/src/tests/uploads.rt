@@ -1,7 +1,7 @@
 //! Files are stored, printed, shown and deleted.
 use super::*;
 use gcode_lines::FileFault;
-use octo_asks::StoredCause;
+use octo_asks::{PrintRefusal, StoredCause};
 
 // Uploads the file, perhaps to print it, and sees this.
 fn uploads(bench: &mut Bench, rt: &impl Abort, text: &'static [u8], print: bool, wanted: Seen) {
@@ -41,11 +41,47 @@ fn stored_upload(rt: HostRuntime) {
     bench.end();
 }
 
-// While offline the flags of an upload are no more than wishes.
+// While offline the flags of an upload are no more than wishes; the answer says why.
 #[test]
 fn upload_while_offline(rt: HostRuntime) {
     let mut bench = Bench::sound(&rt, rt.alloc());
-    uploads(&mut bench, &rt, b"G28\n", true, Seen::Uploaded(true, false));
+    let offline = PrintRefusal::WrongState {
+        state: State::Offline,
+    };
+    uploads(
+        &mut bench,
+        &rt,
+        b"G28\n",
+        true,
+        Seen::Unprinted(true, offline),
+    );
+    uploads(
+        &mut bench,
+        &rt,
+        b"G28\n",
+        false,
+        Seen::Uploaded(false, false),
+    );
+    bench.end();
+}
+
+// A file with a command that is too hot is stored and selected, and the answer names the line.
+#[test]
+fn hot_upload(rt: HostRuntime) {
+    let mut bench = Bench::sound(&rt, rt.alloc());
+    bench.connect(&rt);
+    let hot = PrintRefusal::TooHotLine {
+        line: 2,
+        asked: 400,
+        limit: 250,
+    };
+    uploads(
+        &mut bench,
+        &rt,
+        b"G28\nM104 S400\n",
+        true,
+        Seen::Unprinted(true, hot),
+    );
     bench.end();
 }
 

@@ -1,5 +1,5 @@
 //! Uploads: a file is stored, and as it is asked selected and printed.
-ghost use Rattle.std.specs.Prelude.{◌≡◌, ◌≤◌, ℕ, List, true, false, [], ◌∷◌, length, is_none, option_map, OnOk, OnErr, MatchResult};
+ghost use Rattle.std.specs.Prelude.{◌≡◌, ◌≤◌, ℕ, List, None, Some, true, false, [], ◌∷◌, length, is_none, option_map, OnOk, OnErr, MatchResult};
 ghost use Rattle.job_desk.specs.Run.{Start};
 ghost use Rattle.gcode_lines.specs.Job.{most_bytes};
 ghost use Rattle.octo_keeper.specs.Files.{with_file};
@@ -8,7 +8,7 @@ ghost use Rattle.octo_house_rules.specs.Known.{next_print_number, shown_count};
 ghost use Rattle.temp_rules.specs.Hot.{first_hot_of};
 ghost use Rattle.octo_house_rules.specs.Prints.{has_room, start_deed};
 ghost use Rattle.job_desk.specs.Data.{named_file};
-ghost use Rattle.octo_house_rules.specs.Uploads.{put_file_verdict, has_file_room, is_selected, is_printed};
+ghost use Rattle.octo_house_rules.specs.Uploads.{put_file_verdict, has_file_room, is_selected, is_printed, print_refusal, refusal_of, unprinted};
 ghost use Rattle.octo_house_rules.specs.Verdict.{begins, is_fault};
 ghost use Rattle.octo_house.specs.Answered.{Answers, Shelves, AskDone, KeeperDone};
 ghost use Rattle.octo_outside.specs.Recorded.{Counts};
@@ -21,7 +21,7 @@ use byte_text::Name;
 use gcode_lines::{Job, read_commands};
 use job_desk::{Limits, State};
 use octo_access::{Permission, UserRow};
-use octo_asks::{Answer, StoredCause};
+use octo_asks::{Answer, PrintRefusal, StoredCause};
 use octo_house_tables::{
     add_name, answer_of_refusal, answer_of_shelf_fault, bad_file, may_select, reserve_name,
 };
@@ -64,21 +64,14 @@ impl House {
             return answer;
         }
         let wanted = self.wanted(user, &job, asked);
+        let refusal = self.refusal_of(user, &job, asked, wanted);
         if !wanted.select {
-            return Answer::Uploaded {
-                name: name.copy(),
-                select: false,
-                print: false,
-            };
+            return unprinted(name, false, refusal);
         }
         let commands = job.count();
         let _ = self.desk.session.select(name, job);
         if !wanted.print {
-            return Answer::Uploaded {
-                name: name.copy(),
-                select: true,
-                print: false,
-            };
+            return unprinted(name, true, refusal);
         }
         self.print_stored(keeper, &user.name, name, commands)
     }
@@ -148,6 +141,58 @@ impl House {
         }
     }
 
+    // What a user's start of a stored file would be refused for, if it is refused.
+    fn print_refusal(&self, user: &UserRow, job: &Job) -> PrintRefusal
+        ensures { (name : List ℕ) → result
+            ≡ print_refusal user.now (named_file name job.now) (known_of self.now) }
+    {
+        if !self.policy.allowed(user, Permission::FilesSelect) {
+            return PrintRefusal::Denied {
+                permission: Permission::FilesSelect,
+            };
+        }
+        if !self.policy.allowed(user, Permission::Print) {
+            return PrintRefusal::Denied {
+                permission: Permission::Print,
+            };
+        }
+        let state = self.desk.session.desk().state();
+        if state != State::Operational {
+            return PrintRefusal::WrongState { state };
+        }
+        match first_hot(job, self.desk.session.desk().limits()) {
+            Some(hot) => PrintRefusal::TooHotLine {
+                line: hot.line,
+                asked: hot.asked,
+                limit: hot.limit,
+            },
+            None => PrintRefusal::Full {
+                count: self.tables.count().min(u32::MAX as usize) as u32,
+            },
+        }
+    }
+
+    // The same if a print is asked for and isn't granted.
+    fn refusal_of(
+        &self,
+        user: &UserRow,
+        job: &Job,
+        asked: Wanted,
+        granted: Wanted,
+    ) -> Option<PrintRefusal>
+        ensures { (name : List ℕ)
+            → granted.select ≡ is_selected user.now asked.select asked.print (known_of self.now)
+            → granted.print
+                ≡ is_printed user.now asked.print (named_file name job.now) (known_of self.now)
+            → result ≡ refusal_of user.now asked.select asked.print
+                (named_file name job.now) (known_of self.now) }
+    {
+        if asked.print && !(granted.select && granted.print) {
+            return Some(self.print_refusal(user, job));
+        }
+        None
+    }
+
     // Whether there is room for one more record of a print.
     fn has_room(&self) -> bool
         ensures { result ≡ has_room (known_of self.now) }
@@ -190,6 +235,24 @@ impl House {
             select: true,
             print: true,
         }
+    }
+}
+
+// The answer to an upload that isn't printed.
+fn unprinted(name: &Name, select: bool, refusal: Option<PrintRefusal>) -> Answer
+    ensures { result ≡ unprinted name.now select refusal }
+{
+    match refusal {
+        Some(refusal) => Answer::Unprinted {
+            name: name.copy(),
+            select,
+            refusal,
+        },
+        None => Answer::Uploaded {
+            name: name.copy(),
+            select,
+            print: false,
+        },
     }
 }
 

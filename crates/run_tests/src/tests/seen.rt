@@ -1,6 +1,6 @@
 //! What a test sees of a history.
 use job_desk::{LinkFact, State};
-use octo_asks::{Answer, Entry};
+use octo_asks::{Answer, Entry, PrintRefusal};
 
 // An answer by its plain values, if a test compares it.
 #[derive(Clone, Copy)]
@@ -11,6 +11,7 @@ pub(super) enum Seen {
     Connection(State),
     // Whether the file was selected, and its print started.
     Uploaded(bool, bool),
+    Unprinted(bool, PrintRefusal),
     Other,
 }
 
@@ -30,6 +31,11 @@ fn seen_of(answer: &Answer) -> Seen {
         Answer::Denied { .. } => Seen::Denied,
         Answer::Connection { state, .. } => Seen::Connection(*state),
         Answer::Uploaded { select, print, .. } => Seen::Uploaded(*select, *print),
+        Answer::Unprinted {
+            select,
+            refusal,
+            ..
+        } => Seen::Unprinted(*select, *refusal),
         _ => Seen::Other,
     }
 }

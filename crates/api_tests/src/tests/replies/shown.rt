@@ -2,7 +2,8 @@
 use super::*;
 use arrayvec::ArrayVec;
 use octo_asks::{
-    Progress, ShownFile, ShownFileList, ShownPrint, ShownPrintList, ShownUser, ShownUserList,
+    PrintRefusal, Progress, ShownFile, ShownFileList, ShownPrint, ShownPrintList, ShownUser,
+    ShownUserList,
 };
 use octo_outside::NameList;
 use print_queue::Outcome;
@@ -109,6 +110,16 @@ fn new_files(rt: HostRuntime) -> Result<(), Fail> {
     };
     let body =
         "{\"done\":true,\"effectivePrint\":false,\"effectiveSelect\":true,\"files\":{\"local\":{\"name\":\"a.gcode\",\"origin\":\"local\",\"path\":\"a.gcode\"}}}";
+    shows(&rt, alloc, answer, 201, body)?;
+    let answer = Answer::Unprinted {
+        name: Name::of_short("a.gcode"),
+        select: true,
+        refusal: PrintRefusal::WrongState {
+            state: State::Offline,
+        },
+    };
+    let body =
+        "{\"done\":true,\"effectivePrint\":false,\"effectiveSelect\":true,\"files\":{\"local\":{\"name\":\"a.gcode\",\"origin\":\"local\",\"path\":\"a.gcode\"}},\"printRefused\":{\"error\":\"WrongState\",\"state\":\"Offline\"}}";
     shows(&rt, alloc, answer, 201, body)?;
     let answer = Answer::Stored {
         name: Name::of_short("a.gcode"),

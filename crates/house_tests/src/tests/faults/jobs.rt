@@ -4,6 +4,7 @@ use crate::tests::seen::Seen;
 use crate::tests::wishes::Wish;
 use job_desk::State;
 use octo_access::Permission;
+use octo_asks::PrintRefusal;
 use print_queue::Outcome;
 use test_makers::{ANA, EVE};
 
@@ -96,7 +97,14 @@ const TOO_HOT: &[Step] = &[
         ANA,
         Wish::Upload(HOT, true),
         Calls::OfShelf,
-        Seen::Uploaded(true, false),
+        Seen::Unprinted(
+            true,
+            PrintRefusal::TooHotLine {
+                line: 3,
+                asked: 260,
+                limit: 250,
+            },
+        ),
     ),
     (
         ANA,

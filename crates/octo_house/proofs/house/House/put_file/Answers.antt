@@ -1,12 +1,12 @@
 use Rattle.std.proofs.Common.{◌≡◌, true, false, refl, sym, ap, ◌∙◌, rules}
 use Rattle.std.proofs.lemmas.Bool.{not-true, not-false}
 use Rattle.octo_asks.specs.declared.answer.Answer.TheVariants as answer
-use Rattle.octo_house_rules.specs.Uploads.{is_selected, is_printed}
+use Rattle.octo_house_rules.specs.Uploads.{is_selected, is_printed, unprinted}
 use Rattle.octo_house_tables.proofs.Keeping.{keeps-same}
 use Rattle.octo_session.specs.Data.{SessionData}
 use Rattle.octo_house.specs.State.{known_of}
 use Rattle.octo_house.proofs.Startable.{startable, has-it}
-use Rattle.octo_house.proofs.Stored.{job-is, keeps-over, not-stored, not-shelved, done-alone, done-selected, done-printed, shelved}
+use Rattle.octo_house.proofs.Stored.{job-is, keeps-over, not-stored, not-shelved, done-alone, done-selected, done-printed, plain-unprinted, shelved}
 use Rattle.octo_house.proofs.house.House.put_file.Goals as goal
 use Rattle.job_desk.specs.Data.{named_file}
 
@@ -36,12 +36,12 @@ returns-then-not-wanted-clause-done g c =
     let off : is_selected c.args.user.now c.args.asked.select c.args.asked.print m ≡ false = sym c.wanted-wanted.ensures.select ∙ not-true c.wanted-wanted.result.select c.if-not-wanted.true in
     done-alone c.args.user.now c.args.name.now c.args.bytes.now c.args.asked.select c.args.asked.print (known_of c.args.self.now) c.in-Ok.job
     (job-is _ c.in-Ok.job c.in-Ok.ensures.exact) _ m c.in_default.ensures.stored.allowed c.in_default.ensures.stored.known off
-    (ap (λ n. answer.Uploaded n false false) c.copy.ensures)
+    (c.unprinted.ensures ∙ ap (unprinted c.args.name.now false) (c.refusal_of-refusal.ensures c.args.name.now c.wanted-wanted.ensures.select (c.wanted-wanted.ensures.print c.args.name.now)))
 
 pub returns-then-not-wanted-clause-files : goal.returns-then-not-wanted-clause-files
 returns-then-not-wanted-clause-files g c =
     shelved c.args.user.now c.args.name.now c.args.bytes.now c.args.asked.select c.args.asked.print (known_of c.args.self.now) c.in-Ok.job
-    (job-is _ c.in-Ok.job c.in-Ok.ensures.exact) (answer.Uploaded c.copy.result false false) _ _ c.in_default.ensures.stored.allowed refl c.in_default.ensures.files
+    (job-is _ c.in-Ok.job c.in-Ok.ensures.exact) c.unprinted.result _ _ c.in_default.ensures.stored.allowed (plain-unprinted _ _ _ _ c.unprinted.ensures) c.in_default.ensures.files
 
 pub returns-then-not-wanted-clause-rest : goal.returns-then-not-wanted-clause-rest
 returns-then-not-wanted-clause-rest g c = record {
@@ -61,12 +61,12 @@ returns-then-not-wanted-2-clause-done g c =
     sym (c.wanted-wanted.ensures.print name) ∙ not-true c.wanted-wanted.result.print c.if-not-wanted-2.true in
     done-selected c.args.user.now name c.args.bytes.now c.args.asked.select c.args.asked.print (known_of c.args.self.now) c.in-Ok.job
     (job-is _ c.in-Ok.job c.in-Ok.ensures.exact) _ m _ c.in_default.ensures.stored.allowed c.in_default.ensures.stored.known on off
-    (ap (λ (s : SessionData). record m { desk = s.desk }) c.select.ensures.after) (ap (λ n. answer.Uploaded n true false) c.copy-then-not-wanted-2.ensures)
+    (ap (λ (s : SessionData). record m { desk = s.desk }) c.select.ensures.after) (c.unprinted-then-not-wanted-2.ensures ∙ ap (unprinted name true) (c.refusal_of-refusal.ensures name c.wanted-wanted.ensures.select (c.wanted-wanted.ensures.print name)))
 
 pub returns-then-not-wanted-2-clause-files : goal.returns-then-not-wanted-2-clause-files
 returns-then-not-wanted-2-clause-files g c =
     shelved c.args.user.now c.args.name.now c.args.bytes.now c.args.asked.select c.args.asked.print (known_of c.args.self.now) c.in-Ok.job
-    (job-is _ c.in-Ok.job c.in-Ok.ensures.exact) (answer.Uploaded c.copy-then-not-wanted-2.result true false) _ _ c.in_default.ensures.stored.allowed refl
+    (job-is _ c.in-Ok.job c.in-Ok.ensures.exact) c.unprinted-then-not-wanted-2.result _ _ c.in_default.ensures.stored.allowed (plain-unprinted _ _ _ _ c.unprinted-then-not-wanted-2.ensures)
     c.in_default.ensures.files
 
 pub returns-then-not-wanted-2-clause-rest : goal.returns-then-not-wanted-2-clause-rest
