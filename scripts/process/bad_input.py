@@ -86,21 +86,24 @@ def main():
         with open(good, "wb") as file:
             file.write(b"G28\n")
         used = b"turns used: 2000\n"
+        missing = os.path.join(folder, "b.gcode")
+        # The status, the standard output, and the standard error.
         rows = [
-            ("an argument that isn't UTF-8", lambda: run_octo("check", b"\xff"), 2, b"octo: bad words\n"),
-            ("no such file", lambda: octo(nobody(), os.path.join(folder, "b.gcode")), 4, b"source failed\n"),
-            ("a folder as the file", lambda: octo(nobody(), folder), 4, b"source failed\n"),
-            ("a name that is no port", lambda: octo("printer", good), 5, b"port printer is not listed\n"),
-            ("a port that is too large", lambda: octo("printer:65536", good), 5, b"port printer:65536 is not listed\n"),
-            ("nobody listens", lambda: octo(nobody(), good), 5, b"link failed\n"),
-            ("binary noise", lambda: octo(Peer(noise).port, good), 10, used),
-            ("a peer that closes in mid-line", lambda: octo(Peer(half_a_line).port, good), 5, b"link failed\n"),
-            ("10 MB without a line end", lambda: octo(Peer(endless_line).port, good), 10, used),
-            ("a peer that never answers", lambda: octo(Peer(silence).port, good), 10, used),
+            ("an argument that isn't UTF-8", lambda: run_octo("check", b"\xff"), 2, b"octo: bad words\n", b"octo: an argument isn't UTF-8\n"),
+            ("an unknown command", lambda: run_octo("prnt", good), 2, b"octo: bad words\n", b"octo: unrecognized subcommand 'prnt'\n"),
+            ("no such file", lambda: octo(nobody(), missing), 4, b"source failed\n", b"octo: %s: no such file or folder\n" % missing.encode()),
+            ("a folder as the file", lambda: octo(nobody(), folder), 4, b"source failed\n", b"octo: %s: is a directory\n" % folder.encode()),
+            ("a name that is no port", lambda: octo("printer", good), 5, b"port printer is not listed\n", b"octo: printer isn't HOST:PORT or unix:PATH\n"),
+            ("a port that is too large", lambda: octo("printer:65536", good), 5, b"port printer:65536 is not listed\n", b"octo: printer:65536 isn't HOST:PORT or unix:PATH\n"),
+            ("nobody listens", lambda: octo(nobody(), good), 5, b"link failed\n", b""),
+            ("binary noise", lambda: octo(Peer(noise).port, good), 10, used, b""),
+            ("a peer that closes in mid-line", lambda: octo(Peer(half_a_line).port, good), 5, b"link failed\n", b""),
+            ("10 MB without a line end", lambda: octo(Peer(endless_line).port, good), 10, used, b""),
+            ("a peer that never answers", lambda: octo(Peer(silence).port, good), 10, used, b""),
         ]
-        for name, run, code, text in rows:
+        for name, run, code, text, said in rows:
             got = run()
-            if got == (code, text, b""):
+            if got == (code, text, said):
                 print("ok: %s" % name)
             else:
                 print("failed: %s: %r" % (name, got))

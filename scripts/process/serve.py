@@ -227,22 +227,27 @@ def tables(folder):
 
 
 def refusals(folder):
-    """What keeps a host from serving: its settings, its folder, its address."""
+    """What keeps a host from serving: its settings, its folder, its address. Standard error says why."""
     host = Host(folder, 9)
-    words = [host.program, "serve", "127.0.0.1:%d" % free_and_taken().getsockname()[1], host.files, host.database, "--settings", host.settings]
+    taken_address = "127.0.0.1:%d" % free_and_taken().getsockname()[1]
+    words = [host.program, "serve", taken_address, host.files, host.database, "--settings", host.settings]
+    none = os.path.join(folder, "none")
+    unserved = b"served 0 calls\ndoor failed\n"
+    no_database = "it isn't a database of octo, is in use, or its folder is missing"
 
-    def status(words):
+    def refused(name, words, status, text, said):
         run = subprocess.run(words, capture_output=True, timeout=LIMIT)
-        return run.returncode, run.stdout
+        check(name, (run.returncode, run.stdout, run.stderr.decode()), (status, text, said))
 
-    check("an address in use", status(words), (12, b"served 0 calls\ndoor failed\n"))
-    check("no such folder", status(words[:3] + [os.path.join(folder, "none")] + words[4:]), (9, b"shelf failed\n"))
-    check("a database that is none", status(words[:4] + [host.settings] + words[5:]), (9, b"keeper failed\n"))
-    check("no such settings", status(words[:-1] + [os.path.join(folder, "none")]), (4, b"source failed\n"))
+    refused("an address in use", words, 12, unserved, "octo: %s: address already in use\n" % taken_address)
+    refused("an address without a host", words[:2] + [":5050"] + words[3:], 12, unserved, "octo: :5050 isn't HOST:PORT\n")
+    refused("no such folder", words[:3] + [none] + words[4:], 9, b"shelf failed\n", "octo: %s: no such file or folder\n" % none)
+    refused("a database that is none", words[:4] + [host.settings] + words[5:], 9, b"keeper failed\n", "octo: %s: %s\n" % (host.settings, no_database))
+    refused("no such settings", words[:-1] + [none], 4, b"source failed\n", "octo: %s: no such file or folder\n" % none)
     with open(host.settings, "a") as out:
         out.write("[printer]\n")
-    check("settings that are refused", status(words), (7, b"settings: not toml\n"))
-    check("serve without settings", status(words[:-2]), (2, b"octo: bad words\n"))
+    refused("settings that are refused", words, 7, b"settings: not toml\n", "")
+    refused("serve without settings", words[:-2], 2, b"octo: bad words\n", "octo: the following required arguments were not provided:  --settings <settings>\n")
 
 
 taken = []

@@ -5,18 +5,22 @@ ghost use Rattle.std.specs.Prelude.{◌≡◌};
 ghost use Rattle.octo_commands.specs.Commands.{arguments_fault_report};
 
 mod absent;
+mod causes;
 
 use absent::{AbsentKeeper, absent_doors};
 use byte_text::Name;
+use causes::{say_of_arguments, say_of_database, say_of_end};
 use octo_commands::octo;
-use octo_files::{OUTPUT_FAILED, Report};
+use octo_files::{OUTPUT_FAILED, Report, SUCCESS};
 use octo_keeper::Keeper;
 use octo_keeper_file::{close_keeper, open_keeper};
 use octo_keeper_folder::FolderShelf;
-use octo_outside::{ArgumentsFault, FileSource, StdSink, SystemClock, WordList, arguments};
+use octo_outside::{
+    ArgumentsFault, Blob, FileSource, StdSink, SystemClock, WordList, arguments, write_all,
+};
 use octo_outside_doors::{Doors, TcpDoor};
 use octo_serve_command::{HostReport, Opened, write_host_report};
-use octo_words::{Command, read_words};
+use octo_words::{Command, Remark, WordsFault, read_words, remark_on};
 use printer_link_socket::SocketLink;
 use std::alloc::AllocError;
 use std::process::ExitCode;
@@ -68,6 +72,7 @@ fn carry_out<R: Threads + Wait + Clone + Send + Sync + Drop, K: Keeper>(
         &mut shelf,
         doors,
     );
+    say_of_end(system, words, status.code);
     ExitCode::from(status.code)
 }
 
@@ -92,7 +97,7 @@ fn serve_with<R: Threads + Wait + Clone + Send + Sync + Drop>(
     let code = carry_out(rt, system, words, out, &mut keeper, folder, &mut doors);
     match keeper.into_keeper() {
         Ok(keeper) => close_keeper(keeper),
-        Err(_) => {}
+        Err(fault) => say_of_database(system, database.as_str(), fault),
     }
     code
 }
@@ -136,14 +141,43 @@ fn carry_out_command<R: Threads + Wait + Clone + Send + Sync + Drop>(
     }
 }
 
+// Writes the help or the version that the arguments ask for.
+fn end_with_help(out: &mut StdSink<HostRuntime>, text: &Blob) -> ExitCode {
+    match write_all(out, text.as_slice()) {
+        Ok(()) => ExitCode::from(SUCCESS),
+        Err(_) => ExitCode::from(OUTPUT_FAILED),
+    }
+}
+
+// Ends with the help or the version if the arguments ask for it. Otherwise the standard error says which of them is wrong.
+fn end_without_command<R: Threads + Wait + Clone + Send + Sync + Drop>(
+    rt: &R,
+    system: &HostRuntime,
+    words: &WordList,
+    out: &mut StdSink<HostRuntime>,
+) -> ExitCode {
+    match remark_on(system.alloc(), words) {
+        Ok(Remark::Asked(text)) => return end_with_help(out, &text),
+        Ok(Remark::Wrong(line)) => {
+            let _ = write_all(&mut StdSink::new(system.stderr()), line.as_slice());
+        }
+        Err(AllocError) => {}
+    }
+    carry_out_unserved(rt, system, words, out)
+}
+
 fn main(rt: HostRuntime) -> ExitCode {
     let mut out = StdSink::new(rt);
     let words = match arguments(&rt) {
         Ok(words) => words,
-        Err(fault) => return end_with(&mut out, &arguments_fault_report(fault)),
+        Err(fault) => {
+            say_of_arguments(&rt, fault);
+            return end_with(&mut out, &arguments_fault_report(fault));
+        }
     };
     match read_words(rt.alloc(), &words) {
         Ok(command) => carry_out_command(&rt, &rt, &words, &mut out, &command),
-        Err(_) => carry_out_unserved(&rt, &rt, &words, &mut out),
+        Err(WordsFault::BadWords) => end_without_command(&rt, &rt, &words, &mut out),
+        Err(WordsFault::NoMemory) => carry_out_unserved(&rt, &rt, &words, &mut out),
     }
 }

@@ -1,0 +1,139 @@
+//! What the standard error says of a run that failed: which argument, file or address was wrong, and why.
+//!
+//! The calls of `octo` say that a file or an address failed, not why. So it is looked at once more; what isn't found out by that isn't
+//! said.
+use octo_files::{DOOR_FAILED, LINK_FAILED, OUTPUT_FAILED, SOURCE_FAILED, STORE_FAILED};
+use octo_keeper::KeeperFault;
+use octo_outside::{ArgumentsFault, WordList};
+use octo_words::{Command, FilePath, read_words};
+use printer_link_socket::{names_address, names_port};
+use std::io::{ErrorKind, Read};
+use std::net::TcpListener;
+use std::{fs, io};
+
+// Says why the arguments can't be used.
+pub(crate) fn say_of_arguments(rt: &HostRuntime, fault: ArgumentsFault) {
+    let said = match fault {
+        ArgumentsFault::NotText => "an argument isn't UTF-8",
+        ArgumentsFault::NoMemory => "out of memory",
+    };
+    let _ = eprintln!(rt; "octo: {said}");
+}
+
+// Says of what is named why a call of the system failed.
+fn say_of_error(rt: &HostRuntime, name: &str, error: &io::Error) {
+    let _ = match error.kind() {
+        ErrorKind::NotFound => eprintln!(rt; "octo: {name}: no such file or folder"),
+        ErrorKind::AddrInUse => eprintln!(rt; "octo: {name}: address already in use"),
+        kind => eprintln!(rt; "octo: {name}: {kind}"),
+    };
+}
+
+// Reads the first byte of a file.
+fn read_first(rt: &HostRuntime, path: &str) -> io::Result<usize> {
+    let mut file = fs::open(rt, path)?;
+    file.read(&mut [0])
+}
+
+// Says why a file can't be read, if it can't.
+fn say_of_file(rt: &HostRuntime, path: &FilePath) {
+    if let Err(error) = read_first(rt, path.as_str()) {
+        say_of_error(rt, path.as_str(), &error);
+    }
+}
+
+// Says which of a command's files can't be read, and why.
+fn say_of_files(rt: &HostRuntime, command: &Command) {
+    match command {
+        Command::Print { file, settings, .. } | Command::Check { file, settings } => {
+            say_of_file(rt, file);
+            if let Some(settings) = settings {
+                say_of_file(rt, settings);
+            }
+        }
+        Command::Measure { file } | Command::Rest { file, .. } => say_of_file(rt, file),
+        Command::Serve { settings, .. } => say_of_file(rt, settings),
+        Command::Demo { .. } => {}
+    }
+}
+
+// Says of a port that it has another form.
+fn say_of_port(rt: &HostRuntime, command: &Command) {
+    if let Command::Print { port, .. } = command
+        && !names_port(port.as_str())
+    {
+        let _ = eprintln!(rt; "octo: {} isn't HOST:PORT or unix:PATH", port.as_str());
+    }
+}
+
+// Says why the address of a host can't be bound, or that its socket failed.
+fn say_of_door(rt: &HostRuntime, command: &Command) {
+    if let Command::Serve { address, .. } = command {
+        say_of_address(rt, address.as_str());
+    }
+}
+
+// The same of this address.
+fn say_of_address(rt: &HostRuntime, address: &str) {
+    if !names_address(address) {
+        let _ = eprintln!(rt; "octo: {address} isn't HOST:PORT");
+        return;
+    }
+    match TcpListener::bind(rt, address) {
+        Ok(_) => {
+            let _ = eprintln!(rt; "octo: {address}: its socket failed");
+        }
+        Err(error) => say_of_error(rt, address, &error),
+    }
+}
+
+// Says why a database can't be opened.
+pub(crate) fn say_of_database(rt: &HostRuntime, database: &str, fault: KeeperFault) {
+    match read_first(rt, database) {
+        Err(error) if error.kind() != ErrorKind::NotFound => {
+            say_of_error(rt, database, &error);
+            return;
+        }
+        _ => {}
+    }
+    let said = match fault {
+        KeeperFault::Failed => "it isn't a database of octo, is in use, or its folder is missing",
+        KeeperFault::NoMemory => "out of memory",
+    };
+    let _ = eprintln!(rt; "octo: {database}: {said}");
+}
+
+// Says why the folder of a host can't be listed, if it can't.
+fn say_of_store(rt: &HostRuntime, command: &Command) {
+    if let Command::Serve { folder, .. } = command
+        && let Err(error) = fs::read_dir(rt, folder.as_str())
+    {
+        say_of_error(rt, folder.as_str(), &error);
+    }
+}
+
+// Says that the standard output failed.
+fn say_of_output(rt: &HostRuntime) {
+    let _ = eprintln!(rt; "octo: the standard output can't be written");
+}
+
+// Says what an exit status leaves open of the command's files, port, folder or address.
+fn say_of_command(rt: &HostRuntime, command: &Command, code: u8) {
+    match code {
+        SOURCE_FAILED => say_of_files(rt, command),
+        LINK_FAILED => say_of_port(rt, command),
+        STORE_FAILED => say_of_store(rt, command),
+        DOOR_FAILED => say_of_door(rt, command),
+        _ => {}
+    }
+}
+
+// Says what the exit status leaves open of the command that the arguments are.
+pub(crate) fn say_of_end(rt: &HostRuntime, words: &WordList, code: u8) {
+    if code == OUTPUT_FAILED {
+        say_of_output(rt);
+    }
+    if let Ok(command) = read_words(rt.alloc(), words) {
+        say_of_command(rt, &command, code);
+    }
+}
