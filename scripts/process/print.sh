@@ -125,7 +125,11 @@ print_row "two commands over a Unix socket" 'G28\nG1 X10\n' '4 4 - -' \
     'done: 2 commands, 0 skipped\n' 0 'N1 M110 N1\nN2 G28\nN3 G1 X10\n'
 print_row "the third line lost over a Unix socket" 'G28\nG1 X10\n' '4 4 3 -' \
     'done: 2 commands, 0 skipped\n' 0 'N1 M110 N1\nN2 G28\nN3 G1 X10\n' "--settings $work/settings.toml --turns 50000"
-sim_row "marlin_sim without arguments" "" 2 "usage: marlin_sim ADDRESS LAST SLOTS DROP GARBLE"
+usage="usage: marlin_sim ADDRESS LAST SLOTS DROP GARBLE"
+sim_row "marlin_sim without arguments" "" 2 "marlin_sim: it takes five arguments
+$usage"
+sim_row "marlin_sim with 17 slots" "127.0.0.1:0 0 17 - -" 2 "marlin_sim: SLOTS has to be a number from 1 to 16
+$usage"
 sim_row "marlin_sim at an address where it can't listen" "unix:$work/none/printer 0 4 - -" 12 \
     "marlin_sim: it can't listen at the address, or the connection failed"
 exit "$failed"

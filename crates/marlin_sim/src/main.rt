@@ -4,6 +4,7 @@
 mod absent;
 mod cuts;
 mod end;
+mod help;
 mod lines;
 mod plan;
 mod serve;
@@ -14,6 +15,7 @@ mod tests;
 
 use absent::AbsentConn;
 use end::SimEnd;
+use help::{USAGE, asked_text, wrong_argument};
 use octo_outside::{ArgumentsFault, StdSink, WordList, arguments};
 use octo_outside_sockets::TcpConn;
 use plan::read_plan;
@@ -46,7 +48,7 @@ fn serve_words(rt: HostRuntime, words: &WordList) -> SimEnd {
 fn complaint_of(end: SimEnd) -> Option<&'static str> {
     match end {
         SimEnd::Done => None,
-        SimEnd::BadPlan => Some("usage: marlin_sim ADDRESS LAST SLOTS DROP GARBLE"),
+        SimEnd::BadPlan => Some(USAGE),
         SimEnd::ConnFailed => {
             Some("marlin_sim: it can't listen at the address, or the connection failed")
         }
@@ -56,10 +58,33 @@ fn complaint_of(end: SimEnd) -> Option<&'static str> {
     }
 }
 
+// Prints the help or the version.
+fn print_asked(rt: HostRuntime, text: &str) -> SimEnd {
+    match print!(rt; "{text}") {
+        Ok(()) => SimEnd::Done,
+        Err(_) => SimEnd::SinkFailed,
+    }
+}
+
+// Serves what the arguments name. If they are no plan, standard error says why.
+fn carry_out(rt: HostRuntime, words: &WordList) -> SimEnd {
+    if let Some(text) = asked_text(words) {
+        return print_asked(rt, text);
+    }
+    let end = serve_words(rt, words);
+    if end == SimEnd::BadPlan {
+        let _ = eprintln!(rt; "marlin_sim: {}", wrong_argument(rt.alloc(), words));
+    }
+    end
+}
+
 fn main(rt: HostRuntime) -> ExitCode {
     let end = match arguments(&rt) {
-        Ok(words) => serve_words(rt, &words),
-        Err(ArgumentsFault::NotText) => SimEnd::BadPlan,
+        Ok(words) => carry_out(rt, &words),
+        Err(ArgumentsFault::NotText) => {
+            let _ = eprintln!(rt; "marlin_sim: an argument isn't UTF-8");
+            SimEnd::BadPlan
+        }
         Err(ArgumentsFault::NoMemory) => SimEnd::NoMemory,
     };
     if let Some(complaint) = complaint_of(end) {

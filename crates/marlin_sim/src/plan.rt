@@ -60,7 +60,7 @@ fn pieces_of(alloc: Global, word: &str) -> Result<Vec<&str>, AllocError>
 }
 
 // The received lines that an argument lists: none for a dash.
-fn read_places(alloc: Global, word: &str) -> Result<Option<CallList>, AllocError>
+pub(crate) fn read_places(alloc: Global, word: &str) -> Result<Option<CallList>, AllocError>
     ensures { IfOk result (λ places. places ≡ places_in word.now) }
 {
     if word == "-" {
@@ -71,7 +71,7 @@ fn read_places(alloc: Global, word: &str) -> Result<Option<CallList>, AllocError
 }
 
 // How many lines the printer keeps waiting.
-fn read_count(word: &str) -> Option<u8>
+pub(crate) fn read_count(word: &str) -> Option<u8>
     ensures { result ≡ count_in word.now }
 {
     match number_in(word) {
@@ -123,7 +123,7 @@ fn plan_in(alloc: Global, words: &WordList) -> Result<Option<SimPlan>, AllocErro
 }
 
 // Whether an argument may be an address: 1 to 100 bytes.
-fn is_address(word: &str) -> bool
+pub(crate) fn is_address(word: &str) -> bool
     ensures { result ≡ is_address word.now }
 {
     word.len() >= 1 && word.len() <= 100
