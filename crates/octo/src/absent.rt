@@ -5,6 +5,7 @@ ghost use Rattle.octo_outside.specs.Recorded.{Counts};
 use octo_keeper::{Change, Keeper, KeeperFault, Tables};
 use octo_outside_doors::{Doors, TcpDoor};
 use std::alloc::Global;
+use std::net::{Net, TcpListener, TcpStream};
 
 // A keeper without a database. Each call fails and counts.
 #[derive(Drop)]
@@ -42,7 +43,9 @@ impl Keeper for AbsentKeeper {
 }
 
 // Four doors at which no connection comes: the first call of each fails.
-pub(crate) fn absent_doors(rt: &HostRuntime) -> Doors<TcpDoor<HostRuntime>> {
+pub(crate) fn absent_doors<R: Net<Listener = TcpListener, Stream = TcpStream> + Copy>(
+    rt: &R,
+) -> Doors<TcpDoor<R>> {
     Doors {
         a: TcpDoor::absent(rt),
         b: TcpDoor::absent(rt),

@@ -23,9 +23,11 @@ use octo_serve_command::{HostReport, Opened, write_host_report};
 use octo_words::{Command, Remark, WordsFault, read_words, remark_on};
 use printer_link_socket::SocketLink;
 use std::alloc::AllocError;
+use std::net::{Net, TcpListener, TcpStream};
 use std::process::ExitCode;
 use std::sync::Wait;
 use std::thread::Threads;
+use std::time::Clock;
 
 // The report on arguments that can't be used.
 fn arguments_fault_report(fault: ArgumentsFault) -> HostReport
@@ -46,15 +48,25 @@ fn end_with(out: &mut StdSink<HostRuntime>, report: &HostReport) -> ExitCode {
 }
 
 // Carries out the command that the arguments are, over the system's files and sockets, and returns the program's exit status.
-// `rt` starts threads and waits; `system` opens what the program works with. The program has one handle for both.
-fn carry_out<R: Threads + Wait + Clone + Send + Sync + Drop, K: Keeper>(
+// `rt` starts threads, waits and listens; `system` opens what else the program works with. The program has one handle for both.
+fn carry_out<
+    R: Net<Listener = TcpListener, Stream = TcpStream>
+        + Clock
+        + Threads
+        + Wait
+        + Copy
+        + Send
+        + Sync
+        + Drop,
+    K: Keeper,
+>(
     rt: &R,
     system: &HostRuntime,
     words: &WordList,
     out: &mut StdSink<HostRuntime>,
     keeper: &mut K,
     folder: &Name,
-    doors: &mut Doors<TcpDoor<HostRuntime>>,
+    doors: &mut Doors<TcpDoor<R>>,
 ) -> ExitCode {
     let mut files = FileSource::new(*system);
     let mut link = SocketLink::new(system);
@@ -80,7 +92,16 @@ fn carry_out<R: Threads + Wait + Clone + Send + Sync + Drop, K: Keeper>(
 // folder and an address that can't be bound fail at each call.
 //
 // This function alone holds the keeper of a database, so only its proof takes SQLite's types in.
-fn serve_with<R: Threads + Wait + Clone + Send + Sync + Drop>(
+fn serve_with<
+    R: Net<Listener = TcpListener, Stream = TcpStream>
+        + Clock
+        + Threads
+        + Wait
+        + Copy
+        + Send
+        + Sync
+        + Drop,
+>(
     rt: &R,
     system: &HostRuntime,
     words: &WordList,
@@ -89,7 +110,7 @@ fn serve_with<R: Threads + Wait + Clone + Send + Sync + Drop>(
     folder: &Name,
     database: &Name,
 ) -> ExitCode {
-    let mut doors = match TcpDoor::four(system, system.alloc(), address.as_str()) {
+    let mut doors = match TcpDoor::four(rt, system.alloc(), address.as_str()) {
         Ok(doors) => doors,
         Err(AllocError) => return end_with(out, &HostReport::Command(Report::NoMemory)),
     };
@@ -103,14 +124,18 @@ fn serve_with<R: Threads + Wait + Clone + Send + Sync + Drop>(
 }
 
 // Carries out a command that doesn't serve: it has no database, no folder and no address.
-fn carry_out_unserved<R: Threads + Wait + Clone + Send + Sync + Drop>(
-    rt: &R,
-    system: &HostRuntime,
-    words: &WordList,
-    out: &mut StdSink<HostRuntime>,
-) -> ExitCode {
+fn carry_out_unserved<
+    R: Net<Listener = TcpListener, Stream = TcpStream>
+        + Clock
+        + Threads
+        + Wait
+        + Copy
+        + Send
+        + Sync
+        + Drop,
+>(rt: &R, system: &HostRuntime, words: &WordList, out: &mut StdSink<HostRuntime>) -> ExitCode {
     let mut keeper = AbsentKeeper::new();
-    let mut doors = absent_doors(system);
+    let mut doors = absent_doors(rt);
     carry_out(
         rt,
         system,
@@ -123,7 +148,16 @@ fn carry_out_unserved<R: Threads + Wait + Clone + Send + Sync + Drop>(
 }
 
 // Carries out this command, which the arguments are.
-fn carry_out_command<R: Threads + Wait + Clone + Send + Sync + Drop>(
+fn carry_out_command<
+    R: Net<Listener = TcpListener, Stream = TcpStream>
+        + Clock
+        + Threads
+        + Wait
+        + Copy
+        + Send
+        + Sync
+        + Drop,
+>(
     rt: &R,
     system: &HostRuntime,
     words: &WordList,
