@@ -3,9 +3,9 @@
 // The whole reply: its head and the page.
 pub(crate) const PAGE_REPLY: &[u8] = b"HTTP/1.1 200 OK\r\n\
 Connection: close\r\n\
-Content-Length: 59133\r\n\
+Content-Length: 59335\r\n\
 Content-Type: text/html; charset=utf-8\r\n\
-Content-Security-Policy: default-src 'none'; script-src 'sha256-cX44aeixJ3Oogmb+M6sveR48a6759bXYQOxl/CfUp/s='; style-src 'sha256-mwE0BJDAeN9wSPzv9wWxhWKkXbHYdRh7plo6JIgIEXc='; connect-src 'self'; img-src data:; base-uri 'none'; form-action 'none'; frame-ancestors 'none'; require-trusted-types-for 'script'; trusted-types 'none'\r\n\
+Content-Security-Policy: default-src 'none'; script-src 'sha256-sQGl4LEzsGx+6zcgR9qG9ufUInRDdCbTEf/X+uX/Oig='; style-src 'sha256-mwE0BJDAeN9wSPzv9wWxhWKkXbHYdRh7plo6JIgIEXc='; connect-src 'self'; img-src data:; base-uri 'none'; form-action 'none'; frame-ancestors 'none'; require-trusted-types-for 'script'; trusted-types 'none'\r\n\
 X-Content-Type-Options: nosniff\r\n\
 Referrer-Policy: no-referrer\r\n\
 Cache-Control: no-cache\r\n\
@@ -673,6 +673,8 @@ on($('connect'), 'CONNECTION', FREE, (b) => act(b, 'POST', '/api/connection', $(
 on($('disconnect'), 'CONNECTION', [...LINKED, 'Connecting', 'Closing'], async (b) => {
   const busy = RUNS.includes(state) || state === 'Cancelling' || state === 'Finishing';
   if (busy && !await sure('Disconnect?', 'This ends the print. The heaters may stay on.', 'Disconnect', 'Keep printing')) return;
+  // A second one doesn't wait for the printer.
+  if (state === 'Closing' && !await sure('Hang up now?', 'The rest of the last script isn\\'t sent. The heaters may stay on.', 'Hang up', 'Wait')) return;
   act(b, 'POST', '/api/connection', { command: 'disconnect' });
 });
 on($('start'), 'PRINT', ['Operational'], async (b) => {
