@@ -86,6 +86,7 @@ pub(crate) fn begin_by<K: Keeper, S: Shelf>(
         window,
         limit_ms,
         poll_ms,
+        boot_ms: _,
         material,
         limits,
         admin,

@@ -33,6 +33,7 @@ settings_in members =
       window = printer.window;
       limit_ms = printer.limit_ms;
       poll_ms = printer.poll_ms;
+      boot_ms = printer.boot_ms;
       material = printer.material;
       limits = limits;
       admin = Some admin;
@@ -57,6 +58,7 @@ plain_settings = record {
   window = 4;
   limit_ms = 30000;
   poll_ms = 5000;
+  boot_ms = None;
   material = codes "any";
   limits = record { tool = 300; bed = 120 };
   admin = None;

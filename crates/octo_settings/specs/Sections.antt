@@ -29,6 +29,15 @@ abbrev pub material_of : List ℕ → Option Data → Result (List ℕ) Settings
 material_of key None = Ok (codes "any")
 material_of key (Some value) = and_then (text_value key value) (λ text. in_range key (name_of text))
 
+-- a number of milliseconds that was read
+abbrev pub some_number : ℕ → Result (Option ℕ) SettingsFault
+some_number n = Ok (Some n)
+
+-- how long the printer may take to start, in milliseconds, if it is said
+abbrev pub boot_of : List ℕ → Option Data → Result (Option ℕ) SettingsFault
+boot_of key None = Ok None
+boot_of key (Some value) = and_then (whole key 0 60000 0 (Some value)) some_number
+
 -- the printer of a table
 abbrev pub printer_in : Members → Result Printer SettingsFault
 printer_in members =
@@ -36,8 +45,16 @@ printer_in members =
     and_then (whole (codes "printer.window") 1 16 4 (get_member (codes "window") members)) (λ window.
     and_then (whole (codes "printer.limit_ms") 1000 600000 30000 (get_member (codes "limit_ms") members)) (λ limit_ms.
     and_then (whole (codes "printer.poll_ms") 1000 600000 5000 (get_member (codes "poll_ms") members)) (λ poll_ms.
+    and_then (boot_of (codes "printer.boot_ms") (get_member (codes "boot_ms") members)) (λ boot_ms.
     and_then (material_of (codes "printer.material") (get_member (codes "material") members)) (λ material.
-    Ok (record { ports = ports; window = window; limit_ms = limit_ms; poll_ms = poll_ms; material = material }))))))
+    Ok (record {
+      ports = ports;
+      window = window;
+      limit_ms = limit_ms;
+      poll_ms = poll_ms;
+      boot_ms = boot_ms;
+      material = material;
+    })))))))
 
 -- the printer of the section `printer`
 abbrev pub printer_of : Option Data → Result Printer SettingsFault

@@ -3,7 +3,7 @@ ghost use Rattle.std.specs.Prelude.{◌≡◌, ◌≤◌, length};
 ghost use Rattle.byte_text.specs.declared.name.TheConstants.{MOST_NAME_BYTES};
 ghost use Rattle.hex.specs.Hex.{decode_sized};
 ghost use Rattle.octo_access.specs.Names.{name_of};
-ghost use Rattle.octo_settings.specs.Sections.{port_of, ports_in, ports_of, material_of, printer_in, printer_of, limits_in, limits_of, admin_name_of, digest_in, digest_of, admin_in, admin_of, patience_in, patience_of};
+ghost use Rattle.octo_settings.specs.Sections.{port_of, ports_in, ports_of, material_of, boot_of, printer_in, printer_of, limits_in, limits_of, admin_name_of, digest_in, digest_of, admin_in, admin_of, patience_in, patience_of};
 ghost use Rattle.octo_settings.specs.Seen.{members_or, data_of_value};
 ghost use Rattle.octo_settings.specs.Values.{Reads, each, in_range};
 
@@ -26,6 +26,7 @@ pub(crate) struct Printer {
     pub(crate) window: u8,
     pub(crate) limit_ms: u64,
     pub(crate) poll_ms: u64,
+    pub(crate) boot_ms: Option<u16>,
     pub(crate) material: Name,
 }
 
@@ -100,6 +101,20 @@ fn read_material(key: &str, value: Option<&Value>) -> Result<Name, SettingsFault
     }
 }
 
+// How long the printer may take to start, in milliseconds, if the settings say it.
+fn read_boot(key: &str, value: Option<&Value>) -> Result<Option<u16>, SettingsFault>
+    requires { length key.now ≤ MOST_NAME_BYTES }
+    ensures { result ≡ boot_of key.now (data_of_value value.entry) }
+{
+    let Some(value) = value else {
+        return Ok(None);
+    };
+    match read_whole(key, 0, 60_000, 0, Some(value)) {
+        Ok(boot_ms) => Ok(Some(boot_ms as u16)),
+        Err(fault) => Err(fault),
+    }
+}
+
 fn read_printer_in(alloc: Global, table: Option<&Table>) -> Result<Printer, SettingsFault>
     ensures { Reads result (printer_in (members_or table.entry)) }
 {
@@ -119,12 +134,14 @@ fn read_printer_in(alloc: Global, table: Option<&Table>) -> Result<Printer, Sett
         5_000,
         at(table, "poll_ms"),
     )?;
+    let boot_ms = read_boot("printer.boot_ms", at(table, "boot_ms"))?;
     let material = read_material("printer.material", at(table, "material"))?;
     Ok(Printer {
         ports,
         window: window as u8,
         limit_ms,
         poll_ms,
+        boot_ms,
         material,
     })
 }

@@ -35,6 +35,8 @@ pub struct Settings {
     pub limit_ms: u64,
     /// How many milliseconds apart the printer is asked for its temperatures.
     pub poll_ms: u64,
+    /// How many milliseconds the printer may take to start after its port was opened; `None` leaves it to the kind of port.
+    pub boot_ms: Option<u16>,
     /// The name of the material in the printer; `any` fits every queue entry.
     pub material: Name,
     /// The greatest temperatures that a command may ask for, in degrees Celsius.
@@ -67,6 +69,7 @@ fn defaults(alloc: Global) -> Settings
         window: 4,
         limit_ms: 30_000,
         poll_ms: 5_000,
+        boot_ms: None,
         material: any_material(),
         limits: Limits {
             tool: 300,
@@ -109,6 +112,7 @@ fn read_table(alloc: Global, table: &Table) -> Result<Settings, SettingsFault>
         window: printer.window,
         limit_ms: printer.limit_ms,
         poll_ms: printer.poll_ms,
+        boot_ms: printer.boot_ms,
         material: printer.material,
         limits,
         admin: Some(admin),

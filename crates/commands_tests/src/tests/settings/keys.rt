@@ -5,7 +5,7 @@ use std::process::Abort;
 use std::test::Fail;
 
 // A key of the printer that is out of its range, or of the wrong kind.
-const PRINTERS: [(&str, Why, &str); 12] = [
+const PRINTERS: [(&str, Why, &str); 15] = [
     ("window = 0", Why::Range, "printer.window"),
     ("window = 17", Why::Range, "printer.window"),
     ("window = 4.0", Why::Kind, "printer.window"),
@@ -15,6 +15,9 @@ const PRINTERS: [(&str, Why, &str); 12] = [
     ("poll_ms = 999", Why::Range, "printer.poll_ms"),
     ("poll_ms = 600001", Why::Range, "printer.poll_ms"),
     ("poll_ms = true", Why::Kind, "printer.poll_ms"),
+    ("boot_ms = -1", Why::Range, "printer.boot_ms"),
+    ("boot_ms = 60001", Why::Range, "printer.boot_ms"),
+    ("boot_ms = '3000'", Why::Kind, "printer.boot_ms"),
     ("material = ''", Why::Range, "printer.material"),
     ("material = 'P L A'", Why::Range, "printer.material"),
     ("material = 1", Why::Kind, "printer.material"),

@@ -1,6 +1,6 @@
 use Rattle.std.proofs.Common.{◌≡◌, inr, refl, ℕ, List, Result, Err}
 use Rattle.octo_files.specs.Settings.{AreSettings}
-use Rattle.octo_files.proofs.Gives.{over_gives}
+use Rattle.octo_files.proofs.Gives.{held_settings, over_gives}
 use Rattle.octo_files.proofs.TooLarge.{no_settings}
 use Rattle.octo_files.specs.declared.report.Report.{Report}
 use Rattle.octo_files.specs.declared.report.Report.TheVariants as report
@@ -8,6 +8,11 @@ use Rattle.octo_settings.specs.Config.{most_config_bytes}
 use Rattle.octo_settings.specs.declared.fault.SettingsFault.TheVariants.{NotToml}
 use Rattle.octo_settings.specs.declared.settings.Settings.{Settings}
 use Rattle.octo_files.proofs.settings.read_settings_file.Goals as goal
+
+pub returns-in-Ok-clause-exact : goal.returns-in-Ok-clause-exact
+returns-in-Ok-clause-exact g c =
+    held_settings (g.F.Source.files c.args.files.now) c.args.name.now _ c.as_slice.result.now c.settings_of_bytes.result
+    c.in-Ok.ensures.ok c.as_slice.ensures c.settings_of_bytes.ensures.exact
 
 pub returns-in-Err-TooLong-clause-exact : goal.returns-in-Err-TooLong-clause-exact
 returns-in-Err-TooLong-clause-exact g c =
