@@ -11,7 +11,7 @@ use absent::{AbsentKeeper, absent_doors};
 use byte_text::Name;
 use causes::{say_of_arguments, say_of_database, say_of_end};
 use octo_commands::octo;
-use octo_files::{OUTPUT_FAILED, Report, SUCCESS};
+use octo_files::{OUTPUT_FAILED, Report, SUCCESS, read_settings_of};
 use octo_keeper::Keeper;
 use octo_keeper_file::{close_keeper, open_keeper};
 use octo_keeper_folder::FolderShelf;
@@ -21,7 +21,7 @@ use octo_outside::{
 use octo_outside_doors::{Doors, TcpDoor};
 use octo_serve_command::{HostReport, Opened, write_host_report};
 use octo_words::{Command, Remark, WordsFault, read_words, remark_on};
-use printer_link_socket::SocketLink;
+use printer_link_socket::{PortLink, SystemPorts};
 use std::alloc::AllocError;
 use std::net::{Net, TcpListener, TcpStream};
 use std::process::ExitCode;
@@ -47,6 +47,24 @@ fn end_with(out: &mut StdSink<HostRuntime>, report: &HostReport) -> ExitCode {
     }
 }
 
+// How many milliseconds the printer may take to start, if the command's settings say it. Of settings that can't be read the command
+// reports.
+fn boot_ms_of(system: &HostRuntime, command: &Command) -> Option<u16> {
+    let settings = match command {
+        Command::Print {
+            settings: Some(settings),
+            ..
+        } => settings,
+        Command::Serve { settings, .. } => settings,
+        _ => return None,
+    };
+    let mut files = FileSource::new(*system);
+    match read_settings_of(system.alloc(), &mut files, Some(settings.as_str())) {
+        Ok(settings) => settings.boot_ms,
+        Err(_) => None,
+    }
+}
+
 // Carries out the command that the arguments are, over the system's files and sockets, and returns the program's exit status.
 // `rt` starts threads, waits and listens; `system` opens what else the program works with. The program has one handle for both.
 fn carry_out<
@@ -63,13 +81,14 @@ fn carry_out<
     rt: &R,
     system: &HostRuntime,
     words: &WordList,
+    boot_ms: Option<u16>,
     out: &mut StdSink<HostRuntime>,
     keeper: &mut K,
     folder: &Name,
     doors: &mut Doors<TcpDoor<R>>,
 ) -> ExitCode {
     let mut files = FileSource::new(*system);
-    let mut link = SocketLink::new(system);
+    let mut link = PortLink::new(SystemPorts::new(*system, system.alloc()), boot_ms);
     let mut clock = SystemClock::new(*system);
     let mut shelf = FolderShelf::new(*system, folder);
     let status = octo(
@@ -105,6 +124,7 @@ fn serve_with<
     rt: &R,
     system: &HostRuntime,
     words: &WordList,
+    boot_ms: Option<u16>,
     out: &mut StdSink<HostRuntime>,
     address: &Name,
     folder: &Name,
@@ -115,7 +135,16 @@ fn serve_with<
         Err(AllocError) => return end_with(out, &HostReport::Command(Report::NoMemory)),
     };
     let mut keeper = Opened::new(open_keeper(system, database));
-    let code = carry_out(rt, system, words, out, &mut keeper, folder, &mut doors);
+    let code = carry_out(
+        rt,
+        system,
+        words,
+        boot_ms,
+        out,
+        &mut keeper,
+        folder,
+        &mut doors,
+    );
     match keeper.into_keeper() {
         Ok(keeper) => close_keeper(keeper),
         Err(fault) => say_of_database(system, database.as_str(), fault),
@@ -133,13 +162,20 @@ fn carry_out_unserved<
         + Send
         + Sync
         + Drop,
->(rt: &R, system: &HostRuntime, words: &WordList, out: &mut StdSink<HostRuntime>) -> ExitCode {
+>(
+    rt: &R,
+    system: &HostRuntime,
+    words: &WordList,
+    boot_ms: Option<u16>,
+    out: &mut StdSink<HostRuntime>,
+) -> ExitCode {
     let mut keeper = AbsentKeeper::new();
     let mut doors = absent_doors(rt);
     carry_out(
         rt,
         system,
         words,
+        boot_ms,
         out,
         &mut keeper,
         &Name::new(),
@@ -164,14 +200,15 @@ fn carry_out_command<
     out: &mut StdSink<HostRuntime>,
     command: &Command,
 ) -> ExitCode {
+    let boot_ms = boot_ms_of(system, command);
     match command {
         Command::Serve {
             address,
             folder,
             database,
             ..
-        } => serve_with(rt, system, words, out, address, folder, database),
-        _ => carry_out_unserved(rt, system, words, out),
+        } => serve_with(rt, system, words, boot_ms, out, address, folder, database),
+        _ => carry_out_unserved(rt, system, words, boot_ms, out),
     }
 }
 
@@ -184,12 +221,16 @@ fn end_with_help(out: &mut StdSink<HostRuntime>, text: &Blob) -> ExitCode {
 }
 
 // Ends with the help or the version if the arguments ask for it. Otherwise the standard error says which of them is wrong.
-fn end_without_command<R: Threads + Wait + Clone + Send + Sync + Drop>(
-    rt: &R,
-    system: &HostRuntime,
-    words: &WordList,
-    out: &mut StdSink<HostRuntime>,
-) -> ExitCode {
+fn end_without_command<
+    R: Net<Listener = TcpListener, Stream = TcpStream>
+        + Clock
+        + Threads
+        + Wait
+        + Copy
+        + Send
+        + Sync
+        + Drop,
+>(rt: &R, system: &HostRuntime, words: &WordList, out: &mut StdSink<HostRuntime>) -> ExitCode {
     match remark_on(system.alloc(), words) {
         Ok(Remark::Asked(text)) => return end_with_help(out, &text),
         Ok(Remark::Wrong(line)) => {
@@ -197,7 +238,7 @@ fn end_without_command<R: Threads + Wait + Clone + Send + Sync + Drop>(
         }
         Err(AllocError) => {}
     }
-    carry_out_unserved(rt, system, words, out)
+    carry_out_unserved(rt, system, words, None, out)
 }
 
 fn main(rt: HostRuntime) -> ExitCode {
@@ -212,6 +253,6 @@ fn main(rt: HostRuntime) -> ExitCode {
     match read_words(rt.alloc(), &words) {
         Ok(command) => carry_out_command(&rt, &rt, &words, &mut out, &command),
         Err(WordsFault::BadWords) => end_without_command(&rt, &rt, &words, &mut out),
-        Err(WordsFault::NoMemory) => carry_out_unserved(&rt, &rt, &words, &mut out),
+        Err(WordsFault::NoMemory) => carry_out_unserved(&rt, &rt, &words, None, &mut out),
     }
 }

@@ -1,5 +1,5 @@
 //! Reply lines out of a stream's bytes.
-ghost use Rattle.std.specs.Prelude.{◌≡◌, ◌++◌, ◌-◌, ◌≤◌, ◌⊎◌, ◌↔◌, ℕ, List, [], true, false, length, take, drop, IfOk, OnOk, OnErr, IsTrue, MatchResult};
+ghost use Rattle.std.specs.Prelude.{◌≡◌, ◌++◌, ◌-◌, ◌<◌, ◌≤◌, ◌⊎◌, ◌↔◌, ℕ, List, [], true, false, length, take, drop, IfOk, OnOk, OnErr, IsTrue, MatchResult};
 ghost use Rattle.std.specs.IoError.{error_kind};
 ghost use Rattle.std.specs.Io.KnownBytes.{Consumes, Keeps};
 ghost use Rattle.std.specs.List.{list_any, position_or_len, before_first, after_first};
@@ -84,6 +84,13 @@ impl Lines {
         ensures { result ≡ self.now.ended }
     {
         self.ended
+    }
+
+    /// Whether bytes wait that were read and aren't looked through yet.
+    pub fn has_more(&self) -> bool
+        ensures { IsTrue result ↔ (0 < length self.now.waiting) }
+    {
+        !self.waiting().is_empty()
     }
 
     // The bytes after the line that has begun.

@@ -1,100 +1,85 @@
-//! A link to a printer over TCP or a Unix socket.
-ghost use Rattle.std.specs.Prelude.{◌≡◌, ◌+◌, ◌≤◌, ◌↔◌, ◌++◌, ◌∷◌, [], length, true, false, is_some, Some, None, Ok, IfSome, IfOk, OnOk, OnErr, IsErr, IsOk, IsErrOf, ⊤};
+//! A link to a printer over a port.
+ghost use Rattle.std.specs.Prelude.{◌≡◌, ◌+◌, ◌≤◌, ◌↔◌, ◌⊎◌, ◌++◌, [], length, true, false, is_some, Some, None, Ok, IfSome, IfOk, OnOk, OnErr, IsErr, IsOk, IsErrOf, ⊤};
 ghost use Rattle.std.specs.List.{list_any, before_first, after_first};
 ghost use Rattle.octo_outside.specs.Recorded.{Counts};
 ghost use Rattle.printer_link_socket.specs.Address.{names_port};
-ghost use Rattle.octo_outside_sockets.specs.Streams.{of_stream};
 ghost use Rattle.printer_link_socket.specs.Lines.{cut, ends_line};
 ghost use Rattle.printer_link_socket.specs.declared.unsent.TheConstants.{ROOM};
-ghost use Rattle.printer_link_socket.specs.Sent.{Joins, Wrote, WroteFirst};
-ghost use Rattle.printer_link_socket.specs.Heard.{Came, HeardLater};
+ghost use Rattle.printer_link_socket.specs.Sent.{Joins, WroteFirst};
+ghost use Rattle.printer_link_socket.specs.Heard.{HeardLater};
+ghost use Rattle.printer_link_socket.specs.Waiting.{Starts, boot_of, no_lines, waits_for};
 ghost use Rattle.printer_link.specs.declared.link.Heard.TheVariants as heard;
 ghost use Rattle.printer_link.specs.declared.link.LinkFault.TheVariants as fault;
 
-use crate::address::names_port;
-use crate::lines::Lines;
-use crate::unsent::Unsent;
+use crate::address::{names_device, names_port};
+use crate::boot::Boot;
+use crate::dial::Dial;
+use crate::stream_link::{Skipped, StreamLink};
 use byte_text::{Line, MOST_LINE_BYTES, ReplyLine};
-use libc::net::{POLLIN, poll};
-use libc::types::pollfd;
-use octo_outside_sockets::{SocketStream, linger, prepare, unix_path};
 use printer_link::{Heard, Link, LinkFault};
-use std::net::{Net, TcpStream, ToSocketAddrs};
-use std::os::fd::AsRawFd;
-use std::os::unix::net::UnixStream;
-use std::time::{Clock, Duration};
 
-// How long a call of `recv` waits for input, in milliseconds.
-const WAIT: i32 = 1;
+// How long a printer at a serial device may take to start by default, in milliseconds.
+const TTY_BOOT: u16 = 3_000;
 
-// How long one address is tried, in milliseconds, and how many addresses of a host are tried.
-const CONNECT: u64 = 2000;
-
-const ADDRESSES: usize = 4;
-
-/// A link to the ports named `HOST:PORT`, over TCP, and `unix:PATH`, over a Unix socket. It does not record its history.
+/// A link to ports of these kinds: `HOST:PORT`, over TCP; `unix:PATH`, over a Unix socket; `tty:PATH:SPEED` and `tty:PATH`, over
+/// a serial device. It does not record its history.
+///
 /// A call of `recv` waits for about a millisecond, and a reply that comes in ends the wait at once. Lines that are sent
 /// are written when `recv` finds no reply that has been read, so that those of one turn go out together. It fails if that
 /// write fails, or if it finds that the peer has closed, even within a line.
+///
+/// A printer may restart when its line is opened. So over a serial device, and over a socket if a boot time is given, the link first
+/// waits for the printer: until its line `start`, or until it had its boot time and was silent for 2.5 seconds. Till then
+/// `recv` finds nothing and drops what comes, and what is sent waits. It fails if a printer speaks for a minute more than its boot time.
 #[derive(Drop)]
-pub struct SocketLink<R: Net + Drop> {
-    rt: R,
-    stream: Option<SocketStream<R::Stream>>,
-    unsent: Unsent,
-    lines: Lines,
+pub struct PortLink<D: Dial + Drop> {
+    ports: D,
+    boot_ms: Option<u16>,
+    line: StreamLink<D::Stream>,
+    boot: Option<Boot>,
     up: bool,
     faults: u64,
 }
 
-// Connects over TCP to an address; `None` if no peer accepts in time.
-fn connect_address<R: Net>(rt: &R, name: &str) -> Option<R::Stream> {
-    let timeout = Duration::from_millis(CONNECT);
-    for address in name.to_socket_addrs(rt).ok()?.take(ADDRESSES) {
-        if let Ok(stream) = TcpStream::connect_timeout(rt, &address, timeout) {
-            return Some(stream);
-        }
+// How long a printer at that port may take to start, in milliseconds, if the settings say this.
+fn boot_of(boot_ms: Option<u16>, name: &str) -> u16
+    ensures { result ≡ boot_of boot_ms name.now }
+{
+    match boot_ms {
+        Some(boot_ms) => boot_ms,
+        None => { if names_device(name) { TTY_BOOT } else { 0 } }
+    }
+}
+
+// The wait for the printer at that port, if there is one, from this moment on.
+fn wait_from(now: u64, boot_ms: Option<u16>, name: &str) -> Option<Boot>
+    ensures { is_some result ≡ waits_for boot_ms name.now }
+{
+    let boot_ms = boot_of(boot_ms, name);
+    if names_device(name) || boot_ms != 0 {
+        return Some(Boot::new(now, boot_ms));
     }
     None
 }
 
-// Connects to a port; `None` if no peer accepts. A Unix socket accepts at once or not at all.
-fn connect<R: Net>(rt: &R, name: &str) -> Option<SocketStream<R::Stream>> {
-    let stream = match unix_path(name) {
-        Some(path) => SocketStream::Unix(UnixStream::connect(rt, path).ok()?),
-        None => SocketStream::Tcp(connect_address(rt, name)?),
-    };
-    prepare(&stream).ok()?;
-    Some(stream)
-}
-
-// Whether a read has something to return within about a millisecond. If the poll fails, the read's own limit ends it.
-fn may_read<S: AsRawFd>(stream: &S) -> bool {
-    let mut asked = [pollfd {
-        fd: stream.as_raw_fd(),
-        events: POLLIN,
-        revents: 0,
-    }];
-    poll(&mut asked, WAIT) != 0
-}
-
-impl<R: Net + Copy> SocketLink<R> {
-    /// A link that isn't connected yet.
-    pub fn new(rt: &R) -> Self
+impl<D: Dial + Drop> PortLink<D> {
+    /// A link to these ports that isn't connected yet, and the milliseconds that a printer may take to start.
+    /// `None` means 3,000 for a serial device, and 0 for a socket.
+    pub fn new(ports: D, boot_ms: Option<u16>) -> Self
         ensures down { result.up ≡ false }
         ensures faults { result.faults ≡ 0 }
+        ensures boot { result.boot_ms ≡ boot_ms }
     {
-        SocketLink {
-            rt: *rt,
-            stream: None,
-            unsent: Unsent::new(),
-            lines: Lines::new(),
+        PortLink {
+            ports,
+            boot_ms,
+            line: StreamLink::closed(),
+            boot: None,
             up: false,
             faults: 0,
         }
     }
-}
 
-impl<R: Net + Drop> SocketLink<R> {
     /// Whether a link is made.
     pub fn is_up(&self) -> bool
         ensures { result ≡ self.now.up }
@@ -106,127 +91,58 @@ impl<R: Net + Drop> SocketLink<R> {
     fn fail(&mut self) -> LinkFault
         ensures fault { result ≡ fault.Failed }
         ensures down { self.new.up ≡ false }
-        ensures closed { self.new.stream ≡ None }
+        ensures closed { self.new.line.stream ≡ None }
         ensures counts { Counts ⊤ self.old.faults self.new.faults }
-        ensures lines { self.new.lines ≡ self.old.lines }
+        ensures lines { self.new.line.lines ≡ self.old.line.lines }
+        ensures ready { self.new.boot ≡ None }
+        ensures boot { self.new.boot_ms ≡ self.old.boot_ms }
     {
-        self.stream = None;
+        self.line.stream = None;
+        self.boot = None;
         self.up = false;
         self.faults = self.faults.saturating_add(1);
         LinkFault::Failed
     }
 
-    // Writes what is unsent. Returns `false` if that fails, and then drops the stream.
-    fn write_out(&mut self) -> bool
-        ensures stream { result ≡ is_some self.new.stream }
-        ensures emptied { self.new.unsent ≡ [] }
-        ensures written { result ≡ true
-            → Wrote (of_stream R.Stream.contents) self.old.stream self.new.stream self.old.unsent }
+    // Takes a step of the wait for the printer: drops a line that came, or reads more. `false` if the link failed.
+    fn wait(&mut self, boot: Boot) -> bool
+        requires { self.old.boot ≡ Some boot }
+        ensures over { result ≡ true → self.new.boot ≡ None
+            → Starts self.old.line.lines self.new.line.lines ⊎ (self.new.line.lines ≡ no_lines) }
+        ensures unsent { self.new.line.unsent ≡ self.old.line.unsent }
         ensures up { self.new.up ≡ self.old.up }
         ensures faults { self.new.faults ≡ self.old.faults }
-        ensures lines { self.new.lines ≡ self.old.lines }
+        ensures boot { self.new.boot_ms ≡ self.old.boot_ms }
     {
-        let Some(mut stream) = self.stream.take() else {
-            self.unsent = Unsent::new();
+        let Some(skipped) = self.line.skip() else {
             return false;
         };
-        let written = self.unsent.write(&mut stream);
-        if written {
-            self.stream = Some(stream);
+        let now = self.ports.now();
+        match skipped {
+            Skipped::Start => {
+                self.boot = None;
+                true
+            }
+            Skipped::Speech => {
+                if boot.is_hopeless(now) {
+                    return false;
+                }
+                self.boot = Some(boot.after_speech(now));
+                true
+            }
+            Skipped::Nothing => {
+                if !boot.is_over(now) {
+                    return true;
+                }
+                self.line.forget_lines();
+                self.boot = None;
+                true
+            }
         }
-        written
-    }
-
-    // Adds a line to what is unsent, which it writes first if room is missing. Returns `false` if that fails.
-    fn gather(&mut self, line: &Line) -> bool
-        requires { length line.now.items ≤ MOST_LINE_BYTES }
-        ensures room { length self.old.unsent + length line.now.items + 1 ≤ ROOM → result ≡ true }
-        ensures joined { result ≡ true → Joins (of_stream R.Stream.contents) line.now.items
-            self.old.unsent self.new.unsent self.old.stream self.new.stream }
-        ensures up { self.new.up ≡ self.old.up }
-        ensures faults { self.new.faults ≡ self.old.faults }
-        ensures lines { self.new.lines ≡ self.old.lines }
-    {
-        if self.unsent.has_room(line) {
-            self.unsent.add(line);
-            return true;
-        }
-        let written = self.write_out();
-        self.unsent.add(line);
-        written
-    }
-
-    // Reads what comes within about a millisecond. Returns `false` if the stream failed or the peer has closed.
-    #[tactic(auto, using(crate::proofs::Heard::nothing_came, crate::proofs::Heard::no_bytes_came))]
-    fn read_in(&mut self) -> bool
-        requires { self.old.lines.waiting ≡ [] }
-        ensures begun { self.new.lines.begun ≡ self.old.lines.begun }
-        ensures came { result ≡ true → Came (of_stream R.Stream.remaining)
-            self.old.stream self.new.stream self.new.lines.waiting }
-        ensures peer { result ≡ true → self.new.lines.ended ≡ false }
-        ensures unsent { self.new.unsent ≡ self.old.unsent }
-        ensures up { self.new.up ≡ self.old.up }
-        ensures faults { self.new.faults ≡ self.old.faults }
-    {
-        let Some(mut stream) = self.stream.take() else {
-            return false;
-        };
-        if may_read(&stream) {
-            let _ = self.lines.fill(&mut stream);
-        }
-        self.stream = Some(stream);
-        !self.lines.has_ended()
-    }
-
-    // Takes the next reply. If none has ended, writes what is unsent and waits for more. `None` if the link failed.
-    #[tactic(auto, using(crate::proofs::Sent::wrote_first))]
-    fn hear(&mut self, into: &mut ReplyLine) -> Option<Heard>
-        ensures at_once { list_any ends_line self.old.lines.waiting ≡ true
-            → result ≡ Some heard.Line }
-        ensures line { list_any ends_line self.old.lines.waiting ≡ true
-            → into.new.items
-            ≡ cut (self.old.lines.begun ++ before_first ends_line self.old.lines.waiting) }
-        ensures after { list_any ends_line self.old.lines.waiting ≡ true
-            → self.new.lines ≡ record self.old.lines {
-              begun = [];
-              waiting = after_first ends_line self.old.lines.waiting;
-            } }
-        ensures still { list_any ends_line self.old.lines.waiting ≡ true
-            → (self.new.unsent ≡ self.old.unsent) × (self.new.stream ≡ self.old.stream) }
-
-        // If no reply waited, what is unsent was written before more was read.
-        ensures emptied { list_any ends_line self.old.lines.waiting ≡ false → is_some result ≡ true
-            → self.new.unsent ≡ [] }
-        ensures written { list_any ends_line self.old.lines.waiting ≡ false → is_some result ≡ true
-            → WroteFirst (of_stream R.Stream.contents) self.old.stream self.old.unsent }
-
-        // And the line, if one has ended then, is made of what had been read and what came.
-        ensures later { list_any ends_line self.old.lines.waiting ≡ false → IfSome result (λ got.
-            HeardLater (of_stream R.Stream.contents) (of_stream R.Stream.remaining)
-            self.old.stream self.new.stream self.old.unsent self.old.lines got into.new.items
-            self.new.lines) }
-
-        // And its last reading didn't find the end of the stream, as when the peer has closed.
-        ensures peer { list_any ends_line self.old.lines.waiting ≡ false → is_some result ≡ true
-            → self.new.lines.ended ≡ false }
-
-        ensures up { self.new.up ≡ self.old.up }
-        ensures faults { self.new.faults ≡ self.old.faults }
-    {
-        if self.lines.take(into) {
-            return Some(Heard::Line);
-        }
-        if !self.write_out() || !self.read_in() {
-            return None;
-        }
-        if self.lines.take(into) {
-            return Some(Heard::Line);
-        }
-        Some(Heard::Nothing)
     }
 }
 
-impl<R: Net + Clock + Drop> Link for SocketLink<R> {
+impl<D: Dial + Drop> Link for PortLink<D> {
     ghost past = { λ _. None };
 
     ghost kind = { λ _. record {
@@ -242,15 +158,18 @@ impl<R: Net + Clock + Drop> Link for SocketLink<R> {
 
     ghost faults = { λ l. l.faults };
 
-    /// Connects to the port of that name, trying at most 4 addresses for about 2 seconds each. Fails if no peer
-    /// accepts, and with `NoPort` if the name isn't a port's.
+    /// Connects to the port of that name. Fails if its stream can't be opened, and with `NoPort` if the name isn't a port's.
     fn dial(&mut self, name: &str) -> Result<(), LinkFault>
         requires { self.old.up ≡ false }
 
         // Nothing of a former connection is left.
-        ensures unsent { OnOk result (self.new.unsent ≡ []) }
-        ensures lines { OnOk result
-            (self.new.lines ≡ record { begun = []; waiting = []; ended = false }) }
+        ensures unsent { OnOk result (self.new.line.unsent ≡ []) }
+        ensures lines { OnOk result (self.new.line.lines ≡ no_lines) }
+
+        // Whether the link waits for the printer first.
+        ensures wait { OnOk result
+            (is_some self.new.boot ≡ waits_for self.old.boot_ms name.now) }
+        ensures boot { self.new.boot_ms ≡ self.old.boot_ms }
 
         ensures no_port { IsErrOf result fault.NoPort ↔ (names_port name.now ≡ false) }
         ensures up { OnOk result (self.new.up ≡ true) }
@@ -258,14 +177,14 @@ impl<R: Net + Clock + Drop> Link for SocketLink<R> {
         ensures counts { Counts (IsErrOf result fault.Failed) self.old.faults self.new.faults }
     {
         if !names_port(name) {
+            self.ports.refuse(name);
             return Err(LinkFault::NoPort);
         }
-        let Some(stream) = connect(&self.rt, name) else {
+        let Some(stream) = self.ports.open(name) else {
             return Err(self.fail());
         };
-        self.stream = Some(stream);
-        self.unsent = Unsent::new();
-        self.lines = Lines::new();
+        self.line = StreamLink::over(stream);
+        self.boot = wait_from(self.ports.now(), self.boot_ms, name);
         self.up = true;
         Ok(())
     }
@@ -273,18 +192,27 @@ impl<R: Net + Clock + Drop> Link for SocketLink<R> {
     fn send(&mut self, line: &Line) -> Result<(), LinkFault>
         requires open { self.old.up ≡ true }
         requires short { length line.now.items ≤ MOST_LINE_BYTES }
-        ensures joined { OnOk result (Joins (of_stream R.Stream.contents) line.now.items
-            self.old.unsent self.new.unsent self.old.stream self.new.stream) }
-        ensures room { length self.old.unsent + length line.now.items + 1 ≤ ROOM → IsOk result }
-        ensures lines { self.new.lines ≡ self.old.lines }
+        ensures joined { OnOk result (Joins D.Stream.contents line.now.items
+            self.old.line.unsent self.new.line.unsent self.old.line.stream self.new.line.stream) }
+        ensures room { length self.old.line.unsent + length line.now.items + 1 ≤ ROOM
+            → IsOk result }
+        ensures lines { self.new.line.lines ≡ self.old.line.lines }
+
+        // While the link waits for the printer, nothing is written.
+        ensures held { is_some self.old.boot ≡ true
+            → OnOk result ((self.new.line.stream ≡ self.old.line.stream)
+            × (self.new.boot ≡ self.old.boot)) }
+        ensures ready { self.old.boot ≡ None → self.new.boot ≡ None }
+        ensures boot { self.new.boot_ms ≡ self.old.boot_ms }
+
         ensures no_port { IsErrOf result fault.NoPort → ⊥ }
         ensures up { OnOk result (self.new.up ≡ true) }
         ensures down { OnErr result (self.new.up ≡ false) }
-        ensures closed { OnErr result (self.new.stream ≡ None) }
+        ensures closed { OnErr result (self.new.line.stream ≡ None) }
         ensures counts { Counts (IsErr result) self.old.faults self.new.faults }
         ensures steady { OnOk result (self.new.faults ≡ self.old.faults) }
     {
-        if self.gather(line) {
+        if self.line.gather(line, self.boot.is_some()) {
             return Ok(());
         }
         Err(self.fail())
@@ -292,59 +220,94 @@ impl<R: Net + Clock + Drop> Link for SocketLink<R> {
 
     fn recv(&mut self, into: &mut ReplyLine) -> Result<Heard, LinkFault>
         requires { self.old.up ≡ true }
-        ensures at_once { list_any ends_line self.old.lines.waiting ≡ true
-            → result ≡ Ok heard.Line }
-        ensures line { list_any ends_line self.old.lines.waiting ≡ true
-            → into.new.items ≡ cut (self.old.lines.begun
-            ++ before_first ends_line self.old.lines.waiting) }
-        ensures after { list_any ends_line self.old.lines.waiting ≡ true
-            → self.new.lines ≡ record self.old.lines {
+
+        // While the link waits for the printer it finds nothing, and what was sent waits.
+        ensures waiting { is_some self.old.boot ≡ true → IfOk result (λ got. got ≡ heard.Nothing) }
+        ensures held { is_some self.old.boot ≡ true
+            → OnOk result (self.new.line.unsent ≡ self.old.line.unsent) }
+
+        // After the wait nothing is kept of what was read before the line `start`, or before the silence.
+        ensures over { is_some self.old.boot ≡ true → OnOk result (self.new.boot ≡ None
+            → Starts self.old.line.lines self.new.line.lines
+            ⊎ (self.new.line.lines ≡ no_lines)) }
+        ensures ready { self.old.boot ≡ None → self.new.boot ≡ None }
+        ensures boot { self.new.boot_ms ≡ self.old.boot_ms }
+
+        // A reply that waits is returned at once.
+        ensures at_once { self.old.boot ≡ None
+            → list_any ends_line self.old.line.lines.waiting ≡ true → result ≡ Ok heard.Line }
+        ensures line { self.old.boot ≡ None
+            → list_any ends_line self.old.line.lines.waiting ≡ true
+            → into.new.items ≡ cut (self.old.line.lines.begun
+            ++ before_first ends_line self.old.line.lines.waiting) }
+        ensures after { self.old.boot ≡ None
+            → list_any ends_line self.old.line.lines.waiting ≡ true
+            → self.new.line.lines ≡ record self.old.line.lines {
               begun = [];
-              waiting = after_first ends_line self.old.lines.waiting;
+              waiting = after_first ends_line self.old.line.lines.waiting;
             } }
-        ensures still { list_any ends_line self.old.lines.waiting ≡ true
-            → (self.new.unsent ≡ self.old.unsent) × (self.new.stream ≡ self.old.stream) }
+        ensures still { self.old.boot ≡ None
+            → list_any ends_line self.old.line.lines.waiting ≡ true
+            → (self.new.line.unsent ≡ self.old.line.unsent)
+            × (self.new.line.stream ≡ self.old.line.stream) }
 
         // If no reply waited and the call didn't fail, what was unsent was written before more was read.
-        ensures emptied { list_any ends_line self.old.lines.waiting ≡ false
-            → OnOk result (self.new.unsent ≡ []) }
-        ensures written { list_any ends_line self.old.lines.waiting ≡ false
-            → OnOk result (WroteFirst (of_stream R.Stream.contents)
-            self.old.stream self.old.unsent) }
+        ensures emptied { self.old.boot ≡ None
+            → list_any ends_line self.old.line.lines.waiting ≡ false
+            → OnOk result (self.new.line.unsent ≡ []) }
+        ensures written { self.old.boot ≡ None
+            → list_any ends_line self.old.line.lines.waiting ≡ false
+            → OnOk result (WroteFirst D.Stream.contents
+            self.old.line.stream self.old.line.unsent) }
 
         // And the line, if one has ended then, is made of what had been read and what came.
-        ensures later { list_any ends_line self.old.lines.waiting ≡ false → IfOk result (λ got.
-            HeardLater (of_stream R.Stream.contents) (of_stream R.Stream.remaining)
-            self.old.stream self.new.stream self.old.unsent self.old.lines got into.new.items
-            self.new.lines) }
+        ensures later { self.old.boot ≡ None
+            → list_any ends_line self.old.line.lines.waiting ≡ false → IfOk result (λ got.
+            HeardLater D.Stream.contents D.Stream.remaining
+            self.old.line.stream self.new.line.stream self.old.line.unsent self.old.line.lines
+            got into.new.items self.new.line.lines) }
 
         // And its last reading didn't find the end of the stream, as when the peer has closed.
-        ensures peer { list_any ends_line self.old.lines.waiting ≡ false
-            → OnOk result (self.new.lines.ended ≡ false) }
+        ensures peer { self.old.boot ≡ None
+            → list_any ends_line self.old.line.lines.waiting ≡ false
+            → OnOk result (self.new.line.lines.ended ≡ false) }
 
         ensures no_port { IsErrOf result fault.NoPort → ⊥ }
         ensures up { OnOk result (self.new.up ≡ true) }
         ensures down { OnErr result (self.new.up ≡ false) }
-        ensures closed { OnErr result (self.new.stream ≡ None) }
+        ensures closed { OnErr result (self.new.line.stream ≡ None) }
         ensures counts { Counts (IsErr result) self.old.faults self.new.faults }
         ensures steady { OnOk result (self.new.faults ≡ self.old.faults) }
     {
-        match self.hear(into) {
-            Some(got) => Ok(got),
-            None => Err(self.fail()),
+        match self.boot {
+            Some(boot) => {
+                if self.wait(boot) {
+                    return Ok(Heard::Nothing);
+                }
+            }
+            None => {
+                if let Some(got) = self.line.hear(into) {
+                    return Ok(got);
+                }
+            }
         }
+        Err(self.fail())
     }
 
-    /// Closes the link. Input that comes meanwhile is dropped, for about 50 milliseconds at most.
+    /// Closes the link. What was sent and isn't written yet is written first, unless the printer may still be starting.
     fn hang_up(&mut self)
-        ensures closed { self.new.stream ≡ None }
+        ensures closed { self.new.line.stream ≡ None }
         ensures down { self.new.up ≡ false }
         ensures faults { self.new.faults ≡ self.old.faults }
+        ensures boot { self.new.boot_ms ≡ self.old.boot_ms }
     {
         self.up = false;
-        if let Some(mut stream) = self.stream.take() {
-            let _ = self.unsent.write(&mut stream);
-            linger(&self.rt, &mut stream);
+        if self.boot.is_none() {
+            let _ = self.line.write_out();
+        }
+        self.boot = None;
+        if let Some(stream) = self.line.stream.take() {
+            self.ports.close(stream);
         }
     }
 }

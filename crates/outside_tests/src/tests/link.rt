@@ -1,7 +1,7 @@
-//! The link over TCP against a peer on this machine, and the names that it lists.
+//! The link to ports against peers on this machine, and the names that it lists.
 use byte_text::{Line, ReplyLine};
 use printer_link::{Heard, Link, LinkFault};
-use printer_link_socket::{SocketLink, names_address, names_port};
+use printer_link_socket::{PortLink, SystemPorts, names_address, names_port};
 use std::io::{Read, Write};
 use std::net::{Shutdown, TcpListener, TcpStream};
 use std::os::unix::net::UnixListener;
@@ -9,6 +9,12 @@ use std::process::Abort;
 use std::test::Fail;
 use std::time::Duration;
 use std::{fs, process};
+
+type SystemLink = PortLink<SystemPorts<HostRuntime>>;
+
+fn system_link(rt: HostRuntime) -> SystemLink {
+    PortLink::new(SystemPorts::new(rt, rt.alloc()), None)
+}
 
 // Names of addresses, and others.
 #[test]
@@ -34,6 +40,8 @@ fn addresses(rt: HostRuntime) {
         ("unix:/run/printer", false),
         ("unix:/run/printer:7100", false),
         ("unix:80", false),
+        ("tty:/dev/ttyUSB0:9600", false),
+        ("tty:80", false),
     ] {
         assert_eq!(rt; names_address(name), want, "at {name}");
     }
@@ -51,6 +59,22 @@ fn ports(rt: HostRuntime) {
         ("unix", false),
         ("Unix:/run/printer", false),
         ("printer", false),
+        ("tty:/dev/ttyUSB0", true),
+        ("tty:/dev/ttyUSB0:115200", true),
+        ("tty:/dev/ttyUSB0:9999999", true),
+        (
+            "tty:/dev/serial/by-path/pci-0000:00:14.0-usb-0:1:1.0-port0",
+            true,
+        ),
+        ("tty:/dev/ttyUSB0:fast", true),
+        ("tty:/dev/ttyUSB0:", true),
+        ("tty:/dev/ttyUSB0:0", false),
+        ("tty:/dev/ttyUSB0:000", false),
+        ("tty:/dev/ttyUSB0:10000000", false),
+        ("tty:", false),
+        ("tty::9600", false),
+        ("tty", false),
+        ("TTY:/dev/ttyUSB0", false),
     ] {
         assert_eq!(rt; names_port(name), want, "at {name}");
     }
@@ -73,7 +97,7 @@ enum Step {
     Fails,
 }
 
-fn send(rt: &impl Abort, link: &mut SocketLink<HostRuntime>, text: &str) {
+fn send(rt: &impl Abort, link: &mut SystemLink, text: &str) {
     let mut line = Line::new();
     line.try_extend_from_slice(text.as_bytes())
         .expect(rt, "a short line");
@@ -82,11 +106,7 @@ fn send(rt: &impl Abort, link: &mut SocketLink<HostRuntime>, text: &str) {
 }
 
 // Receives until a line has ended or the link has failed, at most a thousand times.
-fn hear(
-    rt: &impl Abort,
-    link: &mut SocketLink<HostRuntime>,
-    into: &mut ReplyLine,
-) -> Result<Heard, LinkFault> {
+fn hear(rt: &impl Abort, link: &mut SystemLink, into: &mut ReplyLine) -> Result<Heard, LinkFault> {
     for _ in 0..1000 {
         assert!(rt; link.is_up());
         match link.recv(into) {
@@ -97,7 +117,7 @@ fn hear(
     Ok(Heard::Nothing)
 }
 
-fn check_line(rt: &impl Abort, link: &mut SocketLink<HostRuntime>, want: &[u8]) {
+fn check_line(rt: &impl Abort, link: &mut SystemLink, want: &[u8]) {
     let mut reply = ReplyLine::new();
     assert!(rt; hear(rt, link, &mut reply) == Ok(Heard::Line));
     assert_eq!(rt; reply.as_slice(), want);
@@ -111,12 +131,7 @@ fn check_read<S: Read>(rt: &impl Abort, peer: &mut S, want: &[u8]) {
     assert_eq!(rt; &read[..want.len()], want);
 }
 
-fn take_step(
-    rt: &impl Abort,
-    link: &mut SocketLink<HostRuntime>,
-    peer: &mut TcpStream,
-    step: Step,
-) {
+fn take_step(rt: &impl Abort, link: &mut SystemLink, peer: &mut TcpStream, step: Step) {
     let mut reply = ReplyLine::new();
     match step {
         Step::Writes(text) => peer.write_all(text.as_bytes()).expect(rt, "written"),
@@ -167,7 +182,7 @@ const STEPS: [Step; 17] = [
 fn socket_link(rt: HostRuntime) -> Result<(), Fail> {
     let listener = TcpListener::bind(&rt, "127.0.0.1:0")?;
     let name = format!(in rt.alloc(); "{}", listener.local_addr()?)?;
-    let mut link = SocketLink::new(&rt);
+    let mut link = system_link(rt);
     assert!(rt; link.dial("printer") == Err(LinkFault::NoPort));
     assert!(rt; !link.is_up());
     assert!(rt; link.dial(name.as_str()) == Ok(()));
@@ -186,7 +201,7 @@ fn socket_link(rt: HostRuntime) -> Result<(), Fail> {
 fn socket_link_ends(rt: HostRuntime) -> Result<(), Fail> {
     let listener = TcpListener::bind(&rt, "127.0.0.1:0")?;
     let name = format!(in rt.alloc(); "{}", listener.local_addr()?)?;
-    let mut link = SocketLink::new(&rt);
+    let mut link = system_link(rt);
     assert!(rt; link.dial(name.as_str()) == Ok(()));
     let (mut peer, _) = listener.accept()?;
     peer.set_read_timeout(Some(Duration::from_secs(10)))?;
@@ -207,7 +222,7 @@ fn unix_socket(rt: HostRuntime) -> Result<(), Fail> {
     let path = format!(in rt.alloc(); "/tmp/socket_link_{}", process::id(rt.process()))?;
     let name = format!(in rt.alloc(); "unix:{}", path)?;
     let listener = UnixListener::bind(&rt, path.as_str())?;
-    let mut link = SocketLink::new(&rt);
+    let mut link = system_link(rt);
     assert!(rt; link.dial(name.as_str()) == Ok(()));
     let (mut peer, _) = listener.accept()?;
     peer.set_read_timeout(Some(Duration::from_secs(10)))?;

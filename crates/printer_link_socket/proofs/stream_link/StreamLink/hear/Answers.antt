@@ -1,14 +1,13 @@
 use Rattle.std.proofs.Common.{ap, sym, ◌∙◌, refl}
-use Rattle.octo_outside_sockets.specs.Streams.{of_stream}
 use Rattle.printer_link_socket.specs.Lines.{LinesData}
 use Rattle.printer_link_socket.proofs.Heard.{heard_line, heard_nothing}
-use Rattle.printer_link_socket.proofs.link.SocketLink.hear.Goals as goal
+use Rattle.printer_link_socket.proofs.stream_link.StreamLink.hear.Goals as goal
 
 pub returns-then-take-2-clause-later : goal.returns-then-take-2-clause-later
 returns-then-take-2-clause-later g c none =
     let old = c.args.self.now in
     let read = c.read_in.new.self in
-    heard_line (of_stream g.R.Stream.Write.contents) (of_stream g.R.Stream.Read.remaining) old.stream c.write_out.new.self.stream read.stream old.unsent c.take-2.new.into.items old.lines read.lines c.take-2.new.self
+    heard_line g.S.Write.contents g.S.Read.remaining old.stream c.write_out.new.self.stream read.stream old.unsent c.take-2.new.into.items old.lines read.lines c.take-2.new.self
     (c.if-not-write_out.ensures.written refl) (c.if-not-read_in.ensures.came refl)
     (c.read_in.ensures.begun ∙ ap (λ (l : LinesData). l.begun) (c.write_out.ensures.lines ∙ c.if-take.ensures.none refl))
     (c.if-not-read_in.ensures.peer refl)
@@ -18,7 +17,7 @@ pub returns-clause-later : goal.returns-clause-later
 returns-clause-later g c none =
     let old = c.args.self.now in
     let read = c.read_in.new.self in
-    heard_nothing (of_stream g.R.Stream.Write.contents) (of_stream g.R.Stream.Read.remaining) old.stream c.write_out.new.self.stream read.stream old.unsent c.take-2.new.into.items old.lines read.lines c.take-2.new.self
+    heard_nothing g.S.Write.contents g.S.Read.remaining old.stream c.write_out.new.self.stream read.stream old.unsent c.take-2.new.into.items old.lines read.lines c.take-2.new.self
     (c.if-not-write_out.ensures.written refl) (c.if-not-read_in.ensures.came refl)
     (c.read_in.ensures.begun ∙ ap (λ (l : LinesData). l.begun) (c.write_out.ensures.lines ∙ c.if-take.ensures.none refl))
     (c.if-not-read_in.ensures.peer refl)

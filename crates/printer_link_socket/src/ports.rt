@@ -1,0 +1,148 @@
+//! The ports of this machine's system.
+ghost use Rattle.printer_link_socket.specs.Ports.{of_port};
+
+use crate::address::device_of;
+use crate::dial::Dial;
+use crate::tty::TtyStream;
+use octo_outside_sockets::{SocketStream, linger, prepare, unix_path};
+use std::alloc::Global;
+use std::fs::File;
+use std::io;
+use std::io::{Eprint, Read, Write};
+use std::net::{Net, TcpStream, ToSocketAddrs};
+use std::os::fd::{AsRawFd, RawFd};
+use std::os::unix::net::UnixStream;
+use std::process::Processes;
+use std::rt::Files;
+use std::time::{Clock, Duration};
+
+// How long one address is tried, in milliseconds, and how many addresses of a host are tried.
+const CONNECT: u64 = 2000;
+
+const ADDRESSES: usize = 4;
+
+// How a device is named.
+const DEVICE_NAMES: &str =
+    "a device is named tty:PATH or tty:PATH:SPEED, with a speed of 1 to 7 digits that isn't 0";
+
+/// A stream of the system to a printer: over a socket, or over a serial device.
+#[derive(Drop)]
+pub enum PortStream<S: Drop, T: Drop> {
+    Socket(S),
+    Tty(T),
+}
+
+impl<S: Read + Drop, T: Read + Drop> Read for PortStream<S, T> {
+    ghost remaining = { of_port S.remaining T.remaining };
+
+    fn read(&mut self, into: &mut [u8]) -> io::Result<usize> {
+        match self {
+            PortStream::Socket(stream) => stream.read(into),
+            PortStream::Tty(stream) => stream.read(into),
+        }
+    }
+}
+
+impl<S: Write + Drop, T: Write + Drop> Write for PortStream<S, T> {
+    ghost contents = { of_port S.contents T.contents };
+
+    fn write(&mut self, bytes: &[u8]) -> io::Result<usize> {
+        match self {
+            PortStream::Socket(stream) => stream.write(bytes),
+            PortStream::Tty(stream) => stream.write(bytes),
+        }
+    }
+
+    fn flush(&mut self) -> io::Result<()> {
+        match self {
+            PortStream::Socket(stream) => stream.flush(),
+            PortStream::Tty(stream) => stream.flush(),
+        }
+    }
+}
+
+impl<S: AsRawFd + Drop, T: AsRawFd + Drop> AsRawFd for PortStream<S, T> {
+    fn as_raw_fd(&self) -> RawFd {
+        match self {
+            PortStream::Socket(stream) => stream.as_raw_fd(),
+            PortStream::Tty(stream) => stream.as_raw_fd(),
+        }
+    }
+}
+
+/// The ports of this machine: `HOST:PORT` over TCP, `unix:PATH` over a Unix socket, `tty:PATH:SPEED` and `tty:PATH` over a serial
+/// device.
+#[derive(Drop)]
+pub struct SystemPorts<R: Drop> {
+    rt: R,
+    alloc: Global,
+}
+
+impl<R: Drop> SystemPorts<R> {
+    /// The ports that this runtime opens.
+    pub fn new(rt: R, alloc: Global) -> Self {
+        SystemPorts { rt, alloc }
+    }
+}
+
+// Connects over TCP to an address; `None` if no peer accepts in time.
+fn connect_address<R: Net>(rt: &R, name: &str) -> Option<R::Stream> {
+    let timeout = Duration::from_millis(CONNECT);
+    for address in name.to_socket_addrs(rt).ok()?.take(ADDRESSES) {
+        if let Ok(stream) = TcpStream::connect_timeout(rt, &address, timeout) {
+            return Some(stream);
+        }
+    }
+    None
+}
+
+// Connects over a socket; `None` if no peer accepts. A Unix socket accepts at once or not at all.
+fn connect<R: Net>(rt: &R, name: &str) -> Option<SocketStream<R::Stream>> {
+    let stream = match unix_path(name) {
+        Some(path) => SocketStream::Unix(UnixStream::connect(rt, path).ok()?),
+        None => SocketStream::Tcp(connect_address(rt, name)?),
+    };
+    prepare(&stream).ok()?;
+    Some(stream)
+}
+
+impl<R: Net + Files<File = File> + Processes + Clock + Eprint + Drop> Dial for SystemPorts<R> {
+    type Stream = PortStream<SocketStream<R::Stream>, TtyStream<File>>;
+
+    /// Connects over a socket, trying at most 4 addresses for about 2 seconds each, or opens a serial device. If a device can't be used,
+    /// the standard error says why.
+    fn open(&mut self, name: &str) -> Option<Self::Stream> {
+        let Some(device) = device_of(name) else {
+            return Some(PortStream::Socket(connect(&self.rt, name)?));
+        };
+        match TtyStream::open(&self.rt, self.alloc, &device) {
+            Ok(stream) => Some(PortStream::Tty(stream)),
+            Err(fault) => {
+                let path = device.path;
+                let _ = eprintln!(self.rt; "octo: {path}: {fault}; docs/SERIAL.md says more");
+                None
+            }
+        }
+    }
+
+    /// Says on the standard error how a device is named, if the name begins as a device's.
+    fn refuse(&mut self, name: &str) {
+        if name.starts_with("tty:") {
+            let _ = eprintln!(self.rt; "octo: {name}: {DEVICE_NAMES}; docs/SERIAL.md says more");
+        }
+    }
+
+    /// Closes a stream. Input that comes meanwhile over a socket is dropped, for about 50 milliseconds at most.
+    fn close(&mut self, stream: Self::Stream) {
+        if let PortStream::Socket(mut stream) = stream {
+            linger(&self.rt, &mut stream);
+        }
+    }
+
+    fn now(&mut self) -> u64 {
+        match self.rt.monotonic() {
+            Ok(time) => u64::try_from(time.as_millis()).unwrap_or(u64::MAX),
+            Err(_) => u64::MAX,
+        }
+    }
+}

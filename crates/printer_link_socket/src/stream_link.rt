@@ -1,0 +1,204 @@
+//! Lines to a printer and replies from it, over any stream.
+ghost use Rattle.std.specs.Prelude.{◌≡◌, ◌+◌, ◌≤◌, [], ◌++◌, length, true, false, is_some, Some, IfSome};
+ghost use Rattle.std.specs.List.{list_any, before_first, after_first};
+ghost use Rattle.printer_link_socket.specs.Lines.{cut, ends_line};
+ghost use Rattle.printer_link_socket.specs.declared.unsent.TheConstants.{ROOM};
+ghost use Rattle.printer_link_socket.specs.Sent.{Joins, Wrote, WroteFirst};
+ghost use Rattle.printer_link_socket.specs.Heard.{Came, HeardLater};
+ghost use Rattle.printer_link_socket.specs.Waiting.{Starts, no_lines};
+ghost use Rattle.printer_link_socket.specs.declared.stream_link.Skipped.TheVariants as skipped;
+ghost use Rattle.printer_link.specs.declared.link.Heard.TheVariants as heard;
+
+use crate::lines::Lines;
+use crate::poll::may_read;
+use crate::unsent::Unsent;
+use byte_text::{Line, MOST_LINE_BYTES, ReplyLine};
+use printer_link::Heard;
+use std::io::{Read, Write};
+use std::os::fd::AsRawFd;
+
+// How long a call waits for input, in milliseconds.
+const WAIT: i32 = 1;
+
+/// What was skipped while the printer may start.
+#[derive(Clone, Copy)]
+pub(crate) enum Skipped {
+    /// The printer's line `start`.
+    Start,
+    /// Another line, or bytes of a line that hasn't ended.
+    Speech,
+    /// Nothing has come.
+    Nothing,
+}
+
+/// A stream to a printer, the lines that wait to be written, and the bytes that were read.
+#[derive(Drop)]
+pub(crate) struct StreamLink<S: Drop> {
+    pub(crate) stream: Option<S>,
+    pub(crate) unsent: Unsent,
+    pub(crate) lines: Lines,
+}
+
+impl<S: Drop> StreamLink<S> {
+    /// No stream.
+    pub(crate) fn closed() -> Self {
+        StreamLink {
+            stream: None,
+            unsent: Unsent::new(),
+            lines: Lines::new(),
+        }
+    }
+
+    /// A link over a stream, of which nothing was read or written.
+    pub(crate) fn over(stream: S) -> Self
+        ensures unsent { result.unsent ≡ [] }
+        ensures lines { result.lines ≡ no_lines }
+    {
+        StreamLink {
+            stream: Some(stream),
+            unsent: Unsent::new(),
+            lines: Lines::new(),
+        }
+    }
+
+    /// Forgets what was read.
+    pub(crate) fn forget_lines(&mut self)
+        ensures lines { self.new.lines ≡ no_lines }
+        ensures unsent { self.new.unsent ≡ self.old.unsent }
+        ensures stream { self.new.stream ≡ self.old.stream }
+    {
+        self.lines = Lines::new();
+    }
+}
+
+impl<S: Write + Drop> StreamLink<S> {
+    /// Writes what is unsent. Returns `false` if that fails, and then drops the stream.
+    pub(crate) fn write_out(&mut self) -> bool
+        ensures stream { result ≡ is_some self.new.stream }
+        ensures emptied { self.new.unsent ≡ [] }
+        ensures written { result ≡ true
+            → Wrote S.contents self.old.stream self.new.stream self.old.unsent }
+        ensures lines { self.new.lines ≡ self.old.lines }
+    {
+        let Some(mut stream) = self.stream.take() else {
+            self.unsent = Unsent::new();
+            return false;
+        };
+        let written = self.unsent.write(&mut stream);
+        if written {
+            self.stream = Some(stream);
+        }
+        written
+    }
+
+    /// Adds a line to what is unsent. If room is missing, writes what is unsent first, unless it is held back. Returns `false` if that fails.
+    pub(crate) fn gather(&mut self, line: &Line, held_back: bool) -> bool
+        requires { length line.now.items ≤ MOST_LINE_BYTES }
+        ensures room { length self.old.unsent + length line.now.items + 1 ≤ ROOM → result ≡ true }
+        ensures joined { result ≡ true → Joins S.contents line.now.items
+            self.old.unsent self.new.unsent self.old.stream self.new.stream }
+        ensures held { held_back ≡ true → self.new.stream ≡ self.old.stream }
+        ensures lines { self.new.lines ≡ self.old.lines }
+    {
+        if self.unsent.has_room(line) {
+            self.unsent.add(line);
+            return true;
+        }
+        if held_back {
+            return false;
+        }
+        let written = self.write_out();
+        self.unsent.add(line);
+        written
+    }
+}
+
+impl<S: Read + AsRawFd + Drop> StreamLink<S> {
+    /// Reads what comes within about a millisecond. Returns `false` if the stream failed or the peer has closed.
+    #[tactic(auto, using(crate::proofs::Heard::nothing_came, crate::proofs::Heard::no_bytes_came))]
+    pub(crate) fn read_in(&mut self) -> bool
+        requires { self.old.lines.waiting ≡ [] }
+        ensures begun { self.new.lines.begun ≡ self.old.lines.begun }
+        ensures came { result ≡ true → Came S.remaining
+            self.old.stream self.new.stream self.new.lines.waiting }
+        ensures peer { result ≡ true → self.new.lines.ended ≡ false }
+        ensures unsent { self.new.unsent ≡ self.old.unsent }
+    {
+        let Some(mut stream) = self.stream.take() else {
+            return false;
+        };
+        if may_read(&stream, WAIT) {
+            let _ = self.lines.fill(&mut stream);
+        }
+        self.stream = Some(stream);
+        !self.lines.has_ended()
+    }
+
+    /// Drops the next line, or reads more if none has ended. `None` if the link failed.
+    pub(crate) fn skip(&mut self) -> Option<Skipped>
+        ensures start { IfSome result (λ s. s ≡ skipped.Start
+            → Starts self.old.lines self.new.lines) }
+        ensures unsent { self.new.unsent ≡ self.old.unsent }
+    {
+        let mut line = ReplyLine::new();
+        if self.lines.take(&mut line) {
+            if line.as_slice().starts_with(b"start") {
+                return Some(Skipped::Start);
+            }
+            return Some(Skipped::Speech);
+        }
+        if !self.read_in() {
+            return None;
+        }
+        if self.lines.has_more() {
+            return Some(Skipped::Speech);
+        }
+        Some(Skipped::Nothing)
+    }
+}
+
+impl<S: Read + Write + AsRawFd + Drop> StreamLink<S> {
+    /// Takes the next reply. If none has ended, writes what is unsent and waits for more. `None` if the link failed.
+    #[tactic(auto, using(crate::proofs::Sent::wrote_first))]
+    pub(crate) fn hear(&mut self, into: &mut ReplyLine) -> Option<Heard>
+        ensures at_once { list_any ends_line self.old.lines.waiting ≡ true
+            → result ≡ Some heard.Line }
+        ensures line { list_any ends_line self.old.lines.waiting ≡ true
+            → into.new.items
+            ≡ cut (self.old.lines.begun ++ before_first ends_line self.old.lines.waiting) }
+        ensures after { list_any ends_line self.old.lines.waiting ≡ true
+            → self.new.lines ≡ record self.old.lines {
+              begun = [];
+              waiting = after_first ends_line self.old.lines.waiting;
+            } }
+        ensures still { list_any ends_line self.old.lines.waiting ≡ true
+            → (self.new.unsent ≡ self.old.unsent) × (self.new.stream ≡ self.old.stream) }
+
+        // If no reply waited, what is unsent was written before more was read.
+        ensures emptied { list_any ends_line self.old.lines.waiting ≡ false → is_some result ≡ true
+            → self.new.unsent ≡ [] }
+        ensures written { list_any ends_line self.old.lines.waiting ≡ false → is_some result ≡ true
+            → WroteFirst S.Write.contents self.old.stream self.old.unsent }
+
+        // And the line, if one has ended then, is made of what had been read and what came.
+        ensures later { list_any ends_line self.old.lines.waiting ≡ false → IfSome result (λ got.
+            HeardLater S.Write.contents S.Read.remaining
+            self.old.stream self.new.stream self.old.unsent self.old.lines got into.new.items
+            self.new.lines) }
+
+        // And its last reading didn't find the end of the stream, as when the peer has closed.
+        ensures peer { list_any ends_line self.old.lines.waiting ≡ false → is_some result ≡ true
+            → self.new.lines.ended ≡ false }
+    {
+        if self.lines.take(into) {
+            return Some(Heard::Line);
+        }
+        if !self.write_out() || !self.read_in() {
+            return None;
+        }
+        if self.lines.take(into) {
+            return Some(Heard::Line);
+        }
+        Some(Heard::Nothing)
+    }
+}
