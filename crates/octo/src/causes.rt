@@ -62,7 +62,10 @@ fn say_of_port(rt: &HostRuntime, command: &Command) {
     if let Command::Print { port, .. } = command
         && !names_port(port.as_str())
     {
-        let _ = eprintln!(rt; "octo: {} isn't HOST:PORT or unix:PATH", port.as_str());
+        let _ = eprintln!(rt;
+            "octo: {} isn't HOST:PORT, unix:PATH or tty:PATH",
+            port.as_str()
+        );
     }
 }
 
