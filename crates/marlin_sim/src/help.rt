@@ -12,7 +12,7 @@ A modelled Marlin printer: serves one connection, and prints what it executed.
 
 usage: marlin_sim ADDRESS LAST SLOTS DROP GARBLE
 
-ADDRESS  where it listens: HOST:PORT or unix:PATH
+ADDRESS  where it listens: HOST:PORT or unix:PATH; or pty:LINK:BOOT, a board at a pseudo-terminal
 LAST     its last line number at the beginning
 SLOTS    how many lines it keeps waiting, 1 to 16
 DROP     the received lines that it loses, as 2,5, counted from 1; - for none

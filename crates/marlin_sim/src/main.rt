@@ -1,7 +1,8 @@
-//! A modelled Marlin printer as a program: it serves one connection and prints what it executed.
+//! A modelled Marlin printer as a program: it serves one connection, or a board's device again and again, and prints what it executed.
 #![tactic(auto)]
 
 mod absent;
+mod board;
 mod cuts;
 mod end;
 mod help;
@@ -14,6 +15,7 @@ mod simulate;
 mod tests;
 
 use absent::AbsentConn;
+use board::{device_link, run_board};
 use end::SimEnd;
 use help::{USAGE, asked_text, wrong_argument};
 use octo_outside::{ArgumentsFault, StdSink, WordList, arguments};
@@ -44,6 +46,27 @@ fn serve_words(rt: HostRuntime, words: &WordList) -> SimEnd {
     }
 }
 
+// Serves a board's device, if the arguments are a plan whose address is a board's; `None` if they aren't.
+fn serve_device(rt: HostRuntime, words: &WordList) -> Option<SimEnd> {
+    read_plan(rt.alloc(), words).ok()??;
+    if words.count() == 0 {
+        return None;
+    }
+    let link = device_link(words.get(0))?;
+    match run_board(&rt, rt.alloc(), link, words) {
+        Ok(true) => Some(SimEnd::Done),
+        _ => Some(SimEnd::ConnFailed),
+    }
+}
+
+// Serves at the address that the arguments name.
+fn serve_address(rt: HostRuntime, words: &WordList) -> SimEnd {
+    match serve_device(rt, words) {
+        Some(end) => end,
+        None => serve_words(rt, words),
+    }
+}
+
 // What standard error says of an end, if anything.
 fn complaint_of(end: SimEnd) -> Option<&'static str> {
     match end {
@@ -71,7 +94,7 @@ fn carry_out(rt: HostRuntime, words: &WordList) -> SimEnd {
     if let Some(text) = asked_text(words) {
         return print_asked(rt, text);
     }
-    let end = serve_words(rt, words);
+    let end = serve_address(rt, words);
     if end == SimEnd::BadPlan {
         let _ = eprintln!(rt; "marlin_sim: {}", wrong_argument(rt.alloc(), words));
     }
