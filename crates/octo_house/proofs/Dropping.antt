@@ -1,6 +1,7 @@
 -- Dropping a selection changes the selected file alone, so a stored upload is selected and printed as it would have been before.
 use Rattle.std.proofs.Common.{◌≡◌, ℕ, Bool, true, false, ◌&&◌, ◌||◌, cond, not, is_none, List, Option, Some, None, Err, refl, ap, ◌∙◌}
 use Rattle.temp_rules.specs.Hot.{first_hot_of}
+use Rattle.temp_rules.specs.declared.job.HotLine.{HotLine}
 use Rattle.temp_rules.specs.declared.limits.Limits.{Limits}
 use Rattle.job_desk.specs.Data.{Data, File}
 use Rattle.job_desk.specs.Table.{ok_answer, is_named, drop_file_step}
@@ -50,16 +51,21 @@ same-printed user print file name k =
     ap (λ s. printed s (drop_file_step name k.desk).1.limits) (same-state name k.desk)
     ∙ ap (λ limits. printed k.desk.state limits) (same-limits name k.desk)
 
+-- nor does it change how many records there are
+same-last : (hot : Option HotLine) (name : List ℕ) (k : Known) → hot_or_full hot (with_stored name k) ≡ hot_or_full hot k
+same-last None name k = refl
+same-last (Some hot) name k = refl
+
 pub same-refusal : (user : UserRow) (select print : Bool) (file : File) (name : List ℕ) (k : Known)
     → refusal_of user select print file (with_stored name k) ≡ refusal_of user select print file k
 same-refusal user select print file name k =
-    let reason : State → Limits → PrintRefusal = λ s limits.
-    cond (not (has k.policy user permission.FilesSelect)) (why.Denied permission.FilesSelect)
-    (cond (not (has k.policy user permission.Print)) (why.Denied permission.Print)
-    (cond (not (may_start s)) (why.WrongState s) (hot_or_full (first_hot_of limits file.job.commands) k))) in
-    let refused : State → Limits → Option PrintRefusal = λ s limits.
+    let held : Data = (drop_file_step name k.desk).1 in
+    let refused : State → Limits → PrintRefusal → Option PrintRefusal = λ s limits last.
     cond (print && not (((select || print) && (has k.policy user permission.FilesSelect && may_select s))
     && ((print && (has k.policy user permission.Print && may_start s)) && (is_none (first_hot_of limits file.job.commands) && has_room k))))
-    (Some (reason s limits)) None in
-    ap (λ s. refused s (drop_file_step name k.desk).1.limits) (same-state name k.desk)
-    ∙ ap (λ limits. refused k.desk.state limits) (same-limits name k.desk)
+    (Some (cond (not (has k.policy user permission.FilesSelect)) (why.Denied permission.FilesSelect)
+    (cond (not (has k.policy user permission.Print)) (why.Denied permission.Print)
+    (cond (not (may_start s)) (why.WrongState s) last)))) None in
+    ap (refused held.state held.limits) (same-last (first_hot_of held.limits file.job.commands) name k)
+    ∙ ap (λ s. refused s held.limits (hot_or_full (first_hot_of held.limits file.job.commands) k)) (same-state name k.desk)
+    ∙ ap (λ limits. refused k.desk.state limits (hot_or_full (first_hot_of limits file.job.commands) k)) (same-limits name k.desk)

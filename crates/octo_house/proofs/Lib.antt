@@ -7,6 +7,7 @@ pub mod Names
 pub mod Permitted
 pub mod ReadDone
 pub mod Rested
+pub mod Selecting
 pub mod Startable
 pub mod Started
 pub mod Stays

@@ -19,7 +19,7 @@ use Rattle.octo_house_rules.specs.Known.{Known, next_print_number, shown_count}
 use Rattle.octo_house_rules.specs.Prints.{start_deed}
 use Rattle.octo_house_rules.specs.Refusals.{refused_if, if_desk_allows, read_as, answer_of_refusal}
 use Rattle.octo_house_rules.specs.Uploads.{has_file_room, is_selected, is_printed, refusal_of, unprinted, store_deed, after_storing, store_verdict, put_file_verdict}
-use Rattle.octo_house_rules.specs.Verdict.{Verdict, Deed, May, IsDone, gives, stores, begins, is_fault, is_stored, known_after, files_in, files_after}
+use Rattle.octo_house_rules.specs.Verdict.{Verdict, Deed, May, IsDone, gives, stores, begins, is_fault, is_stored, after, known_after, files_in, files_after}
 use Rattle.octo_house_tables.specs.Data.{TablesData}
 use Rattle.octo_house_tables.specs.Kept.{KeepsRows}
 use Rattle.octo_house.specs.Answered.{Shelves}
@@ -143,7 +143,17 @@ module _ (user : UserRow) (name bytes : List ℕ) (select print : Bool) (k : Kno
   -- what is known once the file is also selected
   with-selected : (m new : Known) → m ≡ with_stored name k → new ≡ record m { desk = (select_at m.desk.state file m.desk).1 }
       → new ≡ known_after (store_deed true file k) k
-  with-selected m new is after = after ∙ ap (λ (n : Known). record n { desk = (select_at n.desk.state file n.desk).1 }) is
+  with-selected m new is moved = moved ∙ ap (λ (n : Known). record n { desk = (select_at n.desk.state file n.desk).1 }) is
+
+  leaves-alone : (starting : Bool) (why : Option PrintRefusal)
+      → after (stored_then false starting why user bytes k file) k (unprinted name false why) ≡ with_stored name k
+  leaves-alone starting None = refl
+  leaves-alone starting (Some why) = refl
+
+  leaves-selected : (why : Option PrintRefusal)
+      → after (stored_then true false why user bytes k file) k (unprinted name true why) ≡ known_after (store_deed true file k) k
+  leaves-selected None = refl
+  leaves-selected (Some why) = refl
 
   -- stored alone
   pub done-alone : (x : Answer) (m : Known) → store_refusal name k ≡ None → m ≡ with_stored name k → is_selected user select print m ≡ false
@@ -152,18 +162,18 @@ module _ (user : UserRow) (name bytes : List ℕ) (select print : Bool) (k : Kno
       subst (λ (y : Answer). IsDone whole y k m) (sym (says ∙ ap (unprinted name false) (refused-by m is)))
       (subst (λ (v : Verdict). IsDone v (unprinted name false refuses) k m)
       (sym (stored-verdict none ∙ ap (λ b. stored_then b starts refuses user bytes k file) (selected-by m false is off)))
-      (record { may = inr (inr refl); leaves = is }))
+      (record { may = inr (inr refl); leaves = is ∙ sym (leaves-alone starts refuses) }))
 
   -- and selected
   pub done-selected : (x : Answer) (m new : Known) → store_refusal name k ≡ None → m ≡ with_stored name k → is_selected user select print m ≡ true
       → is_printed user print file m ≡ false → new ≡ record m { desk = (select_at m.desk.state file m.desk).1 }
       → x ≡ unprinted name true (refusal_of user select print file m) → IsDone whole x k new
-  done-selected x m new none is on off after says =
+  done-selected x m new none is on off moved says =
       subst (λ (y : Answer). IsDone whole y k new) (sym (says ∙ ap (unprinted name true) (refused-by m is)))
       (subst (λ (v : Verdict). IsDone v (unprinted name true refuses) k new)
       (sym (stored-verdict none ∙ ap (λ b. stored_then b starts refuses user bytes k file) (selected-by m true is on)
       ∙ ap (λ b. stored_then true b refuses user bytes k file) (printed-by m false is off)))
-      (record { may = inr (inr refl); leaves = with-selected m new is after }))
+      (record { may = inr (inr refl); leaves = with-selected m new is moved ∙ sym (leaves-selected refuses) }))
 
   may-begin : (a : Answer) (deed other : Deed) (x : Answer) → (x ≡ answer.NoMemory) ⊎ May (begins a deed name) x
       → (x ≡ answer.NoMemory) ⊎ May (stores name bytes other (begins a deed name)) x
@@ -176,7 +186,7 @@ module _ (user : UserRow) (name bytes : List ℕ) (select print : Bool) (k : Kno
       → is_fault x ≡ false
       → IsDone (begins (answer.Uploaded name true true) (start_deed user.name mid.desk.file (Start (next_print_number mid) ∷ []) mid) name) x mid new
       → IsDone whole x k new
-  done-printed m mid new x none is on starting after there plain done =
+  done-printed m mid new x none is on starting moved there plain done =
       let deed : Option File → Known → Deed = λ one n. start_deed user.name one (Start (next_print_number n) ∷ []) n in
       let last : Known = known_after (store_deed true file k) k in
       let left : Option File → Known → Known = λ one n. cond (is_stored x) n (known_after (deed one n) n) in
@@ -186,7 +196,7 @@ module _ (user : UserRow) (name bytes : List ℕ) (select print : Bool) (k : Kno
       (record {
         may = may-begin (answer.Uploaded name true true) (deed (Some file) last) (store_deed true file k) x done.may;
         leaves = done.leaves ∙ ap (λ b. cond b mid (left mid.desk.file mid)) plain ∙ ap (λ one. left one mid) there
-            ∙ ap (left (Some file)) (with-selected m mid is after) ∙ ap (λ b. cond b k (left (Some file) last)) (sym plain);
+            ∙ ap (left (Some file)) (with-selected m mid is moved) ∙ ap (λ b. cond b k (left (Some file) last)) (sym plain);
       })
 
   left-after : (select print : Bool) (why : Option PrintRefusal) (owner : List ℕ) (n : Known) (files : List ShelfFile)

@@ -1,14 +1,28 @@
-use Rattle.std.proofs.Common.{◌≡◌, true, false, refl, sym, ap, ◌∙◌, rules}
+use Rattle.std.proofs.Common.{◌≡◌, true, false, refl, sym, ap, ◌∙◌, rules, arith}
 use Rattle.std.proofs.lemmas.Bool.{not-true, not-false}
 use Rattle.octo_asks.specs.declared.answer.Answer.TheVariants as answer
 use Rattle.octo_house_rules.specs.Uploads.{is_selected, is_printed, unprinted}
 use Rattle.octo_house_tables.proofs.Keeping.{keeps-same}
 use Rattle.octo_session.specs.Data.{SessionData}
 use Rattle.octo_house.specs.State.{known_of}
+use Rattle.octo_house.proofs.Selecting.{same-greatest, same-active}
 use Rattle.octo_house.proofs.Startable.{startable, has-it}
 use Rattle.octo_house.proofs.Stored.{job-is, keeps-over, not-stored, not-shelved, done-alone, done-selected, done-printed, plain-unprinted, shelved}
 use Rattle.octo_house.proofs.house.House.put_file.Goals as goal
 use Rattle.job_desk.specs.Data.{named_file}
+
+pub invariant_of-self : goal.invariant_of-self
+invariant_of-self g c =
+    let held = c.store.new.self.desk.session.desk in
+    let file = named_file c.args.name.now c.in-Ok.job in
+    let numbers : c.select.new.self.desk.greatest ≡ held.greatest =
+    ap (λ (s : SessionData). s.desk.greatest) c.select.ensures.after ∙ same-greatest held.state file held in
+    let prints : c.select.new.self.desk.active ≡ held.active =
+    ap (λ (s : SessionData). s.desk.active) c.select.ensures.after ∙ same-active held.state file held in
+    record {
+      numbered = omega (arith, numbers, c.store.new.self.numbered);
+      rested = λ due. prints ∙ c.store.new.self.rested due;
+    }
 
 pub returns-in-Err-store-clause-done : goal.returns-in-Err-store-clause-done
 returns-in-Err-store-clause-done g c =
