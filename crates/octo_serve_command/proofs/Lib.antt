@@ -1,2 +1,3 @@
+mod Laws
 pub mod Printing
 pub mod Serving

@@ -12,6 +12,8 @@ use Rattle.print_queue.specs.Lawful.{IsLawful}
 use Rattle.printer_model.specs.declared.event.WorldEvent.{WorldEvent}
 use Rattle.octo_house_rules.specs.Legal.{beginning}
 use Rattle.octo_house_rules.specs.Headline.{KeepsPrints}
+use Rattle.octo_house_laws.specs.Hosts.{KeepsLaws}
+use Rattle.octo_house_laws.specs.Limits.{IssuesCoolLines}
 use Rattle.octo_house_tables.specs.Kept.{IsKept}
 use Rattle.octo_house.specs.Beginning.{IsMadeOf, BeginsOn}
 use Rattle.octo_house.specs.State.{IsListed, known_of}
@@ -82,6 +84,15 @@ HasPrints s old new first history =
     → (front : List WorldEvent) × (old.link.past ≡ Some front)
     × KeepsPrints old.link.kind front (beginning s.window s.limit_ms (known_of first) files) history events
 
+-- the laws hold of all that was asked, answered and noted at a host that began as this one, if the shelf's files are recorded; no
+-- issued line was too hot
+pub record KeepsAllLaws (s : Settings) (first : House) (files : List ShelfFile) (history : History) : Type 0 where
+  pub laws : KeepsLaws s.scripts s.limits history (beginning s.window s.limit_ms (known_of first) files)
+  pub cool : IssuesCoolLines s.limits history
+
+abbrev pub HasLaws : Settings → Around → House → History → Type 0
+HasLaws s old first history = (files : List ShelfFile) → old.shelf.files ≡ Some files → KeepsAllLaws s first files history
+
 -- it began, and served its doors until it ended; this is known of what was asked, answered and noted
 pub record HasServed (s : Settings) (old new : Around) (r : HostReport) (known : HistoryData) : Type 0 where
   pub first : House
@@ -94,6 +105,8 @@ pub record HasServed (s : Settings) (old new : Around) (r : HostReport) (known :
   pub hosted : HasHosted s.patience (host_in between first) (host_in new last) between.doors new.doors calls held known
   -- what became of the prints
   pub prints : HasPrints s between new first known.history
+  -- who was denied, what callers learned of each other, puts that were repeated, and the courses, records and temperatures of prints
+  pub laws : HasLaws s between first known.history
   pub is : r ≡ served_report calls held
 
 -- what serving by these settings comes to: the host doesn't begin, or there is no memory for its workers; or it serves
