@@ -80,7 +80,8 @@ fn other_methods(rt: HostRuntime) -> Result<(), Fail> {
 #[test]
 fn other_paths(rt: HostRuntime) -> Result<(), Fail> {
     let alloc = rt.alloc();
-    let missing = b"HTTP/1.1 404 Not Found\r\nConnection: close\r\nContent-Length: 0\r\n\r\n";
+    let missing = b"HTTP/1.1 404 Not Found\r\nConnection: close\r\nContent-Length: 52\r\n\
+Content-Type: application/json\r\n\r\n{\"error\":\"NoRoute\",\"reason\":\"there is no such path\"}";
     assert!(rt; replies(alloc, b"GET /index.htm HTTP/1.1\r\n\r\n", missing)?);
     assert!(rt; replies(alloc, b"GET // HTTP/1.1\r\n\r\n", missing)?);
     assert!(rt; replies(alloc, b"GET /Index.html HTTP/1.1\r\n\r\n", missing)?);
