@@ -73,7 +73,10 @@ fn printer_paths(rt: HostRuntime) -> Result<(), Fail> {
 const FILE_PATHS: [(&str, &[&str]); 4] = [
     ("/api/files", &["GET", "HEAD"]),
     ("/api/files/local", &["GET", "HEAD", "POST"]),
-    ("/api/files/local/a.gcode", &["GET", "HEAD", "POST", "DELETE"]),
+    (
+        "/api/files/local/a.gcode",
+        &["GET", "HEAD", "POST", "DELETE"],
+    ),
     ("/downloads/files/local/a.gcode", &["GET", "HEAD"]),
 ];
 

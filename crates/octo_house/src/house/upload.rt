@@ -183,9 +183,9 @@ impl House {
         ensures { (name : List ℕ)
             → granted.select ≡ is_selected user.now asked.select asked.print (known_of self.now)
             → granted.print
-                ≡ is_printed user.now asked.print (named_file name job.now) (known_of self.now)
+            ≡ is_printed user.now asked.print (named_file name job.now) (known_of self.now)
             → result ≡ refusal_of user.now asked.select asked.print
-                (named_file name job.now) (known_of self.now) }
+            (named_file name job.now) (known_of self.now) }
     {
         if asked.print && !(granted.select && granted.print) {
             return Some(self.print_refusal(user, job));

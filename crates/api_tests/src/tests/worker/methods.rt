@@ -10,10 +10,12 @@ use std::test::Fail;
 const VERSION_HEAD: &[u8] = b"HTTP/1.1 200 OK\r\nConnection: close\r\nContent-Length: 63\r\n\
 Content-Type: application/json\r\n\r\n";
 
-const NO_ROUTE_HEAD: &[u8] = b"HTTP/1.1 404 Not Found\r\nConnection: close\r\nContent-Length: 52\r\n\
+const NO_ROUTE_HEAD: &[u8] =
+    b"HTTP/1.1 404 Not Found\r\nConnection: close\r\nContent-Length: 52\r\n\
 Content-Type: application/json\r\n\r\n";
 
-const METHODS: &[u8] = b"HTTP/1.1 204 No Content\r\nConnection: close\r\nAllow: GET, HEAD, POST\r\n\r\n";
+const METHODS: &[u8] =
+    b"HTTP/1.1 204 No Content\r\nConnection: close\r\nAllow: GET, HEAD, POST\r\n\r\n";
 
 // How many asks a message leads to, if this is written in reply.
 fn asks_for(alloc: Global, input: &[u8], reply: &[u8]) -> Result<Option<u32>, AllocError> {

@@ -20,8 +20,8 @@ both-off one two select starts first second off =
 pub returns-then-not-granted : goal.returns-then-not-granted
 returns-then-not-granted c name select starts =
     let value : c.if-granted.value ≡ (c.args.granted.select && c.args.granted.print) = elim c.if-granted.branch [
-      then-granted w ↦ rw w.if-granted.true w.value-is
-    | else-granted w ↦ rw w.if-granted.false (w.value-is ∙ w.if-granted.false)
+      | then-granted w ↦ rw w.if-granted.true w.value-is
+      | else-granted w ↦ rw w.if-granted.false (w.value-is ∙ w.if-granted.false)
     ] in
     refused c.args.asked.print (is_selected c.args.user.now c.args.asked.select c.args.asked.print (known_of c.args.self.now)
     && is_printed c.args.user.now c.args.asked.print (named_file name c.args.job.now) (known_of c.args.self.now)) _ _ c.if-asked.true
