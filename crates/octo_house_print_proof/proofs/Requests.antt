@@ -191,11 +191,11 @@ module _ (files : List ShelfFile) (k : Known) where
   stored-none false file = (refl, tt)
   stored-none true file = (refl, (refl, tt))
 
-  stored-made : (select print : Bool) (user : List ℕ) (file : File) (next : Known) → IsOnShelf files file →
-      AreMade (files_in (after_storing select print user file next) files) (store_deed select file k).calls
-  stored-made false print user file next on = ((tt, tt, inl refl), tt)
-  stored-made true false user file next on = ((tt, tt, inl refl), ((tt, on, inl refl), tt))
-  stored-made true true user file next on = ((tt, tt, inl refl), ((tt, on, inl refl), tt))
+  stored-made : (select print : Bool) (why : Option PrintRefusal) (user : List ℕ) (file : File) (next : Known) → IsOnShelf files file →
+      AreMade (files_in (after_storing select print why user file next) files) (store_deed select file k).calls
+  stored-made false print why user file next on = ((tt, tt, inl refl), tt)
+  stored-made true false why user file next on = ((tt, tt, inl refl), ((tt, on, inl refl), tt))
+  stored-made true true why user file next on = ((tt, tt, inl refl), ((tt, on, inl refl), tt))
 
 by-storing : (files : List ShelfFile) (select print : Bool) (why : Option PrintRefusal) (user : List ℕ) (file : File) (k : Known) → Asks files (after_storing select print why user file k)
 by-storing files false print why user file k = gives-one (unprinted file.name false why)
@@ -209,10 +209,11 @@ module _ (user : UserRow) (files : List ShelfFile) (k : Known) where
       let prints : Bool = is_printed user print file k in
       let next : Known = known_after (store_deed selects file k) k in
       let held : List ShelfFile = with_file file.name bytes files in
+      let why : Option PrintRefusal = refusal_of user select print file k in
       by-desk files k _ _ (by-test files k _ _ _
       (stores-one file.name bytes (store_deed selects file k) _ (stored-none held k selects file)
-      (stored-made held k selects prints user.name file next (record { bytes = bytes; held = stored_bytes file.name bytes files; read = read }))
-      (by-storing held selects prints (refusal_of user select print file k) user.name file next)))
+      (stored-made held k selects prints why user.name file next (record { bytes = bytes; held = stored_bytes file.name bytes files; read = read }))
+      (by-storing held selects prints why user.name file next)))
 
   by-take : (entry : QueueEntry) → Asks files (take_verdict files k entry)
   by-take entry = by-test files k _ _ _
