@@ -1,4 +1,6 @@
 //! The wait for a printer that may restart when its line is opened, against a printer in memory.
+ghost use Rattle.std.specs.Prelude.{None};
+
 use byte_text::{Line, ReplyLine};
 use printer_link::{Heard, Link, LinkFault};
 use printer_link_socket::{Dial, PortLink};
