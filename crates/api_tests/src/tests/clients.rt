@@ -10,7 +10,7 @@ use octo_api_replies::direct_bytes;
 use octo_api_requests::to_request;
 use octo_api_routes::Direct;
 use octo_asks::{Ask, Request};
-use octo_http::read_message;
+use octo_http::{HttpReply, read_message};
 use std::alloc::Global;
 use std::process::Abort;
 use std::test::Fail;
@@ -125,15 +125,26 @@ const REFUSED: [(&str, u16, &str); 3] = [
     ),
 ];
 
+// The reply to a message that is no request, `None` to one that is.
+fn refusal_of(alloc: Global, input: &str) -> Result<Option<HttpReply>, Fail> {
+    match ask_of(alloc, input)? {
+        Ok(_) => Ok(None),
+        Err(direct) => Ok(Some(direct_bytes(alloc, &direct))),
+    }
+}
+
+// Whether there is a reply with this status and this body.
+fn is_refusal(reply: &Option<HttpReply>, status: u16, body: &str) -> bool {
+    match reply {
+        Some(reply) => reply.status == status && reply.body.as_slice() == body.as_bytes(),
+        None => false,
+    }
+}
+
 // Whether a message is refused with this status and this body.
 fn refuses(alloc: Global, input: &str, status: u16, body: &str) -> Result<bool, Fail> {
-    match ask_of(alloc, input)? {
-        Ok(_) => Ok(false),
-        Err(direct) => {
-            let reply = direct_bytes(alloc, &direct);
-            Ok(reply.status == status && reply.body.as_slice() == body.as_bytes())
-        }
-    }
+    let reply = refusal_of(alloc, input)?;
+    Ok(is_refusal(&reply, status, body))
 }
 
 // Each message is refused as its row says.
