@@ -1,8 +1,10 @@
 """Measures `octo print` over a serial line beside the same print over TCP, each to marlin_sim.
 
+    bench/serial.py [RUNS] [free]
+
 The serial line is marlin_sim's pseudo-terminal. For windows of 1 and 3 lines: acknowledged lines per second and processor microseconds
-a line of octo; medians of the runs, which alternate, with all processes pinned to one core. The programs are those that
-scripts/build leaves.
+a line of octo; medians of the runs, which alternate, with all processes pinned to one core unless `free` is given. The programs are
+those that scripts/build leaves.
 """
 
 import os
@@ -17,7 +19,7 @@ OCTO = "crates/octo/out/octo"
 SIM = "crates/marlin_sim/out/marlin_sim"
 RUNS = int(sys.argv[1]) if len(sys.argv) > 1 else 5
 CORE = {0}
-LINES = 30000
+LINES = 100000
 SETTINGS = """[printer]
 ports = ["127.0.0.1:7100"]
 window = %d
@@ -98,7 +100,8 @@ def compare(folder, path, window):
 
 
 def main():
-    os.sched_setaffinity(0, CORE)
+    if "free" not in sys.argv[2:]:
+        os.sched_setaffinity(0, CORE)
     print("load %.1f %.1f %.1f" % os.getloadavg())
     with tempfile.TemporaryDirectory() as folder:
         path = os.path.join(folder, "moves.gcode")

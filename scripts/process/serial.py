@@ -57,7 +57,8 @@ class Board:
         self.executed = os.path.join(folder, name)
         address = "pty:%s:%d" % (self.link, boot_ms)
         with open(self.executed, "wb") as out:
-            self.process = subprocess.Popen([SIM, address, "0", "4", LOSES, GARBLES], stdout=out)
+            # At a pulled cable it says that its connection failed.
+            self.process = subprocess.Popen([SIM, address, "0", "4", LOSES, GARBLES], stdout=out, stderr=subprocess.DEVNULL)
         until("the device is there", lambda: os.path.exists(self.link))
 
     def texts(self):
@@ -119,22 +120,22 @@ class DebtorBoard(threading.Thread):
                 os.write(self.board, b"ok\n")
 
 
-def print_words(folder, port, texts=FEW, boot_ms=None):
-    """A print of a file at a port, with a time limit of two seconds."""
+def print_words(folder, port, texts=FEW, boot_ms=None, limit_ms=2000):
+    """A print of a file at a port."""
     path = os.path.join(folder, "a.gcode")
     settings = os.path.join(folder, "print.toml")
     with open(path, "wb") as out:
         out.write(file_of(texts))
     with open(settings, "w") as out:
-        out.write('[printer]\nports = ["p"]\nlimit_ms = 2000\nwindow = 3\n')
+        out.write('[printer]\nports = ["p"]\nlimit_ms = %d\nwindow = 3\n' % limit_ms)
         if boot_ms is not None:
             out.write("boot_ms = %d\n" % boot_ms)
         out.write('[limits]\n[admin]\nname = "root"\nkey_sha256 = "%s"\n' % ("00" * 32))
     return [OCTO, "print", port, path, "--settings", settings]
 
 
-def octo_print(folder, port, boot_ms=None):
-    run = subprocess.run(print_words(folder, port, boot_ms=boot_ms), capture_output=True, timeout=LIMIT)
+def octo_print(folder, port, **settings):
+    run = subprocess.run(print_words(folder, port, **settings), capture_output=True, timeout=LIMIT)
     return run.returncode, run.stderr
 
 
@@ -156,8 +157,8 @@ def pulled_cable(folder):
     board = Board(folder, 100)
     words = print_words(folder, "tty:" + board.link, MANY)
     host = subprocess.Popen(words, stdout=subprocess.PIPE, stderr=subprocess.PIPE)
-    until("it prints", board.is_running)
-    time.sleep(0.5)
+    # The printer writes what it executed once that is 16 KB.
+    until("it prints", lambda: os.path.getsize(board.executed) > 0)
     check("it prints", host.poll(), None)
     before = time.monotonic()
     board.end()
@@ -179,7 +180,7 @@ def late_replies(folder):
     board = DebtorBoard(folder, [(0, b"ok\nbusy: processing\n"), (1, b"ok\nok T:2")])
     board.start()
     before = time.monotonic()
-    check("after replies to a former host", octo_print(folder, "tty:" + board.link, boot_ms=0), (0, b""))
+    check("after replies to a former host", octo_print(folder, "tty:" + board.link, boot_ms=0, limit_ms=30000), (0, b""))
     check("it waited for silence", time.monotonic() - before > 3.5, True)
     check("each line was sent once", board.texts, ["M110 N1"] + FEW)
 
@@ -237,14 +238,37 @@ def no_permission(folder):
     check("a device without permission", found, (5, True))
 
 
-def served(folder):
-    """A host prints an upload over a serial line, and answers while the board starts."""
-    board = Board(folder, 800)
+def host_at(folder, link, more=""):
+    """A host whose printer is at a device, with more lines of its section of the settings."""
     host = Host(folder, 1)
-    text = open(host.settings).read().replace('"127.0.0.1:1"', '"tty:%s"' % board.link)
+    text = open(host.settings).read().replace('["127.0.0.1:1"]', '["tty:%s"]%s' % (link, more))
     with open(host.settings, "w") as out:
         out.write(text)
-    host.start()
+    return host.start()
+
+
+def waiting_host(folder):
+    """A host answers while it waits for a board that says nothing, and a disconnect ends the wait."""
+    board = DebtorBoard(folder, [])
+    host = host_at(folder, board.link, "\nboot_ms = 60000")
+    try:
+        check("a connect to a silent board", host.post("/api/connection", {"command": "connect"}).status, 204)
+        until("it waits", lambda: host.state() == "Connecting")
+        time.sleep(1)
+        before = time.monotonic()
+        check("it waits", host.state(), "Connecting")
+        check("a disconnect", host.post("/api/connection", {"command": "disconnect"}).status, 204)
+        host.until_state("Offline")
+        check("within a second", time.monotonic() - before < 1, True)
+        check("the end of the waiting host", host.shut_down()[0], 0)
+    finally:
+        host.kill()
+
+
+def served(folder):
+    """A host prints an upload over a serial line."""
+    board = Board(folder, 800)
+    host = host_at(folder, board.link)
     try:
         host.connect()
         body, kind = form([("print", None, b"true"), ("file", "cube.gcode", file_of(FEW))])
@@ -262,7 +286,7 @@ def served(folder):
 
 def main():
     work = sys.argv[1]
-    for part in (two_prints, pulled_cable, late_replies, second_host, bad_ports, no_permission, served):
+    for part in (two_prints, pulled_cable, late_replies, second_host, bad_ports, no_permission, waiting_host, served):
         folder = os.path.join(work, part.__name__)
         os.mkdir(folder)
         part(folder)
