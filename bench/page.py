@@ -46,7 +46,11 @@ def pace(listener, printer_port, lines, gap):
 def hand_on(source, target, lines, gap):
     held, due, last = b"", time.monotonic(), None
     while True:
-        part = source.recv(65536)
+        try:
+            part = source.recv(65536)
+        except ConnectionResetError:
+            # The host was ended in its print.
+            return
         if not part:
             return
         held += part
