@@ -125,26 +125,23 @@ const REFUSED: [(&str, u16, &str); 3] = [
     ),
 ];
 
-// The reply to a message that is no request, `None` to one that is.
-fn refusal_of(alloc: Global, input: &str) -> Result<Option<HttpReply>, Fail> {
-    match ask_of(alloc, input)? {
-        Ok(_) => Ok(None),
-        Err(direct) => Ok(Some(direct_bytes(alloc, &direct))),
-    }
+// Whether a reply has this status and this body.
+fn is_reply(reply: &HttpReply, status: u16, body: &str) -> bool {
+    reply.status == status && reply.body.as_slice() == body.as_bytes()
 }
 
-// Whether there is a reply with this status and this body.
-fn is_refusal(reply: &Option<HttpReply>, status: u16, body: &str) -> bool {
-    match reply {
-        Some(reply) => reply.status == status && reply.body.as_slice() == body.as_bytes(),
-        None => false,
+// Whether what a message asks is refused with this status and this body.
+fn is_refusal(alloc: Global, asked: &Result<Ask, Direct>, status: u16, body: &str) -> bool {
+    match asked {
+        Ok(_) => false,
+        Err(direct) => is_reply(&direct_bytes(alloc, direct), status, body),
     }
 }
 
 // Whether a message is refused with this status and this body.
 fn refuses(alloc: Global, input: &str, status: u16, body: &str) -> Result<bool, Fail> {
-    let reply = refusal_of(alloc, input)?;
-    Ok(is_refusal(&reply, status, body))
+    let asked = ask_of(alloc, input)?;
+    Ok(is_refusal(alloc, &asked, status, body))
 }
 
 // Each message is refused as its row says.
