@@ -183,6 +183,7 @@ fn socket_link(rt: HostRuntime) -> Result<(), Fail> {
     let listener = TcpListener::bind(&rt, "127.0.0.1:0")?;
     let name = format!(in rt.alloc(); "{}", listener.local_addr()?)?;
     let mut link = system_link(rt);
+    assert!(rt; !link.is_up());
     assert!(rt; link.dial("printer") == Err(LinkFault::NoPort));
     assert!(rt; !link.is_up());
     assert!(rt; link.dial(name.as_str()) == Ok(()));
@@ -202,6 +203,7 @@ fn socket_link_ends(rt: HostRuntime) -> Result<(), Fail> {
     let listener = TcpListener::bind(&rt, "127.0.0.1:0")?;
     let name = format!(in rt.alloc(); "{}", listener.local_addr()?)?;
     let mut link = system_link(rt);
+    assert!(rt; !link.is_up());
     assert!(rt; link.dial(name.as_str()) == Ok(()));
     let (mut peer, _) = listener.accept()?;
     peer.set_read_timeout(Some(Duration::from_secs(10)))?;
@@ -223,6 +225,7 @@ fn unix_socket(rt: HostRuntime) -> Result<(), Fail> {
     let name = format!(in rt.alloc(); "unix:{}", path)?;
     let listener = UnixListener::bind(&rt, path.as_str())?;
     let mut link = system_link(rt);
+    assert!(rt; !link.is_up());
     assert!(rt; link.dial(name.as_str()) == Ok(()));
     let (mut peer, _) = listener.accept()?;
     peer.set_read_timeout(Some(Duration::from_secs(10)))?;
