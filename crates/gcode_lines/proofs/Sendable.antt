@@ -10,7 +10,7 @@ use Rattle.std.specs.Char.{is_ascii_digit}
 use Rattle.byte_text.specs.Marks.{has_byte, has_m110}
 use Rattle.byte_text.specs.Sendable.{IsSendable}
 use Rattle.byte_text.specs.Chars.{is_space}
-use Rattle.gcode_lines.specs.Text.{is_mark, is_blank, is_control, without_front, without_end, trimmed, is_numbered, without_number, command_text, is_skipped, is_too_long, has_control}
+use Rattle.gcode_lines.specs.Text.{is_mark, is_blank, is_control, without_front, without_end, trimmed, is_numbered, without_number, order_mark_len, without_order_mark, command_part, command_text, is_skipped, is_too_long, has_control}
 
 pub list_any-take : (test : ℕ → Bool) (n : ℕ) (xs : List ℕ) → list_any test xs ≡ false → list_any test (take n xs) ≡ false
 list_any-take test zero xs h = refl
@@ -59,8 +59,9 @@ no_star-number text h =
 
 -- no text of a line has a star
 pub no_star-command_text : (line : List ℕ) → has_byte 42 (command_text line) ≡ false
-unfolding has_byte command_text
-no_star-command_text line = no_star-number _ (no_star-trimmed _ (no_star_in_front line))
+unfolding has_byte command_text command_part without_order_mark
+no_star-command_text line =
+    no_star-number _ (no_star-trimmed _ (list_any-drop _ (order_mark_len (before_first is_mark line)) (before_first is_mark line) (no_star_in_front line)))
 
 pub line_feed_is_control : (x : ℕ) → is_control x ≡ false → (x == 10) ≡ false
 line_feed_is_control x h = grind (arith, nat_tests)

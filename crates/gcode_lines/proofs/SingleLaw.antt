@@ -6,7 +6,7 @@ use Rattle.std.proofs.lemmas.Bool.Decides.{nat_tests}
 use Rattle.byte_text.specs.Marks.{has_byte, has_m110}
 use Rattle.gcode_lines.specs.declared.fault.NotOne.{NotOne}
 use Rattle.gcode_lines.specs.declared.fault.NotOne.TheVariants.{LineEnd, Empty, HasM110, TooLong, ControlByte}
-use Rattle.gcode_lines.specs.Text.{is_numbered, without_front, without_end, trimmed, without_number, command_text, is_skipped, is_too_long, has_control}
+use Rattle.gcode_lines.specs.Text.{is_numbered, without_front, without_end, trimmed, without_number, has_order_mark, order_mark_len, without_order_mark, command_part, command_text, is_skipped, is_too_long, has_control}
 use Rattle.gcode_lines.specs.Job.{most_bytes}
 use Rattle.gcode_lines.specs.Commands.{file_line, in_front, pieces_of, numbered, lines_of, job_of}
 use Rattle.gcode_lines.specs.Single.{single_of, single_job}
@@ -60,7 +60,7 @@ is_one line text e =
     }
 
 command_text-nil : command_text [] ≡ []
-unfolding command_text without_number trimmed without_end without_front is_numbered
+unfolding command_text command_part without_order_mark order_mark_len has_order_mark without_number trimmed without_end without_front is_numbered
 command_text-nil = refl
 
 pieces_of-whole : (byte : ℕ) (line : List ℕ) → list_any (λ b. b == 10) (byte ∷ line) ≡ false → pieces_of (byte ∷ line) ≡ (byte ∷ line) ∷ []

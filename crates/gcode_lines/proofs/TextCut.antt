@@ -1,12 +1,13 @@
 -- The text of a line is what the line holds from the text's place on.
-use Rattle.std.proofs.Common.{◌≡◌, ℕ, ◌+◌, ◌-◌, ◌≤◌, Bool, true, false, cond, List, [], ◌++◌, length, take, drop, refl, sym, ap, ◌∙◌, arith}
+use Rattle.std.proofs.Common.{◌≡◌, ℕ, ◌+◌, ◌-◌, ◌≤◌, Bool, true, false, cond, List, [], ◌∷◌, ◌++◌, length, take, drop, nat_eq, refl, sym, ap, ◌∙◌, arith}
 use Rattle.std.proofs.lemmas.List.{take-append-drop, append-nil, append_assoc, length-append, length-take-le}
 use Rattle.std.proofs.lemmas.List.Sums.{prefix_len-le-length}
 use Rattle.std.proofs.Math.Seq.{take-append_seam, drop-append_seam}
 use Rattle.std.specs.Char.{is_ascii_digit}
-use Rattle.std.specs.List.{before_first, position_or_len, prefix_len, suffix_len}
+use Rattle.std.specs.List.{before_first, position_or_len, prefix_len, suffix_len, starts_with}
+use Rattle.std.proofs.lemmas.Bool.{and_parts}
 use Rattle.byte_text.specs.Chars.{is_space}
-use Rattle.gcode_lines.specs.Text.{is_mark, is_blank, without_front, without_end, trimmed, is_numbered, without_number, number_len, command_text, begin_of}
+use Rattle.gcode_lines.specs.Text.{is_mark, is_blank, without_front, without_end, trimmed, is_numbered, without_number, number_len, has_order_mark, order_mark_len, without_order_mark, command_part, command_text, begin_of}
 
 -- a part of a list from a place on
 pub record IsPart (whole : List ℕ) (place : ℕ) (part : List ℕ) : Type 0 where
@@ -96,11 +97,35 @@ IsPart-trimmed bytes =
     let none : prefix_len is_blank bytes + 0 ≡ prefix_len is_blank bytes = omega arith in
     rw none at (IsPart-part bytes (prefix_len is_blank bytes) rest 0 (trimmed bytes) (IsPart-drop (prefix_len is_blank bytes) bytes (prefix_len-le-length is_blank bytes)) (IsPart-take (length rest - suffix_len is_blank rest) rest))
 
+order_mark_by : (line : List ℕ) (t : Bool) → starts_with nat_eq line (239 ∷ 187 ∷ 191 ∷ []) ≡ t → cond t 3 0 ≤ length line
+order_mark_by line false e = omega arith
+order_mark_by [] true e = absurd (let bad : false ≡ true = e in cc)
+order_mark_by (a ∷ []) true e = absurd (let bad : false ≡ true = (and_parts _ _ e).1 in cc)
+order_mark_by (a ∷ (b ∷ [])) true e = absurd (let bad : false ≡ true = (and_parts _ _ (and_parts _ _ e).1).1 in cc)
+order_mark_by (a ∷ (b ∷ (c ∷ rest))) true e = omega arith
+
+-- a line with a byte order mark has its three bytes
+pub order_mark_long : (line : List ℕ) → has_order_mark line ≡ true → 3 ≤ length line
+unfolding has_order_mark
+order_mark_long line e = order_mark_by line true e
+
+-- a byte order mark ends in its line
+pub order_mark_fits : (line : List ℕ) → order_mark_len line ≤ length line
+unfolding order_mark_len has_order_mark
+order_mark_fits line = order_mark_by line (starts_with nat_eq line (239 ∷ 187 ∷ 191 ∷ [])) refl
+
+IsPart-command_part : (line : List ℕ) → IsPart line (order_mark_len (before_first is_mark line)) (command_part line)
+unfolding command_part without_order_mark
+IsPart-command_part line =
+    let command = before_first is_mark line in
+    let begin = order_mark_len command in
+    let none : 0 + begin ≡ begin = omega arith in
+    rw none at (IsPart-part line 0 command begin (drop begin command) (IsPart-take (position_or_len is_mark line) line) (IsPart-drop begin command (order_mark_fits command)))
+
 -- the text of a line in the line
 pub IsPart-command_text : (line : List ℕ) → IsPart line (begin_of line) (command_text line)
 unfolding command_text begin_of
 IsPart-command_text line =
-    let command = before_first is_mark line in
-    let begin = prefix_len is_blank command + number_len (trimmed command) in
-    let none : 0 + begin ≡ begin = omega arith in
-    rw none at (IsPart-part line 0 command begin (without_number (trimmed command)) (IsPart-take (position_or_len is_mark line) line) (IsPart-part command (prefix_len is_blank command) (trimmed command) (number_len (trimmed command)) (without_number (trimmed command)) (IsPart-trimmed command) (IsPart-number (trimmed command))))
+    let part = command_part line in
+    IsPart-part line (order_mark_len (before_first is_mark line)) part (prefix_len is_blank part + number_len (trimmed part)) (without_number (trimmed part)) (IsPart-command_part line)
+    (IsPart-part part (prefix_len is_blank part) (trimmed part) (number_len (trimmed part)) (without_number (trimmed part)) (IsPart-trimmed part) (IsPart-number (trimmed part)))

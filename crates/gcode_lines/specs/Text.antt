@@ -1,6 +1,6 @@
--- The text of a line: what is left without comment, checksum, blanks and line number.
-use Rattle.std.specs.Prelude.{ℕ, ◌+◌, ◌-◌, Bool, ◌||◌, ◌&&◌, not, ◌==◌, nat_lt, List, length, take, drop, slice_index, if◌then◌else◌}
-use Rattle.std.specs.List.{prefix_len, suffix_len, before_first, list_any}
+-- The text of a line: what is left without byte order mark, comment, checksum, blanks and line number.
+use Rattle.std.specs.Prelude.{ℕ, ◌+◌, ◌-◌, Bool, ◌||◌, ◌&&◌, not, ◌==◌, nat_eq, nat_lt, List, [], ◌∷◌, length, take, drop, slice_index, if◌then◌else◌}
+use Rattle.std.specs.List.{prefix_len, suffix_len, before_first, list_any, starts_with}
 use Rattle.std.specs.Char.{is_ascii_digit}
 use Rattle.byte_text.specs.Chars.{is_space}
 use Rattle.byte_text.specs.Marks.{has_m110}
@@ -38,18 +38,35 @@ unfoldable pub without_number : List ℕ → List ℕ
 without_number text =
     if is_numbered text then without_front is_space (without_front is_ascii_digit (drop 1 text)) else text
 
--- the text of a line's command: without comment, checksum, blanks and line number
+-- whether a UTF-8 byte order mark, which some editors write, is at the front
+unfoldable pub has_order_mark : List ℕ → Bool
+has_order_mark line = starts_with nat_eq line (239 ∷ 187 ∷ 191 ∷ [])
+
+-- how many bytes of a line it has: 3 or none
+unfoldable pub order_mark_len : List ℕ → ℕ
+order_mark_len line = if has_order_mark line then 3 else 0
+
+-- a line without a byte order mark at its front
+unfoldable pub without_order_mark : List ℕ → List ℕ
+without_order_mark line = drop (order_mark_len line) line
+
+-- the part of a line that has its command: without byte order mark, comment and checksum
+unfoldable pub command_part : List ℕ → List ℕ
+command_part line = without_order_mark (before_first is_mark line)
+
+-- the text of a line's command: of that part, without blanks and line number
 unfoldable pub command_text : List ℕ → List ℕ
-command_text line = without_number (trimmed (before_first is_mark line))
+command_text line = without_number (trimmed (command_part line))
 
 -- how many bytes of a text are its line number and the spaces and tabs after it
 unfoldable pub number_len : List ℕ → ℕ
 number_len text = length text - length (without_number text)
 
--- where in a line its text begins: after the blanks in front and the line number
+-- where in a line its text begins: after a byte order mark, the blanks in front and the line number
 unfoldable pub begin_of : List ℕ → ℕ
 begin_of line =
-    prefix_len is_blank (before_first is_mark line) + number_len (trimmed (before_first is_mark line))
+    order_mark_len (before_first is_mark line)
+    + (prefix_len is_blank (command_part line) + number_len (trimmed (command_part line)))
 
 -- whether a text is passed over: it is empty or would set the printer's line number
 unfoldable pub is_skipped : List ℕ → Bool

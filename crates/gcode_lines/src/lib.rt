@@ -18,4 +18,4 @@ pub use job::Job;
 pub use laws::{job_law, line_law, single_law};
 pub use reading::{MOST_FILE_BYTES, read_commands, take_commands};
 pub use single::one_command;
-pub use text::is_numbered;
+pub use text::{has_order_mark, is_numbered};

@@ -1,13 +1,13 @@
-//! The text of one line: what is before a `;` comment or a `*` checksum, without blanks at both ends and without
-//! the line number `N..` that hosts put in front, as in the G-code that Marlin reads. A text with `M110` is passed
-//! over, since Marlin would take a new line number from it.
+//! The text of one line: what is before a `;` comment or a `*` checksum, without a UTF-8 byte order mark in front, without
+//! blanks at both ends and without the line number `N..` that hosts put in front, as in the G-code that Marlin reads. A text
+//! with `M110` is passed over, since Marlin would take a new line number from it.
 //!
 //! Source: Marlin's queue.cpp for line numbers, checksums and `M110`; `MAX_CMD_SIZE`, 96, for the longest command.
 ghost use Rattle.std.specs.Prelude.{◌≡◌, ◌+◌, ◌≤◌, ◌||◌, false, fold, length};
 ghost use Rattle.std.specs.Bool.{OnTrue};
 ghost use Rattle.std.specs.List.{before_first, position_or_len, prefix_len, suffix_len};
 ghost use Rattle.byte_text.specs.declared.texts.TheConstants.{MOST_TEXT_BYTES};
-ghost use Rattle.gcode_lines.specs.Text.{is_mark, is_blank, is_control, is_numbered, is_skipped, is_too_long, is_odd, has_control, trimmed, without_number, command_text, begin_of};
+ghost use Rattle.gcode_lines.specs.Text.{is_mark, is_blank, is_control, is_numbered, is_skipped, is_too_long, is_odd, has_control, trimmed, without_number, has_order_mark, order_mark_len, without_order_mark, command_text, begin_of};
 
 use crate::line::Line;
 use byte_text::{MOST_TEXT_BYTES, digits_in_front, has_m110, is_space, spaces_in_front};
@@ -85,6 +85,32 @@ pub fn is_numbered(text: &[u8]) -> bool
     text.len() > 1 && text[0] == b'N' && text[1].is_ascii_digit()
 }
 
+/// Whether a UTF-8 byte order mark is at the front. Files that were joined have one in their middle too.
+#[tactic(auto, unfolding(crate::specs::Text::has_order_mark))]
+pub fn has_order_mark(line: &[u8]) -> bool
+    ensures { result ≡ has_order_mark line.now }
+{
+    line.starts_with(b"\xEF\xBB\xBF")
+}
+
+// How many bytes of a line it has.
+#[tactic(auto, using(crate::proofs::TextCut::order_mark_long), unfolding(crate::specs::Text::order_mark_len))]
+fn order_mark_len(line: &[u8]) -> usize
+    ensures value { result ≡ order_mark_len line.now }
+    ensures fits { result ≤ length line.now }
+{
+    if has_order_mark(line) { 3 } else { 0 }
+}
+
+// A line without a byte order mark at its front.
+#[tactic(auto, unfolding(crate::specs::Text::without_order_mark))]
+fn without_order_mark(line: &[u8]) -> &[u8]
+    ensures value { result.now ≡ without_order_mark line.now }
+    ensures fits { order_mark_len line.now + length result.now ≤ length line.now }
+{
+    &line[order_mark_len(line)..]
+}
+
 // A text without its line number, `N` and digits, and the spaces and tabs after it.
 #[tactic(auto, unfolding(crate::specs::Text::without_number, crate::specs::Text::without_front))]
 fn without_number(text: &[u8]) -> &[u8]
@@ -106,22 +132,24 @@ pub(crate) struct TextAt<'a> {
     pub(crate) text: &'a [u8],
 }
 
-// The text of a line's command: without blanks at both ends and line number.
-#[tactic(auto, unfolding(crate::specs::Text::command_text, crate::specs::Text::begin_of, crate::specs::Text::number_len))]
+// The text of a line's command: without byte order mark, blanks at both ends and line number.
+#[tactic(auto, unfolding(crate::specs::Text::command_text, crate::specs::Text::command_part, crate::specs::Text::begin_of, crate::specs::Text::number_len))]
 pub(crate) fn text_in(line: Line<'_>) -> TextAt<'_>
     ensures text { result.text.now ≡ command_text line.entry.bytes.now }
     ensures begin { result.begin ≡ begin_of line.entry.bytes.now }
     ensures fits { result.begin + length result.text.now ≤ length line.entry.bytes.now }
 {
-    let trimmed = trimmed(line.command);
+    let mark = order_mark_len(line.command);
+    let command = without_order_mark(line.command);
+    let trimmed = trimmed(command);
     let text = without_number(trimmed);
     TextAt {
-        begin: blanks_in_front(line.command) + (trimmed.len() - text.len()),
+        begin: mark + (blanks_in_front(command) + (trimmed.len() - text.len())),
         text,
     }
 }
 
-// The text of a line's command: without comment, checksum, blanks and line number.
+// The text of a line's command: without byte order mark, comment, checksum, blanks and line number.
 pub(crate) fn command_text(line: &[u8]) -> &[u8]
     ensures { result.now ≡ command_text line.now }
 {

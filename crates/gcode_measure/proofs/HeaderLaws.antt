@@ -9,7 +9,7 @@ use Rattle.std.proofs.lemmas.List.Folds.{list_all-append}
 use Rattle.byte_text.specs.Marks.{has_byte, has_m110}
 use Rattle.byte_text.specs.Number.{leading_digits, decimal_value, begins_with_digit}
 use Rattle.byte_text.proofs.MarkLaws.{has_m110-no_m}
-use Rattle.gcode_lines.specs.Text.{is_mark, is_blank, is_control, is_numbered, is_skipped, is_too_long, has_control}
+use Rattle.gcode_lines.specs.Text.{is_mark, is_blank, is_control, has_order_mark, is_numbered, is_skipped, is_too_long, has_control}
 use Rattle.gcode_words.specs.Value.{millionths, micro_of, after_digits, decimals_at, after_decimals, magnitude_at, number_at}
 use Rattle.gcode_words.specs.Words.{value_at, words_of}
 use Rattle.gcode_words.specs.declared.word.CodeWord.{CodeWord}
@@ -299,17 +299,17 @@ header-commands head near =
     (command-axes head.axes, (command-extruder head.extruder, (command-position head near, tt)))
 
 line-axes : (mode : Mode) → line_of (axes_command mode) ≡ axes_command mode
-unfolding is_numbered
+unfolding is_numbered has_order_mark
 line-axes Absolute = refl
 line-axes Relative = refl
 
 line-extruder : (mode : Mode) → line_of (extruder_command mode) ≡ extruder_command mode
-unfolding is_numbered
+unfolding is_numbered has_order_mark
 line-extruder Absolute = refl
 line-extruder Relative = refl
 
 line-position : (head : Head) → line_of (position_command head) ≡ position_command head
-unfolding is_numbered position_command
+unfolding is_numbered has_order_mark position_command
 line-position head = refl
 
 -- each of them is written as it is

@@ -9,8 +9,8 @@ use Rattle.gcode_lines.specs.declared.fault.FileFault.{FileFault}
 use Rattle.gcode_lines.specs.declared.fault.FileFault.TheVariants.{TooLarge}
 use Rattle.gcode_lines.specs.Job.{JobData, most_bytes, texts_of}
 use Rattle.gcode_lines.specs.Commands.{FileLine, file_line, in_front, pieces_of, numbered, lines_of, is_skipped_line, fault_at, first_fault, unless_fault, job_in as lines_job, job_of}
-use Rattle.gcode_lines.specs.Text.{command_text, is_skipped, is_too_long, is_control, has_control, is_numbered}
-use Rattle.gcode_measure.specs.Rest.{line_of, text_of_lines}
+use Rattle.gcode_lines.specs.Text.{command_text, is_skipped, is_too_long, is_control, has_control, has_order_mark, is_numbered}
+use Rattle.gcode_measure.specs.Rest.{line_of, needs_number, text_of_lines}
 use Rattle.gcode_measure.proofs.PlainLaws.{IsPlain, plain-command_text, command_text-plain, without_number-bare, command_text-after}
 use Rattle.gcode_lines.proofs.JobLaws.{fault_by, sound_by, both_none, texts_in}
 use Rattle.gcode_lines.proofs.Sendable.{list_any-weaker, line_feed_is_control, some_from_kept}
@@ -92,15 +92,17 @@ one_lines : (texts : List (List ℕ)) → Each IsCommand texts → Each IsOneLin
 one_lines [] each = tt
 one_lines (text ∷ texts) each =
     let first = each.0 in
-    (one_line-by text (is_numbered text) (one_line-text text first.clean), one_lines texts each.1)
+    (one_line-by text (needs_number text) (one_line-text text first.clean), one_lines texts each.1)
 
-says_by : (text : List ℕ) (t : Bool) → is_numbered text ≡ t → IsCommand text → command_text (cond t (codes "N0 " ++ text) text) ≡ text
-says_by text true e command = command_text-after text (some_from_kept text command.kept) e command.plain
-says_by text false e command = command_text-plain text command.plain ∙ without_number-bare text e
+says_by : (text : List ℕ) (t : Bool) → needs_number text ≡ t → IsCommand text → command_text (cond t (codes "N0 " ++ text) text) ≡ text
+says_by text true e command = command_text-after text (some_from_kept text command.kept) command.plain
+says_by text false e command =
+    let parts = or_parts (is_numbered text) (has_order_mark text) e in
+    command_text-plain text command.plain parts.1 ∙ without_number-bare text parts.0
 
 -- the line of a command says that command
 pub command_text-line_of : (text : List ℕ) → IsCommand text → command_text (line_of text) ≡ text
-command_text-line_of text command = says_by text (is_numbered text) refl command
+command_text-line_of text command = says_by text (needs_number text) refl command
 
 fault-of_line : (text : List ℕ) (number place : ℕ) → IsCommand text → fault_at (file_line (line_of text) number place) ≡ None
 fault-of_line text number place command =

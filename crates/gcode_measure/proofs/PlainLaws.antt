@@ -9,7 +9,7 @@ use Rattle.std.proofs.lemmas.List.Folds.{list_any_none}
 use Rattle.std.proofs.lemmas.List.Sums.{fails_before_first, suffix_len-le-length}
 use Rattle.std.proofs.Math.Seq.{take-append_seam, drop-append_seam, take-length}
 use Rattle.byte_text.specs.Chars.{is_space}
-use Rattle.gcode_lines.specs.Text.{is_mark, is_blank, is_control, without_front, without_end, trimmed, is_numbered, without_number, command_text, has_control}
+use Rattle.gcode_lines.specs.Text.{is_mark, is_blank, is_control, without_front, without_end, trimmed, is_numbered, without_number, has_order_mark, order_mark_len, without_order_mark, command_part, command_text, has_control}
 use Rattle.gcode_lines.proofs.Sendable.{list_any-take, list_any-drop}
 
 -- if all pass one test, none passes another that excludes it
@@ -129,12 +129,17 @@ plain-number text true plain control =
     }
 plain-number text false plain control = plain
 
+no_mark_in_part : (line : List ℕ) → list_any is_mark (command_part line) ≡ false
+unfolding command_part without_order_mark
+no_mark_in_part line =
+    list_any-drop is_mark (order_mark_len (before_first is_mark line)) (before_first is_mark line) (no_mark_in_front line)
+
 -- what a line says without a control byte is plain
 pub plain-command_text : (line : List ℕ) → has_control (command_text line) ≡ false → IsPlain (command_text line)
 unfolding command_text without_number has_control
 plain-command_text line control =
-    plain-number (trimmed (before_first is_mark line)) (is_numbered (trimmed (before_first is_mark line)))
-    (plain-trimmed (before_first is_mark line) (no_mark_in_front line)) control
+    plain-number (trimmed (command_part line)) (is_numbered (trimmed (command_part line)))
+    (plain-trimmed (command_part line) (no_mark_in_part line)) control
 
 before_first-all : (text : List ℕ) → list_any is_mark text ≡ false → position_or_len is_mark text ≡ length text
 before_first-all [] h = refl
@@ -151,12 +156,13 @@ trimmed-plain text plain =
     ∙ (let whole : length text - 0 ≡ length text = omega arith in ap (λ n. take n text) whole)
     ∙ take-length text
 
--- a line of a plain text says it, but for its line number
-pub command_text-plain : (text : List ℕ) → IsPlain text → command_text text ≡ without_number text
-unfolding command_text
-command_text-plain text plain =
-    ap (λ n. without_number (trimmed (take n text))) (before_first-all text plain.mark)
-    ∙ ap (λ t. without_number (trimmed t)) (take-length text)
+-- a line of a plain text says it, but for its line number, unless a byte order mark is at its front
+pub command_text-plain : (text : List ℕ) → IsPlain text → has_order_mark text ≡ false → command_text text ≡ without_number text
+unfolding command_text command_part without_order_mark order_mark_len
+command_text-plain text plain none =
+    ap (λ n. without_number (trimmed (drop (cond (has_order_mark (take n text)) 3 0) (take n text)))) (before_first-all text plain.mark)
+    ∙ ap (λ t. without_number (trimmed (drop (cond (has_order_mark t) 3 0) t))) (take-length text)
+    ∙ ap (λ t. without_number (trimmed (drop (cond t 3 0) text))) none
     ∙ ap without_number (trimmed-plain text plain)
 
 pub without_number-bare : (text : List ℕ) → is_numbered text ≡ false → without_number text ≡ text
@@ -167,12 +173,14 @@ plain-after : (text : List ℕ) → 1 ≤ length text → IsPlain text → IsPla
 plain-after text some plain =
     record { mark = plain.mark; front = refl; back = suffix_len-longer is_blank (codes "N0 ") text some plain.back }
 
-numbered_front : (text : List ℕ) → is_numbered text ≡ true → prefix_len is_space text ≡ 0
-unfolding is_numbered
-numbered_front [] h = refl
-numbered_front (x ∷ xs) h =
-    let n = (and_parts (x == 78) _ h).0 in
-    prefix_len-cons_zero is_space x xs (grind (arith, nat_tests))
+space_front : (text : List ℕ) → prefix_len is_blank text ≡ 0 → prefix_len is_space text ≡ 0
+space_front [] h = refl
+space_front (x ∷ xs) h =
+    prefix_len-cons_zero is_space x xs (or_parts (is_space x) (x == 13) (no_front (is_blank x) (prefix_len is_blank xs) h)).0
+
+no_mark_after : (text : List ℕ) → has_order_mark (codes "N0 " ++ text) ≡ false
+unfolding has_order_mark
+no_mark_after text = refl
 
 without_number-after : (text : List ℕ) → prefix_len is_space text ≡ 0 → without_number (codes "N0 " ++ text) ≡ text
 unfolding without_number without_front is_numbered
@@ -180,6 +188,6 @@ without_number-after text h =
     ap (λ n. drop (1 + n) (32 ∷ text)) h
 
 -- a command after a line number of its own is that command
-pub command_text-after : (text : List ℕ) → 1 ≤ length text → is_numbered text ≡ true → IsPlain text → command_text (codes "N0 " ++ text) ≡ text
-command_text-after text some numbered plain =
-    command_text-plain (codes "N0 " ++ text) (plain-after text some plain) ∙ without_number-after text (numbered_front text numbered)
+pub command_text-after : (text : List ℕ) → 1 ≤ length text → IsPlain text → command_text (codes "N0 " ++ text) ≡ text
+command_text-after text some plain =
+    command_text-plain (codes "N0 " ++ text) (plain-after text some plain) (no_mark_after text) ∙ without_number-after text (space_front text plain.front)

@@ -1,9 +1,9 @@
 -- A file that goes on with a job at one of its commands.
-use Rattle.std.specs.Prelude.{◌≡◌, ℕ, ◌+◌, ◌≤◌, ℤ, false, nat_lt, if◌then◌else◌, List, [], ◌∷◌, ◌++◌, length, map, take, drop, codes, Option, None, Some, Result, Ok, Err, IsOkAnd}
+use Rattle.std.specs.Prelude.{◌≡◌, ℕ, ◌+◌, ◌≤◌, ℤ, Bool, ◌||◌, false, nat_lt, if◌then◌else◌, List, [], ◌∷◌, ◌++◌, length, map, take, drop, codes, Option, None, Some, Result, Ok, Err, IsOkAnd}
 use Rattle.std.specs.List.{flat_map}
 use Rattle.gcode_lines.specs.Job.{JobData, texts_of, most_bytes}
 use Rattle.gcode_lines.specs.Commands.{job_of}
-use Rattle.gcode_lines.specs.Text.{is_numbered}
+use Rattle.gcode_lines.specs.Text.{has_order_mark, is_numbered}
 use Rattle.gcode_measure.specs.declared.fault.MeasureFault.{MeasureFault}
 use Rattle.gcode_measure.specs.declared.fault.RestFault.{RestFault}
 use Rattle.gcode_measure.specs.declared.fault.RestFault.TheVariants as fault
@@ -42,9 +42,13 @@ unfoldable pub position_command : Head → List ℕ
 position_command head =
     axis_text (codes "G92 X") head.x ++ axis_text (codes " Y") head.y ++ axis_text (codes " Z") head.z ++ axis_text (codes " E") head.e
 
--- a command as a line: after a number of its own if it could be taken for a numbered line
+-- whether a line of this text alone says another text: its front could be taken for a line number or a byte order mark
+abbrev pub needs_number : List ℕ → Bool
+needs_number text = is_numbered text || has_order_mark text
+
+-- a command as a line: after a number of its own if it needs one
 abbrev pub line_of : List ℕ → List ℕ
-line_of text = if is_numbered text then codes "N0 " ++ text else text
+line_of text = if needs_number text then codes "N0 " ++ text else text
 
 -- the lines of a file that goes on with commands where a head is
 abbrev pub rest_lines : Head → List (List ℕ) → List (List ℕ)

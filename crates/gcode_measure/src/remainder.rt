@@ -10,7 +10,7 @@ use crate::decimal::put_micro;
 use crate::fault::{MeasureFault, RestFault};
 use crate::head::Head;
 use crate::kind::{Mode, read_kind};
-use gcode_lines::{Job, is_numbered};
+use gcode_lines::{Job, has_order_mark, is_numbered};
 use octo_outside::{Blob, append_line};
 use std::alloc::{AllocError, Global};
 
@@ -74,7 +74,7 @@ fn put_positions(text: &mut Blob, head: &Head) -> Result<(), AllocError>
 fn put_command(text: &mut Blob, command: &[u8]) -> Result<(), AllocError>
     ensures { OnOk result (text.new ≡ text.old ++ with_line_feed (line_of command.now)) }
 {
-    if is_numbered(command) {
+    if is_numbered(command) || has_order_mark(command) {
         text.append(b"N0 ")?;
     }
     append_line(text, command)
