@@ -1,9 +1,10 @@
 -- A print that is going on: its lines so far, with those that wait, are as its state says.
 use Rattle.std.proofs.Common.{◌≡◌, ℕ, Bool, true, false, cond, nat_eq, ◌+◌, codes, List, [], ◌∷◌, ◌++◌, length, slice_get, Option, None, Some, refl, sym, ◌∙◌, ap, subst}
 use Rattle.std.proofs.lemmas.Bool.{false≢true}
+use Rattle.std.specs.Prelude.{◌&&◌}
 use Rattle.job_desk.specs.Data.{ScriptTexts, Data, File, Line, script_lines, commands_of, with_script, moment_after}
-use Rattle.job_desk.specs.Table.{closing, connect_at, disconnect_at, select_at, drop_file_step, is_named, pause_at, resume_at, toggle_at, cancel_at, manual_at, add_manual}
-use Rattle.job_desk.specs.Pull.{Drawn, draw_in_order, nothing, next_number, keep_number, issue, from_scripts, from_manual, from_poll, poll_is_due, from_file, draw_at, is_issued, settle_at, pull_step}
+use Rattle.job_desk.specs.Table.{closing, connect_at, disconnect_at, select_at, drop_file_step, is_named, pause_at, resume_at, toggle_at, cancel_at, manual_at, add_manual, take_manual, is_stop, stopping}
+use Rattle.job_desk.specs.Pull.{Drawn, draw_in_order, nothing, next_number, keep_number, issue, from_scripts, from_manual, from_poll, poll_is_due, from_file, draw_last, draw_at, is_issued, settle_at, pull_step}
 use Rattle.job_desk.specs.Course.{job_line}
 use Rattle.job_desk.specs.Run.{print_lines}
 use Rattle.job_desk.specs.declared.state.State.{State}
@@ -174,14 +175,27 @@ module _ (p : ℕ) (commands : List (List ℕ)) where
   current-add : (out : List Line) (lines : List (List ℕ)) (d : Data) → CurrentTo p commands out d → CurrentTo p commands out (add_manual lines d).1
   current-add out lines d h = choose_pair out _ _ _ h h
 
+  -- the printer is stopped: no line joins, and those that wait go nowhere
+  to_stopping : (out : List Line) (lines : List (List ℕ)) (d : Data) → CurrentTo p commands out d → CurrentTo p commands out (stopping lines d)
+  to_stopping out lines d h = record {
+    is = h.is;
+    active_is = h.active_is;
+    texts_are = h.texts_are;
+    stage = going d.scripts d.state d.cursor d.waiting (out ++ print_lines p d.waiting) h.stage;
+  }
+
+  current-take : (out : List Line) (lines : List (List ℕ)) (d : Data) → CurrentTo p commands out d → CurrentTo p commands out (take_manual lines d).1
+  current-take out lines d h = choose_pair out (is_stop lines) _ _ (to_stopping out lines d h) (current-add out lines d h)
+
   pub current-manual : (out : List Line) (s : State) (lines : List (List ℕ)) (d : Data) → CurrentTo p commands out d →
       CurrentTo p commands out (manual_at s lines d).1
-  current-manual out Operational lines d h = current-add out lines d h
-  current-manual out Printing lines d h = current-add out lines d h
-  current-manual out Pausing lines d h = current-add out lines d h
-  current-manual out Paused lines d h = current-add out lines d h
-  current-manual out Cancelling lines d h = current-add out lines d h
-  current-manual out Finishing lines d h = current-add out lines d h
+  current-manual out Operational lines d h = current-take out lines d h
+  current-manual out Printing lines d h = current-take out lines d h
+  current-manual out Pausing lines d h = current-take out lines d h
+  current-manual out Paused lines d h = current-take out lines d h
+  current-manual out Cancelling lines d h = current-take out lines d h
+  current-manual out Finishing lines d h = current-take out lines d h
+  current-manual out Closing lines d h = choose_pair out (is_stop lines && d.ready) _ _ (to_stopping out lines d h) h
   current-manual out _ lines d h = h
 
   -- the pulled lines of the print with one more line, if there is one
@@ -278,6 +292,10 @@ module _ (p : ℕ) (commands : List (List ℕ)) where
   current-talk out moment d next h k =
       current-scripts out d.waiting d _ refl h (λ w. current-from_manual out d.manual d _ h (current-poll out moment d next h (k w)))
 
+  current-last : (out : List Line) (b : Bool) (d : Data) → CurrentTo p commands out d → CurrentDrawn out (draw_last b d)
+  current-last out false d h = current-scripts out d.waiting d (nothing d) refl h (λ w. h)
+  current-last out true d h = current-from_manual out d.manual d (nothing d) h h
+
   current-draw : (out : List Line) (s : State) (moment : ℕ) (d : Data) → d.state ≡ s → CurrentTo p commands out d → CurrentDrawn out (draw_at s moment d)
   current-draw out Printing moment d e h = current-talk out moment d _ h (current-file out _ d refl e h)
   current-draw out Operational moment d e h = current-talk out moment d (nothing d) h (λ w. h)
@@ -285,7 +303,7 @@ module _ (p : ℕ) (commands : List (List ℕ)) where
   current-draw out Paused moment d e h = current-talk out moment d (nothing d) h (λ w. h)
   current-draw out Cancelling moment d e h = current-talk out moment d (nothing d) h (λ w. h)
   current-draw out Finishing moment d e h = current-talk out moment d (nothing d) h (λ w. h)
-  current-draw out Closing moment d e h = current-scripts out d.waiting d (nothing d) refl h (λ w. h)
+  current-draw out Closing moment d e h = current-last out d.stopped d h
   current-draw out _ moment d e h = h
 
   -- all commands were issued

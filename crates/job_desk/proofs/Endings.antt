@@ -5,7 +5,7 @@ use Rattle.std.proofs.lemmas.Bool.{false≢true, and_parts}
 use Rattle.std.proofs.lemmas.Bool.Decides.{nat_tests}
 use Rattle.job_desk.specs.Data.{Data, with_script}
 use Rattle.job_desk.specs.Pull.{is_issued, settle_at, settled}
-use Rattle.job_desk.specs.Note.{Noted, after_ending, is_over, end_at, finish, leave, fail, ready_at, after_open, note_fact, note_step}
+use Rattle.job_desk.specs.Note.{Noted, after_ending, is_over, end_at, finish, leave, hung_up, fail, ready_at, after_open, note_fact, note_step}
 use Rattle.job_desk.specs.Endings.{has_print, IsActive, IsAcknowledged, is_failure, EndsAs, IsEnding}
 use Rattle.job_desk.specs.declared.state.State.{State}
 use Rattle.job_desk.specs.declared.state.State.TheVariants.{Offline, Connecting, Printing, Pausing, Paused, Cancelling, Finishing, Fault}
@@ -23,18 +23,18 @@ pub record IsFree (acked : ℕ) (d : Data) : Type 0 where
   pub no_script : d.waiting ≡ []
   pub last_line : d.print_line ≤ acked
 
--- the desk that an ending leaves
-abbrev pub LeavesFree : Outcome → ℕ → LinkFact → Data → Type 0
-LeavesFree outcome.Active acked found e = Unit {0}
-LeavesFree outcome.Done acked found e = IsFree acked e
-LeavesFree outcome.Cancelled acked found e = IsFree acked e ⊎ (found ≡ fact.Closed)
-LeavesFree outcome.Failed acked found e = Unit {0}
+-- the desk that an ending leaves, by whether the printer was being stopped
+abbrev pub LeavesFree : Outcome → ℕ → LinkFact → Bool → Data → Type 0
+LeavesFree outcome.Active acked found stops e = Unit {0}
+LeavesFree outcome.Done acked found stops e = IsFree acked e
+LeavesFree outcome.Cancelled acked found stops e = IsFree acked e ⊎ ((found ≡ fact.Closed) × (stops ≡ false))
+LeavesFree outcome.Failed acked found stops e = Unit {0}
 
 -- what one note of a desk returns and leaves: no ending and the print as it was, or an ending, after which no print is
 -- active
 abbrev pub EndsIn : ℕ → LinkFact → Data → Option Ending → Data → Type 0
 EndsIn acked found d None e = (e.active ≡ d.active) × (e.greatest ≡ d.greatest)
-EndsIn acked found d (Some ending) e = IsEnding acked found d ending × LeavesFree ending.outcome acked found e × (e.active ≡ false)
+EndsIn acked found d (Some ending) e = IsEnding acked found d ending × LeavesFree ending.outcome acked found d.stopped e × (e.active ≡ false)
 
 pub over_line : (t : Data) → is_over t ≡ true → t.print_line ≤ t.acked
 over_line t over = grind (arith, nat_tests)
@@ -66,7 +66,7 @@ module _ (acked : ℕ) (f : LinkFact) (d : Data) where
     left : t.print_line ≤ t.acked → t.print_line ≤ acked
 
   end_if : (how : Outcome) (b : Bool) (t : Data) → is_over t ≡ b → IsTested t → d.active ≡ true →
-      (IsAcknowledged acked f d → EndsAs how acked f d) → ((e : Data) → IsFree acked e → LeavesFree how acked f e) →
+      (IsAcknowledged acked f d → EndsAs how acked f d) → ((e : Data) → IsFree acked e → LeavesFree how acked f d.stopped e) →
       EndsIn acked f d (cond b (finish how t) (None, t)).0 (cond b (finish how t) (None, t)).1
   end_if how true t over tested active by leaves = (
     record {
@@ -93,12 +93,12 @@ module _ (acked : ℕ) (f : LinkFact) (d : Data) where
   end_ends going _ t e tested = (tested.active, tested.greatest)
 
   leave_ends : (how : Outcome) (s : State) (b : Bool) (t : Data) → t.active ≡ b → t.active ≡ d.active → t.greatest ≡ d.greatest →
-      EndsAs how acked f d → ((e : Data) → LeavesFree how acked f e) →
-      EndsIn acked f d (cond b (Some (record { print = t.greatest; outcome = how })) None) (record t { state = s; active = false; waiting = []; manual = [] })
+      EndsAs how acked f d → ((e : Data) → LeavesFree how acked f d.stopped e) →
+      EndsIn acked f d (cond b (Some (record { print = t.greatest; outcome = how })) None) (record t { state = s; active = false; waiting = []; manual = []; stopped = false })
   leave_ends how s true t is same print by leaves = (record { active = sym same ∙ is; print = print; by = by }, leaves (leave s how t).1, refl)
   leave_ends how s false t is same print by leaves = (sym is ∙ same, print)
 
-  left_fails : (how : Outcome) (t : Data) → LeavesFree how acked f t → LeavesFree how acked f (leave Fault outcome.Failed t).1
+  left_fails : (how : Outcome) (t : Data) → LeavesFree how acked f d.stopped t → LeavesFree how acked f d.stopped (leave Fault outcome.Failed t).1
   left_fails outcome.Active t left = tt
   left_fails outcome.Done t free = record { no_print = refl; no_script = refl; last_line = free.last_line }
   left_fails outcome.Cancelled t (inl free) = inl (record { no_print = refl; no_script = refl; last_line = free.last_line })
@@ -106,10 +106,10 @@ module _ (acked : ℕ) (f : LinkFact) (d : Data) where
   left_fails outcome.Failed t left = tt
 
   fail_ends : (noted : Noted) → is_failure f ≡ true → EndsIn acked f d noted.0 noted.1 → EndsIn acked f d (fail noted).0 (fail noted).1
-  fail_ends (None, t) fails ends = leave_ends outcome.Failed Fault t.active t refl ends.0 ends.1 fails (λ e. tt)
+  fail_ends (None, t) fails ends = leave_ends outcome.Failed Fault t.active t refl ends.0 ends.1 (inl fails) (λ e. tt)
   fail_ends (Some ending, t) fails ends = (ends.0, left_fails ending.outcome t ends.1, refl)
 
-  left_settles : (how : Outcome) (t : Data) → LeavesFree how acked f t → LeavesFree how acked f (settled t)
+  left_settles : (how : Outcome) (t : Data) → LeavesFree how acked f d.stopped t → LeavesFree how acked f d.stopped (settled t)
   left_settles outcome.Active t left = tt
   left_settles outcome.Done t free = free_settle acked t.state t refl free
   left_settles outcome.Cancelled t (inl free) = inl (free_settle acked t.state t refl free)
@@ -137,6 +137,11 @@ module _ (acked moment : ℕ) (d : Data) (going : IsActive d) where
       end_ends acked fact.Ready d going d.state (record d { acked = acked; ready = true }) refl
       (record { active = refl; greatest = refl; waiting = refl; line = λ l. inr l; left = λ l. l })
 
+  hung_ends : (b : Bool) → d.stopped ≡ b → EndsIn acked fact.Closed d (hung_up b (record d { acked = acked })).0 (hung_up b (record d { acked = acked })).1
+  hung_ends false e =
+      leave_ends acked fact.Closed d outcome.Cancelled Offline d.active (record d { acked = acked }) refl refl refl (inr (refl, e)) (λ t. inr (refl, e))
+  hung_ends true e = leave_ends acked fact.Closed d outcome.Failed Fault d.active (record d { acked = acked }) refl refl refl (inr (refl, e)) (λ t. tt)
+
   fact_ends : (f : LinkFact) → EndsIn acked f d (note_fact f moment (record d { acked = acked })).0 (note_fact f moment (record d { acked = acked })).1
   fact_ends fact.Quiet =
       end_ends acked fact.Quiet d going d.state (record d { acked = acked }) refl
@@ -145,9 +150,8 @@ module _ (acked moment : ℕ) (d : Data) (going : IsActive d) where
       end_ends acked fact.Opened d going d.state (after_open (record d { acked = acked })) refl
       (record { active = refl; greatest = refl; waiting = refl; line = λ l. inl refl; left = λ l. (let none : 0 ≤ acked = omega arith in none) })
   fact_ends fact.Ready = ready_ends d.state refl
-  fact_ends fact.Closed = leave_ends acked fact.Closed d outcome.Cancelled Offline d.active (record d { acked = acked }) refl refl refl (inr refl)
-      (λ e. inr refl)
-  fact_ends fact.NoPort = leave_ends acked fact.NoPort d outcome.Failed Fault d.active (record d { acked = acked }) refl refl refl refl (λ e. tt)
+  fact_ends fact.Closed = hung_ends d.stopped refl
+  fact_ends fact.NoPort = leave_ends acked fact.NoPort d outcome.Failed Fault d.active (record d { acked = acked }) refl refl refl (inl refl) (λ e. tt)
   fact_ends fact.Failed =
       fail_ends acked fact.Failed d (after_ending (record d { acked = acked })) refl
       (end_ends acked fact.Failed d going d.state (record d { acked = acked }) refl

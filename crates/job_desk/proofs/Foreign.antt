@@ -1,10 +1,11 @@
 -- A print that is not going on: no call but its own start touches it.
 use Rattle.std.proofs.Common.{◌≡◌, ◌⊎◌, inl, inr, ℕ, Bool, true, false, cond, nat_eq, ◌+◌, codes, List, [], ◌∷◌, ◌++◌, Option, None, Some, refl, sym, ◌∙◌, ap, subst}
 use Rattle.std.proofs.lemmas.Bool.{false≢true, cond_both}
+use Rattle.std.specs.Prelude.{◌&&◌}
 use Rattle.job_desk.specs.Data.{Data, File, Line, script_lines, moment_after}
-use Rattle.job_desk.specs.Table.{connect_at, disconnect_at, select_at, drop_file_step, is_named, printing, pause_at, resume_at, toggle_at, cancel_at, manual_at, add_manual}
-use Rattle.job_desk.specs.Pull.{Drawn, draw_in_order, nothing, next_number, keep_number, issue, from_scripts, from_manual, from_poll, poll_is_due, from_file, draw_at, is_issued, settle_at, pull_step}
-use Rattle.job_desk.specs.Note.{Noted, after_ending, is_over, end_at, finish, leave, fail, ready_at, after_open, note_fact, note_step}
+use Rattle.job_desk.specs.Table.{connect_at, disconnect_at, select_at, drop_file_step, is_named, printing, pause_at, resume_at, toggle_at, cancel_at, manual_at, add_manual, take_manual, is_stop}
+use Rattle.job_desk.specs.Pull.{Drawn, draw_in_order, nothing, next_number, keep_number, issue, from_scripts, from_manual, from_poll, poll_is_due, from_file, draw_last, draw_at, is_issued, settle_at, pull_step}
+use Rattle.job_desk.specs.Note.{Noted, after_ending, is_over, end_at, finish, leave, hung_up, fail, ready_at, after_open, note_fact, note_step}
 use Rattle.job_desk.specs.Course.{job_line}
 use Rattle.job_desk.specs.Run.{is_of, print_lines}
 use Rattle.job_desk.specs.declared.state.State.{State}
@@ -112,13 +113,17 @@ module _ (p : ℕ) where
   foreign-add : (lines : List (List ℕ)) (d : Data) → ForeignTo p d → ForeignTo p (add_manual lines d).1
   foreign-add lines d f = choose_pair _ _ _ f f
 
+  foreign-take : (lines : List (List ℕ)) (d : Data) → ForeignTo p d → ForeignTo p (take_manual lines d).1
+  foreign-take lines d f = choose_pair (is_stop lines) _ _ (idle d Closing tt f) (foreign-add lines d f)
+
   pub foreign-manual : (s : State) (lines : List (List ℕ)) (d : Data) → ForeignTo p d → ForeignTo p (manual_at s lines d).1
-  foreign-manual Operational lines d f = foreign-add lines d f
-  foreign-manual Printing lines d f = foreign-add lines d f
-  foreign-manual Pausing lines d f = foreign-add lines d f
-  foreign-manual Paused lines d f = foreign-add lines d f
-  foreign-manual Cancelling lines d f = foreign-add lines d f
-  foreign-manual Finishing lines d f = foreign-add lines d f
+  foreign-manual Operational lines d f = foreign-take lines d f
+  foreign-manual Printing lines d f = foreign-take lines d f
+  foreign-manual Pausing lines d f = foreign-take lines d f
+  foreign-manual Paused lines d f = foreign-take lines d f
+  foreign-manual Cancelling lines d f = foreign-take lines d f
+  foreign-manual Finishing lines d f = foreign-take lines d f
+  foreign-manual Closing lines d f = choose_pair (is_stop lines && d.ready) _ _ (idle d Closing tt f) f
   foreign-manual _ lines d f = f
 
   -- a line of something else, or none
@@ -172,6 +177,10 @@ module _ (p : ℕ) where
   foreign-talk : (moment : ℕ) (d : Data) (next : Drawn) → ForeignTo p d → ForeignDrawn next → ForeignDrawn (draw_in_order moment d next)
   foreign-talk moment d next f h = foreign-scripts d.waiting d _ refl f (foreign-from_manual d.manual d _ f (foreign-poll moment d next f h))
 
+  foreign-last : (b : Bool) (d : Data) → ForeignTo p d → ForeignDrawn (draw_last b d)
+  foreign-last false d f = foreign-scripts d.waiting d (nothing d) refl f (f, tt)
+  foreign-last true d f = foreign-from_manual d.manual d (nothing d) f (f, tt)
+
   foreign-draw : (s : State) (moment : ℕ) (d : Data) → d.state ≡ s → ForeignTo p d → ForeignDrawn (draw_at s moment d)
   foreign-draw Offline moment d e f = (f, tt)
   foreign-draw Connecting moment d e f = (f, tt)
@@ -181,7 +190,7 @@ module _ (p : ℕ) where
   foreign-draw Paused moment d e f = foreign-talk moment d (nothing d) f (f, tt)
   foreign-draw Cancelling moment d e f = foreign-talk moment d (nothing d) f (f, tt)
   foreign-draw Finishing moment d e f = foreign-talk moment d (nothing d) f (f, tt)
-  foreign-draw Closing moment d e f = foreign-scripts d.waiting d (nothing d) refl f (f, tt)
+  foreign-draw Closing moment d e f = foreign-last d.stopped d f
   foreign-draw Fault moment d e f = (f, tt)
 
   pub foreign-settle : (s : State) (d : Data) → d.state ≡ s → ForeignTo p d → ForeignTo p (settle_at s d)
@@ -227,6 +236,10 @@ module _ (p : ℕ) where
   foreign-fail (None, d) h = foreign-leave Fault outcome.Failed d tt h.0
   foreign-fail (Some ending, d) h = ((foreign-leave Fault outcome.Failed d tt h.0).0, h.1)
 
+  foreign-hung : (b : Bool) (d : Data) → ForeignTo p d → ForeignNoted (hung_up b d)
+  foreign-hung false d f = foreign-leave Offline outcome.Cancelled d tt f
+  foreign-hung true d f = foreign-leave Fault outcome.Failed d tt f
+
   foreign-ready : nat_eq 0 p ≡ false → (s : State) (moment : ℕ) (d : Data) → ForeignTo p d → ForeignTo p (ready_at s moment d)
   foreign-ready z Connecting moment d f = free_script point.Connected d Operational z tt f
   foreign-ready z _ moment d f = f
@@ -238,7 +251,7 @@ module _ (p : ℕ) where
       let heard : Data = record d { ready = true } in
       let is : Data = ready_at heard.state moment heard in
       foreign-end is.state is refl (foreign-ready z heard.state moment heard f)
-  foreign-fact z fact.Closed moment d f = foreign-leave Offline outcome.Cancelled d tt f
+  foreign-fact z fact.Closed moment d f = foreign-hung d.stopped d f
   foreign-fact z fact.NoPort moment d f = foreign-leave Fault outcome.Failed d tt f
   foreign-fact z fact.Failed moment d f = foreign-fail (after_ending d) (foreign-end d.state d refl f)
   foreign-fact z (fact.Ended end) moment d f = foreign-fail (after_ending d) (foreign-end d.state d refl f)

@@ -2,9 +2,9 @@
 use Rattle.std.proofs.Common.{◌≡◌, ℕ, ◌+◌, ◌≤◌, Bool, true, false, cond, nat_eq, codes, List, [], ◌∷◌, Option, None, Some, refl, sym, ◌∙◌, ap, subst}
 use Rattle.std.proofs.lemmas.Bool.{false≢true}
 use Rattle.job_desk.specs.Data.{Data, Line, with_script, moment_after}
-use Rattle.job_desk.specs.Pull.{Drawn, draw_in_order, nothing, next_number, keep_number, issue, from_scripts, from_manual, from_poll, poll_is_due, from_file, draw_at, is_issued, settle_at, settled, pull_step}
+use Rattle.job_desk.specs.Pull.{Drawn, draw_in_order, nothing, next_number, keep_number, issue, from_scripts, from_manual, from_poll, poll_is_due, from_file, draw_last, draw_at, is_issued, settle_at, settled, pull_step}
 use Rattle.job_desk.specs.Course.{job_line}
-use Rattle.job_desk.specs.Note.{Noted, after_ending, is_over, end_at, finish, leave, fail, ready_at, after_open, note_fact, note_step}
+use Rattle.job_desk.specs.Note.{Noted, after_ending, is_over, end_at, finish, leave, hung_up, fail, ready_at, after_open, note_fact, note_step}
 use Rattle.job_desk.specs.Endings.{has_print, IsActive}
 use Rattle.job_desk.specs.declared.state.State.{State}
 use Rattle.job_desk.specs.declared.state.State.TheVariants.{Offline, Connecting, Operational, Printing, Pausing, Paused, Cancelling, Finishing, Closing, Fault}
@@ -93,6 +93,10 @@ stays_file (Some text) d = stays_issue (job_line d.greatest d.cursor text) d (re
 stays_talk : (moment : ℕ) (d : Data) (next : Drawn) → Stays d next.1 → Stays d (draw_in_order moment d next).1
 stays_talk moment d next h = stays_scripts d.waiting d _ (stays_manual d.manual d _ (stays_poll moment d next h))
 
+stays_last : (b : Bool) (d : Data) → Stays d (draw_last b d).1
+stays_last false d = stays_scripts d.waiting d (nothing d) (refl, refl)
+stays_last true d = stays_manual d.manual d (nothing d) (refl, refl)
+
 stays_draw : (s : State) (moment : ℕ) (d : Data) → Stays d (draw_at s moment d).1
 stays_draw Operational moment d = stays_talk moment d (nothing d) (refl, refl)
 stays_draw Printing moment d = stays_talk moment d _ (stays_file _ d)
@@ -100,7 +104,7 @@ stays_draw Pausing moment d = stays_talk moment d (nothing d) (refl, refl)
 stays_draw Paused moment d = stays_talk moment d (nothing d) (refl, refl)
 stays_draw Cancelling moment d = stays_talk moment d (nothing d) (refl, refl)
 stays_draw Finishing moment d = stays_talk moment d (nothing d) (refl, refl)
-stays_draw Closing moment d = stays_scripts d.waiting d (nothing d) (refl, refl)
+stays_draw Closing moment d = stays_last d.stopped d
 stays_draw _ moment d = (refl, refl)
 
 goes_settle : (s : State) (d : Data) → d.state ≡ s → Goes d (settle_at s d)
@@ -129,6 +133,10 @@ goes_fail : (d : Data) (noted : Noted) → Goes d (fail noted).1
 goes_fail d (None, t) = stopped d (leave Fault outcome.Failed t).1 refl refl
 goes_fail d (Some ending, t) = stopped d (leave Fault outcome.Failed t).1 refl refl
 
+goes_hung : (b : Bool) (d : Data) → Goes d (hung_up b d).1
+goes_hung false d = stopped d (leave Offline outcome.Cancelled d).1 refl refl
+goes_hung true d = stopped d (leave Fault outcome.Failed d).1 refl refl
+
 goes_ready : (s : State) (moment : ℕ) (d : Data) → d.state ≡ s → Goes d (ready_at s moment d)
 goes_ready Connecting moment d e = record { going = λ g has. absurd (false≢true has); before = λ h. h }
 goes_ready _ moment d e = same d
@@ -140,7 +148,7 @@ goes_fact fact.Ready moment d =
     let heard : Data = record d { ready = true } in
     let is : Data = ready_at heard.state moment heard in
     goes_then d is _ (goes_then d heard is (goes_stays d heard (refl, refl)) (goes_ready heard.state moment heard refl)) (goes_end is.state is refl)
-goes_fact fact.Closed moment d = stopped d (leave Offline outcome.Cancelled d).1 refl refl
+goes_fact fact.Closed moment d = goes_hung d.stopped d
 goes_fact fact.NoPort moment d = stopped d (leave Fault outcome.Failed d).1 refl refl
 goes_fact fact.Failed moment d = goes_fail d (after_ending d)
 goes_fact (fact.Ended end) moment d = goes_fail d (after_ending d)
@@ -172,6 +180,10 @@ free_talk acked moment d free =
 has_none : (X : Type 0) (acked : ℕ) (d : Data) (s : State) → d.state ≡ s → has_print s ≡ true → IsFree acked d → X
 has_none X acked d s e has free = absurd (false≢true (sym free.no_print ∙ ap has_print e ∙ has))
 
+free_last : (acked : ℕ) (b : Bool) (d : Data) → IsFree acked d → IsFree acked (draw_last b d).1
+free_last acked false d free = free_scripts acked d.waiting d (nothing d) free.no_script free
+free_last acked true d free = free_manual acked d.manual d (nothing d) free free
+
 free_draw : (acked : ℕ) (s : State) (moment : ℕ) (d : Data) → d.state ≡ s → IsFree acked d → IsFree acked (draw_at s moment d).1
 free_draw acked Operational moment d e free = free_talk acked moment d free
 free_draw acked Printing moment d e free = has_none _ acked d Printing e refl free
@@ -179,7 +191,7 @@ free_draw acked Pausing moment d e free = has_none _ acked d Pausing e refl free
 free_draw acked Paused moment d e free = has_none _ acked d Paused e refl free
 free_draw acked Cancelling moment d e free = has_none _ acked d Cancelling e refl free
 free_draw acked Finishing moment d e free = has_none _ acked d Finishing e refl free
-free_draw acked Closing moment d e free = free_scripts acked d.waiting d (nothing d) free.no_script free
+free_draw acked Closing moment d e free = free_last acked d.stopped d free
 free_draw acked _ moment d e free = free
 
 pub free_pull : (acked moment : ℕ) (d : Data) → IsFree acked d → IsFree acked (pull_step moment d).1

@@ -3,7 +3,7 @@ use Rattle.std.proofs.Common.{◌≡◌, inr, ℕ, Bool, true, false, cond, nat_
 use Rattle.std.proofs.lemmas.Bool.{false≢true, and_parts}
 use Rattle.job_desk.specs.Data.{ScriptTexts, Data, Line}
 use Rattle.job_desk.specs.Pull.{settled}
-use Rattle.job_desk.specs.Note.{Noted, after_ending, is_over, end_at, finish, fail, ready_at, after_open, note_fact, note_step}
+use Rattle.job_desk.specs.Note.{Noted, after_ending, is_over, end_at, finish, hung_up, fail, ready_at, after_open, note_fact, note_step}
 use Rattle.job_desk.specs.Course.{job_line}
 use Rattle.job_desk.specs.Run.{print_lines}
 use Rattle.job_desk.specs.declared.state.State.{State}
@@ -87,7 +87,7 @@ module _ (p : ℕ) (commands : List (List ℕ)) (scripts : ScriptTexts) where
 
   leaves : (f : LinkFact) (out : List Line) (s : State) (how : Outcome) (b : Bool) (d : Data) → IsIdle s → d.active ≡ b → d.scripts ≡ scripts →
       CurrentTo p commands out d → Story scripts p (commands ∷ []) out (fate_of f how ∷ [])
-      → NotedAs f out (cond b (Some (record { print = d.greatest; outcome = how })) None) (record d { state = s; active = false; waiting = []; manual = [] })
+      → NotedAs f out (cond b (Some (record { print = d.greatest; outcome = how })) None) (record d { state = s; active = false; waiting = []; manual = []; stopped = false })
   leaves f out s how true d i e k h story = (h.is, record { none = refl; other = inr (refl, i) }, story)
   leaves f out s how false d i e k h story = absurd (false≢true (sym e ∙ h.active_is))
 
@@ -95,6 +95,10 @@ module _ (p : ℕ) (commands : List (List ℕ)) (scripts : ScriptTexts) where
   current-fail f out (None, d) how h = leaves f out Fault outcome.Failed d.active d tt refl h.0 h.1
       (subst (λ fate. Story scripts p (commands ∷ []) out (fate ∷ [])) (sym how) (broken commands out (begun_of out d h.0 h.1)))
   current-fail f out (Some ending, d) how h = (h.0, record { none = refl; other = inr (refl, tt) }, h.2)
+
+  current-hung : (out : List Line) (b : Bool) (d : Data) → d.scripts ≡ scripts → CurrentTo p commands out d → IsNotedAs fact.Closed out (hung_up b d)
+  current-hung out false d k h = leaves fact.Closed out Offline outcome.Cancelled d.active d tt refl k h (unplugged commands out (begun_of out d k h))
+  current-hung out true d k h = leaves fact.Closed out Fault outcome.Failed d.active d tt refl k h (broken commands out (begun_of out d k h))
 
   current-ready : (out : List Line) (s : State) (moment : ℕ) (d : Data) → d.state ≡ s → d.scripts ≡ scripts → CurrentTo p commands out d →
       ((ready_at s moment d).scripts ≡ scripts) × CurrentTo p commands out (ready_at s moment d)
@@ -110,8 +114,7 @@ module _ (p : ℕ) (commands : List (List ℕ)) (scripts : ScriptTexts) where
       let is : Data = ready_at heard.state moment heard in
       let r = current-ready out heard.state moment heard refl k h in
       current-end fact.Ready out is.state is refl refl r.0 r.1
-  current-fact fact.Closed out moment d k h = leaves fact.Closed out Offline outcome.Cancelled d.active d tt refl k h
-      (unplugged commands out (begun_of out d k h))
+  current-fact fact.Closed out moment d k h = current-hung out d.stopped d k h
   current-fact fact.NoPort out moment d k h = leaves fact.NoPort out Fault outcome.Failed d.active d tt refl k h (broken commands out (begun_of out d k h))
   current-fact fact.Failed out moment d k h = current-fail fact.Failed out (after_ending d) refl (current-end fact.Failed out d.state d refl refl k h)
   current-fact (fact.Ended end) out moment d k h = current-fail (fact.Ended end) out (after_ending d) refl (current-end (fact.Ended end) out d.state d refl refl k h)

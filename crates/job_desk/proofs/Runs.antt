@@ -4,7 +4,7 @@ use Rattle.temp_rules.specs.declared.job.HotLine.{HotLine}
 use Rattle.temp_rules.specs.Hot.{first_hot_of}
 use Rattle.job_desk.specs.Data.{ScriptTexts, Data, File, Line}
 use Rattle.job_desk.specs.Table.{start_at, start_checked, start_file, restart_at, printing}
-use Rattle.job_desk.specs.Pull.{Drawn, draw_in_order, nothing, from_scripts, from_manual, poll_is_due, from_file, draw_at, pull_step}
+use Rattle.job_desk.specs.Pull.{Drawn, draw_in_order, nothing, from_scripts, from_manual, poll_is_due, from_file, draw_last, draw_at, pull_step}
 use Rattle.job_desk.specs.Note.{note_step}
 use Rattle.job_desk.specs.declared.state.State.{State}
 use Rattle.job_desk.specs.declared.state.State.TheVariants.{Operational, Printing, Pausing, Paused, Cancelling, Finishing, Closing}
@@ -84,6 +84,10 @@ module _ (scripts : ScriptTexts) where
   well_file None d = tt
   well_file (Some text) d = refl
 
+  well_last : (b : Bool) (d : Data) → AreScripts d.waiting → IsDrawnWell Closing (draw_last b d).0
+  well_last false d a = well_scripts Closing d.waiting d (nothing d) a tt
+  well_last true d a = well_manual Closing d.manual d (nothing d) tt
+
   well_draw : (s : State) (moment : ℕ) (d : Data) → AreScripts d.waiting → IsDrawnWell s (draw_at s moment d).0
   well_draw Operational moment d a = well_talk Operational moment d (nothing d) a tt
   well_draw Printing moment d a = well_talk Printing moment d _ a (well_file _ d)
@@ -91,7 +95,7 @@ module _ (scripts : ScriptTexts) where
   well_draw Paused moment d a = well_talk Paused moment d (nothing d) a tt
   well_draw Cancelling moment d a = well_talk Cancelling moment d (nothing d) a tt
   well_draw Finishing moment d a = well_talk Finishing moment d (nothing d) a tt
-  well_draw Closing moment d a = well_scripts Closing d.waiting d (nothing d) a tt
+  well_draw Closing moment d a = well_last d.stopped d a
   well_draw _ moment d a = tt
 
   sound_pull : (state : State) (run : Run) (line : Option Line) (e : Data) → Steady run.desk e → IsDrawnWell state line → Sound scripts run →

@@ -1,7 +1,7 @@
 -- What is left to settle after a pull or a note.
 use Rattle.std.proofs.Common.{◌≡◌, ℕ, Bool, true, false, cond, codes, List, [], ◌∷◌, Option, None, Some, refl, ◌∙◌, ap}
 use Rattle.job_desk.specs.Data.{Data, Line, with_script, moment_after}
-use Rattle.job_desk.specs.Pull.{Drawn, draw_in_order, nothing, issue, from_scripts, from_manual, poll_is_due, from_file, draw_at, is_issued, settle_at, settled}
+use Rattle.job_desk.specs.Pull.{Drawn, draw_in_order, nothing, issue, from_scripts, from_manual, poll_is_due, from_file, draw_last, draw_at, is_issued, settle_at, settled}
 use Rattle.job_desk.specs.Note.{note_fact}
 use Rattle.job_desk.specs.Course.{job_line}
 use Rattle.job_desk.specs.declared.state.State.{State}
@@ -55,6 +55,10 @@ idle_talk : (moment : ℕ) (d : Data) (next : Drawn) → Idle d next → Idle d 
 idle_talk moment d next h = idle_scripts d.waiting d _ (idle_manual d.manual d _
     (idle_choice (poll_is_due moment d) (record { text = codes "M105"; tag = Poll }) d (record d { poll_at = moment_after moment d.poll_ms }) next h))
 
+idle_last : (b : Bool) (d : Data) → Idle d (draw_last b d)
+idle_last false d = idle_scripts d.waiting d (nothing d) (λ e. refl)
+idle_last true d = idle_manual d.manual d (nothing d) (λ e. refl)
+
 idle_draw : (s : State) (moment : ℕ) (d : Data) → Idle d (draw_at s moment d)
 idle_draw Operational moment d = idle_talk moment d (nothing d) (λ e. refl)
 idle_draw Printing moment d = idle_talk moment d _ (idle_file _ d)
@@ -62,7 +66,7 @@ idle_draw Pausing moment d = idle_talk moment d (nothing d) (λ e. refl)
 idle_draw Paused moment d = idle_talk moment d (nothing d) (λ e. refl)
 idle_draw Cancelling moment d = idle_talk moment d (nothing d) (λ e. refl)
 idle_draw Finishing moment d = idle_talk moment d (nothing d) (λ e. refl)
-idle_draw Closing moment d = idle_scripts d.waiting d (nothing d) (λ e. refl)
+idle_draw Closing moment d = idle_last d.stopped d
 idle_draw _ moment d = λ e. refl
 
 pub settled_by_steps : IsSettledBySteps

@@ -1,11 +1,12 @@
 -- What each call leaves alone: the scripts and, but for a start, the print; and only script lines wait.
 use Rattle.std.proofs.Common.{◌≡◌, ℕ, Bool, true, false, cond, nat_eq, List, [], ◌∷◌, ◌++◌, Option, None, Some, refl, sym, ◌∙◌, subst}
 use Rattle.std.proofs.Common.{◌+◌, codes}
+use Rattle.std.specs.Prelude.{◌&&◌}
 use Rattle.job_desk.specs.Data.{moment_after, Data, File, Line, tagged, texts_at, script_lines, with_script}
-use Rattle.job_desk.specs.Table.{connect_at, disconnect_at, select_at, drop_file_step, is_named, pause_at, resume_at, toggle_at, cancel_at, manual_at, add_manual}
-use Rattle.job_desk.specs.Pull.{Drawn, draw_in_order, nothing, next_number, keep_number, issue, from_scripts, from_manual, from_poll, poll_is_due, from_file, draw_at, is_issued, settle_at, settled, pull_step}
+use Rattle.job_desk.specs.Table.{connect_at, disconnect_at, select_at, drop_file_step, is_named, pause_at, resume_at, toggle_at, cancel_at, manual_at, add_manual, take_manual, is_stop, stopping}
+use Rattle.job_desk.specs.Pull.{Drawn, draw_in_order, nothing, next_number, keep_number, issue, from_scripts, from_manual, from_poll, poll_is_due, from_file, draw_last, draw_at, is_issued, settle_at, settled, pull_step}
 use Rattle.job_desk.specs.Course.{job_line}
-use Rattle.job_desk.specs.Note.{Noted, after_ending, is_over, end_at, leave, fail, ready_at, after_open, note_fact, note_step}
+use Rattle.job_desk.specs.Note.{Noted, after_ending, is_over, end_at, leave, hung_up, fail, ready_at, after_open, note_fact, note_step}
 use Rattle.job_desk.specs.declared.state.State.{State}
 use Rattle.job_desk.specs.declared.state.State.TheVariants.{Offline, Connecting, Operational, Printing, Pausing, Paused, Cancelling, Finishing, Closing, Fault}
 use Rattle.job_desk.specs.declared.state.Point.{Point}
@@ -123,13 +124,20 @@ steady-cancel _ d = same d
 steady-adds : (lines : List (List ℕ)) (d : Data) → Steady d (add_manual lines d).1
 steady-adds lines d = choose_pair (λ e. Steady d e) _ _ _ (same d) (alike d (record d { manual = d.manual ++ lines }) (refl, refl, refl))
 
+steady-stopping : (lines : List (List ℕ)) (d : Data) → Steady d (stopping lines d)
+steady-stopping lines d = alike d (stopping lines d) (refl, refl, refl)
+
+steady-takes : (lines : List (List ℕ)) (d : Data) → Steady d (take_manual lines d).1
+steady-takes lines d = choose_pair (λ e. Steady d e) (is_stop lines) _ _ (steady-stopping lines d) (steady-adds lines d)
+
 pub steady-manual : (s : State) (lines : List (List ℕ)) (d : Data) → Steady d (manual_at s lines d).1
-steady-manual Operational lines d = steady-adds lines d
-steady-manual Printing lines d = steady-adds lines d
-steady-manual Pausing lines d = steady-adds lines d
-steady-manual Paused lines d = steady-adds lines d
-steady-manual Cancelling lines d = steady-adds lines d
-steady-manual Finishing lines d = steady-adds lines d
+steady-manual Operational lines d = steady-takes lines d
+steady-manual Printing lines d = steady-takes lines d
+steady-manual Pausing lines d = steady-takes lines d
+steady-manual Paused lines d = steady-takes lines d
+steady-manual Cancelling lines d = steady-takes lines d
+steady-manual Finishing lines d = steady-takes lines d
+steady-manual Closing lines d = choose_pair (λ e. Steady d e) (is_stop lines && d.ready) _ _ (steady-stopping lines d) (same d)
 steady-manual _ lines d = same d
 
 steady-keep : (tag : Tag) (number : ℕ) (d : Data) → Steady d (keep_number tag number d)
@@ -170,6 +178,10 @@ steady-file (Some text) d = steady-issue (job_line d.greatest d.cursor text) d (
 steady-talk : (moment : ℕ) (d : Data) (next : Drawn) → Steady d next.1 → Steady d (draw_in_order moment d next).1
 steady-talk moment d next h = steady-scripts d.waiting d _ refl (steady-from_manual d.manual d _ (steady-poll moment d next h))
 
+steady-last : (b : Bool) (d : Data) → Steady d (draw_last b d).1
+steady-last false d = steady-scripts d.waiting d (nothing d) refl (same d)
+steady-last true d = steady-from_manual d.manual d (nothing d) (same d)
+
 steady-draw : (s : State) (moment : ℕ) (d : Data) → Steady d (draw_at s moment d).1
 steady-draw Operational moment d = steady-talk moment d (nothing d) (same d)
 steady-draw Printing moment d = steady-talk moment d _ (steady-file _ d)
@@ -177,7 +189,7 @@ steady-draw Pausing moment d = steady-talk moment d (nothing d) (same d)
 steady-draw Paused moment d = steady-talk moment d (nothing d) (same d)
 steady-draw Cancelling moment d = steady-talk moment d (nothing d) (same d)
 steady-draw Finishing moment d = steady-talk moment d (nothing d) (same d)
-steady-draw Closing moment d = steady-scripts d.waiting d (nothing d) refl (same d)
+steady-draw Closing moment d = steady-last d.stopped d
 steady-draw _ moment d = same d
 
 pub steady-settle : (s : State) (d : Data) → Steady d (settle_at s d)
@@ -200,6 +212,10 @@ steady-end _ d = same d
 steady-leave : (s : State) (how : Outcome) (d : Data) → Steady d (leave s how d).1
 steady-leave s how d = record { scripts = refl; greatest = refl; waiting = λ h. tt }
 
+steady-hung : (b : Bool) (d : Data) → Steady d (hung_up b d).1
+steady-hung false d = steady-leave Offline outcome.Cancelled d
+steady-hung true d = steady-leave Fault outcome.Failed d
+
 steady-fail : (d : Data) (noted : Noted) → Steady d noted.1 → Steady d (fail noted).1
 steady-fail d (None, e) h = and_then d e _ h (steady-leave Fault outcome.Failed e)
 steady-fail d (Some ending, e) h = and_then d e _ h (steady-leave Fault outcome.Failed e)
@@ -215,7 +231,7 @@ steady-fact fact.Ready moment d =
     let heard : Data = record d { ready = true } in
     let is : Data = ready_at heard.state moment heard in
     and_then d is _ (and_then d heard is (alike d heard (refl, refl, refl)) (steady-ready heard.state moment heard)) (steady-end is.state is)
-steady-fact fact.Closed moment d = steady-leave Offline outcome.Cancelled d
+steady-fact fact.Closed moment d = steady-hung d.stopped d
 steady-fact fact.NoPort moment d = steady-leave Fault outcome.Failed d
 steady-fact fact.Failed moment d = steady-fail d (after_ending d) (steady-end d.state d)
 steady-fact (fact.Ended end) moment d = steady-fail d (after_ending d) (steady-end d.state d)

@@ -81,6 +81,8 @@ pub record Data : Type 0 where
   -- whether the end of the connection waits for its script: the hello was acknowledged since the last accepted connect, and no second
   -- disconnect came
   pub ready : Bool
+  -- whether a user's line stops the printer: it alone is issued, and then the link is hung up
+  pub stopped : Bool
 
 -- a desk at which nothing was done yet
 abbrev pub new_desk : ScriptTexts → Limits → ℕ → Data
@@ -102,6 +104,7 @@ new_desk scripts limits poll_ms = record {
   print_line = 0;
   poll_line = 0;
   ready = false;
+  stopped = false;
 }
 
 -- a script's lines join those that wait

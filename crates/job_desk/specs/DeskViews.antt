@@ -38,6 +38,7 @@ desk_data desk = record {
   print_line = desk.lines.of_print;
   poll_line = desk.lines.of_poll;
   ready = desk.ready;
+  stopped = desk.stopped;
 }
 
 -- the most scripts that wait in a state: what a state adds is over before the next one that adds comes, but for a print

@@ -42,12 +42,13 @@ is_failure fact.NoPort = true
 is_failure fact.Failed = true
 is_failure (fact.Ended end) = true
 
--- when a print ends so: as Done and as Cancelled only with all its lines acknowledged, but for the end of the connection
+-- when a print ends so: as Done and as Cancelled only with all its lines acknowledged, but for the end of the connection,
+-- which cancels it unless the printer was stopped
 abbrev pub EndsAs : Outcome → ℕ → LinkFact → Data → Type 0
 EndsAs outcome.Active acked found d = ⊥
 EndsAs outcome.Done acked found d = (d.state ≡ Finishing) × IsAcknowledged acked found d
-EndsAs outcome.Cancelled acked found d = ((d.state ≡ Cancelling) × IsAcknowledged acked found d) ⊎ (found ≡ fact.Closed)
-EndsAs outcome.Failed acked found d = is_failure found ≡ true
+EndsAs outcome.Cancelled acked found d = ((d.state ≡ Cancelling) × IsAcknowledged acked found d) ⊎ ((found ≡ fact.Closed) × (d.stopped ≡ false))
+EndsAs outcome.Failed acked found d = (is_failure found ≡ true) ⊎ ((found ≡ fact.Closed) × (d.stopped ≡ true))
 
 -- a note ends only the active print
 pub record IsEnding (acked : ℕ) (found : LinkFact) (d : Data) (ending : Ending) : Type 0 where

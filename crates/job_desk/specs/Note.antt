@@ -61,7 +61,7 @@ ready_at Fault moment d = d
 abbrev pub leave : State → Outcome → Data → Noted
 leave state how d = (
   if d.active then Some (record { print = d.greatest; outcome = how }) else None,
-  record d { state = state; active = false; waiting = []; manual = [] },
+  record d { state = state; active = false; waiting = []; manual = []; stopped = false },
 )
 
 -- a failure comes after the ends by acknowledgement, so what this very note completes is done
@@ -69,12 +69,17 @@ abbrev pub fail : Noted → Noted
 fail (None, d) = leave Fault outcome.Failed d
 fail (Some ending, d) = (Some ending, (leave Fault outcome.Failed d).1)
 
+-- the link was hung up: a print that it cuts off is cancelled, or failed if the printer was stopped
+abbrev pub hung_up : Bool → Data → Noted
+hung_up false d = leave Offline outcome.Cancelled d
+hung_up true d = leave Fault outcome.Failed d
+
 -- what the fact and the acknowledgements do; after Closed and NoPort no state is left that ends by them
 abbrev pub note_fact : LinkFact → ℕ → Data → Noted
 note_fact fact.Quiet moment d = after_ending d
 note_fact fact.Opened moment d = after_ending (after_open d)
 note_fact fact.Ready moment d = after_ending (ready_at d.state moment (record d { ready = true }))
-note_fact fact.Closed moment d = leave Offline outcome.Cancelled d
+note_fact fact.Closed moment d = hung_up d.stopped d
 note_fact fact.NoPort moment d = leave Fault outcome.Failed d
 note_fact fact.Failed moment d = fail (after_ending d)
 note_fact (fact.Ended end) moment d = fail (after_ending d)

@@ -1,5 +1,5 @@
 -- The next line to issue.
-use Rattle.std.specs.Prelude.{ℕ, ◌+◌, Bool, ◌&&◌, ◌==◌, nat_le, min, codes, List, [], ◌∷◌, length, slice_get, Option, None, Some, if◌then◌else◌}
+use Rattle.std.specs.Prelude.{ℕ, ◌+◌, Bool, true, false, ◌&&◌, ◌==◌, nat_le, min, codes, List, [], ◌∷◌, length, slice_get, Option, None, Some, if◌then◌else◌}
 use Rattle.byte_text.specs.Number.{most_u64}
 use Rattle.job_desk.specs.Data.{Data, Line, commands_of, with_script, moment_after}
 use Rattle.job_desk.specs.declared.state.State.{State}
@@ -63,6 +63,11 @@ from_file (Some text) d = issue (record { text = text; tag = Job d.greatest d.cu
 abbrev pub draw_in_order : ℕ → Data → Drawn → Drawn
 draw_in_order moment d next = from_scripts d.waiting d (from_manual d.manual d (from_poll moment d next))
 
+-- what is issued while a connection is being closed: its script, or the line that stops the printer and nothing else
+abbrev pub draw_last : Bool → Data → Drawn
+draw_last false d = from_scripts d.waiting d (nothing d)
+draw_last true d = from_manual d.manual d (nothing d)
+
 -- the line that a desk draws in each state
 abbrev pub draw_at : State → ℕ → Data → Drawn
 draw_at Offline moment d = nothing d
@@ -73,7 +78,7 @@ draw_at Pausing moment d = draw_in_order moment d (nothing d)
 draw_at Paused moment d = draw_in_order moment d (nothing d)
 draw_at Cancelling moment d = draw_in_order moment d (nothing d)
 draw_at Finishing moment d = draw_in_order moment d (nothing d)
-draw_at Closing moment d = from_scripts d.waiting d (nothing d)
+draw_at Closing moment d = draw_last d.stopped d
 draw_at Fault moment d = nothing d
 
 -- all lines of the print but the script for its end were issued

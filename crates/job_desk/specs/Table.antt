@@ -1,5 +1,5 @@
 -- What each call does in each state: its answer and the desk after it.
-use Rattle.std.specs.Prelude.{ℕ, ◌+◌, Bool, true, false, ◌&&◌, nat_lt, nat_eq, nat_le, not, ◌==◌, ◌||◌, List, [], ◌++◌, length, Option, None, Some, Result, Ok, Err, if◌then◌else◌}
+use Rattle.std.specs.Prelude.{ℕ, ◌+◌, Bool, true, false, codes, ◌&&◌, nat_lt, nat_eq, nat_le, not, ◌==◌, ◌||◌, List, [], ◌∷◌, ◌++◌, length, Option, None, Some, Result, Ok, Err, if◌then◌else◌}
 use Rattle.std.specs.Cmp.Lexicographic.{pointwise}
 use Rattle.temp_rules.specs.declared.job.HotLine.{HotLine}
 use Rattle.temp_rules.specs.Hot.{first_hot_of}
@@ -189,20 +189,57 @@ abbrev pub add_manual : List (List ℕ) → Data → Answer
 add_manual lines d =
     if nat_lt most_manual (length d.manual + length lines) then (Err (refusal.Full (length d.manual)), d) else ok_answer (record d { manual = d.manual ++ lines })
 
+-- Marlin's emergency stop
+abbrev pub stop_text : List ℕ
+stop_text = codes "M112"
+
+-- whether these lines stop the printer: one line, which is that
+abbrev pub is_stop : List (List ℕ) → Bool
+is_stop [] = false
+is_stop (text ∷ []) = pointwise nat_eq text stop_text
+is_stop (text ∷ next ∷ texts) = false
+
+-- the line that stops the printer is all that is still issued, and then the link is hung up
+abbrev pub stopping : List (List ℕ) → Data → Data
+stopping lines d = record d { state = Closing; manual = lines; ready = false; stopped = true }
+
+-- the lines of a user over a ready link
+abbrev pub take_manual : List (List ℕ) → Data → Answer
+take_manual lines d = if is_stop lines then ok_answer (stopping lines d) else add_manual lines d
+
+-- while the link is being closed it must still wait for its script, and only the stop is taken
+abbrev pub last_manual : List (List ℕ) → Data → Answer
+last_manual lines d = if is_stop lines && d.ready then ok_answer (stopping lines d) else wrong_state d
+
 -- a call to issue lines of a user
 abbrev pub manual_at : State → List (List ℕ) → Data → Answer
 manual_at Offline lines d = wrong_state d
 manual_at Connecting lines d = wrong_state d
-manual_at Operational lines d = add_manual lines d
-manual_at Printing lines d = add_manual lines d
-manual_at Pausing lines d = add_manual lines d
-manual_at Paused lines d = add_manual lines d
-manual_at Cancelling lines d = add_manual lines d
-manual_at Finishing lines d = add_manual lines d
-manual_at Closing lines d = wrong_state d
+manual_at Operational lines d = take_manual lines d
+manual_at Printing lines d = take_manual lines d
+manual_at Pausing lines d = take_manual lines d
+manual_at Paused lines d = take_manual lines d
+manual_at Cancelling lines d = take_manual lines d
+manual_at Finishing lines d = take_manual lines d
+manual_at Closing lines d = last_manual lines d
 manual_at Fault lines d = wrong_state d
 
--- whether the connection may be closed now: its last script is over, or it isn't waited for
+-- whether a connection that is being closed may be closed now: its last script is over, or it isn't waited for; or
+-- the line that stops the printer was issued
+abbrev pub is_closable : Bool → Data → Bool
+is_closable false d = ((length d.waiting == 0) && nat_le d.issued d.acked) || not d.ready
+is_closable true d = length d.manual == 0
+
+-- whether the line that stops the printer is to be issued next
+abbrev pub is_stopping_at : State → Data → Bool
+is_stopping_at Closing d = d.stopped && (length d.manual == 1)
+is_stopping_at _ d = false
+
+-- the same in the desk's own state
+abbrev pub is_stopping : Data → Bool
+is_stopping d = is_stopping_at d.state d
+
+-- whether the connection may be closed now
 abbrev pub is_closable_at : State → Data → Bool
 is_closable_at Offline d = false
 is_closable_at Connecting d = false
@@ -212,7 +249,7 @@ is_closable_at Pausing d = false
 is_closable_at Paused d = false
 is_closable_at Cancelling d = false
 is_closable_at Finishing d = false
-is_closable_at Closing d = ((length d.waiting == 0) && nat_le d.issued d.acked) || not d.ready
+is_closable_at Closing d = is_closable d.stopped d
 is_closable_at Fault d = false
 
 -- the print that is going on

@@ -3,7 +3,7 @@ ghost use Rattle.std.specs.Prelude.{◌≡◌, ◌≤◌, ◌*◌, IfOk};
 ghost use Rattle.std.specs.Option.{option_map, option_copied};
 ghost use Rattle.job_desk.specs.Data.{new_desk};
 ghost use Rattle.job_desk.specs.Endings.{IsActive};
-ghost use Rattle.job_desk.specs.Table.{active_print, is_closable_at};
+ghost use Rattle.job_desk.specs.Table.{active_print, is_closable_at, is_stopping};
 ghost use Rattle.job_desk.specs.Scripts.{most_script_lines, own_lines};
 
 mod allowed;
@@ -77,6 +77,8 @@ pub struct Desk {
     // Whether the end of the connection waits for its script: the hello was acknowledged since the last accepted connect, and no
     // second disconnect came.
     ready: bool,
+    // Whether a user's line stops the printer: it alone is issued, and then the link is hung up.
+    stopped: bool,
 }
 
 impl Model for Desk {
@@ -124,6 +126,7 @@ impl Desk {
                 of_poll: 0,
             },
             ready: false,
+            stopped: false,
         })
     }
 
@@ -199,12 +202,21 @@ impl Desk {
         self.prints.cursor
     }
 
-    /// Whether the connection may be closed now. The desk is closing, and one of these holds: its last script is over and
-    /// acknowledged, no hello was acknowledged since the last accepted connect, or a second disconnect came.
+    /// Whether the line that stops the printer is to be issued next, alone.
+    pub fn stops(&self) -> bool
+        ensures { result ≡ is_stopping self.now }
+    {
+        self.state == State::Closing && self.stopped && self.manual.len() == 1
+    }
+
+    /// Whether the connection may be closed now. The desk is closing, and one of these holds: the line that stops the printer was
+    /// issued; or none is to be, and its last script is over and acknowledged, no hello was acknowledged since the last accepted
+    /// connect, or a second disconnect came.
     pub fn closable(&self) -> bool
         ensures { result ≡ is_closable_at self.now.state self.now }
     {
         match self.state {
+            State::Closing if self.stopped => self.manual.is_empty(),
             State::Closing => {
                 self.waiting.is_empty() && self.lines.issued <= u64::from(self.lines.acked)
                     || !self.ready

@@ -5,7 +5,7 @@ use Rattle.gcode_lines.specs.declared.fault.FileFault.TheVariants as file
 use Rattle.gcode_measure.specs.declared.fault.MeasureFault.{MeasureFault}
 use Rattle.gcode_measure.specs.declared.fault.MeasureFault.TheVariants.{Inches, TooFar}
 use Rattle.send_window.specs.declared.session_end.SessionEnd.{SessionEnd}
-use Rattle.send_window.specs.declared.session_end.SessionEnd.TheVariants.{NoAnswer, AskedBack, AskedAhead, Counts, Restarted, NumbersUsed}
+use Rattle.send_window.specs.declared.session_end.SessionEnd.TheVariants.{NoAnswer, AskedBack, AskedAhead, Counts, Restarted, LostOk, NumbersUsed}
 use Rattle.octo_settings.specs.Scripts.{script_key}
 use Rattle.octo_settings.specs.declared.fault.SettingsFault.{SettingsFault}
 use Rattle.octo_settings.specs.declared.fault.SettingsFault.TheVariants as settings
@@ -67,4 +67,5 @@ end_text (AskedAhead asked issued) =
 end_text (Counts number expected) =
     end_line (codes "ok for " ++ decimal number ++ codes ", " ++ decimal expected ++ codes " expected")
 end_text Restarted = end_line (codes "printer restarted")
+end_text (LostOk limits) = end_line (codes "an ok is missing, " ++ decimal limits ++ codes " limits")
 end_text (NumbersUsed issued) = end_line (decimal issued ++ codes " lines")

@@ -175,6 +175,9 @@ pub(crate) fn put_end(page: &mut Page, end: SessionEnd)
             put_numbers(page, b"ok for ", number, b", ", expected, b" expected")
         }
         SessionEnd::Restarted => append(page, b"session ended: printer restarted\n"),
+        SessionEnd::LostOk { limits } => {
+            put_number(page, b"an ok is missing, ", u32::from(limits), b" limits")
+        }
         SessionEnd::NumbersUsed { issued } => put_number(page, b"", issued, b" lines"),
     }
 }

@@ -55,8 +55,9 @@ connects_not : (up : Bool) (s : State) → s ≡ Closing → (not up && is_conne
 connects_not up s at = subst (λ (t : State). (not up && is_connecting t) ≡ false) (sym at) (and_false (not up))
 
 -- after a second disconnect the next turn hangs up
-pub hangs_up_at_once : (x : SessionData) → x.desk.state ≡ Closing → doing (record x { desk = disconnect_at x.desk.state x.desk }) ≡ HangingUp
-hangs_up_at_once x at =
+pub hangs_up_at_once : (x : SessionData) → x.desk.state ≡ Closing → x.desk.stopped ≡ false
+    → doing (record x { desk = disconnect_at x.desk.state x.desk }) ≡ HangingUp
+hangs_up_at_once x at goes =
     let d : Data = disconnect_at x.desk.state x.desk in
     chosen_closable (not x.up && is_connecting d.state) (is_closable_at d.state d) x.up (connects_not x.up d.state (still_closing x.desk at))
-    (closes_at_once x.desk at)
+    (closes_at_once x.desk at goes)

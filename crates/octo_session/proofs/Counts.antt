@@ -1,11 +1,11 @@
 -- How each call of the desk counts issued and acknowledged lines.
 use Rattle.std.proofs.Common.{◌≡◌, ℕ, ◌+◌, Bool, true, false, nat_eq, codes, List, [], ◌∷◌, Option, None, Some, refl, ap, ◌∙◌}
-use Rattle.std.specs.Prelude.{Result, Ok, Err, nat_lt, length, ◌++◌}
+use Rattle.std.specs.Prelude.{◌&&◌, Result, Ok, Err, nat_lt, length, ◌++◌}
 use Rattle.job_desk.specs.Data.{moment_after, Data, File, Line, with_script}
-use Rattle.job_desk.specs.Table.{connect_at, disconnect_at, select_at, drop_file_step, is_named, start_at, start_file, start_checked, restart_at, pause_at, resume_at, toggle_at, cancel_at, manual_at, add_manual}
-use Rattle.job_desk.specs.Pull.{Drawn, draw_in_order, nothing, next_number, keep_number, issue, from_scripts, from_manual, from_poll, poll_is_due, from_file, draw_at, is_issued, settle_at, settled, pull_step}
+use Rattle.job_desk.specs.Table.{connect_at, disconnect_at, select_at, drop_file_step, is_named, start_at, start_file, start_checked, restart_at, pause_at, resume_at, toggle_at, cancel_at, manual_at, add_manual, take_manual, is_stop, stopping, wrong_state}
+use Rattle.job_desk.specs.Pull.{Drawn, draw_in_order, nothing, next_number, keep_number, issue, from_scripts, from_manual, from_poll, poll_is_due, from_file, draw_last, draw_at, is_issued, settle_at, settled, pull_step}
 use Rattle.job_desk.specs.Course.{job_line}
-use Rattle.job_desk.specs.Note.{Noted, after_ending, is_over, end_at, fail, ready_at, after_open, note_fact, note_step}
+use Rattle.job_desk.specs.Note.{Noted, after_ending, is_over, end_at, hung_up, fail, ready_at, after_open, note_fact, note_step}
 use Rattle.job_desk.specs.declared.state.State.{State}
 use Rattle.job_desk.specs.declared.state.Refusal.{Refusal}
 use Rattle.job_desk.specs.declared.state.Refusal.TheVariants as refusal
@@ -93,13 +93,24 @@ counts_adds lines d =
     choose_pair {X = Result (Unit {0}) Refusal} (λ e. Counts d e) (nat_lt 256 (length d.manual + length lines)) (Err (refusal.Full (length d.manual)), d)
     (Ok tt, record d { manual = d.manual ++ lines }) (same d) (record { issued = refl; acked = refl })
 
+counts_stopping : (lines : List (List ℕ)) (d : Data) → Counts d (stopping lines d)
+counts_stopping lines d = record { issued = refl; acked = refl }
+
+counts_takes : (lines : List (List ℕ)) (d : Data) → Counts d (take_manual lines d).1
+counts_takes lines d =
+    choose_pair {X = Result (Unit {0}) Refusal} (λ e. Counts d e) (is_stop lines) (Ok tt, stopping lines d) (add_manual lines d) (counts_stopping lines d)
+    (counts_adds lines d)
+
 pub counts_manual : (s : State) (lines : List (List ℕ)) (d : Data) → Counts d (manual_at s lines d).1
-counts_manual Operational lines d = counts_adds lines d
-counts_manual Printing lines d = counts_adds lines d
-counts_manual Pausing lines d = counts_adds lines d
-counts_manual Paused lines d = counts_adds lines d
-counts_manual Cancelling lines d = counts_adds lines d
-counts_manual Finishing lines d = counts_adds lines d
+counts_manual Operational lines d = counts_takes lines d
+counts_manual Printing lines d = counts_takes lines d
+counts_manual Pausing lines d = counts_takes lines d
+counts_manual Paused lines d = counts_takes lines d
+counts_manual Cancelling lines d = counts_takes lines d
+counts_manual Finishing lines d = counts_takes lines d
+counts_manual Closing lines d =
+    choose_pair {X = Result (Unit {0}) Refusal} (λ e. Counts d e) (is_stop lines && d.ready) (Ok tt, stopping lines d) (wrong_state d)
+    (counts_stopping lines d) (same d)
 counts_manual _ lines d = same d
 
 counts_settle : (s : State) (d : Data) → Counts d (settle_at s d)
@@ -118,6 +129,10 @@ counts_fail : (d : Data) (noted : Noted) → Counts d noted.1 → Counts d (fail
 counts_fail d (None, e) h = and_then d e _ h (record { issued = refl; acked = refl })
 counts_fail d (Some ending, e) h = and_then d e _ h (record { issued = refl; acked = refl })
 
+counts_hung : (b : Bool) (d : Data) → Counts d (hung_up b d).1
+counts_hung false d = record { issued = refl; acked = refl }
+counts_hung true d = record { issued = refl; acked = refl }
+
 counts_ready : (s : State) (moment : ℕ) (d : Data) → Counts d (ready_at s moment d)
 counts_ready Connecting moment d = record { issued = refl; acked = refl }
 counts_ready _ moment d = same d
@@ -134,7 +149,7 @@ counts_fact fact.Ready moment d e =
     let heard : Data = record d { ready = true } in
     let is : Data = ready_at heard.state moment heard in
     and_then d is _ (and_then d heard is (record { issued = refl; acked = refl }) (counts_ready heard.state moment heard)) (counts_end is.state is)
-counts_fact fact.Closed moment d e = record { issued = refl; acked = refl }
+counts_fact fact.Closed moment d e = counts_hung d.stopped d
 counts_fact fact.NoPort moment d e = record { issued = refl; acked = refl }
 counts_fact fact.Failed moment d e = counts_fail d (after_ending d) (counts_end d.state d)
 counts_fact (fact.Ended end) moment d e = counts_fail d (after_ending d) (counts_end d.state d)
@@ -208,6 +223,10 @@ counted_file (Some text) d = counted_issue (job_line d.greatest d.cursor text) d
 counted_talk : (moment : ℕ) (d : Data) (next : Drawn) → Counted d next → Counted d (draw_in_order moment d next)
 counted_talk moment d next h = counted_scripts d.waiting d _ (counted_from_manual d.manual d _ (counted_poll moment d next h))
 
+counted_last : (b : Bool) (d : Data) → Counted d (draw_last b d)
+counted_last false d = counted_scripts d.waiting d (nothing d) (counted_none d)
+counted_last true d = counted_from_manual d.manual d (nothing d) (counted_none d)
+
 counted_draw : (s : State) (moment : ℕ) (d : Data) → Counted d (draw_at s moment d)
 counted_draw Operational moment d = counted_talk moment d (nothing d) (counted_none d)
 counted_draw Printing moment d = counted_talk moment d _ (counted_file _ d)
@@ -215,7 +234,7 @@ counted_draw Pausing moment d = counted_talk moment d (nothing d) (counted_none 
 counted_draw Paused moment d = counted_talk moment d (nothing d) (counted_none d)
 counted_draw Cancelling moment d = counted_talk moment d (nothing d) (counted_none d)
 counted_draw Finishing moment d = counted_talk moment d (nothing d) (counted_none d)
-counted_draw Closing moment d = counted_scripts d.waiting d (nothing d) (counted_none d)
+counted_draw Closing moment d = counted_last d.stopped d
 counted_draw _ moment d = counted_none d
 
 pub counted_pull : (moment : ℕ) (d : Data) → Counted d (pull_step moment d)

@@ -1,5 +1,5 @@
 -- How a print ends in a turn.
-use Rattle.std.proofs.Common.{◌≡◌, inl, inr, ℕ, ◌≤◌, true, List, [], ◌∷◌, Option, None, Some, refl, sym, ◌∙◌, ap, subst}
+use Rattle.std.proofs.Common.{◌≡◌, inl, inr, ℕ, ◌≤◌, Bool, true, List, [], ◌∷◌, Option, None, Some, refl, sym, ◌∙◌, ap, subst}
 use Rattle.std.specs.Prelude.{IfSome}
 use Rattle.std.specs.Option.{option_or}
 use Rattle.std.proofs.lemmas.Bool.{false≢true}
@@ -61,12 +61,13 @@ run_out acked d is free =
 module _ (moment acked : ℕ) (found : LinkFact) (old : Data) where
   -- an ending of the first note, whose desk goes on to the turn's
   ends_so : (how : Outcome) (mid new : Data) → new.acked ≡ acked → (IsFree acked mid → IsFree acked new) →
-      EndsAs how acked (first_fact found) old → LeavesFree how acked (first_fact found) mid → EndsSo how found new
+      EndsAs how acked (first_fact found) old → LeavesFree how acked (first_fact found) old.stopped mid → EndsSo how found old.stopped new
   ends_so outcome.Active mid new is goes by leaves = by
   ends_so outcome.Done mid new is goes by leaves = run_out acked new is (goes leaves)
   ends_so outcome.Cancelled mid new is goes by (inl free) = inl (run_out acked new is (goes free))
-  ends_so outcome.Cancelled mid new is goes by (inr closes) = inr (closes_so found closes)
-  ends_so outcome.Failed mid new is goes by leaves = fails_so found by
+  ends_so outcome.Cancelled mid new is goes by (inr closes) = inr (closes_so found closes.0, closes.1)
+  ends_so outcome.Failed mid new is goes (inl fails) leaves = inl (fails_so found fails)
+  ends_so outcome.Failed mid new is goes (inr closes) leaves = inr (closes_so found closes.0, closes.1)
 
   first_ends : (gave : Option Ending) (mid new : Data) → new.acked ≡ acked → (IsFree acked mid → IsFree acked new) → Goes mid new →
       EndsIn acked (first_fact found) old gave mid → IfSome gave (λ ending. IsTurnEnding found old new ending)
@@ -79,13 +80,13 @@ module _ (moment acked : ℕ) (found : LinkFact) (old : Data) where
   }
 
 -- an ending of the last note, which says that the link failed
-fails_last : (acked : ℕ) (how : Outcome) (pulled new : Data) → new.acked ≡ acked → EndsAs how acked fact.Failed pulled → LeavesFree how acked fact.Failed new →
-    EndsSo how fact.Failed new
-fails_last acked outcome.Active pulled new is by leaves = by
-fails_last acked outcome.Done pulled new is by leaves = run_out acked new is leaves
-fails_last acked outcome.Cancelled pulled new is by (inl free) = inl (run_out acked new is free)
-fails_last acked outcome.Cancelled pulled new is by (inr closes) = absurd (cc closes)
-fails_last acked outcome.Failed pulled new is by leaves = refl
+fails_last : (acked : ℕ) (how : Outcome) (stops : Bool) (pulled new : Data) → new.acked ≡ acked → EndsAs how acked fact.Failed pulled →
+    LeavesFree how acked fact.Failed pulled.stopped new → EndsSo how fact.Failed stops new
+fails_last acked outcome.Active stops pulled new is by leaves = by
+fails_last acked outcome.Done stops pulled new is by leaves = run_out acked new is leaves
+fails_last acked outcome.Cancelled stops pulled new is by (inl free) = inl (run_out acked new is free)
+fails_last acked outcome.Cancelled stops pulled new is by (inr closes) = absurd (cc (closes.0))
+fails_last acked outcome.Failed stops pulled new is by leaves = inl refl
 
 last_ends : (acked : ℕ) (old pulled : Data) (gave : Option Ending) (new : Data) → new.acked ≡ acked → (pulled.active ≡ true → old.active ≡ true) →
     pulled.greatest ≡ old.greatest → EndsIn acked fact.Failed pulled gave new → IfSome gave (λ ending. IsTurnEnding fact.Failed old new ending)
@@ -93,7 +94,7 @@ last_ends acked old pulled None new is before greatest ends = tt
 last_ends acked old pulled (Some ending) new is before greatest ends = record {
   active = before ends.0.active;
   print = ends.0.print ∙ greatest;
-  by = fails_last acked ending.outcome pulled new is ends.0.by ends.1;
+  by = fails_last acked ending.outcome old.stopped pulled new is ends.0.by ends.1;
   rests = ends.2;
 }
 

@@ -6,9 +6,10 @@ use Rattle.marlin_reply.specs.declared.reply.Reply.{Reply}
 use Rattle.marlin_reply.specs.declared.reply.Reply.TheVariants as reply
 use Rattle.send_window.specs.Data.{SenderData, IsSound}
 use Rattle.send_window.specs.Hearing.{hear_step, tick_step}
-use Rattle.send_window.specs.Sending.{next_of, room_of, frame_step, push_step}
+use Rattle.send_window.specs.Sending.{next_of, room_of, last_room_of, frame_step, push_step}
 use Rattle.job_desk.specs.Data.{Data}
 use Rattle.job_desk.specs.Pull.{pull_step}
+use Rattle.job_desk.specs.Table.{is_stopping}
 use Rattle.octo_session.specs.Turn.{IsSpent}
 use Rattle.octo_session.specs.Steps.{after_steps, issuing, sends}
 
@@ -39,20 +40,26 @@ issued_frame moment s = grind (arith, common_steps)
 pub room_frame : (moment : ℕ) (s : SenderData) → room_of (frame_step moment s) ≡ room_of s
 room_frame moment s = grind (arith, common_steps)
 
+pub last_frame : (moment : ℕ) (s : SenderData) → last_room_of (frame_step moment s) ≡ last_room_of s
+last_frame moment s = grind (arith, common_steps)
+
 -- what sending leaves as it is
 pub record Unmoved (s t : SenderData) : Type 0 where
   pub keeps : Keeps s t
   pub issued : t.issued ≡ s.issued
   pub room : room_of t ≡ room_of s
+  pub last : last_room_of t ≡ last_room_of s
 
 unmoved_frame : (moment : ℕ) (s : SenderData) → Unmoved s (frame_step moment s)
-unmoved_frame moment s = record { keeps = keeps_frame moment s; issued = issued_frame moment s; room = room_frame moment s }
+unmoved_frame moment s =
+    record { keeps = keeps_frame moment s; issued = issued_frame moment s; room = room_frame moment s; last = last_frame moment s }
 
 unmoved_then : (s t u : SenderData) → Unmoved s t → Unmoved t u → Unmoved s u
-unmoved_then s t u a b = record { keeps = keeps_then s t u a.keeps b.keeps; issued = b.issued ∙ a.issued; room = b.room ∙ a.room }
+unmoved_then s t u a b =
+    record { keeps = keeps_then s t u a.keeps b.keeps; issued = b.issued ∙ a.issued; room = b.room ∙ a.room; last = b.last ∙ a.last }
 
 pub unmoved_sends : (moment : ℕ) (all : Bool) (count : ℕ) (s : SenderData) → Unmoved s (after_steps moment (sends all count) s)
-unmoved_sends moment true zero s = record { keeps = keeps_same s; issued = refl; room = refl }
+unmoved_sends moment true zero s = record { keeps = keeps_same s; issued = refl; room = refl; last = refl }
 unmoved_sends moment false zero s = unmoved_frame moment s
 unmoved_sends moment true (suc count) s =
     unmoved_then s (frame_step moment s) _ (unmoved_frame moment s) (unmoved_sends moment true count (frame_step moment s))
@@ -65,6 +72,7 @@ pub record Said (s p q : SenderData) : Type 0 where
   pub acked : p.acked ≡ s.acked
   pub issued : q.issued ≡ p.issued
   pub room : room_of q ≡ room_of p
+  pub last : last_room_of q ≡ last_room_of p
 
 pub said : (moment : ℕ) (texts : List (List ℕ)) (all : Bool) (count : ℕ) (s p q : SenderData) → p ≡ after_steps moment (issuing texts) s →
     q ≡ after_steps moment (sends all count) p → Said s p q
@@ -73,11 +81,15 @@ said moment texts all count s p q first second =
     let U : SenderData → Type 0 = λ t. Unmoved p t in
     let issued_lines : Keeps s p = subst K (sym first) (keeps_issuing moment texts s) in
     let sent : Unmoved p q = subst U (sym second) (unmoved_sends moment all count p) in
-    record { keeps = keeps_then s p q issued_lines sent.keeps; acked = issued_lines.acked; issued = sent.issued; room = sent.room }
+    record { keeps = keeps_then s p q issued_lines sent.keeps; acked = issued_lines.acked; issued = sent.issued; room = sent.room; last = sent.last }
 
 -- a line takes one place
 pub room_push : (text : List ℕ) (s : SenderData) → IsSound s → 0 < room_of s → room_of (push_step text s) + 1 ≡ room_of s
 room_push text s sound room = grind (arith, common_steps)
+
+-- a line may be issued if the window has room
+pub room_last : (s : SenderData) → room_of s ≤ last_room_of s
+room_last s = grind (arith, common_steps)
 
 pub room_small : (s : SenderData) → IsSound s → room_of s ≤ 16
 room_small s sound = grind (arith, common_steps)
@@ -143,11 +155,12 @@ pub ticked_keeps : (moment : ℕ) (s : SenderData) → Ticked s (tick_step momen
 ticked_keeps moment s = grind (arith, common_steps)
 
 -- what is spent before the frames are sent is spent after it
-pub spent_after : (moment : ℕ) (d : Data) (p q : SenderData) → room_of q ≡ room_of p → (room_of p ≡ 0) ⊎ ((pull_step moment d).0 ≡ None) → next_of q ≡ None →
-    IsSpent moment d q
-spent_after moment d p q room spent sent =
+pub spent_after : (moment : ℕ) (before d : Data) (p q : SenderData) → room_of q ≡ room_of p → last_room_of q ≡ last_room_of p →
+    (room_of p ≡ 0) ⊎ ((pull_step moment d).0 ≡ None) → (is_stopping before ≡ true → (last_room_of p ≡ 0) ⊎ ((pull_step moment d).0 ≡ None)) →
+    next_of q ≡ None → IsSpent moment before d q
+spent_after moment before d p q room last spent stopped sent =
     let P : ℕ → Type 0 = λ n. (n ≡ 0) ⊎ ((pull_step moment d).0 ≡ None) in
-    record { issued = subst P (sym room) spent; sent = sent }
+    record { issued = subst P (sym room) spent; stopped = λ stops. subst P (sym last) (stopped stops); sent = sent }
 
 -- with the hello's `ok` nothing is unsent
 pub ready_unsent : (s : SenderData) → IsSound s → s.ready ≡ true → s.issued ≡ 0 → next_of s ≡ None

@@ -5,3 +5,4 @@ pub mod Endings
 pub mod Keeping
 pub mod Noting
 pub mod Stepping
+pub mod Stopping

@@ -3,11 +3,11 @@ use Rattle.std.specs.Prelude.{◌≡◌, ◌⊎◌, ◌≤◌, true, List, Optio
 use Rattle.std.specs.List.{list_any}
 use Rattle.marlin_reply.specs.declared.reply.Reply.TheVariants as reply
 use Rattle.send_window.specs.declared.session_end.SessionEnd.{SessionEnd}
-use Rattle.send_window.specs.declared.session_end.SessionEnd.TheVariants.{NoAnswer, AskedBack, AskedAhead, Counts, Restarted, NumbersUsed}
+use Rattle.send_window.specs.declared.session_end.SessionEnd.TheVariants.{NoAnswer, AskedBack, AskedAhead, Counts, Restarted, LostOk, NumbersUsed}
 use Rattle.printer_model.specs.World.{WorldData, is_restart, apply}
 use Rattle.printer_model.specs.Exchanged.{sends_since, replies_from}
 use Rattle.printer_model.specs.declared.event.WorldEvent.{WorldEvent}
-use Rattle.send_window.specs.Counting.{own_oks}
+use Rattle.send_window.specs.Counting.{own_oks, is_resend}
 use Rattle.printer_model.specs.Executed.{opens}
 use Rattle.printer_model.specs.declared.event.WorldEvent.TheVariants.{Opened}
 use Rattle.printer_link.specs.Link.{LinkKind, world_in}
@@ -16,7 +16,8 @@ use Rattle.printer_link.specs.Link.{LinkKind, world_in}
 abbrev pub IsSilentSince : WorldData → List WorldEvent → Type 0
 IsSilentSince made rest = (own_oks reply.Start (replies_from made rest) ≡ 0) ⊎ (4 ≤ sends_since 0 rest)
 
--- why a session may end: for no answer only if the printer is silent, as restarted only if the printer restarted
+-- why a session may end: for no answer only if the printer is silent, as restarted only if the printer restarted,
+-- for a missing `ok` only if the printer sent a Resend
 abbrev pub IsCaused : Option SessionEnd → WorldData → List WorldEvent → Type 0
 IsCaused None made rest = Unit {0}
 IsCaused (Some (NoAnswer count)) made rest = IsSilentSince made rest
@@ -24,6 +25,7 @@ IsCaused (Some (AskedBack number acknowledged)) made rest = ⊥
 IsCaused (Some (AskedAhead number all)) made rest = ⊥
 IsCaused (Some (Counts number expected)) made rest = ⊥
 IsCaused (Some Restarted) made rest = list_any is_restart rest ≡ true
+IsCaused (Some (LostOk limits)) made rest = list_any is_resend (replies_from made rest) ≡ true
 IsCaused (Some (NumbersUsed all)) made rest = Unit {0}
 
 -- an end of the last session has its cause in the history

@@ -1,5 +1,5 @@
 -- What a turn makes of the desk.
-use Rattle.std.specs.Prelude.{◌≡◌, ◌⊎◌, ℕ, ◌≤◌, true, false, List, [], ◌∷◌, Option, None, Some}
+use Rattle.std.specs.Prelude.{◌≡◌, ◌⊎◌, ℕ, ◌≤◌, Bool, true, false, List, [], ◌∷◌, Option, None, Some}
 use Rattle.std.specs.Option.{option_or}
 use Rattle.job_desk.specs.Data.{Data, Line}
 use Rattle.job_desk.specs.Pull.{pull_step}
@@ -52,16 +52,16 @@ pub record IsRunOut (d : Data) : Type 0 where
   pub no_script : d.waiting ≡ []
   pub last_line : d.print_line ≤ d.acked
 
--- when a print ends so in a turn that found this and left this desk
-abbrev pub EndsSo : Outcome → LinkFact → Data → Type 0
-EndsSo outcome.Active found new = ⊥
-EndsSo outcome.Done found new = IsRunOut new
-EndsSo outcome.Cancelled found new = IsRunOut new ⊎ (found ≡ fact.Closed)
-EndsSo outcome.Failed found new = is_failure found ≡ true
+-- when a print ends so in a turn that found this and left this desk, by whether the printer was being stopped
+abbrev pub EndsSo : Outcome → LinkFact → Bool → Data → Type 0
+EndsSo outcome.Active found stops new = ⊥
+EndsSo outcome.Done found stops new = IsRunOut new
+EndsSo outcome.Cancelled found stops new = IsRunOut new ⊎ ((found ≡ fact.Closed) × (stops ≡ false))
+EndsSo outcome.Failed found stops new = (is_failure found ≡ true) ⊎ ((found ≡ fact.Closed) × (stops ≡ true))
 
 -- a turn ends only the print that was active before it, and then leaves none active
 pub record IsTurnEnding (found : LinkFact) (old new : Data) (ending : Ending) : Type 0 where
   pub active : old.active ≡ true
   pub print : ending.print ≡ old.greatest
-  pub by : EndsSo ending.outcome found new
+  pub by : EndsSo ending.outcome found old.stopped new
   pub rests : new.active ≡ false

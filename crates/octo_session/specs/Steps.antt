@@ -5,7 +5,7 @@ use Rattle.marlin_reply.specs.Kind.{kind_of}
 use Rattle.job_desk.specs.declared.link_fact.LinkFact.{LinkFact}
 use Rattle.job_desk.specs.declared.link_fact.LinkFact.TheVariants as fact
 use Rattle.send_window.specs.Data.{SenderData, sender_after_dial}
-use Rattle.send_window.specs.Sending.{Outgoing, bytes_of_outgoing, next_of, room_of, frame_step, push_step}
+use Rattle.send_window.specs.Sending.{Outgoing, bytes_of_outgoing, next_of, last_room_of, frame_step, push_step}
 use Rattle.send_window.specs.Hearing.{hear_step, tick_step}
 use Rattle.printer_model.specs.World.{WorldData, world_from}
 use Rattle.printer_link.specs.Link.{LinkKind, Grows, IsDial, IsRuns, IsSend, IsSendOf, IsSendLoss, IsHeard, IsSilence, IsLoss, IsHangUp, counted_one, dial_events, recv_events}
@@ -62,8 +62,8 @@ after_steps moment (step ∷ steps) s = after_steps moment steps (after_step mom
 abbrev pub AreBytes : List ℕ → Type 0
 AreBytes text = All (λ b. b < 2 ^ 8) text
 
--- what holds of the sender before a step: a line is issued only if the window has room and it may be sent, and a frame
--- is taken out only if one waits
+-- what holds of the sender before a step: a line is issued only if the window has room, or would have it with one more line
+-- for the one that stops the printer, and it may be sent; and a frame is taken out only if one waits
 abbrev pub IsAllowed : Step → SenderData → Type 0
 IsAllowed opens s = Unit {0}
 IsAllowed finds_no_port s = Unit {0}
@@ -72,7 +72,7 @@ IsAllowed (hears bytes) s = Unit {0}
 IsAllowed listens s = Unit {0}
 IsAllowed fails_to_receive s = Unit {0}
 IsAllowed ticks s = Unit {0}
-IsAllowed (issues text) s = (0 < room_of s) × IsSendable text × AreBytes text
+IsAllowed (issues text) s = (0 < last_room_of s) × IsSendable text × AreBytes text
 IsAllowed gives s = is_some (next_of s) ≡ true
 IsAllowed fails_to_send s = is_some (next_of s) ≡ true
 IsAllowed (hangs_up was_up) s = Unit {0}

@@ -4,13 +4,14 @@ use Rattle.job_desk.specs.Issued.{line_of}
 use Rattle.job_desk.specs.declared.issued.Note.{Note}
 use Rattle.job_desk.specs.Data.{Data, Line}
 use Rattle.job_desk.specs.Pull.{pull_step}
+use Rattle.job_desk.specs.Table.{is_stopping}
 use Rattle.send_window.specs.declared.session_end.SessionEnd.{SessionEnd}
 use Rattle.job_desk.specs.declared.link_fact.LinkFact.{LinkFact}
 use Rattle.job_desk.specs.declared.link_fact.LinkFact.TheVariants as fact
 use Rattle.print_queue.specs.declared.ending.Ending.{Ending}
 use Rattle.printer_model.specs.declared.event.WorldEvent.{WorldEvent}
 use Rattle.send_window.specs.Data.{SenderData}
-use Rattle.send_window.specs.Sending.{next_of, room_of}
+use Rattle.send_window.specs.Sending.{next_of, room_of, last_room_of}
 use Rattle.octo_session.specs.Data.{SessionData, IsSession, doing, port_of}
 use Rattle.octo_session.specs.DeskTurn.{IsNoted, IsQuietTurn, IsTurnEnding}
 use Rattle.printer_link.specs.Link.{LinkKind}
@@ -45,9 +46,11 @@ abbrev pub lines_drawn : Option Line → List Line
 lines_drawn None = []
 lines_drawn (Some line) = line ∷ []
 
--- nothing is left to issue or send: no room for a line or no line to issue, and no frame unsent
-pub record IsSpent (moment : ℕ) (d : Data) (s : SenderData) : Type 0 where
+-- after a turn that began with this desk nothing is left to issue or send: no room for a line or no line to issue, and no frame
+-- unsent; and the line that stops the printer doesn't wait for room in the window
+pub record IsSpent (moment : ℕ) (before d : Data) (s : SenderData) : Type 0 where
   pub issued : (room_of s ≡ 0) ⊎ ((pull_step moment d).0 ≡ None)
+  pub stopped : is_stopping before ≡ true → (last_room_of s ≡ 0) ⊎ ((pull_step moment d).0 ≡ None)
   pub sent : next_of s ≡ None
 
 -- nothing happened that a note would record
@@ -122,7 +125,7 @@ pub record IsTurnByNote (moment : ℕ) (kind : LinkKind) (old new : SessionData)
   -- in the turn in which the hello is acknowledged nothing is issued; a quiet turn leaves nothing to issue or send
   pub silent : fact_of turned.note ≡ fact.Ready → note_lines turned.note ≡ []
   pub sent : fact_of turned.note ≡ fact.Ready → next_of new.sender ≡ None
-  pub spent : new.up ≡ true → fact_of turned.note ≡ fact.Quiet → IsSpent moment new.desk new.sender
+  pub spent : new.up ≡ true → fact_of turned.note ≡ fact.Quiet → IsSpent moment old.desk new.desk new.sender
   -- the count of acknowledged lines falls only if a link is made, to 0
   pub not_fallen : (fact_of turned.note ≡ fact.Opened) ⊎ (old.sender.acked ≤ new.sender.acked)
   pub within : new.sender.acked ≤ old.sender.issued

@@ -2,12 +2,13 @@
 ghost use Rattle.std.specs.Prelude.{◌≡◌, ◌≢◌, ◌↔◌, ◌⊎◌, ◌<◌, ◌≤◌, ◌+◌, ◌++◌, [], map, length, true, false, None, is_some};
 ghost use Rattle.octo_outside.specs.Recorded.{Counts};
 ghost use Rattle.job_desk.specs.Pull.{pull_step, settled};
+ghost use Rattle.job_desk.specs.Table.{is_stopping};
 ghost use Rattle.job_desk.specs.Issued.{line_of};
 ghost use Rattle.job_desk.specs.declared.link_fact.LinkFact.TheVariants as fact;
 ghost use Rattle.send_window.specs.declared.session_end.SessionEnd.{SessionEnd};
 ghost use Rattle.send_window.specs.Data.{IsSound};
 ghost use Rattle.send_window.specs.Hearing.{tick_step};
-ghost use Rattle.send_window.specs.Sending.{next_of, room_of};
+ghost use Rattle.send_window.specs.Sending.{next_of, room_of, last_room_of};
 ghost use Rattle.octo_session.specs.Data.{IsJoined};
 ghost use Rattle.octo_session.specs.DeskTurn.{IsNoted, Pulls};
 ghost use Rattle.octo_session.specs.Found.{got_of, temps_kept, temps_in, temps_of_reply, is_got, may_have_issued, up_after, can_find, unasked};
@@ -85,7 +86,7 @@ fn pull_one(
     lines: &mut ArrayVec<Issued, 16>,
     moment: u64,
 ) -> bool
-    requires room { 0 < room_of sender.old }
+    requires room { 0 < last_room_of sender.old }
     requires space { length lines.old.items < 16 }
     requires sound { IsSound sender.old }
     ensures answer { result ≡ is_some (pull_step moment desk.old).0 }
@@ -107,8 +108,27 @@ fn pull_one(
     }
 }
 
+// Issues the line that stops the printer, which may be one past the window.
+fn pull_last(desk: &mut Desk, sender: &mut Sender, moment: u64) -> ArrayVec<Issued, 16>
+    requires stops { is_stopping desk.old ≡ true }
+    requires counted { desk.old.issued ≡ sender.old.issued }
+    ensures pulls { Pulls moment (map line_of result.items) desk.old desk.new }
+    ensures steps { Issues moment (texts_in (map line_of result.items)) sender.old sender.new }
+    ensures spent { (last_room_of sender.new ≡ 0) ⊎ ((pull_step moment desk.new).0 ≡ None) }
+    ensures issued { desk.new.issued ≡ sender.new.issued }
+    ensures acked { desk.new.acked ≡ desk.old.acked }
+    ensures sound { IsSound sender.new }
+{
+    let mut lines = ArrayVec::new();
+    if sender.last_room() == 0 {
+        return lines;
+    }
+    pull_one(desk, sender, &mut lines, moment);
+    lines
+}
+
 // Issues lines while the window has room and the desk has a line.
-fn pull_all(desk: &mut Desk, sender: &mut Sender, moment: u64) -> ArrayVec<Issued, 16>
+fn pull_more(desk: &mut Desk, sender: &mut Sender, moment: u64) -> ArrayVec<Issued, 16>
     requires counted { desk.old.issued ≡ sender.old.issued }
     requires settled { settled desk.old ≡ desk.old }
     ensures pulls { Pulls moment (map line_of result.items) desk.old desk.new }
@@ -125,6 +145,25 @@ fn pull_all(desk: &mut Desk, sender: &mut Sender, moment: u64) -> ArrayVec<Issue
         }
     }
     lines
+}
+
+// Issues what may be issued now: the line that stops the printer, or lines while the window has room and the desk has one.
+fn pull_all(desk: &mut Desk, sender: &mut Sender, moment: u64) -> ArrayVec<Issued, 16>
+    requires counted { desk.old.issued ≡ sender.old.issued }
+    requires settled { settled desk.old ≡ desk.old }
+    ensures pulls { Pulls moment (map line_of result.items) desk.old desk.new }
+    ensures steps { Issues moment (texts_in (map line_of result.items)) sender.old sender.new }
+    ensures spent { (room_of sender.new ≡ 0) ⊎ ((pull_step moment desk.new).0 ≡ None) }
+    ensures stopped { is_stopping desk.old ≡ true
+        → (last_room_of sender.new ≡ 0) ⊎ ((pull_step moment desk.new).0 ≡ None) }
+    ensures issued { desk.new.issued ≡ sender.new.issued }
+    ensures acked { desk.new.acked ≡ desk.old.acked }
+    ensures sound { IsSound sender.new }
+{
+    if desk.stops() {
+        return pull_last(desk, sender, moment);
+    }
+    pull_more(desk, sender, moment)
 }
 
 // Sends the next frame, if any.
@@ -199,7 +238,7 @@ fn issue_and_send<L: Link>(
     ensures received { result.received ≡ received }
 
     // The desk and the sender after it.
-    ensures spent { result.fact ≡ fact.Quiet → IsSpent moment desk.new sender.new }
+    ensures spent { result.fact ≡ fact.Quiet → IsSpent moment desk.old desk.new sender.new }
     ensures joined { IsJoined desk.new sender.new (up_after result.fact true) }
     ensures ready { sender.new.ready ≡ sender.old.ready }
 
@@ -265,7 +304,7 @@ fn after_receiving<L: Link>(
     ensures sent { result.fact ≡ fact.Ready → next_of sender.new ≡ None }
 
     // The desk and the sender after it.
-    ensures spent { result.fact ≡ fact.Quiet → IsSpent moment desk.new sender.new }
+    ensures spent { result.fact ≡ fact.Quiet → IsSpent moment desk.old desk.new sender.new }
     ensures joined { IsJoined desk.new sender.new (up_after result.fact true) }
 
     // The steps that it took, and the link after them.
@@ -310,7 +349,7 @@ pub fn receive_then_send<L: Link>(
         desk.old result.ending desk.new }
 
     // The desk and the sender after it.
-    ensures spent { result.fact ≡ fact.Quiet → IsSpent moment desk.new sender.new }
+    ensures spent { result.fact ≡ fact.Quiet → IsSpent moment desk.old desk.new sender.new }
     ensures joined { IsJoined desk.new sender.new (up_after result.fact true) }
 
     // The steps that it took, and the link after them.

@@ -87,8 +87,9 @@ impl Session {
     /// 1. If the desk begins to connect and the link is down, it dials the desk's port.
     /// 2. If the desk may close the connection, it hangs up.
     /// 3. If the link is up, it receives at most one reply line, has the sender hear it and the clock tick, and notes at
-    ///    the desk what is acknowledged. Then it issues lines while the window has room, and sends every frame. In the turn in
-    ///    which the hello is acknowledged it issues nothing.
+    ///    the desk what is acknowledged. Then it issues lines while the window has room, and sends every frame. A line that stops
+    ///    the printer is issued alone, past the window if that is full. In the turn in which the hello is acknowledged it issues
+    ///    nothing.
     ///
     /// If a call of the link fails the desk first takes what was acknowledged, and the failure at the end. It takes no
     /// memory. The moment is in milliseconds.

@@ -9,7 +9,7 @@ use Rattle.marlin_reply.specs.declared.reply.Reply.{Reply}
 use Rattle.job_desk.specs.declared.link_fact.LinkFact.{LinkFact}
 use Rattle.job_desk.specs.declared.link_fact.LinkFact.TheVariants as fact
 use Rattle.send_window.specs.declared.session_end.SessionEnd.{SessionEnd}
-use Rattle.send_window.specs.declared.session_end.SessionEnd.TheVariants.{NoAnswer, AskedBack, AskedAhead, Counts, Restarted, NumbersUsed}
+use Rattle.send_window.specs.declared.session_end.SessionEnd.TheVariants.{NoAnswer, AskedBack, AskedAhead, Counts, Restarted, LostOk, NumbersUsed}
 use Rattle.printer_model.specs.Printer.{Logged}
 use Rattle.printer_model.specs.World.{WorldData, world_from, is_restart}
 use Rattle.printer_model.specs.Exchanged.{sends_since, replies_from}
@@ -70,6 +70,7 @@ heard_caused moment bytes made rest s (Some (AskedBack number acknowledged)) run
 heard_caused moment bytes made rest s (Some (AskedAhead number all)) running is fair known = fair
 heard_caused moment bytes made rest s (Some (Counts number expected)) running is fair known = fair
 heard_caused moment bytes made rest s (Some Restarted) running is fair known = known (ap heard_of (((ends_by_rule Restarted s moment running).0 (kind_of bytes)).0 is).0)
+heard_caused moment bytes made rest s (Some (LostOk limits)) running is fair known = absurd (((ends_by_rule (LostOk limits) s moment running).0 (kind_of bytes)).0 is)
 heard_caused moment bytes made rest s (Some (NumbersUsed all)) running is fair known = tt
 
 -- a `start` that is received comes of a restart before it

@@ -1,7 +1,10 @@
 -- The acknowledged lines are counted over the replies that were received.
 use Rattle.std.proofs.Common.{◌≡◌, ℕ, suc, ◌+◌, ◌≤◌, Bool, true, false, not, ◌&&◌, ◌||◌, List, [], ◌∷◌, ◌++◌, map, refl, sym, ◌∙◌, ap, subst, arith}
 use Rattle.std.specs.Prelude.{Option, None, if◌then◌else◌}
+use Rattle.std.specs.List.{list_any}
+use Rattle.std.proofs.lemmas.Bool.{and_parts, or_left, or_right}
 use Rattle.std.proofs.lemmas.Grind.{common_steps}
+use Rattle.std.proofs.lemmas.List.Folds.{list_any-append}
 use Rattle.marlin_frame.specs.Numbering.{wire_number}
 use Rattle.marlin_reply.specs.Kind.{kind_of}
 use Rattle.marlin_reply.specs.declared.reply.Reply.{Reply}
@@ -16,7 +19,7 @@ use Rattle.octo_session_line_proof.specs.Pieces.{Answer, greeting_ok, command_ok
 use Rattle.octo_session_line_proof.specs.Wires.{Wires, Phase, shut, early, late, IsRead, Numbers, Meets, lines_run}
 use Rattle.octo_session_line_proof.specs.Traces.{oks_of, IsTallied}
 use Rattle.octo_session_line_proof.proofs.Ways.{answers_le, IsFirst, first_of_way}
-use Rattle.octo_session_line_proof.proofs.Hearing.{heard_as, hear_as, ok_by, named_right, run_few}
+use Rattle.octo_session_line_proof.proofs.Hearing.{heard_as, hear_as, is_busy, ok_by, named_right, run_few}
 
 -- whether a reply is an `ok`, or a Resend
 abbrev pub is_ok_as : Heard → Bool
@@ -53,49 +56,50 @@ resend_as reply.Other = refl
 pub record IsCounted (h : Heard) (s t : SenderData) : Type 0 where
   pub swallows : t.swallow ≡ (is_resend_as h || (not (is_ok_as h) && s.swallow))
   pub counts : oks_of t.ready t.acked ≡ oks_of s.ready s.acked + (if is_ok_as h && not s.swallow then 1 else 0)
+  pub asks : t.asked_anew ≡ true → (is_resend_as h || s.asked_anew) ≡ true
 
 ok_counted : (number : Option ℕ) (moment : ℕ) (s : SenderData) (swallow ready : Bool) → s.swallow ≡ swallow → s.ready ≡ ready → IsSound s →
     (s.swallow ≡ false → s.ready ≡ true → named_ok number moment s ≡ acknowledged moment s) →
-    IsCounted (ok_heard number) s (heard_as (ok_heard number) moment s)
+    IsCounted (ok_heard number) s (heard_as false (ok_heard number) moment s)
 ok_counted number moment s true ready e f sound so =
     let C : SenderData → Type 0 = λ t. IsCounted (ok_heard number) s t in
     let more : ℕ = if true && not s.swallow then 1 else 0 in
     let none : more ≡ 0 = ap (λ (b : Bool). if true && not b then 1 else 0) e in
-    subst C (sym (ok_by true ready number moment s e f)) (record { swallows = refl; counts = omega (arith, none) })
+    subst C (sym (ok_by true ready number moment s e f)) (record { swallows = refl; counts = omega (arith, none); asks = λ a. a })
 ok_counted number moment s false false e f sound so =
     let C : SenderData → Type 0 = λ t. IsCounted (ok_heard number) s t in
     let more : ℕ = if true && not s.swallow then 1 else 0 in
     let one : more ≡ 1 = ap (λ (b : Bool). if true && not b then 1 else 0) e in
     let before : oks_of s.ready s.acked ≡ 0 = ap (λ (b : Bool). oks_of b s.acked) f in
     subst C (sym (ok_by false false number moment s e f))
-    (record { swallows = e; counts = omega (arith, one, before, sound.hello_first f, sound.counted) })
+    (record { swallows = e; counts = omega (arith, one, before, sound.hello_first f, sound.counted); asks = λ a. a })
 ok_counted number moment s false true e f sound so =
     let C : SenderData → Type 0 = λ t. IsCounted (ok_heard number) s t in
     let more : ℕ = if true && not s.swallow then 1 else 0 in
     let one : more ≡ 1 = ap (λ (b : Bool). if true && not b then 1 else 0) e in
     let before : oks_of s.ready s.acked ≡ s.acked + 1 = ap (λ (b : Bool). oks_of b s.acked) f in
     let later : oks_of s.ready (s.acked + 1) ≡ s.acked + 1 + 1 = ap (λ (b : Bool). oks_of b (s.acked + 1)) f in
-    subst C (sym (ok_by false true number moment s e f ∙ so e f)) (record { swallows = e; counts = omega (arith, one, before, later) })
+    subst C (sym (ok_by false true number moment s e f ∙ so e f)) (record { swallows = e; counts = omega (arith, one, before, later); asks = λ (a : false ≡ true). absurd (cc) })
 
 resend_counted : (number moment : ℕ) (s : SenderData) (ready : Bool) → s.ready ≡ ready →
-    IsCounted (resend_heard number) s (heard_as (resend_heard number) moment s)
-resend_counted number moment s ready f = record { swallows = grind (arith, common_steps); counts = grind (arith, common_steps) }
+    IsCounted (resend_heard number) s (heard_as false (resend_heard number) moment s)
+resend_counted number moment s ready f = record { swallows = grind (arith, common_steps); counts = grind (arith, common_steps); asks = λ a. refl }
 
-start_counted : (moment : ℕ) (s : SenderData) (ready : Bool) → s.ready ≡ ready → IsCounted start_heard s (heard_as start_heard moment s)
+start_counted : (moment : ℕ) (s : SenderData) (ready : Bool) → s.ready ≡ ready → IsCounted start_heard s (heard_as false start_heard moment s)
 start_counted moment s true f =
     let C : SenderData → Type 0 = λ t. IsCounted start_heard s t in
-    subst C (sym (ap (λ (b : Bool). heard_start b s) f)) (record { swallows = refl; counts = omega arith })
+    subst C (sym (ap (λ (b : Bool). heard_start b s) f)) (record { swallows = refl; counts = omega arith; asks = λ a. a })
 start_counted moment s false f =
     let C : SenderData → Type 0 = λ t. IsCounted start_heard s t in
-    subst C (sym (ap (λ (b : Bool). heard_start b s) f)) (record { swallows = refl; counts = omega arith })
+    subst C (sym (ap (λ (b : Bool). heard_start b s) f)) (record { swallows = refl; counts = omega arith; asks = λ a. a })
 
-counted : (h : Heard) (moment : ℕ) (s : SenderData) → IsSound s →
+counted : (busy : Bool) (h : Heard) (moment : ℕ) (s : SenderData) → IsSound s →
     ((number : Option ℕ) → h ≡ ok_heard number → s.swallow ≡ false → s.ready ≡ true → named_ok number moment s ≡ acknowledged moment s) →
-    IsCounted h s (heard_as h moment s)
-counted (ok_heard number) moment s sound so = ok_counted number moment s s.swallow s.ready refl refl sound (so number refl)
-counted (resend_heard number) moment s sound so = resend_counted number moment s s.ready refl
-counted start_heard moment s sound so = start_counted moment s s.ready refl
-counted talk_heard moment s sound so = record { swallows = refl; counts = omega arith }
+    IsCounted h s (heard_as busy h moment s)
+counted busy (ok_heard number) moment s sound so = ok_counted number moment s s.swallow s.ready refl refl sound (so number refl)
+counted busy (resend_heard number) moment s sound so = resend_counted number moment s s.ready refl
+counted busy start_heard moment s sound so = start_counted moment s s.ready refl
+counted busy talk_heard moment s sound so = record { swallows = refl; counts = omega arith; asks = λ a. (and_parts (not busy) s.asked_anew a).1 }
 
 -- an `ok` of a ready sender that isn't swallowed acknowledges the next line
 awaited : (x : Answer) (way : List Answer) (moment : ℕ) (s : SenderData) (d : Bool) (run : ℕ) → run ≤ s.issued → IsRead s d (x ∷ way) run →
@@ -127,7 +131,7 @@ counted_first start issued moment s w line rest a way on running n first =
     let x = first.answer in
     let N : List Answer → Type 0 = λ l. Numbers issued s w.linked w.printer.last (record a { way = l }) in
     let m : Numbers issued s w.linked w.printer.last (record a { way = x ∷ first.rest }) = subst N first.is n in
-    let so = counted (reply_to x) moment s m.sound (awaited_at issued moment s w.linked w.printer.last a x first.rest on running m m.phase) in
+    let so = counted (is_busy (kind_of line)) (reply_to x) moment s m.sound (awaited_at issued moment s w.linked w.printer.last a x first.rest on running m m.phase) in
     let C : SenderData → Type 0 = λ t. IsCounted (reply_to x) s t in
     let H : Heard → Type 0 = λ h. IsCounted h s (hear_step (kind_of line) moment s) in
     subst H (sym first.heard) (subst C (sym (hear_as line (reply_to x) moment s running first.heard)) so)
@@ -137,6 +141,14 @@ pub hear_counted : (start : List Logged) (issued : List (List ℕ)) (moment : �
 hear_counted start issued moment s w line rest on running front m =
     let first : IsFirst line rest m.wires.way = first_of_way line rest m.wires.way (sym (ap (map heard_in) front) ∙ m.shows.down) in
     counted_first start issued moment s w line rest m.wires m.wires.way on running m.numbers first
+
+-- a Resend is among the replies if the last one is, or if one was before it
+any_asked : (again before : Bool) (replies : List Reply) (r : Reply) → is_resend r ≡ again → (again || before) ≡ true →
+    (before ≡ true → list_any is_resend replies ≡ true) → list_any is_resend (replies ++ r ∷ []) ≡ true
+any_asked true before replies r is so old =
+    list_any-append is_resend replies (r ∷ []) ∙ or_right (list_any is_resend replies) (list_any is_resend (r ∷ [])) (or_left (is_resend r) false is)
+any_asked false before replies r is so old =
+    list_any-append is_resend replies (r ∷ []) ∙ or_left (list_any is_resend replies) (list_any is_resend (r ∷ [])) (old so)
 
 -- one more reply is counted over the replies
 pub tally_heard : (replies : List Reply) (r : Reply) (s t : SenderData) → IsTallied replies s → IsCounted (heard_of r) s t → IsTallied (replies ++ r ∷ []) t
@@ -156,4 +168,5 @@ tally_heard replies r s t old c =
           ∙ ap (λ (b : Bool). is_resend r || (not b && pending)) (sym (ok_as r))
           ∙ sym next.1;
       counted = omega (arith, c.counts, same, old.counted, next.0);
+      asked = λ a. any_asked (is_resend_as h) s.asked_anew replies r (resend_as r) (c.asks a) old.asked;
     }

@@ -11,13 +11,13 @@ use Rattle.marlin_reply.specs.declared.reply.Reply.TheVariants as reply
 use Rattle.job_desk.specs.declared.link_fact.LinkFact.{LinkFact}
 use Rattle.job_desk.specs.declared.link_fact.LinkFact.TheVariants as fact
 use Rattle.send_window.specs.declared.session_end.SessionEnd.{SessionEnd}
-use Rattle.send_window.specs.declared.session_end.SessionEnd.TheVariants.{NoAnswer, AskedBack, AskedAhead, Counts, Restarted, NumbersUsed}
+use Rattle.send_window.specs.declared.session_end.SessionEnd.TheVariants.{NoAnswer, AskedBack, AskedAhead, Counts, Restarted, LostOk, NumbersUsed}
 use Rattle.printer_model.specs.World.{WorldData, is_free, world_from, is_restart}
 use Rattle.printer_model.specs.Exchanged.{sends_since, replies_from}
 use Rattle.printer_model.specs.declared.event.WorldEvent.{WorldEvent}
 use Rattle.printer_model.specs.declared.event.WorldEvent.TheVariants.{Closed}
 use Rattle.printer_model.proofs.Starts.{runs-free, sends_since-append, sends_since-free, received_from-free}
-use Rattle.send_window.specs.Counting.{IsQuiet, own_oks}
+use Rattle.send_window.specs.Counting.{IsQuiet, own_oks, is_resend}
 use Rattle.send_window.specs.Data.{SenderData}
 use Rattle.send_window.specs.Hearing.{tick_step}
 use Rattle.send_window.specs.Sending.{frame_step, push_step}
@@ -26,7 +26,7 @@ use Rattle.send_window.proofs.Silence.{silent_once_ready}
 use Rattle.octo_session.specs.Found.{Got, can_find}
 use Rattle.octo_session.specs.declared.found.Doing.{Doing}
 use Rattle.octo_session.specs.declared.found.Doing.TheVariants.{Dialling, HangingUp, UsingLink, Resting}
-use Rattle.octo_session.specs.Steps.{Step, gives, fails_to_send, hangs_up, after_step, after_steps, AreAdded, issuing, issues_then_sends, clock_steps, turn_steps}
+use Rattle.octo_session.specs.Steps.{gives, fails_to_send, hangs_up, after_steps, AreAdded, issuing, issues_then_sends, clock_steps, turn_steps}
 use Rattle.octo_session_line_proof.specs.Wires.{IsFair}
 use Rattle.octo_session_line_proof.specs.Traces.{oks_of, IsTallied}
 use Rattle.octo_session_line_proof.proofs.Tracing.{replies_from-append}
@@ -39,13 +39,15 @@ pub record IsStill (w : WorldData) (added : List WorldEvent) : Type 0 where
   pub unsent : (since : ℕ) → sends_since since added ≡ since
   pub unheard : replies_from w added ≡ []
 
+-- the replies stay as they are
+still_replies : (made : WorldData) (rest added : List WorldEvent) → IsStill (world_from made rest) added → replies_from made (rest ++ added) ≡ replies_from made rest
+still_replies made rest added still =
+    replies_from-append made rest added ∙ ap (λ (l : List Reply). replies_from made rest ++ l) still.unheard ∙ append-nil (replies_from made rest)
+
 still_silent : (made : WorldData) (rest added : List WorldEvent) → IsStill (world_from made rest) added → IsSilentSince made rest →
     IsSilentSince made (rest ++ added)
 still_silent made rest added still (inl none) =
-    let same : replies_from made (rest ++ added) ≡ replies_from made rest =
-    replies_from-append made rest added ∙ ap (λ (l : List Reply). replies_from made rest ++ l) still.unheard ∙ append-nil (replies_from made rest)
-    in
-    inl (ap (own_oks reply.Start) same ∙ none)
+    inl (ap (own_oks reply.Start) (still_replies made rest added still) ∙ none)
 still_silent made rest added still (inr four) =
     let same : sends_since 0 (rest ++ added) ≡ sends_since 0 rest = sends_since-append 0 rest added ∙ still.unsent (sends_since 0 rest) in
     inr (omega (arith, same, four))
@@ -58,6 +60,7 @@ still_caused (Some (AskedBack number acknowledged)) made rest added still caused
 still_caused (Some (AskedAhead number all)) made rest added still caused = caused
 still_caused (Some (Counts number expected)) made rest added still caused = caused
 still_caused (Some Restarted) made rest added still caused = list_any-append is_restart rest added ∙ or_left (list_any is_restart rest) (list_any is_restart added) caused
+still_caused (Some (LostOk limits)) made rest added still caused = ap (list_any is_resend) (still_replies made rest added still) ∙ caused
 still_caused (Some (NumbersUsed all)) made rest added still caused = tt
 
 still_free : (w : WorldData) (events : List WorldEvent) → list_all is_free events ≡ true → IsStill w events
@@ -132,6 +135,7 @@ tick_caused_by moment made rest s (Some (AskedBack number acknowledged)) at runn
 tick_caused_by moment made rest s (Some (AskedAhead number all)) at running is = absurd ((tick_ends (AskedAhead number all) moment s running).0 is)
 tick_caused_by moment made rest s (Some (Counts number expected)) at running is = absurd ((tick_ends (Counts number expected) moment s running).0 is)
 tick_caused_by moment made rest s (Some Restarted) at running is = absurd ((tick_ends Restarted moment s running).0 is)
+tick_caused_by moment made rest s (Some (LostOk limits)) at running is = at.tallied.asked ((tick_ends (LostOk limits) moment s running).0 is).1
 tick_caused_by moment made rest s (Some (NumbersUsed all)) at running is = tt
 
 pub tick_caused : (moment : ℕ) (made : WorldData) (rest : List WorldEvent) (s : SenderData) (ended : Option SessionEnd) → s.ended ≡ ended →

@@ -148,7 +148,7 @@ module _ (start : List Logged) (issued : List (List ℕ)) where
   leads_given moment s w replies m tallied =
       let flags = give_flags moment s in
       leads_none start issued issued (frame_step moment s) w replies (extends_none issued) (give_meets start issued moment s w m)
-      (tally_same start replies s (frame_step moment s) flags.swallow flags.ready flags.acked tallied)
+      (tally_same start replies s (frame_step moment s) flags.swallow flags.ready flags.acked flags.asks tallied)
 
   -- what is returned is sent
   pub leads_sent : (moment : ℕ) (s : SenderData) (w : WorldData) (replies : List Reply) (next : Outgoing) (sent : ArrayVec ℕ) → next_of s ≡ Some next →
@@ -166,7 +166,7 @@ module _ (start : List Logged) (issued : List (List ℕ)) where
         extends = extends_none issued;
         meets = subst M (sym (happens w (Send sent) can))
             (sent_meets start issued moment s w (sent_as next) sent.items on (written ∙ bytes_as next) (given_undue moment s next n.sound is) (may_send issued s next n.sound n.holds is) m);
-        tallied = subst T (sym (append-nil replies)) (tally_same start replies s t flags.swallow flags.ready flags.acked tallied);
+        tallied = subst T (sym (append-nil replies)) (tally_same start replies s t flags.swallow flags.ready flags.acked flags.asks tallied);
         sends = (send_fits issued s replies next sent.items [] n.sound n.holds tallied is written, tt);
         starts = λ events all. sent_starts w sent events all;
       }
@@ -184,7 +184,7 @@ module _ (start : List Logged) (issued : List (List ℕ)) where
       let same : v ≡ apply w (Send sent) = sym (happens w (Send sent) can) in
       let T : List Reply → Type 0 = λ l. IsTallied l t in
       let met : Meets start issued t v = sent_meets start issued moment s w (corrupted sent.items) sent.items on refl (given_undue moment s next n.sound is) (may_send_failing issued s next sent.items n.sound is failing) m in
-      let told : IsTallied (replies ++ []) t = subst T (sym (append-nil replies)) (tally_same start replies s t flags.swallow flags.ready flags.acked tallied) in
+      let told : IsTallied (replies ++ []) t = subst T (sym (append-nil replies)) (tally_same start replies s t flags.swallow flags.ready flags.acked flags.asks tallied) in
       let L : WorldData → Type 0 = λ u. Leads start issued issued t u (replies ++ []) (behind ++ Closed ∷ []) in
       let led : Leads start issued issued t (apply w (Send sent)) (replies ++ []) (behind ++ Closed ∷ []) = subst L same (leads_loss t v (replies ++ []) behind free on met told) in
       let U : List Reply → Type 0 = λ l. IsTallied (l ++ replies_from (apply w (Send sent)) (behind ++ Closed ∷ [])) t in

@@ -1,6 +1,6 @@
 -- A reply on the way is received, and the sender hears it.
 use Rattle.std.proofs.Common.{◌≡◌, ℕ, suc, ◌+◌, ◌<◌, ◌≤◌, Bool, true, false, List, [], ◌∷◌, ◌++◌, length, map, drop, refl, sym, ◌∙◌, ap, subst, append-nil, length-append, arith}
-use Rattle.std.specs.Prelude.{Option, Some, None, if◌then◌else◌, nat_lt, ◌==◌}
+use Rattle.std.specs.Prelude.{Option, Some, None, if◌then◌else◌, not, ◌&&◌, nat_lt, ◌==◌}
 use Rattle.std.proofs.lemmas.Bool.{lt-ltb, le-ltb, lt-leb, eq-eqb}
 use Rattle.marlin_frame.specs.Numbering.{wire_number, place_of}
 use Rattle.marlin_reply.specs.Kind.{kind_of}
@@ -22,14 +22,23 @@ use Rattle.octo_session_line_proof.proofs.Lists.{none_left, lines_none, lines_wi
 use Rattle.octo_session_line_proof.proofs.Ways.{early_front, early_unclosing, answers_front, answers_unclosing, answers_le, answers_begin, IsFirst, first_of_way}
 use Rattle.octo_session_line_proof.proofs.Moves.{IsAfterStep}
 
--- a sender after a reply, by what the reply does
-abbrev pub heard_as : Heard → ℕ → SenderData → SenderData
-heard_as (ok_heard number) moment s = heard_ok s.swallow s.ready number moment s
-heard_as (resend_heard number) moment s = heard_resend s.ready number moment s
-heard_as start_heard moment s = heard_start s.ready s
-heard_as talk_heard moment s = after_hearing s
+-- whether a reply says that the printer is at work
+abbrev pub is_busy : Reply → Bool
+is_busy reply.Busy = true
+is_busy _ = false
 
-reply_as : (r : Reply) (moment : ℕ) (s : SenderData) → heard_reply r moment s ≡ heard_as (heard_of r) moment s
+-- a sender after another reply, by whether that says that the printer is at work
+abbrev pub after_talk : Bool → SenderData → SenderData
+after_talk busy s = record s { heard = true; asked_anew = not busy && s.asked_anew; told = if busy then 0 else s.told }
+
+-- a sender after a reply, by what the reply does
+abbrev pub heard_as : Bool → Heard → ℕ → SenderData → SenderData
+heard_as busy (ok_heard number) moment s = heard_ok s.swallow s.ready number moment s
+heard_as busy (resend_heard number) moment s = heard_resend s.ready number moment s
+heard_as busy start_heard moment s = heard_start s.ready s
+heard_as busy talk_heard moment s = after_talk busy s
+
+reply_as : (r : Reply) (moment : ℕ) (s : SenderData) → heard_reply r moment s ≡ heard_as (is_busy r) (heard_of r) moment s
 reply_as (reply.Ok number planner block temps) moment s = refl
 reply_as (reply.Resend number) moment s = refl
 reply_as reply.Start moment s = refl
@@ -39,14 +48,14 @@ reply_as reply.Error moment s = refl
 reply_as reply.Other moment s = refl
 
 pub hear_as : (line : List ℕ) (heard : Heard) (moment : ℕ) (s : SenderData) → s.ended ≡ None → heard_in line ≡ heard →
-    hear_step (kind_of line) moment s ≡ heard_as heard moment s
+    hear_step (kind_of line) moment s ≡ heard_as (is_busy (kind_of line)) heard moment s
 hear_as line heard moment s running is =
     ap (λ (e : Option SessionEnd). unless_ended e (heard_reply (kind_of line) moment s) s) running
     ∙ reply_as (kind_of line) moment s
-    ∙ ap (λ (h : Heard). heard_as h moment s) is
+    ∙ ap (λ (h : Heard). heard_as (is_busy (kind_of line)) h moment s) is
 
 pub ok_by : (swallow ready : Bool) (number : Option ℕ) (moment : ℕ) (s : SenderData) → s.swallow ≡ swallow → s.ready ≡ ready →
-    heard_as (ok_heard number) moment s ≡ heard_ok swallow ready number moment s
+    heard_ok s.swallow s.ready number moment s ≡ heard_ok swallow ready number moment s
 ok_by swallow ready number moment s e f =
     ap (λ (b : Bool). heard_ok b s.ready number moment s) e ∙ ap (λ (b : Bool). heard_ok swallow b number moment s) f
 
@@ -108,14 +117,14 @@ module _ (issued : List (List ℕ)) (moment : ℕ) (s : SenderData) (linked : Bo
             };
           }
 
-  early_heard : (a : Wires) (x : Answer) (way : List Answer) → IsSound s → HoldsIssued issued s → Printed issued a.ran a.dropped last a.queue a.log →
+  early_heard : (busy : Bool) (a : Wires) (x : Answer) (way : List Answer) → IsSound s → HoldsIssued issued s → Printed issued a.ran a.dropped last a.queue a.log →
       linked ≡ true → s.ended ≡ None → s.ready ≡ false → IsEarly s a.ran a.dropped a.queue a.up (x ∷ way) → Replies s linked a.dropped a.log (x ∷ way) →
-      IsAfterStep issued (heard_as (reply_to x) moment s) linked (record a { way = rest_of x way })
-  early_heard a (greeting_ok named) way sound holds printed opened running unready e r =
+      IsAfterStep issued (heard_as busy (reply_to x) moment s) linked (record a { way = rest_of x way })
+  early_heard busy a (greeting_ok named) way sound holds printed opened running unready e r =
       let H : SenderData → Type 0 = λ t. IsAfterStep issued t linked (record a { way = way }) in
       subst H (sym (ok_by false false (named_by named 0) moment s e.swallows unready)) (hello_heard a named way sound holds printed opened running unready e)
-  early_heard a (command_ok place named) way sound holds printed opened running unready e r = absurd (e.way_so)
-  early_heard a (refusal number) way sound holds printed opened running unready e r = record {
+  early_heard busy a (command_ok place named) way sound holds printed opened running unready e r = absurd (e.way_so)
+  early_heard busy a (refusal number) way sound holds printed opened running unready e r = record {
     phase = early opened unready (record {
       ups = e.ups;
       one = omega (arith, e.one);
@@ -126,11 +135,11 @@ module _ (issued : List (List ℕ)) (moment : ℕ) (s : SenderData) (linked : Bo
       begun_so = e.begun_so;
       swallows = e.swallows;
     });
-    replies = early_stays s (after_hearing s) linked a.dropped a.log (refusal number ∷ way) unready refl refl refl r (asking number ∷ way);
+    replies = early_stays s (after_talk busy s) linked a.dropped a.log (refusal number ∷ way) unready refl refl refl r (asking number ∷ way);
   }
-  early_heard a (asking number) way sound holds printed opened running unready e r =
+  early_heard busy a (asking number) way sound holds printed opened running unready e r =
       let H : SenderData → Type 0 = λ t. IsAfterStep issued t linked (record a { way = closing ∷ way }) in
-      let same : heard_as (resend_heard number) moment s ≡ hello_asked moment s = ap (λ (b : Bool). heard_resend b number moment s) unready in
+      let same : heard_resend s.ready number moment s ≡ hello_asked moment s = ap (λ (b : Bool). heard_resend b number moment s) unready in
       subst H (sym same) (record {
         phase = early opened unready (record {
           ups = e.ups;
@@ -144,7 +153,7 @@ module _ (issued : List (List ℕ)) (moment : ℕ) (s : SenderData) (linked : Bo
         });
         replies = early_stays s (hello_asked moment s) linked a.dropped a.log (asking number ∷ way) unready refl refl refl r (closing ∷ way);
       })
-  early_heard a closing way sound holds printed opened running unready e r =
+  early_heard busy a closing way sound holds printed opened running unready e r =
       let H : SenderData → Type 0 = λ t. IsAfterStep issued t linked (record a { way = way }) in
       subst H (sym (ok_by true false None moment s e.swallows unready)) (record {
         phase = early opened unready (record {
@@ -159,7 +168,7 @@ module _ (issued : List (List ℕ)) (moment : ℕ) (s : SenderData) (linked : Bo
         });
         replies = early_stays s (after_swallowed_ok s) linked a.dropped a.log (closing ∷ way) unready refl refl refl r way;
       })
-  early_heard a chat way sound holds printed opened running unready e r = record {
+  early_heard busy a chat way sound holds printed opened running unready e r = record {
     phase = early opened unready (record {
       ups = e.ups;
       one = omega (arith, e.one);
@@ -170,11 +179,11 @@ module _ (issued : List (List ℕ)) (moment : ℕ) (s : SenderData) (linked : Bo
       begun_so = e.begun_so;
       swallows = e.swallows ∙ sym (early_unclosing way e.way_so);
     });
-    replies = early_stays s (after_hearing s) linked a.dropped a.log (chat ∷ way) unready refl refl refl r way;
+    replies = early_stays s (after_talk busy s) linked a.dropped a.log (chat ∷ way) unready refl refl refl r way;
   }
-  early_heard a restart way sound holds printed opened running unready e r =
+  early_heard busy a restart way sound holds printed opened running unready e r =
       let H : SenderData → Type 0 = λ t. IsAfterStep issued t linked (record a { way = way }) in
-      let same : heard_as start_heard moment s ≡ after_hearing s = ap (λ (b : Bool). heard_start b s) unready in
+      let same : heard_start s.ready s ≡ after_hearing s = ap (λ (b : Bool). heard_start b s) unready in
       subst H (sym same) (record {
         phase = early opened unready (record {
           ups = e.ups;
@@ -230,14 +239,14 @@ module _ (issued : List (List ℕ)) (moment : ℕ) (s : SenderData) (linked : Bo
         };
       }
 
-  late_heard : (a : Wires) (x : Answer) (way : List Answer) → lines_run a.log ≤ s.issued → linked ≡ true → s.ended ≡ None → s.ready ≡ true → a.ran ≡ true →
+  late_heard : (busy : Bool) (a : Wires) (x : Answer) (way : List Answer) → lines_run a.log ≤ s.issued → linked ≡ true → s.ended ≡ None → s.ready ≡ true → a.ran ≡ true →
       Each (IsSentLate issued) a.up → IsRead s a.dropped (x ∷ way) (lines_run a.log) → Replies s linked a.dropped a.log (x ∷ way) →
-      IsAfterStep issued (heard_as (reply_to x) moment s) linked (record a { way = rest_of x way })
-  late_heard a (greeting_ok named) way few opened running ready ran ups read r = absurd (read.answers)
-  late_heard a (command_ok place named) way few opened running ready ran ups read r =
+      IsAfterStep issued (heard_as busy (reply_to x) moment s) linked (record a { way = rest_of x way })
+  late_heard busy a (greeting_ok named) way few opened running ready ran ups read r = absurd (read.answers)
+  late_heard busy a (command_ok place named) way few opened running ready ran ups read r =
       let H : SenderData → Type 0 = λ t. IsAfterStep issued t linked (record a { way = way }) in
       let more : suc s.acked ≤ lines_run a.log = answers_le false a.dropped s.issued (suc s.acked) way (lines_run a.log) read.answers.1 in
-      let same : heard_as (ok_heard (named_by named (wire_number place))) moment s ≡ acknowledged moment s =
+      let same : heard_ok s.swallow s.ready (named_by named (wire_number place)) moment s ≡ acknowledged moment s =
       ok_by false true (named_by named (wire_number place)) moment s read.swallows ready ∙ named_right named place moment s read.answers.0 (omega (arith, more, few))
       in
       let A : ℕ → Type 0 = λ m. Answers true a.dropped s.issued m way (lines_run a.log) in
@@ -253,25 +262,25 @@ module _ (issued : List (List ℕ)) (moment : ℕ) (s : SenderData) (linked : Bo
           };
         };
       })
-  late_heard a (refusal number) way few opened running ready ran ups read r =
-      late_stays (after_hearing s) a (refusal number) way (asking number ∷ way) opened ready ran ups refl refl refl refl read.swallows r (refl, read.answers.0, read.answers.1)
-  late_heard a (asking number) way few opened running ready ran ups read r =
+  late_heard busy a (refusal number) way few opened running ready ran ups read r =
+      late_stays (after_talk busy s) a (refusal number) way (asking number ∷ way) opened ready ran ups refl refl refl refl read.swallows r (refl, read.answers.0, read.answers.1)
+  late_heard busy a (asking number) way few opened running ready ran ups read r =
       let H : SenderData → Type 0 = λ t. IsAfterStep issued t linked (record a { way = closing ∷ way }) in
-      let same : heard_as (resend_heard number) moment s ≡ line_asked (place_of number) moment s =
+      let same : heard_resend s.ready number moment s ≡ line_asked (place_of number) moment s =
       ap (λ (b : Bool). heard_resend b number moment s) ready ∙ asked_right number moment s read.answers.1
       in
       subst H (sym same) (late_stays (line_asked (place_of number) moment s) a (asking number) way (closing ∷ way) opened ready ran ups refl refl refl refl refl r (refl, read.answers.2))
-  late_heard a closing way few opened running ready ran ups read r =
+  late_heard busy a closing way few opened running ready ran ups read r =
       let H : SenderData → Type 0 = λ t. IsAfterStep issued t linked (record a { way = way }) in
       subst H (sym (ok_by true true None moment s read.swallows ready))
       (late_stays (after_swallowed_ok s) a closing way way opened ready ran ups refl refl refl refl (sym (answers_unclosing a.dropped s.issued s.acked way (lines_run a.log) read.answers.1)) r
       (answers_front a.dropped s.issued s.acked way (lines_run a.log) read.answers.1))
-  late_heard a chat way few opened running ready ran ups read r =
-      late_stays (after_hearing s) a chat way way opened ready ran ups refl refl refl refl (read.swallows ∙ sym (answers_unclosing a.dropped s.issued s.acked way (lines_run a.log) read.answers)) r
+  late_heard busy a chat way few opened running ready ran ups read r =
+      late_stays (after_talk busy s) a chat way way opened ready ran ups refl refl refl refl (read.swallows ∙ sym (answers_unclosing a.dropped s.issued s.acked way (lines_run a.log) read.answers)) r
       (answers_front a.dropped s.issued s.acked way (lines_run a.log) read.answers)
-  late_heard a restart way few opened running ready ran ups read r =
+  late_heard busy a restart way few opened running ready ran ups read r =
       let H : SenderData → Type 0 = λ t. IsAfterStep issued t linked (record a { way = way }) in
-      let same : heard_as start_heard moment s ≡ ended_by Restarted s = ap (λ (b : Bool). heard_start b s) ready in
+      let same : heard_start s.ready s ≡ ended_by Restarted s = ap (λ (b : Bool). heard_start b s) ready in
       subst H (sym same) (record {
         phase = late opened ready ran ups;
         replies = record {
@@ -288,14 +297,14 @@ run_few issued ran d last queue log (after p) =
     let run : lines_run log ≡ length p.lines = ap lines_run p.logged in
     omega (arith, run, lines_within issued 0 p.lines (lines_front issued 1 p.lines queue p.accepted) (omega arith))
 
-heard_by : (issued : List (List ℕ)) (moment : ℕ) (s : SenderData) (linked : Bool) (last : ℕ) (a : Wires) (x : Answer) (way : List Answer) → linked ≡ true →
+heard_by : (busy : Bool) (issued : List (List ℕ)) (moment : ℕ) (s : SenderData) (linked : Bool) (last : ℕ) (a : Wires) (x : Answer) (way : List Answer) → linked ≡ true →
     s.ended ≡ None → Numbers issued s linked last (record a { way = x ∷ way }) → Phase issued s linked (record a { way = x ∷ way }) →
-    IsAfterStep issued (heard_as (reply_to x) moment s) linked (record a { way = rest_of x way })
-heard_by issued moment s linked last a x way on running n (shut closed none idle) = absurd (cc)
-heard_by issued moment s linked last a x way on running n (early opened unready e) =
-    early_heard issued moment s linked last a x way n.sound n.holds n.printed opened running unready e n.replies
-heard_by issued moment s linked last a x way on running n (late opened ready ran ups) =
-    late_heard issued moment s linked a x way (omega (arith, run_few issued a.ran a.dropped last a.queue a.log n.printed, n.holds.count)) opened running ready ran ups (n.replies.reads running opened ready) n.replies
+    IsAfterStep issued (heard_as busy (reply_to x) moment s) linked (record a { way = rest_of x way })
+heard_by busy issued moment s linked last a x way on running n (shut closed none idle) = absurd (cc)
+heard_by busy issued moment s linked last a x way on running n (early opened unready e) =
+    early_heard issued moment s linked last busy a x way n.sound n.holds n.printed opened running unready e n.replies
+heard_by busy issued moment s linked last a x way on running n (late opened ready ran ups) =
+    late_heard issued moment s linked busy a x way (omega (arith, run_few issued a.ran a.dropped last a.queue a.log n.printed, n.holds.count)) opened running ready ran ups (n.replies.reads running opened ready) n.replies
 
 heard_meets : (start : List Logged) (issued : List (List ℕ)) (moment : ℕ) (s : SenderData) (w : WorldData) (line : List ℕ) (rest : List (List ℕ)) (a : Wires) (way : List Answer) →
     w.linked ≡ true → s.ended ≡ None → w.down ≡ line ∷ rest → Shows start (record a { way = way }) w →
@@ -305,8 +314,8 @@ heard_meets start issued moment s w line rest a way on running front sh n first 
     let x = first.answer in
     let N : List Answer → Type 0 = λ l. Numbers issued s w.linked w.printer.last (record a { way = l }) in
     let m : Numbers issued s w.linked w.printer.last (record a { way = x ∷ first.rest }) = subst N first.is n in
-    let so : IsAfterStep issued (heard_as (reply_to x) moment s) w.linked (record a { way = rest_of x first.rest }) = heard_by issued moment s w.linked w.printer.last a x first.rest on running m m.phase in
-    let same : hear_step (kind_of line) moment s ≡ heard_as (reply_to x) moment s = hear_as line (reply_to x) moment s running first.heard in
+    let so : IsAfterStep issued (heard_as (is_busy (kind_of line)) (reply_to x) moment s) w.linked (record a { way = rest_of x first.rest }) = heard_by (is_busy (kind_of line)) issued moment s w.linked w.printer.last a x first.rest on running m m.phase in
+    let same : hear_step (kind_of line) moment s ≡ heard_as (is_busy (kind_of line)) (reply_to x) moment s = hear_as line (reply_to x) moment s running first.heard in
     let H : SenderData → Type 0 = λ t. IsAfterStep issued t w.linked (record a { way = rest_of x first.rest }) in
     let heard_so : IsAfterStep issued (hear_step (kind_of line) moment s) w.linked (record a { way = rest_of x first.rest }) = subst H (sym same) so in
     let Holds : List (List ℕ) → Type 0 = λ texts. HoldsIssued texts (hear_step (kind_of line) moment s) in

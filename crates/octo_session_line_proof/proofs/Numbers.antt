@@ -9,7 +9,7 @@ use Rattle.job_desk.specs.declared.link_fact.LinkFact.TheVariants as fact
 use Rattle.send_window.specs.Data.{SenderData, IsSound, most_lines}
 use Rattle.send_window.specs.Hearing.{hear_step, tick_step}
 use Rattle.send_window.specs.declared.session_end.SessionEnd.{SessionEnd}
-use Rattle.send_window.specs.declared.session_end.SessionEnd.TheVariants.{NoAnswer, AskedBack, AskedAhead, Counts, Restarted, NumbersUsed}
+use Rattle.send_window.specs.declared.session_end.SessionEnd.TheVariants.{NoAnswer, AskedBack, AskedAhead, Counts, Restarted, LostOk, NumbersUsed}
 use Rattle.send_window.proofs.Ending.{ends_by_rule}
 use Rattle.octo_session.specs.Data.{SessionData, IsSession, doing}
 use Rattle.octo_session.specs.Found.{Got, unasked, lost, nothing, whole, end_by, can_find}
@@ -18,7 +18,7 @@ use Rattle.octo_session.specs.Turn.{IsTurn, texts_in}
 use Rattle.octo_session.specs.declared.found.Turned.{Turned}
 use Rattle.octo_session.proofs.Keeping.{ticked_keeps}
 use Rattle.send_window.specs.Patience.{IsPatient, FitsEnd}
-use Rattle.octo_session_line_proof.proofs.Waits.{ended_sender, running_till, turn_unanswered}
+use Rattle.octo_session_line_proof.proofs.Waits.{ended_sender, running_till, turn_unanswered, turn_missing}
 
 module _ (moment : ℕ) where
   -- a tick keeps an end
@@ -44,6 +44,18 @@ module _ (moment : ℕ) where
       by : ((hear_step (kind_of bytes) moment s).ended ≡ Some (NoAnswer count)) ⊎ ((hear_step (kind_of bytes) moment s).ended ≡ None) → count ≡ 5
       by (inl heard) = absurd (((ends_by_rule (NoAnswer count) s moment running).0 (kind_of bytes)).0 heard)
       by (inr still) = ((ends_by_rule (NoAnswer count) (hear_step (kind_of bytes) moment s) moment still).1.0 ends).3
+
+  -- a missing `ok` is an end after twenty
+  twenty_limits : (count : ℕ) (got : Got) (s : SenderData) → s.ended ≡ None → end_by got moment s ≡ Some (LostOk count) → count ≡ 20
+  twenty_limits count unasked s running ends = absurd (cc)
+  twenty_limits count lost s running ends = absurd (cc)
+  twenty_limits count nothing s running ends = ((ends_by_rule (LostOk count) s moment running).1.0 ends).5
+  twenty_limits count (whole bytes) s running ends =
+      by (ends_by (LostOk count) (kind_of bytes) s (hear_step (kind_of bytes) moment s).ended refl ends)
+    where
+      by : ((hear_step (kind_of bytes) moment s).ended ≡ Some (LostOk count)) ⊎ ((hear_step (kind_of bytes) moment s).ended ≡ None) → count ≡ 20
+      by (inl heard) = absurd (((ends_by_rule (LostOk count) s moment running).0 (kind_of bytes)).0 heard)
+      by (inr still) = ((ends_by_rule (LostOk count) (hear_step (kind_of bytes) moment s) moment still).1.0 ends).5
 
   -- the `ok` of a session's last line
   last_heard : (all : ℕ) (line : Reply) (s : SenderData) → s.ended ≡ None → IsSound s → (hear_step line moment s).ended ≡ Some (NumbersUsed all)
@@ -92,6 +104,11 @@ module _ (moment : ℕ) (kind : LinkKind) (old_past new_past : Option (List Worl
     five_limits moment count t.got old.sender (running_till moment kind old_past new_past old_calls new_calls old mid turned t (NoAnswer count) joined is can)
         ((t.ended (NoAnswer count)).0 is),
     (turn_unanswered moment kind old_past new_past old_calls new_calls old mid turned t start limit since count joined p is can).1,
+  )
+  turn_fits start limit since p (LostOk count) is can = (
+    twenty_limits moment count t.got old.sender (running_till moment kind old_past new_past old_calls new_calls old mid turned t (LostOk count) joined is can)
+        ((t.ended (LostOk count)).0 is),
+    (turn_missing moment kind old_past new_past old_calls new_calls old mid turned t start limit since count joined p is can).1,
   )
   turn_fits start limit since p (NumbersUsed all) is can = turn_used all p.sound is can
   turn_fits start limit since p (AskedBack number acknowledged) is can = tt

@@ -31,7 +31,7 @@ pub record IsKept (moment : ℕ) (old new : SessionData) (turned : Turned) : Typ
   pub finds : can_find (doing old) (fact_of turned.note) ≡ true
   pub up : new.up ≡ up_after (fact_of turned.note) old.up
   pub sent : fact_of turned.note ≡ fact.Ready → next_of new.sender ≡ None
-  pub spent : new.up ≡ true → fact_of turned.note ≡ fact.Quiet → IsSpent moment new.desk new.sender
+  pub spent : new.up ≡ true → fact_of turned.note ≡ fact.Quiet → IsSpent moment old.desk new.desk new.sender
 
 pub kept_by_note : {moment : ℕ} {kind : LinkKind} {old new : SessionData} {turned : Turned} → IsTurnByNote moment kind old new turned → IsKept moment old new turned
 kept_by_note n = record { before = n.before; finds = n.finds; up = n.up; sent = n.sent; spent = n.spent }

@@ -5,13 +5,13 @@ use Rattle.std.specs.Prelude.{Option, Some, None}
 use Rattle.std.proofs.lemmas.Grind.{common_steps}
 use Rattle.std.proofs.lemmas.List.{map-append}
 use Rattle.send_window.specs.declared.session_end.SessionEnd.{SessionEnd}
-use Rattle.send_window.specs.declared.session_end.SessionEnd.TheVariants.{NoAnswer, AskedBack, AskedAhead, Counts, Restarted, NumbersUsed}
+use Rattle.send_window.specs.declared.session_end.SessionEnd.TheVariants.{NoAnswer, AskedBack, AskedAhead, Counts, Restarted, LostOk, NumbersUsed}
 use Rattle.printer_model.specs.Printer.{Logged}
 use Rattle.printer_model.specs.World.{WorldData, is_empty, can_happen, happen}
 use Rattle.printer_model.specs.declared.event.WorldEvent.TheVariants.{Opened, Closed}
 use Rattle.send_window.specs.Data.{SenderData, IsSound, sender_after_dial}
 use Rattle.send_window.specs.Hearing.{tick_step}
-use Rattle.send_window.specs.Sending.{room_of, frame_step, push_step}
+use Rattle.send_window.specs.Sending.{last_room_of, frame_step, push_step}
 use Rattle.send_window.specs.Session.{HoldsIssued, ticks, issues, gives}
 use Rattle.send_window.proofs.Ending.{tick_ends}
 use Rattle.send_window.proofs.Issued.{step_holds}
@@ -30,6 +30,7 @@ pub record SameFlags (s t : SenderData) : Type 0 where
   pub swallow : t.swallow ≡ s.swallow
   pub due : t.hello_due ≡ true → s.hello_due ≡ true
   pub running : t.ended ≡ None → s.ended ≡ None
+  pub asks : t.asked_anew ≡ true → s.asked_anew ≡ true
   pub fair : IsFair s.ended → IsFair t.ended
 
 flags_early : (s t : SenderData) (ran d : Bool) (queue : List Piece) (up : List Sent) (way : List Answer) → SameFlags s t → IsEarly s ran d queue up way →
@@ -87,6 +88,7 @@ tick_fair_by moment s (Some (AskedBack number acknowledged)) running is = absurd
 tick_fair_by moment s (Some (AskedAhead number all)) running is = absurd ((tick_ends (AskedAhead number all) moment s running).0 is)
 tick_fair_by moment s (Some (Counts number expected)) running is = absurd ((tick_ends (Counts number expected) moment s running).0 is)
 tick_fair_by moment s (Some Restarted) running is = tt
+tick_fair_by moment s (Some (LostOk limits)) running is = tt
 tick_fair_by moment s (Some (NumbersUsed all)) running is = tt
 
 tick_keeps_end : (moment : ℕ) (s : SenderData) (why : SessionEnd) → s.ended ≡ Some why → (tick_step moment s).ended ≡ s.ended
@@ -104,6 +106,7 @@ tick_flags moment s = record {
   swallow = grind (arith, common_steps);
   due = λ d. grind (arith, common_steps);
   running = λ d. grind (arith, common_steps);
+  asks = λ a. grind (arith, common_steps);
   fair = tick_fair moment s s.ended refl;
 }
 
@@ -126,6 +129,7 @@ give_flags moment s = record {
   swallow = grind (arith, common_steps);
   due = λ d. grind (arith, common_steps);
   running = λ d. grind (arith, common_steps);
+  asks = λ a. grind (arith, common_steps);
   fair = λ fair. subst IsFair (sym (give_keeps_end moment s)) fair;
 }
 
@@ -219,11 +223,11 @@ replies_more text s linked d log way r = record {
   });
 }
 
-room_ready : (s : SenderData) → 0 < room_of s → s.ready ≡ true
+room_ready : (s : SenderData) → 0 < last_room_of s → s.ready ≡ true
 room_ready s room = grind (arith, common_steps)
 
 -- a line is issued
-pub issue_meets : (start : List Logged) (issued : List (List ℕ)) (text : List ℕ) (s : SenderData) (w : WorldData) → IsFit text → 0 < room_of s →
+pub issue_meets : (start : List Logged) (issued : List (List ℕ)) (text : List ℕ) (s : SenderData) (w : WorldData) → IsFit text → 0 < last_room_of s →
     Meets start issued s w → Meets start (issued ++ text ∷ []) (push_step text s) w
 issue_meets start issued text s w fit room m =
     let n = m.numbers in

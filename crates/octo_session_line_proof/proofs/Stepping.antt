@@ -140,12 +140,12 @@ module _ (start : List Logged) (issued : List (List ℕ)) (moment : ℕ) (s : Se
       let t = tick_step moment s in
       let L : List WorldEvent → Type 0 = λ es. Leads start issued issued t w replies es in
       let flags = tick_flags moment s in
-      subst L (sym is) (leads_none start issued issued t w replies (extends_none issued) (tick_meets start issued moment s w m) (tally_same start replies s t flags.swallow flags.ready flags.acked tallied))
+      subst L (sym is) (leads_none start issued issued t w replies (extends_none issued) (tick_meets start issued moment s w m) (tally_same start replies s t flags.swallow flags.ready flags.acked flags.asks tallied))
   plain_leads (issues text) added plain allowed is m tallied =
       let L : List WorldEvent → Type 0 = λ es. Leads start issued (issued ++ text ∷ []) (push_step text s) w replies es in
       let fit : IsFit text = record { sendable = allowed.1; bytes = allowed.2 } in
       subst L (sym is) (leads_none start issued (issued ++ text ∷ []) (push_step text s) w replies (record { added = text ∷ []; is = refl }) (issue_meets start issued text s w fit allowed.0 m)
-      (tally_same start replies s (push_step text s) refl refl refl tallied))
+      (tally_same start replies s (push_step text s) refl refl refl (λ a. a) tallied))
   plain_leads gives added plain allowed is m tallied = given_leads (next_of s) added refl is m tallied
   plain_leads fails_to_send added plain allowed is m tallied =
       let L : List WorldEvent → Type 0 = λ es. Leads start issued issued (frame_step moment s) w replies es in

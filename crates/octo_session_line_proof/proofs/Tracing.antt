@@ -180,9 +180,10 @@ module _ (start : List Logged) where
       }
 
   -- a sender that returned a line has counted as before
-  pub tally_same : (replies : List Reply) (s t : SenderData) → t.swallow ≡ s.swallow → t.ready ≡ s.ready → t.acked ≡ s.acked → IsTallied replies s →
-      IsTallied replies t
-  tally_same replies s t swallow ready acked old = record {
+  pub tally_same : (replies : List Reply) (s t : SenderData) → t.swallow ≡ s.swallow → t.ready ≡ s.ready → t.acked ≡ s.acked → (t.asked_anew ≡ true → s.asked_anew ≡ true) →
+      IsTallied replies s → IsTallied replies t
+  tally_same replies s t swallow ready acked asks old = record {
     pending = swallow ∙ old.pending;
     counted = ap (λ (b : Bool). oks_of b t.acked) ready ∙ ap (λ (n : ℕ). oks_of s.ready n) acked ∙ old.counted;
+    asked = λ a. old.asked (asks a);
   }

@@ -62,7 +62,7 @@ opened_by kind old new past added runs last sound few is can sender open_as =
       rest = [];
       is = ap (λ (es : List WorldEvent). past ++ es) is ∙ sym (append_assoc past runs (Opened last ∷ []));
       can = can_here;
-      traced = subst S (sym sender) (record { same_session = refl; meets = met; tallied = record { pending = refl; counted = refl }; sends = tt; starts = none_down });
+      traced = subst S (sym sender) (record { same_session = refl; meets = met; tallied = record { pending = refl; counted = refl; asked = λ (a : false ≡ true). absurd (cc) }; sends = tt; starts = none_down });
       open_as = open_as;
       quiet = λ up. subst Q (sym sender) (record { sent_enough = λ _ _ _. omega arith });
       caused = subst C (sym sender) tt;

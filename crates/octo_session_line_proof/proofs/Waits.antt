@@ -1,5 +1,5 @@
 -- A session waits five limits before it ends with no answer.
-use Rattle.std.proofs.Common.{◌≡◌, inl, inr, ℕ, ◌*◌, ◌≤◌, true, List, [], ◌∷◌, refl, sym, ◌∙◌, ap, subst, arith}
+use Rattle.std.proofs.Common.{◌≡◌, inl, inr, ℕ, ◌*◌, ◌<◌, ◌≤◌, true, List, [], ◌∷◌, refl, sym, ◌∙◌, ap, subst, arith}
 use Rattle.std.specs.Prelude.{Option, None, Some, IfSome, max}
 use Rattle.octo_outside.specs.Traits.{NotBefore}
 use Rattle.printer_link.specs.Link.{LinkKind}
@@ -11,7 +11,7 @@ use Rattle.marlin_reply.specs.declared.reply.Reply.TheVariants as reply
 use Rattle.job_desk.specs.declared.link_fact.LinkFact.{LinkFact}
 use Rattle.job_desk.specs.declared.link_fact.LinkFact.TheVariants as fact
 use Rattle.send_window.specs.declared.session_end.SessionEnd.{SessionEnd}
-use Rattle.send_window.specs.declared.session_end.SessionEnd.TheVariants.{NoAnswer}
+use Rattle.send_window.specs.declared.session_end.SessionEnd.TheVariants.{NoAnswer, LostOk}
 use Rattle.send_window.specs.Data.{SenderData}
 use Rattle.send_window.specs.Hearing.{later, hear_step, tick_step}
 use Rattle.send_window.specs.Sending.{frame_step}
@@ -23,13 +23,12 @@ use Rattle.octo_session.specs.Data.{SessionData, IsSession, doing}
 use Rattle.octo_session.specs.Found.{Got, unasked, lost, nothing, whole, end_by, can_find}
 use Rattle.octo_session.specs.Turn.{IsTurn, texts_in}
 use Rattle.octo_session.specs.declared.found.Doing.{Doing}
-use Rattle.octo_session.specs.declared.found.Doing.TheVariants.{Dialling, HangingUp, UsingLink, Resting}
 use Rattle.octo_session.specs.declared.found.Turned.{Turned}
 use Rattle.octo_session.specs.Steps.{Step, opens, finds_no_port, fails_to_dial, hears, listens, fails_to_receive, ticks, issues, gives, fails_to_send, hangs_up, after_step, after_steps, IsAllowed, AreAllowed, steps_over_link, turn_steps}
 use Rattle.octo_session.proofs.Keeping.{ticked_keeps}
 use Rattle.octo_session_line_proof.proofs.Turned.{talks_up}
 use Rattle.octo_session_line_proof.specs.Patience.{IsOnTime}
-use Rattle.send_window.specs.Patience.{IsPatient, IsUnanswered}
+use Rattle.send_window.specs.Patience.{IsPatient, IsUnanswered, IsMissing}
 use Rattle.octo_session_line_proof.proofs.Promised.{ends_talking}
 
 -- what no step changes
@@ -136,6 +135,44 @@ module _ (start limit moment : ℕ) (since : start ≤ moment) where
       kept : (t : SenderData) → t.ended ≡ Some why → (tick_step moment t).ended ≡ Some why
       kept t is = grind (arith, common_steps)
 
+  -- a tick that ends the session for a missing `ok`
+  tick_told : (count : ℕ) (s : SenderData) → IsPatient start limit s → s.ended ≡ None → (tick_step moment s).ended ≡ Some (LostOk count) →
+      (later start (20 * limit) ≤ moment) × (s.ready ≡ true) × (s.acked < s.issued)
+  tick_told count s p running ends =
+      let told = waits_five_limits.4 start moment count s p.sound p.waits running ends in
+      let L : ℕ → Type 0 = λ n. later start (20 * n) ≤ moment in
+      (subst L p.its_limit told.0, told.1, told.2)
+
+  heard_told : (count : ℕ) (line : Reply) (s : SenderData) (ended : Option SessionEnd) → IsPatient start limit s → s.ended ≡ None →
+      (hear_step line moment s).ended ≡ ended → (tick_step moment (hear_step line moment s)).ended ≡ Some (LostOk count) →
+      (later start (20 * limit) ≤ moment) × ((hear_step line moment s).ready ≡ true) × ((hear_step line moment s).acked < (hear_step line moment s).issued)
+  heard_told count line s None p running is ends = tick_told count (hear_step line moment s) (patient_heard line s p) is ends
+  heard_told count line s (Some why) p running is ends =
+      let stays : (tick_step moment (hear_step line moment s)).ended ≡ Some why = kept (hear_step line moment s) is in
+      let same : (hear_step line moment s).ended ≡ Some (LostOk count) = is ∙ sym stays ∙ ends in
+      absurd (((ends_by_rule (LostOk count) s moment running).0 line).0 same)
+    where
+      kept : (t : SenderData) → t.ended ≡ Some why → (tick_step moment t).ended ≡ Some why
+      kept t is = grind (arith, common_steps)
+
+  missing_ticked : (s : SenderData) → s.ready ≡ true → s.acked < s.issued → ((tick_step moment s).ready ≡ true) × ((tick_step moment s).acked < (tick_step moment s).issued)
+  missing_ticked s ready some =
+      let kept = ticked_keeps moment s in
+      (kept.ready ∙ ready, omega (arith, some, kept.acked, kept.issued))
+
+  -- a turn that ends the session so
+  pub turn_told : (count : ℕ) (got : Got) (texts : List (List ℕ)) (frames : ℕ) (s : SenderData) → IsPatient start limit s → s.ended ≡ None →
+      end_by got moment s ≡ Some (LostOk count) →
+      (later start (20 * limit) ≤ moment) × IsMissing (after_steps moment (steps_over_link got (fact.Ended (LostOk count)) texts frames) s)
+  turn_told count unasked texts frames s p running ends = absurd (cc)
+  turn_told count lost texts frames s p running ends = absurd (cc)
+  turn_told count nothing texts frames s p running ends =
+      let w = tick_told count s p running ends in
+      (w.0, missing_ticked s w.1 w.2)
+  turn_told count (whole bytes) texts frames s p running ends =
+      let w = heard_told count (kind_of bytes) s (hear_step (kind_of bytes) moment s).ended p running refl ends in
+      (w.0, missing_ticked (hear_step (kind_of bytes) moment s) w.1 w.2)
+
   -- what is left of it after the tick
   unanswered_ticked : (s : SenderData) → IsUnanswered s → IsUnanswered (tick_step moment s)
   unanswered_ticked s (inl unready) = inl ((ticked_keeps moment s).ready ∙ unready)
@@ -185,6 +222,13 @@ module _ (moment : ℕ) (kind : LinkKind) (old_past new_past : Option (List Worl
         let w = turn_waited start limit moment since count t.got (texts_in t.lines) t.steps.count old.sender p (running_till (NoAnswer count) joined is can) ((t.ended (NoAnswer count)).0 is) in
         let U : SenderData → Type 0 = λ s. IsUnanswered s in
         (w.0, subst U (sym (ended_sender (NoAnswer count) is can)) w.1)
+
+    pub turn_missing : (count : ℕ) → IsSession old → IsPatient start limit old.sender → t.found ≡ fact.Ended (LostOk count) →
+        can_find (doing old) t.found ≡ true → (later start (20 * limit) ≤ moment) × IsMissing mid.sender
+    turn_missing count joined p is can =
+        let w = turn_told start limit moment since count t.got (texts_in t.lines) t.steps.count old.sender p (running_till (LostOk count) joined is can) ((t.ended (LostOk count)).0 is) in
+        let U : SenderData → Type 0 = λ s. IsMissing s in
+        (w.0, subst U (sym (ended_sender (LostOk count) is can)) w.1)
 
 -- the moment of a turn is one that the clock has shown
 shown_by : (a b c : Option ℕ) (at shown next moment : ℕ) → b ≡ a → NotBefore b c → c ≡ Some at → IfSome a (λ was. shown ≡ was) →

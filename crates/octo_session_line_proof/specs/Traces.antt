@@ -8,7 +8,7 @@ use Rattle.printer_model.specs.World.{WorldData, world_from, is_restart}
 use Rattle.printer_model.specs.Executed.{opens}
 use Rattle.printer_model.specs.declared.event.WorldEvent.{WorldEvent}
 use Rattle.send_window.specs.Data.{SenderData}
-use Rattle.send_window.specs.Counting.{own_oks, is_pending}
+use Rattle.send_window.specs.Counting.{own_oks, is_pending, is_resend}
 use Rattle.octo_session_line_proof.specs.Pieces.{Each, heard_in, start_heard}
 use Rattle.octo_session_line_proof.specs.Wires.{Meets}
 use Rattle.printer_model.specs.Exchanged.{replies_from}
@@ -23,6 +23,7 @@ oks_of true acked = acked + 1
 pub record IsTallied (replies : List Reply) (s : SenderData) : Type 0 where
   pub pending : s.swallow ≡ is_pending replies
   pub counted : oks_of s.ready s.acked ≡ own_oks reply.Start replies
+  pub asked : s.asked_anew ≡ true → list_any is_resend replies ≡ true
 
 -- a `start` comes only of a restart
 abbrev pub IsStartKnown : List WorldEvent → List ℕ → Type 0

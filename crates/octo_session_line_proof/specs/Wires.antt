@@ -2,7 +2,7 @@
 use Rattle.std.specs.Prelude.{◌≡◌, ℕ, suc, ◌+◌, ◌<◌, ◌≤◌, Bool, true, false, List, [], ◌∷◌, ◌++◌, length, map, Option, Some, None}
 use Rattle.marlin_frame.specs.Numbering.{wire_number}
 use Rattle.send_window.specs.declared.session_end.SessionEnd.{SessionEnd}
-use Rattle.send_window.specs.declared.session_end.SessionEnd.TheVariants.{NoAnswer, AskedBack, AskedAhead, Counts, Restarted, NumbersUsed}
+use Rattle.send_window.specs.declared.session_end.SessionEnd.TheVariants.{NoAnswer, AskedBack, AskedAhead, Counts, Restarted, LostOk, NumbersUsed}
 use Rattle.printer_model.specs.Printer.{Logged}
 use Rattle.printer_model.specs.World.{WorldData}
 use Rattle.send_window.specs.Data.{SenderData, IsSound}
@@ -162,6 +162,7 @@ IsFair (Some (AskedBack number acknowledged)) = ⊥
 IsFair (Some (AskedAhead number all)) = ⊥
 IsFair (Some (Counts number expected)) = ⊥
 IsFair (Some Restarted) = Unit {0}
+IsFair (Some (LostOk limits)) = Unit {0}
 IsFair (Some (NumbersUsed all)) = Unit {0}
 
 -- what the replies on the way say while the session hasn't ended

@@ -24,6 +24,7 @@ new_underway scripts limits poll_ms port file = record {
   limits_are = refl;
   file_is = refl;
   no_manual = refl;
+  unstopped = refl;
   lines = [];
   phase = phase.connecting refl (record { print_is = refl; active_is = refl });
   sent = [];
@@ -64,6 +65,7 @@ module _ (p : PrintData) where
         limits_are = h.limits_are;
         file_is = h.file_is;
         no_manual = h.no_manual;
+        unstopped = h.unstopped;
         lines = printed_lines p 0;
         phase = phase.printing (record { its_state = refl; ready_is = on.opened.ready_is }) (record { print_is = refl; active_is = refl }) (omega arith);
         sent = h.sent;
@@ -97,6 +99,7 @@ module _ (p : PrintData) where
         limits_are = h.limits_are;
         file_is = h.file_is;
         no_manual = refl;
+        unstopped = h.unstopped;
         lines = plan_lines p;
         phase = phase.closing (record { its_state = refl; ready_is = on.opened.ready_is })
             (record { print_is = on.free.print_is; active_is = on.free.active_is }) (subst (λ (w : List Line). All IsLast w) (sym script) (last_script p));

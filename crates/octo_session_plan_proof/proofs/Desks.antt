@@ -1,7 +1,7 @@
 -- What a quiet turn makes of the desk of a print, as far as it counts turns.
 use Rattle.std.proofs.Common.{◌≡◌, inl, inr, ℕ, ◌+◌, ◌<◌, ◌≤◌, Bool, true, false, cond, codes, List, [], ◌∷◌, slice_get, Option, None, Some, refl, sym, ◌∙◌, ap, subst, arith}
 use Rattle.job_desk.specs.Data.{Data, Line, commands_of, with_script, moment_after}
-use Rattle.job_desk.specs.Pull.{Drawn, draw_in_order, nothing, issue, from_scripts, from_manual, from_poll, poll_is_due, from_file, draw_at, is_issued, settle_at, settled, pull_step}
+use Rattle.job_desk.specs.Pull.{Drawn, draw_in_order, nothing, issue, from_scripts, from_manual, from_poll, poll_is_due, from_file, draw_last, draw_at, is_issued, settle_at, settled, pull_step}
 use Rattle.job_desk.specs.Note.{Noted, end_at, is_over, finish, after_open, ready_at, note_step}
 use Rattle.job_desk.specs.declared.state.State.{State}
 use Rattle.job_desk.specs.declared.state.State.TheVariants.{Offline, Connecting, Operational, Printing, Pausing, Paused, Cancelling, Finishing, Closing, Fault}
@@ -57,10 +57,14 @@ print_pull moment d (inr at) =
     inr (settle_finishing (draw_at d.state moment d).1
     (ap (λ s. (draw_at s moment d).1.state) at ∙ talk_state moment d (nothing d) refl ∙ at))
 
+kept_last : (b : Bool) (d : Data) → (draw_last b d).1.state ≡ d.state
+kept_last false d = kept_scripts d.waiting d (nothing d) refl
+kept_last true d = kept_manual d.manual d (nothing d) refl
+
 closing_pull : (moment : ℕ) (d : Data) → d.state ≡ Closing → (pull_step moment d).1.state ≡ Closing
 closing_pull moment d at =
     settle_closing (draw_at d.state moment d).1
-    (ap (λ s. (draw_at s moment d).1.state) at ∙ kept_scripts d.waiting d (nothing d) refl ∙ at)
+    (ap (λ s. (draw_at s moment d).1.state) at ∙ kept_last d.stopped d ∙ at)
 
 print_pulls : (moment : ℕ) (lines : List Line) (old new : Data) → IsInPrint old.state → Pulls moment lines old new → IsInPrint new.state
 print_pulls moment [] old new at pulls = subst (λ (d : Data). IsInPrint d.state) (sym pulls) at

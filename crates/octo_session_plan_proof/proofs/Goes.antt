@@ -99,7 +99,7 @@ module _ (moment at poll_ms : ℕ) (kind : LinkKind) (old_past new_past : Option
       up : mid.up ≡ true
       up = h.kept.up ∙ ap (λ (f : LinkFact). up_after f old.up) (fact_is ∙ found) ∙ g.up
 
-      spent : IsSpent moment mid.desk mid.sender
+      spent : IsSpent moment old.desk mid.desk mid.sender
       spent = h.kept.spent up (fact_is ∙ found)
 
       spoken : mid.sender.cursor ≡ mid.sender.issued + 1
@@ -293,7 +293,7 @@ module _ (moment at poll_ms : ℕ) (kind : LinkKind) (old_past new_past : Option
       closed_now : old.desk.state ≡ Closing → old.desk.waiting ≡ [] → old.sender.acked ≡ old.sender.issued → ⊥
       closed_now state none all =
           let shut : is_closable_at old.desk.state old.desk ≡ true =
-          closes-next p old.desk state none (omega (arith, all, h.kept.before.issued, h.kept.before.acked))
+          closes-next p old.desk state g.desk.course.unstopped none (omega (arith, all, h.kept.before.issued, h.kept.before.acked))
           in
           let no : true ≡ false = sym shut ∙ unshut in
           absurd (cc)

@@ -15,7 +15,7 @@ use Rattle.printer_model.proofs.Laws.{world_from-IsSameKind, world_from-push, ha
 use Rattle.printer_link.specs.Link.{IsDial, IsHeard, IsSend, arrivals, due_run, due_recv, printer_events, recv_events}
 use Rattle.send_window.specs.Data.{SenderData, IsSound, sender_after_dial}
 use Rattle.send_window.specs.Hearing.{made_ready, hear_step}
-use Rattle.send_window.specs.Sending.{Outgoing, hello, next_at, next_of, after_giving as given_out, with_deadline, frame_step, room_of}
+use Rattle.send_window.specs.Sending.{Outgoing, hello, next_at, next_of, after_giving as given_out, with_deadline, frame_step, last_room_of}
 use Rattle.send_window.specs.declared.session_end.SessionEnd.{SessionEnd}
 use Rattle.send_window.proofs.Soundness.{begun_sound, hears_sound, gives_sound}
 use Rattle.octo_session.specs.Steps.{after_steps, AreAllowed, AreAdded, IsGiven, IsGivenAlone, issues_then_sends}
@@ -35,7 +35,7 @@ none_yet due s w i =
     ap (λ (es : List WorldEvent). es ++ due_recv (world_from w es)) printer ∙ ap (λ (d : List (List ℕ)). if is_empty d then [] else Recv ∷ []) i.down
 
 -- before it is acknowledged there's no room for a line
-no_room : (s : SenderData) → s.ended ≡ None → s.ready ≡ false → 0 < room_of s → ⊥
+no_room : (s : SenderData) → s.ended ≡ None → s.ready ≡ false → 0 < last_room_of s → ⊥
 no_room s running unready room = grind (arith, common_steps)
 
 hello_next : (s : SenderData) → s.ended ≡ None → s.hello_due ≡ true → next_of s ≡ Some hello

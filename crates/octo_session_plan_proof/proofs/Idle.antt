@@ -2,8 +2,8 @@
 use Rattle.std.proofs.Common.{◌≡◌, ℕ, zero, suc, ◌≤◌, ◌<◌, Bool, true, false, cond, nat_le, ◌&&◌, ◌||◌, not, ◌==◌, codes, List, [], ◌∷◌, length, slice_get, Option, None, Some, refl, sym, ◌∙◌, ap, arith}
 use Rattle.std.proofs.lemmas.Bool.{false≢true, le-leb, eq-eqb}
 use Rattle.job_desk.specs.Data.{Data, Line, commands_of, with_script, moment_after}
-use Rattle.job_desk.specs.Table.{is_closable_at}
-use Rattle.job_desk.specs.Pull.{Drawn, draw_in_order, nothing, issue, from_scripts, from_manual, from_poll, poll_is_due, from_file, draw_at, is_issued, settle_at, settled, pull_step}
+use Rattle.job_desk.specs.Table.{is_closable, is_closable_at}
+use Rattle.job_desk.specs.Pull.{Drawn, draw_in_order, nothing, issue, from_scripts, from_manual, from_poll, poll_is_due, from_file, draw_last, draw_at, is_issued, settle_at, settled, pull_step}
 use Rattle.job_desk.specs.Note.{end_at, is_over, finish, note_step}
 use Rattle.job_desk.specs.declared.state.State.{State}
 use Rattle.job_desk.specs.declared.state.State.TheVariants.{Offline, Connecting, Operational, Printing, Pausing, Paused, Cancelling, Finishing, Closing, Fault}
@@ -69,7 +69,8 @@ module _ (p : PrintData) where
       → (draw_at s moment d).0 ≡ None → IsUnderway p d issued → (d.waiting ≡ []) × (s ≡ Printing → ⊥)
   idle_in Operational moment d issued at gives quiet e h = ((talk_left moment d (nothing d) e).0, λ is. absurd (cc is))
   idle_in Finishing moment d issued at gives quiet e h = ((talk_left moment d (nothing d) e).0, λ is. absurd (cc is))
-  idle_in Closing moment d issued at gives quiet e h = ((no_script_left d.waiting d (nothing d) e).0, λ is. absurd (cc is))
+  idle_in Closing moment d issued at gives quiet e h =
+      ((no_script_left d.waiting d (nothing d) (ap (λ (b : Bool). (draw_last b d).0) (sym h.unstopped) ∙ e)).0, λ is. absurd (cc is))
   idle_in Printing moment d issued at gives quiet e h = absurd (prints_on moment d issued quiet at e h)
   idle_in Offline moment d issued at gives quiet e h = absurd (false≢true gives)
   idle_in Connecting moment d issued at gives quiet e h = absurd (false≢true gives)
@@ -99,8 +100,8 @@ module _ (p : PrintData) where
       ∙ ap (λ (k : ℕ). Some (record { print = k; outcome = outcome.Done })) one
 
   -- and the connection may be closed
-  pub closes-next : (d : Data) → d.state ≡ Closing → d.waiting ≡ [] → d.issued ≤ d.acked → is_closable_at d.state d ≡ true
-  closes-next d at none all =
+  pub closes-next : (d : Data) → d.state ≡ Closing → d.stopped ≡ false → d.waiting ≡ [] → d.issued ≤ d.acked → is_closable_at d.state d ≡ true
+  closes-next d at goes none all =
       let tests : ((length d.waiting == 0) && nat_le d.issued d.acked) ≡ true =
       ap (λ (w : List Line). (length w == 0) && nat_le d.issued d.acked) none ∙ le-leb d.issued d.acked all in
-      ap (λ s. is_closable_at s d) at ∙ ap (λ (b : Bool). b || not d.ready) tests
+      ap (λ s. is_closable_at s d) at ∙ ap (λ (b : Bool). is_closable b d) goes ∙ ap (λ (b : Bool). b || not d.ready) tests

@@ -4,8 +4,8 @@ use Rattle.std.proofs.lemmas.List.{append-nil}
 use Rattle.std.proofs.lemmas.Bool.{false≢true, and_parts, leb-true}
 use Rattle.job_desk.specs.Data.{Data, Line, with_script, script_lines, moment_after}
 use Rattle.job_desk.specs.Pull.{settle_at, settled}
-use Rattle.job_desk.specs.Table.{is_closable_at}
-use Rattle.job_desk.specs.Note.{Noted, after_ending, is_over, end_at, finish, leave, fail, ready_at, after_open, note_fact, note_step}
+use Rattle.job_desk.specs.Table.{is_closable, is_closable_at}
+use Rattle.job_desk.specs.Note.{Noted, after_ending, is_over, end_at, finish, leave, hung_up, fail, ready_at, after_open, note_fact, note_step}
 use Rattle.job_desk.specs.declared.state.State.{State}
 use Rattle.job_desk.specs.declared.state.State.TheVariants.{Offline, Connecting, Operational, Printing, Pausing, Paused, Cancelling, Finishing, Closing, Fault}
 use Rattle.job_desk.specs.declared.state.Point.TheVariants as point
@@ -43,6 +43,7 @@ module _ (p : PrintData) where
           limits_are = h.limits_are;
           file_is = h.file_is;
           no_manual = h.no_manual;
+          unstopped = h.unstopped;
           lines = done_lines p;
           phase = phase.ended (record { its_state = refl; ready_is = on.opened.ready_is }) (record { print_is = on.on.print_is; active_is = refl }) none;
           sent = h.sent;
@@ -86,6 +87,7 @@ module _ (p : PrintData) where
         limits_are = h.limits_are;
         file_is = h.file_is;
         no_manual = h.no_manual;
+        unstopped = h.unstopped;
         lines = [];
         phase = phase.connecting at (record { print_is = on.free.print_is; active_is = on.free.active_is });
         sent = [];
@@ -108,6 +110,7 @@ module _ (p : PrintData) where
         limits_are = h.limits_are;
         file_is = h.file_is;
         no_manual = h.no_manual;
+        unstopped = h.unstopped;
         lines = connected_lines p;
         phase = phase.connected (record { its_state = refl; ready_is = is }) (record { print_is = on.free.print_is; active_is = on.free.active_is });
         sent = h.sent;
@@ -139,6 +142,7 @@ module _ (p : PrintData) where
     limits_are = h.limits_are;
     file_is = h.file_is;
     no_manual = h.no_manual;
+    unstopped = h.unstopped;
     lines = h.lines;
     phase = stays_ready (standing d) h.lines h.phase;
     sent = h.sent;
@@ -170,7 +174,7 @@ module _ (p : PrintData) where
   fails : (b : Bool) (d : Data) (issued : List (List ℕ)) → d.active ≡ b → IsUnderway p d issued
       → NotedSo issued (
         cond b (Some (record { print = d.greatest; outcome = outcome.Failed })) None,
-        record d { state = Fault; active = false; waiting = []; manual = [] },
+        record d { state = Fault; active = false; waiting = []; manual = []; stopped = false },
       )
   fails b d issued e h = (
     record {
@@ -178,6 +182,7 @@ module _ (p : PrintData) where
       limits_are = h.limits_are;
       file_is = h.file_is;
       no_manual = refl;
+      unstopped = refl;
       lines = h.sent;
       phase = phase.failed refl refl h.sent (part_of h.sent (h.sent ++ d.waiting) (plan_lines p) (part_after h.sent d.waiting)
           (subst (λ (l : List Line). IsPart l (plan_lines p)) (sym h.parted) (in_plan p (standing d) h.lines h.phase)));
@@ -223,7 +228,8 @@ module _ (p : PrintData) where
   may_close : (s : State) (d : Data) (issued : List (List ℕ)) → d.state ≡ s → is_closable_at s d ≡ true → (h : IsUnderway p d issued) → MayClose d h.lines
   may_close Closing d issued at t h =
       let on = closing_of p (standing d) h.lines h.phase at in
-      let w = waits_none d (ap (λ (b : Bool). ((length d.waiting == 0) && nat_le d.issued d.acked) || not b) (sym on.opened.ready_is) ∙ t) in
+      let going : is_closable false d ≡ true = ap (λ (b : Bool). is_closable b d) (sym h.unstopped) ∙ t in
+      let w = waits_none d (ap (λ (b : Bool). ((length d.waiting == 0) && nat_le d.issued d.acked) || not b) (sym on.opened.ready_is) ∙ going) in
       record { closing = at; none = w.0; all = w.1; are = on.are; active_is = on.free.active_is }
   may_close Offline d issued at t h = absurd (false≢true t)
   may_close Connecting d issued at t h = absurd (false≢true t)
@@ -239,9 +245,9 @@ module _ (p : PrintData) where
   no_ending false ending state issued e = tt
   no_ending true ending state issued e = absurd (false≢true (sym e))
 
-  closes : (acked : ℕ) (d : Data) (issued : List (List ℕ)) → is_closable_at d.state d ≡ true → d.acked ≤ acked → IsUnderway p d issued
+  closes_off : (acked : ℕ) (d : Data) (issued : List (List ℕ)) → is_closable_at d.state d ≡ true → d.acked ≤ acked → IsUnderway p d issued
       → NotedSo issued (leave Offline outcome.Cancelled (record d { acked = acked }))
-  closes acked d issued t more h =
+  closes_off acked d issued t more h =
       let m = may_close d.state d issued refl t h in
       let whole : h.sent ≡ plan_lines p = sym (append-nil h.sent) ∙ ap (λ (w : List Line). h.sent ++ w) (sym m.none) ∙ h.parted ∙ m.are in (
         record {
@@ -249,6 +255,7 @@ module _ (p : PrintData) where
           limits_are = h.limits_are;
           file_is = h.file_is;
           no_manual = refl;
+          unstopped = refl;
           lines = plan_lines p;
           phase = phase.offline refl refl refl;
           sent = h.sent;
@@ -260,6 +267,12 @@ module _ (p : PrintData) where
         no_ending d.active (record { print = d.greatest; outcome = outcome.Cancelled }) Offline issued m.active_is,
       )
 
+  -- nobody stops its printer
+  closes : (acked : ℕ) (d : Data) (issued : List (List ℕ)) → is_closable_at d.state d ≡ true → d.acked ≤ acked → IsUnderway p d issued
+      → NotedSo issued (hung_up d.stopped (record d { acked = acked }))
+  closes acked d issued t more h =
+      subst (λ (b : Bool). NotedSo issued (hung_up b (record d { acked = acked }))) (sym h.unstopped) (closes_off acked d issued t more h)
+
   -- acknowledgements alone change nothing of it
   pub acked_more : (acked : ℕ) (d : Data) (issued : List (List ℕ)) → (d.state ≡ Offline → d.acked ≤ acked) → IsUnderway p d issued
       → IsUnderway p (record d { acked = acked }) issued
@@ -268,6 +281,7 @@ module _ (p : PrintData) where
     limits_are = h.limits_are;
     file_is = h.file_is;
     no_manual = h.no_manual;
+    unstopped = h.unstopped;
     lines = h.lines;
     phase = h.phase;
     sent = h.sent;

@@ -4,7 +4,7 @@ use Rattle.std.proofs.lemmas.Bool.{and_parts, leb-true}
 use Rattle.job_desk.specs.Data.{Data, Line, commands_of, with_script, moment_after}
 use Rattle.job_desk.specs.declared.state.Point.TheVariants as point
 use Rattle.job_desk.specs.Course.{job_line}
-use Rattle.job_desk.specs.Pull.{Drawn, draw_in_order, nothing, issue, from_scripts, from_manual, from_poll, poll_is_due, from_file, draw_at, is_issued, settle_at, settled, pull_step}
+use Rattle.job_desk.specs.Pull.{Drawn, draw_in_order, nothing, issue, from_scripts, from_manual, from_poll, poll_is_due, from_file, draw_last, draw_at, is_issued, settle_at, settled, pull_step}
 use Rattle.job_desk.specs.declared.state.State.{State}
 use Rattle.job_desk.specs.declared.state.State.TheVariants.{Offline, Connecting, Operational, Printing, Pausing, Paused, Cancelling, Finishing, Closing, Fault}
 use Rattle.job_desk.specs.declared.state.Tag.TheVariants.{Poll}
@@ -109,7 +109,8 @@ module _ (p : PrintData) (moment : ℕ) where
   draw_paced Fault d issued h = none_paced d
   draw_paced Printing d issued h = talk_paced d issued (from_file (slice_get (commands_of d.file) d.cursor) d) h
       (file_paced (slice_get (commands_of d.file) d.cursor) d)
-  draw_paced Closing d issued h = scripts_paced d.waiting d issued (nothing d) refl h (none_paced d)
+  draw_paced Closing d issued h =
+      subst (λ (b : Bool). IsPaced moment d (draw_last b d)) (sym h.unstopped) (scripts_paced d.waiting d issued (nothing d) refl h (none_paced d))
   draw_paced Operational d issued h = talk_paced d issued (nothing d) h (none_paced d)
   draw_paced Pausing d issued h = talk_paced d issued (nothing d) h (none_paced d)
   draw_paced Paused d issued h = talk_paced d issued (nothing d) h (none_paced d)

@@ -2,7 +2,7 @@
 use Rattle.std.proofs.Common.{◌≡◌, ◌⊎◌, inl, inr, ℕ, ◌+◌, ◌<◌, min, Bool, true, false, cond, nat_eq, ◌==◌, codes, List, [], ◌∷◌, ◌++◌, length, slice_get, Option, None, Some, refl, sym, ◌∙◌, ap, subst, arith, append_assoc, length-append}
 use Rattle.std.proofs.lemmas.List.{append-nil}
 use Rattle.job_desk.specs.Data.{Data, Line, with_script, script_lines, commands_of, moment_after}
-use Rattle.job_desk.specs.Pull.{Drawn, draw_in_order, nothing, next_number, keep_number, issue, from_scripts, from_manual, poll_is_due, from_file, draw_at, is_issued, settle_at, settled, pull_step}
+use Rattle.job_desk.specs.Pull.{Drawn, draw_in_order, nothing, next_number, keep_number, issue, from_scripts, from_manual, poll_is_due, from_file, draw_last, draw_at, is_issued, settle_at, settled, pull_step}
 use Rattle.job_desk.specs.Course.{job_line}
 use Rattle.job_desk.specs.Plain.{numbered}
 use Rattle.job_desk.specs.declared.state.State.{State}
@@ -27,6 +27,7 @@ pub record IsIssue (d e : Data) : Type 0 where
   pub limits : e.limits ≡ d.limits
   pub file : e.file ≡ d.file
   pub manual : e.manual ≡ d.manual
+  pub stopped : e.stopped ≡ d.stopped
   pub same_standing : standing e ≡ standing d
   pub poll_at : e.poll_at ≡ d.poll_at
   pub poll_ms : e.poll_ms ≡ d.poll_ms
@@ -40,6 +41,7 @@ issue_script true d = record {
   limits = refl;
   file = refl;
   manual = refl;
+  stopped = refl;
   same_standing = refl;
   poll_at = refl;
   poll_ms = refl;
@@ -51,6 +53,7 @@ issue_script false d = record {
   limits = refl;
   file = refl;
   manual = refl;
+  stopped = refl;
   same_standing = refl;
   poll_at = refl;
   poll_ms = refl;
@@ -65,6 +68,7 @@ issue_tag (Job print index) d = record {
   limits = refl;
   file = refl;
   manual = refl;
+  stopped = refl;
   same_standing = refl;
   poll_at = refl;
   poll_ms = refl;
@@ -76,6 +80,7 @@ issue_tag Manual d = record {
   limits = refl;
   file = refl;
   manual = refl;
+  stopped = refl;
   same_standing = refl;
   poll_at = refl;
   poll_ms = refl;
@@ -87,6 +92,7 @@ issue_tag Poll d = record {
   limits = refl;
   file = refl;
   manual = refl;
+  stopped = refl;
   same_standing = refl;
   poll_at = refl;
   poll_ms = refl;
@@ -134,16 +140,17 @@ module _ (p : PrintData) where
 
   -- a line is issued at such a desk, and the sent lines are then these
   issues : (line : Line) (d : Data) (issued : List (List ℕ)) (sent lines : List Line) → d.scripts ≡ p.scripts → d.limits ≡ p.limits
-      → d.file ≡ Some p.file → d.manual ≡ [] → Phase p (standing d) lines → sent ++ d.waiting ≡ lines
+      → d.file ≡ Some p.file → d.manual ≡ [] → d.stopped ≡ false → Phase p (standing d) lines → sent ++ d.waiting ≡ lines
       → Weave (issued ++ line.text ∷ []) (texts_in sent) → (d.issued < 18446744073709551615 → IsCounted d issued) → (d.state ≡ Offline → ⊥)
       → Kept issued (issue line d)
-  issues line d issued sent lines scripts limits file manual h parted woven counted online =
+  issues line d issued sent lines scripts limits file manual goes h parted woven counted online =
       let i : IsIssue d (issue line d).1 = issue_tag line.tag d in
       record {
         scripts_are = i.scripts ∙ scripts;
         limits_are = i.limits ∙ limits;
         file_is = i.file ∙ file;
         no_manual = i.manual ∙ manual;
+        unstopped = i.stopped ∙ goes;
         lines = lines;
         phase = subst (λ s. Phase p s lines) (sym i.same_standing) h;
         sent = sent;
@@ -159,7 +166,7 @@ module _ (p : PrintData) where
   scripts_first (line ∷ rest) d next issued e online h others =
       let split : (h.sent ++ line ∷ []) ++ rest ≡ h.lines = append_assoc h.sent (line ∷ []) rest ∙ ap (λ (w : List Line). h.sent ++ w) (sym e) ∙ h.parted in
       let more : texts_in (h.sent ++ line ∷ []) ≡ texts_in h.sent ++ line.text ∷ [] = texts_append h.sent (line ∷ []) in
-      issues line (record d { waiting = rest }) issued (h.sent ++ line ∷ []) h.lines h.scripts_are h.limits_are h.file_is h.no_manual
+      issues line (record d { waiting = rest }) issued (h.sent ++ line ∷ []) h.lines h.scripts_are h.limits_are h.file_is h.no_manual h.unstopped
       (next_waits p (standing d) h.lines line rest e h.phase) split
       (subst (λ part. Weave (issued ++ line.text ∷ []) part) (sym more) (weave_planned issued (texts_in h.sent) line.text h.woven))
       (λ below. (let c = h.counted below in record { all = c.all; print = c.print })) online
@@ -173,7 +180,7 @@ module _ (p : PrintData) where
   polls false at d next issued online h other = other
   polls true at d next issued online h other =
       issues (record { text = codes "M105"; tag = Poll })
-      (record d { poll_at = at }) issued h.sent h.lines h.scripts_are h.limits_are h.file_is h.no_manual h.phase h.parted
+      (record d { poll_at = at }) issued h.sent h.lines h.scripts_are h.limits_are h.file_is h.no_manual h.unstopped h.phase h.parted
       (weave_polled issued (texts_in h.sent) h.woven)
       (λ below. (let c = h.counted below in record { all = c.all; print = c.print })) online
 
@@ -199,7 +206,7 @@ module _ (p : PrintData) where
       ∙ ap (λ (l : Line). printed_lines p d.cursor ++ l ∷ []) one ∙ sym (printed_more p d.cursor text there) in
       let more : texts_in (h.sent ++ line ∷ []) ≡ texts_in h.sent ++ text ∷ [] = texts_append h.sent (line ∷ []) in
       issues line (record d { cursor = d.cursor + 1 }) issued (h.sent ++ line ∷ [])
-      (printed_lines p (d.cursor + 1)) h.scripts_are h.limits_are h.file_is h.no_manual
+      (printed_lines p (d.cursor + 1)) h.scripts_are h.limits_are h.file_is h.no_manual h.unstopped
       (phase.printing (record { its_state = on.opened.its_state; ready_is = on.opened.ready_is })
       (record { print_is = on.on.print_is; active_is = on.on.active_is }) (get_below (print_commands p) d.cursor text there))
       after (subst (λ part. Weave (issued ++ text ∷ []) part) (sym more) (weave_planned issued (texts_in h.sent) text h.woven))
@@ -214,8 +221,8 @@ module _ (p : PrintData) where
       talks moment d (from_file (slice_get (commands_of d.file) d.cursor) d) issued
       (λ off. (let clash : Printing ≡ Offline = sym at ∙ off in absurd (cc clash))) h
       (commands_next (slice_get (commands_of d.file) d.cursor) d issued refl at h)
-  draws Closing moment d issued at h = scripts_first d.waiting d (nothing d) issued refl
-      (λ off. (let clash : Closing ≡ Offline = sym at ∙ off in absurd (cc clash))) h (λ none. h)
+  draws Closing moment d issued at h = subst (λ (b : Bool). Kept issued (draw_last b d)) (sym h.unstopped) (scripts_first d.waiting d (nothing d) issued refl
+      (λ off. (let clash : Closing ≡ Offline = sym at ∙ off in absurd (cc clash))) h (λ none. h))
   draws Operational moment d issued at h = talks moment d (nothing d) issued
       (λ off. (let clash : Operational ≡ Offline = sym at ∙ off in absurd (cc clash))) h (λ none. h)
   draws Pausing moment d issued at h = talks moment d (nothing d) issued
@@ -245,6 +252,7 @@ module _ (p : PrintData) where
         limits_are = h.limits_are;
         file_is = h.file_is;
         no_manual = h.no_manual;
+        unstopped = h.unstopped;
         lines = done_lines p;
         phase = phase.finishing (record { its_state = refl; ready_is = on.opened.ready_is })
             (record { print_is = on.on.print_is; active_is = on.on.active_is });

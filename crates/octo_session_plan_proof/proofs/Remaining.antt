@@ -7,7 +7,7 @@ use Rattle.job_desk.specs.Data.{Data, Line, ScriptTexts, tagged, script_lines, c
 use Rattle.job_desk.specs.Course.{job_line}
 use Rattle.job_desk.specs.Plain.{numbered}
 use Rattle.job_desk.specs.Table.{printing, disconnect_at}
-use Rattle.job_desk.specs.Pull.{Drawn, draw_in_order, nothing, issue, from_scripts, from_manual, from_poll, poll_is_due, from_file, draw_at, is_issued, settle_at, settled, pull_step}
+use Rattle.job_desk.specs.Pull.{Drawn, draw_in_order, nothing, issue, from_scripts, from_manual, from_poll, poll_is_due, from_file, draw_last, draw_at, is_issued, settle_at, settled, pull_step}
 use Rattle.job_desk.specs.Note.{end_at, is_over, finish, after_open, ready_at, note_step}
 use Rattle.job_desk.specs.declared.state.State.{State}
 use Rattle.job_desk.specs.declared.state.State.TheVariants.{Offline, Connecting, Operational, Printing, Pausing, Paused, Cancelling, Finishing, Closing, Fault}
@@ -142,7 +142,9 @@ module _ (p : PrintData) where
   draw_falls Printing moment d issued at h = talk_falls moment d issued (from_file (slice_get (commands_of d.file) d.cursor) d) (ap is_giving at) h
       (λ none. command_falls (slice_get (commands_of d.file) d.cursor) d issued refl at h)
   draw_falls Finishing moment d issued at h = talk_falls moment d issued (nothing d) (ap is_giving at) h (λ none. none_falls d)
-  draw_falls Closing moment d issued at h = scripts_fall d.waiting d issued (nothing d) refl (ap is_giving at) h (λ none. none_falls d)
+  draw_falls Closing moment d issued at h =
+      subst (λ (b : Bool). Falls p d (draw_last b d)) (sym h.unstopped)
+      (scripts_fall d.waiting d issued (nothing d) refl (ap is_giving at) h (λ none. none_falls d))
   draw_falls Pausing moment d issued at h = impossible _ p (standing d) h.lines Pausing h.phase at refl
   draw_falls Paused moment d issued at h = impossible _ p (standing d) h.lines Paused h.phase at refl
   draw_falls Cancelling moment d issued at h = impossible _ p (standing d) h.lines Cancelling h.phase at refl

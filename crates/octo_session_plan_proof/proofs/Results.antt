@@ -4,7 +4,7 @@ use Rattle.std.proofs.lemmas.List.{append-nil}
 use Rattle.std.proofs.lemmas.Bool.{false≢true}
 use Rattle.std.proofs.lemmas.List.Elements.{All-head}
 use Rattle.job_desk.specs.Data.{Data, Line, moment_after}
-use Rattle.job_desk.specs.Pull.{Drawn, draw_in_order, nothing, issue, from_scripts, from_manual, poll_is_due, draw_at, pull_step}
+use Rattle.job_desk.specs.Pull.{Drawn, draw_in_order, nothing, issue, from_scripts, from_manual, poll_is_due, draw_last, draw_at, pull_step}
 use Rattle.job_desk.specs.declared.state.State.TheVariants.{Offline}
 use Rattle.job_desk.specs.declared.state.Tag.TheVariants.{Poll}
 use Rattle.octo_session_plan_proof.specs.Plan.{PrintData, print_commands, plan_lines}
@@ -58,17 +58,18 @@ module _ (p : PrintData) where
       subst (λ (w : List Line). IsLate (from_scripts w d (from_manual d.manual d next))) (sym none)
       (subst (λ (m : List (List ℕ)). IsLate (from_manual m d next)) (sym no_manual) (poll_late (poll_is_due moment d) asked d))
 
-  late_in : (moment : ℕ) (d : Data) (lines : List Line) → d.manual ≡ [] → d.active ≡ false → d.greatest ≡ 1 → Phase p (standing d) lines
+  late_in : (moment : ℕ) (d : Data) (lines : List Line) → d.manual ≡ [] → d.stopped ≡ false → d.active ≡ false → d.greatest ≡ 1 → Phase p (standing d) lines
       → IsLate (draw_at d.state moment d)
-  late_in moment d _ none i n (phase.connecting at f) = absurd (zero≢one (sym f.print_is ∙ n))
-  late_in moment d _ none i n (phase.connected o f) = absurd (zero≢one (sym f.print_is ∙ n))
-  late_in moment d _ none i n (phase.printing o f below) = absurd (false≢true (sym i ∙ f.active_is))
-  late_in moment d _ none i n (phase.finishing o f) = absurd (false≢true (sym i ∙ f.active_is))
-  late_in moment d _ none i n (phase.ended o f w) = subst (λ s. IsLate (draw_at s moment d)) (sym o.its_state) (talk_late moment d w none)
-  late_in moment d _ none i n (phase.closing o f w) = subst (λ s. IsLate (draw_at s moment d)) (sym o.its_state) (scripts_late d.waiting d w)
-  late_in moment d _ none i n (phase.offline at idle w) = subst (λ s. IsLate (draw_at s moment d)) (sym at) (none_late d)
-  late_in moment d _ none i n (phase.failed at idle lines part) = subst (λ s. IsLate (draw_at s moment d)) (sym at) (none_late d)
+  late_in moment d _ none goes i n (phase.connecting at f) = absurd (zero≢one (sym f.print_is ∙ n))
+  late_in moment d _ none goes i n (phase.connected o f) = absurd (zero≢one (sym f.print_is ∙ n))
+  late_in moment d _ none goes i n (phase.printing o f below) = absurd (false≢true (sym i ∙ f.active_is))
+  late_in moment d _ none goes i n (phase.finishing o f) = absurd (false≢true (sym i ∙ f.active_is))
+  late_in moment d _ none goes i n (phase.ended o f w) = subst (λ s. IsLate (draw_at s moment d)) (sym o.its_state) (talk_late moment d w none)
+  late_in moment d _ none goes i n (phase.closing o f w) = subst (λ s. IsLate (draw_at s moment d)) (sym o.its_state)
+      (subst (λ (b : Bool). IsLate (draw_last b d)) (sym goes) (scripts_late d.waiting d w))
+  late_in moment d _ none goes i n (phase.offline at idle w) = subst (λ s. IsLate (draw_at s moment d)) (sym at) (none_late d)
+  late_in moment d _ none goes i n (phase.failed at idle lines part) = subst (λ s. IsLate (draw_at s moment d)) (sym at) (none_late d)
 
   -- once the print has ended, only the Disconnect script and polls are issued
   pub late-underway : (moment : ℕ) (d : Data) (issued : List (List ℕ)) → d.active ≡ false → d.greatest ≡ 1 → IsUnderway p d issued → IsLate (pull_step moment d)
-  late-underway moment d issued i n h = late_in moment d h.lines h.no_manual i n h.phase
+  late-underway moment d issued i n h = late_in moment d h.lines h.no_manual h.unstopped i n h.phase

@@ -13,7 +13,7 @@ use Rattle.printer_model.proofs.Laws.{world_from-append}
 use Rattle.printer_link.specs.Link.{IsHeard, IsSend, arrivals, due_run, due_recv, printer_events, recv_events}
 use Rattle.send_window.specs.Data.{SenderData, IsSound, most_lines}
 use Rattle.send_window.specs.Hearing.{later, acknowledged, hear_step, tick_step, deadline_at, end_of_numbers, is_past}
-use Rattle.send_window.specs.Sending.{Outgoing, line, next_at, next_of, after_giving as given_out, with_deadline, frame_step, push_step, room_of}
+use Rattle.send_window.specs.Sending.{Outgoing, line, next_at, next_of, after_giving as given_out, with_deadline, frame_step, push_step, last_room_of}
 use Rattle.send_window.specs.declared.session_end.SessionEnd.{SessionEnd}
 use Rattle.octo_session.specs.Steps.{Step, opens, finds_no_port, fails_to_dial, hears, listens, fails_to_receive, ticks, issues, gives, fails_to_send, hangs_up, after_steps, AreAllowed, AreAdded, IsGiven, IsGivenAlone, issuing, issues_then_sends}
 use Rattle.printer_model.specs.Printer.{Entry, PrinterData}
@@ -122,7 +122,7 @@ each_push [] y fits fit = (fit, tt)
 each_push (x ∷ xs) y fits fit = (fits.0, each_push xs y fits.1 fit)
 
 -- a line is issued
-pub issue_saying : (text : List ℕ) (s : SenderData) (w : WorldData) → 0 < room_of s → IsFit text → IsReadySession s w → IsReadySession (push_step text s) w
+pub issue_saying : (text : List ℕ) (s : SenderData) (w : WorldData) → 0 < last_room_of s → IsFit text → IsReadySession s w → IsReadySession (push_step text s) w
 issue_saying text s w room fit i = record {
   ready_is = i.ready_is;
   awaiting = i.awaiting;

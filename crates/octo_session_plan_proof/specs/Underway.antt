@@ -81,6 +81,7 @@ pub record IsUnderway (p : PrintData) (d : Data) (issued : List (List ℕ)) : Ty
   pub limits_are : d.limits ≡ p.limits
   pub file_is : d.file ≡ Some p.file
   pub no_manual : d.manual ≡ []
+  pub unstopped : d.stopped ≡ false
   -- the lines of the plan that were issued or wait, and those that were issued
   pub lines : List Line
   pub phase : Phase p (standing d) lines

@@ -54,7 +54,8 @@ refused kind plan past x line asked limit new =
     let A : ℕ → Type 0 = λ n. (before : List WorldEvent) → HasPrinted kind plan how n before [] in
     record {
       printed = recorded_same past (HasPrinted kind plan how x.sender.acked)
-          (subst A (sym (new_acked x new)) (λ before. printed_of kind plan how [] 0 before [] (part_none plan) (λ is. absurd (cc)) (λ count is. absurd (cc)) (λ all is. absurd (cc)) (none_printed kind before [] refl)));
+          (subst A (sym (new_acked x new)) (λ before. printed_of kind plan how [] 0 before [] (part_none plan) (λ is. absurd (cc)) (λ count is. absurd (cc))
+          (λ count is. absurd (cc)) (λ all is. absurd (cc)) (none_printed kind before [] refl)));
       ended = λ why is. absurd (cc);
       unsent = λ none. refl;
     }
@@ -68,7 +69,10 @@ begins_on_time began x y new sender =
     record {
       sound = subst S (sym sender) new.sound;
       its_limit = refl;
-      waits = record { long_enough = λ wanted running is. (let no : None ≡ Some wanted = sym unset ∙ is in absurd (cc)) };
+      waits = record {
+        long_enough = λ wanted running is. (let no : None ≡ Some wanted = sym unset ∙ is in absurd (cc));
+        told_enough = λ wanted running is. (let no : None ≡ Some wanted = sym unset ∙ is in absurd (cc));
+      };
     })
     in
     record {

@@ -1,9 +1,10 @@
 -- What a turn and what follows of it make of the course of a print.
-use Rattle.std.proofs.Common.{◌≡◌, ℕ, List, [], refl, sym, ◌∙◌, ap, subst}
+use Rattle.std.proofs.Common.{◌≡◌, ℕ, Bool, false, List, [], refl, sym, ◌∙◌, ap, subst}
 use Rattle.std.specs.Prelude.{Option, None, Some}
 use Rattle.temp_rules.specs.Hot.{first_hot_of}
 use Rattle.job_desk.specs.Data.{Data, Line}
-use Rattle.job_desk.specs.Note.{Noted, note_step}
+use Rattle.job_desk.specs.Note.{Noted, hung_up, note_step}
+use Rattle.job_desk.specs.Pull.{settled}
 use Rattle.job_desk.specs.Table.{Answer, start_at}
 use Rattle.job_desk.specs.declared.link_fact.LinkFact.TheVariants as fact
 use Rattle.job_desk.specs.declared.state.State.{State}
@@ -15,13 +16,15 @@ use Rattle.octo_session_plan_proof.specs.Underway.{IsUnderway}
 use Rattle.octo_session_plan_proof.proofs.Calls.{start-underway, disconnect-underway}
 use Rattle.octo_session_print.specs.Ends.{left_after}
 
--- after the link was hung up the desk is offline
-pub closed_off : (moment acked : ℕ) (lines : List Line) (d : Data) (ending : Option Ending) (e : Data) → lines ≡ [] →
+-- after the link was hung up the desk is offline, if nobody stopped the printer
+pub closed_off : (moment acked : ℕ) (lines : List Line) (d : Data) (ending : Option Ending) (e : Data) → lines ≡ [] → d.stopped ≡ false →
     IsNoted moment acked fact.Closed lines d ending e → e.state ≡ Offline
-closed_off moment acked lines d ending e none n =
+closed_off moment acked lines d ending e none goes n =
     let L : List Line → Type 0 = λ l. Pulls moment l (note_step acked fact.Closed moment d).1 n.pulled in
     let same : n.pulled ≡ (note_step acked fact.Closed moment d).1 = subst L none n.pulls in
-    ap (λ (q : Noted). q.1.state) n.is ∙ ap (λ (x : Data). x.state) same
+    let off : (note_step acked fact.Closed moment d).1.state ≡ Offline =
+    ap (λ (b : Bool). (settled (hung_up b (record d { acked = acked })).1).state) goes in
+    ap (λ (q : Noted). q.1.state) n.is ∙ ap (λ (x : Data). x.state) same ∙ off
 
 -- the start of the print, if its desk lets it
 pub start_course : (p : PrintData) (d : Data) (issued : List (List ℕ)) → first_hot_of p.limits p.file.job.commands ≡ None → d.greatest ≡ 0 →

@@ -6,7 +6,7 @@ use Rattle.job_desk.specs.declared.state.State.TheVariants.{Offline, Operational
 use Rattle.job_desk.specs.declared.link_fact.LinkFact.{LinkFact}
 use Rattle.job_desk.specs.declared.link_fact.LinkFact.TheVariants as fact
 use Rattle.send_window.specs.declared.session_end.SessionEnd.{SessionEnd}
-use Rattle.send_window.specs.declared.session_end.SessionEnd.TheVariants.{NoAnswer, NumbersUsed}
+use Rattle.send_window.specs.declared.session_end.SessionEnd.TheVariants.{NoAnswer, LostOk, NumbersUsed}
 use Rattle.print_queue.specs.declared.ending.Ending.{Ending}
 use Rattle.printer_model.specs.declared.event.WorldEvent.{WorldEvent}
 use Rattle.printer_link.specs.Link.{LinkKind, Recorded, world_in}
@@ -39,7 +39,7 @@ use Rattle.octo_session_print.specs.BetweenTurns.{IsDialling, IsOnLink, IsBetwee
 use Rattle.octo_session_print.specs.declared.end.PrintEnd.{PrintEnd}
 use Rattle.octo_session_print.specs.declared.end.PrintEnd.TheVariants as end
 use Rattle.octo_session_line_proof.proofs.Histories.{none_printed, nothing_added}
-use Rattle.octo_session_print.proofs.Printing.{printed_of, unanswered_of, part_none}
+use Rattle.octo_session_print.proofs.Printing.{printed_of, unanswered_of, missing_of, part_none}
 use Rattle.octo_session_line_proof.proofs.Turns.{ports_dialling, turned_all, made_on, made_now, none_made, none_added, made_printed}
 use Rattle.octo_session_print.proofs.Course.{closed_off}
 use Rattle.octo_session_line_proof.proofs.Lasting.{sound_steps, ended_turn}
@@ -108,7 +108,7 @@ module _ (moment : ℕ) (kind : LinkKind) (old_past new_past : Option (List Worl
       λ past added t. (let none = none_made moment kind old mid h.turn.got h.turn.found texts past added other d.dials t in
       let A : ℕ → Type 0 = λ n. HasPrinted kind whole how n past added in
       subst A (sym (ap (λ (s : SenderData). s.acked) none.1 ∙ d.none_acked))
-      (printed_of kind whole how [] 0 past added (part_none whole) (λ is. absurd (undone is)) (λ count is. absurd (unended (NoAnswer count) is)) (λ all is. absurd (unended (NumbersUsed all) is)) (none_printed kind past added none.0)))
+      (printed_of kind whole how [] 0 past added (part_none whole) (λ is. absurd (undone is)) (λ count is. absurd (unended (NoAnswer count) is)) (λ count is. absurd (unended (LostOk count) is)) (λ all is. absurd (unended (NumbersUsed all) is)) (none_printed kind past added none.0)))
       in
       record {
         printed = subst F d.nothing (recorded_so old_past new_past
@@ -204,7 +204,8 @@ module _ (moment : ℕ) (kind : LinkKind) (old_past new_past : Option (List Worl
   talk_whole l closed =
       let N : LinkFact → Type 0 = λ f. IsNoted moment mid.sender.acked f h.turn.lines old.desk turned.ending mid.desk in
       let n : IsNoted moment mid.sender.acked fact.Closed h.turn.lines old.desk turned.ending mid.desk = subst N closed (noted (λ rests. up_clash l (rests_down old rests))) in
-      let off : mid.desk.state ≡ Offline = closed_off moment mid.sender.acked h.turn.lines old.desk turned.ending mid.desk (no_lines (ap may_have_issued closed)) n in
+      let off : mid.desk.state ≡ Offline = closed_off moment mid.sender.acked h.turn.lines old.desk turned.ending mid.desk (no_lines (ap may_have_issued closed))
+      l.on.course.unstopped n in
       let done = underway-whole p mid.desk (issued_in h.turn.found texts l.issued) off (underway l.issued l.on.course) in
       let s : IsSound mid.sender = sound l.on.sound in (
         done.woven,
@@ -221,6 +222,7 @@ module _ (moment : ℕ) (kind : LinkKind) (old_past new_past : Option (List Worl
             (λ past added made. printed_of kind whole how now mid.sender.acked past added (underway-part p mid.desk now (underway l.issued l.on.course))
             (λ done. talk_whole l (closed done))
             (λ count is. (let fits = h.fits (NoAnswer count) (ends (NoAnswer count) is) in (fits.0, unanswered_of kind now mid past added made fits.1)))
+            (λ count is. (let fits = h.fits (LostOk count) (ends (LostOk count) is) in (fits.0, missing_of kind now mid past added made fits.1)))
             (λ all is. h.fits (NumbersUsed all) (ends (NumbersUsed all) is)) (made_printed kind now mid past added made));
         ended = λ why is. record {
           its_end = talk_ended why (sym its_fact ∙ ends why is);

@@ -4,8 +4,8 @@ use Rattle.printer_model.specs.Executed.{opens, executed, logged_from}
 use Rattle.printer_model.specs.declared.event.WorldEvent.{WorldEvent}
 use Rattle.printer_link.specs.Link.{LinkKind, Recorded}
 use Rattle.send_window.specs.declared.session_end.SessionEnd.{SessionEnd}
-use Rattle.send_window.specs.declared.session_end.SessionEnd.TheVariants.{NoAnswer, NumbersUsed}
-use Rattle.send_window.specs.Data.{SenderData, most_lines, most_silent}
+use Rattle.send_window.specs.declared.session_end.SessionEnd.TheVariants.{NoAnswer, LostOk, NumbersUsed}
+use Rattle.send_window.specs.Data.{SenderData, most_lines, most_silent, most_told}
 use Rattle.octo_session.specs.Data.{SessionData}
 use Rattle.octo_session.specs.Causes.{EndCausedAs}
 use Rattle.octo_session.specs.Plan.{Weave, WeavesPart}
@@ -31,6 +31,8 @@ pub record HasPrinted (kind : LinkKind) (plan : List (List ℕ)) (how : PrintEnd
   pub done : how ≡ end.Done → IsWholePrint kind plan issued acked past added
   -- one that ended with no answer names five limits; nothing was issued, or not all issued lines are acknowledged
   pub unanswered : (count : ℕ) → how ≡ end.Ended (NoAnswer count) → (count ≡ most_silent) × ((issued ≡ []) ⊎ (acked < length issued))
+  -- one that ended for a missing `ok` names twenty limits, and not all issued lines are acknowledged
+  pub missing : (count : ℕ) → how ≡ end.Ended (LostOk count) → (count ≡ most_told) × (acked < length issued)
   -- one whose session used all its numbers names `most_lines`, and that many lines are acknowledged
   pub all_used : (all : ℕ) → how ≡ end.Ended (NumbersUsed all) → (all ≡ most_lines) × (acked ≡ most_lines)
 

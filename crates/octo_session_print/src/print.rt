@@ -7,8 +7,8 @@ ghost use Rattle.gcode_lines.specs.Job.{texts_of};
 ghost use Rattle.job_desk.specs.Data.{named_file};
 ghost use Rattle.job_desk.specs.declared.link_fact.LinkFact.TheVariants as fact;
 ghost use Rattle.send_window.specs.declared.session_end.SessionEnd.{SessionEnd};
-ghost use Rattle.send_window.specs.declared.session_end.SessionEnd.TheVariants.{NoAnswer};
-ghost use Rattle.send_window.specs.Data.{most_lines, most_silent};
+ghost use Rattle.send_window.specs.declared.session_end.SessionEnd.TheVariants.{NoAnswer, LostOk};
+ghost use Rattle.send_window.specs.Data.{most_lines, most_silent, most_told};
 ghost use Rattle.send_window.specs.Hearing.{later};
 ghost use Rattle.printer_link.specs.Link.{Recorded, RoseBy};
 ghost use Rattle.printer_model.specs.declared.event.WorldEvent.{WorldEvent};
@@ -84,12 +84,14 @@ pub fn run_print<L: Link, T: Clock>(
         (T.moment clock.new) session.old.sender.limit session.old.desk.poll_ms
         → length (plan session.old.desk.scripts (texts_of job)) + 32 ≤ turns → result ≡ end.Done }
 
-    // The link afterwards, and that a print which was too hot or had no port added nothing.
+    // The link afterwards, and that a print which had no port added nothing. One that was too hot left all as it was.
     ensures down { L.up link.new ≡ false }
     ensures kind { L.kind link.new ≡ L.kind link.old }
     ensures counts { Counts (result ≡ end.LinkFailed) (L.faults link.old) (L.faults link.new) }
     ensures unsent { IsUnsent result → L.past link.new ≡ L.past link.old }
     ensures refused { is_too_hot result ≡ true → session.new ≡ session.old }
+    ensures untouched { is_too_hot result ≡ true
+        → (link.new ≡ link.old) × (clock.new ≡ clock.old) }
 {
     if let Some(hot) = first_hot(&job, session.desk().limits()) {
         return PrintEnd::TooHot {
@@ -200,6 +202,9 @@ fn make_turn<L: Link, T: Clock>(
     ensures waited { (start limit count : ℕ)
         → start ≤ moment → IsPatient start limit session.old.sender
         → result ≡ Some (end.Ended (NoAnswer count)) → later start (most_silent * limit) ≤ moment }
+    ensures missed { (start limit count : ℕ)
+        → start ≤ moment → IsPatient start limit session.old.sender
+        → result ≡ Some (end.Ended (LostOk count)) → later start (most_told * limit) ≤ moment }
     ensures clock { NotBefore (T.moment clock.old) (T.moment clock.new) }
 
     // Over a prompt link; and which end it never comes to.

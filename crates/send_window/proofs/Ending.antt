@@ -4,7 +4,7 @@ use Rattle.std.specs.Prelude.{Option, None, Some}
 use Rattle.std.proofs.lemmas.Grind.{common_steps}
 use Rattle.marlin_reply.specs.declared.reply.Reply.{Reply}
 use Rattle.send_window.specs.declared.session_end.SessionEnd.{SessionEnd}
-use Rattle.send_window.specs.declared.session_end.SessionEnd.TheVariants.{NoAnswer, AskedBack, AskedAhead, Counts, Restarted, NumbersUsed}
+use Rattle.send_window.specs.declared.session_end.SessionEnd.TheVariants.{NoAnswer, AskedBack, AskedAhead, Counts, Restarted, LostOk, NumbersUsed}
 use Rattle.send_window.specs.Data.{SenderData}
 use Rattle.send_window.specs.Hearing.{hear_step, tick_step, heard_reply, unless_ended}
 use Rattle.send_window.specs.Laws.{IsEndedBy, IsEndedAt, EndsByRule}
@@ -27,6 +27,9 @@ used heard_line moment s a none_yet = (grind (arith, common_steps), grind (arith
 silence : (heard_line : Reply) (moment : ℕ) (s : SenderData) (a : ℕ) → s.ended ≡ None → ((heard_reply heard_line moment s).ended ≡ Some (NoAnswer a)) ↔ IsEndedBy (NoAnswer a) heard_line s
 silence heard_line moment s a none_yet = (grind (arith, common_steps), grind (arith, common_steps))
 
+lost : (heard_line : Reply) (moment : ℕ) (s : SenderData) (a : ℕ) → s.ended ≡ None → ((heard_reply heard_line moment s).ended ≡ Some (LostOk a)) ↔ IsEndedBy (LostOk a) heard_line s
+lost heard_line moment s a none_yet = (grind (arith, common_steps), grind (arith, common_steps))
+
 pub tick_ends : (why : SessionEnd) (moment : ℕ) (s : SenderData) → s.ended ≡ None → ((tick_step moment s).ended ≡ Some why) ↔ IsEndedAt why moment s
 tick_ends why moment s none_yet = (grind (arith, common_steps), grind (arith, common_steps))
 
@@ -36,6 +39,7 @@ reply_ends (AskedBack a b) heard_line moment s none_yet = back heard_line moment
 reply_ends (AskedAhead a b) heard_line moment s none_yet = ahead heard_line moment s a b none_yet
 reply_ends (Counts a b) heard_line moment s none_yet = counts heard_line moment s a b none_yet
 reply_ends Restarted heard_line moment s none_yet = restarted heard_line moment s none_yet
+reply_ends (LostOk a) heard_line moment s none_yet = lost heard_line moment s a none_yet
 reply_ends (NumbersUsed a) heard_line moment s none_yet = used heard_line moment s a none_yet
 
 open_step : (heard_line : Reply) (moment : ℕ) (s : SenderData) → s.ended ≡ None → hear_step heard_line moment s ≡ heard_reply heard_line moment s

@@ -6,8 +6,8 @@ use Rattle.marlin_reply.specs.declared.reply.Reply.{Reply}
 use Rattle.marlin_reply.specs.declared.reply.Reply.TheVariants as reply
 use Rattle.send_window.specs.declared.session_end.SessionEnd.{SessionEnd}
 use Rattle.send_window.specs.Data.{SenderData, IsSound, new_sender, sender_after_dial}
-use Rattle.send_window.specs.Hearing.{hear_step, tick_step, heard_reply, heard_ok, heard_resend, heard_start, after_hearing, unless_ended}
-use Rattle.send_window.specs.Sending.{room_of}
+use Rattle.send_window.specs.Hearing.{hear_step, tick_step, heard_reply, heard_ok, heard_resend, heard_start, after_hearing, after_busy, unless_ended}
+use Rattle.send_window.specs.Sending.{last_room_of}
 use Rattle.send_window.specs.Laws.{StaysSound}
 use Rattle.send_window.specs.Session.{Step, hears, ticks, issues, gives, after_step, IsAllowed}
 
@@ -29,11 +29,14 @@ start_sound s none_yet sound = grind (arith, common_steps)
 marked_sound : (s : SenderData) → IsSound s → IsSound (after_hearing s)
 marked_sound s sound = grind (arith, common_steps)
 
+busy_sound : (s : SenderData) → IsSound s → IsSound (after_busy s)
+busy_sound s sound = grind (arith, common_steps)
+
 reply_sound : (heard_line : Reply) (moment : ℕ) (s : SenderData) → s.ended ≡ None → IsSound s → IsSound (heard_reply heard_line moment s)
 reply_sound (reply.Ok number _ _ _) moment s none_yet sound = ok_sound number moment s none_yet sound
 reply_sound (reply.Resend number) moment s none_yet sound = resend_sound number moment s none_yet sound
 reply_sound reply.Start moment s none_yet sound = start_sound s none_yet sound
-reply_sound reply.Busy moment s none_yet sound = marked_sound s sound
+reply_sound reply.Busy moment s none_yet sound = busy_sound s sound
 reply_sound (reply.Temps _) moment s none_yet sound = marked_sound s sound
 reply_sound reply.Error moment s none_yet sound = marked_sound s sound
 reply_sound reply.Other moment s none_yet sound = marked_sound s sound
@@ -49,7 +52,7 @@ hears_sound heard_line moment s sound =
 pub ticks_sound : (moment : ℕ) (s : SenderData) → IsSound s → IsSound (tick_step moment s)
 ticks_sound moment s sound = grind (arith, common_steps)
 
-pub issues_sound : (text : List ℕ) (s : SenderData) → 0 < room_of s → IsSound s → IsSound (after_step (issues text) s)
+pub issues_sound : (text : List ℕ) (s : SenderData) → 0 < last_room_of s → IsSound s → IsSound (after_step (issues text) s)
 issues_sound text s room sound = grind (arith, common_steps)
 
 pub gives_sound : (moment : ℕ) (s : SenderData) → IsSound s → IsSound (after_step (gives moment) s)

@@ -10,6 +10,10 @@ most_lines = 1999999999
 abbrev pub most_silent : ℕ
 most_silent = 5
 
+-- the number of limits in a row that ends a session of which the printer has all issued lines
+abbrev pub most_told : ℕ
+most_told = 20
+
 -- the sender as plain data; lines go by their places in the session, from 1, and times are in milliseconds
 pub record SenderData : Type 0 where
   -- the most lines that may be unacknowledged
@@ -37,6 +41,10 @@ pub record SenderData : Type 0 where
   pub heard : Bool
   -- how many limits in a row passed in silence
   pub silent : ℕ
+  -- a Resend of a line was heard since the last limit
+  pub asked_anew : Bool
+  -- in how many limits in a row the printer asked for the line after the last issued one
+  pub told : ℕ
   -- the hello is to be sent
   pub hello_due : Bool
   -- the hello was acknowledged
@@ -60,6 +68,8 @@ new_sender w l = record {
   deadline = None;
   heard = false;
   silent = 0;
+  asked_anew = false;
+  told = 0;
   hello_due = false;
   ready = false;
   ended = None;
@@ -75,9 +85,9 @@ pub record IsSound (s : SenderData) : Type 0 where
   pub open_window : 1 ≤ s.window
   pub small_window : s.window ≤ 16
   pub some_limit : 1 ≤ s.limit
-  -- the lines held are as many as were issued above acked, and the window holds them
+  -- the lines held are as many as were issued above acked, and the window holds all but one that stops the printer
   pub counted : s.acked + length s.held ≡ s.issued
-  pub in_window : length s.held ≤ s.window
+  pub in_window : length s.held ≤ s.window + 1
   pub few : s.issued ≤ most_lines
   -- the cursor is above acked, and at most one past the last line
   pub above_acked : s.acked + 1 ≤ s.cursor
@@ -95,3 +105,9 @@ pub record IsSound (s : SenderData) : Type 0 where
   pub silent_most : s.silent ≤ most_silent
   pub silent_few : s.ended ≡ None → s.silent < most_silent
   pub silent_none : s.deadline ≡ None → s.silent ≡ 0
+  -- likewise the limits in which the printer has all issued lines, of which there are none before the `ok` of the hello
+  pub told_most : s.told ≤ most_told
+  pub told_few : s.ended ≡ None → s.told < most_told
+  pub told_none : s.deadline ≡ None → s.told ≡ 0
+  pub told_unready : s.ready ≡ false → s.told ≡ 0
+  pub anew_unready : s.ready ≡ false → s.asked_anew ≡ false

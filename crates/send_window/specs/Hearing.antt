@@ -4,9 +4,9 @@ use Rattle.byte_text.specs.Number.{most_u64}
 use Rattle.marlin_reply.specs.declared.reply.Reply.{Reply}
 use Rattle.marlin_reply.specs.declared.reply.Reply.TheVariants as reply
 use Rattle.send_window.specs.declared.session_end.SessionEnd.{SessionEnd}
-use Rattle.send_window.specs.declared.session_end.SessionEnd.TheVariants.{NoAnswer, AskedBack, AskedAhead, Counts, Restarted, NumbersUsed}
+use Rattle.send_window.specs.declared.session_end.SessionEnd.TheVariants.{NoAnswer, AskedBack, AskedAhead, Counts, Restarted, LostOk, NumbersUsed}
 use Rattle.marlin_frame.specs.Numbering.{wire_number, place_of}
-use Rattle.send_window.specs.Data.{SenderData, most_lines, most_silent}
+use Rattle.send_window.specs.Data.{SenderData, most_lines, most_silent, most_told}
 
 -- the greatest moment
 abbrev pub last_moment : ℕ
@@ -20,6 +20,12 @@ later moment span = min (moment + span) last_moment
 abbrev pub deadline_at : ℕ → ℕ → ℕ → ℕ → Option ℕ
 deadline_at moment span acknowledged all = if acknowledged == all then None else Some (later moment span)
 
+-- the deadline after a Resend, which is never sooner than the one that was set
+abbrev pub renewed : Option ℕ → Option ℕ → Option ℕ
+renewed None next = next
+renewed (Some wanted) None = None
+renewed (Some wanted) (Some next) = Some (max wanted next)
+
 -- the end of a session whose line numbers are used up
 abbrev pub end_of_numbers : ℕ → ℕ → Option SessionEnd
 end_of_numbers acknowledged all = if acknowledged == most_lines then Some (NumbersUsed all) else None
@@ -27,6 +33,10 @@ end_of_numbers acknowledged all = if acknowledged == most_lines then Some (Numbe
 -- something was heard
 abbrev pub after_hearing : SenderData → SenderData
 after_hearing s = record s { heard = true }
+
+-- the printer is at work, so an `ok` may still come
+abbrev pub after_busy : SenderData → SenderData
+after_busy s = record s { heard = true; asked_anew = false; told = 0 }
 
 -- the session ends
 abbrev pub ended_by : SessionEnd → SenderData → SenderData
@@ -49,6 +59,8 @@ acknowledged moment s = record s {
   deadline = deadline_at moment s.limit (s.acked + 1) s.issued;
   silent = 0;
   heard = false;
+  asked_anew = false;
+  told = 0;
   ended = end_of_numbers (s.acked + 1) s.issued;
 }
 
@@ -90,9 +102,10 @@ line_asked place moment s = record s {
   cursor = if is_repeated place s then s.cursor else place;
   asked = place;
   left = if is_repeated place s then s.left - 1 else s.sent - place;
-  deadline = deadline_at moment s.limit s.acked s.issued;
+  deadline = renewed s.deadline (deadline_at moment s.limit s.acked s.issued);
   silent = 0;
   heard = false;
+  asked_anew = true;
 }
 
 -- a Resend of a ready session: neither of an acknowledged line nor past the next line to issue
@@ -119,7 +132,7 @@ abbrev pub heard_reply : Reply → ℕ → SenderData → SenderData
 heard_reply (reply.Ok number _ _ _) moment s = heard_ok s.swallow s.ready number moment s
 heard_reply (reply.Resend number) moment s = heard_resend s.ready number moment s
 heard_reply reply.Start moment s = heard_start s.ready s
-heard_reply reply.Busy moment s = after_hearing s
+heard_reply reply.Busy moment s = after_busy s
 heard_reply (reply.Temps _) moment s = after_hearing s
 heard_reply reply.Error moment s = after_hearing s
 heard_reply reply.Other moment s = after_hearing s
@@ -142,13 +155,21 @@ is_past (Some wanted) moment = nat_le wanted moment
 abbrev pub silent_limits : SenderData → ℕ
 silent_limits s = if s.heard && s.ready then 0 else s.silent + 1
 
+-- the count of limits in which the printer asked for the line after the last issued one, if one more has passed
+abbrev pub told_limits : SenderData → ℕ
+told_limits s = if s.asked_anew && s.asked == s.issued + 1 then s.told + 1 else 0
+
 -- a limit passed: at the fifth that counts the session ends, else all that is unacknowledged is sent again
 abbrev pub limit_passed : ℕ → SenderData → SenderData
 limit_passed moment s =
     if silent_limits s == most_silent
     then ended_by (NoAnswer most_silent) (record s { silent = most_silent })
+    else if told_limits s == most_told
+    then ended_by (LostOk most_told) (record s { silent = silent_limits s; told = most_told })
     else record s {
       silent = silent_limits s;
+      asked_anew = false;
+      told = told_limits s;
       cursor = if s.ready then s.acked + 1 else s.cursor;
       left = if s.ready then 0 else s.left;
       heard = false;

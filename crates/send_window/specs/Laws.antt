@@ -4,11 +4,11 @@ use Rattle.byte_text.specs.Sendable.{IsSendable}
 use Rattle.marlin_reply.specs.declared.reply.Reply.{Reply}
 use Rattle.marlin_reply.specs.declared.reply.Reply.TheVariants as reply
 use Rattle.send_window.specs.declared.session_end.SessionEnd.{SessionEnd}
-use Rattle.send_window.specs.declared.session_end.SessionEnd.TheVariants.{NoAnswer, AskedBack, AskedAhead, Counts, Restarted, NumbersUsed}
+use Rattle.send_window.specs.declared.session_end.SessionEnd.TheVariants.{NoAnswer, AskedBack, AskedAhead, Counts, Restarted, LostOk, NumbersUsed}
 use Rattle.marlin_frame.specs.Numbering.{wire_number}
-use Rattle.send_window.specs.Data.{SenderData, IsSound, new_sender, sender_after_dial, most_lines, most_silent}
-use Rattle.send_window.specs.Hearing.{later, hear_step, tick_step, is_past}
-use Rattle.send_window.specs.Sending.{hello, line, next_of, room_of, push_step, frame_step, IsFramable}
+use Rattle.send_window.specs.Data.{SenderData, IsSound, new_sender, sender_after_dial, most_lines, most_silent, most_told}
+use Rattle.send_window.specs.Hearing.{later, hear_step, tick_step, is_past, silent_limits}
+use Rattle.send_window.specs.Sending.{hello, line, next_of, last_room_of, push_step, frame_step, IsFramable}
 use Rattle.send_window.specs.Session.{Step, hears, ticks, issues, gives, after_step, after_steps, IsAllowed, AreAllowed, replies_of, texts_issued, HoldsIssued, IsSince, WaitsSince}
 use Rattle.send_window.specs.Counting.{is_ok, is_resend, is_pending, own_oks, acked_of, AreAwaited, IsInTurn, AreInTurn, traffic_of, IsSilent, IsQuiet, OwesLine}
 
@@ -73,7 +73,7 @@ ResendKeepsAcked =
 abbrev pub EndStays : Type 0
 EndStays =
     (s : SenderData) (why : SessionEnd) → s.ended ≡ Some why →
-    (next_of s ≡ None) × (room_of s ≡ 0)
+    (next_of s ≡ None) × (last_room_of s ≡ 0)
     × ((step : Step) → ((after_step step s).ended ≡ Some why) × ((after_step step s).acked ≡ s.acked))
 
 -- the number that an `ok` names, if it is one
@@ -107,12 +107,17 @@ IsEndedBy (Counts number expected) heard_line s =
     (ok_number heard_line ≡ Some (Some number)) × (s.swallow ≡ false) × (s.ready ≡ true)
     × (number ≢ wire_number (s.acked + 1)) × (expected ≡ wire_number (s.acked + 1))
 IsEndedBy Restarted heard_line s = (heard_line ≡ reply.Start) × (s.ready ≡ true)
+IsEndedBy (LostOk limits) heard_line s = ⊥
 IsEndedBy (NumbersUsed all) heard_line s = IsLastOk heard_line s × (all ≡ s.issued)
 
--- what a tick must find to end the session so: the fifth limit in a row has passed with nothing heard or without the `ok` of the hello
+-- what a tick must find to end the session so: the fifth limit in a row has passed with nothing heard or without the `ok` of the hello, or the
+-- twentieth in which the printer asked for the line after the last issued one
 abbrev pub IsEndedAt : SessionEnd → ℕ → SenderData → Type 0
 IsEndedAt (NoAnswer count) moment s =
     (is_past s.deadline moment ≡ true) × ((s.heard ≡ false) ⊎ (s.ready ≡ false)) × (s.silent + 1 ≡ most_silent) × (count ≡ most_silent)
+IsEndedAt (LostOk limits) moment s =
+    (is_past s.deadline moment ≡ true) × (s.asked_anew ≡ true) × (s.asked ≡ s.issued + 1) × (s.told + 1 ≡ most_told)
+    × (silent_limits s ≢ most_silent) × (limits ≡ most_told)
 IsEndedAt (AskedBack _ _) moment s = ⊥
 IsEndedAt (AskedAhead _ _) moment s = ⊥
 IsEndedAt (Counts _ _) moment s = ⊥
@@ -172,7 +177,7 @@ EndsInSilence =
     IsSilent (traffic_of steps (sender_after_dial s))
 
 -- no session ends with no answer sooner than five limits after it began or a line was acknowledged, nor if the
--- hello and all issued lines are acknowledged
+-- hello and all issued lines are acknowledged; and for a missing `ok` none sooner than twenty, nor without such a line
 abbrev pub WaitsFiveLimits : Type 0
 WaitsFiveLimits =
     ((start : ℕ) (s : SenderData) → WaitsSince start (sender_after_dial s))
@@ -180,6 +185,8 @@ WaitsFiveLimits =
     × ((heard_line : Reply) (moment : ℕ) (s : SenderData) → s.acked < (hear_step heard_line moment s).acked → WaitsSince moment (hear_step heard_line moment s))
     × ((start moment count : ℕ) (s : SenderData) → IsSound s → WaitsSince start s → s.ended ≡ None → (tick_step moment s).ended ≡ Some (NoAnswer count) →
     (later start (most_silent * s.limit) ≤ moment) × ((s.ready ≡ false) ⊎ (s.acked < s.issued)))
+    × ((start moment limits : ℕ) (s : SenderData) → IsSound s → WaitsSince start s → s.ended ≡ None → (tick_step moment s).ended ≡ Some (LostOk limits) →
+    (later start (most_told * s.limit) ≤ moment) × (s.ready ≡ true) × (s.acked < s.issued))
 
 -- a text that may be sent is one that a frame can carry
 abbrev pub CarriesSendable : Type 0

@@ -39,6 +39,10 @@ room_at None true s = min (s.window - (s.issued - s.acked)) (most_lines - s.issu
 abbrev pub room_of : SenderData → ℕ
 room_of s = room_at s.ended s.ready s
 
+-- the same if the last of them stops the printer: such a line may be one more than the window holds
+abbrev pub last_room_of : SenderData → ℕ
+last_room_of s = room_at s.ended s.ready (record s { window = s.window + 1 })
+
 -- a line is issued
 abbrev pub push_step : List ℕ → SenderData → SenderData
 push_step text s = record s { issued = s.issued + 1; held = s.held ++ text ∷ [] }

@@ -3,7 +3,7 @@ use Rattle.std.specs.Prelude.{◌≡◌, ℕ, ◌+◌, ◌*◌, ◌≤◌, ◌<�
 use Rattle.marlin_reply.specs.declared.reply.Reply.{Reply}
 use Rattle.send_window.specs.Data.{SenderData}
 use Rattle.send_window.specs.Hearing.{later, hear_step, tick_step}
-use Rattle.send_window.specs.Sending.{room_of, push_step, frame_step}
+use Rattle.send_window.specs.Sending.{last_room_of, push_step, frame_step}
 
 -- one call: a reply is heard or the clock ticks at a moment, a text is issued, or a frame is asked for at a moment
 pub data Step : Type 0 where
@@ -24,11 +24,11 @@ abbrev pub after_steps : List Step → SenderData → SenderData
 after_steps [] s = s
 after_steps (step ∷ steps) s = after_steps steps (after_step step s)
 
--- a line is issued only if there is room
+-- a line is issued only if there is room for it, or for one that stops the printer
 abbrev pub IsAllowed : Step → SenderData → Type 0
 IsAllowed (hears heard_line moment) s = Unit {0}
 IsAllowed (ticks moment) s = Unit {0}
-IsAllowed (issues text) s = 0 < room_of s
+IsAllowed (issues text) s = 0 < last_room_of s
 IsAllowed (gives moment) s = Unit {0}
 
 -- each line is issued only if there is room
@@ -65,6 +65,8 @@ IsSince start (ticks moment) = start ≤ moment
 IsSince start (issues text) = Unit {0}
 IsSince start (gives moment) = start ≤ moment
 
--- while the session goes on the deadline leaves room, from a moment on, for the limits that passed in silence and one more
+-- while the session goes on the deadline leaves room, from a moment on, for the limits that passed in silence and one more, and for those in
+-- which the printer asked for the line after the last issued one and one more
 pub record WaitsSince (start : ℕ) (s : SenderData) : Type 0 where
   pub long_enough : (wanted : ℕ) → s.ended ≡ None → s.deadline ≡ Some wanted → later start ((s.silent + 1) * s.limit) ≤ wanted
+  pub told_enough : (wanted : ℕ) → s.ended ≡ None → s.deadline ≡ Some wanted → later start ((s.told + 1) * s.limit) ≤ wanted

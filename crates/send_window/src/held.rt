@@ -12,8 +12,8 @@ use marlin_frame::frame;
 use std::alloc::{AllocError, Global};
 use std::marker::Model;
 
-// The most lines that may be held.
-pub(crate) const MOST_HELD: usize = 16;
+// The most lines that may be held: as many as the largest window has, and one that stops the printer.
+pub(crate) const MOST_HELD: usize = 17;
 
 // The text of a line.
 #[derive(Drop)]
@@ -52,7 +52,7 @@ impl HeldText {
     }
 }
 
-// At most 16 lines, in the order of their numbers.
+// At most 17 lines, in the order of their numbers.
 #[derive(Drop)]
 pub(crate) struct Held {
     lines: HeapCircularBuffer<HeldText>,
@@ -65,7 +65,7 @@ impl Model for Held {
 
     ghost view = { λ held. held.lines.items };
 
-    ghost invariant = { λ held. (held.lines.capacity ≡ 16) × (length held.lines.items ≤ 16) };
+    ghost invariant = { λ held. (held.lines.capacity ≡ 17) × (length held.lines.items ≤ 17) };
 }
 
 impl Held {
@@ -86,7 +86,7 @@ impl Held {
 
     // Adds a line after the others.
     pub(crate) fn push(&mut self, text: &[u8])
-        requires room { length self.old < 16 }
+        requires room { length self.old < 17 }
         requires framable { IsFramable text.now }
         ensures { self.new ≡ self.old ++ text.now ∷ [] }
     {

@@ -5,7 +5,7 @@ ghost use Rattle.byte_text.specs.declared.texts.TheConstants.{MOST_LINE_BYTES};
 ghost use Rattle.marlin_frame.specs.Numbering.{wire_number, hello_frame};
 ghost use Rattle.send_window.specs.Data.{IsSound, new_sender, sender_after_dial};
 ghost use Rattle.send_window.specs.Hearing.{hear_step, tick_step, answer_of};
-ghost use Rattle.send_window.specs.Sending.{IsFramable, room_of, push_step, next_of, number_of_outgoing, bytes_of_outgoing, frame_step};
+ghost use Rattle.send_window.specs.Sending.{IsFramable, room_at, room_of, last_room_of, push_step, next_of, number_of_outgoing, bytes_of_outgoing, frame_step};
 
 use crate::held::Held;
 use crate::session_end::SessionEnd;
@@ -24,6 +24,9 @@ const MOST_LINES: u32 = 1_999_999_999;
 // After this number of limits in a row the session ends: limits in which nothing was received, and before the `ok` of the
 // hello all of them.
 const MOST_SILENT: u8 = 5;
+
+// After this number of limits in a row in which the printer asked for the line after the last issued one the session ends.
+const MOST_TOLD: u8 = 20;
 
 /// Sends the lines of a session in order, as Marlin's serial protocol asks: each has a number from 2 and a checksum,
 /// is held until its `ok`, and goes out again on a Resend or if the limit passes. A session begins with the hello
@@ -55,6 +58,10 @@ pub struct Sender {
     heard: bool,
     // How many limits in a row passed in silence, or before the `ok` of the hello.
     silent: u8,
+    // Whether a Resend was heard since the last limit, and in how many limits in a row the printer asked for the line after the
+    // last issued one.
+    asked_anew: bool,
+    told: u8,
     // Whether the hello is to be sent, and whether it was acknowledged.
     hello_due: bool,
     ready: bool,
@@ -98,6 +105,8 @@ impl Sender {
             deadline: None,
             heard: false,
             silent: 0,
+            asked_anew: false,
+            told: 0,
             hello_due: false,
             ready: false,
             ended: None,
@@ -120,6 +129,8 @@ impl Sender {
         self.deadline = None;
         self.heard = false;
         self.silent = 0;
+        self.asked_anew = false;
+        self.told = 0;
         self.hello_due = true;
         self.ready = false;
         self.ended = None;
@@ -181,18 +192,37 @@ impl Sender {
     pub fn room(&self) -> usize
         ensures room { result ≡ room_of self.now }
         ensures sound { IsSound self.now }
+
+        // As many as it may be with one that stops the printer.
+        ensures last { result ≤ last_room_of self.now }
+    {
+        self.room_in(self.window as u32)
+    }
+
+    /// The same if the last of these lines stops the printer: that one may be past the window.
+    pub fn last_room(&self) -> usize
+        ensures room { result ≡ last_room_of self.now }
+        ensures sound { IsSound self.now }
+    {
+        self.room_in(self.window as u32 + 1)
+    }
+
+    // How many more lines may be issued with a window of this size.
+    fn room_in(&self, window: u32) -> usize
+        ensures { result
+            ≡ room_at self.now.ended self.now.ready (record self.now { window = window }) }
     {
         if self.ended.is_some() || !self.ready {
             return 0;
         }
-        let open = self.window as u32 - (self.issued - self.acked);
+        let open = window.saturating_sub(self.issued - self.acked);
         open.min(MOST_LINES - self.issued) as usize
     }
 
     /// Issues a line and returns its number, one more than the last one; the first line has 2. The text has 1 to 79
-    /// bytes, no `*` and no line feed.
+    /// bytes, no `*` and no line feed. A line that stops the printer may be one more than the window holds.
     pub fn push(&mut self, text: &[u8]) -> u32
-        requires room { 0 < room_of self.old }
+        requires room { 0 < last_room_of self.old }
         requires framable { IsFramable text.now }
         ensures state { self.new ≡ push_step text.now self.old }
         ensures number { result ≡ wire_number (self.old.issued + 1) }

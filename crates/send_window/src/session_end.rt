@@ -13,6 +13,9 @@ pub enum SessionEnd {
     Counts { number: u32, expected: u32 },
     /// The printer has restarted.
     Restarted,
+    /// In this number of time limits in a row the printer asked for the line after the last issued one, so it had taken them
+    /// all, but the `ok` of a line was missing.
+    LostOk { limits: u8 },
     /// The line numbers of a session are used up; this many lines were issued.
     NumbersUsed { issued: u32 },
 }

@@ -1,7 +1,7 @@
 //! The calls of the table: what a user asks of the desk.
-ghost use Rattle.std.specs.Prelude.{◌≡◌, ◌<◌, ◌≤◌, ◌+◌, ◌++◌, ◌⊎◌, length, true, Ok, Err, MatchResult, All};
+ghost use Rattle.std.specs.Prelude.{◌≡◌, ◌<◌, ◌≤◌, ◌+◌, ◌++◌, ◌⊎◌, length, true, false, Ok, Err, MatchResult, All};
 ghost use Rattle.byte_text.specs.Sendable.{IsSendable};
-ghost use Rattle.job_desk.specs.Table.{add_manual, cancel_at, connect_at, disconnect_at, drop_file_step, is_closable_at, manual_at, pause_at, printing, restart_at, resume_at, select_at, start_at, toggle_at};
+ghost use Rattle.job_desk.specs.Table.{add_manual, cancel_at, connect_at, disconnect_at, drop_file_step, is_closable_at, is_stop, manual_at, pause_at, printing, restart_at, resume_at, select_at, start_at, stopping, take_manual, toggle_at};
 ghost use Rattle.job_desk.specs.Data.{named_file};
 ghost use Rattle.job_desk.specs.Views.{bytes_of};
 
@@ -10,6 +10,9 @@ use crate::{Point, Refusal, State};
 use byte_text::{Name, Text, bounded_text};
 use circular_buffer::HeapCircularBuffer;
 use gcode_lines::Job;
+
+// Marlin's emergency stop.
+const STOP: &[u8] = b"M112";
 
 impl Desk {
     /// Begins to connect to a port. Refused as WrongState except in Offline and Fault.
@@ -29,11 +32,11 @@ impl Desk {
     }
 
     /// Ends the connection; if it was ready, the Disconnect script comes first. A second call doesn't wait for that script: the
-    /// connection may then be closed whatever is unacknowledged.
+    /// connection may then be closed whatever is unacknowledged, but not before the line that stops the printer.
     #[tactic(auto, using(crate::proofs::Disconnecting::closes_at_once))]
     pub fn disconnect(&mut self)
         ensures after { self.new ≡ disconnect_at self.old.state self.old }
-        ensures at_once { self.old.state ≡ State.Closing
+        ensures at_once { self.old.state ≡ State.Closing → self.old.stopped ≡ false
             → is_closable_at self.new.state self.new ≡ true }
     {
         match self.state {
@@ -178,6 +181,11 @@ impl Desk {
 
     /// Takes the lines of a user, all or none. Refused as WrongState except in Operational, Printing, Pausing, Paused, Cancelling
     /// and Finishing, and as Full if more than 256 lines would wait.
+    ///
+    /// If the only line is `M112` it stops the printer: it alone is issued, and then the connection may be closed, which ends a
+    /// print as failed. In Closing it is taken too, while the end of the connection waits for its script.
+    ///
+    /// Source: Marlin, M112 (emergency stop) and `EMERGENCY_PARSER`.
     pub fn manual(&mut self, lines: &[Text]) -> Result<(), Refusal>
         requires { All IsSendable (bytes_of lines.now) }
         ensures answer { result ≡ (manual_at self.old.state (bytes_of lines.now) self.old).0 }
@@ -189,9 +197,39 @@ impl Desk {
             | State::Pausing
             | State::Paused
             | State::Cancelling
-            | State::Finishing => self.add_manual(lines),
+            | State::Finishing => self.take_lines(lines),
+            State::Closing if self.ready && is_stop(lines) => {
+                self.stop(lines);
+                Ok(())
+            }
             _ => Err(self.wrong_state()),
         }
+    }
+
+    // Lines over a ready link: the one that stops the printer, or others, which wait.
+    fn take_lines(&mut self, lines: &[Text]) -> Result<(), Refusal>
+        requires { All IsSendable (bytes_of lines.now) }
+        ensures answer { result ≡ (take_manual (bytes_of lines.now) self.old).0 }
+        ensures after { self.new ≡ (take_manual (bytes_of lines.now) self.old).1 }
+    {
+        if is_stop(lines) {
+            self.stop(lines);
+            return Ok(());
+        }
+        self.add_manual(lines)
+    }
+
+    // These lines are all that is still issued.
+    fn stop(&mut self, lines: &[Text])
+        requires sendable { All IsSendable (bytes_of lines.now) }
+        requires one { is_stop (bytes_of lines.now) ≡ true }
+        ensures { self.new ≡ stopping (bytes_of lines.now) self.old }
+    {
+        self.state = State::Closing;
+        self.manual.clear();
+        push_all(&mut self.manual, lines);
+        self.ready = false;
+        self.stopped = true;
     }
 
     fn add_manual(&mut self, lines: &[Text]) -> Result<(), Refusal>
@@ -205,6 +243,16 @@ impl Desk {
         }
         push_all(&mut self.manual, lines);
         Ok(())
+    }
+}
+
+// Whether these lines stop the printer: one line, which is `M112`.
+fn is_stop(lines: &[Text]) -> bool
+    ensures { result ≡ is_stop (bytes_of lines.now) }
+{
+    match lines {
+        [line] => line.as_slice() == STOP,
+        _ => false,
     }
 }
 

@@ -1,7 +1,7 @@
 //! What the desk makes of a turn of the link.
 ghost use Rattle.std.specs.Prelude.{◌≡◌, ◌⊎◌, true, false, IfSome};
 ghost use Rattle.job_desk.specs.Endings.{IsEnding};
-ghost use Rattle.job_desk.specs.Note.{after_ending, fail, leave, note_fact, note_step, after_open, ready_at};
+ghost use Rattle.job_desk.specs.Note.{after_ending, fail, hung_up, leave, note_fact, note_step, after_open, ready_at};
 ghost use Rattle.job_desk.specs.DeskViews.{MayNote};
 
 use super::{Desk, Lines, Prints};
@@ -59,6 +59,7 @@ impl Desk {
         self.state = state;
         self.waiting.clear();
         self.manual.clear();
+        self.stopped = false;
         if self.prints.active {
             Some(self.prints.end(outcome))
         } else {
@@ -105,9 +106,21 @@ impl Desk {
                 self.get_ready(moment);
                 self.end()
             }
-            LinkFact::Closed => self.leave(State::Offline, Outcome::Cancelled),
+            LinkFact::Closed => self.hung_up(),
             LinkFact::NoPort => self.leave(State::Fault, Outcome::Failed),
             LinkFact::Failed | LinkFact::Ended(_) => self.fail(),
+        }
+    }
+
+    // The link was hung up: a print that it cuts off is cancelled, or failed if the printer was stopped.
+    fn hung_up(&mut self) -> Option<Ending>
+        ensures ending { result ≡ (hung_up self.old.stopped self.old).0 }
+        ensures after { self.new ≡ (hung_up self.old.stopped self.old).1 }
+    {
+        if self.stopped {
+            self.leave(State::Fault, Outcome::Failed)
+        } else {
+            self.leave(State::Offline, Outcome::Cancelled)
         }
     }
 

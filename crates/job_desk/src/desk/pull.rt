@@ -136,6 +136,7 @@ impl Desk {
     {
         match self.state {
             State::Offline | State::Connecting | State::Fault => None,
+            State::Closing if self.stopped => self.take_manual(),
             State::Closing => self.take_script(),
             State::Printing => match self.take_other(moment) {
                 Some(line) => Some(line),

@@ -21,6 +21,10 @@ enum Call {
     Cancel,
     Restart,
     Manual,
+    // The only line is M112.
+    Stop,
+    // M112 after another line.
+    StopLast,
 }
 
 #[derive(Clone, Copy)]
@@ -41,6 +45,8 @@ enum Step {
     Is(State),
     // Whether the connection may be closed.
     Closable(bool),
+    // The link was hung up, which ends no print, or print 1.
+    HungUp(Option<Outcome>),
 }
 
 const G28: Step = Step::Issues("G28", Tag::Job { print: 1, index: 0 });
@@ -103,6 +109,17 @@ fn connect(rt: &impl Abort, desk: &mut Desk) -> bool {
         .is_ok()
 }
 
+fn stop(desk: &mut Desk) -> Result<bool, Fail> {
+    let line = one_command(b"M112")?;
+    Ok(desk.manual(&[line]).is_ok())
+}
+
+fn stop_last(desk: &mut Desk) -> Result<bool, Fail> {
+    let first = one_command(b"M105")?;
+    let last = one_command(b"M112")?;
+    Ok(desk.manual(&[first, last]).is_ok())
+}
+
 // Makes a call, and returns whether it was accepted.
 fn make(rt: &impl Abort, alloc: Global, desk: &mut Desk, call: Call) -> Result<bool, Fail> {
     match call {
@@ -116,6 +133,8 @@ fn make(rt: &impl Abort, alloc: Global, desk: &mut Desk, call: Call) -> Result<b
         Call::Cancel => Ok(desk.cancel().is_ok()),
         Call::Restart => Ok(restart(rt, desk)),
         Call::Manual => Ok(desk.manual(&[]).is_ok()),
+        Call::Stop => stop(desk),
+        Call::StopLast => stop_last(desk),
     }
 }
 
@@ -130,6 +149,15 @@ fn fails(rt: &impl Abort, desk: &mut Desk) {
     let acked = desk.lines.acked;
     assert!(rt; u64::from(acked) <= desk.lines.issued);
     assert_eq!(rt; desk.note(acked, &LinkFact::Failed, 0), None);
+}
+
+fn hung_up(rt: &impl Abort, desk: &mut Desk, outcome: Option<Outcome>) {
+    let acked = desk.lines.acked;
+    assert!(rt; u64::from(acked) <= desk.lines.issued);
+    match desk.note(acked, &LinkFact::Closed, 0) {
+        Some(ending) => assert_eq!(rt; Some(ending.outcome), outcome),
+        None => assert!(rt; outcome.is_none()),
+    }
 }
 
 fn acknowledge(rt: &impl Abort, desk: &mut Desk, acked: u32) -> Option<Ending> {
@@ -177,6 +205,7 @@ fn take(rt: &impl Abort, alloc: Global, desk: &mut Desk, step: Step) -> Result<(
         }
         Step::Is(state) => assert_eq!(rt; desk.state(), state),
         Step::Closable(closable) => assert_eq!(rt; desk.closable(), closable),
+        Step::HungUp(outcome) => hung_up(rt, desk, outcome),
     }
     Ok(())
 }
@@ -284,6 +313,80 @@ const DISCONNECT_TWICE: [Step; 12] = [
 fn disconnect_twice(rt: HostRuntime) -> Result<(), Fail> {
     let mut desk = desk_with(&rt, rt.alloc(), &[(Point::Disconnect, "M84")])?;
     take_all(&rt, rt.alloc(), &mut desk, &DISCONNECT_TWICE)
+}
+
+// The line that stops the printer.
+const M112: Step = Step::Issues("M112", Tag::Manual);
+
+const STOP_A_PRINT: [Step; 21] = [
+    Step::Does(Call::Connect),
+    Step::Opens,
+    Step::Does(Call::Start),
+    Step::Does(Call::Manual),
+    Step::Does(Call::Stop),
+    Step::Is(State::Closing),
+    Step::Refuses(Call::Stop),
+    Step::Refuses(Call::Manual),
+    Step::Does(Call::Disconnect),
+    Step::Closable(false),
+    M112,
+    Step::IssuesNothing,
+    Step::Closable(true),
+    Step::HungUp(Some(Outcome::Failed)),
+    Step::Is(State::Fault),
+    // It is over with that session.
+    Step::Does(Call::Connect),
+    Step::Opens,
+    Step::Does(Call::Disconnect),
+    Step::Closable(true),
+    Step::HungUp(None),
+    Step::Is(State::Offline),
+];
+
+// M112 alone is all that is still issued, nothing is waited for, and the print has failed.
+#[test]
+fn stop_a_print(rt: HostRuntime) -> Result<(), Fail> {
+    let mut desk = desk_with(&rt, rt.alloc(), &[(Point::Started, "M107")])?;
+    take_all(&rt, rt.alloc(), &mut desk, &STOP_A_PRINT)
+}
+
+const STOP_WHILE_CLOSING: [Step; 10] = [
+    Step::Does(Call::Connect),
+    Step::Opens,
+    Step::Does(Call::Disconnect),
+    Step::Closable(false),
+    Step::Does(Call::Stop),
+    M112,
+    Step::IssuesNothing,
+    Step::Closable(true),
+    Step::HungUp(None),
+    Step::Is(State::Fault),
+];
+
+// It is taken while the Disconnect script waits, which is then left out.
+#[test]
+fn stop_while_closing(rt: HostRuntime) -> Result<(), Fail> {
+    let mut desk = desk_with(&rt, rt.alloc(), &[(Point::Disconnect, "M84")])?;
+    take_all(&rt, rt.alloc(), &mut desk, &STOP_WHILE_CLOSING)
+}
+
+const STOP_AMONG_OTHERS: [Step; 9] = [
+    Step::Does(Call::Connect),
+    Step::Opens,
+    Step::Does(Call::Start),
+    Step::Does(Call::StopLast),
+    Step::Is(State::Printing),
+    Step::Issues("M105", Tag::Manual),
+    M112,
+    G28,
+    Step::Is(State::Finishing),
+];
+
+// Among other lines M112 is a line like any other.
+#[test]
+fn stop_among_others(rt: HostRuntime) -> Result<(), Fail> {
+    let mut desk = desk_with(&rt, rt.alloc(), &[])?;
+    take_all(&rt, rt.alloc(), &mut desk, &STOP_AMONG_OTHERS)
 }
 
 // Scripts of which one has 64 lines.

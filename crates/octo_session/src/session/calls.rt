@@ -1,5 +1,5 @@
 //! The calls of the desk, which a session hands on: they change the desk alone.
-ghost use Rattle.std.specs.Prelude.{◌≡◌, ◌<◌, Ok, Err, MatchResult, All};
+ghost use Rattle.std.specs.Prelude.{◌≡◌, ◌<◌, false, Ok, Err, MatchResult, All};
 ghost use Rattle.byte_text.specs.Sendable.{IsSendable};
 ghost use Rattle.job_desk.specs.Table.{cancel_at, connect_at, disconnect_at, drop_file_step, manual_at, pause_at, restart_at, resume_at, select_at, start_at, toggle_at};
 ghost use Rattle.job_desk.specs.Data.{named_file};
@@ -25,12 +25,13 @@ impl Session {
     }
 
     /// Ends the connection; if it was ready, the Disconnect script comes first. A second call doesn't wait for that script: the
-    /// next turn hangs up, whatever is unacknowledged.
+    /// next turn hangs up, whatever is unacknowledged, unless it has to send the line that stops the printer first.
     #[tactic(auto, using(crate::proofs::Choosing::hangs_up_at_once))]
     pub fn disconnect(&mut self)
         ensures after { self.new
             ≡ record self.old { desk = (disconnect_at self.old.desk.state self.old.desk) } }
-        ensures at_once { self.old.desk.state ≡ state.Closing → doing self.new ≡ now_doing.HangingUp }
+        ensures at_once { self.old.desk.state ≡ state.Closing → self.old.desk.stopped ≡ false
+            → doing self.new ≡ now_doing.HangingUp }
         ensures joined { IsSession self.new }
     {
         self.desk.disconnect();
@@ -128,6 +129,9 @@ impl Session {
 
     /// Takes the lines of a user, all or none. Refused as WrongState except in Operational, Printing, Pausing, Paused, Cancelling
     /// and Finishing, and as Full if more than 256 lines would wait.
+    ///
+    /// If the only line is `M112` it stops the printer, as `Desk::manual` says: the next turn over the link issues it alone, past
+    /// the window if that is full, and the turn after it hangs up.
     pub fn manual(&mut self, lines: &[Text]) -> Result<(), Refusal>
         requires { All IsSendable (bytes_of lines.now) }
         ensures answer { result

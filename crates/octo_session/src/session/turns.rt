@@ -185,7 +185,8 @@ impl Session {
             (map line_of result.issued.items) self.old.desk result.ending self.new.desk }
 
         // The session and the link after it.
-        ensures spent { result.fact ≡ fact.Quiet → IsSpent moment self.new.desk self.new.sender }
+        ensures spent { result.fact ≡ fact.Quiet
+            → IsSpent moment self.old.desk self.new.desk self.new.sender }
         ensures joined { IsSession self.new }
         ensures up { self.new.up ≡ up_after result.fact true }
         ensures link { L.up link.new ≡ self.new.up }
@@ -224,7 +225,7 @@ impl Session {
 
         // The session and the link after it, and whether the port is listed.
         ensures spent { self.new.up ≡ true → result.fact ≡ fact.Quiet
-            → IsSpent moment self.new.desk self.new.sender }
+            → IsSpent moment self.old.desk self.new.desk self.new.sender }
         ensures joined { IsSession self.new }
         ensures up { self.new.up ≡ up_after result.fact self.old.up }
         ensures link { L.up link.new ≡ self.new.up }

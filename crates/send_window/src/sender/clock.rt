@@ -1,10 +1,10 @@
 //! What the clock makes of a sender, and the moments by which an answer is due.
 ghost use Rattle.std.specs.Prelude.{◌≡◌, ◌≤◌, None, Some, unwrap_or, true, false};
 ghost use Rattle.send_window.specs.Data.{IsSound};
-ghost use Rattle.send_window.specs.Hearing.{deadline_at, end_of_numbers, is_past, later, limit_passed, silent_limits, ticked};
+ghost use Rattle.send_window.specs.Hearing.{deadline_at, end_of_numbers, is_past, later, limit_passed, renewed, silent_limits, ticked, told_limits};
 ghost use Rattle.send_window.specs.Sending.{after_giving, hello, next_line};
 
-use super::{MOST_LINES, MOST_SILENT, Sender};
+use super::{MOST_LINES, MOST_SILENT, MOST_TOLD, Sender};
 use crate::session_end::SessionEnd;
 
 impl Sender {
@@ -40,6 +40,18 @@ impl Sender {
         }
     }
 
+    // The count of limits in which the printer asked for the line after the last issued one, if one more has passed.
+    fn told_limits(&self) -> u8
+        requires { self.now.ended ≡ None }
+        ensures { result ≡ told_limits self.now }
+    {
+        if self.asked_anew && self.asked == self.issued + 1 {
+            self.told + 1
+        } else {
+            0
+        }
+    }
+
     fn pass_limit(&mut self, moment: u64)
         requires open { self.old.ended ≡ None }
         requires late { is_past self.old.deadline moment ≡ true }
@@ -55,6 +67,13 @@ impl Sender {
             self.ended = Some(SessionEnd::NoAnswer { silent });
             return;
         }
+        let told = self.told_limits();
+        self.told = told;
+        if told == MOST_TOLD {
+            self.ended = Some(SessionEnd::LostOk { limits: told });
+            return;
+        }
+        self.asked_anew = false;
         if self.ready {
             self.cursor = self.acked + 1;
             self.left = 0;
@@ -80,6 +99,16 @@ pub(super) fn deadline_of(moment: u64, span: u64, acknowledged: u32, all: u32) -
         None
     } else {
         Some(later_by(moment, span))
+    }
+}
+
+// The deadline after a Resend, never sooner than the one that is set.
+pub(super) fn renewed(standing: Option<u64>, next: Option<u64>) -> Option<u64>
+    ensures { result ≡ renewed standing next }
+{
+    match (standing, next) {
+        (Some(deadline), Some(next)) => Some(deadline.max(next)),
+        _ => next,
     }
 }
 

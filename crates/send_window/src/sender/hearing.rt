@@ -1,10 +1,10 @@
 //! What a reply makes of a sender.
 ghost use Rattle.std.specs.Prelude.{◌≡◌, ◌<◌, ◌≤◌, ◌+◌, None, true};
 ghost use Rattle.marlin_frame.specs.Numbering.{wire_number};
-ghost use Rattle.send_window.specs.Hearing.{acknowledged, deadline_at, end_of_numbers, heard_ok, heard_reply, heard_resend, heard_start, hello_asked, is_repeated, line_asked, line_ok, named_ok, resend_asked};
+ghost use Rattle.send_window.specs.Hearing.{acknowledged, after_busy, deadline_at, end_of_numbers, heard_ok, heard_reply, heard_resend, heard_start, hello_asked, is_repeated, line_asked, line_ok, named_ok, resend_asked};
 
 use super::Sender;
-use super::clock::{deadline_of, end_of};
+use super::clock::{deadline_of, end_of, renewed};
 use crate::session_end::SessionEnd;
 use marlin_frame::{HELLO_NUMBER, wire_number};
 use marlin_reply::Reply;
@@ -18,7 +18,8 @@ impl Sender {
             Reply::Ok { number, .. } => self.hear_ok(*number, moment),
             Reply::Resend { number } => self.hear_resend(*number, moment),
             Reply::Start => self.hear_start(),
-            Reply::Busy | Reply::Temps(_) | Reply::Error | Reply::Other => self.heard = true,
+            Reply::Busy => self.hear_busy(),
+            Reply::Temps(_) | Reply::Error | Reply::Other => self.heard = true,
         }
     }
 
@@ -80,6 +81,8 @@ impl Sender {
         self.deadline = deadline_of(moment, self.limit, self.acked, self.issued);
         self.silent = 0;
         self.heard = false;
+        self.asked_anew = false;
+        self.told = 0;
         self.ended = end_of(self.acked, self.issued);
     }
 
@@ -135,9 +138,21 @@ impl Sender {
             self.left = self.sent.saturating_sub(place);
         }
         self.swallow = true;
-        self.deadline = deadline_of(moment, self.limit, self.acked, self.issued);
+        let next = deadline_of(moment, self.limit, self.acked, self.issued);
+        self.deadline = renewed(self.deadline, next);
         self.silent = 0;
         self.heard = false;
+        self.asked_anew = true;
+    }
+
+    // The printer is at work: an `ok` may still come.
+    fn hear_busy(&mut self)
+        requires { self.old.ended ≡ None }
+        ensures { self.new ≡ after_busy self.old }
+    {
+        self.heard = true;
+        self.asked_anew = false;
+        self.told = 0;
     }
 
     fn hear_start(&mut self)

@@ -2,7 +2,7 @@
 use super::*;
 
 // For each call the states in which it is accepted, each with the state after it. In all others it is refused.
-const TABLE: [(Call, &[(State, State)]); 10] = [
+const TABLE: [(Call, &[(State, State)]); 11] = [
     (
         Call::Connect,
         &[
@@ -75,6 +75,17 @@ const TABLE: [(Call, &[(State, State)]); 10] = [
             (State::Paused, State::Paused),
             (State::Cancelling, State::Cancelling),
             (State::Finishing, State::Finishing),
+        ],
+    ),
+    (
+        Call::Stop,
+        &[
+            (State::Operational, State::Closing),
+            (State::Printing, State::Closing),
+            (State::Pausing, State::Closing),
+            (State::Paused, State::Closing),
+            (State::Cancelling, State::Closing),
+            (State::Finishing, State::Closing),
         ],
     ),
 ];

@@ -6,6 +6,7 @@ use Rattle.octo_session.proofs.Counts.{noted_issued, noted_acked}
 use Rattle.octo_session.proofs.Desk.{noted_quiet, noted_failed}
 use Rattle.octo_session.proofs.Keeping.{said, spent_after}
 use Rattle.octo_session.proofs.Stepping.{takes_said}
+use Rattle.octo_session.proofs.Stopping.{note_stops}
 use Rattle.octo_session.proofs.open_turn.issue_and_send.Goals as goal
 
 pub returns-then-send_all-clause-noted : goal.returns-then-send_all-clause-noted
@@ -22,7 +23,10 @@ returns-then-send_all-clause-spent g c quiet =
     let some = c.if-send_all.ensures.steps in
     let kept = said c.args.moment (texts_in (map line_of c.pull_all-issued.result.items)) true some.count c.args.sender.now c.pull_all-issued.new.sender
     c.send_all.new.sender c.pull_all-issued.ensures.steps.sender some.takes.sender in
-    spent_after c.args.moment c.pull_all-issued.new.desk c.pull_all-issued.new.sender c.send_all.new.sender kept.room c.pull_all-issued.ensures.spent
+    spent_after c.args.moment c.args.desk.now c.pull_all-issued.new.desk c.pull_all-issued.new.sender c.send_all.new.sender kept.room kept.last
+    c.pull_all-issued.ensures.spent
+    (λ stops. c.pull_all-issued.ensures.stopped (note_stops c.acked-acked.result c.args.moment c.args.desk.now c.note-first.new.self stops
+    c.note-first.ensures.after))
     (c.if-send_all.ensures.sent refl)
 
 pub returns-then-send_all-clause-joined : goal.returns-then-send_all-clause-joined

@@ -7,14 +7,14 @@ use Rattle.octo_outside.proofs.Recorded.{steady_not_rose}
 use Rattle.printer_link.specs.Link.{LinkKind}
 use Rattle.octo_session.specs.Data.{SessionData}
 use Rattle.octo_session.specs.Turn.{fact_of}
-use Rattle.send_window.specs.declared.session_end.SessionEnd.TheVariants.{NoAnswer}
+use Rattle.send_window.specs.declared.session_end.SessionEnd.TheVariants.{NoAnswer, LostOk}
 use Rattle.octo_session.specs.Data.{doing}
 use Rattle.octo_session.specs.Found.{can_find}
 use Rattle.octo_session.proofs.Noting.{noted_fact}
 use Rattle.octo_session_line_proof.proofs.Recorded.{kept_by_note}
 use Rattle.send_window.specs.Patience.{IsPatient}
 use Rattle.octo_session_line_proof.proofs.Numbers.{turn_fits}
-use Rattle.octo_session_line_proof.proofs.Waits.{turn_patient, turn_unanswered}
+use Rattle.octo_session_line_proof.proofs.Waits.{turn_patient, turn_unanswered, turn_missing}
 use Rattle.octo_session_print.specs.Ends.{end_of, desk_after}
 use Rattle.octo_session_print.specs.BetweenTurns.{GoesOn}
 use Rattle.octo_session_print.specs.declared.end.PrintEnd.{PrintEnd}
@@ -75,6 +75,18 @@ returns-clause-waited g c start limit count since p is =
     let ends : fact_of note ≡ fact.Ended (NoAnswer count) = fact_by (fact_of note) (NoAnswer count) (ap end_of (sym c.fact_of_turn.ensures) ∙ sym c.go_on.ensures.end ∙ is) in
     let F : LinkFact → Type 0 = λ f. can_find (doing old) f ≡ true in
     let w = turn_unanswered c.args.moment _ _ _ _ _ old c.turn-turned.new.self c.turn-turned.result t start limit since count e.by_note.before p (sym found ∙ ends) (subst F found e.by_note.finds) in
+    w.0
+
+pub returns-clause-missed : goal.returns-clause-missed
+returns-clause-missed g c start limit count since p is =
+    let e = c.turn-turned.ensures in
+    let t = e.turn in
+    let old : SessionData = c.args.session.now in
+    let note = c.turn-turned.result.note in
+    let found : fact_of note ≡ t.found = noted_fact note c.args.moment old.sender.acked c.turn-turned.new.self.sender.acked t.lines t.got t.found t.none t.some in
+    let ends : fact_of note ≡ fact.Ended (LostOk count) = fact_by (fact_of note) (LostOk count) (ap end_of (sym c.fact_of_turn.ensures) ∙ sym c.go_on.ensures.end ∙ is) in
+    let F : LinkFact → Type 0 = λ f. can_find (doing old) f ≡ true in
+    let w = turn_missing c.args.moment _ _ _ _ _ old c.turn-turned.new.self c.turn-turned.result t start limit since count e.by_note.before p (sym found ∙ ends) (subst F found e.by_note.finds) in
     w.0
 
 pub returns-clause-calls : goal.returns-clause-calls

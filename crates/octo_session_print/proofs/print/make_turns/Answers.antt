@@ -144,6 +144,10 @@ returns-in-Some-clause-waited g c =
     (let so = in_time _ _ _ _ _ _ _ _ _ c.loop.session.sender c.loop.invariant.on_time c.now.ensures.now c.now.ensures.stays c.make_turn.ensures.clock c.max-moment.ensures start at began now in
     let waited = c.in-Some.ensures.waited start limit count so.0 so.2 (ap Some is) in
     omega (arith, waited, so.1)))
+    (λ count start at is began now.
+    (let so = in_time _ _ _ _ _ _ _ _ _ c.loop.session.sender c.loop.invariant.on_time c.now.ensures.now c.now.ensures.stays c.make_turn.ensures.clock c.max-moment.ensures start at began now in
+    let missed = c.in-Some.ensures.missed start limit count so.0 so.2 (ap Some is) in
+    omega (arith, missed, so.1)))
 
 pub returns-in-Some-clause-prompt : goal.returns-in-Some-clause-prompt
 returns-in-Some-clause-prompt g c p dialling smooth few enough =

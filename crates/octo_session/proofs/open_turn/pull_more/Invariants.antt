@@ -6,7 +6,7 @@ use Rattle.send_window.specs.Sending.{room_of}
 use Rattle.octo_session.specs.DeskTurn.{Pulls}
 use Rattle.octo_session.specs.Steps.{Issues}
 use Rattle.octo_session.specs.Turn.{texts_in}
-use Rattle.octo_session.proofs.open_turn.pull_all.Given as goal
+use Rattle.octo_session.proofs.open_turn.pull_more.Given as goal
 
 abbrev pub invariant-loop : goal.invariant-loop
 invariant-loop l = record {

@@ -7,7 +7,7 @@ use Rattle.send_window.specs.Sending.{room_of, push_step}
 use Rattle.octo_session.proofs.Counts.{counted_pull, pull_some}
 use Rattle.octo_session.proofs.Desk.{pull_again, pull_settles, pulled_by, pulls_next, issuing_next}
 use Rattle.octo_session.proofs.Keeping.{room_push}
-use Rattle.octo_session.proofs.open_turn.pull_all.Goals as goal
+use Rattle.octo_session.proofs.open_turn.pull_more.Goals as goal
 
 pub returns-then-not-pull_one-clause-spent : goal.returns-then-not-pull_one-clause-spent
 returns-then-not-pull_one-clause-spent c =
