@@ -3,3 +3,4 @@ pub mod Pieces
 pub mod Places
 pub mod Serving
 pub mod Steps
+pub mod Unsigned

@@ -5,7 +5,6 @@ use Rattle.std.proofs.Math.Seq.{take-append_seam, take-append-add}
 use Rattle.std.proofs.lemmas.List.{take-append-drop}
 use Rattle.octo_outside.specs.Recorded.{Adds, AddsPrefix}
 use Rattle.octo_outside.proofs.Recorded.{adds_none, adds_then, became_then, became_so}
-use Rattle.printer_model.specs.World.{WorldData}
 use Rattle.marlin_sim.specs.declared.end.SimEnd.{SimEnd}
 use Rattle.marlin_sim.specs.declared.end.SimEnd.TheVariants as end
 use Rattle.marlin_sim.specs.declared.serve.Next.{Next}
@@ -13,7 +12,7 @@ use Rattle.marlin_sim.specs.declared.serve.Next.TheVariants as next
 use Rattle.marlin_sim.specs.declared.plan.SimPlan.{SimPlan}
 use Rattle.marlin_sim.specs.Lines.{to_come, planned, with_begun, whole_lines}
 use Rattle.marlin_sim.proofs.Coming.{with_begun-none}
-use Rattle.marlin_sim.specs.Run.{start_text, IsRunOf, world_at, written_text}
+use Rattle.marlin_sim.specs.Run.{SimWorld, start_text, IsRunOf, world_at, written_text}
 use Rattle.marlin_sim.specs.Sim.{new_sim, SimData, FollowsModel, Keeps}
 use Rattle.marlin_sim.specs.Served.{Outside, outside, IsServed, IsDone, IsLost, Serves, Going, Breaks, After, Finishes, Ending, Outcome, IsUsed}
 
@@ -33,8 +32,8 @@ prefix_of old new front with_begun all grew whole =
     (λ _ added is. (length front, is ∙ sym (take-append_seam front with_begun) ∙ ap (take (length front)) (sym whole)))
 
 -- the world of what is recorded
-world_followed : (plan : SimPlan) (input rest : List ℕ) (s : SimData) (wrote printed : List ℕ) → FollowsModel plan input rest s wrote printed → WorldData
-world_followed plan input rest s wrote printed t = world_at s.printer t.log (to_come plan s.lines rest) t.down
+world_followed : (plan : SimPlan) (input rest : List ℕ) (s : SimData) (wrote printed : List ℕ) → FollowsModel plan input rest s wrote printed → SimWorld
+world_followed plan input rest s wrote printed t = world_at s.printer s.below t.log (to_come plan s.lines rest) t.down
 
 -- the replies were written
 pub sent_going : (plan : SimPlan) (input : List ℕ) (first : Outside) (left wrote wrote' printed : Option (List ℕ)) (s : SimData) → Serves plan input first (outside left wrote printed) s → Adds wrote wrote' s.replies → Going plan input first (outside left wrote' printed) (record s { replies = [] })
@@ -61,14 +60,14 @@ sent_going plan input first left wrote wrote' printed s v added =
     }
 
 -- the run that is recorded
-run_followed : (plan : SimPlan) (input rest : List ℕ) (s : SimData) (wrote printed : List ℕ) (t : FollowsModel plan input rest s wrote printed) → IsRunOf plan input (world_at s.printer t.log (to_come plan s.lines rest) t.down)
+run_followed : (plan : SimPlan) (input rest : List ℕ) (s : SimData) (wrote printed : List ℕ) (t : FollowsModel plan input rest s wrote printed) → IsRunOf plan input (world_at s.printer s.below t.log (to_come plan s.lines rest) t.down)
 run_followed plan input rest s wrote printed t = record { events = t.events; steps = t.steps; is = t.is }
 
 -- the connection failed in the midst of the replies
 pub sent_breaks : (plan : SimPlan) (input : List ℕ) (first : Outside) (left left' wrote wrote' printed : Option (List ℕ)) (s : SimData) → Serves plan input first (outside left wrote printed) s → AddsPrefix wrote wrote' s.replies → Breaks plan input first (outside left' wrote' printed) s
 sent_breaks plan input first left left' wrote wrote' printed s v added =
     record {
-      w = world_at s.printer v.follows_model.log (to_come plan s.lines v.rest) v.follows_model.down;
+      w = world_at s.printer s.below v.follows_model.log (to_come plan s.lines v.rest) v.follows_model.down;
       run = run_followed plan input v.rest s v.wrote v.printed v.follows_model;
       wrote = prefix_then _ _ _ v.wrote s.replies _ v.wrote_is added (sym v.follows_model.wrote_is);
       printed = v.printed;
@@ -80,7 +79,7 @@ sent_breaks plan input first left left' wrote wrote' printed s v added =
 pub cut_breaks : (plan : SimPlan) (input : List ℕ) (first : Outside) (left left' wrote printed : Option (List ℕ)) (s : SimData) → Serves plan input first (outside left wrote printed) s → Breaks plan input first (outside left' wrote printed) s
 cut_breaks plan input first left left' wrote printed s v =
     record {
-      w = world_at s.printer v.follows_model.log (to_come plan s.lines v.rest) v.follows_model.down;
+      w = world_at s.printer s.below v.follows_model.log (to_come plan s.lines v.rest) v.follows_model.down;
       run = run_followed plan input v.rest s v.wrote v.printed v.follows_model;
       wrote = prefix_of _ _ v.wrote s.replies _ v.wrote_is v.follows_model.wrote_is;
       printed = v.printed;
@@ -117,7 +116,7 @@ printed_going plan input first left wrote printed printed' s g added =
 pub printed_lost : (plan : SimPlan) (input : List ℕ) (first : Outside) (left wrote printed printed' : Option (List ℕ)) (s : SimData) → Serves plan input first (outside left wrote printed) s → AddsPrefix printed printed' s.text → IsLost plan input first (outside left wrote printed')
 printed_lost plan input first left wrote printed printed' s v added =
     record {
-      w = world_at s.printer v.follows_model.log (to_come plan s.lines v.rest) v.follows_model.down;
+      w = world_at s.printer s.below v.follows_model.log (to_come plan s.lines v.rest) v.follows_model.down;
       run = run_followed plan input v.rest s v.wrote v.printed v.follows_model;
       wrote = prefix_of _ _ v.wrote s.replies _ v.wrote_is v.follows_model.wrote_is;
       printed = prefix_then _ _ _ v.printed s.text _ v.printed_is added (sym v.follows_model.printed_is);
@@ -133,9 +132,9 @@ served_all plan input first left wrote printed printed' s g added =
     let v = g.serves in
     let Wrote : List ℕ → Type 0 = λ l. Adds first.wrote wrote l in
     let Printed : List ℕ → Type 0 = λ l. Adds first.printed printed' l in
-    let whole : v.wrote ≡ written_text (world_at s.printer v.follows_model.log (to_come plan s.lines v.rest) v.follows_model.down) = sym (v.follows_model.wrote_is ∙ ap (λ (l : List ℕ). v.wrote ++ l) g.clean ∙ append-nil v.wrote) in
+    let whole : v.wrote ≡ written_text (world_at s.printer s.below v.follows_model.log (to_come plan s.lines v.rest) v.follows_model.down) = sym (v.follows_model.wrote_is ∙ ap (λ (l : List ℕ). v.wrote ++ l) g.clean ∙ append-nil v.wrote) in
     record {
-      w = world_at s.printer v.follows_model.log (to_come plan s.lines v.rest) v.follows_model.down;
+      w = world_at s.printer s.below v.follows_model.log (to_come plan s.lines v.rest) v.follows_model.down;
       run = run_followed plan input v.rest s v.wrote v.printed v.follows_model;
       wrote = subst Wrote whole v.wrote_is;
       printed = subst Printed (sym v.follows_model.printed_is) (adds_then _ _ _ _ _ v.printed_is added);
@@ -250,7 +249,7 @@ new_serves plan input left wrote printed follows =
         steps = refl;
         log = [];
         down = [];
-        is = ap (λ (lines : List (List ℕ)). world_at (new_sim plan).printer [] (planned plan 1 lines) []) (sym (with_begun-none (whole_lines input)));
+        is = ap (λ (lines : List (List ℕ)). world_at (new_sim plan).printer 0 [] (planned plan 1 lines) []) (sym (with_begun-none (whole_lines input)));
         wrote_is = append-nil start_text;
         printed_is = refl;
       };

@@ -1,21 +1,20 @@
 -- What the printer's steps leave of a run.
-use Rattle.std.proofs.Common.{◌≡◌, ℕ, suc, ◌+◌, ◌<◌, ◌≤◌, Bool, true, false, not, List, [], ◌∷◌, ◌++◌, drop, length, length-append, refl, sym, ◌∙◌, ap, subst, append_assoc, append-nil, arith}
-use Rattle.std.specs.Prelude.{◌&&◌, Some, Result, Ok, Err, IfOk, OnOk}
+use Rattle.std.proofs.Common.{◌≡◌, ℕ, suc, ◌+◌, ◌<◌, ◌≤◌, Bool, true, false, List, [], ◌∷◌, ◌++◌, drop, length, length-append, refl, sym, ◌∙◌, ap, subst, append_assoc, append-nil, arith}
+use Rattle.std.specs.Prelude.{◌&&◌, cond, Some, Result, Ok, Err, IfOk, OnOk}
 use Rattle.std.specs.List.{list_all, flat_map}
 use Rattle.std.proofs.lemmas.List.Concat.{flat_map-append}
+use Rattle.std.proofs.lemmas.List.Sums.{fold-append}
 use Rattle.std.proofs.lemmas.Bool.{and_parts, and_from, cond_both}
 use Rattle.printer_model.specs.Printer.{PrinterData, Entry, RanLine, Logged, is_full, judged, take_judged, take_line, run_queue, run_front, log_line_of, ran_line}
-use Rattle.printer_model.specs.Replies.{taken_replies}
-use Rattle.printer_model.specs.World.{WorldData, apply}
 use Rattle.printer_model.specs.declared.event.WorldEvent.{WorldEvent}
 use Rattle.printer_model.specs.declared.event.WorldEvent.TheVariants.{Arrive, Run}
 use Rattle.printer_model.specs.declared.printer.Reason.{Reason}
 use Rattle.printer_model.specs.declared.printer.Taken.{Taken}
 use Rattle.printer_model.specs.declared.printer.Taken.TheVariants.{Full}
-use Rattle.printer_model.proofs.Laws.{happens, world_from-push}
 use Rattle.marlin_sim.specs.declared.plan.SimPlan.{SimPlan}
 use Rattle.marlin_sim.specs.Lines.{LinesData, to_come, planned, with_begun, whole_lines}
-use Rattle.marlin_sim.specs.Run.{is_step, first_world, world_at, start_text, printed_line}
+use Rattle.marlin_sim.specs.Run.{SimWorld, is_step, first_world, world_at, after_taking, sim_apply, sim_from, start_text, printed_line}
+use Rattle.marlin_sim.specs.Signed.{given, below_after, signed_replies}
 use Rattle.marlin_sim.specs.Sim.{SimData, FollowsModel, Keeps, Arrived, HasRun, AfterRunning, work}
 use Rattle.octo_outside.specs.Lists.{with_line_feed}
 
@@ -26,21 +25,26 @@ steps_push (first ∷ events) event all one =
     let parts = and_parts (is_step first) (list_all is_step events) all in
     and_from (is_step first) (list_all is_step (events ++ event ∷ [])) parts.0 (steps_push events event parts.1 one)
 
+-- one more step of the world
+pub sim_from-push : (w : SimWorld) (events : List WorldEvent) (event : WorldEvent) → sim_from w (events ++ event ∷ []) ≡ sim_apply (sim_from w events) event
+sim_from-push w events event = fold-append sim_apply w events (event ∷ [])
+
 -- a line arrives at a printer with room
-pub arrive_world : (p : PrinterData) (log : List Logged) (line : List ℕ) (lines down : List (List ℕ)) → is_full p ≡ false → apply (world_at p log (line ∷ lines) down) Arrive ≡ world_at (take_line p line).1 log lines (down ++ taken_replies (take_line p line).0)
-arrive_world p log line lines down room = happens (world_at p log (line ∷ lines) down) Arrive (ap not room)
+pub arrive_world : (p : PrinterData) (below : ℕ) (log : List Logged) (line : List ℕ) (lines down : List (List ℕ)) → is_full p ≡ false → sim_apply (world_at p below log (line ∷ lines) down) Arrive ≡ world_at (take_line p (given below line)).1 (below_after below line (take_line p (given below line)).0) log lines (down ++ signed_replies below (take_line p (given below line)).0)
+arrive_world p below log line lines down room =
+    let w = world_at p below log (line ∷ lines) down in
+    ap (λ (b : Bool). cond b w (after_taking w line lines (take_line p (given below line)))) room
 
 -- the front of a queue is run
-run_entry : (last slots : ℕ) (numbered : Bool) (queue : List Entry) (log : List Logged) (up down : List (List ℕ)) (ran : RanLine) → (run_queue (record { last = last; slots = slots; numbered = numbered; queue = queue }) queue).0 ≡ Some ran → apply (world_at (record { last = last; slots = slots; numbered = numbered; queue = queue }) log up down) Run ≡ world_at (run_queue (record { last = last; slots = slots; numbered = numbered; queue = queue }) queue).1 (log ++ log_line_of ran ∷ []) up (down ++ ran.reply ∷ [])
-run_entry last slots numbered [] log up down ran is = absurd (cc)
-run_entry last slots numbered (entry ∷ queue) log up down ran is =
+run_entry : (last slots : ℕ) (numbered : Bool) (queue : List Entry) (below : ℕ) (log : List Logged) (up down : List (List ℕ)) (ran : RanLine) → (run_queue (record { last = last; slots = slots; numbered = numbered; queue = queue }) queue).0 ≡ Some ran → sim_apply (world_at (record { last = last; slots = slots; numbered = numbered; queue = queue }) below log up down) Run ≡ world_at (run_queue (record { last = last; slots = slots; numbered = numbered; queue = queue }) queue).1 below (log ++ log_line_of ran ∷ []) up (down ++ ran.reply ∷ [])
+run_entry last slots numbered [] below log up down ran is = absurd (cc)
+run_entry last slots numbered (entry ∷ queue) below log up down ran is =
     let p : PrinterData = record { last = last; slots = slots; numbered = numbered; queue = entry ∷ queue } in
     let same : ran_line p entry ≡ ran = cc in
-    happens (world_at p log up down) Run refl
-    ∙ ap (λ (r : RanLine). world_at (run_queue p (entry ∷ queue)).1 (log ++ log_line_of r ∷ []) up (down ++ r.reply ∷ [])) same
+    ap (λ (r : RanLine). world_at (run_queue p (entry ∷ queue)).1 below (log ++ log_line_of r ∷ []) up (down ++ r.reply ∷ [])) same
 
-pub run_world : (p : PrinterData) (log : List Logged) (up down : List (List ℕ)) (ran : RanLine) → (run_front p).0 ≡ Some ran → apply (world_at p log up down) Run ≡ world_at (run_front p).1 (log ++ log_line_of ran ∷ []) up (down ++ ran.reply ∷ [])
-run_world p log up down ran is = run_entry p.last p.slots p.numbered p.queue log up down ran is
+pub run_world : (p : PrinterData) (below : ℕ) (log : List Logged) (up down : List (List ℕ)) (ran : RanLine) → (run_front p).0 ≡ Some ran → sim_apply (world_at p below log up down) Run ≡ world_at (run_front p).1 below (log ++ log_line_of ran ∷ []) up (down ++ ran.reply ∷ [])
+run_world p below log up down ran is = run_entry p.last p.slots p.numbered p.queue below log up down ran is
 
 -- what is written and printed after a step
 added_text : {X : Type 0} (f : X → List ℕ) (start : List ℕ) (xs more : List X) (out rest added : List ℕ) → start ++ flat_map f xs ≡ out ++ rest → added ≡ flat_map f more → start ++ flat_map f (xs ++ more) ≡ out ++ (rest ++ added)
@@ -55,7 +59,8 @@ added_text f start xs more out rest added is same =
 pub arrived_follows : (plan : SimPlan) (input rest wrote printed : List ℕ) (old new : SimData) → Arrived old new → FollowsModel plan input rest old wrote printed → FollowsModel plan input rest new wrote printed
 arrived_follows plan input rest wrote printed old new a t =
     let Follows : SimData → Type 0 = λ s. FollowsModel plan input rest s wrote printed in
-    let taken = take_line old.printer a.line in
+    let taken = take_line old.printer (given old.below a.line) in
+    let replies = signed_replies old.below taken.0 in
     let later = planned plan (suc old.lines.received) (with_begun old.lines.begun (whole_lines rest)) in
     let up : to_come plan old.lines rest ≡ a.line ∷ (drop 1 old.lines.waiting ++ later) = ap (λ (l : List (List ℕ)). l ++ later) a.first in
     subst Follows (sym a.is)
@@ -63,11 +68,11 @@ arrived_follows plan input rest wrote printed old new a t =
       events = t.events ++ Arrive ∷ [];
       steps = steps_push t.events Arrive t.steps refl;
       log = t.log;
-      down = t.down ++ taken_replies taken.0;
-      is = world_from-push (first_world plan input) t.events Arrive
-          ∙ ap (λ (w : WorldData). apply w Arrive) (t.is ∙ ap (λ (u : List (List ℕ)). world_at old.printer t.log u t.down) up)
-          ∙ arrive_world old.printer t.log a.line (drop 1 old.lines.waiting ++ later) t.down a.room;
-      wrote_is = added_text with_line_feed start_text t.down (taken_replies taken.0) wrote old.replies (flat_map with_line_feed (taken_replies taken.0)) t.wrote_is refl;
+      down = t.down ++ replies;
+      is = sim_from-push (first_world plan input) t.events Arrive
+          ∙ ap (λ (w : SimWorld). sim_apply w Arrive) (t.is ∙ ap (λ (u : List (List ℕ)). world_at old.printer old.below t.log u t.down) up)
+          ∙ arrive_world old.printer old.below t.log a.line (drop 1 old.lines.waiting ++ later) t.down a.room;
+      wrote_is = added_text with_line_feed start_text t.down replies wrote old.replies (flat_map with_line_feed replies) t.wrote_is refl;
       printed_is = t.printed_is;
     })
 
@@ -81,9 +86,9 @@ ran_follows plan input rest wrote printed old new r t =
       steps = steps_push t.events Run t.steps refl;
       log = t.log ++ log_line_of r.ran ∷ [];
       down = t.down ++ r.ran.reply ∷ [];
-      is = world_from-push (first_world plan input) t.events Run
-          ∙ ap (λ (w : WorldData). apply w Run) t.is
-          ∙ run_world old.printer t.log (to_come plan old.lines rest) t.down r.ran r.front;
+      is = sim_from-push (first_world plan input) t.events Run
+          ∙ ap (λ (w : SimWorld). sim_apply w Run) t.is
+          ∙ run_world old.printer old.below t.log (to_come plan old.lines rest) t.down r.ran r.front;
       wrote_is = added_text with_line_feed start_text t.down (r.ran.reply ∷ []) wrote old.replies (with_line_feed r.ran.reply) t.wrote_is (sym (append-nil (with_line_feed r.ran.reply)));
       printed_is = added_text printed_line [] t.log (log_line_of r.ran ∷ []) printed old.text (printed_line (log_line_of r.ran)) t.printed_is (sym (append-nil (printed_line (log_line_of r.ran))));
     })
@@ -117,7 +122,7 @@ room_else p line =
 -- a line that arrives is less to do
 pub arrived_work : (old new : SimData) → Arrived old new → (work new < work old) × (new.printer.slots ≡ old.printer.slots)
 arrived_work old new a =
-    let queue = taken_queue old.printer a.line in
+    let queue = taken_queue old.printer (given old.below a.line) in
     let Less : SimData → Type 0 = λ s. (work s < work old) × (s.printer.slots ≡ old.printer.slots) in
     let waiting : length old.lines.waiting ≡ suc (length (drop 1 old.lines.waiting)) = ap length a.first in
     subst Less (sym a.is) (omega (arith, queue.0, waiting), queue.1)
@@ -133,14 +138,16 @@ run_keeps first old new (Ok false) before r = let Kept : SimData → Type 0 = λ
 run_keeps first old new (Err error) before r = tt
 
 -- a simulator of these parts
-abbrev pub sim_of : PrinterData → LinesData → List ℕ → List ℕ → SimData
-sim_of printer lines replies text = record { printer = printer; lines = lines; replies = replies; text = text }
+abbrev pub sim_of : PrinterData → ℕ → LinesData → List ℕ → List ℕ → SimData
+sim_of printer below lines replies text = record { printer = printer; below = below; lines = lines; replies = replies; text = text }
 
 -- the parts of an arrival
-pub arrived_of : (p q : PrinterData) (l l' : LinesData) (replies replies' text line : List ℕ) (taken : Taken) → l.waiting ≡ line ∷ drop 1 l.waiting → taken ≡ (take_line p line).0 → q ≡ (take_line p line).1 → (taken ≡ Full → ⊥) → l' ≡ record l { waiting = drop 1 l.waiting } → replies' ≡ replies ++ flat_map with_line_feed (taken_replies taken) → Arrived (sim_of p l replies text) (sim_of q l' replies' text)
-arrived_of p q l l' replies replies' text line taken first is after other dropped wrote =
-    let same : sim_of q l' replies' text ≡ sim_of (take_line p line).1 (record l { waiting = drop 1 l.waiting }) (replies ++ flat_map with_line_feed (taken_replies (take_line p line).0)) text =
-    ap (λ (x : PrinterData). sim_of x l' replies' text) after
-    ∙ ap (λ (x : LinesData). sim_of (take_line p line).1 x replies' text) dropped
-    ∙ ap (λ (x : List ℕ). sim_of (take_line p line).1 (record l { waiting = drop 1 l.waiting }) x text) (wrote ∙ ap (λ (t : Taken). replies ++ flat_map with_line_feed (taken_replies t)) is) in
-    record { line = line; first = first; room = room_else p line (λ full. other (is ∙ full)); is = same }
+pub arrived_of : (p q : PrinterData) (b b' : ℕ) (l l' : LinesData) (replies replies' text line : List ℕ) (taken : Taken) → l.waiting ≡ line ∷ drop 1 l.waiting → taken ≡ (take_line p (given b line)).0 → q ≡ (take_line p (given b line)).1 → (taken ≡ Full → ⊥) → b' ≡ below_after b line taken → l' ≡ record l { waiting = drop 1 l.waiting } → replies' ≡ replies ++ flat_map with_line_feed (signed_replies b taken) → Arrived (sim_of p b l replies text) (sim_of q b' l' replies' text)
+arrived_of p q b b' l l' replies replies' text line taken first is after other below dropped wrote =
+    let t = (take_line p (given b line)).0 in
+    let same : sim_of q b' l' replies' text ≡ sim_of (take_line p (given b line)).1 (below_after b line t) (record l { waiting = drop 1 l.waiting }) (replies ++ flat_map with_line_feed (signed_replies b t)) text =
+    ap (λ (x : PrinterData). sim_of x b' l' replies' text) after
+    ∙ ap (λ (x : ℕ). sim_of (take_line p (given b line)).1 x l' replies' text) (below ∙ ap (below_after b line) is)
+    ∙ ap (λ (x : LinesData). sim_of (take_line p (given b line)).1 (below_after b line t) x replies' text) dropped
+    ∙ ap (λ (x : List ℕ). sim_of (take_line p (given b line)).1 (below_after b line t) (record l { waiting = drop 1 l.waiting }) x text) (wrote ∙ ap (λ (x : Taken). replies ++ flat_map with_line_feed (signed_replies b x)) is) in
+    record { line = line; first = first; room = room_else p (given b line) (λ full. other (is ∙ full)); is = same }

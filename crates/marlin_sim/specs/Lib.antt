@@ -2,4 +2,5 @@ pub mod Lines
 pub mod Plan
 pub mod Run
 pub mod Served
+pub mod Signed
 pub mod Sim

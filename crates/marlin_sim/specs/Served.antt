@@ -1,13 +1,12 @@
 -- What a connection and a sink record of a simulation.
 use Rattle.std.specs.Prelude.{◌≡◌, ℕ, ◌+◌, ◌<◌, ◌≤◌, List, [], ◌++◌, length, Option, Some}
 use Rattle.octo_outside.specs.Recorded.{Adds, AddsPrefix, last_count}
-use Rattle.printer_model.specs.World.{WorldData}
 use Rattle.marlin_sim.specs.declared.end.SimEnd.{SimEnd}
 use Rattle.marlin_sim.specs.declared.end.SimEnd.TheVariants as end
 use Rattle.marlin_sim.specs.declared.plan.SimPlan.{SimPlan}
 use Rattle.marlin_sim.specs.declared.serve.Next.{Next}
 use Rattle.marlin_sim.specs.declared.serve.Next.TheVariants as next
-use Rattle.marlin_sim.specs.Run.{IsRunOf, IsOver, written_text, printed_text}
+use Rattle.marlin_sim.specs.Run.{SimWorld, IsRunOf, IsOver, written_text, printed_text}
 use Rattle.marlin_sim.specs.Sim.{SimData, FollowsModel, IsIdle}
 
 -- what is left to read of a connection, what was written to it, and what was printed, if recorded
@@ -22,14 +21,14 @@ outside left wrote printed = record { left = left; wrote = wrote; printed = prin
 
 -- a run over the input, of which all was written and printed
 pub record IsServed (plan : SimPlan) (input : List ℕ) (first now : Outside) : Type 0 where
-  pub w : WorldData
+  pub w : SimWorld
   pub run : IsRunOf plan input w
   pub wrote : Adds first.wrote now.wrote (written_text w)
   pub printed : Adds first.printed now.printed (printed_text w)
 
 -- a run over the whole input, to its end
 pub record IsDone (plan : SimPlan) (input : List ℕ) (first now : Outside) : Type 0 where
-  pub w : WorldData
+  pub w : SimWorld
   pub run : IsRunOf plan input w
   pub over : IsOver w
   pub wrote : Adds first.wrote now.wrote (written_text w)
@@ -37,14 +36,14 @@ pub record IsDone (plan : SimPlan) (input : List ℕ) (first now : Outside) : Ty
 
 -- a run over the input, of which the first bytes were written and all was printed
 pub record IsCutOff (plan : SimPlan) (input : List ℕ) (first now : Outside) : Type 0 where
-  pub w : WorldData
+  pub w : SimWorld
   pub run : IsRunOf plan input w
   pub wrote : AddsPrefix first.wrote now.wrote (written_text w)
   pub printed : Adds first.printed now.printed (printed_text w)
 
 -- a run over the input, of which the first bytes were written and printed
 pub record IsLost (plan : SimPlan) (input : List ℕ) (first now : Outside) : Type 0 where
-  pub w : WorldData
+  pub w : SimWorld
   pub run : IsRunOf plan input w
   pub wrote : AddsPrefix first.wrote now.wrote (written_text w)
   pub printed : AddsPrefix first.printed now.printed (printed_text w)
@@ -75,7 +74,7 @@ pub record Going (plan : SimPlan) (input : List ℕ) (first now : Outside) (s : 
 
 -- the connection failed; the text is still to be printed
 pub record Breaks (plan : SimPlan) (input : List ℕ) (first now : Outside) (s : SimData) : Type 0 where
-  pub w : WorldData
+  pub w : SimWorld
   pub run : IsRunOf plan input w
   pub wrote : AddsPrefix first.wrote now.wrote (written_text w)
   pub printed : List ℕ

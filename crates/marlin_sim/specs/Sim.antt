@@ -2,17 +2,17 @@
 use Rattle.std.specs.Prelude.{◌≡◌, ◌⊎◌, ℕ, ◌+◌, ◌*◌, Bool, true, false, List, [], ◌∷◌, ◌++◌, length, drop, Some}
 use Rattle.std.specs.List.{list_all, flat_map}
 use Rattle.printer_model.specs.Printer.{PrinterData, RanLine, Logged, is_full, take_line, run_front, log_line_of}
-use Rattle.printer_model.specs.Replies.{taken_replies}
-use Rattle.printer_model.specs.World.{world_from}
 use Rattle.printer_model.specs.declared.event.WorldEvent.{WorldEvent}
 use Rattle.marlin_sim.specs.declared.plan.SimPlan.{SimPlan}
 use Rattle.marlin_sim.specs.Lines.{LinesData, to_come}
-use Rattle.marlin_sim.specs.Run.{first_world, world_at, is_step, start_text, printed_line}
+use Rattle.marlin_sim.specs.Run.{first_world, world_at, sim_from, is_step, start_text, printed_line}
+use Rattle.marlin_sim.specs.Signed.{given, below_after, signed_replies}
 use Rattle.octo_outside.specs.Lists.{with_line_feed}
 
--- the printer, the lines on their way to it, and what is still to be written and printed
+-- the printer, how far below 0 its last number is, the lines on their way to it, and what is still to be written and printed
 pub record SimData : Type 0 where
   pub printer : PrinterData
+  pub below : ℕ
   pub lines : LinesData
   pub replies : List ℕ
   pub text : List ℕ
@@ -22,6 +22,7 @@ abbrev pub new_sim : SimPlan → SimData
 new_sim plan =
     record {
       printer = record { last = plan.last; slots = plan.slots; numbered = false; queue = [] };
+      below = 0;
       lines = record { waiting = []; begun = []; received = 0 };
       replies = start_text;
       text = [];
@@ -33,7 +34,7 @@ pub record FollowsModel (plan : SimPlan) (input rest : List ℕ) (s : SimData) (
   pub steps : list_all is_step events ≡ true
   pub log : List Logged
   pub down : List (List ℕ)
-  pub is : world_from (first_world plan input) events ≡ world_at s.printer log (to_come plan s.lines rest) down
+  pub is : sim_from (first_world plan input) events ≡ world_at s.printer s.below log (to_come plan s.lines rest) down
   pub wrote_is : start_text ++ flat_map with_line_feed down ≡ wrote ++ s.replies
   pub printed_is : flat_map printed_line log ≡ printed ++ s.text
 
@@ -49,9 +50,10 @@ pub record Arrived (old new : SimData) : Type 0 where
   pub first : old.lines.waiting ≡ line ∷ drop 1 old.lines.waiting
   pub room : is_full old.printer ≡ false
   pub is : new ≡ record {
-    printer = (take_line old.printer line).1;
+    printer = (take_line old.printer (given old.below line)).1;
+    below = below_after old.below line (take_line old.printer (given old.below line)).0;
     lines = record old.lines { waiting = drop 1 old.lines.waiting };
-    replies = old.replies ++ flat_map with_line_feed (taken_replies (take_line old.printer line).0);
+    replies = old.replies ++ flat_map with_line_feed (signed_replies old.below (take_line old.printer (given old.below line)).0);
     text = old.text;
   }
 
@@ -70,6 +72,7 @@ pub record HasRun (old new : SimData) : Type 0 where
   pub front : (run_front old.printer).0 ≡ Some ran
   pub is : new ≡ record {
     printer = (run_front old.printer).1;
+    below = old.below;
     lines = old.lines;
     replies = old.replies ++ with_line_feed ran.reply;
     text = old.text ++ printed_line (log_line_of ran);
@@ -98,6 +101,7 @@ pub record StepsAndReplies (old new : SimData) : Type 0 where
   pub stepped : SimData
   pub steps : Steps ran old stepped
   pub printer : new.printer ≡ stepped.printer
+  pub below : new.below ≡ stepped.below
   pub lines : new.lines ≡ stepped.lines
   pub written : new.replies ≡ []
 

@@ -9,6 +9,7 @@ mod help;
 mod lines;
 mod plan;
 mod serve;
+mod signed;
 mod sim;
 mod simulate;
 #[cfg(test)]

@@ -80,6 +80,7 @@ fn deliver<C: Conn, O: Sink>(conn: &mut C, out: &mut O, sim: &mut Sim, ran: bool
     ensures on { result ≡ next.On → ran ≡ true }
     ensures over { result ≡ next.Over → ran ≡ false }
     ensures printer { sim.new.printer ≡ sim.old.printer }
+    ensures below { sim.new.below ≡ sim.old.below }
     ensures lines { sim.new.lines ≡ sim.old.lines }
     ensures written { (result ≡ next.On) ⊎ (result ≡ next.Over) → sim.new.replies ≡ [] }
     ensures left { C.left conn.new ≡ C.left conn.old }

@@ -1,23 +1,24 @@
 //! The simulator without its outside: bytes come in, replies and printed lines gather.
 ghost use Rattle.std.specs.Prelude.{◌≡◌, ◌++◌, codes, decimal, OnOk};
-ghost use Rattle.std.specs.List.{flat_map};
 ghost use Rattle.printer_model.specs.Printer.{log_line_of};
-ghost use Rattle.printer_model.specs.Replies.{taken_replies};
 ghost use Rattle.octo_outside.specs.Lists.{with_line_feed};
 ghost use Rattle.marlin_sim.specs.Run.{number_text, printed_line};
 
 use crate::lines::Lines;
 use crate::plan::SimPlan;
+use crate::signed::{below_after, given, put_replies};
 use itoa::Buffer;
 use octo_outside::{Blob, append_line};
-use printer_model::{Printer, Ran, Taken, error_line, ok_line, resend_line};
+use printer_model::{Printer, Ran, Taken};
 use std::alloc::{AllocError, Global};
 use std::marker::Model;
 
-/// A printer with the lines on their way to it, and what is still to be written and printed.
+/// A printer, how far below 0 its last line number is, the lines on their way to it, and what is still to be written and
+/// printed. If its number is below 0, the printer's own one is 0.
 #[derive(Drop)]
 pub struct Sim {
     printer: Printer,
+    below: u32,
     lines: Lines,
     replies: Blob,
     text: Blob,
@@ -30,6 +31,7 @@ impl Model for Sim {
 
     ghost view = { λ s. record {
       printer = s.printer;
+      below = s.below;
       lines = s.lines;
       replies = s.replies;
       text = s.text;
@@ -59,21 +61,6 @@ fn put_ran(text: &mut Blob, ran: &Ran) -> Result<(), AllocError>
     append_line(text, ran.text.as_slice())
 }
 
-// Adds the replies to a line that was taken.
-fn put_taken(replies: &mut Blob, taken: &Taken) -> Result<(), AllocError>
-    ensures { OnOk result
-        (replies.new ≡ replies.old ++ flat_map with_line_feed (taken_replies taken.now)) }
-{
-    match taken {
-        Taken::Accepted | Taken::Full => Ok(()),
-        Taken::Refused { reason, last } => {
-            append_line(replies, error_line(*reason, *last).as_slice())?;
-            append_line(replies, resend_line(*last).as_slice())?;
-            append_line(replies, ok_line().as_slice())
-        }
-    }
-}
-
 impl Sim {
     ghost use Rattle.std.specs.Prelude.{◌≡◌, ◌≤◌, ◌<◌, ◌++◌, ℕ, List, [], true, false, length, IfOk, OnOk};
     ghost use Rattle.marlin_sim.specs.Plan.{IsPlan};
@@ -86,6 +73,7 @@ impl Sim {
     {
         Ok(Sim {
             printer: Printer::new(plan.last, plan.slots, false),
+            below: 0,
             lines: Lines::new(alloc),
             replies: Blob::from_slice(alloc, b"start\n")?,
             text: Blob::new(alloc),
@@ -136,15 +124,17 @@ impl Sim {
     fn arrive_next(&mut self) -> Result<bool, AllocError>
         ensures { IfOk result (λ did. AfterArrival did self.old self.new) }
     {
-        let taken = match self.lines.next() {
-            Some(line) => self.printer.arrive(line),
-            None => return Ok(false),
+        let Some(line) = self.lines.next() else {
+            return Ok(false);
         };
+        let taken = self.printer.arrive(given(self.below, line));
+        let below = below_after(self.below, line, &taken);
         match &taken {
             Taken::Full => Ok(false),
             _ => {
                 self.lines.drop_next();
-                put_taken(&mut self.replies, &taken)?;
+                put_replies(&mut self.replies, self.below, &taken)?;
+                self.below = below;
                 Ok(true)
             }
         }

@@ -149,6 +149,68 @@ fn short_inputs(rt: HostRuntime) -> Result<(), Fail> {
     assert_rows(&rt, &rows)
 }
 
+// What Printrun's printcore sends at a print's beginning, and its first two commands. Its N-1 sets the last number to -1.
+const PRINTCORE: Row = Row {
+    words: &["p", "4", "4", "-", "-"],
+    input: b"N-1 M110*15\nN0 G28*19\nN1 G1 X10*80\n",
+    written: b"start\nok\nok\nok\n",
+    printed: b"N0 M110\nG28\nN1 G1 X10\n",
+    ..CORRUPTED
+};
+
+#[test]
+fn numbers_from_minus_one(rt: HostRuntime) -> Result<(), Fail> {
+    let rows = [
+        PRINTCORE,
+        // The first command is corrupted, and sent again.
+        Row {
+            words: &["p", "4", "4", "-", "2"],
+            input: b"N-1 M110*15\nN0 G28*19\nN0 G28*19\nN1 G1 X10*80\n",
+            written: b"start\nError:checksum mismatch, Last Line: -1\nResend: 0\nok\nok\nok\nok\n",
+            ..PRINTCORE
+        },
+        // It is lost: the next line is refused, and both are sent again.
+        Row {
+            words: &["p", "4", "4", "2", "-"],
+            input: b"N-1 M110*15\nN0 G28*19\nN1 G1 X10*80\nN0 G28*19\nN1 G1 X10*80\n",
+            written: b"start\nError:Line Number is not Last Line Number+1, Last Line: -1\n\
+                Resend: 0\nok\nok\nok\nok\n",
+            ..PRINTCORE
+        },
+    ];
+    assert_rows(&rt, &rows)
+}
+
+#[test]
+fn numbers_below_zero(rt: HostRuntime) -> Result<(), Fail> {
+    let rows = [
+        // From -3 on: -2 follows, and one without a checksum is refused.
+        Row {
+            input: b"N-3 M110*13\nN-2 G28*60\nN-1 G1\nN-1 G1 X1*77\nM105\nN0 G28*19\n",
+            written: b"start\nError:No Checksum with line number, Last Line: -2\nResend: -1\nok\n\
+                ok\nok\nok\nok T:21.30 /0.00 B:21.22 /0.00 @:0 B@:0\nok\n",
+            printed: b"N0 M110\nG28\nG1 X1\nM105\nG28\n",
+            ..PRINTCORE
+        },
+        // A line that sets a number at or above 0, also by its second N.
+        Row {
+            input: b"N-1 M110*15\nN5 M110*38\nN6 G28*21\nN7 M110 N5*127\n",
+            written: b"start\nok\nok\nok\nok\n",
+            printed: b"N0 M110\nN5 M110\nN6 G28\nN5 M110 N5\n",
+            ..PRINTCORE
+        },
+        // A number below 0 doesn't follow one above it, and a line that fails sets none.
+        Row {
+            input: b"N-4 G28*58\nN-1 M110*14\n",
+            written: b"start\nError:Line Number is not Last Line Number+1, Last Line: 4\nResend: 5\n\
+                ok\nError:checksum mismatch, Last Line: 4\nResend: 5\nok\n",
+            printed: b"",
+            ..PRINTCORE
+        },
+    ];
+    assert_rows(&rt, &rows)
+}
+
 // Call 1 writes `start`, call 2 reads the input, call 3 writes the replies, and call 4 reads its end.
 #[test]
 fn failing_calls(rt: HostRuntime) -> Result<(), Fail> {
