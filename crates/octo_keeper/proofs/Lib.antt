@@ -1,3 +1,6 @@
 pub mod Lowered
 pub mod Numbered
+pub mod Orders
+pub mod SettledPrints
 pub mod SoundTables
+pub mod SortedQueue

@@ -1,5 +1,5 @@
 -- Records that are numbered from 1 without a gap have no number above their count.
-use Rattle.std.proofs.Common.{◌≡◌, ℕ, ◌+◌, ◌≤◌, List, length, All, arith}
+use Rattle.std.proofs.Common.{◌≡◌, ◌+◌, ◌≤◌, List, length, All, arith}
 use Rattle.std.specs.Prelude.{slice_index_or}
 use Rattle.octo_keeper.specs.Tables.{AreNumbered}
 use Rattle.print_queue.specs.declared.row.PrintRow.{PrintRow}

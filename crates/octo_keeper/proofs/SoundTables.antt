@@ -1,6 +1,6 @@
 -- Tables that pass the tests are sound.
-use Rattle.std.proofs.Common.{◌≡◌, ◌≢◌, ◌⊎◌, ℕ, ◌+◌, ◌<◌, ◌≤◌, ◌==◌, inl, inr, Bool, true, false, not, cond, nat_le, List, [], ◌∷◌, length, get_or, suc, zero, Some, refl, sym, ap, ◌∙◌, subst, arith}
-use Rattle.std.specs.List.{All, AllPairs, AllByRecursion, list_all, count_by}
+use Rattle.std.proofs.Common.{◌≡◌, ◌⊎◌, ℕ, ◌+◌, ◌<◌, ◌≤◌, inl, inr, Bool, true, cond, List, [], ◌∷◌, length, get_or, suc, zero, Some, refl, ap, ◌∙◌, subst, arith}
+use Rattle.std.specs.List.{AllPairs, AllByRecursion, list_all, count_by}
 use Rattle.std.specs.Str.{bytes_eq}
 use Rattle.std.proofs.lemmas.Bool.{cases_Bool, and_parts, not-true, eqb-true, eqb-false, leb-true}
 use Rattle.std.proofs.lemmas.List.Elements.{All-from_recursion}
@@ -10,11 +10,11 @@ use Rattle.std.proofs.lemmas.Slice.Eq.{bytes_eq-Decides}
 use Rattle.octo_access.specs.declared.row.UserRow.{UserRow}
 use Rattle.octo_access.specs.Rows.{is_named, has_digest, IsUserList}
 use Rattle.print_queue.specs.declared.entry.QueueEntry.{QueueEntry}
-use Rattle.print_queue.specs.Rows.{is_key, is_of}
+use Rattle.print_queue.specs.Rows.{is_of}
 use Rattle.print_queue.specs.Lawful.{IsApart, IsWholeRow, IsSound}
 use Rattle.print_queue.specs.declared.row.PrintRow.{PrintRow}
 use Rattle.octo_keeper.specs.declared.tables.Tables.{Tables}
-use Rattle.octo_keeper.specs.Tables.{AreNumbered, AreSound}
+use Rattle.octo_keeper.specs.Tables.{AreSound}
 use Rattle.octo_keeper.specs.Sound.{is_apart, are_apart, is_whole, is_within, is_queue, is_alone, is_user_list, are_numbered_from, are_sound}
 
 -- a test that all items pass holds of each

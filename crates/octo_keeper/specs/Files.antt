@@ -1,8 +1,6 @@
 -- A shelf's files: their names and bytes, by name.
-use Rattle.std.specs.Prelude.{◌≡◌, ℕ, Bool, if◌then◌else◌, not, List, [], ◌∷◌, length, Option, Some, None, find, filter, map, insert, option_map}
+use Rattle.std.specs.Prelude.{ℕ, Bool, not, List, length, Option, find, filter, map, insert, option_map}
 use Rattle.std.specs.List.{prefix_len}
-use Rattle.std.specs.Cmp.Lexicographic.{slice_cmp}
-use Rattle.std.specs.Ordering.{nat_cmp, is_lt}
 use Rattle.std.specs.Str.{bytes_eq}
 use Rattle.octo_keeper.specs.declared.shelf.ShelfFile.{ShelfFile}
 use Rattle.octo_access.specs.Rows.{is_before}
@@ -14,6 +12,10 @@ is_file name file = bytes_eq file.name name
 -- the bytes of a name, if there is such a file
 abbrev pub bytes_of : List ℕ → List ShelfFile → Option (List ℕ)
 bytes_of name files = option_map (λ (file : ShelfFile). file.bytes) (find (is_file name) files)
+
+-- how many bytes a name has, if there is such a file
+abbrev pub size_of : List ℕ → List ShelfFile → Option ℕ
+size_of name files = option_map (λ (file : ShelfFile). length file.bytes) (find (is_file name) files)
 
 -- the files but for a name's
 abbrev pub without_file : List ℕ → List ShelfFile → List ShelfFile

@@ -1,4 +1,6 @@
 pub mod Files
 pub mod Memory
+pub mod Order
+pub mod Settled
 pub mod Sound
 pub mod Tables

@@ -1,5 +1,5 @@
 -- The forms in memory.
-use Rattle.std.specs.Prelude.{ℕ, Bool, List, if◌then◌else◌}
+use Rattle.std.specs.Prelude.{Bool, List, if◌then◌else◌}
 use Rattle.octo_outside.specs.Memory.{CallsData, one_more, is_listed}
 use Rattle.octo_keeper.specs.declared.tables.Tables.{Tables}
 use Rattle.octo_keeper.specs.declared.shelf.ShelfFile.{ShelfFile}

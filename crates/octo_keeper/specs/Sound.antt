@@ -1,5 +1,5 @@
 -- Tests of the tables that a host can begin with.
-use Rattle.std.specs.Prelude.{ℕ, ◌+◌, ◌==◌, Bool, true, false, ◌&&◌, not, nat_le, List, [], ◌∷◌, length, count_by, Some}
+use Rattle.std.specs.Prelude.{ℕ, ◌+◌, ◌==◌, Bool, true, ◌&&◌, not, nat_le, List, [], ◌∷◌, length, count_by, Some}
 use Rattle.std.specs.List.{list_all}
 use Rattle.octo_access.specs.declared.row.UserRow.{UserRow}
 use Rattle.octo_access.specs.Rows.{is_named, has_digest}

@@ -1,14 +1,18 @@
 //! Whether tables are those that a host can begin with.
-ghost use Rattle.std.specs.Prelude.{◌≡◌, ◌+◌, Some, count_by, IsTrue};
+ghost use Rattle.std.specs.Prelude.{◌≡◌, ◌+◌, true, Some, count_by, slice_index_or, IsTrue};
 ghost use Rattle.std.specs.List.{list_all};
 ghost use Rattle.octo_access.specs.Rows.{is_named, has_digest};
+ghost use Rattle.print_queue.specs.declared.entry.QueueEntry.{QueueEntry};
 ghost use Rattle.print_queue.specs.Rows.{is_of};
 ghost use Rattle.octo_keeper.specs.Tables.{AreSound};
 ghost use Rattle.octo_keeper.specs.Sound.{are_apart, are_numbered_from, are_sound, is_alone, is_apart, is_queue, is_user_list, is_whole, is_within};
 
 use crate::Tables;
+use crate::copies::copy_entries;
+use crate::order::Order;
 use octo_access::{MOST_USERS, UserRow};
 use print_queue::{MOST_COPIES, MOST_ENTRIES, PrintRow, QueueEntry};
+use std::alloc::Global;
 
 fn is_apart(a: &QueueEntry, b: &QueueEntry) -> bool
     ensures { result ≡ is_apart a.now b.now }
@@ -53,16 +57,73 @@ fn are_whole(rows: &[QueueEntry]) -> bool
     rows.iter().all(is_whole)
 }
 
+// Whether an entry's user has few, after an entry whose user has: those of the same user aren't counted again.
+fn is_within_after(rows: &[QueueEntry], former: &QueueEntry, row: &QueueEntry) -> bool
+    requires { is_within rows.now former.now ≡ true }
+    ensures { result ≡ is_within rows.now row.now }
+{
+    if row.is_of(&former.user) {
+        return true;
+    }
+    is_within(rows, row)
+}
+
+// Whether each entry's user has few, if that of the first has.
+fn are_others_within(rows: &[QueueEntry]) -> bool
+    requires { (d : QueueEntry) → is_within rows.now (slice_index_or rows.now 0 d) ≡ true }
+    ensures { result ≡ list_all (is_within rows.now) rows.now }
+{
+    for place in 1..rows.len() {
+        if !is_within_after(rows, &rows[place - 1], &rows[place]) {
+            return false;
+        }
+    }
+    true
+}
+
 fn are_within(rows: &[QueueEntry]) -> bool
     ensures { result ≡ list_all (is_within rows.now) rows.now }
 {
-    rows.iter().all(|row| is_within(rows, row))
+    match rows {
+        [] => true,
+        [first, ..] => is_within(rows, first) && are_others_within(rows),
+    }
 }
 
-fn is_queue(rows: &[QueueEntry]) -> bool
+// Whether sorting entries shows that they are apart, and each user has few.
+#[tactic(auto, using(crate::proofs::SortedQueue::apart_from_sorts, crate::proofs::SortedQueue::within_from_sorts))]
+fn sort_shows_queue(rows: &mut [QueueEntry]) -> bool
+    ensures apart { IsTrue result → are_apart rows.old ≡ true }
+    ensures within { IsTrue result → list_all (is_within rows.old) rows.old ≡ true }
+{
+    if !Order::Arrival.tells_apart(rows) {
+        return false;
+    }
+    if !Order::Key.tells_apart(rows) {
+        return false;
+    }
+    are_within(rows)
+}
+
+// The same of a sorted copy; false too if out of memory.
+fn copy_shows_queue(alloc: Global, rows: &[QueueEntry]) -> bool
+    ensures apart { IsTrue result → are_apart rows.now ≡ true }
+    ensures within { IsTrue result → list_all (is_within rows.now) rows.now ≡ true }
+{
+    match copy_entries(alloc, rows) {
+        Ok(copy) => {
+            let mut sorted = copy.into_items();
+            sort_shows_queue(&mut sorted)
+        }
+        Err(_) => false,
+    }
+}
+
+// If sorting shows nothing, each two entries are compared, which takes long for many.
+fn is_queue(alloc: Global, rows: &[QueueEntry]) -> bool
     ensures { result ≡ is_queue rows.now }
 {
-    are_apart(rows) && are_whole(rows) && are_within(rows)
+    are_whole(rows) && (copy_shows_queue(alloc, rows) || (are_apart(rows) && are_within(rows)))
 }
 
 fn count_named(rows: &[UserRow], row: &UserRow) -> usize
@@ -113,13 +174,13 @@ fn are_numbered(rows: &[PrintRow]) -> bool
 }
 
 /// Whether a host can begin with these tables: names, keys and arrivals are distinct and within their limits, and the prints are
-/// numbered from 1 without a gap.
+/// numbered from 1 without a gap. It sorts a copy of the queue; out of memory it compares each two entries.
 #[tactic(auto, using(crate::proofs::SoundTables::tables_tell))]
-pub fn are_sound(tables: &Tables) -> bool
+pub fn are_sound(alloc: Global, tables: &Tables) -> bool
     ensures exactly { result ≡ are_sound tables.now }
     ensures sound { IsTrue result → AreSound tables.now }
 {
     is_user_list(tables.users.as_slice())
-        && is_queue(tables.queue.as_slice())
+        && is_queue(alloc, tables.queue.as_slice())
         && are_numbered(tables.prints.as_slice())
 }

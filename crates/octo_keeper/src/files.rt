@@ -3,7 +3,7 @@ ghost use Rattle.std.specs.Prelude.{◌≡◌, ◌<◌, ◌≤◌, length, vec_l
 ghost use Rattle.std.specs.Vec.{vec_capacity};
 ghost use Rattle.std.specs.List.{prefix_len, position_or_len};
 ghost use Rattle.octo_access.specs.Rows.{is_before};
-ghost use Rattle.octo_keeper.specs.Files.{added, bytes_of, is_file, sizes_of, with_file, without_file};
+ghost use Rattle.octo_keeper.specs.Files.{added, bytes_of, is_file, size_of, sizes_of, with_file, without_file};
 
 use crate::{FileList, ShelfFile};
 use byte_text::Name;
@@ -51,6 +51,18 @@ pub fn bytes_at(alloc: Global, files: &[ShelfFile], name: &Name) -> Result<Optio
     }
     let bytes = Blob::from_slice(alloc, files[place].bytes.as_slice())?;
     Ok(Some(bytes))
+}
+
+/// The size of a file in bytes, if there is one of that name.
+#[tactic(auto, using(std::proofs::lemmas::List::Folds::find_at, std::proofs::lemmas::Option::slice_get_past, std::proofs::lemmas::Option::slice_get_read))]
+pub fn size_at(files: &[ShelfFile], name: &Name) -> Option<u64>
+    ensures { result ≡ size_of name.now files.now }
+{
+    let place = place_of(files, name);
+    if place == files.len() {
+        return None;
+    }
+    Some(files[place].bytes.len() as u64)
 }
 
 /// Takes the file of that name out.

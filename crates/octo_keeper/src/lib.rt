@@ -9,6 +9,8 @@ mod keeper;
 mod lists;
 mod memory_keeper;
 mod memory_shelf;
+mod order;
+mod settling;
 mod shelf;
 mod tables;
 
@@ -17,5 +19,6 @@ pub use edits::end_print;
 pub use keeper::{Keeper, KeeperFault};
 pub use memory_keeper::MemoryKeeper;
 pub use memory_shelf::MemoryShelf;
+pub use settling::settle_prints;
 pub use shelf::{FileList, Shelf, ShelfFault, ShelfFile};
 pub use tables::{Change, Tables};

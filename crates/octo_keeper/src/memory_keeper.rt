@@ -75,7 +75,7 @@ impl Keeper for MemoryKeeper {
             self.calls.fail();
             return Err(KeeperFault::Failed);
         }
-        if !are_sound(&self.tables) {
+        if !are_sound(alloc, &self.tables) {
             self.calls.fail();
             return Err(KeeperFault::Failed);
         }

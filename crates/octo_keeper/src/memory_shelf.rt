@@ -1,5 +1,5 @@
 //! A shelf in memory, some of whose calls fail.
-use crate::files::{bytes_at, copy_sizes, drop_file, put_file};
+use crate::files::{bytes_at, copy_sizes, drop_file, put_file, size_at};
 use crate::{FileList, Shelf, ShelfFault, ShelfFile};
 use byte_text::Name;
 use octo_outside::{Blob, CallList, Calls};
@@ -41,7 +41,7 @@ impl Shelf for MemoryShelf {
     ghost use Rattle.octo_outside.specs.Recorded.{Counts};
     ghost use Rattle.octo_outside.specs.Memory.{one_more, is_listed};
     ghost use Rattle.octo_keeper.specs.declared.shelf.ShelfFault.TheVariants as fault;
-    ghost use Rattle.octo_keeper.specs.Files.{bytes_of, sizes_of, with_file, without_file};
+    ghost use Rattle.octo_keeper.specs.Files.{bytes_of, size_of, sizes_of, with_file, without_file};
     ghost use Rattle.octo_keeper.specs.Memory.{ShelfData, fails_next, after_call};
 
     ghost files = { λ s. Some s.files };
@@ -80,6 +80,24 @@ impl Shelf for MemoryShelf {
             return Err(ShelfFault::Failed);
         }
         Ok(bytes_at(alloc, &self.files, name)?)
+    }
+
+    fn size(&mut self, name: &Name) -> Result<Option<u64>, ShelfFault>
+        ensures ok { IfOk result (λ size. size ≡ size_of name.now self.old.files) }
+        ensures stays { self.new.files ≡ self.old.files }
+        ensures calls { self.new.calls ≡ after_call (fails_next self.old.calls) self.old.calls }
+
+        ensures fails { IsErrOf result fault.Failed
+            ↔ (is_listed self.old.calls.fail_at (one_more self.old.calls.made) ≡ true) }
+        ensures memory { IsErrOf result fault.NoMemory → ⊥ }
+        ensures counts { Counts (IsErrOf result fault.Failed)
+            self.old.calls.faults self.new.calls.faults }
+    {
+        if self.calls.begin() {
+            self.calls.fail();
+            return Err(ShelfFault::Failed);
+        }
+        Ok(size_at(&self.files, name))
     }
 
     fn put(&mut self, alloc: Global, name: &Name, bytes: &[u8]) -> Result<(), ShelfFault>

@@ -53,7 +53,7 @@ pub trait Shelf {
     ghost use Rattle.octo_outside.specs.Recorded.{Counts};
     ghost use Rattle.octo_keeper.specs.declared.shelf.ShelfFile.{ShelfFile};
     ghost use Rattle.octo_keeper.specs.declared.shelf.ShelfFault.TheVariants as fault;
-    ghost use Rattle.octo_keeper.specs.Files.{bytes_of, sizes_of, with_file, without_file};
+    ghost use Rattle.octo_keeper.specs.Files.{bytes_of, size_of, sizes_of, with_file, without_file};
 
     /// The files by name, if the shelf records them: `None` for a real folder.
     ghost files: { Self → Option (List ShelfFile) };
@@ -74,6 +74,15 @@ pub trait Shelf {
     fn get(&mut self, alloc: Global, name: &Name) -> Result<Option<Blob>, ShelfFault>
         ensures ok { IfOk result
             (λ bytes. IfSome (files self.old) (λ held. bytes ≡ bytes_of name.now held)) }
+        ensures stays { files self.new ≡ files self.old }
+
+        ensures counts { Counts (IsErrOf result fault.Failed) (faults self.old) (faults self.new) }
+        ensures steady { (IsErrOf result fault.Failed → ⊥) → faults self.new ≡ faults self.old };
+
+    /// The size of a file in bytes, `None` if there is no file of that name. Reads none of them. Fails as `list` does.
+    fn size(&mut self, name: &Name) -> Result<Option<u64>, ShelfFault>
+        ensures ok { IfOk result
+            (λ size. IfSome (files self.old) (λ held. size ≡ size_of name.now held)) }
         ensures stays { files self.new ≡ files self.old }
 
         ensures counts { Counts (IsErrOf result fault.Failed) (faults self.old) (faults self.new) }

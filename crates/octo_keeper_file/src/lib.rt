@@ -11,6 +11,11 @@ use octo_keeper::{Change, Keeper, KeeperFault, Tables};
 use octo_keeper_sql::{SqlKeeper, fault_of};
 use sqlite::{Connection, File, FileStore};
 use std::alloc::Global;
+use std::fs::OpenOptions;
+use std::os::unix::fs::OpenOptionsExt;
+
+// Who may use a new database: its owner. Its log gets the mode of the database.
+const DATABASE_MODE: u32 = 0o600;
 
 /// What keeps the tables of a host in a database file and the log beside it. Its calls are those of `SqlKeeper`, with the same
 /// clauses.
@@ -31,8 +36,8 @@ impl Keeper for FileKeeper {
     ghost use Rattle.octo_keeper.specs.declared.keeper.KeeperFault.TheVariants as fault;
     ghost use Rattle.octo_keeper_sql.specs.Holds.{HasGroups};
     ghost use Rattle.octo_keeper_sql.specs.Kept.{IsAtomic, IsUndone};
-    ghost use Rattle.octo_keeper_sql.specs.Loads.{FailsToLoad, IsUnsound, Loads};
-    ghost use Rattle.octo_keeper_sql.specs.Statements.{Commits, FailsToWrite, statements};
+    ghost use Rattle.octo_keeper_sql.specs.Loads.{FailsToLoad, IsUnsound, LacksMemory, Loads};
+    ghost use Rattle.octo_keeper_sql.specs.Statements.{Commits, FailsToWrite, RanInTurn, statements};
 
     ghost tables = { λ _. None };
 
@@ -48,6 +53,9 @@ impl Keeper for FileKeeper {
             → HasCleanDisk (file_state self.new.database.connection)
             → FailsToLoad over_files self.old.database.connection self.new.database.connection
             ⊎ IsUnsound over_files self.old.database.connection self.new.database.connection }
+        ensures memory { IsErrOf result fault.NoMemory
+            → HasCleanDisk (file_state self.new.database.connection)
+            → LacksMemory over_files self.old.database.connection self.new.database.connection }
 
         ensures counts { Counts (IsErrOf result fault.Failed)
             self.old.database.faults self.new.database.faults }
@@ -67,8 +75,8 @@ impl Keeper for FileKeeper {
             self.old.database.connection self.new.database.connection }
         ensures nothing { OnErr result (IsUndone
             (file_state self.old.database.connection) (file_state self.new.database.connection)) }
-        ensures atomic { IsAtomic
-            (file_state self.old.database.connection) (file_state self.new.database.connection) }
+        ensures atomic { IsAtomic over_files (RanInTurn over_files (statements change.now))
+            self.old.database.connection self.new.database.connection }
 
         ensures counts { Counts (IsErrOf result fault.Failed)
             self.old.database.faults self.new.database.faults }
@@ -79,8 +87,21 @@ impl Keeper for FileKeeper {
     }
 }
 
-/// Opens the database file of that path and adopts it; a missing file is made. The file is locked until the keeper
-/// is dropped: another program that has it open is a fault, and so are a path that is no database and `:memory:`.
+// Makes the file of that path if it is missing, so that only its owner may read or write it. If it can't be made, opening it says
+// so. SQLite has other meanings for two kinds of paths, which aren't opened.
+fn make_private(rt: &HostRuntime, path: &str) {
+    if path == ":memory:" || path.starts_with("file:") {
+        return;
+    }
+    let _ = OpenOptions::new()
+        .write(true)
+        .create_new(true)
+        .mode(DATABASE_MODE)
+        .open(rt, path);
+}
+
+/// Opens the database file of that path and adopts it; a missing file is made, for its owner alone. The file is locked until the
+/// keeper is dropped: another program that has it open is a fault, and so are a path that is no database and `:memory:`.
 ///
 /// `FILE` and `FILE-wal` belong together: the log holds what was committed and isn't in the file yet.
 /// Source: SQLite file format, sections 1 and 4.
@@ -93,6 +114,7 @@ pub fn open_keeper(rt: &HostRuntime, path: &Name) -> Result<FileKeeper, KeeperFa
     ensures unlimited { IfOk result (λ keeper. keeper.database.connection.step_limit ≡ None) }
     ensures memory { path.now ≡ codes ":memory:" → IsErrOf result fault.Failed }
 {
+    make_private(rt, path.as_str());
     let connection = match Connection::open(rt, path.as_str()) {
         Ok(connection) => connection,
         Err(error) => return Err(fault_of(error)),

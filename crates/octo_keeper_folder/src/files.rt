@@ -11,10 +11,14 @@ use octo_access::is_file_name;
 use octo_keeper::ShelfFault;
 use octo_outside::{Blob, FileSource, ReadAll, read_all};
 use std::alloc::Global;
-use std::fs::{File, OpenFile};
+use std::fs::{OpenFile, OpenOptions};
 use std::io::{ErrorKind, Write};
+use std::os::unix::fs::OpenOptionsExt;
 use std::rt::Files;
 use std::{fs, io};
+
+// Who may use a new file, if the process's mask doesn't take it from them: its owner, and its group to read it.
+const FILE_MODE: u32 = 0o640;
 
 // The fault of a failed call of the system: out of memory only if the system says so.
 pub(crate) fn fault_of(error: &io::Error) -> ShelfFault
@@ -73,9 +77,33 @@ pub(crate) fn read_file<R: Files + AllocGlobal + Clone + Drop>(
     Ok(Some(bytes))
 }
 
+// The size of a file in bytes, `None` if the folder has none of that name.
+pub(crate) fn size_of_file<R: Files>(
+    rt: &R,
+    folder: &Name,
+    name: &Name,
+) -> Result<Option<u64>, ShelfFault>
+    ensures other { is_file_name name.now ≡ false → result ≡ Ok None }
+{
+    if !is_file_name(name.as_str()) {
+        return Ok(None);
+    }
+    let path = path_in(folder, name, "");
+    match fs::symlink_metadata(rt, path.as_str()) {
+        Ok(metadata) if metadata.is_file() => Ok(Some(metadata.len())),
+        Ok(_) => Ok(None),
+        Err(error) if error.kind() == ErrorKind::NotFound => Ok(None),
+        Err(error) => Err(fault_of(&error)),
+    }
+}
+
 // Writes a new file, and has the disk take it.
 fn write_new<R: Files>(rt: &R, path: &str, bytes: &[u8]) -> io::Result<()> {
-    let mut file = File::create_new(rt, path)?;
+    let mut file = OpenOptions::new()
+        .write(true)
+        .create_new(true)
+        .mode(FILE_MODE)
+        .open(rt, path)?;
     file.write_all(bytes)?;
     file.sync_all()
 }

@@ -3,6 +3,7 @@
 
 mod files;
 mod folder;
+mod listing;
 mod paths;
 mod shelf;
 

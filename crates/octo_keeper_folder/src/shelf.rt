@@ -1,6 +1,7 @@
 //! The shelf over a folder.
-use crate::files::{read_file, remove_file, write_file};
+use crate::files::{read_file, remove_file, size_of_file, write_file};
 use crate::folder::list_files;
+use crate::listing::Listing;
 use byte_text::Name;
 use octo_keeper::{FileList, Shelf, ShelfFault};
 use octo_outside::Blob;
@@ -11,18 +12,22 @@ use std::rt::Files;
 ///
 /// Its files are the regular files in it whose names are names of print files. After a put that returned `Ok` a loss of power
 /// leaves the new file whole; before, it leaves the former one, and perhaps a file `NAME.part`, which is passed over and which
-/// the next put of that name replaces. Source: POSIX.1-2017, `rename` and `fsync`.
+/// the next put of that name replaces. What was listed is kept until a put or a remove, so a file that another program puts into
+/// the folder isn't listed at once. Source: POSIX.1-2017, `rename` and `fsync`.
 #[derive(Drop)]
 pub struct FolderShelf<R: Files + AllocGlobal + Clone + Drop> {
     rt: R,
     folder: Name,
+    // What was listed, if nothing was put or removed since.
+    listing: Option<Listing>,
     faults: u64,
 }
 
 impl<R: Files + AllocGlobal + Clone + Drop> FolderShelf<R> {
-    ghost use Rattle.std.specs.Prelude.{◌≡◌, IsErrOf};
+    ghost use Rattle.std.specs.Prelude.{◌≡◌, IfOk, IsErrOf};
     ghost use Rattle.octo_outside.specs.Recorded.{Counts};
     ghost use Rattle.octo_keeper.specs.declared.shelf.ShelfFault.TheVariants as fault;
+    ghost use Rattle.octo_keeper_folder.specs.Listed.{IsListing};
 
     /// The files of that folder, which has to exist; no call yet.
     pub fn new(rt: R, folder: &Name) -> Self
@@ -32,8 +37,24 @@ impl<R: Files + AllocGlobal + Clone + Drop> FolderShelf<R> {
         FolderShelf {
             rt,
             folder: folder.copy(),
+            listing: None,
             faults: 0,
         }
+    }
+
+    // The list that is kept. If none is, the folder is listed, and the list is kept.
+    fn list_once(&mut self, alloc: Global) -> Result<FileList, ShelfFault>
+        ensures listed { IfOk result IsListing }
+        ensures folder { self.new.folder ≡ self.old.folder }
+        ensures faults { self.new.faults ≡ self.old.faults }
+    {
+        if let Some(listing) = &self.listing {
+            return Ok(listing.copy(alloc)?);
+        }
+        let listing = Listing::new(list_files(&self.rt, &self.folder)?);
+        let files = listing.copy(alloc)?;
+        self.listing = Some(listing);
+        Ok(files)
     }
 
     // Counts a fault, if the call was one; running out of memory isn't.
@@ -61,14 +82,14 @@ impl<R: Files + AllocGlobal + Clone + Drop> Shelf for FolderShelf<R> {
 
     ghost faults = { λ s. s.faults };
 
-    fn list(&mut self, _alloc: Global) -> Result<FileList, ShelfFault>
+    fn list(&mut self, alloc: Global) -> Result<FileList, ShelfFault>
         ensures listed { IfOk result IsListing }
         ensures folder { self.new.folder ≡ self.old.folder }
 
         ensures counts { Counts (IsErrOf result fault.Failed) self.old.faults self.new.faults }
         ensures steady { (IsErrOf result fault.Failed → ⊥) → self.new.faults ≡ self.old.faults }
     {
-        let listed = list_files(&self.rt, &self.folder);
+        let listed = self.list_once(alloc);
         self.count(listed)
     }
 
@@ -83,6 +104,17 @@ impl<R: Files + AllocGlobal + Clone + Drop> Shelf for FolderShelf<R> {
         self.count(read)
     }
 
+    fn size(&mut self, name: &Name) -> Result<Option<u64>, ShelfFault>
+        ensures other { is_file_name name.now ≡ false → result ≡ Ok None }
+        ensures folder { self.new.folder ≡ self.old.folder }
+
+        ensures counts { Counts (IsErrOf result fault.Failed) self.old.faults self.new.faults }
+        ensures steady { (IsErrOf result fault.Failed → ⊥) → self.new.faults ≡ self.old.faults }
+    {
+        let size = size_of_file(&self.rt, &self.folder, name);
+        self.count(size)
+    }
+
     fn put(&mut self, _alloc: Global, name: &Name, bytes: &[u8]) -> Result<(), ShelfFault>
         ensures other { is_file_name name.now ≡ false → result ≡ Err fault.Failed }
         ensures folder { self.new.folder ≡ self.old.folder }
@@ -90,6 +122,7 @@ impl<R: Files + AllocGlobal + Clone + Drop> Shelf for FolderShelf<R> {
         ensures counts { Counts (IsErrOf result fault.Failed) self.old.faults self.new.faults }
         ensures steady { (IsErrOf result fault.Failed → ⊥) → self.new.faults ≡ self.old.faults }
     {
+        self.listing = None;
         let done = write_file(&self.rt, &self.folder, name, bytes);
         self.count(done)
     }
@@ -101,6 +134,7 @@ impl<R: Files + AllocGlobal + Clone + Drop> Shelf for FolderShelf<R> {
         ensures counts { Counts (IsErrOf result fault.Failed) self.old.faults self.new.faults }
         ensures steady { (IsErrOf result fault.Failed → ⊥) → self.new.faults ≡ self.old.faults }
     {
+        self.listing = None;
         let done = remove_file(&self.rt, &self.folder, name);
         self.count(done)
     }

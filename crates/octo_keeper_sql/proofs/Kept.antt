@@ -1,5 +1,5 @@
 -- Statements of a transaction one after the other.
-use Rattle.std.proofs.Common.{◌≡◌, true, inl, refl, ◌∙◌, arith}
+use Rattle.std.proofs.Common.{◌≡◌, true, inl, refl, subst, ◌∙◌, arith}
 use Rattle.sqlite_trees.specs.Tree.{Trees}
 use Rattle.sqlite_trees.specs.declared.store.Store.{Ghosts}
 use Rattle.sqlite.specs.Held.{Held, state}
@@ -9,7 +9,7 @@ use Rattle.sqlite.proofs.StateLemmas.{survives_then, survives_weaker}
 use Rattle.sqlite.proofs.Callers.{survives_begin}
 use Rattle.std.specs.Borrow.{MutBor}
 use Rattle.sqlite.specs.State.{HasCleanDisk}
-use Rattle.octo_keeper_sql.specs.Kept.{KeepsLast, StoresNothing, Kept, Unstored, IsAtomic}
+use Rattle.octo_keeper_sql.specs.Kept.{KeepsLast, StoresNothing, Kept, Unstored, IsAfter, IsAtomic}
 
 same_commit : (a : State) → KeepsCommit a a
 same_commit a = record { was_open = λ h. h; committed = λ _. refl }
@@ -61,18 +61,23 @@ module _ {S : Type 0} (g : Ghosts S) where
     moved = nothing_then (state g a.now) (state g b.now) (state g c.now) one.moved two.moved;
   }
 
-pub atomic_same : (a : State) → IsAtomic a a
-atomic_same a = (a.now.trees, survives_same a _)
+-- a transaction that wasn't begun, or was undone, or committed
+module _ {S : Type 0} (g : Ghosts S) (Work : Held S → Held S → Type 0) (old : Held S) where
+  pub atomic_same : IsAtomic g Work old old
+  atomic_same = survives_same (state g old) (IsAfter g Work old)
 
--- a transaction that was undone, or committed
-module _ {S : Type 0} (g : Ghosts S) (old : Held S) (begun last : Held S) (end : State) (begins : begun ≡ record old { in_transaction = true }) (inside : StoresNothing (state g begun) (state g last)) where
-  pub undone_atomic : StoresNothing (state g last) end → IsAtomic (state g old) end
-  undone_atomic out =
-      let whole = nothing_then (state g begun) (state g last) end inside out in
-      ((state g old).now.trees, survives_weaker (state g old) end (λ _. ⊥) _ (λ _ db none. absurd none) (survives_begin g old end (λ _. ⊥) (rw begins at whole)))
+  module _ (begun last new : Held S) (begins : begun ≡ record old { in_transaction = true }) (inside : StoresNothing (state g begun) (state g last)) where
+    pub undone_atomic : StoresNothing (state g last) (state g new) → IsAtomic g Work old new
+    undone_atomic out =
+        let whole = nothing_then (state g begun) (state g last) (state g new) inside out in
+        survives_weaker (state g old) (state g new) (λ _. ⊥) (IsAfter g Work old) (λ _ db none. absurd none)
+        (survives_begin g old (state g new) (λ _. ⊥) (rw begins at whole))
 
-  pub committed_atomic : Survives (state g last) end (λ db. db ≡ (state g last).now.trees) → IsAtomic (state g old) end
-  committed_atomic out =
-      let P = λ (db : Trees). db ≡ (state g last).now.trees in
-      let whole = survives_then (state g begun) (state g last) end (λ _. ⊥) P P (λ _ db none. absurd none) (λ _ db same. same) inside out in
-      ((state g last).now.trees, survives_begin g old end P (rw begins at whole))
+    pub committed_atomic : (HasCleanDisk (state g last) → Work begun last) → Survives (state g last) (state g new) (λ db. db ≡ (state g last).now.trees)
+        → IsAtomic g Work old new
+    committed_atomic work out =
+        let P = λ (db : Trees). db ≡ (state g last).now.trees in
+        let whole = survives_then (state g begun) (state g last) (state g new) (λ _. ⊥) P P (λ _ db none. absurd none) (λ _ db same. same) inside out in
+        survives_weaker (state g old) (state g new) P (IsAfter g Work old)
+        (λ clean db same. (last, subst (λ h. Work h last) begins (work (omega (arith, out.clean, clean))), same))
+        (survives_begin g old (state g new) P (rw begins at whole))

@@ -1,5 +1,5 @@
 -- What a call leaves of the database.
-use Rattle.std.specs.Prelude.{◌≡◌, false, IsTrue}
+use Rattle.std.specs.Prelude.{◌≡◌, true, false, IsTrue}
 use Rattle.std.specs.Borrow.{MutBor}
 use Rattle.sqlite_trees.specs.Tree.{Trees}
 use Rattle.sqlite_trees.specs.declared.store.Store.{Ghosts}
@@ -28,9 +28,13 @@ Kept g = Inside g KeepsLast
 abbrev pub Unstored : {S : Type 0} → Ghosts S → MutBor (Held S) → MutBor (Held S) → Type 0
 Unstored g = Inside g StoresNothing
 
--- after a stop the next open finds what it would have found before, or this one other content
-abbrev pub IsAtomic : State → State → Type 0
-IsAtomic old new = (whole : Trees) × Survives old new (λ content. content ≡ whole)
+-- the content after this work of a transaction
+abbrev pub IsAfter : {S : Type 0} → Ghosts S → (Work : Held S → Held S → Type 0) → Held S → Trees → Type 0
+IsAfter {S} g Work old content = (last : Held S) × Work (record old { in_transaction = true }) last × (content ≡ (state g last).now.trees)
+
+-- after a stop the next open finds what it would have found before, or the content after this work
+abbrev pub IsAtomic : {S : Type 0} → Ghosts S → (Work : Held S → Held S → Type 0) → Held S → Held S → Type 0
+IsAtomic g Work old new = Survives (state g old) (state g new) (IsAfter g Work old)
 
 -- nothing of a failed call is kept: no transaction is left open, and the last commit is the same, if the database is still
 -- open and its disk returned what was written; outside a transaction the rows are those of the last commit

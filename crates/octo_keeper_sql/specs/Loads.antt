@@ -47,19 +47,33 @@ module _ {S : Type 0} (g : Ghosts S) where
     pub queue : Found SELECT_ENTRIES.now (map entry_row tables.queue) one two
     pub prints : Found SELECT_PRINTS.now (map print_row tables.prints) two new
 
+  -- memory runs out at a query, or at the rows that it showed
+  abbrev pub Unfinished : List ℕ → Held S → Held S → Type 0
+  Unfinished query old new = FailsToQuery query [] (state g old) (state g new) (SqliteFailure OutOfMemory) ⊎ ((rows : List Row) × Found query rows old new)
+
+  -- the same, if the disk returned what was written
+  abbrev pub EndsEarly : List ℕ → Held S → Held S → Type 0
+  EndsEarly query old new = HasCleanDisk (state g new) → Unfinished query old new
+
+  -- one of these queries stops in this way, after the earlier ones showed their rows
+  module _ (Stops : List ℕ → (Row → Type 0) → Held S → Held S → Type 0) where
+    abbrev pub StopsAtQueue : Held S → Held S → Type 0
+    StopsAtQueue old new =
+        Stops SELECT_ENTRIES.now HoldsEntry old new
+        ⊎ ((two : Held S) × (rows : List Row) × Found SELECT_ENTRIES.now rows old two × Stops SELECT_PRINTS.now HoldsPrint two new)
+
+    abbrev pub StopsToLoad : Held S → Held S → Type 0
+    StopsToLoad old new =
+        Stops SELECT_USERS.now HoldsUser old new
+        ⊎ ((one : Held S) × (rows : List Row) × Found SELECT_USERS.now rows old one × StopsAtQueue one new)
+
   -- one of these queries fails or shows a row that can't be read, after the earlier ones showed theirs
-  abbrev pub FailsAtPrints : Held S → Held S → Type 0
-  FailsAtPrints old new = Unread SELECT_PRINTS.now HoldsPrint old new
-
-  abbrev pub FailsAtQueue : Held S → Held S → Type 0
-  FailsAtQueue old new =
-      Unread SELECT_ENTRIES.now HoldsEntry old new
-      ⊎ ((two : Held S) × (rows : List Row) × Found SELECT_ENTRIES.now rows old two × FailsAtPrints two new)
-
   abbrev pub FailsToLoad : Held S → Held S → Type 0
-  FailsToLoad old new =
-      Unread SELECT_USERS.now HoldsUser old new
-      ⊎ ((one : Held S) × (rows : List Row) × Found SELECT_USERS.now rows old one × FailsAtQueue one new)
+  FailsToLoad = StopsToLoad Unread
+
+  -- memory runs out at one of these queries, after the earlier ones showed theirs
+  abbrev pub LacksMemory : Held S → Held S → Type 0
+  LacksMemory = StopsToLoad (λ query _. Unfinished query)
 
   -- or all show theirs, and a host can't begin with them
   abbrev pub IsUnsound : Held S → Held S → Type 0

@@ -173,7 +173,7 @@ pub(crate) fn settle_schema<S: Alter>(
         → Settles S.Store connection.old connection.new) }
     ensures failed { IsErrOf result fault.Failed → HasCleanDisk (state S.Store connection.new)
         → FailsToAdopt S.Store connection.old connection.new }
-    ensures atomic { IsAtomic (state S.Store connection.old) (state S.Store connection.new) }
+    ensures atomic { IsAtomic S.Store (Settled S.Store) connection.old connection.new }
 {
     if !connection.is_autocommit() {
         return Err(KeeperFault::Failed);

@@ -5,7 +5,7 @@ ghost use Rattle.sqlite.specs.Held.{state};
 ghost use Rattle.sqlite.specs.State.{HasCleanDisk};
 ghost use Rattle.sqlite.specs.Values.{bound};
 ghost use Rattle.octo_keeper_sql.specs.Kept.{Kept};
-ghost use Rattle.octo_keeper_sql.specs.Loads.{FailsToFind, Finds};
+ghost use Rattle.octo_keeper_sql.specs.Loads.{EndsEarly, FailsToFind, Finds};
 ghost use Rattle.octo_keeper_sql.specs.Statements.{Refuses, Runs, copy_taken, entry_dropped, entry_put, key_values};
 ghost use Rattle.octo_keeper_sql.specs.Holds.{HoldsEntry};
 ghost use Rattle.octo_keeper_sql.specs.Rows.{entry_row};
@@ -41,6 +41,8 @@ pub(crate) fn load_entries<S: Alter>(
         Finds S.Store SELECT_ENTRIES.now (map entry_row entries) connection.old connection.new) }
     ensures failed { IsErrOf result fault.Failed
         → FailsToFind S.Store SELECT_ENTRIES.now HoldsEntry connection.old connection.new }
+    ensures memory { IsErrOf result fault.NoMemory
+        → EndsEarly S.Store SELECT_ENTRIES.now connection.old connection.new }
     ensures clean { HasCleanDisk (state S.Store connection.new)
         → HasCleanDisk (state S.Store connection.old) }
 {

@@ -27,7 +27,7 @@ impl<S: Alter + Drop> SqlKeeper<S> {
     ghost use Rattle.sqlite.specs.Held.{state};
     ghost use Rattle.sqlite.specs.State.{HasCleanDisk};
     ghost use Rattle.octo_keeper_sql.specs.Kept.{IsAtomic};
-    ghost use Rattle.octo_keeper_sql.specs.Settled.{FailsToAdopt, Settles};
+    ghost use Rattle.octo_keeper_sql.specs.Settled.{FailsToAdopt, Settled, Settles};
     ghost use Rattle.octo_outside.specs.Recorded.{Counts};
     ghost use Rattle.octo_keeper.specs.declared.keeper.KeeperFault.TheVariants as fault;
 
@@ -44,9 +44,9 @@ impl<S: Alter + Drop> SqlKeeper<S> {
             → HasCleanDisk (state S.Store refused.connection)
             → FailsToAdopt S.Store connection refused.connection) }
         ensures adopted { IfOk result
-            (λ keeper. IsAtomic (state S.Store connection) (state S.Store keeper.connection)) }
+            (λ keeper. IsAtomic S.Store (Settled S.Store) connection keeper.connection) }
         ensures refused { IfErr result
-            (λ refused. IsAtomic (state S.Store connection) (state S.Store refused.connection)) }
+            (λ refused. IsAtomic S.Store (Settled S.Store) connection refused.connection) }
     {
         match settle_schema(alloc, &mut connection) {
             Ok(()) => Ok(SqlKeeper {
@@ -92,8 +92,8 @@ impl<S: Alter + Drop> Keeper for SqlKeeper<S> {
     ghost use Rattle.octo_keeper.specs.declared.keeper.KeeperFault.TheVariants as fault;
     ghost use Rattle.octo_keeper_sql.specs.Holds.{HasGroups};
     ghost use Rattle.octo_keeper_sql.specs.Kept.{IsAtomic, IsUndone};
-    ghost use Rattle.octo_keeper_sql.specs.Loads.{FailsToLoad, IsUnsound, Loads};
-    ghost use Rattle.octo_keeper_sql.specs.Statements.{Commits, FailsToWrite, statements};
+    ghost use Rattle.octo_keeper_sql.specs.Loads.{FailsToLoad, IsUnsound, LacksMemory, Loads};
+    ghost use Rattle.octo_keeper_sql.specs.Statements.{Commits, FailsToWrite, RanInTurn, statements};
 
     ghost tables = { λ _. None };
 
@@ -108,6 +108,9 @@ impl<S: Alter + Drop> Keeper for SqlKeeper<S> {
             → HasCleanDisk (state S.Store self.new.connection)
             → FailsToLoad S.Store self.old.connection self.new.connection
             ⊎ IsUnsound S.Store self.old.connection self.new.connection }
+        ensures memory { IsErrOf result fault.NoMemory
+            → HasCleanDisk (state S.Store self.new.connection)
+            → LacksMemory S.Store self.old.connection self.new.connection }
 
         ensures counts { Counts (IsErrOf result fault.Failed) self.old.faults self.new.faults }
         ensures steady { (IsErrOf result fault.Failed → ⊥) → self.new.faults ≡ self.old.faults }
@@ -125,8 +128,8 @@ impl<S: Alter + Drop> Keeper for SqlKeeper<S> {
             self.old.connection self.new.connection }
         ensures nothing { OnErr result
             (IsUndone (state S.Store self.old.connection) (state S.Store self.new.connection)) }
-        ensures atomic { IsAtomic
-            (state S.Store self.old.connection) (state S.Store self.new.connection) }
+        ensures atomic { IsAtomic S.Store (RanInTurn S.Store (statements change.now))
+            self.old.connection self.new.connection }
 
         ensures counts { Counts (IsErrOf result fault.Failed) self.old.faults self.new.faults }
         ensures steady { (IsErrOf result fault.Failed → ⊥) → self.new.faults ≡ self.old.faults }

@@ -6,7 +6,7 @@ ghost use Rattle.sqlite.specs.State.{HasCleanDisk};
 ghost use Rattle.octo_keeper.specs.Tables.{AreSound};
 ghost use Rattle.octo_keeper.specs.declared.keeper.KeeperFault.TheVariants as fault;
 ghost use Rattle.octo_keeper_sql.specs.Holds.{HasGroups};
-ghost use Rattle.octo_keeper_sql.specs.Loads.{FailsToLoad, IsUnsound, Loads};
+ghost use Rattle.octo_keeper_sql.specs.Loads.{FailsToLoad, IsUnsound, LacksMemory, Loads};
 
 use crate::entries::load_entries;
 use crate::prints::load_prints;
@@ -22,6 +22,8 @@ fn load_rows<S: Alter>(alloc: Global, connection: &mut Connection<S>) -> Result<
     ensures groups { IfOk result (λ tables. All HasGroups tables.users) }
     ensures failed { IsErrOf result fault.Failed → HasCleanDisk (state S.Store connection.new)
         → FailsToLoad S.Store connection.old connection.new }
+    ensures memory { IsErrOf result fault.NoMemory → HasCleanDisk (state S.Store connection.new)
+        → LacksMemory S.Store connection.old connection.new }
 {
     let users = load_users(alloc, connection)?;
     let queue = load_entries(alloc, connection)?;
@@ -45,9 +47,11 @@ pub(crate) fn load_tables<S: Alter>(
     ensures failed { IsErrOf result fault.Failed → HasCleanDisk (state S.Store connection.new)
         → FailsToLoad S.Store connection.old connection.new
         ⊎ IsUnsound S.Store connection.old connection.new }
+    ensures memory { IsErrOf result fault.NoMemory → HasCleanDisk (state S.Store connection.new)
+        → LacksMemory S.Store connection.old connection.new }
 {
     let tables = load_rows(alloc, connection)?;
-    if !are_sound(&tables) {
+    if !are_sound(alloc, &tables) {
         return Err(KeeperFault::Failed);
     }
     Ok(tables)

@@ -5,7 +5,7 @@ ghost use Rattle.sqlite.specs.Held.{state};
 ghost use Rattle.sqlite.specs.State.{HasCleanDisk};
 ghost use Rattle.sqlite.specs.Values.{bound};
 ghost use Rattle.octo_keeper_sql.specs.Kept.{Kept};
-ghost use Rattle.octo_keeper_sql.specs.Loads.{FailsToFind, Finds};
+ghost use Rattle.octo_keeper_sql.specs.Loads.{EndsEarly, FailsToFind, Finds};
 ghost use Rattle.octo_keeper_sql.specs.Statements.{Refuses, Runs, due_end, print_ended, print_put};
 ghost use Rattle.octo_keeper_sql.specs.Holds.{HoldsPrint};
 ghost use Rattle.octo_keeper_sql.specs.Rows.{print_row};
@@ -30,6 +30,8 @@ pub(crate) fn load_prints<S: Alter>(
         Finds S.Store SELECT_PRINTS.now (map print_row prints) connection.old connection.new) }
     ensures failed { IsErrOf result fault.Failed
         → FailsToFind S.Store SELECT_PRINTS.now HoldsPrint connection.old connection.new }
+    ensures memory { IsErrOf result fault.NoMemory
+        → EndsEarly S.Store SELECT_PRINTS.now connection.old connection.new }
     ensures clean { HasCleanDisk (state S.Store connection.new)
         → HasCleanDisk (state S.Store connection.old) }
 {

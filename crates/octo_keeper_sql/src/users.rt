@@ -4,7 +4,7 @@ ghost use Rattle.std.specs.List.{All};
 ghost use Rattle.sqlite.specs.Held.{state};
 ghost use Rattle.sqlite.specs.State.{HasCleanDisk};
 ghost use Rattle.octo_keeper_sql.specs.Kept.{Kept};
-ghost use Rattle.octo_keeper_sql.specs.Loads.{FailsToFind, Finds};
+ghost use Rattle.octo_keeper_sql.specs.Loads.{EndsEarly, FailsToFind, Finds};
 ghost use Rattle.octo_keeper_sql.specs.Statements.{Refuses, Runs, user_put, user_set};
 ghost use Rattle.octo_keeper_sql.specs.Holds.{HasGroups, HoldsUser};
 ghost use Rattle.octo_keeper.specs.declared.keeper.KeeperFault.TheVariants as fault;
@@ -30,6 +30,8 @@ pub(crate) fn load_users<S: Alter>(
     ensures groups { IfOk result (All HasGroups) }
     ensures failed { IsErrOf result fault.Failed
         → FailsToFind S.Store SELECT_USERS.now HoldsUser connection.old connection.new }
+    ensures memory { IsErrOf result fault.NoMemory
+        → EndsEarly S.Store SELECT_USERS.now connection.old connection.new }
     ensures clean { HasCleanDisk (state S.Store connection.new)
         → HasCleanDisk (state S.Store connection.old) }
 {

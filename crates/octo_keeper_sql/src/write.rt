@@ -4,7 +4,7 @@ ghost use Rattle.sqlite.specs.Held.{state};
 ghost use Rattle.sqlite.specs.State.{HasCleanDisk};
 ghost use Rattle.octo_keeper.specs.declared.keeper.KeeperFault.TheVariants as fault;
 ghost use Rattle.octo_keeper_sql.specs.Kept.{IsAtomic, IsUndone, Kept};
-ghost use Rattle.octo_keeper_sql.specs.Statements.{Commits, FailsToWrite, Refuses, Runs, copy_taken, due_end, print_put, statements};
+ghost use Rattle.octo_keeper_sql.specs.Statements.{Commits, FailsToWrite, RanInTurn, Refuses, Runs, copy_taken, due_end, print_put, statements};
 
 use crate::entries::{drop_entry, put_entry, take_entry};
 use crate::fault::fault_of;
@@ -74,7 +74,8 @@ pub(crate) fn commit_change<S: Alter>(
         → FailsToWrite S.Store (statements change.now) connection.old connection.new }
     ensures nothing { OnErr result
         (IsUndone (state S.Store connection.old) (state S.Store connection.new)) }
-    ensures atomic { IsAtomic (state S.Store connection.old) (state S.Store connection.new) }
+    ensures atomic { IsAtomic S.Store (RanInTurn S.Store (statements change.now))
+        connection.old connection.new }
 {
     if !connection.is_autocommit() {
         return Err(KeeperFault::Failed);

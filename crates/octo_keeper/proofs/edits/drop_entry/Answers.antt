@@ -1,5 +1,5 @@
 -- What is kept is what the test keeps.
-use Rattle.std.proofs.Common.{◌≡◌, not, rules}
+use Rattle.std.proofs.Common.{not, rules}
 use Rattle.std.proofs.lemmas.Fn.{filter_same}
 use Rattle.print_queue.specs.Rows.{is_key}
 use Rattle.octo_keeper.proofs.edits.drop_entry.Goals as goal

@@ -1,5 +1,5 @@
 -- One more row of a map in place.
-use Rattle.std.proofs.Common.{◌≡◌, set, ap, sym, ◌∙◌, arith}
+use Rattle.std.proofs.Common.{set, ap, sym, ◌∙◌, arith}
 use Rattle.std.proofs.lemmas.List.Edits.{map_over_more}
 use Rattle.octo_keeper.specs.Tables.{lowered}
 use Rattle.octo_keeper.proofs.edits.lower_rows.Goals as goal

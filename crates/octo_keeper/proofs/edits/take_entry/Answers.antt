@@ -1,5 +1,5 @@
 -- Rows of which nothing is left are dropped.
-use Rattle.std.proofs.Common.{◌≡◌, not, map, length, rules, ap, ◌∙◌, arith}
+use Rattle.std.proofs.Common.{not, map, length, rules, ap, ◌∙◌, arith}
 use Rattle.std.specs.List.{filter}
 use Rattle.std.proofs.lemmas.Fn.{filter_same}
 use Rattle.octo_keeper.specs.Tables.{lowered}

@@ -1,4 +1,4 @@
-use Rattle.std.proofs.Common.{◌≡◌, map, take, length}
+use Rattle.std.proofs.Common.{◌≡◌, take}
 use Rattle.octo_keeper.specs.Files.{sizes_of}
 use Rattle.octo_keeper.proofs.files.copy_sizes.Given as goal
 

@@ -1,5 +1,5 @@
 -- What is kept is what the test keeps.
-use Rattle.std.proofs.Common.{◌≡◌, not, rules}
+use Rattle.std.proofs.Common.{not, rules}
 use Rattle.std.proofs.lemmas.Fn.{filter_same}
 use Rattle.octo_keeper.specs.Files.{is_file}
 use Rattle.octo_keeper.proofs.files.drop_file.Goals as goal

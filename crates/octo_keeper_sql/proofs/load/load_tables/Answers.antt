@@ -6,3 +6,8 @@ pub returns-in_err-tables-clause-failed : goal.returns-in_err-tables-clause-fail
 returns-in_err-tables-clause-failed g c failed clean =
     let is : IsErrOf c.load_rows.result fault.Failed = search rules in
     inl (c.load_rows.ensures.failed is clean)
+
+pub returns-in_err-tables-clause-memory : goal.returns-in_err-tables-clause-memory
+returns-in_err-tables-clause-memory g c lacks clean =
+    let is : IsErrOf c.load_rows.result fault.NoMemory = search rules in
+    c.load_rows.ensures.memory is clean

@@ -8,31 +8,31 @@ use Rattle.octo_keeper_sql.proofs.Kept.{atomic_same, undone_atomic, committed_at
 use Rattle.octo_keeper_sql.proofs.write.commit_change.Goals as goal
 
 pub returns-then-not-is_autocommit-clause-atomic : goal.returns-then-not-is_autocommit-clause-atomic
-returns-then-not-is_autocommit-clause-atomic g c = atomic_same (state g.S.Store c.args.connection.now)
+returns-then-not-is_autocommit-clause-atomic g c = atomic_same g.S.Store (RanInTurn g.S.Store (statements c.args.change.now)) c.args.connection.now
 
 pub returns-in-Err-clause-atomic : goal.returns-in-Err-clause-atomic
 returns-in-Err-clause-atomic g c =
     let end = c.rollback.new.self.0 in
-    let it = undone_atomic g.S.Store c.args.connection.now c.transaction-transaction.result.conn.now c.write_change.new.transaction.conn.now (state g.S.Store end)
+    let it = undone_atomic g.S.Store (RanInTurn g.S.Store (statements c.args.change.now)) c.args.connection.now c.transaction-transaction.result.conn.now c.write_change.new.transaction.conn.now end
     c.transaction-transaction.ensures.begun c.write_change.ensures.kept.moved.stores c.rollback.ensures.survives in
     let same : end ≡ c.connection-1.given.0 = search rules in
-    subst (λ h. IsAtomic (state g.S.Store c.args.connection.now) (state g.S.Store h)) same it
+    subst (λ h. IsAtomic g.S.Store (RanInTurn g.S.Store (statements c.args.change.now)) c.args.connection.now h) same it
 
 pub returns-in-Ok-clause-atomic : goal.returns-in-Ok-clause-atomic
 returns-in-Ok-clause-atomic g c =
     let end = c.commit.new.self.0 in
-    let it = committed_atomic g.S.Store c.args.connection.now c.transaction-transaction.result.conn.now c.write_change.new.transaction.conn.now (state g.S.Store end)
-    c.transaction-transaction.ensures.begun c.write_change.ensures.kept.moved.stores c.commit.ensures.survives in
+    let it = committed_atomic g.S.Store (RanInTurn g.S.Store (statements c.args.change.now)) c.args.connection.now c.transaction-transaction.result.conn.now c.write_change.new.transaction.conn.now end
+    c.transaction-transaction.ensures.begun c.write_change.ensures.kept.moved.stores c.in_default.ensures.ran c.commit.ensures.survives in
     let same : end ≡ c.connection-2-1.given.0 = search rules in
-    subst (λ h. IsAtomic (state g.S.Store c.args.connection.now) (state g.S.Store h)) same it
+    subst (λ h. IsAtomic g.S.Store (RanInTurn g.S.Store (statements c.args.change.now)) c.args.connection.now h) same it
 
 pub returns-in-Err-commit-clause-atomic : goal.returns-in-Err-commit-clause-atomic
 returns-in-Err-commit-clause-atomic g c =
     let end = c.commit.new.self.0 in
-    let it = committed_atomic g.S.Store c.args.connection.now c.transaction-transaction.result.conn.now c.write_change.new.transaction.conn.now (state g.S.Store end)
-    c.transaction-transaction.ensures.begun c.write_change.ensures.kept.moved.stores c.commit.ensures.survives in
+    let it = committed_atomic g.S.Store (RanInTurn g.S.Store (statements c.args.change.now)) c.args.connection.now c.transaction-transaction.result.conn.now c.write_change.new.transaction.conn.now end
+    c.transaction-transaction.ensures.begun c.write_change.ensures.kept.moved.stores c.in_default.ensures.ran c.commit.ensures.survives in
     let same : end ≡ c.connection-2-1.given.0 = search rules in
-    subst (λ h. IsAtomic (state g.S.Store c.args.connection.now) (state g.S.Store h)) same it
+    subst (λ h. IsAtomic g.S.Store (RanInTurn g.S.Store (statements c.args.change.now)) c.args.connection.now h) same it
 
 pub returns-in-Ok-clause-written : goal.returns-in-Ok-clause-written
 returns-in-Ok-clause-written g c =
