@@ -1,34 +1,19 @@
 -- The worker whose ask is open, and seats that a step of the house leaves alone.
-use Rattle.std.proofs.Common.{◌≡◌, ◌≢◌, ◌⊎◌, ℕ, zero, suc, ◌+◌, ◌<◌, eqb, Bool, true, false, List, [], ◌∷◌, ◌++◌, length, get_or, set, sym, refl, ap, ◌∙◌, subst, inl, inr, ⊎_elim, arith, Option, Some, None, length-set, get_or-set_other, get_or-set_same}
+use Rattle.std.proofs.Common.{◌≡◌, ◌⊎◌, ℕ, Bool, true, false, List, set, sym, refl, ◌∙◌, subst, inl, inr, ⊎_elim, arith, Option, Some, None}
 use Rattle.std.proofs.lemmas.Bool.{true≢false}
-use mathlib.Core.Logic.{dite}
 use mathlib.Core.Option.{none, some}
 use mathlib.Core.Option as maybe
-use native.Mathlib.Decide.{ℕ_discrete}
-use lib.ListN.{get_elem?}
-use lib.Seq.{set-get_or}
-use prog.Atomic.{either}
-use Rattle.atomic_table.specs.Table.{State, Me, step, Act, keeps, takes, gives, Allows}
-use Rattle.atomic_table.proofs.Lists.{set_here, set_else, set_again, exchanged}
-use Rattle.job_desk.specs.declared.issued.Note.{Note}
 use Rattle.octo_asks.specs.declared.request.Ask.{Ask}
-use Rattle.octo_asks.specs.declared.answer.Answer.{Answer}
-use Rattle.octo_asks.specs.declared.entry.Entry.TheVariants as entry
-use Rattle.octo_asks.specs.declared.counter.Given.{Given}
-use Rattle.octo_asks.specs.History.{History, calls_of}
-use Rattle.hand_over.specs.declared.board.Letter.{Letter}
-use Rattle.hand_over.specs.declared.board.Letter.TheVariants.{Asked, Answered, Noted}
+use Rattle.octo_asks.specs.History.{History}
+use Rattle.hand_over.specs.declared.board.Letter.TheVariants.{Asked}
 use Rattle.hand_over.specs.declared.board.Stage.{Stage}
 use Rattle.hand_over.specs.declared.board.Stage.TheVariants.{Resting, Writing, Waiting, Found, Withdrawn}
 use Rattle.hand_over.specs.declared.board.WorkerView.{WorkerView}
-use Rattle.hand_over.specs.declared.board.HouseView.{HouseView}
 use Rattle.hand_over.specs.declared.board.View.{View}
 use Rattle.hand_over.specs.declared.board.View.TheVariants.{House, Worker, Spent}
-use Rattle.hand_over.specs.Views.{Known, known_of, taken_of, has_close}
-use Rattle.hand_over.specs.Rule.{Kept, AtStage, AtSeat, Slot, note_word}
-use Rattle.hand_over.specs.Steps.{Taken, worker_looked_at, with_look, ask_from, answer_put, call_with, note_put, close_put, learnt}
-use Rattle.hand_over.proofs.Lists.{calls_own, calls_other, calls_note, calls_close, close_call, close_note, close_close, taken_own, taken_other}
-use Rattle.hand_over.proofs.Frames.{St, Homes, housed, house_moves}
+use Rattle.hand_over.specs.Views.{Known}
+use Rattle.hand_over.specs.Rule.{Kept, AtStage, AtSeat, Slot}
+use Rattle.hand_over.proofs.Frames.{St, Homes}
 use Rattle.std.proofs.lemmas.Option.{none-some}
 
 -- the worker whose ask is open

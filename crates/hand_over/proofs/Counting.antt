@@ -153,7 +153,7 @@ module _ (old : Sitter) (w : ℕ) (is : IsHouse old) (asked : IsGiven w (house_o
 
       pub answered_four : w < 4 → all_of_four (house_of old.0).history ≡ true → all_of_four (house_of new.0).history ≡ true
       answered_four near all = same_four _ _ (ap (λ (m : Sitter). (house_of m.0).history) answered_at)
-          (four_more (house_of old.0).history (entry.Call w asked.0.ask moment answer) (near_four w near) all)
+          (four_more (house_of old.0).history (entry.Call w asked.0.ask moment answer) (near_four w asked.0.ask moment answer near) all)
 
       pub answered_past : IfSome (house_of old.0).taken (λ one. Adds (Some (house_of old.0).history) (Some (house_of new.0).history)
           (entry.Call w one.ask moment answer ∷ []))

@@ -1,34 +1,31 @@
 -- Each step of the house keeps the rule.
-use Rattle.std.proofs.Common.{◌≡◌, ◌≢◌, ◌⊎◌, ℕ, zero, suc, ◌+◌, ◌<◌, eqb, Bool, true, false, List, [], ◌∷◌, ◌++◌, length, get_or, set, sym, refl, ap, ◌∙◌, subst, inl, inr, ⊎_elim, arith, Option, Some, None, length-set, get_or-set_other, get_or-set_same}
+use Rattle.std.proofs.Common.{◌≡◌, ◌≢◌, ℕ, suc, ◌<◌, eqb, true, false, List, [], ◌∷◌, ◌++◌, length, get_or, set, sym, refl, ap, ◌∙◌, subst, inl, inr, ⊎_elim, arith, Option, Some, None, length-set, get_or-set_other, get_or-set_same}
 use Rattle.std.proofs.lemmas.Bool.{true≢false}
 use mathlib.Core.Logic.{dite}
 use mathlib.Core.Option.{none, some}
-use mathlib.Core.Option as maybe
 use native.Mathlib.Decide.{ℕ_discrete}
 use lib.ListN.{get_elem?}
 use lib.Seq.{set-get_or}
 use prog.Atomic.{either}
 use Rattle.atomic_table.specs.Table.{State, Me, step, Act, keeps, takes, gives, Allows}
 use Rattle.atomic_table.proofs.Lists.{set_here, set_else, set_again, exchanged}
-use Rattle.job_desk.specs.declared.issued.Note.{Note}
 use Rattle.octo_asks.specs.declared.request.Ask.{Ask}
 use Rattle.octo_asks.specs.declared.answer.Answer.{Answer}
+use Rattle.octo_asks.specs.declared.entry.Entry.{Entry}
 use Rattle.octo_asks.specs.declared.entry.Entry.TheVariants as entry
 use Rattle.octo_asks.specs.declared.counter.Given.{Given}
 use Rattle.octo_asks.specs.History.{History, calls_of}
 use Rattle.hand_over.specs.declared.board.Letter.{Letter}
-use Rattle.hand_over.specs.declared.board.Letter.TheVariants.{Asked, Answered, Noted}
-use Rattle.hand_over.specs.declared.board.Stage.{Stage}
-use Rattle.hand_over.specs.declared.board.Stage.TheVariants.{Resting, Writing, Waiting, Found, Withdrawn}
-use Rattle.hand_over.specs.declared.board.WorkerView.{WorkerView}
+use Rattle.hand_over.specs.declared.board.Letter.TheVariants.{Asked, Answered}
+use Rattle.hand_over.specs.declared.board.Stage.TheVariants.{Waiting}
 use Rattle.hand_over.specs.declared.board.HouseView.{HouseView}
 use Rattle.hand_over.specs.declared.board.View.{View}
-use Rattle.hand_over.specs.declared.board.View.TheVariants.{House, Worker, Spent}
-use Rattle.hand_over.specs.Views.{Known, known_of, taken_of, has_close}
-use Rattle.hand_over.specs.Rule.{Kept, AtStage, AtSeat, Slot, note_word}
-use Rattle.hand_over.specs.Steps.{Taken, worker_looked_at, with_look, ask_from, answer_put, call_with, note_put, close_put, learnt}
-use Rattle.hand_over.proofs.Lists.{calls_own, calls_other, calls_note, calls_close, close_call, close_note, close_close, taken_own, taken_other}
-use Rattle.hand_over.proofs.Frames.{St, Homes, housed, house_moves, seat_of}
+use Rattle.hand_over.specs.declared.board.View.TheVariants.{House, Worker}
+use Rattle.hand_over.specs.Views.{known_of, taken_of, has_close}
+use Rattle.hand_over.specs.Rule.{Kept, AtStage, AtSeat, note_word}
+use Rattle.hand_over.specs.Steps.{Taken, worker_looked_at, with_look, ask_from, answer_put, call_with, note_in, note_put, close_put, learnt}
+use Rattle.hand_over.proofs.Lists.{calls_own, calls_other, calls_close, close_call, IsAside, calls_aside, close_aside, close_close, taken_own, taken_other}
+use Rattle.hand_over.proofs.Frames.{Homes, housed, house_moves, seat_of}
 use Rattle.hand_over.proofs.Awaiting.{Asks, asks, taken_word, closes_seat, at_other, first_seat, known}
 use Rattle.std.proofs.lemmas.Option.{none-some, same_Some}
 
@@ -190,15 +187,17 @@ answers slots id h w ask moment answer near took running s k deep at fits = (Hou
         ∙ taken_other w j ask (λ e. other (sym e))) i) h.closed)
         (sym (get_or-set_other s.words (suc w) (suc j) 2 0 (λ e. other (omega arith)))) (sym (set_else s.homes w j (some letter) other)) (seat_of s k h here.1 j l)))
 
-pub notes : (slots id : ℕ) (h : HouseView) (note : Note) (taken : Taken) → h.closed ≡ false
-    → Allows Kept slots id (House h, taken) 0 (λ n. either (eqb n 0) 0 n) (note_put (step slots 0 0 0 (some (Some (Noted note)))) (House h, taken))
-notes slots id h note taken running s k deep at fits = (House new, keeps, tt, first_seat s id (House new) words s.homes here.0 kept, refl)
+-- an entry is said that is no worker's call
+pub notes : (slots id : ℕ) (h : HouseView) (letter : Letter) (more : Entry) (taken : Taken) → note_in (some (Some letter)) ≡ more ∷ [] → IsAside more
+    → h.closed ≡ false
+    → Allows Kept slots id (House h, taken) 0 (λ n. either (eqb n 0) 0 n) (note_put (step slots 0 0 0 (some (Some letter))) (House h, taken))
+notes slots id h letter more taken says aside running s k deep at fits = (House new, keeps, tt, first_seat s id (House new) words s.homes here.0 kept, ap (λ (es : History). (House (record h { history = h.history ++ es }), taken)) (sym says))
   where
     here : (id ≡ 0) × (k.house ≡ h)
     here = housed s k id h at
 
     new : HouseView
-    new = record h { history = h.history ++ entry.Note note ∷ [] }
+    new = record h { history = h.history ++ more ∷ [] }
 
     word : ℕ
     word = get_or s.words 0 0
@@ -214,13 +213,13 @@ notes slots id h note taken running s k deep at fits = (House new, keeps, tt, fi
         (house_moves s k new s.words s.homes (ap (λ (z : HouseView). z.made) (sym here.1)) refl refl (k.note
         ∙ ap (λ (z : HouseView). note_word z.closed) here.1)
         (λ c. absurd (true≢false (sym c ∙ running)))
-        (close_note h.history note ∙ (ap (λ (z : HouseView). has_close z.history) (sym here.1) ∙ (k.ended ∙ ap (λ (z : HouseView). z.closed) here.1)))
+        (close_aside h.history more aside.0 ∙ (ap (λ (z : HouseView). has_close z.history) (sym here.1) ∙ (k.ended ∙ ap (λ (z : HouseView). z.closed) here.1)))
         (λ worker m e. absurd (true≢false (sym (k.joined worker m (ap (λ (z : HouseView). get_elem? z.joined worker) here.1 ∙ e)).0
         ∙ (ap (λ (z : HouseView). z.closed) here.1 ∙ running))))
         (λ j l. at_other (known_of k.house j) (known_of new j) (get_or s.words (suc j) 0) (get_or s.words (suc j) 0) (get_elem? s.homes j)
         (get_elem? s.homes j) j (get_elem? s.views (suc j))
         (λ i. known ((ap (λ (z : HouseView). calls_of j z.history) here.1
-        ∙ sym (calls_note h.history j note)) i) (taken_of j (here.1 i).taken) (here.1 i).closed) refl refl (k.each j l)))
+        ∙ sym (calls_aside h.history j more (aside.1 j l))) i) (taken_of j (here.1 i).taken) (here.1 i).closed) refl refl (k.each j l)))
 
 pub closes : (slots id : ℕ) (h : HouseView) (taken : Taken) → h.taken ≡ None → h.closed ≡ false
     → Allows Kept slots id (House h, taken) 0 (λ _. 1) (λ _. close_put (step slots 0 1 0 none) (House h, taken) 1)

@@ -6,8 +6,11 @@ use Rattle.atomic_table.specs.Table.{step, Allows}
 use Rattle.job_desk.specs.declared.issued.Note.{Note}
 use Rattle.octo_asks.specs.declared.request.Ask.{Ask}
 use Rattle.octo_asks.specs.declared.answer.Answer.{Answer}
+use Rattle.octo_asks.specs.declared.entry.Entry.{Entry}
+use Rattle.octo_asks.specs.declared.entry.Entry.TheVariants as entry
+use Rattle.octo_asks.specs.History.{own_call}
 use Rattle.hand_over.specs.declared.board.Letter.{Letter}
-use Rattle.hand_over.specs.declared.board.Letter.TheVariants.{Asked, Answered, Noted}
+use Rattle.hand_over.specs.declared.board.Letter.TheVariants.{Asked, Answered, Noted, Own}
 use Rattle.hand_over.specs.declared.board.Stage.{Stage}
 use Rattle.hand_over.specs.declared.board.Stage.TheVariants.{Resting, Writing, Waiting, Found, Withdrawn}
 use Rattle.hand_over.specs.declared.board.WorkerView.{WorkerView}
@@ -15,10 +18,11 @@ use Rattle.hand_over.specs.declared.board.HouseView.{HouseView}
 use Rattle.hand_over.specs.declared.board.View.TheVariants.{House, Worker}
 use Rattle.hand_over.specs.Views.{worker_of, house_of}
 use Rattle.hand_over.specs.Rule.{Kept}
-use Rattle.hand_over.specs.Steps.{Sitter, Taken, slot_taken, ask_put, answer_looked_for, idle_put, close_looked_for, worker_looked_at, ask_from, answer_put, note_put, close_put, learnt}
+use Rattle.hand_over.specs.Steps.{Sitter, Taken, slot_taken, ask_put, answer_looked_for, idle_put, close_looked_for, worker_looked_at, ask_from, answer_put, note_in, note_put, close_put, learnt}
 use Rattle.octo_asks.specs.declared.counter.Given.{Given}
 use Rattle.hand_over.specs.Ends.{IsWorker, IsWaiting, IsHouse, slots_for}
 use Rattle.hand_over.proofs.Working.{takes_slot, puts_ask, looks_for_answer, puts_idle, withdraws, looks_for_close}
+use Rattle.hand_over.proofs.Lists.{IsAside, note_aside, own_aside}
 use Rattle.hand_over.proofs.Housing.{looks, answers, notes, closes, learns}
 
 -- a seat with a worker's view and these slots is at this stage
@@ -78,10 +82,20 @@ answers_as slots id me h w ask moment answer is near took running = subst (λ (z
     × ℕ). Allows Kept slots id z.0 z.1 (λ _. 2) (λ _. answer_put (step slots z.1 2 0 none) z.0 2)) (λ i. (sym is i, sym (add-one w) i))
     (answers slots id h w ask moment answer near took running)
 
+says_as : (slots id : ℕ) (me : Sitter) (h : HouseView) (letter : Letter) (more : Entry) (taken : Taken) → me ≡ (House h, taken)
+    → note_in (some (Some letter)) ≡ more ∷ [] → IsAside more → h.closed ≡ false
+    → Allows Kept slots id me 0 (λ n. either (eqb n 0) 0 n) (note_put (step slots 0 0 0 (some (Some letter))) me)
+says_as slots id me h letter more taken is says aside running = subst (λ (m : Sitter). Allows Kept slots id m 0 (λ n. either (eqb n 0) 0 n) (note_put
+    (step slots 0 0 0 (some (Some letter))) m)) (sym is) (notes slots id h letter more taken says aside running)
+
 pub notes_as : (slots id : ℕ) (me : Sitter) (h : HouseView) (note : Note) (taken : Taken) → me ≡ (House h, taken) → h.closed ≡ false
     → Allows Kept slots id me 0 (λ n. either (eqb n 0) 0 n) (note_put (step slots 0 0 0 (some (Some (Noted note)))) me)
-notes_as slots id me h note taken is running = subst (λ (m : Sitter). Allows Kept slots id m 0 (λ n. either (eqb n 0) 0 n) (note_put (step slots 0 0 0
-    (some (Some (Noted note)))) m)) (sym is) (notes slots id h note taken running)
+notes_as slots id me h note taken is running = says_as slots id me h (Noted note) (entry.Note note) taken is refl (note_aside note) running
+
+pub own_as : (slots id : ℕ) (me : Sitter) (h : HouseView) (moment : ℕ) (answer : Answer) (taken : Taken) → me ≡ (House h, taken) → h.closed ≡ false
+    → Allows Kept slots id me 0 (λ n. either (eqb n 0) 0 n) (note_put (step slots 0 0 0 (some (Some (Own moment answer)))) me)
+own_as slots id me h moment answer taken is running =
+    says_as slots id me h (Own moment answer) (own_call moment answer) taken is refl (own_aside moment answer) running
 
 pub closes_as : (slots id : ℕ) (me : Sitter) (h : HouseView) (taken : Taken) → me ≡ (House h, taken) → h.taken ≡ None → h.closed ≡ false
     → Allows Kept slots id me 0 (λ _. 1) (λ _. close_put (step slots 0 1 0 none) me 1)

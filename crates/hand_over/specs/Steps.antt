@@ -8,9 +8,9 @@ use Rattle.octo_asks.specs.declared.request.Ask.{Ask}
 use Rattle.octo_asks.specs.declared.answer.Answer.{Answer}
 use Rattle.octo_asks.specs.declared.entry.Entry.TheVariants as entry
 use Rattle.octo_asks.specs.declared.counter.Given.{Given}
-use Rattle.octo_asks.specs.History.{History, calls_of}
+use Rattle.octo_asks.specs.History.{History, calls_of, own_call}
 use Rattle.hand_over.specs.declared.board.Letter.{Letter}
-use Rattle.hand_over.specs.declared.board.Letter.TheVariants.{Asked, Answered, Noted}
+use Rattle.hand_over.specs.declared.board.Letter.TheVariants.{Asked, Answered, Noted, Own}
 use Rattle.hand_over.specs.declared.board.Stage.{Stage}
 use Rattle.hand_over.specs.declared.board.Stage.TheVariants.{Resting, Writing, Waiting, Found, Withdrawn}
 use Rattle.hand_over.specs.declared.board.WorkerView.{WorkerView}
@@ -119,12 +119,13 @@ answer_put st old found new = new ≡ (
   [],
 )
 
--- the note that the house says
+-- the entry that the house says: a note, or its own call
 abbrev pub note_in : maybe.Option (Option Letter) → History
 note_in (some (Some (Noted note))) = entry.Note note ∷ []
+note_in (some (Some (Own moment answer))) = own_call moment answer ∷ []
 note_in _ = []
 
--- the house puts a note in the history
+-- the house puts what it says in the history
 abbrev pub note_put : At → Sitter → ℕ → Sitter → Type 0
 note_put st old found new = new ≡ (House (record (house_of old.0) { history = (house_of old.0).history ++ note_in st.said }), old.1)
 

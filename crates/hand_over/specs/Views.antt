@@ -1,11 +1,13 @@
 -- What the house and a worker know.
-use Rattle.std.specs.Prelude.{◌≡◌, ℕ, ◌+◌, ◌==◌, Bool, true, false, nat_lt, List, [], ◌∷◌, Option, Some, None}
+use Rattle.std.specs.Prelude.{◌≡◌, ℕ, ◌+◌, ◌==◌, Bool, true, false, ◌||◌, nat_lt, List, [], ◌∷◌, Option, Some, None}
 use Rattle.std.specs.List.{list_any, list_all}
 use Rattle.octo_asks.specs.declared.request.Ask.{Ask}
 use Rattle.octo_asks.specs.declared.entry.Entry.{Entry}
 use Rattle.octo_asks.specs.declared.entry.Entry.TheVariants as entry
 use Rattle.octo_asks.specs.declared.counter.Given.{Given}
-use Rattle.octo_asks.specs.History.{History, calls_of}
+use Rattle.octo_asks.specs.declared.request.Request.{Request}
+use Rattle.octo_asks.specs.declared.request.Request.TheVariants as request
+use Rattle.octo_asks.specs.History.{History, calls_of, own_number}
 use Rattle.hand_over.specs.declared.board.Stage.TheVariants.{Resting}
 use Rattle.hand_over.specs.declared.board.WorkerView.{WorkerView}
 use Rattle.hand_over.specs.declared.board.HouseView.{HouseView}
@@ -59,12 +61,17 @@ pub record Known : Type 0 where
 abbrev pub known_of : HouseView → ℕ → Known
 known_of house worker = record { calls = calls_of worker house.history; taken = taken_of worker house.taken; closed = house.closed }
 
--- an entry, of one of the four workers if it is a call
+-- a call that the house makes itself
+abbrev pub is_own : ℕ → Request → Bool
+is_own worker request.AutoConnect = worker == own_number
+is_own worker _ = false
+
+-- an entry, of one of the four workers or the house's own if it is a call
 abbrev pub is_of_four : Entry → Bool
-is_of_four (entry.Call worker ask moment answer) = nat_lt worker 4
+is_of_four (entry.Call worker ask moment answer) = nat_lt worker 4 || is_own worker ask.request
 is_of_four _ = true
 
--- each call of the history is of one of the four workers
+-- each call of the history is of one of the four workers, or the house's own
 abbrev pub all_of_four : History → Bool
 all_of_four history = list_all is_of_four history
 

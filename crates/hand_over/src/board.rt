@@ -39,6 +39,8 @@ pub enum Letter {
     Asked(Ask),
     Answered(u64, Answer),
     Noted(Note),
+    /// What it answered to its own ask, and when.
+    Own(u64, Answer),
 }
 
 /// Where a worker is with its ask. No value of it is made.

@@ -73,7 +73,7 @@ impl Counter for HouseEnd {
     ghost use Rattle.std.specs.Prelude.{◌≡◌, ◌++◌, true, false, [], ◌∷◌, Some, None, IfSome};
     ghost use Rattle.octo_outside.specs.Recorded.{Adds};
     ghost use Rattle.octo_asks.specs.declared.entry.Entry.TheVariants as entry;
-    ghost use Rattle.octo_asks.specs.History.{IsGiven, ask_given};
+    ghost use Rattle.octo_asks.specs.History.{IsGiven, ask_given, own_call};
     ghost use Rattle.hand_over.specs.Ends.{AfterNext, house_place};
 
     ghost place = { house_place };
@@ -128,6 +128,24 @@ impl Counter for HouseEnd {
         write_letter(words, &mut self.seat, worker as usize, letter);
         words.store::<PutAnswer>(&mut self.seat, worker as usize + 1, ANSWERED);
         words.wake_one(worker as usize + 1);
+    }
+
+    fn own(&mut self, moment: u64, answer: Answer)
+        requires open { self.old.view.closed ≡ false }
+
+        ensures past { Adds (Some self.old.view.history) (Some self.new.view.history)
+            (own_call moment answer ∷ []) }
+        ensures given { self.new.view.taken ≡ self.old.view.taken }
+        ensures open { self.new.view.closed ≡ false }
+        ensures place { house_place self.new ≡ house_place self.old }
+
+        ensures rest { self.new ≡ record self.old {
+          view = record self.old.view { history = self.new.view.history };
+        } }
+    {
+        let words = &self.table.shared;
+        let said = Some(Letter::Own(moment, answer));
+        words.compare_exchange_with::<PutNote>(&mut self.seat, NOTE_WORD, RUNS, RUNS, &said);
     }
 
     fn note(&mut self, note: Note)

@@ -54,7 +54,7 @@ impl Play<Option<Letter>, View> for PutAnswer {
     ghost then = { answer_put };
 }
 
-// The house notes a turn.
+// The house notes a turn, or what it answered to its own ask.
 pub(crate) struct PutNote;
 
 impl Play<Option<Letter>, View> for PutNote {

@@ -6,6 +6,7 @@ use Rattle.octo_asks.specs.declared.request.Request.TheVariants as request
 -- the request has bytes, whose copy takes memory
 abbrev pub has_blobs : Request → Bool
 has_blobs (request.Lines texts) = true
+has_blobs (request.Move texts) = true
 has_blobs (request.PutFile name bytes select print) = true
 has_blobs (request.PutUser name key groups active) = true
 has_blobs (request.ChangeUser name key groups active) = true

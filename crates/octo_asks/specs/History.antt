@@ -3,6 +3,7 @@ use Rattle.std.specs.Prelude.{◌≡◌, ℕ, Bool, false, ◌==◌, List, [], �
 use Rattle.octo_outside.specs.Recorded.{Became}
 use Rattle.octo_asks.specs.declared.answer.Answer.{Answer}
 use Rattle.octo_asks.specs.declared.request.Ask.{Ask}
+use Rattle.octo_asks.specs.declared.request.Request.TheVariants as request
 use Rattle.octo_asks.specs.declared.entry.Entry.{Entry}
 use Rattle.octo_asks.specs.declared.entry.Entry.TheVariants as entry
 use Rattle.octo_asks.specs.declared.counter.Given.{Given}
@@ -22,6 +23,18 @@ is_call_of worker entry.Close = false
 -- the calls of a worker, in order
 abbrev pub calls_of : ℕ → History → History
 calls_of worker history = filter (is_call_of worker) history
+
+-- the number at which the host's own calls are in the history; the workers have smaller ones
+abbrev pub own_number : ℕ
+own_number = 4
+
+-- the host's own ask, which has no key
+abbrev pub own_ask : Ask
+own_ask = record { key = []; request = request.AutoConnect }
+
+-- the host's own call
+abbrev pub own_call : ℕ → Answer → Entry
+own_call moment answer = entry.Call own_number own_ask moment answer
 
 -- the ask that is given out, if there is one
 abbrev pub ask_given : Next → Option Given

@@ -5,16 +5,19 @@ use Rattle.octo_access.specs.declared.permission.Permission.TheVariants as permi
 use Rattle.octo_asks.specs.declared.request.Request.{Request}
 use Rattle.octo_asks.specs.declared.request.Request.TheVariants as request
 
--- the permission that is tested first, none for a worker's own request
+-- the permission that is tested first; none to ask whom a key names, and none for the own requests of a worker and of the host
 abbrev pub first_needed : Request → Option Permission
 first_needed request.Version = Some permission.Status
+first_needed request.Caller = None
 first_needed request.GetConnection = Some permission.Status
 first_needed (request.Connect port) = Some permission.Connection
 first_needed request.Disconnect = Some permission.Connection
 first_needed request.GetPrinter = Some permission.Status
+first_needed request.GetLimits = Some permission.Status
 first_needed (request.HeatTool degrees) = Some permission.Control
 first_needed (request.HeatBed degrees) = Some permission.Control
 first_needed (request.Lines texts) = Some permission.Control
+first_needed (request.Move texts) = Some permission.Control
 first_needed request.GetJob = Some permission.Status
 first_needed request.Start = Some permission.Print
 first_needed request.Cancel = Some permission.Print
@@ -39,6 +42,7 @@ first_needed request.NextEntry = Some permission.Print
 first_needed request.ListPrints = Some permission.Status
 first_needed request.Shutdown = Some permission.System
 first_needed request.Leave = None
+first_needed request.AutoConnect = None
 
 -- a selection that also prints needs a second one
 abbrev pub also_needed : Request → List Permission

@@ -6,7 +6,7 @@ use crate::shown::{
 use byte_text::Name;
 use gcode_lines::FileFault;
 use job_desk::State;
-use octo_access::Permission;
+use octo_access::{GroupNames, Permission};
 use octo_outside::{Blob, NameList};
 
 /// Why a print that an upload asks for was not started.
@@ -36,6 +36,11 @@ pub enum PrintRefusal {
 pub enum Answer {
     /// The version of the host.
     Version,
+    /// The user whom the key names, and the groups; without a name those of nobody.
+    Caller {
+        name: Option<Name>,
+        groups: GroupNames,
+    },
     /// It was done, and there is nothing to show.
     Accepted,
     /// The port, which is `None` while nothing is connected, the state, and all ports.
@@ -49,6 +54,11 @@ pub enum Answer {
         state: State,
         tool: Option<ShownHeat>,
         bed: Option<ShownHeat>,
+    },
+    /// The greatest temperatures of tool and bed that a command may ask for, in degrees Celsius.
+    Limits {
+        tool: u16,
+        bed: u16,
     },
     /// The selected file, the progress of an active print, and the state.
     Job {

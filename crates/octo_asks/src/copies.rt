@@ -1,6 +1,7 @@
 //! Asks by their parts, and copies of requests.
 ghost use Rattle.std.specs.Prelude.{◌≡◌, false, Some, None, IfOk};
 ghost use Rattle.octo_asks.specs.Copies.{has_fields, has_blobs};
+ghost use Rattle.octo_asks.specs.History.{own_ask};
 
 use crate::{Ask, BlobList, Request};
 use byte_text::Name;
@@ -58,9 +59,11 @@ fn copy_plain(request: &Request) -> Request
 {
     match request {
         Request::Version => Request::Version,
+        Request::Caller => Request::Caller,
         Request::GetConnection => Request::GetConnection,
         Request::Disconnect => Request::Disconnect,
         Request::GetPrinter => Request::GetPrinter,
+        Request::GetLimits => Request::GetLimits,
         Request::GetJob => Request::GetJob,
         Request::Start => Request::Start,
         Request::Cancel => Request::Cancel,
@@ -75,6 +78,7 @@ fn copy_plain(request: &Request) -> Request
         Request::ListPrints => Request::ListPrints,
         Request::Shutdown => Request::Shutdown,
         Request::Leave => Request::Leave,
+        Request::AutoConnect => Request::AutoConnect,
         _ => unreachable!(),
     }
 }
@@ -128,6 +132,9 @@ impl Request {
             Request::Lines { texts } => Request::Lines {
                 texts: copy_blobs(alloc, texts.as_slice())?,
             },
+            Request::Move { texts } => Request::Move {
+                texts: copy_blobs(alloc, texts.as_slice())?,
+            },
             Request::PutFile {
                 name,
                 bytes,
@@ -175,6 +182,16 @@ impl Ask {
             key: Blob::from_slice(alloc, key)?,
             request,
         })
+    }
+
+    /// The host's own ask, which has no key; takes no memory.
+    pub fn own(alloc: Global) -> Ask
+        ensures { result ≡ own_ask }
+    {
+        Ask {
+            key: Blob::new(alloc),
+            request: Request::AutoConnect,
+        }
     }
 
     /// The same ask again. Fails if out of memory.

@@ -24,7 +24,7 @@ pub trait Counter {
     ghost use Rattle.octo_outside.specs.Recorded.{Adds};
     ghost use Rattle.octo_asks.specs.declared.counter.Given.{Given};
     ghost use Rattle.octo_asks.specs.declared.entry.Entry.TheVariants as entry;
-    ghost use Rattle.octo_asks.specs.History.{History, IsGiven, ask_given};
+    ghost use Rattle.octo_asks.specs.History.{History, IsGiven, ask_given, own_call};
     ghost use Rattle.octo_asks.specs.Place.{Place};
 
     /// Its table and seat, which stay.
@@ -58,6 +58,15 @@ pub trait Counter {
             (λ one. Adds (past self.old) (past self.new)
             (entry.Call worker one.ask moment answer ∷ [])) }
         ensures given { given self.new ≡ None }
+        ensures open { closed self.new ≡ false }
+        ensures place { place self.new ≡ place self.old };
+
+    /// Adds what the host answered to its own ask, at a moment in milliseconds.
+    fn own(&mut self, moment: u64, answer: Answer)
+        requires open { closed self.old ≡ false }
+
+        ensures past { Adds (past self.old) (past self.new) (own_call moment answer ∷ []) }
+        ensures given { given self.new ≡ given self.old }
         ensures open { closed self.new ≡ false }
         ensures place { place self.new ≡ place self.old };
 

@@ -6,6 +6,7 @@ ghost use Rattle.octo_asks.specs.Memory.{new_counter};
 ghost use Rattle.octo_asks.specs.Waiting.{ask_of};
 
 use crate::asked::Asked;
+use crate::entry::OWN_NUMBER;
 use crate::{Answer, Ask, Counter, Entry, Given, Next};
 use job_desk::Note;
 use octo_outside::ItemList;
@@ -25,6 +26,7 @@ pub struct MemoryCounter {
     // Whether no entry was lost because memory ran out.
     is_whole: bool,
     closed: bool,
+    alloc: Global,
 }
 
 impl Model for MemoryCounter {
@@ -65,6 +67,7 @@ impl MemoryCounter {
             entries: Vec::new(alloc),
             is_whole: true,
             closed: false,
+            alloc,
         })
     }
 
@@ -93,7 +96,7 @@ impl Counter for MemoryCounter {
     ghost use Rattle.std.specs.Prelude.{◌≡◌, true, false, [], ◌∷◌, Some, None, IfSome};
     ghost use Rattle.octo_outside.specs.Recorded.{Adds};
     ghost use Rattle.octo_asks.specs.declared.entry.Entry.TheVariants as entry;
-    ghost use Rattle.octo_asks.specs.History.{IsGiven, ask_given};
+    ghost use Rattle.octo_asks.specs.History.{IsGiven, ask_given, own_call};
     ghost use Rattle.octo_asks.specs.Memory.{next_of};
     ghost use Rattle.octo_asks.specs.Place.{no_place};
 
@@ -139,6 +142,23 @@ impl Counter for MemoryCounter {
         };
         self.add(Entry::Call {
             worker,
+            ask,
+            moment,
+            answer,
+        });
+    }
+
+    fn own(&mut self, moment: u64, answer: Answer)
+        requires open { self.old.closed ≡ false }
+
+        ensures asks { self.new.asks ≡ self.old.asks }
+        ensures past { Adds self.old.past self.new.past (own_call moment answer ∷ []) }
+        ensures given { self.new.given ≡ self.old.given }
+        ensures open { self.new.closed ≡ false }
+    {
+        let ask = Ask::own(self.alloc);
+        self.add(Entry::Call {
+            worker: OWN_NUMBER,
             ask,
             moment,
             answer,

@@ -19,6 +19,8 @@ pub struct Ask {
 pub enum Request {
     /// Version information.
     Version,
+    /// Whom the key names (General information). Everyone may ask.
+    Caller,
     /// The state of the connection (Connection handling).
     GetConnection,
     /// To connect to a port, the first one if none is named.
@@ -29,6 +31,8 @@ pub enum Request {
     Disconnect,
     /// The state of the printer and its temperatures (Printer operations).
     GetPrinter,
+    /// The greatest temperatures that a command may ask for.
+    GetLimits,
     /// To set the target of the tool, in degrees Celsius.
     HeatTool {
         degrees: u16,
@@ -39,6 +43,10 @@ pub enum Request {
     },
     /// To send these command lines, 1 to 256.
     Lines {
+        texts: BlobList,
+    },
+    /// To send these command lines, 1 to 256, unless a print is active.
+    Move {
         texts: BlobList,
     },
     /// The selected file and the progress of its print (Job operations).
@@ -124,4 +132,6 @@ pub enum Request {
     Shutdown,
     /// A worker's own request, which no message has: it asks no more.
     Leave,
+    /// The host's own request, which no message has: to connect to its first port.
+    AutoConnect,
 }

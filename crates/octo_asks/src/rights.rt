@@ -6,7 +6,7 @@ use crate::Request;
 use arrayvec::ArrayVec;
 use octo_access::Permission;
 
-// The permission that a request needs first, none for a worker's own.
+// The permission that a request needs first, if it needs one.
 fn first_needed(request: &Request) -> Option<Permission>
     ensures { result ≡ first_needed request.now }
 {
@@ -14,12 +14,14 @@ fn first_needed(request: &Request) -> Option<Permission>
         Request::Version
         | Request::GetConnection
         | Request::GetPrinter
+        | Request::GetLimits
         | Request::GetJob
         | Request::ListPrints => Permission::Status,
         Request::Connect { .. } | Request::Disconnect => Permission::Connection,
-        Request::HeatTool { .. } | Request::HeatBed { .. } | Request::Lines { .. } => {
-            Permission::Control
-        }
+        Request::HeatTool { .. }
+        | Request::HeatBed { .. }
+        | Request::Lines { .. }
+        | Request::Move { .. } => Permission::Control,
         Request::Start
         | Request::Cancel
         | Request::Restart
@@ -40,12 +42,12 @@ fn first_needed(request: &Request) -> Option<Permission>
         | Request::ChangeUser { .. }
         | Request::DropOther { .. } => Permission::Admin,
         Request::Shutdown => Permission::System,
-        Request::Leave => return None,
+        Request::Caller | Request::Leave | Request::AutoConnect => return None,
     })
 }
 
-/// The permissions that a caller needs for a request, in the order in which they are tested. Only a worker's own request
-/// needs none. Source: OctoPrint's permissions; which request needs which is this project's own choice.
+/// The permissions that a caller needs for a request, in the order in which they are tested. None is needed to ask whom the
+/// key names, nor for the requests of a worker and of the host themselves. Source: OctoPrint's permissions; which request needs which is this project's own choice.
 pub fn needed(request: &Request) -> ArrayVec<Permission, 2>
     ensures { result.items ≡ needed request.now }
 {

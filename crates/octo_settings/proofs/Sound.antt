@@ -9,7 +9,7 @@ use Rattle.octo_access.specs.declared.row.Admin.{Admin}
 use Rattle.octo_settings.specs.Config.{document_of, settings_in, settings_or, config, plain_settings}
 use Rattle.octo_settings.specs.Groups.{groups_of}
 use Rattle.octo_settings.specs.Scripts.{scripts_of}
-use Rattle.octo_settings.specs.Sections.{ports_of, material_of, boot_of, printer_in, printer_of, limits_of, admin_of, patience_in, patience_of}
+use Rattle.octo_settings.specs.Sections.{ports_of, material_of, boot_of, flag_of, printer_in, printer_of, limits_of, admin_of, patience_in, patience_of}
 use Rattle.octo_settings.specs.Sound.{AreScripts, IsSettings}
 use Rattle.octo_settings.specs.Values.{Reads, and_then, section, whole}
 use Rattle.octo_settings.specs.declared.fault.SettingsFault.{SettingsFault}
@@ -46,24 +46,25 @@ record IsPrinter (p : Printer) : Type 0 where
   some_limit : 1 ≤ p.limit_ms
   some_poll : 1 ≤ p.poll_ms
 
-abbrev whole-printer : List (List ℕ) → ℕ → ℕ → ℕ → Option ℕ → List ℕ → Printer
-whole-printer ports window limit poll boot material =
-    record { ports = ports; window = window; limit_ms = limit; poll_ms = poll; boot_ms = boot; material = material }
+abbrev whole-printer : List (List ℕ) → ℕ → ℕ → ℕ → Option ℕ → List ℕ → Bool → Printer
+whole-printer ports window limit poll boot material connect =
+    record { ports = ports; window = window; limit_ms = limit; poll_ms = poll; boot_ms = boot; material = material; connect = connect }
 
 printer-by : (ports : Result (List (List ℕ)) SettingsFault) (window limit poll : Result ℕ SettingsFault) (boot : Result (Option ℕ) SettingsFault)
-    (material : Result (List ℕ) SettingsFault) (p : Printer)
+    (material : Result (List ℕ) SettingsFault) (connect : Result Bool SettingsFault) (p : Printer)
     → ((n : ℕ) → window ≡ Ok n → (1 ≤ n) × (n ≤ 16)) → ((n : ℕ) → limit ≡ Ok n → 1 ≤ n) → ((n : ℕ) → poll ≡ Ok n → 1 ≤ n)
     → and_then ports (λ a. and_then window (λ b. and_then limit (λ c. and_then poll (λ d. and_then boot (λ f.
-    and_then material (λ e. Ok (whole-printer a b c d f e))))))) ≡ Ok p
+    and_then material (λ e. and_then connect (λ g. Ok (whole-printer a b c d f e g)))))))) ≡ Ok p
     → IsPrinter p
-printer-by (Err fault) window limit poll boot material p w l q h = absurd (cc)
-printer-by (Ok a) (Err fault) limit poll boot material p w l q h = absurd (cc)
-printer-by (Ok a) (Ok b) (Err fault) poll boot material p w l q h = absurd (cc)
-printer-by (Ok a) (Ok b) (Ok c) (Err fault) boot material p w l q h = absurd (cc)
-printer-by (Ok a) (Ok b) (Ok c) (Ok d) (Err fault) material p w l q h = absurd (cc)
-printer-by (Ok a) (Ok b) (Ok c) (Ok d) (Ok f) (Err fault) p w l q h = absurd (cc)
-printer-by (Ok a) (Ok b) (Ok c) (Ok d) (Ok f) (Ok e) p w l q h =
-    let same : whole-printer a b c d f e ≡ p = cc in
+printer-by (Err fault) window limit poll boot material connect p w l q h = absurd (cc)
+printer-by (Ok a) (Err fault) limit poll boot material connect p w l q h = absurd (cc)
+printer-by (Ok a) (Ok b) (Err fault) poll boot material connect p w l q h = absurd (cc)
+printer-by (Ok a) (Ok b) (Ok c) (Err fault) boot material connect p w l q h = absurd (cc)
+printer-by (Ok a) (Ok b) (Ok c) (Ok d) (Err fault) material connect p w l q h = absurd (cc)
+printer-by (Ok a) (Ok b) (Ok c) (Ok d) (Ok f) (Err fault) connect p w l q h = absurd (cc)
+printer-by (Ok a) (Ok b) (Ok c) (Ok d) (Ok f) (Ok e) (Err fault) p w l q h = absurd (cc)
+printer-by (Ok a) (Ok b) (Ok c) (Ok d) (Ok f) (Ok e) (Ok g) p w l q h =
+    let same : whole-printer a b c d f e g ≡ p = cc in
     subst IsPrinter same (record { open_window = (w b refl).0; small_window = (w b refl).1; some_limit = l c refl; some_poll = q d refl })
 
 at-least-one : (key : List ℕ) (least most default : ℕ) (value : Option Data) (n : ℕ) → 1 ≤ least → least ≤ default → default ≤ most →
@@ -79,6 +80,7 @@ printer-in-sound members p h =
     (whole (codes "printer.poll_ms") 1000 600000 5000 (get_member (codes "poll_ms") members))
     (boot_of (codes "printer.boot_ms") (get_member (codes "boot_ms") members))
     (material_of (codes "printer.material") (get_member (codes "material") members))
+    (flag_of (codes "printer.connect") (get_member (codes "connect") members))
     p
     (λ n is. whole-within (codes "printer.window") 1 16 4 (get_member (codes "window") members) n (omega arith) (omega arith) is)
     (λ n is. at-least-one (codes "printer.limit_ms") 1000 600000 30000 (get_member (codes "limit_ms") members) n (omega arith) (omega arith) (omega arith) is)
@@ -103,6 +105,7 @@ whole-settings p limits admin patience groups scripts =
       poll_ms = p.poll_ms;
       boot_ms = p.boot_ms;
       material = p.material;
+      connect = p.connect;
       limits = limits;
       admin = Some admin;
       patience = patience;

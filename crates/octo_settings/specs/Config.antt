@@ -1,5 +1,5 @@
 -- The settings that a text says, or the first of its faults in the order of the keys.
-use Rattle.std.specs.Prelude.{ℕ, nat_le, if◌then◌else◌, List, [], length, codes, Option, None, Some, Result, Ok, Err}
+use Rattle.std.specs.Prelude.{ℕ, false, nat_le, if◌then◌else◌, List, [], length, codes, Option, None, Some, Result, Ok, Err}
 use Rattle.toml.specs.Data.{Members, get_member}
 use Rattle.toml.specs.Parse.{parse_document}
 use Rattle.octo_settings.specs.Groups.{groups_of}
@@ -35,6 +35,7 @@ settings_in members =
       poll_ms = printer.poll_ms;
       boot_ms = printer.boot_ms;
       material = printer.material;
+      connect = printer.connect;
       limits = limits;
       admin = Some admin;
       patience = patience;
@@ -60,6 +61,7 @@ plain_settings = record {
   poll_ms = 5000;
   boot_ms = None;
   material = codes "any";
+  connect = false;
   limits = record { tool = 300; bed = 120 };
   admin = None;
   patience = 6000;

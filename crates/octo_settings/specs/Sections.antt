@@ -1,6 +1,6 @@
 -- The sections of settings: the printer, its limits, the admin, and how long serving is patient.
-use Rattle.std.specs.Prelude.{ℕ, ◌&&◌, nat_le, if◌then◌else◌, List, length, codes, Option, None, Some, Result, Ok, Err}
-use Rattle.toml.specs.Data.{Data, Members, get_member}
+use Rattle.std.specs.Prelude.{ℕ, Bool, false, ◌&&◌, nat_le, if◌then◌else◌, List, length, codes, Option, None, Some, Result, Ok, Err}
+use Rattle.toml.specs.Data.{Data, boolean, Members, get_member}
 use Rattle.hex.specs.Hex.{decode_sized}
 use Rattle.hex.specs.declared.error.FromHexError.{FromHexError}
 use Rattle.octo_access.specs.Names.{name_of}
@@ -8,7 +8,7 @@ use Rattle.octo_access.specs.declared.row.Admin.{Admin}
 use Rattle.temp_rules.specs.declared.limits.Limits.{Limits}
 use Rattle.octo_settings.specs.Values.{and_then, each, in_range, section, whole, text_value, required_text, text_values}
 use Rattle.octo_settings.specs.declared.fault.SettingsFault.{SettingsFault}
-use Rattle.octo_settings.specs.declared.fault.SettingsFault.TheVariants.{Missing, OutOfRange}
+use Rattle.octo_settings.specs.declared.fault.SettingsFault.TheVariants.{Missing, WrongKind, OutOfRange}
 use Rattle.octo_settings.specs.declared.sections.Printer.{Printer}
 
 -- a port's name: 1 to 100 bytes
@@ -38,6 +38,12 @@ abbrev pub boot_of : List ℕ → Option Data → Result (Option ℕ) SettingsFa
 boot_of key None = Ok None
 boot_of key (Some value) = and_then (whole key 0 60000 0 (Some value)) some_number
 
+-- a yes or no, no if it is missing
+abbrev pub flag_of : List ℕ → Option Data → Result Bool SettingsFault
+flag_of key None = Ok false
+flag_of key (Some (boolean flag)) = Ok flag
+flag_of key (Some _) = Err (WrongKind key)
+
 -- the printer of a table
 abbrev pub printer_in : Members → Result Printer SettingsFault
 printer_in members =
@@ -47,6 +53,7 @@ printer_in members =
     and_then (whole (codes "printer.poll_ms") 1000 600000 5000 (get_member (codes "poll_ms") members)) (λ poll_ms.
     and_then (boot_of (codes "printer.boot_ms") (get_member (codes "boot_ms") members)) (λ boot_ms.
     and_then (material_of (codes "printer.material") (get_member (codes "material") members)) (λ material.
+    and_then (flag_of (codes "printer.connect") (get_member (codes "connect") members)) (λ connect.
     Ok (record {
       ports = ports;
       window = window;
@@ -54,7 +61,8 @@ printer_in members =
       poll_ms = poll_ms;
       boot_ms = boot_ms;
       material = material;
-    })))))))
+      connect = connect;
+    }))))))))
 
 -- the printer of the section `printer`
 abbrev pub printer_of : Option Data → Result Printer SettingsFault

@@ -3,7 +3,7 @@ ghost use Rattle.std.specs.Prelude.{◌≡◌, ◌≤◌, length};
 ghost use Rattle.byte_text.specs.declared.name.TheConstants.{MOST_NAME_BYTES};
 ghost use Rattle.hex.specs.Hex.{decode_sized};
 ghost use Rattle.octo_access.specs.Names.{name_of};
-ghost use Rattle.octo_settings.specs.Sections.{port_of, ports_in, ports_of, material_of, boot_of, printer_in, printer_of, limits_in, limits_of, admin_name_of, digest_in, digest_of, admin_in, admin_of, patience_in, patience_of};
+ghost use Rattle.octo_settings.specs.Sections.{port_of, ports_in, ports_of, material_of, boot_of, flag_of, printer_in, printer_of, limits_in, limits_of, admin_name_of, digest_in, digest_of, admin_in, admin_of, patience_in, patience_of};
 ghost use Rattle.octo_settings.specs.Seen.{members_or, data_of_value};
 ghost use Rattle.octo_settings.specs.Values.{Reads, each, in_range};
 
@@ -28,6 +28,7 @@ pub(crate) struct Printer {
     pub(crate) poll_ms: u64,
     pub(crate) boot_ms: Option<u16>,
     pub(crate) material: Name,
+    pub(crate) connect: bool,
 }
 
 fn read_port(key: &str, text: &str) -> Result<Name, SettingsFault>
@@ -115,6 +116,18 @@ fn read_boot(key: &str, value: Option<&Value>) -> Result<Option<u16>, SettingsFa
     }
 }
 
+// A yes or no, no if it is missing.
+fn read_flag(key: &str, value: Option<&Value>) -> Result<bool, SettingsFault>
+    requires { length key.now ≤ MOST_NAME_BYTES }
+    ensures { result ≡ flag_of key.now (data_of_value value.entry) }
+{
+    match value {
+        None => Ok(false),
+        Some(Value::Boolean(flag)) => Ok(*flag),
+        Some(_) => Err(wrong_kind(key)),
+    }
+}
+
 fn read_printer_in(alloc: Global, table: Option<&Table>) -> Result<Printer, SettingsFault>
     ensures { Reads result (printer_in (members_or table.entry)) }
 {
@@ -136,6 +149,7 @@ fn read_printer_in(alloc: Global, table: Option<&Table>) -> Result<Printer, Sett
     )?;
     let boot_ms = read_boot("printer.boot_ms", at(table, "boot_ms"))?;
     let material = read_material("printer.material", at(table, "material"))?;
+    let connect = read_flag("printer.connect", at(table, "connect"))?;
     Ok(Printer {
         ports,
         window: window as u8,
@@ -143,6 +157,7 @@ fn read_printer_in(alloc: Global, table: Option<&Table>) -> Result<Printer, Sett
         poll_ms,
         boot_ms,
         material,
+        connect,
     })
 }
 

@@ -39,6 +39,8 @@ pub struct Settings {
     pub boot_ms: Option<u16>,
     /// The name of the material in the printer; `any` fits every queue entry.
     pub material: Name,
+    /// Whether serving connects to the first port by itself.
+    pub connect: bool,
     /// The greatest temperatures that a command may ask for, in degrees Celsius.
     pub limits: Limits,
     /// The user who has every permission.
@@ -71,6 +73,7 @@ fn defaults(alloc: Global) -> Settings
         poll_ms: 5_000,
         boot_ms: None,
         material: any_material(),
+        connect: false,
         limits: Limits {
             tool: 300,
             bed: 120,
@@ -114,6 +117,7 @@ fn read_table(alloc: Global, table: &Table) -> Result<Settings, SettingsFault>
         poll_ms: printer.poll_ms,
         boot_ms: printer.boot_ms,
         material: printer.material,
+        connect: printer.connect,
         limits,
         admin: Some(admin),
         patience,
