@@ -22,7 +22,7 @@ use Rattle.print_queue.specs.Rows as queue_rows
 use Rattle.print_queue.specs.declared.entry.QueueEntry.{QueueEntry}
 use Rattle.print_queue.specs.declared.refusal.Put.{Put}
 use Rattle.print_queue.specs.declared.refusal.QueueRefusal.{QueueRefusal}
-use Rattle.octo_house_rules.specs.Answers.{request_verdict}
+use Rattle.octo_house_rules.specs.Answers.{request_verdict, free_verdict}
 use Rattle.octo_house_rules.specs.Known.{Known, next_print_number, is_held}
 use Rattle.octo_house_rules.specs.Prints.{port_for, commands_in, first_hot_text, manual_verdict, has_room}
 use Rattle.octo_house_rules.specs.States.{may_select, may_show, may_shut_down, may_start}
@@ -57,7 +57,7 @@ left-in asks (removes name a deed) files within = absurd (false≢true within)
 left-in asks (stores name bytes deed v) files within = absurd (false≢true within.0)
 left-in asks (begins a deed name) files within = refl
 
-left-after : (v : Verdict) (x : Answer) (files : List ShelfFile) → files_in v files ≡ files → files_after v x files ≡ files
+pub left-after : (v : Verdict) (x : Answer) (files : List ShelfFile) → files_in v files ≡ files → files_after v x files ≡ files
 left-after v x files left = ap (λ (fs : List ShelfFile). cond (is_fault x) files fs) left ∙ same_if (is_fault x) files
 
 pub shelves-same : (was now : Option (List ShelfFile)) (v : List ShelfFile → Verdict) (x : Answer) → now ≡ was
@@ -155,13 +155,16 @@ is_storing _ = false
 request-within : (asked : Request) (user : UserRow) (files : List ShelfFile) (k : Known)
     → Within (is_reading asked) (is_storing asked) (request_verdict asked user files k)
 request-within request.Version user files k = tt
+request-within request.Caller user files k = tt
 request-within request.GetConnection user files k = tt
 request-within (request.Connect port) user files k = found false false (port_for port k.ports) answer.BadPort _ (λ p. allowed false false (connect_at k.desk.state p k.desk).0 _ tt)
 request-within request.Disconnect user files k = tt
 request-within request.GetPrinter user files k = refused false false (not (may_show k.desk.state)) _ _ tt
+request-within request.GetLimits user files k = tt
 request-within (request.HeatTool degrees) user files k = manuals false false ((codes "M104 S" ++ decimal degrees) ∷ []) k
 request-within (request.HeatBed degrees) user files k = manuals false false ((codes "M140 S" ++ decimal degrees) ∷ []) k
 request-within (request.Lines texts) user files k = found false false (commands_in texts) answer.BadCommand _ (λ commands. manuals false false commands k)
+request-within (request.Move texts) user files k = refused false false k.desk.active _ _ (found false false (commands_in texts) answer.BadCommand _ (λ commands. manuals false false commands k))
 request-within request.GetJob user files k = tt
 request-within request.Start user files k = allowed false false (start_at k.desk.state (next_print_number k) k.desk).0 _ (refused false false (not (has_room k)) _ _ tt)
 request-within request.Cancel user files k = allowed false false (cancel_at k.desk.state k.desk).0 _ tt
@@ -188,6 +191,16 @@ request-within request.NextEntry user files k = refused true false (not (may_sta
 request-within request.ListPrints user files k = tt
 request-within request.Shutdown user files k = refused false false (not (may_shut_down k.desk.state)) _ _ tt
 request-within request.Leave user files k = tt
+request-within request.AutoConnect user files k = tt
+
+-- of a request that needs no permission
+free-within : (key : List ℕ) (asked : Request) (k : Known) → Within false false (free_verdict key asked k)
+free-within key request.AutoConnect k = found false false (port_for None k.ports) answer.BadPort _ (λ p. allowed false false (connect_at k.desk.state p k.desk).0 _ tt)
+free-within key _ k = tt
+
+-- the files stay
+pub free-leaves : (key : List ℕ) (asked : Request) (files : List ShelfFile) (k : Known) → files_in (free_verdict key asked k) files ≡ files
+free-leaves key asked files k = left-in false (free_verdict key asked k) files (free-within key asked k)
 
 -- the files stay
 pub request-leaves : (asked : Request) (user : UserRow) (files : List ShelfFile) (k : Known) → is_storing asked ≡ false

@@ -2,7 +2,9 @@ pub mod Begun
 pub mod Denying
 pub mod Dropping
 pub mod Fileless
+pub mod Freed
 pub mod Listed
+pub mod Manually
 pub mod Names
 pub mod Permitted
 pub mod ReadDone

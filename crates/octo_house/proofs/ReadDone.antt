@@ -1,5 +1,5 @@
 -- Requests that read a file first: what was read leads to the answer, or why nothing was.
-use Rattle.std.proofs.Common.{◌≡◌, ◌⊎◌, inl, inr, ℕ, Bool, true, false, not, cond, List, Option, None, Some, Result, Ok, Err, refl, sym, ap, ◌∙◌, subst}
+use Rattle.std.proofs.Common.{◌≡◌, ◌⊎◌, inl, inr, ℕ, Bool, true, false, not, cond, List, length, Option, None, Some, Result, Ok, Err, refl, sym, ap, ◌∙◌, subst}
 use Rattle.std.proofs.lemmas.Bool.{false≢true}
 use Rattle.gcode_lines.specs.Commands.{job_of}
 use Rattle.gcode_lines.specs.Job.{JobData}
@@ -7,12 +7,14 @@ use Rattle.gcode_lines.specs.declared.fault.FileFault.{FileFault}
 use Rattle.job_desk.specs.declared.state.State.{State}
 use Rattle.job_desk.specs.declared.state.State.TheVariants.{Offline, Connecting, Operational, Printing, Pausing, Paused, Cancelling, Finishing, Closing, Fault}
 use Rattle.octo_asks.specs.declared.answer.Answer.{Answer}
+use Rattle.octo_keeper.specs.declared.shelf.ShelfFile.{ShelfFile}
+use Rattle.std.specs.Prelude.{option_map}
 use Rattle.octo_asks.specs.declared.answer.Answer.TheVariants as answer
 use Rattle.octo_house_rules.specs.Known.{Known}
 use Rattle.octo_house_rules.specs.Refusals.{refused_if, found_or, read_as}
 use Rattle.octo_house_rules.specs.States.{may_start}
 use Rattle.octo_house_rules.specs.Verdict.{Verdict, Deed, May, IsDone, gives, makes, reads, is_fault, known_after}
-use Rattle.octo_house_tables.specs.Reading.{IsReadAs, found_bytes, job_in, job_or}
+use Rattle.octo_house_tables.specs.Reading.{IsReadAs, found_bytes, found_size, job_in, job_or}
 use Rattle.octo_house.specs.Answered.{asks_files}
 use Rattle.byte_text.proofs.BoolLaws.{same_if}
 
@@ -76,6 +78,28 @@ bytes-missed None next x k (inl is) = read-then (gives answer.NoFile) x k k (giv
 bytes-missed (Some kept) next x k (inl is) = absurd (cc is)
 bytes-missed held next x k (inr (inl is)) = read-failed (found_or held answer.NoFile next) x k (cc)
 bytes-missed held next x k (inr (inr is)) = read-unmet (found_or held answer.NoFile next) x k (cc)
+
+-- the size of a file was read
+pub size-read : (held : Option ShelfFile) (next : ℕ → Verdict) (size : ℕ) (x : Answer) (old new : Known)
+    → IsReadAs (found_size (option_map (λ (file : ShelfFile). length file.bytes) held)) (Ok size) → IsDone (next size) x old new
+    → IsDone (reads (found_or (option_map (λ (file : ShelfFile). file.bytes) held) answer.NoFile (λ bytes. next (length bytes)))) x old new
+size-read None next size x old new (inl is) done = absurd (cc is)
+size-read (Some kept) next size x old new (inl is) done =
+    let same : size ≡ length kept.bytes = cc in
+    read-then (next (length kept.bytes)) x old new (subst (λ (n : ℕ). IsDone (next n) x old new) same done)
+size-read held next size x old new (inr (inl is)) done = absurd (cc is)
+size-read held next size x old new (inr (inr is)) done = absurd (cc is)
+
+-- or not
+pub size-missed : (held : Option ShelfFile) (next : ℕ → Verdict) (x : Answer) (k : Known)
+    → IsReadAs {A = ℕ} (found_size (option_map (λ (file : ShelfFile). length file.bytes) held)) (Err x)
+    → IsDone (reads (found_or (option_map (λ (file : ShelfFile). file.bytes) held) answer.NoFile (λ bytes. next (length bytes)))) x k k
+size-missed None next x k (inl is) = read-then (gives answer.NoFile) x k k (given answer.NoFile x k (cc))
+size-missed (Some kept) next x k (inl is) = absurd (cc is)
+size-missed held next x k (inr (inl is)) =
+    read-failed (found_or (option_map (λ (file : ShelfFile). file.bytes) held) answer.NoFile (λ bytes. next (length bytes))) x k (cc)
+size-missed held next x k (inr (inr is)) =
+    read-unmet (found_or (option_map (λ (file : ShelfFile). file.bytes) held) answer.NoFile (λ bytes. next (length bytes))) x k (cc)
 
 job-given : (held : Result JobData FileFault) (next : JobData → Verdict) (job : JobData) (x : Answer) (old new : Known)
     → ◌≡◌ {A = Result JobData Answer} (Ok job) (job_or held) → IsDone (next job) x old new → IsDone (read_as held next) x old new

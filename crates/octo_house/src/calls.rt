@@ -2,7 +2,7 @@
 ghost use Rattle.std.specs.Prelude.{◌≡◌, All};
 ghost use Rattle.byte_text.specs.Sendable.{IsSendable};
 ghost use Rattle.job_desk.specs.Views.{bytes_of};
-ghost use Rattle.octo_house_rules.specs.Prints.{connect_verdict, disconnect_verdict, heat_tool_verdict, heat_bed_verdict, lines_verdict, manual_verdict, pause_verdict, resume_verdict, toggle_verdict, cancel_verdict};
+ghost use Rattle.octo_house_rules.specs.Prints.{connect_verdict, disconnect_verdict, heat_tool_verdict, heat_bed_verdict, lines_verdict, move_verdict, manual_verdict, pause_verdict, resume_verdict, toggle_verdict, cancel_verdict};
 ghost use Rattle.octo_house_tables.specs.Counts.{IsPlain, answer_of_call};
 ghost use Rattle.octo_house.specs.Facing.{Faces, IsApart};
 
@@ -90,6 +90,26 @@ impl HostDesk {
             Ok(lines) => self.manual(&lines),
             Err(answer) => answer,
         }
+    }
+
+    // Whether a print is active.
+    fn is_active(&self) -> bool
+        ensures { result ≡ self.now.session.desk.active }
+    {
+        self.session.desk().print().is_some()
+    }
+
+    /// Sends command lines that move the printer by hand; refused as WrongState while a print is active.
+    pub fn move_by_hand(&mut self, texts: &[Blob]) -> Answer
+        ensures done { Faces (move_verdict texts.now) result self.old self.new }
+        ensures apart { IsApart self.old.session self.new.session }
+        ensures plain { IsPlain result }
+    {
+        if self.is_active() {
+            let state = self.session.desk().state();
+            return Answer::WrongState { state };
+        }
+        self.lines(texts)
     }
 
     /// Pauses the print.

@@ -1,6 +1,6 @@
 //! The requests that show connection, printer and print.
 ghost use Rattle.std.specs.Prelude.{◌≡◌, option_map};
-ghost use Rattle.octo_house_rules.specs.Reads.{connection_verdict, printer_verdict, job_verdict, shutdown_verdict, progress_of, selected_shown};
+ghost use Rattle.octo_house_rules.specs.Reads.{limits_verdict, connection_verdict, printer_verdict, job_verdict, shutdown_verdict, progress_of, selected_shown};
 ghost use Rattle.octo_house_rules.specs.States.{shown_port};
 ghost use Rattle.octo_house_tables.specs.Counts.{IsPlain};
 ghost use Rattle.octo_house.specs.Facing.{Faces};
@@ -60,6 +60,18 @@ impl HostDesk {
             state,
             tool: shown_heat(self.temps.tool),
             bed: shown_heat(self.temps.bed),
+        }
+    }
+
+    /// The greatest temperatures that a command may ask for.
+    pub fn limits(&self) -> Answer
+        ensures done { Faces limits_verdict result self.now self.now }
+        ensures plain { IsPlain result }
+    {
+        let limits = self.session.desk().limits();
+        Answer::Limits {
+            tool: limits.tool,
+            bed: limits.bed,
         }
     }
 

@@ -27,11 +27,11 @@ use Rattle.octo_asks.specs.declared.request.Request.{Request}
 use Rattle.octo_asks.specs.declared.request.Request.TheVariants as request
 use Rattle.octo_house_rules.specs.Known.{Known}
 use Rattle.octo_house_rules.specs.Refusals.{answer_of_refusal, answer_of_user_refusal, answer_of_queue_refusal, refused_if, if_desk_allows, if_users_allow, unless_too_hot, found_or, read_as}
-use Rattle.octo_house_rules.specs.Prints.{port_for, commands_in, first_hot_text, manual_verdict, restart_deed}
+use Rattle.octo_house_rules.specs.Prints.{port_for, connect_verdict, commands_in, first_hot_text, manual_verdict, restart_deed}
 use Rattle.octo_house_rules.specs.Rows.{with_queue, put_by}
 use Rattle.octo_house_rules.specs.Uploads.{read_file, print_verdict, select_by, store_deed, after_storing, is_selected, is_printed, refusal_of, unprinted, store_verdict, take_verdict}
 use Rattle.octo_house_rules.specs.Verdict.{Verdict, Deed, at_desk, gives, makes, writes, reads, removes, stores, begins, is_fault, is_stored, known_after, known_in, after}
-use Rattle.octo_house_rules.specs.Answers.{request_verdict, unless_lacking, verdict_of_caller, lacking, verdict_by}
+use Rattle.octo_house_rules.specs.Answers.{request_verdict, free_verdict, unless_lacking, verdict_of_caller, lacking, verdict_by}
 use Rattle.octo_house_laws.specs.Limits.{IsCool}
 use Rattle.octo_house_laws.proofs.Texts.{texts_cool}
 use Rattle.octo_house_laws.proofs.Desk.{Cool}
@@ -136,6 +136,14 @@ module _ (limits : Limits) where
   by-call : (call : DeskCall) (k : Known) → IsCoolCall limits call → CoolVerdict (makes answer.Accepted (at_desk (call ∷ []) k))
   by-call call k c = makes-cool answer.Accepted (at_desk (call ∷ []) k) (c, tt)
 
+  by-connect : (port : Option (List ℕ)) (k : Known) → CoolVerdict (connect_verdict port k)
+  by-connect port k = by-found (port_for port k.ports) _ _ (λ p. by-desk _ _ (by-call (Connect p) k tt))
+
+  -- the verdict of a request that needs no permission
+  cool_free : (key : List ℕ) (asked : Request) (k : Known) → CoolVerdict (free_verdict key asked k)
+  cool_free key request.AutoConnect k = by-connect None k
+  cool_free key _ k = gives-cool _
+
   module _ (user : UserRow) (files : List ShelfFile) (k : Known) (is : k.desk.limits ≡ limits) where
     by-store : (bytes : List ℕ) (select print : Bool) (file : File) → CoolVerdict (store_verdict user bytes select print k file)
     by-store bytes select print file =
@@ -151,13 +159,16 @@ module _ (limits : Limits) where
     -- every request's verdict
     cool_request : (asked : Request) → CoolVerdict (request_verdict asked user files k)
     cool_request request.Version = gives-cool _
+    cool_request request.Caller = gives-cool _
     cool_request request.GetConnection = gives-cool _
-    cool_request (request.Connect port) = by-found (port_for port k.ports) _ _ (λ p. by-desk _ _ (by-call (Connect p) k tt))
+    cool_request (request.Connect port) = by-connect port k
     cool_request request.Disconnect = by-call Disconnect k tt
     cool_request request.GetPrinter = by-test _ _ _ (gives-cool _)
+    cool_request request.GetLimits = gives-cool _
     cool_request (request.HeatTool degrees) = by-manual ((codes "M104 S" ++ decimal degrees) ∷ []) k is
     cool_request (request.HeatBed degrees) = by-manual ((codes "M140 S" ++ decimal degrees) ∷ []) k is
     cool_request (request.Lines texts) = by-found (commands_in texts) _ _ (λ commands. by-manual commands k is)
+    cool_request (request.Move texts) = by-test _ _ _ (by-found (commands_in texts) _ _ (λ commands. by-manual commands k is))
     cool_request request.GetJob = gives-cool _
     cool_request request.Start = by-desk _ _ (by-test _ _ _ (writes-cool answer.Accepted _ (tt, tt)))
     cool_request request.Cancel = by-desk _ _ (by-call Cancel k tt)
@@ -182,6 +193,7 @@ module _ (limits : Limits) where
     cool_request request.ListPrints = gives-cool _
     cool_request request.Shutdown = by-test _ _ _ (gives-cool _)
     cool_request request.Leave = gives-cool _
+    cool_request request.AutoConnect = gives-cool _
 
   by-allowed : (o : Option Permission) (v : Verdict) → CoolVerdict v → CoolVerdict (unless_lacking o v)
   by-allowed None v p = p
@@ -195,5 +207,5 @@ module _ (limits : Limits) where
   -- every ask's verdict
   pub asks_cool : (ps : List Permission) (key : List ℕ) (asked : Request) (files : List ShelfFile) (k : Known) → k.desk.limits ≡ limits
       → CoolVerdict (verdict_by ps key asked files k)
-  asks_cool [] key asked files k is = gives-cool _
+  asks_cool [] key asked files k is = cool_free key asked k
   asks_cool (p ∷ ps) key asked files k is = by-permitted (caller k.policy k.users key) (p ∷ ps) k _ (λ user. cool_request user files k is asked)

@@ -4,11 +4,12 @@ use Rattle.std.specs.List.{AllByRecursion}
 use Rattle.temp_rules.specs.Hot.{first_hot_of}
 use Rattle.temp_rules.specs.declared.job.HotLine.{HotLine}
 use Rattle.temp_rules.specs.declared.limits.Limits.{Limits}
+use Rattle.std.specs.Prelude.{◌&&◌}
 use Rattle.job_desk.specs.Data.{Data, File, Line, texts_at, tagged, script_lines, with_script, commands_of}
 use Rattle.job_desk.specs.Endings.{has_print}
-use Rattle.job_desk.specs.Note.{Noted, is_over, end_at, after_ending, after_open, ready_at, leave, fail, note_fact, note_step}
+use Rattle.job_desk.specs.Note.{Noted, is_over, end_at, after_ending, after_open, ready_at, leave, fail, note_fact, note_step, hung_up}
 use Rattle.job_desk.specs.Pull.{is_issued, settle_at, settled}
-use Rattle.job_desk.specs.Table.{connect_at, disconnect_at, closing, select_at, is_named, drop_file_step, printing, start_checked, start_file, start_at, restart_at, pause_at, resume_at, toggle_at, cancelling, cancel_at, add_manual, manual_at}
+use Rattle.job_desk.specs.Table.{connect_at, disconnect_at, closing, select_at, is_named, drop_file_step, printing, start_checked, start_file, start_at, restart_at, pause_at, resume_at, toggle_at, cancelling, cancel_at, add_manual, manual_at, take_manual, is_stop, stopping}
 use Rattle.job_desk.specs.declared.link_fact.LinkFact.{LinkFact}
 use Rattle.job_desk.specs.declared.link_fact.LinkFact.TheVariants as fact
 use Rattle.job_desk.specs.declared.state.Point.{Point}
@@ -198,14 +199,27 @@ module _ (limits : Limits) where
         file = h.file;
       })
 
+  cool_stopping : (texts : List (List ℕ)) (d : Data) → AllByRecursion (IsCool limits) texts → Cool limits d → Cool limits (stopping texts d)
+  cool_stopping texts d cool h = record {
+    limits_are = h.limits_are;
+    scripts = h.scripts;
+    waiting = h.waiting;
+    manual = cool;
+    file = λ has. absurd (cc has);
+  }
+
+  cool_takes : (texts : List (List ℕ)) (d : Data) → AllByRecursion (IsCool limits) texts → Cool limits d → Cool limits (take_manual texts d).1
+  cool_takes texts d cool h = choose_cool (is_stop texts) _ _ (cool_stopping texts d cool h) (cool_adds texts d cool h)
+
   pub cool_manual : (s : State) (texts : List (List ℕ)) (d : Data) → AllByRecursion (IsCool limits) texts → Cool limits d
       → Cool limits (manual_at s texts d).1
-  cool_manual Operational texts d cool h = cool_adds texts d cool h
-  cool_manual Printing texts d cool h = cool_adds texts d cool h
-  cool_manual Pausing texts d cool h = cool_adds texts d cool h
-  cool_manual Paused texts d cool h = cool_adds texts d cool h
-  cool_manual Cancelling texts d cool h = cool_adds texts d cool h
-  cool_manual Finishing texts d cool h = cool_adds texts d cool h
+  cool_manual Operational texts d cool h = cool_takes texts d cool h
+  cool_manual Printing texts d cool h = cool_takes texts d cool h
+  cool_manual Pausing texts d cool h = cool_takes texts d cool h
+  cool_manual Paused texts d cool h = cool_takes texts d cool h
+  cool_manual Cancelling texts d cool h = cool_takes texts d cool h
+  cool_manual Finishing texts d cool h = cool_takes texts d cool h
+  cool_manual Closing texts d cool h = choose_cool (is_stop texts && d.ready) _ _ (cool_stopping texts d cool h) h
   cool_manual _ texts d cool h = h
 
   cool_finishing : (s : State) (d : Data) → d.state ≡ s → Cool limits d → Cool limits (settle_at s d)
@@ -239,6 +253,10 @@ module _ (limits : Limits) where
     file = λ has. (unprinted s s refl none has);
   }
 
+  cool_hung : (b : Bool) (d : Data) → Cool limits d → Cool limits (hung_up b d).1
+  cool_hung false d h = cool_leave Offline outcome.Cancelled d refl h
+  cool_hung true d h = cool_leave Fault outcome.Failed d refl h
+
   cool_fail : (noted : Noted) → Cool limits noted.1 → Cool limits (fail noted).1
   cool_fail (None, d) h = cool_leave Fault outcome.Failed d refl h
   cool_fail (Some ending, d) h = cool_leave Fault outcome.Failed d refl h
@@ -271,7 +289,7 @@ module _ (limits : Limits) where
   cool_fact fact.Ready moment d h =
       let heard : Data = record d { ready = true } in
       cool_ended (ready_at heard.state moment heard) (cool_ready heard.state moment heard (alike_cool d heard (refl, refl, refl, refl, refl, refl) h))
-  cool_fact fact.Closed moment d h = cool_leave Offline outcome.Cancelled d refl h
+  cool_fact fact.Closed moment d h = cool_hung d.stopped d h
   cool_fact fact.NoPort moment d h = cool_leave Fault outcome.Failed d refl h
   cool_fact fact.Failed moment d h = cool_fail (after_ending d) (cool_ended d h)
   cool_fact (fact.Ended end) moment d h = cool_fail (after_ending d) (cool_ended d h)

@@ -24,7 +24,7 @@ use Rattle.octo_asks.specs.declared.entry.Entry.TheVariants as entry
 use Rattle.octo_asks.specs.declared.request.Ask.{Ask}
 use Rattle.octo_asks.specs.declared.request.Request.{Request}
 use Rattle.octo_asks.specs.declared.request.Request.TheVariants as request
-use Rattle.octo_house_rules.specs.Answers.{verdict, verdict_by, verdict_of_caller, unless_lacking, lacking, request_verdict}
+use Rattle.octo_house_rules.specs.Answers.{verdict, verdict_by, verdict_of_caller, unless_lacking, lacking, request_verdict, free_verdict}
 use Rattle.octo_house_rules.specs.Isolation.{is_private, SameFor, IsSame}
 use Rattle.octo_house_rules.specs.Known.{Known, is_held}
 use Rattle.octo_house_rules.specs.Legal.{Standing, after_entry, IsLegal}
@@ -132,9 +132,13 @@ plain-caller : (o : Option UserRow) (permissions : List Permission) (k : Known) 
 plain-caller None permissions k next p = tt
 plain-caller (Some user) permissions k next p = plain-allowed (lacking k user permissions) (next user) (p user)
 
+plain-free : (key : List ℕ) (asked : Request) (k : Known) → is_private asked ≡ true → IsPlain (free_verdict key asked k)
+plain-free key request.AutoConnect k p = absurd (cc)
+plain-free key _ k p = tt
+
 plain-by : (permissions : List Permission) (key : List ℕ) (asked : Request) (files : List ShelfFile) (k : Known) → is_private asked ≡ true
     → IsPlain (verdict_by permissions key asked files k)
-plain-by [] key asked files k p = tt
+plain-by [] key asked files k p = plain-free key asked k p
 plain-by (permission ∷ permissions) key asked files k p =
     plain-caller (caller k.policy k.users key) (permission ∷ permissions) k (λ user. request_verdict asked user files k) (λ user. plain-request asked user files k p)
 

@@ -4,7 +4,7 @@ use Rattle.std.specs.List.{AllByRecursion}
 use Rattle.temp_rules.specs.declared.limits.Limits.{Limits}
 use Rattle.job_desk.specs.Data.{Data, Line, commands_of, moment_after}
 use Rattle.job_desk.specs.Endings.{has_print}
-use Rattle.job_desk.specs.Pull.{Drawn, nothing, keep_number, next_number, issue, from_scripts, from_manual, poll_is_due, from_poll, from_file, draw_in_order, draw_at}
+use Rattle.job_desk.specs.Pull.{Drawn, nothing, keep_number, next_number, issue, from_scripts, from_manual, poll_is_due, from_poll, from_file, draw_in_order, draw_at, draw_last}
 use Rattle.job_desk.specs.Run.{DeskCall, Connect, Disconnect, Select, DropFile, Start, Restart, Pause, Resume, Toggle, Cancel, Manually, Pull, Note}
 use Rattle.job_desk.specs.declared.state.State.{State}
 use Rattle.job_desk.specs.declared.state.State.TheVariants.{Operational, Printing, Pausing, Paused, Cancelling, Finishing, Closing}
@@ -88,6 +88,10 @@ module _ (limits : Limits) where
   draws_talk : (moment : ℕ) (d : Data) (next : Drawn) → Cool limits d → DrawsCool next → DrawsCool (draw_in_order moment d next)
   draws_talk moment d next h n = draws_script d.waiting d _ h.waiting h (draws_manual d.manual d _ h.manual h (draws_poll moment d next h n))
 
+  draws_last : (b : Bool) (d : Data) → Cool limits d → DrawsCool (draw_last b d)
+  draws_last false d h = draws_script d.waiting d (nothing d) h.waiting h (tt, h)
+  draws_last true d h = draws_manual d.manual d (nothing d) h.manual h (tt, h)
+
   draws : (s : State) (moment : ℕ) (d : Data) → d.state ≡ s → Cool limits d → DrawsCool (draw_at s moment d)
   draws Operational moment d is h = draws_talk moment d (nothing d) h (tt, h)
   draws Printing moment d is h =
@@ -97,7 +101,7 @@ module _ (limits : Limits) where
   draws Paused moment d is h = draws_talk moment d (nothing d) h (tt, h)
   draws Cancelling moment d is h = draws_talk moment d (nothing d) h (tt, h)
   draws Finishing moment d is h = draws_talk moment d (nothing d) h (tt, h)
-  draws Closing moment d is h = draws_script d.waiting d (nothing d) h.waiting h (tt, h)
+  draws Closing moment d is h = draws_last d.stopped d h
   draws _ moment d is h = (tt, h)
 
   -- a call whose own texts, if it brings some, are cool

@@ -77,8 +77,9 @@ module _ (scripts : ScriptTexts) (p : ℕ) (positive : nat_eq 0 p ≡ false) whe
     ended_so acked f outcome.Active other by = absurd by
     ended_so acked f outcome.Done other by = acknowledged acked f other by.1.last_line
     ended_so acked f outcome.Cancelled other (inl by) = cancelled_so f acked (inl (acknowledged acked f other by.1.last_line))
-    ended_so acked f outcome.Cancelled other (inr is) = cancelled_so f acked (inr is)
-    ended_so acked f outcome.Failed other by = failed_shut f is_open by
+    ended_so acked f outcome.Cancelled other (inr is) = cancelled_so f acked (inr is.0)
+    ended_so acked f outcome.Failed other (inl fails) = failed_shut f is_open fails
+    ended_so acked f outcome.Failed other (inr is) = ap (λ (one : LinkFact). up_after one is_open) is.0
 
     noted_so : (acked : ℕ) (f : LinkFact) (ending : Option Ending) (e : Data) → (f ≡ fact.Opened → ⊥) → IfSome ending (λ one. IsEnding acked f run.desk one) →
         Status scripts p positive (of_print p (after_note f (ending, e) run).ends) acked lines (up_after f is_open)

@@ -3,10 +3,11 @@ use Rattle.std.proofs.Common.{◌≡◌, ℕ, Bool, true, false, cond, List, [],
 use Rattle.std.proofs.lemmas.Bool.{false≢true}
 use Rattle.temp_rules.specs.Hot.{first_hot_of}
 use Rattle.temp_rules.specs.declared.job.HotLine.{HotLine}
+use Rattle.std.specs.Prelude.{◌&&◌}
 use Rattle.job_desk.specs.Data.{Data, File}
 use Rattle.job_desk.specs.Endings.{has_print, IsActive}
 use Rattle.job_desk.specs.Run.{DeskCall, Connect, Disconnect, Select, DropFile, Start, Restart, Pause, Resume, Toggle, Cancel, Manually, Pull, Note}
-use Rattle.job_desk.specs.Table.{ok_answer, connect_at, disconnect_at, select_at, is_named, drop_file_step, printing, start_checked, start_file, start_at, restart_at, pause_at, resume_at, toggle_at, cancel_at, add_manual, manual_at}
+use Rattle.job_desk.specs.Table.{ok_answer, connect_at, disconnect_at, select_at, is_named, drop_file_step, printing, start_checked, start_file, start_at, restart_at, pause_at, resume_at, toggle_at, cancel_at, add_manual, manual_at, take_manual, is_stop, stopping}
 use Rattle.job_desk.specs.declared.state.Refusal.TheVariants as refusal
 use Rattle.job_desk.specs.declared.state.State.{State}
 use Rattle.job_desk.specs.declared.state.State.TheVariants.{Offline, Connecting, Operational, Printing, Pausing, Paused, Cancelling, Finishing, Closing, Fault}
@@ -95,13 +96,20 @@ filed_cancel _ d is f = f
 filed_adds : (lines : List (List ℕ)) (d : Data) → IsFiled d → IsFiled (add_manual lines d).1
 filed_adds lines d f = choose_pair (λ e. IsFiled e) _ _ _ f f
 
+filed_stopping : (lines : List (List ℕ)) (d : Data) → IsFiled d → IsFiled (stopping lines d)
+filed_stopping lines d f = (λ has. absurd (cc has), f.1)
+
+filed_takes : (lines : List (List ℕ)) (d : Data) → IsFiled d → IsFiled (take_manual lines d).1
+filed_takes lines d f = choose_pair (λ e. IsFiled e) (is_stop lines) _ _ (filed_stopping lines d f) (filed_adds lines d f)
+
 filed_manually : (s : State) (lines : List (List ℕ)) (d : Data) → IsFiled d → IsFiled (manual_at s lines d).1
-filed_manually Operational lines d f = filed_adds lines d f
-filed_manually Printing lines d f = filed_adds lines d f
-filed_manually Pausing lines d f = filed_adds lines d f
-filed_manually Paused lines d f = filed_adds lines d f
-filed_manually Cancelling lines d f = filed_adds lines d f
-filed_manually Finishing lines d f = filed_adds lines d f
+filed_manually Operational lines d f = filed_takes lines d f
+filed_manually Printing lines d f = filed_takes lines d f
+filed_manually Pausing lines d f = filed_takes lines d f
+filed_manually Paused lines d f = filed_takes lines d f
+filed_manually Cancelling lines d f = filed_takes lines d f
+filed_manually Finishing lines d f = filed_takes lines d f
+filed_manually Closing lines d f = choose_pair (λ e. IsFiled e) (is_stop lines && d.ready) _ _ (filed_stopping lines d f) f
 filed_manually _ lines d f = f
 
 pub filed_call : (call : DeskCall) (d : Data) → IsFiled d → IsFiled (desk_after call d)

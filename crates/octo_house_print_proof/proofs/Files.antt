@@ -2,12 +2,13 @@
 use Rattle.std.proofs.Common.{suc, ◌≡◌, ◌⊎◌, inl, inr, ℕ, ◌+◌, Bool, true, false, cond, nat_eq, codes, List, [], ◌∷◌, Contains, Option, None, Some, refl, sym, ◌∙◌, ap, subst, arith}
 use Rattle.temp_rules.specs.Hot.{first_hot_of}
 use Rattle.temp_rules.specs.declared.job.HotLine.{HotLine}
+use Rattle.std.specs.Prelude.{◌&&◌}
 use Rattle.job_desk.specs.Data.{Data, File, Line, with_script, moment_after}
-use Rattle.job_desk.specs.Note.{Noted, after_ending, is_over, end_at, finish, fail, ready_at, after_open, note_fact, note_step}
-use Rattle.job_desk.specs.Pull.{Drawn, draw_in_order, nothing, next_number, keep_number, issue, from_scripts, from_manual, from_poll, poll_is_due, from_file, draw_at, is_issued, settle_at, pull_step}
+use Rattle.job_desk.specs.Note.{Noted, after_ending, is_over, end_at, finish, fail, ready_at, after_open, note_fact, note_step, hung_up}
+use Rattle.job_desk.specs.Pull.{Drawn, draw_in_order, nothing, next_number, keep_number, issue, from_scripts, from_manual, from_poll, poll_is_due, from_file, draw_at, is_issued, settle_at, pull_step, draw_last}
 use Rattle.job_desk.specs.Course.{job_line}
 use Rattle.job_desk.specs.Run.{DeskCall, Connect, Disconnect, Select, DropFile, Start, Restart, Pause, Resume, Toggle, Cancel, Manually, Pull, Note}
-use Rattle.job_desk.specs.Table.{connect_at, disconnect_at, select_at, is_named, drop_file_step, start_checked, start_file, start_at, restart_at, pause_at, resume_at, toggle_at, cancel_at, add_manual, manual_at}
+use Rattle.job_desk.specs.Table.{connect_at, disconnect_at, select_at, is_named, drop_file_step, start_checked, start_file, start_at, restart_at, pause_at, resume_at, toggle_at, cancel_at, add_manual, manual_at, take_manual, is_stop}
 use Rattle.job_desk.specs.declared.link_fact.LinkFact.{LinkFact}
 use Rattle.job_desk.specs.declared.link_fact.LinkFact.TheVariants as fact
 use Rattle.job_desk.specs.declared.state.Point.TheVariants as point
@@ -55,6 +56,10 @@ file_command (Some text) d = file_issue (job_line d.greatest d.cursor text) d (r
 file_talk : (moment : ℕ) (d : Data) (next : Drawn) → Same d next.1 → Same d (draw_in_order moment d next).1
 file_talk moment d next h = file_scripts d.waiting d _ (file_manual d.manual d _ (file_poll moment d next h))
 
+file_last : (b : Bool) (d : Data) → Same d (draw_last b d).1
+file_last false d = file_scripts d.waiting d (nothing d) refl
+file_last true d = file_manual d.manual d (nothing d) refl
+
 file_draw : (s : State) (moment : ℕ) (d : Data) → Same d (draw_at s moment d).1
 file_draw Operational moment d = file_talk moment d (nothing d) refl
 file_draw Printing moment d = file_talk moment d _ (file_command _ d)
@@ -62,7 +67,7 @@ file_draw Pausing moment d = file_talk moment d (nothing d) refl
 file_draw Paused moment d = file_talk moment d (nothing d) refl
 file_draw Cancelling moment d = file_talk moment d (nothing d) refl
 file_draw Finishing moment d = file_talk moment d (nothing d) refl
-file_draw Closing moment d = file_scripts d.waiting d (nothing d) refl
+file_draw Closing moment d = file_last d.stopped d
 file_draw _ moment d = refl
 
 file_settle : (s : State) (d : Data) → Same d (settle_at s d)
@@ -89,6 +94,10 @@ file_fail : (d : Data) (noted : Noted) → Same d noted.1 → Same d (fail noted
 file_fail d (None, t) h = h
 file_fail d (Some ending, t) h = h
 
+file_hung : (b : Bool) (d : Data) → Same d (hung_up b d).1
+file_hung false d = refl
+file_hung true d = refl
+
 file_ready : (s : State) (moment : ℕ) (d : Data) → Same d (ready_at s moment d)
 file_ready Connecting moment d = refl
 file_ready _ moment d = refl
@@ -100,7 +109,7 @@ file_fact fact.Ready moment d =
     let heard : Data = record d { ready = true } in
     let is : Data = ready_at heard.state moment heard in
     file_end is.state is ∙ file_ready heard.state moment heard
-file_fact fact.Closed moment d = refl
+file_fact fact.Closed moment d = file_hung d.stopped d
 file_fact fact.NoPort moment d = refl
 file_fact fact.Failed moment d = file_fail d (after_ending d) (file_end d.state d)
 file_fact (fact.Ended end) moment d = file_fail d (after_ending d) (file_end d.state d)
@@ -162,13 +171,17 @@ file_cancel _ d = refl
 file_adds : (lines : List (List ℕ)) (d : Data) → Same d (add_manual lines d).1
 file_adds lines d = choose_pair (λ e. Same d e) _ _ _ refl refl
 
+file_takes : (lines : List (List ℕ)) (d : Data) → Same d (take_manual lines d).1
+file_takes lines d = choose_pair (λ e. Same d e) (is_stop lines) _ (add_manual lines d) refl (file_adds lines d)
+
 file_manually : (s : State) (lines : List (List ℕ)) (d : Data) → Same d (manual_at s lines d).1
-file_manually Operational lines d = file_adds lines d
-file_manually Printing lines d = file_adds lines d
-file_manually Pausing lines d = file_adds lines d
-file_manually Paused lines d = file_adds lines d
-file_manually Cancelling lines d = file_adds lines d
-file_manually Finishing lines d = file_adds lines d
+file_manually Operational lines d = file_takes lines d
+file_manually Printing lines d = file_takes lines d
+file_manually Pausing lines d = file_takes lines d
+file_manually Paused lines d = file_takes lines d
+file_manually Cancelling lines d = file_takes lines d
+file_manually Finishing lines d = file_takes lines d
+file_manually Closing lines d = choose_pair (λ e. Same d e) (is_stop lines && d.ready) _ _ refl refl
 file_manually _ lines d = refl
 
 file_select : (s : State) (file : File) (d : Data) (f : File) → (select_at s file d).1.file ≡ Some f → (d.file ≡ Some f) ⊎ (Select file ≡ Select f)

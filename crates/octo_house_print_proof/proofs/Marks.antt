@@ -2,8 +2,9 @@
 use Rattle.std.proofs.Common.{◌≡◌, ℕ, ◌<◌, ◌≤◌, List, [], ◌++◌, length, drop, Option, None, Some, refl, sym, ◌∙◌, ap, subst, arith}
 use Rattle.temp_rules.specs.declared.job.HotLine.{HotLine}
 use Rattle.temp_rules.specs.Hot.{first_hot_of}
+use Rattle.std.specs.Prelude.{◌&&◌}
 use Rattle.job_desk.specs.Data.{Data, File, Line}
-use Rattle.job_desk.specs.Table.{connect_at, disconnect_at, select_at, drop_file_step, is_named, start_checked, start_file, start_at, restart_at, printing, pause_at, resume_at, toggle_at, cancel_at, manual_at, add_manual}
+use Rattle.job_desk.specs.Table.{connect_at, disconnect_at, select_at, drop_file_step, is_named, start_checked, start_file, start_at, restart_at, printing, pause_at, resume_at, toggle_at, cancel_at, manual_at, add_manual, take_manual, is_stop, stopping}
 use Rattle.job_desk.specs.Run.{print_lines, DeskCall, Connect, Disconnect, Select, DropFile, Start, Restart, Pause, Resume, Toggle, Cancel, Manually, Pull, Note, MayCall}
 use Rattle.job_desk.specs.declared.state.State.{State}
 use Rattle.job_desk.specs.declared.state.State.TheVariants.{Offline, Connecting, Operational, Printing, Pausing, Paused, Cancelling, Finishing, Closing, Fault}
@@ -80,13 +81,20 @@ same-cancel _ d = same d
 same-adds : (lines : List (List ℕ)) (d : Data) → IsSame d (add_manual lines d).1
 same-adds lines d = choose_pair (λ e. IsSame d e) _ _ _ (same d) (kept d (record d { manual = d.manual ++ lines }) refl refl refl refl refl refl refl)
 
+same-stopping : (lines : List (List ℕ)) (d : Data) → IsSame d (stopping lines d)
+same-stopping lines d = moved d (stopping lines d) refl refl refl refl refl (λ e. cc e)
+
+same-takes : (lines : List (List ℕ)) (d : Data) → IsSame d (take_manual lines d).1
+same-takes lines d = choose_pair (λ e. IsSame d e) (is_stop lines) _ _ (same-stopping lines d) (same-adds lines d)
+
 same-manual : (s : State) (lines : List (List ℕ)) (d : Data) → IsSame d (manual_at s lines d).1
-same-manual Operational lines d = same-adds lines d
-same-manual Printing lines d = same-adds lines d
-same-manual Pausing lines d = same-adds lines d
-same-manual Paused lines d = same-adds lines d
-same-manual Cancelling lines d = same-adds lines d
-same-manual Finishing lines d = same-adds lines d
+same-manual Operational lines d = same-takes lines d
+same-manual Printing lines d = same-takes lines d
+same-manual Pausing lines d = same-takes lines d
+same-manual Paused lines d = same-takes lines d
+same-manual Cancelling lines d = same-takes lines d
+same-manual Finishing lines d = same-takes lines d
+same-manual Closing lines d = choose_pair (λ e. IsSame d e) (is_stop lines && d.ready) _ _ (same-stopping lines d) (same d)
 same-manual _ lines d = same d
 
 -- what a print's numbers say of the session's lines

@@ -3,7 +3,7 @@ use Rattle.std.proofs.Common.{◌≡◌, ◌⊎◌, inl, inr, ℕ, ◌<◌, ◌�
 use Rattle.std.proofs.lemmas.Bool.Decides.{nat_tests}
 use Rattle.job_desk.specs.Data.{Data, Line, with_script, moment_after}
 use Rattle.job_desk.specs.Pull.{settled}
-use Rattle.job_desk.specs.Note.{Noted, is_over, end_at, after_ending, finish, leave, fail, ready_at, after_open, note_fact, note_step}
+use Rattle.job_desk.specs.Note.{Noted, is_over, end_at, after_ending, finish, leave, hung_up, fail, ready_at, after_open, note_fact, note_step}
 use Rattle.job_desk.specs.Run.{print_lines}
 use Rattle.job_desk.specs.declared.state.State.{State}
 use Rattle.job_desk.specs.declared.state.State.TheVariants.{Offline, Connecting, Operational, Pausing, Paused, Cancelling, Finishing, Fault}
@@ -81,6 +81,10 @@ module _ (p : ℕ) (positive : nat_eq 0 p ≡ false) where
   after_fail t (Some ending, e) h =
       after_then t e (leave Fault outcome.Failed e).1 h (after_moved e (leave Fault outcome.Failed e).1 refl refl refl refl (λ e. cc e))
 
+  after_hung : (b : Bool) (t : Data) → IsAfter t (hung_up b t).1
+  after_hung false t = after_moved t (leave Offline outcome.Cancelled t).1 refl refl refl refl (λ e. cc e)
+  after_hung true t = after_moved t (leave Fault outcome.Failed t).1 refl refl refl refl (λ e. cc e)
+
   after_fact : (f : LinkFact) (moment : ℕ) (t : Data) → (f ≡ fact.Opened → ⊥) → IsAfter t (note_fact f moment t).1
   after_fact fact.Quiet moment t other = after_end t.state t
   after_fact fact.Opened moment t other = absurd (other refl)
@@ -89,7 +93,7 @@ module _ (p : ℕ) (positive : nat_eq 0 p ≡ false) where
       let is : Data = ready_at heard.state moment heard in
       after_then t is (after_ending is).1 (after_then t heard is (record { issued = refl; acked = refl; line = refl; greatest = refl; paused = λ is. inl (is, refl) })
       (after_ready heard.state moment heard)) (after_end is.state is)
-  after_fact fact.Closed moment t other = after_moved t (leave Offline outcome.Cancelled t).1 refl refl refl refl (λ e. cc e)
+  after_fact fact.Closed moment t other = after_hung t.stopped t
   after_fact fact.NoPort moment t other = after_moved t (leave Fault outcome.Failed t).1 refl refl refl refl (λ e. cc e)
   after_fact fact.Failed moment t other = after_fail t (after_ending t) (after_end t.state t)
   after_fact (fact.Ended end) moment t other = after_fail t (after_ending t) (after_end t.state t)

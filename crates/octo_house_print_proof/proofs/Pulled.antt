@@ -3,7 +3,7 @@ use Rattle.std.proofs.Common.{◌≡◌, ◌⊎◌, inl, inr, ℕ, ◌+◌, ◌<
 use Rattle.std.proofs.lemmas.List.{length-append}
 use Rattle.std.proofs.lemmas.Bool.Decides.{nat_tests}
 use Rattle.job_desk.specs.Data.{Data, Line, with_script, moment_after}
-use Rattle.job_desk.specs.Pull.{Drawn, draw_in_order, nothing, next_number, keep_number, issue, from_scripts, from_manual, from_poll, poll_is_due, from_file, draw_at, is_issued, settle_at, settled, pull_step}
+use Rattle.job_desk.specs.Pull.{Drawn, draw_in_order, nothing, next_number, keep_number, issue, from_scripts, from_manual, from_poll, poll_is_due, from_file, draw_at, is_issued, settle_at, settled, pull_step, draw_last}
 use Rattle.job_desk.specs.Course.{job_line}
 use Rattle.job_desk.specs.Run.{is_of, print_lines}
 use Rattle.job_desk.specs.declared.state.State.{State}
@@ -127,11 +127,15 @@ module _ (p : ℕ) (positive : nat_eq 0 p ≡ false) where
   draws_talk : (moment : ℕ) (d : Data) (next : Drawn) → Draws d next → Draws d (draw_in_order moment d next)
   draws_talk moment d next h = draws_scripts d.waiting d _ refl (draws_manual d.manual d _ (draws_poll moment d next h))
 
+  draws_last : (b : Bool) (d : Data) → Draws d (draw_last b d)
+  draws_last false d = draws_scripts d.waiting d (nothing d) refl (draws_none d)
+  draws_last true d = draws_manual d.manual d (nothing d) (draws_none d)
+
   draws_at : (s : State) (moment : ℕ) (d : Data) → d.state ≡ s → Draws d (draw_at s moment d)
   draws_at Offline moment d e = draws_none d
   draws_at Connecting moment d e = draws_none d
   draws_at Printing moment d e = draws_talk moment d _ (draws_file _ d e)
-  draws_at Closing moment d e = draws_scripts d.waiting d (nothing d) refl (draws_none d)
+  draws_at Closing moment d e = draws_last d.stopped d
   draws_at Fault moment d e = draws_none d
   draws_at _ moment d e = draws_talk moment d (nothing d) (draws_none d)
 

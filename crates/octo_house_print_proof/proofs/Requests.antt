@@ -31,14 +31,14 @@ use Rattle.octo_asks.specs.declared.request.Request.{Request}
 use Rattle.octo_asks.specs.declared.request.Request.TheVariants as request
 use Rattle.octo_house_rules.specs.Known.{Known, next_print_number}
 use Rattle.octo_house_rules.specs.Refusals.{answer_of_refusal, answer_of_user_refusal, answer_of_queue_refusal, refused_if, if_desk_allows, if_users_allow, unless_too_hot, found_or, read_as}
-use Rattle.octo_house_rules.specs.Prints.{port_for, commands_in, manual_verdict, restart_deed}
+use Rattle.octo_house_rules.specs.Prints.{port_for, connect_verdict, commands_in, manual_verdict, restart_deed}
 use Rattle.octo_house_rules.specs.Rows.{with_queue, put_by}
 use Rattle.octo_house_rules.specs.Uploads.{read_file, print_verdict, select_by, store_deed, after_storing, is_selected, is_printed, refusal_of, unprinted, store_verdict, take_verdict}
 use Rattle.octo_house_rules.specs.Verdict.{Verdict, Deed, at_desk, gives, makes, writes, reads, removes, stores, begins, known_after, is_fault, is_stored, calls_in, calls_after, files_in, files_after}
 use Rattle.job_desk.specs.Run.{DeskCall, Connect, Select, Start, Restart}
 use Rattle.octo_house_rules.specs.Selected.{IsOnShelf}
 use Rattle.octo_house_print_proof.proofs.Marks.{IsRequest}
-use Rattle.octo_house_rules.specs.Answers.{request_verdict, unless_lacking, verdict_of_caller, lacking, verdict_by}
+use Rattle.octo_house_rules.specs.Answers.{request_verdict, free_verdict, unless_lacking, verdict_of_caller, lacking, verdict_by}
 use Rattle.octo_access.specs.Rows.{is_before}
 use Rattle.byte_text.proofs.OptionLaws.{first-none}
 
@@ -202,6 +202,11 @@ by-storing files false print why user file k = gives-one (unprinted file.name fa
 by-storing files true false why user file k = gives-one (unprinted file.name true why)
 by-storing files true true why user file k = begins-one (answer.Uploaded file.name true true) _ file.name ((tt, tt, inr refl), tt)
 
+connects : (files : List ShelfFile) (k : Known) (port : Option (List ℕ)) → Asks files (connect_verdict port k)
+connects files k port =
+    by-found files k (port_for port k.ports) _ _
+    (λ p. by-desk files k (connect_at k.desk.state p k.desk).0 _ (makes-one answer.Accepted (at_desk (Connect p ∷ []) k) ((tt, tt, inl refl), tt)))
+
 module _ (user : UserRow) (files : List ShelfFile) (k : Known) where
   by-store : (bytes : List ℕ) (select print : Bool) (file : File) → job_of bytes ≡ Ok file.job → Asks files (store_verdict user bytes select print k file)
   by-store bytes select print file read =
@@ -224,14 +229,13 @@ module _ (user : UserRow) (files : List ShelfFile) (k : Known) where
   plays : (asked : Request) → Asks files (request_verdict asked user files k)
   plays request.Version = gives-one _
   plays request.GetConnection = gives-one _
-  plays (request.Connect port) =
-      by-found files k (port_for port k.ports) _ _
-      (λ p. by-desk files k (connect_at k.desk.state p k.desk).0 _ (makes-one answer.Accepted (at_desk (Connect p ∷ []) k) ((tt, tt, inl refl), tt)))
+  plays (request.Connect port) = connects files k port
   plays request.Disconnect = makes-one answer.Accepted _ ((tt, tt, inl refl), tt)
   plays request.GetPrinter = by-test files k _ _ _ (gives-one _)
   plays (request.HeatTool degrees) = by-manual files k ((codes "M104 S" ++ decimal degrees) ∷ [])
   plays (request.HeatBed degrees) = by-manual files k ((codes "M140 S" ++ decimal degrees) ∷ [])
   plays (request.Lines texts) = by-found files k (commands_in texts) _ _ (λ commands. by-manual files k commands)
+  plays (request.Move texts) = by-test files k _ _ _ (by-found files k (commands_in texts) _ _ (λ commands. by-manual files k commands))
   plays request.GetJob = gives-one _
   plays request.Start = by-desk files k _ _ (by-test files k _ _ _ (writes-one answer.Accepted _ ((tt, tt, inr refl), tt)))
   plays request.Cancel = by-desk files k _ _ (makes-one answer.Accepted _ ((tt, tt, inl refl), tt))
@@ -256,6 +260,11 @@ module _ (user : UserRow) (files : List ShelfFile) (k : Known) where
   plays request.Shutdown = by-test files k _ _ _ (gives-one _)
   plays _ = gives-one _
 
+-- the verdict of a request that needs no permission
+frees : (files : List ShelfFile) (key : List ℕ) (asked : Request) (k : Known) → Asks files (free_verdict key asked k)
+frees files key request.AutoConnect k = connects files k None
+frees files key _ k = gives-one _
+
 by-allowed : (files : List ShelfFile) (o : Option Permission) (v : Verdict) → Asks files v → Asks files (unless_lacking o v)
 by-allowed files None v p = p
 by-allowed files (Some permission) v p = gives-one _
@@ -267,7 +276,7 @@ by-permitted files (Some user) ps k next p = by-allowed files (lacking k user ps
 
 -- every ask's verdict
 asks_requests : (ps : List Permission) (key : List ℕ) (asked : Request) (files : List ShelfFile) (k : Known) → Asks files (verdict_by ps key asked files k)
-asks_requests [] key asked files k = gives-one _
+asks_requests [] key asked files k = frees files key asked k
 asks_requests (p ∷ ps) key asked files k = by-permitted files (caller k.policy k.users key) (p ∷ ps) k _ (λ user. plays user files k asked)
 
 -- what an answer records at the desk

@@ -27,11 +27,11 @@ use Rattle.octo_asks.specs.declared.request.Request.{Request}
 use Rattle.octo_asks.specs.declared.request.Request.TheVariants as request
 use Rattle.octo_house_rules.specs.Known.{Known, next_print_number}
 use Rattle.octo_house_rules.specs.Refusals.{answer_of_refusal, answer_of_user_refusal, answer_of_queue_refusal, refused_if, if_desk_allows, if_users_allow, unless_too_hot, found_or, read_as}
-use Rattle.octo_house_rules.specs.Prints.{port_for, commands_in, manual_verdict, restart_deed}
+use Rattle.octo_house_rules.specs.Prints.{port_for, connect_verdict, commands_in, manual_verdict, restart_deed}
 use Rattle.octo_house_rules.specs.Rows.{with_queue, put_by}
 use Rattle.octo_house_rules.specs.Uploads.{read_file, print_verdict, select_by, store_deed, after_storing, is_selected, is_printed, refusal_of, unprinted, store_verdict, take_verdict}
 use Rattle.octo_house_rules.specs.Verdict.{Verdict, Deed, at_desk, gives, writes, known_after}
-use Rattle.octo_house_rules.specs.Answers.{request_verdict, unless_lacking, verdict_of_caller, lacking, verdict_by}
+use Rattle.octo_house_rules.specs.Answers.{request_verdict, free_verdict, unless_lacking, verdict_of_caller, lacking, verdict_by}
 use Rattle.octo_house_rules.proofs.Played.{IsNumbered, Played, Plays, gives-one, makes-one, writes-one, reads-one, removes-one, stores-one, begins-one, played_none, played_start, played_select_start, played_restart, played_call, stays_numbered}
 
 module _ (k : Known) where
@@ -97,6 +97,10 @@ module _ (k : Known) where
       told = λ before ends t. t;
     }
 
+-- the verdict of a connection
+connects : (k : Known) → IsNumbered k → (port : Option (List ℕ)) → Plays (connect_verdict port k) k
+connects k n port = by-found k (port_for port k.ports) _ _ (λ p. by-desk k (connect_at k.desk.state p k.desk).0 _ (makes-one answer.Accepted (at_desk (Connect p ∷ []) k) k (played_call (Connect p) (at_desk (Connect p ∷ []) k) k refl refl refl (λ ends. refl) (tt, tt) (steady-connect k.desk.state p k.desk) n)))
+
 by-storing : (select print : Bool) (why : Option PrintRefusal) (user : List ℕ) (file : File) (k : Known) → IsNumbered k → Plays (after_storing select print why user file k) k
 by-storing false print why user file k n = gives-one (unprinted file.name false why) k
 by-storing true false why user file k n = gives-one (unprinted file.name true why) k
@@ -114,13 +118,16 @@ module _ (user : UserRow) (files : List ShelfFile) (k : Known) (n : IsNumbered k
   -- every request's verdict
   plays : (asked : Request) → Plays (request_verdict asked user files k) k
   plays request.Version = gives-one _ k
+  plays request.Caller = gives-one _ k
   plays request.GetConnection = gives-one _ k
-  plays (request.Connect port) = by-found k (port_for port k.ports) _ _ (λ p. by-desk k (connect_at k.desk.state p k.desk).0 _ (makes-one answer.Accepted (at_desk (Connect p ∷ []) k) k (played_call (Connect p) (at_desk (Connect p ∷ []) k) k refl refl refl (λ ends. refl) (tt, tt) (steady-connect k.desk.state p k.desk) n)))
+  plays (request.Connect port) = connects k n port
   plays request.Disconnect = makes-one answer.Accepted _ k (played_call Disconnect _ k refl refl refl (λ ends. refl) (tt, tt) (steady-disconnect k.desk.state k.desk) n)
   plays request.GetPrinter = by-test k _ _ _ (gives-one _ k)
+  plays request.GetLimits = gives-one _ k
   plays (request.HeatTool degrees) = by-manual k n ((codes "M104 S" ++ decimal degrees) ∷ [])
   plays (request.HeatBed degrees) = by-manual k n ((codes "M140 S" ++ decimal degrees) ∷ [])
   plays (request.Lines texts) = by-found k (commands_in texts) _ _ (λ commands. by-manual k n commands)
+  plays (request.Move texts) = by-test k _ _ _ (by-found k (commands_in texts) _ _ (λ commands. by-manual k n commands))
   plays request.GetJob = gives-one _ k
   plays request.Start = by-desk k _ _ (by-test k _ _ _ (writes-one answer.Accepted _ k (played_start user.name k.desk.file k n)))
   plays request.Cancel = by-desk k _ _ (makes-one answer.Accepted _ k (played_call Cancel _ k refl refl refl (λ ends. refl) (tt, tt) (steady-cancel k.desk.state k.desk) n))
@@ -145,6 +152,12 @@ module _ (user : UserRow) (files : List ShelfFile) (k : Known) (n : IsNumbered k
   plays request.ListPrints = gives-one _ k
   plays request.Shutdown = by-test k _ _ _ (gives-one _ k)
   plays request.Leave = gives-one _ k
+  plays request.AutoConnect = gives-one _ k
+
+-- the verdict of a request that needs no permission
+frees : (key : List ℕ) (asked : Request) (k : Known) → IsNumbered k → Plays (free_verdict key asked k) k
+frees key request.AutoConnect k n = connects k n None
+frees key _ k n = gives-one _ k
 
 by-allowed : (o : Option Permission) (v : Verdict) (k : Known) → Plays v k → Plays (unless_lacking o v) k
 by-allowed None v k p = p
@@ -156,5 +169,5 @@ by-permitted (Some user) ps k next p = by-allowed (lacking k user ps) (next user
 
 -- every ask's verdict
 pub asks_play : (ps : List Permission) (key : List ℕ) (asked : Request) (files : List ShelfFile) (k : Known) → IsNumbered k → Plays (verdict_by ps key asked files k) k
-asks_play [] key asked files k n = gives-one _ k
+asks_play [] key asked files k n = frees key asked k n
 asks_play (p ∷ ps) key asked files k n = by-permitted (caller k.policy k.users key) (p ∷ ps) k _ (λ user. plays user files k n asked)

@@ -31,11 +31,12 @@ use Rattle.octo_asks.specs.declared.request.Request.{Request}
 use Rattle.octo_asks.specs.declared.request.Request.TheVariants as request
 use Rattle.octo_house_rules.specs.Known.{Known}
 use Rattle.octo_house_rules.specs.Refusals.{answer_of_refusal, answer_of_user_refusal, answer_of_queue_refusal, refused_if, if_desk_allows, if_users_allow, unless_too_hot, found_or, read_as}
-use Rattle.octo_house_rules.specs.Prints.{port_for, manual_verdict}
+use Rattle.octo_house_rules.specs.Prints.{port_for, connect_verdict, manual_verdict}
+use Rattle.octo_house_rules.specs.Reads.{caller_shown}
 use Rattle.octo_house_rules.specs.Rows.{put_by}
 use Rattle.octo_house_rules.specs.Uploads.{read_file, print_verdict, select_by, take_verdict, after_storing, store_verdict}
 use Rattle.octo_house_rules.specs.Verdict.{Verdict, Deed, at_desk, gives, makes, writes, reads, removes, stores, begins, May, after, is_fault}
-use Rattle.octo_house_rules.specs.Answers.{request_verdict, verdict_of_caller, unless_lacking, lacking, verdict_by}
+use Rattle.octo_house_rules.specs.Answers.{request_verdict, free_verdict, verdict_of_caller, unless_lacking, lacking, verdict_by}
 use Rattle.octo_house_rules.specs.Access.{is_denied, IsDenied, Accessed, free, nobody, lacks, may, Access}
 
 -- A verdict that denies nothing.
@@ -154,16 +155,22 @@ by-store user bytes select print k file = by-desk _ _ (by-test _ (answer.Full _)
 by-take : (files : List ShelfFile) (k : Known) (entry : QueueEntry) → Grants (take_verdict files k entry)
 by-take files k entry = by-test _ answer.NoFile _ refl (by-file entry.file files _ (λ file. by-print (answer.TakenEntry (shown_entry entry)) entry.user (without_copy entry.user entry.name k.queue) k file refl))
 
+by-connect : (port : Option (List ℕ)) (k : Known) → Grants (connect_verdict port k)
+by-connect port k = by-found (port_for port k.ports) answer.BadPort _ refl (λ p. by-desk (connect_at k.desk.state p k.desk).0 _ (by-makes answer.Accepted (at_desk (Connect p ∷ []) k) refl))
+
 -- no verdict of a request of its own denies it
 granting : (asked : Request) (user : UserRow) (files : List ShelfFile) (k : Known) → Grants (request_verdict asked user files k)
 granting request.Version user files k = by-gives answer.Version refl
+granting request.Caller user files k = by-gives answer.Accepted refl
 granting request.GetConnection user files k = by-gives (answer.Connection _ _ _) refl
-granting (request.Connect port) user files k = by-found (port_for port k.ports) answer.BadPort _ refl (λ p. by-desk (connect_at k.desk.state p k.desk).0 _ (by-makes answer.Accepted (at_desk (Connect p ∷ []) k) refl))
+granting (request.Connect port) user files k = by-connect port k
 granting request.Disconnect user files k = by-makes answer.Accepted _ refl
 granting request.GetPrinter user files k = by-test _ (answer.WrongState k.desk.state) _ refl (by-gives (answer.Printer _ _ _) refl)
+granting request.GetLimits user files k = by-gives (answer.Limits _ _) refl
 granting (request.HeatTool degrees) user files k = by-manual ((codes "M104 S" ++ decimal degrees) ∷ []) k
 granting (request.HeatBed degrees) user files k = by-manual ((codes "M140 S" ++ decimal degrees) ∷ []) k
 granting (request.Lines texts) user files k = by-found _ answer.BadCommand _ refl (λ commands. by-manual commands k)
+granting (request.Move texts) user files k = by-test _ (answer.WrongState k.desk.state) _ refl (by-found _ answer.BadCommand _ refl (λ commands. by-manual commands k))
 granting request.GetJob user files k = by-gives (answer.Job _ _ _) refl
 granting request.Start user files k = by-desk _ _ (by-test _ (answer.Full _) _ refl (by-writes answer.Accepted _ refl))
 granting request.Cancel user files k = by-desk _ _ (by-makes answer.Accepted _ refl)
@@ -188,6 +195,21 @@ granting request.NextEntry user files k = by-test _ (answer.WrongState k.desk.st
 granting request.ListPrints user files k = by-gives (answer.Prints _) refl
 granting request.Shutdown user files k = by-test _ (answer.WrongState k.desk.state) _ refl (by-gives answer.Accepted refl)
 granting request.Leave user files k = by-gives answer.Accepted refl
+granting request.AutoConnect user files k = by-gives answer.Accepted refl
+
+-- nor does one of a request that needs no permission
+by-caller : (o : Option UserRow) → Grants (gives (caller_shown o))
+by-caller None = by-gives _ refl
+by-caller (Some user) = by-gives _ refl
+
+freeing : (key : List ℕ) (asked : Request) (k : Known) → Grants (free_verdict key asked k)
+freeing key request.Caller k = by-caller (caller k.policy k.users key)
+freeing key request.AutoConnect k = by-connect None k
+freeing key _ k = by-gives answer.Accepted refl
+
+-- so no answer to one denies it
+pub free-undenied : (key : List ℕ) (asked : Request) (k : Known) (x : Answer) → May (free_verdict key asked k) x → is_denied x ≡ false
+free-undenied key asked k x m = undenied _ x (freeing key asked k) m
 
 pub stays-so : (fault : Bool) (k : Known) → ◌≡◌ {A = Known} (cond fault k k) k
 stays-so true k = refl
@@ -209,7 +231,7 @@ module _ (ask : Ask) (files : List ShelfFile) (k : Known) (x : Answer) (ps : Lis
   permitted-by v (Some user) is asker m = allowed-by user v (lacking k user ps) asker (is ∙ ap (λ c. verdict_of_caller c ps k next) asker) refl m
 
 accessed : (ask : Ask) (files : List ShelfFile) (k : Known) (x : Answer) (ps : List Permission) → needed ask.request ≡ ps → May (verdict_by ps ask.key ask.request files k) x → Accessed ask (verdict_by ps ask.key ask.request files k) k x
-accessed ask files k x [] needs m = free needs (is-so refl m)
+accessed ask files k x [] needs m = free needs (free-undenied ask.key ask.request k x m)
 accessed ask files k x (p ∷ ps) needs m = permitted-by ask files k x (p ∷ ps) needs _ (caller k.policy k.users ask.key) refl refl m
 
 pub access : Access

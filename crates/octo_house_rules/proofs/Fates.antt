@@ -4,7 +4,7 @@ use Rattle.std.proofs.lemmas.Bool.Decides.{nat_tests}
 use Rattle.std.proofs.lemmas.List.{length-map}
 use Rattle.std.proofs.lemmas.List.Sums.{fold-append}
 use Rattle.job_desk.specs.Data.{Data}
-use Rattle.job_desk.specs.Note.{Noted, is_over, end_at, after_ending, after_open, ready_at, leave, fail, finish, note_fact, note_step}
+use Rattle.job_desk.specs.Note.{Noted, is_over, end_at, after_ending, after_open, ready_at, leave, fail, finish, hung_up, note_fact, note_step}
 use Rattle.job_desk.specs.Run.{DeskCall, Connect, Disconnect, Select, DropFile, Start, Restart, Pause, Resume, Toggle, Cancel, Manually, Pull, Note, Fate, Left, Run, after, after_start, after_restart, after_pull, after_note, run_of, fate_of, of_print}
 use Rattle.job_desk.specs.Pull.{pull_step}
 use Rattle.job_desk.specs.Table.{start_at, restart_at}
@@ -193,11 +193,15 @@ named-ready : (s : State) (moment : ℕ) (d : Data) → IsNaming d.greatest (aft
 named-ready Connecting moment d = naming-end Operational (ready_at Connecting moment d)
 named-ready _ moment d = naming-end d.state d
 
+named-closed : (stopped : Bool) (d : Data) → Named d.greatest (hung_up stopped d).0
+named-closed false d = named-leave d.active outcome.Cancelled d.greatest last-cancelled
+named-closed true d = named-leave d.active outcome.Failed d.greatest last-failed
+
 named-fact : (found : LinkFact) (moment : ℕ) (d : Data) → Named d.greatest (note_fact found moment d).0
 named-fact fact.Quiet moment d = (naming-end d.state d).named
 named-fact fact.Opened moment d = (naming-end d.state (after_open d)).named
 named-fact fact.Ready moment d = (named-ready d.state moment (record d { ready = true })).named
-named-fact fact.Closed moment d = named-leave d.active outcome.Cancelled d.greatest last-cancelled
+named-fact fact.Closed moment d = named-closed d.stopped d
 named-fact fact.NoPort moment d = named-leave d.active outcome.Failed d.greatest last-failed
 named-fact fact.Failed moment d = named-fail d.greatest (after_ending d) (naming-end d.state d)
 named-fact (fact.Ended end) moment d = named-fail d.greatest (after_ending d) (naming-end d.state d)

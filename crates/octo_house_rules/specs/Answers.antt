@@ -11,21 +11,24 @@ use Rattle.octo_asks.specs.declared.request.Request.{Request}
 use Rattle.octo_asks.specs.declared.request.Request.TheVariants as request
 use Rattle.octo_house_rules.specs.Known.{Known}
 use Rattle.octo_house_rules.specs.Verdict.{Verdict, gives}
-use Rattle.octo_house_rules.specs.Reads.{connection_verdict, printer_verdict, job_verdict, list_files_verdict, get_file_verdict, download_verdict, list_users_verdict, list_queue_verdict, list_prints_verdict, shutdown_verdict}
-use Rattle.octo_house_rules.specs.Prints.{connect_verdict, disconnect_verdict, heat_tool_verdict, heat_bed_verdict, lines_verdict, pause_verdict, resume_verdict, toggle_verdict, cancel_verdict, start_verdict, restart_verdict}
+use Rattle.octo_house_rules.specs.Reads.{caller_verdict, limits_verdict, connection_verdict, printer_verdict, job_verdict, list_files_verdict, get_file_verdict, download_verdict, list_users_verdict, list_queue_verdict, list_prints_verdict, shutdown_verdict}
+use Rattle.octo_house_rules.specs.Prints.{connect_verdict, disconnect_verdict, heat_tool_verdict, heat_bed_verdict, lines_verdict, move_verdict, pause_verdict, resume_verdict, toggle_verdict, cancel_verdict, start_verdict, restart_verdict}
 use Rattle.octo_house_rules.specs.Uploads.{put_file_verdict, select_verdict, delete_verdict, next_verdict}
 use Rattle.octo_house_rules.specs.Rows.{new_user, put_user_verdict, change_user_verdict, asked_entry, put_entry_verdict, drop_verdict}
 
--- the answer to the request of a user who has every permission that it needs
+-- the answer to the request of a user who has every permission that it needs; a request that needs none is answered below
 abbrev pub request_verdict : Request → UserRow → List ShelfFile → Known → Verdict
 request_verdict request.Version user files k = gives answer.Version
+request_verdict request.Caller user files k = gives answer.Accepted
 request_verdict request.GetConnection user files k = connection_verdict k
 request_verdict (request.Connect port) user files k = connect_verdict port k
 request_verdict request.Disconnect user files k = disconnect_verdict k
 request_verdict request.GetPrinter user files k = printer_verdict k
+request_verdict request.GetLimits user files k = limits_verdict k
 request_verdict (request.HeatTool degrees) user files k = heat_tool_verdict degrees k
 request_verdict (request.HeatBed degrees) user files k = heat_bed_verdict degrees k
 request_verdict (request.Lines texts) user files k = lines_verdict texts k
+request_verdict (request.Move texts) user files k = move_verdict texts k
 request_verdict request.GetJob user files k = job_verdict k
 request_verdict request.Start user files k = start_verdict user.name k
 request_verdict request.Cancel user files k = cancel_verdict k
@@ -51,6 +54,13 @@ request_verdict request.NextEntry user files k = next_verdict files k
 request_verdict request.ListPrints user files k = list_prints_verdict user k
 request_verdict request.Shutdown user files k = shutdown_verdict k
 request_verdict request.Leave user files k = gives answer.Accepted
+request_verdict request.AutoConnect user files k = gives answer.Accepted
+
+-- the answer to a request that needs no permission: whom its key names, the host's own connection, and a worker's leave
+abbrev pub free_verdict : List ℕ → Request → Known → Verdict
+free_verdict key request.Caller k = caller_verdict key k
+free_verdict key request.AutoConnect k = connect_verdict None k
+free_verdict key _ k = gives answer.Accepted
 
 -- the first of the permissions that a user lacks
 abbrev pub lacking : Known → UserRow → List Permission → Option Permission
@@ -66,9 +76,9 @@ abbrev pub verdict_of_caller : Option UserRow → List Permission → Known → 
 verdict_of_caller None permissions k next = gives (answer.Denied None)
 verdict_of_caller (Some user) permissions k next = unless_lacking (lacking k user permissions) (next user)
 
--- the answer to a key's request that needs these permissions; one that needs none is a worker's own
+-- the answer to a key's request that needs these permissions
 abbrev pub verdict_by : List Permission → List ℕ → Request → List ShelfFile → Known → Verdict
-verdict_by [] key asked files k = gives answer.Accepted
+verdict_by [] key asked files k = free_verdict key asked k
 verdict_by (permission ∷ permissions) key asked files k =
     verdict_of_caller (caller k.policy k.users key) (permission ∷ permissions) k (λ user. request_verdict asked user files k)
 

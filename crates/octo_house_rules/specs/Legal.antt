@@ -2,7 +2,7 @@
 use Rattle.std.specs.Prelude.{◌≡◌, ◌⊎◌, ℕ, ◌*◌, ◌-◌, ◌<◌, ◌≤◌, Bool, true, false, nat_lt, min, if◌then◌else◌, List, [], ◌∷◌, None}
 use Rattle.job_desk.specs.declared.link_fact.LinkFact.{LinkFact}
 use Rattle.job_desk.specs.declared.link_fact.LinkFact.TheVariants as fact
-use Rattle.send_window.specs.Data.{most_lines, most_silent}
+use Rattle.send_window.specs.Data.{most_lines, most_silent, most_told}
 use Rattle.send_window.specs.declared.session_end.SessionEnd.{SessionEnd}
 use Rattle.send_window.specs.declared.session_end.SessionEnd.TheVariants as session_end
 use Rattle.job_desk.specs.declared.issued.Note.{Note}
@@ -124,6 +124,7 @@ IsWaiting acked s = (s.ready ≡ false) ⊎ (acked < s.known.desk.issued)
 -- when each end of a session may come
 abbrev pub MayEnd : SessionEnd → ℕ → ℕ → Standing → Type 0
 MayEnd (session_end.NoAnswer silent) acked moment s = IsWaiting acked s × (moment_after s.raised_at (most_silent * s.limit) ≤ moment)
+MayEnd (session_end.LostOk limits) acked moment s = (acked < s.known.desk.issued) × (moment_after s.raised_at (most_told * s.limit) ≤ moment)
 MayEnd (session_end.NumbersUsed issued) acked moment s = acked ≡ most_lines
 MayEnd _ acked moment s = Unit {0}
 

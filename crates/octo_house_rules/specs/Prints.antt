@@ -70,6 +70,10 @@ commands_in (text ∷ texts) = then_command (single_of text) (commands_in texts)
 abbrev pub lines_verdict : List (List ℕ) → Known → Verdict
 lines_verdict texts k = found_or (commands_in texts) answer.BadCommand (λ commands. manual_verdict commands k)
 
+-- texts of a user that move the printer by hand: as others, unless a print is active
+abbrev pub move_verdict : List (List ℕ) → Known → Verdict
+move_verdict texts k = refused_if k.desk.active (answer.WrongState k.desk.state) (lines_verdict texts k)
+
 -- a call at the desk, if the desk allows it
 abbrev pub call_verdict : DeskCall → Result (Unit {0}) Refusal → Known → Verdict
 call_verdict call allowed k = if_desk_allows allowed (makes answer.Accepted (at_desk (call ∷ []) k))

@@ -1,6 +1,8 @@
 -- The requests that change nothing.
-use Rattle.std.specs.Prelude.{ℕ, ◌*◌, ◌/◌, ◌==◌, Bool, true, not, min, List, length, filter, map, reverse, take, if◌then◌else◌, slice_index_or, Option, None, Some, option_map}
+use Rattle.std.specs.Prelude.{ℕ, ◌*◌, ◌/◌, ◌==◌, Bool, true, not, min, codes, List, [], ◌∷◌, length, filter, map, reverse, take, if◌then◌else◌, slice_index_or, Option, None, Some, option_map}
 use Rattle.std.specs.Str.{bytes_eq}
+use Rattle.arrayvec.specs.ArrayVec.{ArrayVec}
+use Rattle.octo_access.specs.Rights.{caller}
 use Rattle.octo_access.specs.declared.row.UserRow.{UserRow}
 use Rattle.octo_keeper.specs.Files.{bytes_of, sizes_of}
 use Rattle.octo_keeper.specs.declared.shelf.ShelfFile.{ShelfFile}
@@ -9,6 +11,7 @@ use Rattle.job_desk.specs.Data.{Data, File}
 use Rattle.print_queue.specs.Rows.{is_of}
 use Rattle.print_queue.specs.declared.row.PrintRow.{PrintRow}
 use Rattle.octo_asks.specs.Shown.{shown_heat, shown_user, shown_entry, shown_print}
+use Rattle.octo_asks.specs.declared.answer.Answer.{Answer}
 use Rattle.octo_asks.specs.declared.answer.Answer.TheVariants as answer
 use Rattle.octo_asks.specs.declared.shown.Progress.{Progress}
 use Rattle.octo_asks.specs.declared.shown.ShownFile.{ShownFile}
@@ -16,6 +19,23 @@ use Rattle.octo_house_rules.specs.Known.{Known, is_held, whose}
 use Rattle.octo_house_rules.specs.States.{may_show, may_shut_down, shown_port}
 use Rattle.octo_house_rules.specs.Verdict.{Verdict, gives, reads}
 use Rattle.octo_house_rules.specs.Refusals.{refused_if, found_or}
+
+-- the groups of nobody
+abbrev pub guests : ArrayVec (List ℕ)
+guests = record { items = codes "guests" ∷ [] }
+
+-- the name and the groups of whom a key names
+abbrev pub caller_shown : Option UserRow → Answer
+caller_shown None = answer.Caller None guests
+caller_shown (Some user) = answer.Caller (Some user.name) user.groups
+
+-- whom a key names
+abbrev pub caller_verdict : List ℕ → Known → Verdict
+caller_verdict key k = gives (caller_shown (caller k.policy k.users key))
+
+-- the greatest temperatures that a command may ask for
+abbrev pub limits_verdict : Known → Verdict
+limits_verdict k = gives (answer.Limits k.desk.limits.tool k.desk.limits.bed)
 
 -- the state of the connection, and all ports
 abbrev pub connection_verdict : Known → Verdict

@@ -6,7 +6,6 @@ use Rattle.octo_access.specs.declared.row.UserRow.{UserRow}
 use Rattle.octo_keeper.specs.Files.{bytes_of}
 use Rattle.octo_keeper.specs.declared.shelf.ShelfFile.{ShelfFile}
 use Rattle.gcode_lines.specs.Commands.{job_of}
-use Rattle.gcode_lines.specs.Job.{JobData}
 use Rattle.temp_rules.specs.Hot.{first_hot_of}
 use Rattle.temp_rules.specs.declared.job.HotLine.{HotLine}
 use Rattle.job_desk.specs.Data.{File, named_file}

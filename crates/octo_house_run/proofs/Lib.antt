@@ -1,4 +1,5 @@
 pub mod Asking
+pub mod Connecting
 pub mod Noting
 pub mod Printing
 pub mod Rounds

@@ -48,7 +48,7 @@ pub record HasTurned (moment : ℕ) (kind : LinkKind) (past past' : Option (List
   pub up : y.up ≡ up_after (fact_of turned.note) x.up
   pub ready_is : y.sender.ready ≡ ready_after (fact_of turned.note) x.sender.ready
   pub unready : fact_of turned.note ≡ fact.Ready → x.sender.ready ≡ false
-  pub spent : y.up ≡ true → fact_of turned.note ≡ fact.Quiet → IsSpent moment y.desk y.sender
+  pub spent : y.up ≡ true → fact_of turned.note ≡ fact.Quiet → IsSpent moment x.desk y.desk y.sender
   pub not_fallen : (fact_of turned.note ≡ fact.Opened) ⊎ (x.sender.acked ≤ y.sender.acked)
   pub within : y.sender.acked ≤ x.sender.issued
   pub none_acked : fact_of turned.note ≡ fact.Opened → y.sender.acked ≡ 0

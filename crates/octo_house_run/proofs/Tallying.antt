@@ -7,7 +7,7 @@ use Rattle.octo_asks.specs.History.{History}
 use Rattle.octo_asks.specs.declared.answer.Answer.{Answer}
 use Rattle.octo_asks.specs.declared.entry.Entry.TheVariants as entry
 use Rattle.octo_asks.specs.declared.request.Ask.{Ask}
-use Rattle.octo_house_rules.specs.Counted.{is_leave, is_shutdown, calls_made, leaves_made, is_shut}
+use Rattle.octo_house_rules.specs.Counted.{is_leave, is_counted, is_shutdown, calls_made, leaves_made, is_shut}
 use Rattle.octo_house_run.specs.declared.tally.Asked.{Asked}
 use Rattle.octo_house_run.specs.declared.tally.Tally.{Tally}
 use Rattle.octo_house_run.specs.Tallies.{counted, tally_of, AreOf, tally_after, is_over}
@@ -20,7 +20,7 @@ or_assoc false b c = refl
 
 -- what one call counts
 module _ (worker : ℕ) (ask : Ask) (moment : ℕ) (x : Answer) (es : History) where
-  calls_one : (leaves : Bool) → is_leave ask.request ≡ leaves → calls_made (entry.Call worker ask moment x ∷ es) ≡ one_if (not leaves) + calls_made es
+  calls_one : (counts : Bool) → is_counted ask.request ≡ counts → calls_made (entry.Call worker ask moment x ∷ es) ≡ one_if counts + calls_made es
   calls_one true is = rw is (omega arith)
   calls_one false is = rw is (omega arith)
 
@@ -30,10 +30,10 @@ module _ (worker : ℕ) (ask : Ask) (moment : ℕ) (x : Answer) (es : History) w
 
 -- an answered ask
 pub call_counts : (worker : ℕ) (ask : Ask) (moment : ℕ) (x : Answer) (asked : Asked)
-    → is_leave ask.request ≡ asked.is_leave → is_shutdown ask.request x ≡ asked.is_shutdown
+    → is_leave ask.request ≡ asked.is_leave → is_counted ask.request ≡ asked.is_counted → is_shutdown ask.request x ≡ asked.is_shutdown
     → AreOf (Some asked) (entry.Call worker ask moment x ∷ [])
-call_counts worker ask moment x asked leaves shuts = record {
-  calls = omega (arith, calls_one worker ask moment x [] asked.is_leave leaves);
+call_counts worker ask moment x asked leaves counts shuts = record {
+  calls = omega (arith, calls_one worker ask moment x [] asked.is_counted counts);
   leaves = omega (arith, leaves_one worker ask moment x [] asked.is_leave leaves);
   shut = or-false (is_shutdown ask.request x) ∙ shuts;
 }
@@ -49,7 +49,7 @@ note_counts note = record { calls = refl; leaves = refl; shut = refl }
 pub calls_append : (es fs : History) → calls_made (es ++ fs) ≡ calls_made es + calls_made fs
 calls_append [] fs = omega arith
 calls_append (entry.Call worker ask moment x ∷ es) fs =
-    omega (arith, calls_one worker ask moment x (es ++ fs) (is_leave ask.request) refl, calls_one worker ask moment x es (is_leave ask.request) refl, calls_append es fs)
+    omega (arith, calls_one worker ask moment x (es ++ fs) (is_counted ask.request) refl, calls_one worker ask moment x es (is_counted ask.request) refl, calls_append es fs)
 calls_append (entry.Note note ∷ es) fs = calls_append es fs
 calls_append (entry.Close ∷ es) fs = calls_append es fs
 
@@ -75,8 +75,8 @@ same_tally : (calls leaves : ℕ) (shut : Bool) (calls' leaves' : ℕ) (shut' : 
     → ◌≡◌ {A = Tally} (record { calls = calls; leaves = leaves; is_shut = shut }) (record { calls = calls'; leaves = leaves'; is_shut = shut' })
 same_tally calls leaves shut calls' leaves' shut' one two three = cc
 
-counted_more : (n m : ℕ) → m ≡ 1 → counted (n + m) ≡ counted (counted n + 1)
-counted_more n m is = omega (arith, is)
+counted_more : (n m more : ℕ) → m ≡ more → counted (n + m) ≡ counted (counted n + more)
+counted_more n m more is = omega (arith, is)
 
 counted_none : (n m : ℕ) → m ≡ 0 → counted (n + m) ≡ counted n
 counted_none n m is = omega (arith, is)
@@ -88,23 +88,11 @@ tally_grows None h added of =
     (ap counted (calls_append h added) ∙ counted_none (calls_made h) (calls_made added) of.calls)
     (ap counted (leaves_append h added) ∙ counted_none (leaves_made h) (leaves_made added) of.leaves)
     (shut_append h added ∙ ap (λ b. is_shut h || b) of.shut ∙ or-false (is_shut h))
-tally_grows (Some asked) h added of = by asked.is_leave refl
-  where
-    by : (leaves : Bool) → asked.is_leave ≡ leaves → tally_of (h ++ added) ≡ tally_after (Some asked) (tally_of h)
-    by true is =
-        let one : leaves_made added ≡ 1 = of.leaves ∙ ap one_if is in
-        let none : calls_made added ≡ 0 = of.calls ∙ ap (λ b. one_if (not b)) is in
-        rw is (same_tally _ _ _ _ _ _
-        (ap counted (calls_append h added) ∙ counted_none (calls_made h) (calls_made added) none)
-        (ap counted (leaves_append h added) ∙ counted_more (leaves_made h) (leaves_made added) one)
-        (shut_append h added ∙ ap (λ b. is_shut h || b) of.shut))
-    by false is =
-        let one : calls_made added ≡ 1 = of.calls ∙ ap (λ b. one_if (not b)) is in
-        let none : leaves_made added ≡ 0 = of.leaves ∙ ap one_if is in
-        rw is (same_tally _ _ _ _ _ _
-        (ap counted (calls_append h added) ∙ counted_more (calls_made h) (calls_made added) one)
-        (ap counted (leaves_append h added) ∙ counted_none (leaves_made h) (leaves_made added) none)
-        (shut_append h added ∙ ap (λ b. is_shut h || b) of.shut))
+tally_grows (Some asked) h added of =
+    same_tally _ _ _ _ _ _
+    (ap counted (calls_append h added) ∙ counted_more (calls_made h) (calls_made added) (one_if asked.is_counted) of.calls)
+    (ap counted (leaves_append h added) ∙ counted_more (leaves_made h) (leaves_made added) (one_if asked.is_leave) of.leaves)
+    (shut_append h added ∙ ap (λ b. is_shut h || b) of.shut)
 
 -- why a run is over
 why_over : (shut active : Bool) (leaves : ℕ) → (shut || (nat_lt 3 (counted leaves) && not active)) ≡ true → (shut ≡ true) ⊎ ((4 ≤ leaves) × (active ≡ false))

@@ -25,7 +25,7 @@ leaves_by (Some asked) = one_if asked.is_leave
 
 abbrev pub calls_by : Option Asked → ℕ
 calls_by None = 0
-calls_by (Some asked) = one_if (not asked.is_leave)
+calls_by (Some asked) = one_if asked.is_counted
 
 abbrev pub shut_by : Option Asked → Bool
 shut_by None = false
@@ -40,11 +40,11 @@ pub record AreOf (asked : Option Asked) (added : History) : Type 0 where
 -- the tally after an answered ask, or after none
 abbrev pub tally_after : Option Asked → Tally → Tally
 tally_after None t = t
-tally_after (Some asked) t = by asked.is_leave
-  where
-    by : Bool → Tally
-    by true = record { calls = t.calls; leaves = counted (t.leaves + 1); is_shut = t.is_shut || asked.is_shutdown }
-    by false = record { calls = counted (t.calls + 1); leaves = t.leaves; is_shut = t.is_shut || asked.is_shutdown }
+tally_after (Some asked) t = record {
+  calls = counted (t.calls + one_if asked.is_counted);
+  leaves = counted (t.leaves + one_if asked.is_leave);
+  is_shut = t.is_shut || asked.is_shutdown;
+}
 
 -- whether a run is over: a shutdown was accepted, or four workers have left and no print is active
 abbrev pub is_over : Tally → Data → Bool

@@ -1,14 +1,17 @@
 //! Asks of a counter, answered by a host.
-ghost use Rattle.std.specs.Prelude.{◌≡◌, ◌&&◌, Some, None, false};
+ghost use Rattle.std.specs.Prelude.{◌≡◌, ◌&&◌, ℕ, List, Option, Some, None, false};
 ghost use Rattle.octo_outside.specs.Recorded.{Became};
 ghost use Rattle.octo_asks.specs.declared.answer.Answer.{Answer};
 ghost use Rattle.octo_asks.specs.declared.request.Request.TheVariants.{Shutdown};
-ghost use Rattle.octo_house_rules.specs.Counted.{is_leave, is_shutdown};
+ghost use Rattle.octo_house_rules.specs.Counted.{is_leave, is_counted, is_shutdown};
+ghost use Rattle.octo_keeper.specs.declared.shelf.ShelfFile.{ShelfFile};
+ghost use Rattle.octo_house.specs.State.{IsDeskAlone};
 ghost use Rattle.octo_house_run_proof.specs.Rounds.{AsksAt};
 ghost use Rattle.octo_house_run.specs.Asks.{AskLeaves};
 ghost use Rattle.octo_house_run.specs.Runs.{Leads};
 ghost use Rattle.octo_house_run.specs.Tallies.{AreOf};
 
+use crate::reconnect::Reconnect;
 use crate::tally::Asked;
 use octo_asks::{Answer, Ask, Counter, Next, Request};
 use octo_house::House;
@@ -19,6 +22,13 @@ fn is_leave(request: &Request) -> bool
     ensures { result ≡ is_leave request.now }
 {
     matches!(request, Request::Leave)
+}
+
+// Whether it counts as a call.
+fn is_counted(request: &Request) -> bool
+    ensures { result ≡ is_counted request.now }
+{
+    !matches!(request, Request::Leave | Request::AutoConnect)
 }
 
 // Whether it asks for a shutdown.
@@ -35,22 +45,86 @@ fn is_accepted(answer: &Answer) -> bool
     matches!(answer, Answer::Accepted)
 }
 
-// An ask that was a leave or a shutdown, or neither.
-fn asked_as(leaves: bool, shuts: bool, accepted: bool) -> Asked
-    ensures { result ≡ record { is_leave = leaves; is_shutdown = shuts && accepted } }
+// An ask that was a leave or a shutdown, or neither, and counts or not.
+fn asked_as(leaves: bool, counts: bool, shuts: bool, accepted: bool) -> Asked
+    ensures { result ≡ record {
+      is_leave = leaves;
+      is_counted = counts;
+      is_shutdown = shuts && accepted;
+    } }
 {
     Asked {
         is_leave: leaves,
+        is_counted: counts,
         is_shutdown: shuts && accepted,
     }
 }
 
-// Answers the next ask, if there is one, at a moment in milliseconds that isn't before the last entry.
+// Whether a host connects by itself at a moment; it doesn't while a print is active.
+fn is_due(house: &House, reconnect: Reconnect, moment: u64) -> bool {
+    reconnect.is_due(moment) && house.session().desk().print().is_none()
+}
+
+// Sees in which state a host's desk is at a moment.
+fn see(house: &House, reconnect: &mut Reconnect, moment: u64) {
+    *reconnect = reconnect.seen_in(house.session().desk().state(), moment);
+}
+
+// Asks for a connection to the first port, as the host itself.
+fn connect<C: Counter>(house: &mut House, counter: &mut C, moment: u64)
+    requires open { C.closed counter.old ≡ false }
+    ensures leads { (files : Option (List ShelfFile))
+        → Leads (C.past counter.old) (C.past counter.new)
+        files files moment house.old house.new }
+    ensures counted { Became (C.past counter.old) (C.past counter.new)
+        (λ _ added. AreOf None added) }
+    ensures asks { (keeper shelf : ℕ) → Became (C.past counter.old) (C.past counter.new)
+        (λ _ added. AsksAt moment keeper keeper shelf shelf added) }
+    ensures alone { IsDeskAlone house.old house.new }
+    ensures given { C.given counter.new ≡ C.given counter.old }
+    ensures closed { C.closed counter.new ≡ false }
+    ensures place { C.place counter.new ≡ C.place counter.old }
+{
+    let answer = house.connect_itself();
+    counter.own(moment, answer);
+}
+
+// Does so if it is due.
+fn connect_if_due<C: Counter>(
+    house: &mut House,
+    counter: &mut C,
+    reconnect: &mut Reconnect,
+    moment: u64,
+)
+    requires open { C.closed counter.old ≡ false }
+    ensures leads { (files : Option (List ShelfFile))
+        → Leads (C.past counter.old) (C.past counter.new)
+        files files moment house.old house.new }
+    ensures counted { Became (C.past counter.old) (C.past counter.new)
+        (λ _ added. AreOf None added) }
+    ensures asks { (keeper shelf : ℕ) → Became (C.past counter.old) (C.past counter.new)
+        (λ _ added. AsksAt moment keeper keeper shelf shelf added) }
+    ensures alone { IsDeskAlone house.old house.new }
+    ensures given { C.given counter.new ≡ C.given counter.old }
+    ensures closed { C.closed counter.new ≡ false }
+    ensures place { C.place counter.new ≡ C.place counter.old }
+{
+    see(house, reconnect, moment);
+    if !is_due(house, *reconnect, moment) {
+        return;
+    }
+    *reconnect = reconnect.after_asking();
+    connect(house, counter, moment);
+}
+
+// Answers the next ask, at a moment in milliseconds that isn't before the last entry. If there is none, the host may connect
+// by itself.
 pub(crate) fn answer_next<C: Counter, K: Keeper, S: Shelf>(
     house: &mut House,
     counter: &mut C,
     keeper: &mut K,
     shelf: &mut S,
+    reconnect: &mut Reconnect,
     moment: u64,
 ) -> Option<Asked>
     requires answered { C.given counter.old ≡ None }
@@ -73,9 +147,14 @@ pub(crate) fn answer_next<C: Counter, K: Keeper, S: Shelf>(
     ensures place { C.place counter.new ≡ C.place counter.old }
 {
     match counter.next() {
-        Next::Nothing => None,
+        Next::Nothing => {
+            connect_if_due(house, counter, reconnect, moment);
+            None
+        }
         Next::Asked { worker, ask } => {
-            Some(answer_ask(house, counter, keeper, shelf, worker, ask, moment))
+            let asked = answer_ask(house, counter, keeper, shelf, worker, ask, moment);
+            see(house, reconnect, moment);
+            Some(asked)
         }
     }
 }
@@ -106,9 +185,10 @@ fn answer_ask<C: Counter, K: Keeper, S: Shelf>(
     ensures place { C.place counter.new ≡ C.place counter.old }
 {
     let leaves = is_leave(&ask.request);
+    let counts = is_counted(&ask.request);
     let shuts = is_shutdown_request(&ask.request);
     let answer = house.ask(keeper, shelf, ask);
     let accepted = is_accepted(&answer);
     counter.answer(worker, moment, answer);
-    asked_as(leaves, shuts, accepted)
+    asked_as(leaves, counts, shuts, accepted)
 }

@@ -14,6 +14,7 @@ ghost use Rattle.octo_house_run.specs.Tallies.{is_over};
 
 use crate::answering::answer_next;
 use crate::link_turn::take_turn;
+use crate::reconnect::new_reconnect;
 use crate::tally::{Asked, Tally, no_tally, tally_after};
 use octo_asks::Counter;
 use octo_house::House;
@@ -29,6 +30,10 @@ const WORKERS: u64 = 4;
 /// print is active. Then it hangs up, closes the counter and returns the number of calls other than those with which a worker
 /// leaves, at most `u64::MAX`.
 ///
+/// If `connects` says so, it also asks for a connection to the first port by itself: at once, and 10 seconds after each error, a
+/// wait that doubles up to 5 minutes until the printer answers. It doesn't while a print is active, nor after a disconnect or a
+/// stop of the printer was asked, until someone asks to connect.
+///
 /// It rests the clock if nothing was asked and no line was received. Moments are in milliseconds, and no entry has an earlier
 /// one than the entry before it. It may wait for asks without an end.
 pub fn run<R: Wait, C: Counter, L: Link, T: Clock, K: Keeper, S: Shelf>(
@@ -39,6 +44,7 @@ pub fn run<R: Wait, C: Counter, L: Link, T: Clock, K: Keeper, S: Shelf>(
     clock: &mut T,
     keeper: &mut K,
     shelf: &mut S,
+    connects: bool,
 ) -> u64
     requires fresh { IsFresh (session_of house.old) }
     requires down { L.up link.old ≡ false }
@@ -90,9 +96,10 @@ pub fn run<R: Wait, C: Counter, L: Link, T: Clock, K: Keeper, S: Shelf>(
 {
     let mut tally = no_tally();
     let mut moment = 0;
+    let mut reconnect = new_reconnect(connects);
     for _ in rt.forever() {
         moment = clock.now().max(moment);
-        let asked = answer_next(house, counter, keeper, shelf, moment);
+        let asked = answer_next(house, counter, keeper, shelf, &mut reconnect, moment);
         let heard = take_turn(house, counter, link, keeper, moment);
         tally = tally_after(asked, tally);
         if is_over(house, tally) {

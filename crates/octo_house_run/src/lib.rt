@@ -4,6 +4,7 @@
 mod answering;
 mod host_run;
 mod link_turn;
+mod reconnect;
 mod tally;
 
 pub use host_run::run;

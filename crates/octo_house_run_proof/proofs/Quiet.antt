@@ -37,7 +37,7 @@ pub record TookQuiet (moment : ℕ) (x y : SessionData) (ending : Option Ending)
   pub desk : IsQuietTurn (doing x) moment x.desk ending y.desk
   pub up : y.up ≡ x.up
   pub ready_is : y.sender.ready ≡ x.sender.ready
-  pub spent : y.up ≡ true → SessionSpent moment y.desk y.sender
+  pub spent : y.up ≡ true → SessionSpent moment x.desk y.desk y.sender
   pub acked : y.sender.acked ≡ x.sender.acked
   pub within : y.sender.acked ≤ x.sender.issued
   pub sound : IsSound y.sender
@@ -178,6 +178,7 @@ module _ (s : Standing) (known known' : Known) (x y : SessionData) (files : List
         patient = t.patient;
         risen = t.risen;
         silent = λ count start is. absurd (ends_not _ (sym q.its_fact ∙ is));
+        missing = λ count start is. absurd (ends_not _ (sym q.its_fact ∙ is));
         numbers = λ count is. absurd (ends_not _ (sym q.its_fact ∙ is));
       }
         where

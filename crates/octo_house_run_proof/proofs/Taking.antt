@@ -15,7 +15,7 @@ use Rattle.send_window.specs.Data.{SenderData, IsSound, most_lines}
 use Rattle.send_window.specs.Hearing.{later, hear_step, tick_step}
 use Rattle.send_window.specs.Sending.{frame_step}
 use Rattle.send_window.specs.declared.session_end.SessionEnd.{SessionEnd}
-use Rattle.send_window.specs.declared.session_end.SessionEnd.TheVariants.{NoAnswer, NumbersUsed}
+use Rattle.send_window.specs.declared.session_end.SessionEnd.TheVariants.{NoAnswer, LostOk, NumbersUsed}
 use Rattle.send_window.proofs.Soundness.{begun_sound}
 use Rattle.send_window.proofs.Waiting.{waits_five_limits}
 use Rattle.octo_session.specs.Data.{SessionData, IsSession, doing}
@@ -29,7 +29,7 @@ use Rattle.octo_session.specs.declared.found.Turned.{Turned}
 use Rattle.send_window.specs.Patience.{IsPatient, IsUnanswered}
 use Rattle.octo_session_line_proof.proofs.Lasting.{sound_steps}
 use Rattle.octo_session_line_proof.proofs.Numbers.{turn_used}
-use Rattle.octo_session_line_proof.proofs.Waits.{Lasts, steps_last, turn_patient, turn_unanswered}
+use Rattle.octo_session_line_proof.proofs.Waits.{Lasts, steps_last, turn_patient, turn_unanswered, turn_missing}
 use Rattle.octo_session_line_proof.proofs.Turned.{talks_up, opens_dialling}
 use Rattle.octo_house_run_proof.proofs.Quiet.{TookQuiet}
 use Rattle.octo_house_run_proof.proofs.Rising.{Risen, risen_steps}
@@ -103,10 +103,21 @@ module _ (moment : ℕ) (kind : LinkKind) (past past' : Option (List WorldEvent)
       waiting issued (inl unready) = inl (sym same ∙ unready)
       waiting issued (inr some) = inr (omega (arith, some, issued))
 
+  pub turn_told : (count start : ℕ) → IsSession x → t.found ≡ fact.Ended (LostOk count) → can_find (doing x) (fact.Ended (LostOk count)) ≡ true
+      → start ≤ moment → IsPatient start x.sender.limit x.sender → (later start (20 * x.sender.limit) ≤ moment) × (y.sender.acked < x.sender.issued)
+  turn_told count start joined is can since p =
+      let Can : LinkFact → Type 0 = λ g. can_find (doing x) g ≡ true in
+      let w = turn_missing moment kind past past' calls calls' x y turned t start x.sender.limit since count joined p is (subst Can (sym is) can) in
+      let issued : y.sender.issued ≡ x.sender.issued =
+      ap (λ (s : SenderData). s.issued) (sender_is (fact.Ended (LostOk count)) is can UsingLink (ends_talking (LostOk count) (doing x) can))
+      ∙ ended_issues moment t.got (LostOk count) (texts_in t.lines) t.steps.count x.sender
+      in
+      (w.0, omega (arith, issued, w.1.1))
+
   -- a turn that made a note
   pub took_turn : (ending : Option Ending) (note : declared_note.Note) → turned.note ≡ Some note → IsSession x → IsSession y
       → can_find (doing x) note.fact ≡ true → y.up ≡ up_after note.fact x.up → y.sender.ready ≡ ready_after note.fact x.sender.ready
-      → (note.fact ≡ fact.Ready → x.sender.ready ≡ false) → (y.up ≡ true → note.fact ≡ fact.Quiet → IsSpent moment y.desk y.sender)
+      → (note.fact ≡ fact.Ready → x.sender.ready ≡ false) → (y.up ≡ true → note.fact ≡ fact.Quiet → IsSpent moment x.desk y.desk y.sender)
       → (note.fact ≡ fact.Opened) ⊎ (x.sender.acked ≤ y.sender.acked) → y.sender.acked ≤ x.sender.issued
       → (note.fact ≡ fact.Opened → y.sender.acked ≡ 0) → IsNoteOn moment y.sender.acked x.desk y.desk ending note
       → TookTurn moment x y ending note
@@ -135,12 +146,13 @@ module _ (moment : ℕ) (kind : LinkKind) (past past' : Option (List WorldEvent)
         patient = λ start since p. turn_patient moment kind past past' calls calls' x y turned t start x.sender.limit since p;
         risen = turn_risen;
         silent = λ count start e since p. turn_silent count start before (found_is ∙ e) (subst Can e can) (ready ∙ ap (λ g. ready_after g x.sender.ready) e) since p;
+        missing = λ count start e since p. turn_told count start before (found_is ∙ e) (subst Can e can) since p;
         numbers = λ count e. (turn_used moment kind past past' calls calls' x y turned t before count sound (found_is ∙ e) (subst Found (sym found_is) can)).1;
       }
 
   -- a turn that made none
   pub took_quiet : (ending : Option Ending) → turned.note ≡ None → IsSession x → IsSession y
-      → y.up ≡ x.up → y.sender.ready ≡ x.sender.ready → (y.up ≡ true → IsSpent moment y.desk y.sender) → y.sender.acked ≤ x.sender.issued
+      → y.up ≡ x.up → y.sender.ready ≡ x.sender.ready → (y.up ≡ true → IsSpent moment x.desk y.desk y.sender) → y.sender.acked ≤ x.sender.issued
       → IsQuietTurn (doing x) moment x.desk ending y.desk → TookQuiet moment x y ending
   took_quiet ending is before joined up ready spent within desk =
       let nothing_new : IsUneventful t.lines x.sender.acked y.sender.acked t.got t.found = t.none.0 is in

@@ -38,7 +38,7 @@ pub record TookTurn (moment : ℕ) (x y : SessionData) (ending : Option Ending) 
   pub up : y.up ≡ found.up_after note.fact x.up
   pub ready_is : y.sender.ready ≡ found.ready_after note.fact x.sender.ready
   pub unready : note.fact ≡ fact.Ready → x.sender.ready ≡ false
-  pub spent : y.up ≡ true → note.fact ≡ fact.Quiet → SessionSpent moment y.desk y.sender
+  pub spent : y.up ≡ true → note.fact ≡ fact.Quiet → SessionSpent moment x.desk y.desk y.sender
   pub kept : (note.fact ≡ fact.Opened) ⊎ (x.sender.acked ≤ y.sender.acked)
   pub within : y.sender.acked ≤ x.sender.issued
   pub none_acked : note.fact ≡ fact.Opened → y.sender.acked ≡ 0
@@ -51,6 +51,8 @@ pub record TookTurn (moment : ℕ) (x y : SessionData) (ending : Option Ending) 
   pub risen : IsPatient 0 x.sender.limit x.sender → Risen moment x.sender.limit x.sender.acked y.sender
   pub silent : (count start : ℕ) → note.fact ≡ fact.Ended (session_end.NoAnswer count) → start ≤ moment → IsPatient start x.sender.limit x.sender
       → (later start (5 * x.sender.limit) ≤ moment) × ((x.sender.ready ≡ false) ⊎ (y.sender.acked < x.sender.issued))
+  pub missing : (count start : ℕ) → note.fact ≡ fact.Ended (session_end.LostOk count) → start ≤ moment → IsPatient start x.sender.limit x.sender
+      → (later start (20 * x.sender.limit) ≤ moment) × (y.sender.acked < x.sender.issued)
   pub numbers : (count : ℕ) → note.fact ≡ fact.Ended (session_end.NumbersUsed count) → y.sender.acked ≡ most_lines
 
 -- the words of sessions and of histories for the same
@@ -80,7 +82,10 @@ unfolding later
 waits_longer start limit sender p = record {
   sound = p.sound;
   its_limit = p.its_limit;
-  waits = record { long_enough = λ wanted running set. omega (arith, p.waits.long_enough wanted running set) };
+  waits = record {
+    long_enough = λ wanted running set. omega (arith, p.waits.long_enough wanted running set);
+    told_enough = λ wanted running set. omega (arith, p.waits.told_enough wanted running set);
+  };
 }
 
 module _ (s : Standing) (known known' : Known) (x y : SessionData) (files : List ShelfFile) (moment at_moment : ℕ) (ending : Option Ending)
@@ -112,9 +117,19 @@ module _ (s : Standing) (known known' : Known) (x y : SessionData) (files : List
       waiting (inl unready) = inl (at.ready up ∙ unready)
       waiting (inr some) = inr (omega (arith, some, acked_is, issued_is))
 
+  -- and its twenty limits
+  end_missing : (count : ℕ) → note.fact ≡ fact.Ended (session_end.LostOk count) → x.up ≡ true → s.raised_at ≤ at_moment
+      → (note.acked < s.known.desk.issued) × (moment_after s.raised_at (20 * s.limit) ≤ at_moment)
+  unfolding later
+  end_missing count is up below =
+      let w = t.missing count s.raised_at is below (was_patient up) in
+      let After : ℕ → Type 0 = λ limit. moment_after s.raised_at (20 * limit) ≤ at_moment in
+      (omega (arith, w.1, acked_is, issued_is), subst After (sym at.limit) w.0)
+
   -- each end of the session comes only if it may
   may_end : (end : SessionEnd) → note.fact ≡ fact.Ended end → x.up ≡ true → s.raised_at ≤ at_moment → MayEnd end note.acked at_moment s
   may_end (session_end.NoAnswer count) is up below = end_silent count is up below
+  may_end (session_end.LostOk count) is up below = end_missing count is up below
   may_end (session_end.NumbersUsed count) is up below = acked_is ∙ t.numbers count is
   may_end _ is up below = tt
 

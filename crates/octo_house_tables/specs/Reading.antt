@@ -1,10 +1,10 @@
--- The bytes and the job of a file that the shelf holds.
+-- The bytes, the size and the job of a file that the shelf holds.
 use Rattle.std.specs.Prelude.{◌≡◌, ◌⊎◌, ℕ, Bool, false, List, Option, None, Some, Result, Ok, Err}
 use Rattle.gcode_lines.specs.Commands.{job_of}
 use Rattle.gcode_lines.specs.Job.{JobData}
 use Rattle.gcode_lines.specs.declared.fault.FileFault.{FileFault}
 use Rattle.gcode_lines.specs.declared.fault.FileFault.TheVariants as file_fault
-use Rattle.octo_keeper.specs.Files.{bytes_of}
+use Rattle.octo_keeper.specs.Files.{bytes_of, size_of}
 use Rattle.octo_keeper.specs.declared.shelf.ShelfFile.{ShelfFile}
 use Rattle.octo_asks.specs.declared.answer.Answer.{Answer}
 use Rattle.octo_asks.specs.declared.answer.Answer.TheVariants as answer
@@ -23,6 +23,15 @@ found_bytes (Some bytes) = Ok bytes
 -- the bytes of a name, or why there are none
 abbrev pub bytes_at : List ℕ → List ShelfFile → Result (List ℕ) Answer
 bytes_at name files = found_bytes (bytes_of name files)
+
+-- a size that was found, or the answer that the file is missing
+abbrev pub found_size : Option ℕ → Result ℕ Answer
+found_size None = Err answer.NoFile
+found_size (Some size) = Ok size
+
+-- the size of a name's bytes, or why there are none
+abbrev pub size_at : List ℕ → List ShelfFile → Result ℕ Answer
+size_at name files = found_size (size_of name files)
 
 -- a job, or the answer why a file has none
 abbrev pub job_or : Result JobData FileFault → Result JobData Answer

@@ -1,10 +1,10 @@
-//! The bytes and the job of a file that a shelf holds.
+//! The bytes, the size and the job of a file that a shelf holds.
 ghost use Rattle.std.specs.Prelude.{◌≡◌, ◌⊎◌, true, false, List, Some, IfErr};
 ghost use Rattle.gcode_lines.specs.declared.fault.FileFault.{FileFault};
 ghost use Rattle.octo_asks.specs.declared.answer.Answer.TheVariants as answer;
 ghost use Rattle.octo_keeper.specs.declared.shelf.ShelfFile.{ShelfFile};
 ghost use Rattle.octo_outside.specs.Recorded.{Counts};
-ghost use Rattle.octo_house_tables.specs.Reading.{IsReadAs, bytes_at, job_at, answer_of_file_fault, is_keepers_fault, is_shelfs_fault};
+ghost use Rattle.octo_house_tables.specs.Reading.{IsReadAs, bytes_at, size_at, job_at, answer_of_file_fault, is_keepers_fault, is_shelfs_fault};
 
 use crate::refusals::answer_of_shelf_fault;
 use byte_text::Name;
@@ -37,6 +37,24 @@ pub fn read_bytes<S: Shelf>(alloc: Global, shelf: &mut S, name: &Name) -> Result
 {
     match shelf.get(alloc, name) {
         Ok(Some(bytes)) => Ok(bytes),
+        Ok(None) => Err(Answer::NoFile),
+        Err(fault) => Err(answer_of_shelf_fault(fault)),
+    }
+}
+
+/// The size of a file that the shelf holds, in bytes, or why there is none.
+pub fn read_size<S: Shelf>(shelf: &mut S, name: &Name) -> Result<u64, Answer>
+    ensures read { (files : List ShelfFile) → S.files shelf.old ≡ Some files
+        → IsReadAs (size_at name.now files) result }
+    ensures missed { IfErr result (λ x. (x ≡ answer.NoFile)
+        ⊎ (x ≡ answer.ShelfFault) ⊎ (x ≡ answer.NoMemory)) }
+    ensures stays { S.files shelf.new ≡ S.files shelf.old }
+    ensures shelf { Counts (is_shelfs_fault result ≡ true)
+        (S.faults shelf.old) (S.faults shelf.new) }
+    ensures keeper { is_keepers_fault result ≡ false }
+{
+    match shelf.size(name) {
+        Ok(Some(size)) => Ok(size),
         Ok(None) => Err(Answer::NoFile),
         Err(fault) => Err(answer_of_shelf_fault(fault)),
     }

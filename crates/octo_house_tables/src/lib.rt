@@ -16,7 +16,7 @@ mod texts;
 mod users;
 
 pub use entries::{asked_entry, has_entry};
-pub use files::{bad_file, read_bytes, read_job};
+pub use files::{bad_file, read_bytes, read_job, read_size};
 pub use jobs::{check_job, progress};
 pub use lists::{copy_names, shown_entries, shown_files, shown_prints, shown_users};
 pub use names::{add_name, drop_name, names_in, port_for, reserve_name};

@@ -1,18 +1,21 @@
 //! How asks are answered.
-ghost use Rattle.std.specs.Prelude.{◌≡◌, ◌↔◌, ◌≤◌, List, Option, true, false, MatchResult};
+ghost use Rattle.std.specs.Prelude.{◌≡◌, ◌↔◌, ◌≤◌, ◌==◌, length, List, Option, None, true, false, MatchResult};
 ghost use Rattle.octo_access.specs.declared.permission.Permission.{Permission};
+ghost use Rattle.octo_asks.specs.Rights.{needed};
 ghost use Rattle.octo_asks.specs.declared.answer.Answer.TheVariants as answer;
+ghost use Rattle.octo_house_tables.specs.Counts.{IsPlain};
 ghost use Rattle.octo_keeper.specs.declared.shelf.ShelfFile.{ShelfFile};
 ghost use Rattle.print_queue.specs.Calls.{new_entry};
 ghost use Rattle.print_queue.specs.Lawful.{IsWholeRow};
 ghost use Rattle.octo_house_rules.specs.Access.{is_denied};
-ghost use Rattle.octo_house_rules.specs.Answers.{verdict, request_verdict, lacking};
+ghost use Rattle.octo_house_rules.specs.Answers.{verdict, request_verdict, free_verdict, lacking};
+ghost use Rattle.octo_house_rules.specs.Prints.{connect_verdict};
 ghost use Rattle.octo_house_rules.specs.Rows.{put_entry_verdict};
 ghost use Rattle.octo_house_rules.specs.Verdict.{gives};
 ghost use Rattle.octo_house.specs.Answered.{Answers, AnswersOn, Shelves, IsUntouched, AskDone, KeeperDone};
 ghost use Rattle.octo_house.specs.Asking.{IsPermitted, IsTurnedAway};
 ghost use Rattle.octo_house.specs.Groups.{is_edit, is_row, is_reading};
-ghost use Rattle.octo_house.specs.State.{known_of};
+ghost use Rattle.octo_house.specs.State.{IsDeskAlone, known_of};
 
 use super::House;
 use super::upload::Wanted;
@@ -21,6 +24,13 @@ use octo_asks::{Answer, Ask, Request, needed};
 use octo_house_tables::asked_entry;
 use octo_keeper::{Keeper, Shelf};
 use print_queue::QueueEntry;
+
+// Whether a request needs no permission.
+fn is_free(request: &Request) -> bool
+    ensures { result ≡ (length (needed request.now) == 0) }
+{
+    needed(request).as_slice().is_empty()
+}
 
 impl House {
     /// Answers an ask: the first refusal that applies, or what is done. If the keeper or the shelf fails, or memory runs out,
@@ -43,22 +53,47 @@ impl House {
         ensures rest { AskDone K.tables K.faults S.files S.faults
             keeper.old keeper.new shelf.old shelf.new result self.old self.new }
     {
+        if is_free(&ask.request) {
+            return self.free(&ask);
+        }
         match self.permitted(&ask) {
             Ok(user) => self.answer(keeper, shelf, &user, &ask.request),
             Err(answer) => answer,
         }
     }
 
-    // The user who asks and may. Else the answer: nothing is needed, the key is nobody's, or a permission is lacking.
+    /// Answers the host's own ask: begins to connect to its first port.
+    pub fn connect_itself(&mut self) -> Answer
+        ensures done { Answers (connect_verdict None (known_of self.old)) result
+            self.old self.new }
+        ensures alone { IsDeskAlone self.old self.new }
+        ensures plain { IsPlain result }
+    {
+        self.desk.connect(&None)
+    }
+
+    // Answers a request that needs no permission.
+    fn free(&mut self, ask: &Ask) -> Answer
+        ensures done { Answers (free_verdict ask.now.key ask.now.request (known_of self.old))
+            result self.old self.new }
+        ensures alone { IsDeskAlone self.old self.new }
+        ensures plain { IsPlain result }
+    {
+        match &ask.request {
+            Request::Caller => self.named(ask.key.as_slice()),
+            Request::AutoConnect => self.connect_itself(),
+            _ => Answer::Accepted,
+        }
+    }
+
+    // The user who asks and may. Else the answer: the key is nobody's, or a permission is lacking.
     fn permitted(&self, ask: &Ask) -> Result<UserRow, Answer>
+        requires { (length (needed ask.now.request) == 0) ≡ false }
         ensures { MatchResult result
             (λ user. IsPermitted ask.now (known_of self.now) user)
             (λ answer. IsTurnedAway ask.now (known_of self.now) answer) }
     {
         let permissions = needed(&ask.request);
-        if permissions.as_slice().is_empty() {
-            return Err(Answer::Accepted);
-        }
         let Some(user) = self.tables.caller(&self.policy, ask.key.as_slice()) else {
             return Err(Answer::Denied { permission: None });
         };
@@ -101,6 +136,7 @@ impl House {
     {
         match request {
             Request::Version => Answer::Version,
+            Request::GetLimits => self.desk.limits(),
             Request::GetConnection => self.desk.connection(),
             Request::GetPrinter => self.desk.printer(),
             Request::GetJob => self.desk.job(),
@@ -111,12 +147,13 @@ impl House {
             Request::ListQueue => self.list_queue(user),
             Request::ListPrints => self.list_prints(user),
             Request::Shutdown => self.desk.shut_down(),
-            Request::Leave => Answer::Accepted,
+            Request::Caller | Request::Leave | Request::AutoConnect => Answer::Accepted,
             Request::Connect { port } => self.desk.connect(port),
             Request::Disconnect => self.desk.disconnect(),
             Request::HeatTool { degrees } => self.desk.heat_tool(*degrees),
             Request::HeatBed { degrees } => self.desk.heat_bed(*degrees),
             Request::Lines { texts } => self.desk.lines(texts.as_slice()),
+            Request::Move { texts } => self.desk.move_by_hand(texts.as_slice()),
             Request::Start => self.start(keeper, &user.name),
             Request::Cancel => self.desk.cancel(),
             Request::Restart => self.restart(keeper, &user.name),

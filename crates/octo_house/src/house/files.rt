@@ -14,7 +14,7 @@ use byte_text::Name;
 use job_desk::Refusal;
 use octo_asks::{Answer, ShownFile};
 use octo_house_tables::{
-    answer_of_refusal, answer_of_shelf_fault, drop_name, read_bytes, shown_files,
+    answer_of_refusal, answer_of_shelf_fault, drop_name, read_bytes, read_size, shown_files,
 };
 use octo_keeper::Shelf;
 
@@ -46,11 +46,11 @@ impl House {
         if !self.holds(name) {
             return Answer::NoFile;
         }
-        match read_bytes(self.desk.alloc, shelf, name) {
-            Ok(bytes) => Answer::File {
+        match read_size(shelf, name) {
+            Ok(size) => Answer::File {
                 file: ShownFile {
                     name: name.copy(),
-                    size: bytes.len() as u64,
+                    size,
                 },
             },
             Err(answer) => answer,

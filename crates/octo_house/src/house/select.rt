@@ -4,6 +4,7 @@ ghost use Rattle.job_desk.specs.declared.state.State.TheVariants as state;
 ghost use Rattle.octo_keeper.specs.Tables.{with_taken};
 ghost use Rattle.octo_house_rules.specs.Access.{is_denied};
 ghost use Rattle.job_desk.specs.Data.{named_file};
+ghost use Rattle.octo_house_rules.specs.States.{may_start};
 ghost use Rattle.octo_house_rules.specs.Uploads.{select_verdict, next_verdict, take_verdict, print_verdict};
 ghost use Rattle.octo_house.specs.Answered.{Answers, AnswersOn, KeeperDone, PrintDone, ShelfDone};
 ghost use Rattle.octo_house.specs.State.{IsDeskAlone, known_of};
@@ -19,6 +20,13 @@ use octo_house_tables::{
 };
 use octo_keeper::{Keeper, Shelf};
 use print_queue::QueueEntry;
+
+// Whether a print may be started in this state.
+fn may_start(state: State) -> bool
+    ensures { result ≡ may_start state }
+{
+    matches!(state, State::Operational)
+}
 
 impl House {
     // Selects a file.
@@ -120,7 +128,7 @@ impl House {
             keeper.old keeper.new shelf.old shelf.new result self.old self.new }
     {
         let state = self.desk.session.desk().state();
-        if state != State::Operational {
+        if !may_start(state) {
             return Answer::WrongState { state };
         }
         match self.tables.next_entry(&self.material) {

@@ -33,6 +33,7 @@ returns-clause-counted g c =
     (λ old added is. subst (λ (h : History). AreOf (Some c.asked_as.result) h) (sym is)
     (call_counts c.args.worker c.args.ask c.args.moment c.ask-answer.result c.asked_as.result
     (sym c.is_leave-leaves.ensures ∙ sym (ap (λ (a : Asked). a.is_leave) c.asked_as.ensures))
+    (sym c.is_counted-counts.ensures ∙ sym (ap (λ (a : Asked). a.is_counted) c.asked_as.ensures))
     (c.is_shutdown_request-shuts.ensures c.ask-answer.result ∙ ap (λ b. c.is_shutdown_request-shuts.result && b) (sym c.is_accepted-accepted.ensures)
     ∙ sym (ap (λ (a : Asked). a.is_shutdown) c.asked_as.ensures))))
 

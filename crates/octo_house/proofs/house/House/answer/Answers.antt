@@ -1,7 +1,7 @@
 use Rattle.std.proofs.Common.{ℕ, List, refl, ap, subst}
 use Rattle.octo_house.specs.Facing.{Faces}
 use Rattle.octo_house_rules.specs.Answers.{request_verdict}
-use Rattle.octo_house_rules.specs.Prints.{lines_verdict}
+use Rattle.octo_house_rules.specs.Prints.{lines_verdict, move_verdict}
 use Rattle.octo_house.specs.State.{known_of}
 use Rattle.octo_house.proofs.Fileless.{shelves-same, request-leaves, is_storing}
 use Rattle.octo_house.proofs.house.House.answer.Goals as goal
@@ -36,6 +36,15 @@ returns-in-Lines-clause-done g c =
     c.as_slice.ensures c.lines.ensures.done in
     rw c.in-Lines.is (λ files at. faced (known_of c.args.self.now))
 
+pub returns-in-Move-clause-done : goal.returns-in-Move-clause-done
+returns-in-Move-clause-done g c =
+    let faced = subst (λ (texts : List (List ℕ)). Faces (move_verdict texts) c.move_by_hand.result c.args.self.now.desk c.move_by_hand.new.self)
+    c.as_slice-in-Move.ensures c.move_by_hand.ensures.done in
+    rw c.in-Move.is (λ files at. faced (known_of c.args.self.now))
+
+pub returns-in-GetLimits-clause-done : goal.returns-in-GetLimits-clause-done
+returns-in-GetLimits-clause-done g c = rw c.in-GetLimits.is (λ files at. c.limits.ensures.done (known_of c.args.self.now))
+
 pub returns-in-Cancel-clause-done : goal.returns-in-Cancel-clause-done
 returns-in-Cancel-clause-done g c = rw c.in-Cancel.is (λ files at. c.cancel.ensures.done (known_of c.args.self.now))
 
@@ -67,6 +76,11 @@ pub returns-in-Lines-clause-files : goal.returns-in-Lines-clause-files
 returns-in-Lines-clause-files g c =
     shelves-same _ _ (λ files. request_verdict c.args.request.now c.args.user.now files (known_of c.args.self.now)) _ refl
     (λ files. request-leaves c.args.request.now c.args.user.now files (known_of c.args.self.now) (ap is_storing c.in-Lines.is))
+
+pub returns-in-Move-clause-files : goal.returns-in-Move-clause-files
+returns-in-Move-clause-files g c =
+    shelves-same _ _ (λ files. request_verdict c.args.request.now c.args.user.now files (known_of c.args.self.now)) _ refl
+    (λ files. request-leaves c.args.request.now c.args.user.now files (known_of c.args.self.now) (ap is_storing c.in-Move.is))
 
 pub returns-in-Start-clause-files : goal.returns-in-Start-clause-files
 returns-in-Start-clause-files g c =

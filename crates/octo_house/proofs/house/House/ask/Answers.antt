@@ -2,14 +2,53 @@ use Rattle.std.proofs.Common.{◌≡◌, ◌⊎◌, inr, false, List, [], Some, 
 use Rattle.std.proofs.lemmas.Bool.{false≢true}
 use Rattle.octo_asks.specs.Rights.{needed}
 use Rattle.octo_house_rules.specs.Access.{is_denied}
+use Rattle.octo_house_rules.specs.Faults.{is_keepers, is_shelfs}
+use Rattle.octo_house_tables.specs.Data.{TablesData}
+use Rattle.octo_house_tables.specs.Kept.{IsKept}
 use Rattle.octo_house_rules.specs.Answers.{verdict}
 use Rattle.octo_house_rules.specs.Verdict.{Verdict, IsDone, files_after}
 use Rattle.octo_keeper.specs.declared.shelf.ShelfFile.{ShelfFile}
 use Rattle.octo_house.specs.Answered.{asks_files}
 use Rattle.octo_house.specs.State.{known_of}
 use Rattle.octo_house.proofs.Denying.{gives-denial, gives-done, gives-files, neither-denies, no-denial, answer-granted}
+use Rattle.octo_house.proofs.Freed.{uncounted, free-granted, free-no-denial, free-done, free-files}
 use Rattle.octo_house.proofs.Permitted.{lacks-none}
 use Rattle.octo_house.proofs.house.House.ask.Goals as goal
+
+pub returns-then-is_free-clause-denied : goal.returns-then-is_free-clause-denied
+returns-then-is_free-clause-denied g c = λ files permission.
+    let k = known_of c.args.self.now in
+    let free = sym c.is_free.ensures ∙ c.if-is_free.true in
+    neither-denies c.free.result (verdict c.args.ask files k) permission
+    (free-granted c.args.ask k free c.free.result c.free.ensures.done.may) (free-no-denial c.args.ask k free files permission)
+
+pub returns-then-is_free-clause-untouched : goal.returns-then-is_free-clause-untouched
+returns-then-is_free-clause-untouched g c =
+    let free = sym c.is_free.ensures ∙ c.if-is_free.true in
+    let granted : is_denied c.free.result ≡ false =
+    free-granted c.args.ask (known_of c.args.self.now) free c.free.result c.free.ensures.done.may in
+    λ on. absurd (false≢true (sym granted ∙ on))
+
+pub returns-then-is_free-clause-done : goal.returns-then-is_free-clause-done
+returns-then-is_free-clause-done g c = λ files asked.
+    let free = sym c.is_free.ensures ∙ c.if-is_free.true in
+    free-done c.args.ask (known_of c.args.self.now) free files c.free.result (known_of c.free.new.self) c.free.ensures.done
+
+pub returns-then-is_free-clause-files : goal.returns-then-is_free-clause-files
+returns-then-is_free-clause-files g c = λ files at.
+    let free = sym c.is_free.ensures ∙ c.if-is_free.true in
+    at ∙ ap (λ (held : List ShelfFile). Some held) (free-files c.args.ask (known_of c.args.self.now) free files c.free.result)
+
+pub returns-then-is_free-clause-rest : goal.returns-then-is_free-clause-rest
+returns-then-is_free-clause-rest g c =
+    let alone = c.free.ensures.alone in
+    record {
+      kept = λ begun is. subst (λ (t : TablesData). IsKept begun (g.K.Keeper.tables c.args.keeper.now) t) (sym alone.tables) is;
+      listed = λ held files at. alone.names ∙ held files at;
+      apart = alone.apart;
+      keeper = uncounted (is_keepers c.free.result) (g.K.Keeper.faults c.args.keeper.now) c.free.ensures.plain.keeper;
+      shelf = uncounted (is_shelfs c.free.result) (g.S.Shelf.faults c.args.shelf.now) c.free.ensures.plain.shelf;
+    }
 
 pub returns-clause-denied : goal.returns-clause-denied
 returns-clause-denied g c = λ files permission.

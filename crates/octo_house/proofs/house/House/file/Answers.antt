@@ -1,11 +1,12 @@
-use Rattle.std.proofs.Common.{◌≡◌, true, not, length, ap}
-use Rattle.octo_keeper.specs.Files.{bytes_of}
+use Rattle.std.proofs.Common.{◌≡◌, ℕ, true, not, ap}
+use Rattle.std.specs.Prelude.{find}
+use Rattle.octo_keeper.specs.Files.{is_file}
 use Rattle.octo_asks.specs.declared.answer.Answer.TheVariants as answer
 use Rattle.octo_house_rules.specs.Known.{is_held}
 use Rattle.octo_house_rules.specs.Reads.{file_shown}
 use Rattle.octo_house_rules.specs.Verdict.{gives}
 use Rattle.octo_house.specs.State.{known_of}
-use Rattle.octo_house.proofs.ReadDone.{given, passed-on, read-on, bytes-read, bytes-missed}
+use Rattle.octo_house.proofs.ReadDone.{given, passed-on, read-on, size-read, size-missed}
 use Rattle.octo_house.proofs.house.House.file.Goals as goal
 
 pub returns-in-Ok-clause-done : goal.returns-in-Ok-clause-done
@@ -13,7 +14,7 @@ returns-in-Ok-clause-done g c = λ files.
     let k = known_of c.args.self.now in
     let held : is_held c.args.name.now k ≡ true = cc in
     passed-on (not (is_held c.args.name.now k)) answer.NoFile _ _ k k (ap not held)
-    (read-on _ _ k k (λ at. bytes-read (bytes_of c.args.name.now files) (λ bytes. gives (answer.File (file_shown c.args.name.now (length bytes)))) c.in-Ok.bytes _ k k
+    (read-on _ _ k k (λ at. size-read (find (is_file c.args.name.now) files) (λ (size : ℕ). gives (answer.File (file_shown c.args.name.now size))) c.in-Ok.size _ k k
     (c.in-Ok.ensures.read files at) (given _ _ k (cc))))
 
 pub returns-in-Err-clause-done : goal.returns-in-Err-clause-done
@@ -21,5 +22,5 @@ returns-in-Err-clause-done g c = λ files.
     let k = known_of c.args.self.now in
     let held : is_held c.args.name.now k ≡ true = cc in
     passed-on (not (is_held c.args.name.now k)) answer.NoFile _ _ k k (ap not held)
-    (read-on _ _ k k (λ at. bytes-missed (bytes_of c.args.name.now files) (λ bytes. gives (answer.File (file_shown c.args.name.now (length bytes)))) c.in-Err.answer k
+    (read-on _ _ k k (λ at. size-missed (find (is_file c.args.name.now) files) (λ (size : ℕ). gives (answer.File (file_shown c.args.name.now size))) c.in-Err.answer k
     (c.in-Err.ensures.read files at)))
