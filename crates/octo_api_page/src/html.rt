@@ -1,11 +1,23 @@
 //! The reply that shows the page. `scripts/page` makes this file from `web/index.html`: don't edit it.
 
+// The head of the reply, with the empty line after it.
+pub(crate) const PAGE_HEAD: &[u8] = b"HTTP/1.1 200 OK\r\n\
+Connection: close\r\n\
+Content-Length: 59018\r\n\
+Content-Type: text/html; charset=utf-8\r\n\
+Content-Security-Policy: default-src 'none'; script-src 'sha256-iNSYpgNnuSzEmU0he1OtTS0O6j7gkrl1cqsXpwzaA7E='; style-src 'sha256-mwE0BJDAeN9wSPzv9wWxhWKkXbHYdRh7plo6JIgIEXc='; connect-src 'self'; img-src data:; base-uri 'none'; form-action 'none'; frame-ancestors 'none'; require-trusted-types-for 'script'; trusted-types 'none'\r\n\
+X-Content-Type-Options: nosniff\r\n\
+Referrer-Policy: no-referrer\r\n\
+Cache-Control: no-cache\r\n\
+\r\n\
+";
+
 // The whole reply: its head and the page.
 pub(crate) const PAGE_REPLY: &[u8] = b"HTTP/1.1 200 OK\r\n\
 Connection: close\r\n\
-Content-Length: 59335\r\n\
+Content-Length: 59018\r\n\
 Content-Type: text/html; charset=utf-8\r\n\
-Content-Security-Policy: default-src 'none'; script-src 'sha256-sQGl4LEzsGx+6zcgR9qG9ufUInRDdCbTEf/X+uX/Oig='; style-src 'sha256-mwE0BJDAeN9wSPzv9wWxhWKkXbHYdRh7plo6JIgIEXc='; connect-src 'self'; img-src data:; base-uri 'none'; form-action 'none'; frame-ancestors 'none'; require-trusted-types-for 'script'; trusted-types 'none'\r\n\
+Content-Security-Policy: default-src 'none'; script-src 'sha256-iNSYpgNnuSzEmU0he1OtTS0O6j7gkrl1cqsXpwzaA7E='; style-src 'sha256-mwE0BJDAeN9wSPzv9wWxhWKkXbHYdRh7plo6JIgIEXc='; connect-src 'self'; img-src data:; base-uri 'none'; form-action 'none'; frame-ancestors 'none'; require-trusted-types-for 'script'; trusted-types 'none'\r\n\
 X-Content-Type-Options: nosniff\r\n\
 Referrer-Policy: no-referrer\r\n\
 Cache-Control: no-cache\r\n\
@@ -698,8 +710,8 @@ $('stop').onclick = async () => {
   } else if (key) say('The printer wasn\\'t stopped from here: use its switch.', true);
 };
 
-// What came of a stop is in sight until it is closed, or until the printer is connected again. The state shows how far the host
-// got: it may have hung up, or it still waits for acknowledgements.
+// What came of a stop is in sight until it is closed, or until the printer is connected again. The state shows whether the host
+// has hung up.
 let stopped = '';
 let hungUp = false;
 function seeStopped() {
@@ -709,10 +721,8 @@ function seeStopped() {
   const runs = RUNS.includes(state);
   if (stopped) {
     put($('stopped-text'), 'Stop at ' + stopped + ': ' + (linked || state === 'Closing'
-      ? 'M112 is handed over. The printer gets it once it has acknowledged earlier lines; to disconnect before that drops it. If it goes on, use its switch. '
-        + (runs ? 'The host goes on with the print while the printer answers.'
-          : state === 'Closing' ? 'Disconnect once more to hang up.' : 'A printer that has halted must be restarted: disconnect, restart it, connect.')
-      : 'the connection has ended. If the printer still moves or heats, use its switch. If it has halted, restart it, then connect.'));
+      ? 'M112 is handed over, and the host closes the connection. If the printer goes on, use its switch.'
+      : 'M112 was sent, and the connection has ended. If the printer still moves or heats, use its switch. If it has halted, restart it, then connect.'));
   }
   show($('stopped'), stopped !== '');
   show($('stopped-cancel'), runs);

@@ -1,8 +1,8 @@
+pub mod Fixed
 pub mod Items
-pub mod Objects
 pub mod Pages
-pub mod Reasons
 pub mod Refusals
 pub mod Replies
+pub mod Shown
 pub mod Texts
 pub mod Whole

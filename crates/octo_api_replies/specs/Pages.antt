@@ -26,6 +26,22 @@ abbrev pub text_or_null : Option (List ℕ) → Data
 text_or_null None = null
 text_or_null (Some text) = string text
 
+-- whom a key names
+abbrev pub caller_data : Option (List ℕ) → List (List ℕ) → Data
+caller_data name groups = object (
+    member (codes "groups") (texts_data groups)
+    (member (codes "name") (text_or_null name)
+    no_members))
+
+-- what a login shows of the caller: there is no session
+abbrev pub login_data : Option (List ℕ) → List (List ℕ) → Data
+login_data name groups = object (
+    member (codes "active") (boolean true)
+    (member (codes "groups") (texts_data groups)
+    (member (codes "name") (text_or_null name)
+    (member (codes "session") null
+    no_members))))
+
 -- the port and the state
 abbrev pub current_data : Option (List ℕ) → State → Data
 current_data port state = object (

@@ -4,19 +4,13 @@ use Rattle.serde_json.specs.Data.{Data, string, object, no_members, member}
 use Rattle.job_desk.specs.declared.state.State.{State}
 use Rattle.octo_access.specs.declared.permission.Permission.{Permission}
 use Rattle.octo_asks.specs.declared.shown.ShownEntry.{ShownEntry}
+use Rattle.octo_api_refusals.specs.Refused.{noted_data}
 use Rattle.octo_api_replies.specs.Texts.{state_text, permission_text}
 use Rattle.octo_api_replies.specs.Items.{count, entry_data}
 
 -- a refusal by its name alone
 abbrev pub refusal_data : List ℕ → Data
 refusal_data name = object (member (codes "error") (string name) no_members)
-
--- a refusal with a text under a name that is after `error`
-abbrev pub noted_data : List ℕ → List ℕ → List ℕ → Data
-noted_data name key text = object (
-    member (codes "error") (string name)
-    (member key (string text)
-    no_members))
 
 -- the lacking permission
 abbrev pub denied_data : Option Permission → Data

@@ -1,38 +1,19 @@
--- The reply to each answer, to each refusal of a message, and to each fault of one.
-use Rattle.std.specs.Prelude.{◌≡◌, ◌⊎◌, ℕ, Bool, true, false, List, [], ◌++◌, map, codes, Option, Some, None, option_map}
-use Rattle.arrayvec.specs.ArrayVec.{ArrayVec}
-use Rattle.serde_json.specs.Data.{Data}
-use Rattle.serde_json.specs.Written.{compact_text}
+-- The reply to each answer.
+use Rattle.std.specs.Prelude.{ℕ, Bool, true, false, List, ◌++◌, map, codes}
 use Rattle.gcode_lines.specs.declared.fault.FileFault.{FileFault}
 use Rattle.gcode_lines.specs.declared.fault.FileFault.TheVariants as file_fault
 use Rattle.octo_http.specs.Part.{crlf}
-use Rattle.octo_http.specs.declared.fault.MessageFault.{MessageFault}
-use Rattle.octo_http.specs.declared.fault.MessageFault.TheVariants as fault
 use Rattle.octo_http.specs.declared.reply.HttpReply.{HttpReply}
-use Rattle.octo_http.specs.declared.reply.ReplyKind.TheVariants.{Empty, Json, Bytes}
+use Rattle.octo_http.specs.declared.reply.ReplyKind.TheVariants.{Bytes}
 use Rattle.octo_asks.specs.declared.answer.Answer.{Answer}
 use Rattle.octo_asks.specs.declared.answer.Answer.TheVariants as answer
 use Rattle.octo_asks.specs.declared.answer.StoredCause.{StoredCause}
 use Rattle.octo_asks.specs.declared.answer.StoredCause.TheVariants as cause
+use Rattle.octo_api_replies.specs.Fixed.{text_reply, settings_text}
 use Rattle.octo_api_replies.specs.Items.{file_data, user_data, entry_data, print_data}
-use Rattle.octo_api_replies.specs.Pages.{version_data, connection_data, printer_data, job_data, list_data, uploaded_data, unprinted_data, stored_data}
-use Rattle.octo_api_replies.specs.Reasons.{body_reason, media_reason, method_reason, allow_line}
-use Rattle.octo_api_replies.specs.Refusals.{refusal_data, noted_data, denied_data, wrong_state_data, bad_line_data, too_large_data, too_hot_data, too_hot_line_data, name_taken_data, full_data}
-use Rattle.octo_api_routes.specs.declared.direct.Methods.{Methods}
-use Rattle.octo_api_routes.specs.declared.direct.Direct.{Direct}
-use Rattle.octo_api_routes.specs.declared.direct.Direct.TheVariants as direct
-
--- no further fields
-abbrev pub no_fields : ArrayVec ℕ
-no_fields = record { items = [] }
-
--- a reply without a body
-abbrev pub empty_reply : ℕ → HttpReply
-empty_reply status = record { status = status; kind = Empty; fields = no_fields; body = [] }
-
--- a reply with compact JSON
-abbrev pub json_reply : ℕ → Data → HttpReply
-json_reply status value = record { status = status; kind = Json; fields = no_fields; body = compact_text value }
+use Rattle.octo_api_replies.specs.Pages.{version_data, caller_data, connection_data, printer_data, job_data, list_data, uploaded_data, unprinted_data, stored_data}
+use Rattle.octo_api_replies.specs.Refusals.{refusal_data, denied_data, wrong_state_data, bad_line_data, too_large_data, too_hot_data, too_hot_line_data, name_taken_data, full_data}
+use Rattle.octo_api_refusals.specs.Refused.{no_fields, empty_reply, json_reply, noted_data}
 
 -- a reply with the bytes of a file
 abbrev pub bytes_reply : List ℕ → HttpReply
@@ -65,9 +46,11 @@ with_location name reply = record reply { fields = record { items = location_lin
 -- the reply to an answer
 abbrev pub reply_of : Answer → HttpReply
 reply_of answer.Version = json_reply 200 version_data
+reply_of (answer.Caller name groups) = json_reply 200 (caller_data name groups.items)
 reply_of answer.Accepted = empty_reply 204
 reply_of (answer.Connection port state ports) = json_reply 200 (connection_data port state ports)
 reply_of (answer.Printer state tool bed) = json_reply 200 (printer_data state tool bed)
+reply_of (answer.Limits tool bed) = text_reply (settings_text tool bed)
 reply_of (answer.Job file progress state) = json_reply 200 (job_data file progress state)
 reply_of (answer.Files files) = json_reply 200 (list_data (codes "files") (map file_data files))
 reply_of (answer.File file) = json_reply 200 (file_data file)
@@ -136,61 +119,3 @@ is_refusal (answer.NameTaken kept) = true
 is_refusal (answer.KeyTaken name) = true
 is_refusal (answer.Full count) = true
 is_refusal reply = is_named reply
-
--- the status of a message that is no request
-abbrev pub direct_status : Direct → ℕ
-direct_status (direct.BadBody fault) = 400
-direct_status direct.NoRoute = 404
-direct_status (direct.BadMethod allowed) = 405
-direct_status (direct.Options allowed) = 204
-direct_status direct.NoLength = 411
-direct_status (direct.BadMedia fault) = 415
-direct_status direct.NoMemory = 507
-
--- the status of an input that is no message, none if nobody reads a reply
-abbrev pub fault_status : MessageFault → Option ℕ
-fault_status fault.BadHead = Some 400
-fault_status fault.HeadTooLarge = Some 431
-fault_status fault.BodyTooLarge = Some 413
-fault_status fault.BadChunk = Some 400
-fault_status fault.Ended = None
-fault_status fault.ReadFault = None
-fault_status fault.NoMemory = Some 507
-fault_status (fault.Slow quiet) = Some 408
-
--- a refusal with its reason
-abbrev pub reasoned : ℕ → List ℕ → List ℕ → HttpReply
-reasoned status name reason = json_reply status (noted_data name (codes "reason") reason)
-
--- a reply with the field that names the methods of a path
-abbrev pub with_allow : Methods → HttpReply → HttpReply
-with_allow allowed reply = record reply { fields = record { items = allow_line allowed } }
-
--- the reply to a message that is no request
-abbrev pub direct_reply : Direct → HttpReply
-direct_reply (direct.BadBody fault) = reasoned 400 (codes "BadBody") (body_reason fault)
-direct_reply direct.NoRoute = reasoned 404 (codes "NoRoute") (codes "there is no such path")
-direct_reply (direct.BadMethod allowed) = with_allow allowed (reasoned 405 (codes "BadMethod") (method_reason allowed))
-direct_reply (direct.Options allowed) = with_allow allowed (empty_reply 204)
-direct_reply direct.NoLength = reasoned 411 (codes "NoLength") (codes "the body has neither a Content-Length nor chunks")
-direct_reply (direct.BadMedia fault) = reasoned 415 (codes "BadMedia") (media_reason fault)
-direct_reply direct.NoMemory = empty_reply 507
-
--- the reply to an input that is no message, none if nobody reads a reply
-abbrev pub fault_reply : MessageFault → Option HttpReply
-fault_reply fault.BadHead = Some (reasoned 400 (codes "BadHead") (codes "the head is malformed, or its fields contradict each other"))
-fault_reply fault.HeadTooLarge = Some (reasoned 431 (codes "HeadTooLarge") (codes "the head has more than 16384 bytes or more than 64 fields"))
-fault_reply fault.BodyTooLarge = Some (reasoned 413 (codes "BodyTooLarge") (codes "the body has more than 68157440 bytes"))
-fault_reply fault.BadChunk = Some (reasoned 400 (codes "BadChunk") (codes "a chunk of the body is malformed or too long"))
-fault_reply fault.Ended = None
-fault_reply fault.ReadFault = None
-fault_reply fault.NoMemory = Some (empty_reply 507)
-fault_reply (fault.Slow quiet) = Some (reasoned 408 (codes "Slow") (codes "the message did not come in time"))
-
--- the reply to a message that is no request, or its status alone if memory ran out
-abbrev pub IsDirectReply : Direct → HttpReply → Type 0
-IsDirectReply direct reply = (reply ≡ direct_reply direct) ⊎ (reply ≡ empty_reply (direct_status direct))
-
--- the reply to an input that is no message, or its status alone if memory ran out
-abbrev pub IsFaultReply : MessageFault → Option HttpReply → Type 0
-IsFaultReply fault reply = (reply ≡ fault_reply fault) ⊎ (reply ≡ option_map empty_reply (fault_status fault))

@@ -6,9 +6,9 @@ ghost use Rattle.octo_api_replies.specs.Items.{heat_data, file_data, user_data, 
 ghost use Rattle.octo_api_replies.specs.Whole.{text_whole, file_whole, user_whole, entry_whole, print_whole};
 
 use crate::lists::{ToJson, list_of};
-use crate::objects::{Primitive, object_of, object_with};
 use crate::texts::outcome_text;
 use byte_text::Name;
+use octo_api_refusals::{Primitive, object_of, object_with};
 use octo_asks::{ShownEntry, ShownFile, ShownHeat, ShownPrint, ShownUser};
 use serde_json::Value;
 use std::alloc::{AllocError, Global};

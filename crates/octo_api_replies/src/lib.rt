@@ -4,19 +4,17 @@
 //! project's own.
 #![tactic(auto)]
 
-mod direct;
+mod fixed;
 mod items;
 mod lists;
-mod methods;
-mod objects;
 mod pages;
 mod printer;
-mod reasons;
 mod refusals;
 mod replies;
-mod status;
+mod shown;
 mod texts;
+mod uploads;
 mod written;
 
-pub use direct::{direct_bytes, fault_bytes, out_of_memory};
 pub use replies::to_bytes;
+pub use shown::shown_bytes;

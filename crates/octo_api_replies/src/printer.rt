@@ -2,14 +2,14 @@
 ghost use Rattle.std.specs.Prelude.{◌≡◌, IfOk};
 ghost use Rattle.serde_json.specs.View.{view, members_view};
 ghost use Rattle.octo_api_replies.specs.Pages.{is_closed_or_error, is_operational, flags_data, state_data, with_heater, heaters_data, printer_data};
-ghost use Rattle.octo_api_replies.specs.Replies.{json_reply};
+ghost use Rattle.octo_api_refusals.specs.Refused.{json_reply};
 
 use crate::items::heat_value;
-use crate::objects::{Members, Primitive, object_of, object_with, pair, with_member};
-use crate::status::OK;
 use crate::texts::state_text;
-use crate::written::json_reply;
 use job_desk::State;
+use octo_api_refusals::{
+    Members, OK, Primitive, json_reply, object_of, object_with, pair, with_member,
+};
 use octo_asks::ShownHeat;
 use octo_http::HttpReply;
 use serde_json::{Map, Value};
@@ -67,7 +67,7 @@ fn state_value(alloc: Global, state: State) -> Result<Value, AllocError>
 }
 
 // The members and a heater, if it was reported.
-fn with_heater(
+pub(crate) fn with_heater(
     alloc: Global,
     members: Members,
     name: &str,

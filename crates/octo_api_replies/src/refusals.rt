@@ -3,17 +3,16 @@ ghost use Rattle.std.specs.Prelude.{◌≡◌, codes, true, Some, IfOk};
 ghost use Rattle.gcode_lines.specs.declared.fault.FileFault.TheVariants as fault;
 ghost use Rattle.serde_json.specs.Data.{string, object, no_members, member, put as with_member};
 ghost use Rattle.octo_api_replies.specs.Refusals.{bad_line_data, too_hot_data, too_hot_line_data, name_taken_data, full_data};
-ghost use Rattle.octo_api_replies.specs.Replies.{json_reply, refusal, bad_file_reply, reply_of, is_named, is_refusal};
+ghost use Rattle.octo_api_refusals.specs.Refused.{json_reply};
+ghost use Rattle.octo_api_replies.specs.Replies.{refusal, bad_file_reply, reply_of, is_named, is_refusal};
 
-use crate::direct::empty_reply;
 use crate::lists::ToJson;
-use crate::objects::Primitive;
-use crate::status::{
-    BAD_REQUEST, CONFLICT, FORBIDDEN, INSUFFICIENT_STORAGE, NOT_FOUND, SERVICE_UNAVAILABLE,
-};
 use crate::texts::{KEEPER_FAULT, permission_text, state_text};
-use crate::written::{object_reply, object_reply_with};
 use gcode_lines::FileFault;
+use octo_api_refusals::{
+    BAD_REQUEST, CONFLICT, FORBIDDEN, INSUFFICIENT_STORAGE, NOT_FOUND, Primitive,
+    SERVICE_UNAVAILABLE, empty_reply, object_reply, object_reply_with,
+};
 use octo_asks::{Answer, ShownEntry};
 use octo_http::HttpReply;
 use std::alloc::{AllocError, Global};

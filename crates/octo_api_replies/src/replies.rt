@@ -2,14 +2,13 @@
 ghost use Rattle.std.specs.Prelude.{◌≡◌, false, IfOk};
 ghost use Rattle.octo_api_replies.specs.Replies.{bytes_reply, reply_of, is_file};
 
-use crate::direct::empty_reply;
-use crate::pages::{
-    connection_reply, job_reply, stored_reply, unprinted_reply, uploaded_reply, version_reply,
-};
+use crate::fixed::settings_reply;
+use crate::pages::{caller_reply, connection_reply, job_reply, version_reply};
 use crate::printer::printer_reply;
 use crate::refusals::refusal_reply;
-use crate::status::{CREATED, OK};
+use crate::uploads::{stored_reply, unprinted_reply, uploaded_reply};
 use crate::written::{item_reply, list_reply};
+use octo_api_refusals::{CREATED, OK, empty_reply};
 use octo_asks::Answer;
 use octo_http::{FieldLines, HttpReply, NO_CONTENT, ReplyKind};
 use octo_outside::Blob;
@@ -34,11 +33,13 @@ fn page_reply(alloc: Global, answer: &Answer) -> Result<HttpReply, AllocError>
 {
     match answer {
         Answer::Version => version_reply(alloc),
+        Answer::Caller { name, groups } => caller_reply(alloc, name, groups.as_slice()),
         Answer::Accepted => Ok(empty_reply(alloc, NO_CONTENT)),
         Answer::Connection { port, state, ports } => {
             connection_reply(alloc, port, *state, ports.as_slice())
         }
         Answer::Printer { state, tool, bed } => printer_reply(alloc, *state, *tool, *bed),
+        Answer::Limits { tool, bed } => settings_reply(alloc, *tool, *bed),
         Answer::Job {
             file,
             progress,

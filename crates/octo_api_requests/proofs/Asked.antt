@@ -10,8 +10,8 @@ use Rattle.octo_api_routes.specs.declared.direct.Direct.{Direct}
 use Rattle.octo_api_routes.specs.declared.direct.Direct.TheVariants as direct
 use Rattle.octo_api_routes.specs.declared.wanted.Form.{Form}
 use Rattle.octo_api_routes.specs.declared.direct.BodyFault.{BodyFault}
-use Rattle.octo_api_requests.specs.declared.unread.Unread.{Unread}
-use Rattle.octo_api_requests.specs.Fields.{Gives}
+use Rattle.octo_api_commands.specs.declared.unread.Unread.{Unread}
+use Rattle.octo_api_commands.specs.Members.{Gives}
 use Rattle.octo_api_requests.specs.BodyFaults.{fault_in}
 use Rattle.octo_api_requests.specs.Bodies.{asked_in}
 use Rattle.octo_api_requests.specs.Uploads.{form_asked}

@@ -1,5 +1,3 @@
 pub mod Asked
 pub mod Cleaned
-pub mod Filling
-pub mod Items
 pub mod Others

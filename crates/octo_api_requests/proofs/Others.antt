@@ -1,4 +1,4 @@
--- No path, form or upload asks what a worker asks when it leaves.
+-- No path, form or upload asks what a worker or the host asks by itself.
 use Rattle.std.proofs.Common.{◌≡◌, ◌≢◌, ℕ, Bool, true, false, List, Option, Some, None, Result, Ok, Err, IfSome, IfOk, sym, subst, refl}
 use Rattle.std.specs.Prelude.{if◌then◌else◌, option_map, option_and_then, codes, is_some}
 use Rattle.arrayvec.specs.ArrayVec.{ArrayVec}
@@ -11,70 +11,105 @@ use Rattle.octo_api_routes.specs.declared.wanted.Form.{Form}
 use Rattle.octo_api_routes.specs.declared.wanted.Form.TheVariants as form
 use Rattle.octo_api_routes.specs.declared.wanted.Wanted.{Wanted}
 use Rattle.octo_api_routes.specs.declared.wanted.Wanted.TheVariants.{Nothing}
-use Rattle.octo_api_requests.specs.declared.unread.Unread.{Unread}
-use Rattle.octo_api_requests.specs.Fields.{Gives, or_default, is_text_at, whole_at, flag_at, name_at, file_at, as_key, as_list}
-use Rattle.octo_api_requests.specs.Bodies.{as_port, degrees_at, as_command, one_line, pause_asked, as_groups, optional, asked_in}
+use Rattle.octo_api_commands.specs.declared.unread.Unread.{Unread}
+use Rattle.octo_api_commands.specs.Lists.{as_list}
+use Rattle.octo_api_commands.specs.Members.{Gives, or_default, is_text_at, whole_at, flag_at, optional}
+use Rattle.octo_api_requests.specs.Fields.{name_at, file_at, as_key}
+use Rattle.octo_api_commands.specs.Commands.{as_command}
+use Rattle.octo_api_requests.specs.Bodies.{as_port, degrees_at, one_line, pause_asked, as_groups, heat_asked, has_password, asked_in}
+use Rattle.octo_api_commands.specs.Moves.{jog_lines, home_lines, feedrate_lines, flowrate_lines, extrude_lines, select_lines}
 use Rattle.octo_api_requests.specs.Callers.{IsCallers, WantsCallers}
 
 -- what each form asks, by the readings of its fields
 connection_is : (connects disconnects : Bool) (port : Option (Option (List ℕ)))
     → IfSome (if connects then option_map request.Connect port else if disconnects then Some request.Disconnect else None) IsCallers
-connection_is true disconnects (Some port) = λ e. cc
+connection_is true disconnects (Some port) = (λ e. cc, λ e. cc)
 connection_is true disconnects None = tt
-connection_is false true port = λ e. cc
+connection_is false true port = (λ e. cc, λ e. cc)
 connection_is false false port = tt
 
-tool_is : (targets : Bool) (found : Option Data) (degrees : Data → Option ℕ)
-    → IfSome (if targets then option_and_then (λ t. option_map request.HeatTool (degrees t)) found else None) IsCallers
-tool_is true (Some t) degrees = heats (degrees t)
+heat_is : (found : Option Data) (degrees : Data → Option ℕ)
+    → IfSome (option_and_then (λ t. option_map request.HeatTool (degrees t)) found) IsCallers
+heat_is (Some t) degrees = heats (degrees t)
   where
     heats : (read : Option ℕ) → IfSome (option_map request.HeatTool read) IsCallers
-    heats (Some n) = λ e. cc
+    heats (Some n) = (λ e. cc, λ e. cc)
     heats None = tt
-tool_is true None degrees = tt
-tool_is false found degrees = tt
+heat_is None degrees = tt
+
+-- lines that are sent, and moves
+lines_are : (lines : Option (List (List ℕ))) → IfSome (option_map request.Lines lines) IsCallers
+lines_are (Some all) = (λ e. cc, λ e. cc)
+lines_are None = tt
+
+moves_are : (lines : Option (List (List ℕ))) → IfSome (option_map request.Move lines) IsCallers
+moves_are (Some all) = (λ e. cc, λ e. cc)
+moves_are None = tt
+
+tool_is : (heats selects extrudes flows : Bool) (heat : Option Request) (selected extruded flown : Option (List (List ℕ)))
+    → IfSome heat IsCallers
+    → IfSome (if heats then heat else if selects then option_map request.Lines selected
+    else if extrudes then option_map request.Move extruded else if flows then option_map request.Lines flown else None) IsCallers
+tool_is true selects extrudes flows heat selected extruded flown is = is
+tool_is false true extrudes flows heat selected extruded flown is = lines_are selected
+tool_is false false true flows heat selected extruded flown is = moves_are extruded
+tool_is false false false true heat selected extruded flown is = lines_are flown
+tool_is false false false false heat selected extruded flown is = tt
+
+printhead_is : (jogs homes feeds : Bool) (jogged homed fed : Option (List (List ℕ)))
+    → IfSome (if jogs then option_map request.Move jogged else if homes then option_map request.Move homed
+    else if feeds then option_map request.Lines fed else None) IsCallers
+printhead_is true homes feeds jogged homed fed = moves_are jogged
+printhead_is false true feeds jogged homed fed = moves_are homed
+printhead_is false false true jogged homed fed = lines_are fed
+printhead_is false false false jogged homed fed = tt
+
+login_is : (password passive : Bool) → IfSome (if password then None else if passive then Some request.Caller else None) IsCallers
+login_is true passive = tt
+login_is false true = (λ e. cc, λ e. cc)
+login_is false false = tt
 
 bed_is : (targets : Bool) (degrees : Option ℕ) → IfSome (if targets then option_map request.HeatBed degrees else None) IsCallers
-bed_is true (Some n) = λ e. cc
+bed_is true (Some n) = (λ e. cc, λ e. cc)
 bed_is true None = tt
 bed_is false degrees = tt
 
 lines_is : (many both : Bool) (texts : Option (List (List ℕ))) (text : Option (List ℕ))
     → IfSome (if many then if both then None else option_map request.Lines texts else option_map one_line text) IsCallers
 lines_is true true texts text = tt
-lines_is true false (Some all) text = λ e. cc
+lines_is true false (Some all) text = (λ e. cc, λ e. cc)
 lines_is true false None text = tt
-lines_is false both texts (Some one) = λ e. cc
+lines_is false both texts (Some one) = (λ e. cc, λ e. cc)
 lines_is false both texts None = tt
 
 pause_is : (action pauses resumes toggles : Bool)
     → IfSome (if action
     then if pauses then Some request.Pause else if resumes then Some request.Resume else if toggles then Some request.Toggle else None
     else Some request.Toggle) IsCallers
-pause_is true true resumes toggles = λ e. cc
-pause_is true false true toggles = λ e. cc
-pause_is true false false true = λ e. cc
+pause_is true true resumes toggles = (λ e. cc, λ e. cc)
+pause_is true false true toggles = (λ e. cc, λ e. cc)
+pause_is true false false true = (λ e. cc, λ e. cc)
 pause_is true false false false = tt
-pause_is false pauses resumes toggles = λ e. cc
+pause_is false pauses resumes toggles = (λ e. cc, λ e. cc)
 
 job_is : (starts cancels restarts pauses : Bool) (pause : Option Request) → IfSome pause IsCallers
     → IfSome (if starts then Some request.Start else if cancels then Some request.Cancel
     else if restarts then Some request.Restart else if pauses then pause else None) IsCallers
-job_is true cancels restarts pauses pause is = λ e. cc
-job_is false true restarts pauses pause is = λ e. cc
-job_is false false true pauses pause is = λ e. cc
+job_is true cancels restarts pauses pause is = (λ e. cc, λ e. cc)
+job_is false true restarts pauses pause is = (λ e. cc, λ e. cc)
+job_is false false true pauses pause is = (λ e. cc, λ e. cc)
 job_is false false false true pause is = is
 job_is false false false false pause is = tt
 
 selection_is : (name : List ℕ) (selects : Bool) (print : Option Bool)
     → IfSome (if selects then option_map (request.SelectFile name) print else None) IsCallers
-selection_is name true (Some print) = λ e. cc
+selection_is name true (Some print) = (λ e. cc, λ e. cc)
 selection_is name true None = tt
 selection_is name false print = tt
 
 user_is : (name key : Option (List ℕ)) (groups : Option (ArrayVec (List ℕ))) (active : Option Bool)
     → IfSome (option_and_then (λ n. option_and_then (λ k. option_and_then (λ g. option_map (request.PutUser n k g) active) groups) key) name) IsCallers
-user_is (Some n) (Some k) (Some g) (Some a) = λ e. cc
+user_is (Some n) (Some k) (Some g) (Some a) = (λ e. cc, λ e. cc)
 user_is (Some n) (Some k) (Some g) None = tt
 user_is (Some n) (Some k) None active = tt
 user_is (Some n) None groups active = tt
@@ -82,7 +117,7 @@ user_is None key groups active = tt
 
 change_is : (name : List ℕ) (object : Bool) (key : Option (Option (List ℕ))) (groups : Option (Option (ArrayVec (List ℕ)))) (active : Option (Option Bool))
     → IfSome (if object then option_and_then (λ k. option_and_then (λ g. option_map (request.ChangeUser name k g) active) groups) key else None) IsCallers
-change_is name true (Some k) (Some g) (Some a) = λ e. cc
+change_is name true (Some k) (Some g) (Some a) = (λ e. cc, λ e. cc)
 change_is name true (Some k) (Some g) None = tt
 change_is name true (Some k) None active = tt
 change_is name true None groups active = tt
@@ -91,7 +126,7 @@ change_is name false key groups active = tt
 entry_is : (name file : Option (List ℕ)) (priority copies : Option ℕ) (material : Option (List ℕ))
     → IfSome (option_and_then (λ n. option_and_then (λ f. option_and_then (λ p. option_and_then (λ c.
     option_map (request.PutEntry n f p c) material) copies) priority) file) name) IsCallers
-entry_is (Some n) (Some f) (Some p) (Some c) (Some m) = λ e. cc
+entry_is (Some n) (Some f) (Some p) (Some c) (Some m) = (λ e. cc, λ e. cc)
 entry_is (Some n) (Some f) (Some p) (Some c) None = tt
 entry_is (Some n) (Some f) (Some p) None material = tt
 entry_is (Some n) (Some f) None copies material = tt
@@ -102,7 +137,15 @@ entry_is None file priority copies material = tt
 form_callers : (f : Form) (body : Data) → IfSome (asked_in f body) IsCallers
 form_callers form.Connection body = connection_is (is_text_at (codes "command") (codes "connect") body) (is_text_at (codes "command") (codes "disconnect") body)
     (or_default (Some None) as_port (get (codes "port") body))
-form_callers form.Tool body = tool_is (is_text_at (codes "command") (codes "target") body) (get (codes "targets") body) (degrees_at (codes "tool0"))
+form_callers form.Tool body =
+    tool_is (is_text_at (codes "command") (codes "target") body) (is_text_at (codes "command") (codes "select") body)
+    (is_text_at (codes "command") (codes "extrude") body) (is_text_at (codes "command") (codes "flowrate") body)
+    (heat_asked body) (select_lines body) (extrude_lines body) (flowrate_lines body)
+    (heat_is (get (codes "targets") body) (degrees_at (codes "tool0")))
+form_callers form.Printhead body =
+    printhead_is (is_text_at (codes "command") (codes "jog") body) (is_text_at (codes "command") (codes "home") body)
+    (is_text_at (codes "command") (codes "feedrate") body) (jog_lines body) (home_lines body) (feedrate_lines body)
+form_callers form.Login body = login_is (has_password body) (is_some (get (codes "passive") body))
 form_callers form.Bed body = bed_is (is_text_at (codes "command") (codes "target") body) (degrees_at (codes "target") body)
 form_callers form.Lines body = lines_is (is_some (get (codes "commands") body)) (is_some (get (codes "command") body))
     (option_and_then (as_list (as_command (get (codes "parameters") body)) 1 256) (get (codes "commands") body))

@@ -8,8 +8,11 @@ use Rattle.octo_asks.specs.declared.request.Request.{Request}
 use Rattle.octo_asks.specs.declared.request.Request.TheVariants as request
 use Rattle.octo_api_routes.specs.declared.wanted.Form.{Form}
 use Rattle.octo_api_routes.specs.declared.wanted.Form.TheVariants as form
-use Rattle.octo_api_requests.specs.Filled.{filled}
-use Rattle.octo_api_requests.specs.Fields.{or_default, is_text_at, whole_at, flag_at, as_name, name_at, file_at, as_key, as_list}
+use Rattle.octo_api_commands.specs.Commands.{as_command}
+use Rattle.octo_api_commands.specs.Lists.{as_list}
+use Rattle.octo_api_commands.specs.Members.{or_default, is_text_at, whole_at, flag_at, optional}
+use Rattle.octo_api_commands.specs.Moves.{jog_lines, home_lines, feedrate_lines, flowrate_lines, extrude_lines, select_lines}
+use Rattle.octo_api_requests.specs.Fields.{as_name, name_at, file_at, as_key}
 
 -- a port's name: 1 to 100 bytes; `AUTO` names none
 abbrev pub port_name : List ℕ → Option (Option (List ℕ))
@@ -34,11 +37,34 @@ abbrev pub degrees_at : List ℕ → Data → Option ℕ
 degrees_at key body = whole_at key 0 65535 None body
 
 -- the target of the tool
+abbrev pub heat_asked : Data → Option Request
+heat_asked body = option_and_then (λ targets. option_map request.HeatTool (degrees_at (codes "tool0") targets)) (get (codes "targets") body)
+
+-- what a body about the tool asks; only an extrusion is a move
 abbrev pub tool_asked : Data → Option Request
 tool_asked body =
-    if is_text_at (codes "command") (codes "target") body
-    then option_and_then (λ targets. option_map request.HeatTool (degrees_at (codes "tool0") targets)) (get (codes "targets") body)
+    if is_text_at (codes "command") (codes "target") body then heat_asked body
+    else if is_text_at (codes "command") (codes "select") body then option_map request.Lines (select_lines body)
+    else if is_text_at (codes "command") (codes "extrude") body then option_map request.Move (extrude_lines body)
+    else if is_text_at (codes "command") (codes "flowrate") body then option_map request.Lines (flowrate_lines body)
     else None
+
+-- what a body about the axes asks; the speed of all moves may be set at any time
+abbrev pub printhead_asked : Data → Option Request
+printhead_asked body =
+    if is_text_at (codes "command") (codes "jog") body then option_map request.Move (jog_lines body)
+    else if is_text_at (codes "command") (codes "home") body then option_map request.Move (home_lines body)
+    else if is_text_at (codes "command") (codes "feedrate") body then option_map request.Lines (feedrate_lines body)
+    else None
+
+-- whether a body has a password
+abbrev pub has_password : Data → Bool
+has_password body = is_some (get (codes "user") body) && is_some (get (codes "pass") body)
+
+-- a login without a password asks whom the key names
+abbrev pub login_asked : Data → Option Request
+login_asked body =
+    if has_password body then None else if is_some (get (codes "passive") body) then Some request.Caller else None
 
 -- the target of the bed
 abbrev pub bed_asked : Data → Option Request
@@ -71,11 +97,6 @@ selection_asked name body =
     then option_map (request.SelectFile name) (flag_at (codes "print") false body)
     else None
 
--- a command as it is sent: with `parameters` in the place of their names
-abbrev pub as_command : Option Data → Data → Option (List ℕ)
-as_command None found = as_str found
-as_command (Some parameters) found = option_and_then (filled parameters) (as_str found)
-
 -- a request to issue one command
 abbrev pub one_line : List ℕ → Request
 one_line text = request.Lines (text ∷ [])
@@ -103,10 +124,6 @@ user_asked body =
     (option_and_then as_groups (get (codes "groups") body)))
     (option_and_then as_key (get (codes "key") body)))
     (name_at (codes "name") None body)
-
--- a field that may be missing, as an option
-abbrev pub optional : {A : Type 0} → (Data → Option A) → Option Data → Option (Option A)
-optional read found = or_default (Some None) (λ value. option_map Some (read value)) found
 
 -- a change of a user, which is an object; what is missing stays as it is
 abbrev pub change_asked : List ℕ → Data → Option Request
@@ -145,10 +162,14 @@ asked_in (form.SelectFile name) body = selection_asked name body
 asked_in form.PutUser body = user_asked body
 asked_in (form.ChangeUser name) body = change_asked name body
 asked_in form.PutEntry body = entry_asked body
+asked_in form.Login body = login_asked body
+asked_in form.Printhead body = printhead_asked body
 
 -- a form whose reading takes memory
 abbrev pub takes_memory : Form → Bool
 takes_memory form.Lines = true
+takes_memory form.Tool = true
+takes_memory form.Printhead = true
 takes_memory form.PutUser = true
 takes_memory (form.ChangeUser name) = true
 takes_memory _ = false

@@ -1,16 +1,19 @@
 -- What is wrong with JSON that isn't what a form takes: of its members the first one, in the order in which they are read.
-use Rattle.std.specs.Prelude.{ℕ, List, codes, Option, Some, None, is_some, is_none, option_and_then, if◌then◌else◌}
+use Rattle.std.specs.Prelude.{ℕ, false, List, codes, Option, Some, None, is_some, is_none, option_and_then, if◌then◌else◌}
 use Rattle.serde_json.specs.Data.{Data}
 use Rattle.serde_json.specs.Find.{get, as_object}
 use Rattle.octo_api_routes.specs.Members.{member_name}
 use Rattle.octo_api_routes.specs.declared.direct.BodyFault.{BodyFault}
-use Rattle.octo_api_routes.specs.declared.direct.BodyFault.TheVariants.{Missing, Wrong, Both, NoObject}
+use Rattle.octo_api_routes.specs.declared.direct.BodyFault.TheVariants.{Missing, Wrong, Both, Password, NoObject}
 use Rattle.octo_api_routes.specs.declared.direct.Member.{Member}
 use Rattle.octo_api_routes.specs.declared.direct.Member.TheVariants as member
 use Rattle.octo_api_routes.specs.declared.wanted.Form.{Form}
 use Rattle.octo_api_routes.specs.declared.wanted.Form.TheVariants as form
-use Rattle.octo_api_requests.specs.Fields.{text_at, are_texts, is_text_at, whole_at, name_at, file_at, as_key}
-use Rattle.octo_api_requests.specs.Bodies.{as_groups, optional}
+use Rattle.octo_api_commands.specs.Lists.{are_texts}
+use Rattle.octo_api_commands.specs.Members.{text_at, is_text_at, whole_at, flag_at, optional}
+use Rattle.octo_api_commands.specs.Moves.{axis_at, amount_at}
+use Rattle.octo_api_requests.specs.Fields.{name_at, file_at, as_key}
+use Rattle.octo_api_requests.specs.Bodies.{as_groups, has_password}
 
 -- a member that isn't read is missing or wrong
 abbrev pub unread_member : Member → Data → BodyFault
@@ -26,12 +29,41 @@ abbrev pub targets_fault : Option Data → BodyFault
 targets_fault None = Missing member.Targets
 targets_fault (Some targets) = unread_member member.Tool0 targets
 
+-- of an extrusion
+abbrev pub extrude_fault : Data → BodyFault
+extrude_fault body = if is_none (amount_at body) then unread_member member.Amount body else Wrong member.Speed
+
 -- of a body about the tool
 abbrev pub tool_fault : Data → BodyFault
 tool_fault body =
     if is_text_at (codes "command") (codes "target") body
     then targets_fault (get (codes "targets") body)
+    else if is_text_at (codes "command") (codes "select") body then unread_member member.Tool body
+    else if is_text_at (codes "command") (codes "extrude") body then extrude_fault body
+    else if is_text_at (codes "command") (codes "flowrate") body then unread_member member.Factor body
     else unread_member member.Command body
+
+-- of a move by hand: one that moves no axis lacks X
+abbrev pub jog_fault : Data → BodyFault
+jog_fault body =
+    if is_none (axis_at (codes "x") body) then Wrong member.X
+    else if is_none (axis_at (codes "y") body) then Wrong member.Y
+    else if is_none (axis_at (codes "z") body) then Wrong member.Z
+    else if is_none (flag_at (codes "absolute") false body) then Wrong member.Absolute
+    else if is_none (whole_at (codes "speed") 1 65535 (Some 1) body) then Wrong member.Speed
+    else Missing member.X
+
+-- of a body about the axes
+abbrev pub printhead_fault : Data → BodyFault
+printhead_fault body =
+    if is_text_at (codes "command") (codes "jog") body then jog_fault body
+    else if is_text_at (codes "command") (codes "home") body then unread_member member.Axes body
+    else if is_text_at (codes "command") (codes "feedrate") body then unread_member member.Factor body
+    else unread_member member.Command body
+
+-- of a login
+abbrev pub login_fault : Data → BodyFault
+login_fault body = if has_password body then Password else Missing member.Passive
 
 -- of a body about the bed
 abbrev pub bed_fault : Data → BodyFault
@@ -102,6 +134,8 @@ members_fault (form.SelectFile name) body = selection_fault body
 members_fault form.PutUser body = user_fault body
 members_fault (form.ChangeUser name) body = change_fault body
 members_fault form.PutEntry body = entry_fault body
+members_fault form.Login body = login_fault body
+members_fault form.Printhead body = printhead_fault body
 
 -- of JSON that isn't what a form takes
 abbrev pub fault_in : Form → Data → BodyFault

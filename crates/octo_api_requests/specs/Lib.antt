@@ -2,7 +2,6 @@ pub mod Bodies
 pub mod BodyFaults
 pub mod Callers
 pub mod Fields
-pub mod Filled
 pub mod Marked
 pub mod Requests
 pub mod Uploads

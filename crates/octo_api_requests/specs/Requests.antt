@@ -23,8 +23,8 @@ use Rattle.octo_api_routes.specs.declared.wanted.Wanted.{Wanted}
 use Rattle.octo_api_routes.specs.declared.wanted.Wanted.TheVariants.{Nothing, Json, Upload}
 use Rattle.octo_api_routes.specs.Places.{target_of}
 use Rattle.octo_api_routes.specs.Wants.{methods_of, wanted_of}
-use Rattle.octo_api_requests.specs.declared.unread.Unread.{Unread}
-use Rattle.octo_api_requests.specs.declared.unread.Unread.TheVariants as unread
+use Rattle.octo_api_commands.specs.declared.unread.Unread.{Unread}
+use Rattle.octo_api_commands.specs.declared.unread.Unread.TheVariants as unread
 use Rattle.octo_api_requests.specs.Bodies.{asked_in}
 use Rattle.octo_api_requests.specs.BodyFaults.{fault_in}
 use Rattle.octo_api_requests.specs.Uploads.{form_asked}

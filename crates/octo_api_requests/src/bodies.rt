@@ -1,16 +1,14 @@
 //! What JSON bodies ask of the printer, and of each form.
 ghost use Rattle.std.specs.Prelude.{◌≡◌, ◌∷◌, [], Some, false};
 ghost use Rattle.serde_json.specs.View.{view};
-ghost use Rattle.octo_api_requests.specs.Fields.{Gives};
-ghost use Rattle.octo_api_requests.specs.Bodies.{as_port, connection_asked, tool_asked, bed_asked, pause_asked, job_asked, selection_asked, lines_asked, asked_in, takes_memory};
+ghost use Rattle.octo_api_commands.specs.Members.{Gives};
+ghost use Rattle.octo_api_requests.specs.Bodies.{as_port, connection_asked, pause_asked, job_asked, selection_asked, lines_asked, has_password, login_asked, asked_in, takes_memory};
 
-use crate::commands::command_of;
 use crate::entry_body::entry_of;
-use crate::fields::{degrees_at, flag_at, is_text_at};
-use crate::lists::as_lines;
-use crate::unread::Unread;
+use crate::printer_bodies::{bed_of, or_wrong, printhead_of, tool_of};
 use crate::user_bodies::{change_of, user_of};
 use byte_text::Name;
+use octo_api_commands::{Unread, as_lines, command_of, flag_at, is_text_at};
 use octo_api_routes::Form;
 use octo_asks::{BlobList, Request};
 use octo_outside::Blob;
@@ -48,29 +46,6 @@ fn connection_of(body: &Value) -> Option<Request>
     }
     if is_text_at(body, "command", "disconnect") {
         return Some(Request::Disconnect);
-    }
-    None
-}
-
-// What a body asks of the tool: its target temperature. Other tools are ignored.
-fn tool_of(body: &Value) -> Option<Request>
-    ensures { result ≡ tool_asked (view body.now) }
-{
-    if is_text_at(body, "command", "target") {
-        let targets = body.get("targets")?;
-        let degrees = degrees_at(targets, "tool0")?;
-        return Some(Request::HeatTool { degrees });
-    }
-    None
-}
-
-// What a body asks of the bed: its target temperature.
-fn bed_of(body: &Value) -> Option<Request>
-    ensures { result ≡ bed_asked (view body.now) }
-{
-    if is_text_at(body, "command", "target") {
-        let degrees = degrees_at(body, "target")?;
-        return Some(Request::HeatBed { degrees });
     }
     None
 }
@@ -154,6 +129,23 @@ fn lines_of(alloc: Global, body: &Value) -> Result<Request, Unread>
     Ok(Request::Lines { texts })
 }
 
+// Whether a body has a password.
+pub(crate) fn has_password(body: &Value) -> bool
+    ensures { result ≡ has_password (view body.now) }
+{
+    body.get("user").is_some() && body.get("pass").is_some()
+}
+
+// What a login asks: whom the key names. The host knows no passwords.
+fn login_of(body: &Value) -> Option<Request>
+    ensures { result ≡ login_asked (view body.now) }
+{
+    if !has_password(body) && body.get("passive").is_some() {
+        return Some(Request::Caller);
+    }
+    None
+}
+
 // What a body asks in a form whose reading takes no memory.
 fn request_of_form(form: &Form, body: &Value) -> Option<Request>
     requires { takes_memory form.now ≡ false }
@@ -161,22 +153,12 @@ fn request_of_form(form: &Form, body: &Value) -> Option<Request>
 {
     match form {
         Form::Connection => connection_of(body),
-        Form::Tool => tool_of(body),
         Form::Bed => bed_of(body),
         Form::Job => job_of(body),
         Form::SelectFile { name } => selection_of(name, body),
         Form::PutEntry => entry_of(body),
+        Form::Login => login_of(body),
         _ => unreachable!(),
-    }
-}
-
-// What a reading returns, or that the JSON is wrong if it returns nothing.
-fn or_wrong(read: Option<Request>) -> Result<Request, Unread>
-    ensures { Gives read result }
-{
-    match read {
-        Some(request) => Ok(request),
-        None => Err(Unread::Wrong),
     }
 }
 
@@ -185,6 +167,8 @@ pub(crate) fn asked_in(alloc: Global, form: &Form, body: &Value) -> Result<Reque
     ensures { Gives (asked_in form.now (view body.now)) result }
 {
     match form {
+        Form::Tool => tool_of(alloc, body),
+        Form::Printhead => printhead_of(alloc, body),
         Form::Lines => lines_of(alloc, body),
         Form::PutUser => user_of(alloc, body),
         Form::ChangeUser { name } => change_of(alloc, name, body),

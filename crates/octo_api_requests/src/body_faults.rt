@@ -1,16 +1,19 @@
 //! What is wrong with JSON that isn't what a form takes: of its members the first one, in the order in which they are read.
 ghost use Rattle.std.specs.Prelude.{◌≡◌};
 ghost use Rattle.serde_json.specs.View.{view};
-ghost use Rattle.octo_api_requests.specs.BodyFaults.{unread_member, connection_fault, tool_fault, bed_fault, commands_fault, lines_fault, job_fault, selection_fault, user_fault, change_fault, entry_fault, members_fault, fault_in};
+ghost use Rattle.octo_api_requests.specs.BodyFaults.{unread_member, connection_fault, commands_fault, lines_fault, job_fault, selection_fault, user_fault, change_fault, entry_fault, login_fault, members_fault, fault_in};
 
-use crate::fields::{as_key, file_at, is_text_at, name_at, small_at, text_at};
-use crate::lists::{are_texts, as_groups};
+use crate::bodies::has_password;
+use crate::fields::{as_key, file_at, name_at, small_at};
+use crate::lists::as_groups;
+use crate::printer_faults::{bed_fault, printhead_fault, tool_fault};
 use crate::user_bodies::{optional_groups, optional_key};
+use octo_api_commands::{are_texts, is_text_at, text_at};
 use octo_api_routes::{BodyFault, Form, Member};
 use serde_json::Value;
 
 // A member that isn't read is missing or wrong.
-fn unread_member(member: Member, body: &Value) -> BodyFault
+pub(crate) fn unread_member(member: Member, body: &Value) -> BodyFault
     ensures { result ≡ unread_member member (view body.now) }
 {
     if body.get(member.name()).is_some() {
@@ -26,29 +29,6 @@ fn connection_fault(body: &Value) -> BodyFault
         return BodyFault::Wrong {
             member: Member::Port,
         };
-    }
-    unread_member(Member::Command, body)
-}
-
-fn tool_fault(body: &Value) -> BodyFault
-    ensures { result ≡ tool_fault (view body.now) }
-{
-    if is_text_at(body, "command", "target") {
-        return match body.get("targets") {
-            Some(targets) => unread_member(Member::Tool0, targets),
-            None => BodyFault::Missing {
-                member: Member::Targets,
-            },
-        };
-    }
-    unread_member(Member::Command, body)
-}
-
-fn bed_fault(body: &Value) -> BodyFault
-    ensures { result ≡ bed_fault (view body.now) }
-{
-    if is_text_at(body, "command", "target") {
-        return unread_member(Member::Target, body);
     }
     unread_member(Member::Command, body)
 }
@@ -166,6 +146,17 @@ fn entry_fault(body: &Value) -> BodyFault
     }
 }
 
+fn login_fault(body: &Value) -> BodyFault
+    ensures { result ≡ login_fault (view body.now) }
+{
+    if has_password(body) {
+        return BodyFault::Password;
+    }
+    BodyFault::Missing {
+        member: Member::Passive,
+    }
+}
+
 // What is wrong with an object that isn't what a form takes.
 fn members_fault(form: &Form, body: &Value) -> BodyFault
     ensures { result ≡ members_fault form.now (view body.now) }
@@ -180,6 +171,8 @@ fn members_fault(form: &Form, body: &Value) -> BodyFault
         Form::PutUser => user_fault(body),
         Form::ChangeUser { .. } => change_fault(body),
         Form::PutEntry => entry_fault(body),
+        Form::Login => login_fault(body),
+        Form::Printhead => printhead_fault(body),
     }
 }
 

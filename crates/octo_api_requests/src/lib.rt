@@ -5,14 +5,14 @@
 
 mod bodies;
 mod body_faults;
-mod commands;
 mod entry_body;
 mod fields;
 mod lists;
 mod marked;
+mod printer_bodies;
+mod printer_faults;
 mod request;
 mod stored;
-mod unread;
 mod upload;
 mod user_bodies;
 

@@ -12,8 +12,8 @@ ghost use Rattle.octo_api_routes.specs.declared.wanted.Wanted.TheVariants as wan
 use crate::Direct;
 use crate::bodies::asked_in;
 use crate::body_faults::fault_in;
-use crate::unread::Unread;
 use crate::upload::upload_of;
+use octo_api_commands::Unread;
 use octo_api_routes::{
     BodyFault, Form, MediaFault, Routes, Wanted, methods_of, target_of, wanted_of,
 };

@@ -2,14 +2,16 @@
 ghost use Rattle.std.specs.Prelude.{◌≡◌, ℕ, List, codes, IfOk, IfErr, option_map};
 ghost use Rattle.serde_json.specs.Find.{get, as_bool};
 ghost use Rattle.serde_json.specs.View.{view};
-ghost use Rattle.octo_api_requests.specs.Fields.{Gives, as_key};
-ghost use Rattle.octo_api_requests.specs.Bodies.{as_groups, optional, user_asked, change_asked};
+ghost use Rattle.octo_api_commands.specs.Members.{Gives};
+ghost use Rattle.octo_api_requests.specs.Fields.{as_key};
+ghost use Rattle.octo_api_commands.specs.Members.{optional};
+ghost use Rattle.octo_api_requests.specs.Bodies.{as_groups, user_asked, change_asked};
 
-use crate::fields::{as_key, flag_at, name_at};
+use crate::fields::{as_key, name_at};
 use crate::lists::as_groups;
-use crate::unread::Unread;
 use byte_text::Name;
 use octo_access::GroupNames;
+use octo_api_commands::{Unread, flag_at};
 use octo_asks::Request;
 use octo_outside::Blob;
 use serde_json::Value;

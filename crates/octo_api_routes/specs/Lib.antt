@@ -1,4 +1,5 @@
 pub mod Ascii
 pub mod Members
 pub mod Places
+pub mod Shown
 pub mod Wants

@@ -38,6 +38,14 @@ routes =
     ∷ (codes "/api/queue-next", place.NextEntry)
     ∷ (codes "/api/prints", place.Prints)
     ∷ (codes "/api/system/commands/core/shutdown", place.Shutdown)
+    ∷ (codes "/api/server", place.Server)
+    ∷ (codes "/api/settings", place.Settings)
+    ∷ (codes "/api/printerprofiles", place.Profiles)
+    ∷ (codes "/api/system/commands", place.SystemCommands)
+    ∷ (codes "/api/login", place.Login)
+    ∷ (codes "/api/logout", place.Logout)
+    ∷ (codes "/api/currentuser", place.CurrentUser)
+    ∷ (codes "/api/printer/printhead", place.Printhead)
     ∷ []
 
 -- the rows of a router after one more route
@@ -102,6 +110,14 @@ target_at place.OthersEntry path = others_entry (drop (length (codes "/api/queue
 target_at place.NextEntry path = Some target.NextEntry
 target_at place.Prints path = Some target.Prints
 target_at place.Shutdown path = Some target.Shutdown
+target_at place.Server path = Some target.Server
+target_at place.Settings path = Some target.Settings
+target_at place.Profiles path = Some target.Profiles
+target_at place.SystemCommands path = Some target.SystemCommands
+target_at place.Login path = Some target.Login
+target_at place.Logout path = Some target.Logout
+target_at place.CurrentUser path = Some target.CurrentUser
+target_at place.Printhead path = Some target.Printhead
 
 -- whether a part of a path has ended before these bytes
 abbrev pub ends_part : List ℕ → Bool

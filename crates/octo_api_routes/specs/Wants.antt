@@ -24,8 +24,15 @@ verb_of method =
 -- requests without a body
 abbrev pub asked_by_get : Target → Option Request
 asked_by_get target.Version = Some request.Version
+asked_by_get target.Server = Some request.Version
+asked_by_get target.Settings = Some request.GetLimits
+asked_by_get target.Profiles = Some request.Version
+asked_by_get target.SystemCommands = Some request.Version
+asked_by_get target.CurrentUser = Some request.Caller
 asked_by_get target.Connection = Some request.GetConnection
 asked_by_get target.Printer = Some request.GetPrinter
+asked_by_get target.Tool = Some request.GetPrinter
+asked_by_get target.Bed = Some request.GetPrinter
 asked_by_get target.Job = Some request.GetJob
 asked_by_get target.AllFiles = Some request.ListFiles
 asked_by_get target.Files = Some request.ListFiles
@@ -56,6 +63,9 @@ wanted_by_post target.Users = Some (Json form.PutUser)
 wanted_by_post target.Queue = Some (Json form.PutEntry)
 wanted_by_post target.NextEntry = Some (Nothing request.NextEntry)
 wanted_by_post target.Shutdown = Some (Nothing request.Shutdown)
+wanted_by_post target.Login = Some (Json form.Login)
+wanted_by_post target.Logout = Some (Nothing request.Caller)
+wanted_by_post target.Printhead = Some (Json form.Printhead)
 wanted_by_post _ = None
 
 -- what a PUT wants

@@ -26,6 +26,16 @@ pub enum Member {
     Key,
     Groups,
     Active,
+    Passive,
+    X,
+    Y,
+    Z,
+    Absolute,
+    Speed,
+    Axes,
+    Factor,
+    Amount,
+    Tool,
 }
 
 impl Member {
@@ -51,6 +61,16 @@ impl Member {
             Member::Key => "key",
             Member::Groups => "groups",
             Member::Active => "active",
+            Member::Passive => "passive",
+            Member::X => "x",
+            Member::Y => "y",
+            Member::Z => "z",
+            Member::Absolute => "absolute",
+            Member::Speed => "speed",
+            Member::Axes => "axes",
+            Member::Factor => "factor",
+            Member::Amount => "amount",
+            Member::Tool => "tool",
         }
     }
 }
@@ -70,6 +90,8 @@ pub enum BodyFault {
     Wrong { member: Member },
     /// The body has both `command` and `commands`.
     Both,
+    /// The body has a password, and the host knows keys alone.
+    Password,
     /// A form has no closing delimiter.
     NoClose,
     /// A part of a form is no field.

@@ -7,11 +7,13 @@
 mod ascii;
 mod direct;
 mod place;
+mod shown;
 mod target;
 mod wanted;
 
 pub use ascii::{ascii_text, is_key};
 pub use direct::{BodyFault, Direct, MediaFault, Member, Methods};
 pub use place::Routes;
+pub use shown::{Shown, shown_of};
 pub use target::{Target, target_of};
 pub use wanted::{Form, Wanted, methods_of, wanted_of};

@@ -28,12 +28,20 @@ pub(crate) enum Place {
     NextEntry,
     Prints,
     Shutdown,
+    Server,
+    Settings,
+    Profiles,
+    SystemCommands,
+    Login,
+    Logout,
+    CurrentUser,
+    Printhead,
 }
 
 // Each path, with `{..}` for one of its parts. Source: OctoPrint's REST API; the paths for users, the queue and the prints
 // are this project's own.
 #[tactic(auto, unfolding(crate::specs::Places::routes))]
-fn route_list() -> [(&'static str, Place); 19]
+fn route_list() -> [(&'static str, Place); 27]
     ensures { map (λ route. (route.0.now, route.1)) result ≡ routes }
 {
     [
@@ -56,6 +64,14 @@ fn route_list() -> [(&'static str, Place); 19]
         ("/api/queue-next", Place::NextEntry),
         ("/api/prints", Place::Prints),
         ("/api/system/commands/core/shutdown", Place::Shutdown),
+        ("/api/server", Place::Server),
+        ("/api/settings", Place::Settings),
+        ("/api/printerprofiles", Place::Profiles),
+        ("/api/system/commands", Place::SystemCommands),
+        ("/api/login", Place::Login),
+        ("/api/logout", Place::Logout),
+        ("/api/currentuser", Place::CurrentUser),
+        ("/api/printer/printhead", Place::Printhead),
     ]
 }
 

@@ -45,6 +45,14 @@ pub enum Target {
     NextEntry,
     Prints,
     Shutdown,
+    Server,
+    Settings,
+    Profiles,
+    SystemCommands,
+    Login,
+    Logout,
+    CurrentUser,
+    Printhead,
 }
 
 // The text that a part of a path is percent-encoded from. Source: RFC 3986, section 2.1.
@@ -154,6 +162,14 @@ fn target_at(alloc: Global, place: Place, path: &[u8]) -> Result<Option<Target>,
         Place::NextEntry => Ok(Some(Target::NextEntry)),
         Place::Prints => Ok(Some(Target::Prints)),
         Place::Shutdown => Ok(Some(Target::Shutdown)),
+        Place::Server => Ok(Some(Target::Server)),
+        Place::Settings => Ok(Some(Target::Settings)),
+        Place::Profiles => Ok(Some(Target::Profiles)),
+        Place::SystemCommands => Ok(Some(Target::SystemCommands)),
+        Place::Login => Ok(Some(Target::Login)),
+        Place::Logout => Ok(Some(Target::Logout)),
+        Place::CurrentUser => Ok(Some(Target::CurrentUser)),
+        Place::Printhead => Ok(Some(Target::Printhead)),
         _ => named_target(alloc, place, path),
     }
 }

@@ -28,6 +28,8 @@ pub enum Form {
     PutUser,
     ChangeUser { name: Name },
     PutEntry,
+    Login,
+    Printhead,
 }
 
 /// The body that a request wants.
@@ -65,9 +67,13 @@ fn asked_by_get(target: &Target) -> Option<Request>
     ensures { result ≡ asked_by_get target.now }
 {
     match target {
-        Target::Version => Some(Request::Version),
+        Target::Version | Target::Server | Target::Profiles | Target::SystemCommands => {
+            Some(Request::Version)
+        }
+        Target::Settings => Some(Request::GetLimits),
+        Target::CurrentUser => Some(Request::Caller),
         Target::Connection => Some(Request::GetConnection),
-        Target::Printer => Some(Request::GetPrinter),
+        Target::Printer | Target::Tool | Target::Bed => Some(Request::GetPrinter),
         Target::Job => Some(Request::GetJob),
         Target::AllFiles | Target::Files => Some(Request::ListFiles),
         Target::File { name } => Some(Request::GetFile { name: name.copy() }),
@@ -117,9 +123,12 @@ fn wanted_by_post(target: &Target) -> Option<Wanted>
         Target::File { name } => Form::SelectFile { name: name.copy() },
         Target::Users => Form::PutUser,
         Target::Queue => Form::PutEntry,
+        Target::Login => Form::Login,
+        Target::Printhead => Form::Printhead,
         Target::Files => return Some(Wanted::Upload),
         Target::NextEntry => return without_body(Some(Request::NextEntry)),
         Target::Shutdown => return without_body(Some(Request::Shutdown)),
+        Target::Logout => return without_body(Some(Request::Caller)),
         _ => return None,
     };
     Some(Wanted::Json { form })

@@ -17,7 +17,10 @@ use Rattle.octo_asks.specs.History.{History}
 use Rattle.octo_api_page.specs.declared.page.Page.{Page}
 use Rattle.octo_api_page.specs.Pages.{page_of, page_bytes}
 use Rattle.octo_api_routes.specs.declared.direct.Direct.{Direct}
-use Rattle.octo_api_replies.specs.Replies.{empty_reply, reply_of, IsDirectReply, IsFaultReply}
+use Rattle.octo_api_routes.specs.declared.shown.Shown.{Shown}
+use Rattle.octo_api_routes.specs.Shown.{shown_of}
+use Rattle.octo_api_replies.specs.Shown.{shown_reply}
+use Rattle.octo_api_refusals.specs.Refused.{empty_reply, IsDirectReply, IsFaultReply}
 use Rattle.octo_api_requests.specs.Requests.{MessageReadsAs}
 use Rattle.octo_api_requests.specs.Callers.{IsCallers}
 use Rattle.octo_api_worker.specs.declared.reply.WorkerReply.{WorkerReply}
@@ -40,9 +43,9 @@ pub record HasCause (patience : ℕ) (conn : ConnState) (fault : MessageFault) :
   pub failed : fault ≡ ReadFault → 0 < conn.faults
   pub slow : IsSlow patience 0 conn.quiets fault
 
--- the reply to an answer, or 507 if memory ran out
-abbrev pub IsReply : Answer → HttpReply → Type 0
-IsReply answer reply = (reply ≡ reply_of answer) ⊎ (reply ≡ empty_reply 507)
+-- the reply to an answer, of which its path shows this, or 507 if memory ran out
+abbrev pub IsReply : Shown → Answer → HttpReply → Type 0
+IsReply shown answer reply = (reply ≡ shown_reply shown answer) ⊎ (reply ≡ empty_reply 507)
 
 -- a message that asks for the head of a reply alone (RFC 9110, section 9.3.2)
 abbrev pub is_head : Message → Bool
@@ -62,10 +65,10 @@ pub data IsReplied (message : Message) : WorkerReply → Bool → History → Ty
   shown : (page : Page) → page_of message.method message.path ≡ Some page → IsReplied message (by.Page page) true []
   refused : (direct : Direct) (reply : HttpReply) → IsOfApi message → MessageReadsAs message (Err direct) → IsDirectReply direct reply
       → IsReplied message (by.Api reply) true []
-  ended : (ask : Ask) (reply : HttpReply) → IsOfApi message → MessageReadsAs message (Ok ask) → IsReply answer.Closed reply
+  ended : (ask : Ask) (reply : HttpReply) → IsOfApi message → MessageReadsAs message (Ok ask) → IsReply (shown_of message.path) answer.Closed reply
       → IsReplied message (by.Api reply) false []
   answered : (ask : Ask) (worker moment : ℕ) (a : Answer) (reply : HttpReply) → IsOfApi message → MessageReadsAs message (Ok ask)
-      → IsCallers ask.request → IsReply a reply → IsReplied message (by.Api reply) true (entry.Call worker ask moment a ∷ [])
+      → IsCallers ask.request → IsReply (shown_of message.path) a reply → IsReplied message (by.Api reply) true (entry.Call worker ask moment a ∷ [])
 
 -- a connection with this input was served: it holds no message, or a message that is replied to
 pub data IsServed (patience : ℕ) (input : List ℕ) (conn : ConnState) : Bool → History → Type 0 where

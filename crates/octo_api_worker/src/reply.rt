@@ -1,17 +1,19 @@
 //! The reply to a message, and the call that it leads to.
-ghost use Rattle.std.specs.Prelude.{◌≡◌, Ok, true, false};
+ghost use Rattle.std.specs.Prelude.{◌≡◌, Ok, IfOk, true, false};
 ghost use Rattle.octo_outside.specs.Recorded.{Adds};
 ghost use Rattle.octo_http.specs.declared.message.Message.{Message};
 ghost use Rattle.octo_api_requests.specs.Requests.{MessageReadsAs};
 ghost use Rattle.octo_api_requests.specs.Callers.{IsCallers};
 ghost use Rattle.octo_asks.specs.History.{History};
+ghost use Rattle.octo_api_routes.specs.Shown.{shown_of};
 ghost use Rattle.octo_api_page.specs.Pages.{page_of};
 ghost use Rattle.octo_api_worker.specs.Served.{IsReply, IsOfApi, IsReplied};
 
 use octo_api_page::{Page, page_of};
-use octo_api_replies::{direct_bytes, out_of_memory, to_bytes};
+use octo_api_refusals::{direct_bytes, out_of_memory};
+use octo_api_replies::shown_bytes;
 use octo_api_requests::request_by;
-use octo_api_routes::Routes;
+use octo_api_routes::{Routes, Shown, shown_of};
 use octo_asks::{Answer, Ask, Asker, Closed};
 use octo_http::{HttpReply, Message};
 use std::alloc::{AllocError, Global};
@@ -32,19 +34,19 @@ pub(crate) struct Replied {
     pub is_open: bool,
 }
 
-// An answer's reply, or 507 if memory ran out.
-fn reply_to(alloc: Global, answer: Answer) -> HttpReply
-    ensures { IsReply answer result }
+// The reply to an answer, of which its path shows this, or 507 if memory ran out.
+fn reply_to(alloc: Global, shown: Shown, answer: Answer) -> HttpReply
+    ensures { IsReply shown answer result }
 {
-    match to_bytes(alloc, answer) {
+    match shown_bytes(alloc, shown, answer) {
         Ok(reply) => reply,
         Err(AllocError) => out_of_memory(alloc),
     }
 }
 
 // Asks, and returns the reply to the answer.
-fn reply_to_ask<A: Asker>(alloc: Global, asker: &mut A, ask: Ask) -> Replied
-    ensures replied { (message : Message) → IsOfApi message
+fn reply_to_ask<A: Asker>(alloc: Global, asker: &mut A, shown: Shown, ask: Ask) -> Replied
+    ensures replied { (message : Message) → shown ≡ shown_of message.path → IsOfApi message
         → MessageReadsAs message (Ok ask) → IsCallers ask.request
         → (calls : History) × Adds (A.mine asker.old) (A.mine asker.new) calls
         × IsReplied message result.reply result.is_open calls }
@@ -55,20 +57,53 @@ fn reply_to_ask<A: Asker>(alloc: Global, asker: &mut A, ask: Ask) -> Replied
     match asker.ask(ask) {
         Ok(answer) => Replied {
             reply: WorkerReply::Api {
-                reply: reply_to(alloc, answer),
+                reply: reply_to(alloc, shown, answer),
             },
             is_open: true,
         },
         Err(Closed) => Replied {
             reply: WorkerReply::Api {
-                reply: reply_to(alloc, Answer::Closed),
+                reply: reply_to(alloc, shown, Answer::Closed),
             },
             is_open: false,
         },
     }
 }
 
-// Asks what a message of the REST API says, if it says a request, and returns the reply.
+// Asks what a message of the REST API says, if it says a request, and returns the reply. The path shows this of an answer.
+fn reply_to_shown<A: Asker>(
+    alloc: Global,
+    routes: &Routes,
+    asker: &mut A,
+    shown: Shown,
+    message: Message,
+) -> Replied
+    ensures replied { shown ≡ shown_of message.path → IsOfApi message → (calls : History)
+        × Adds (A.mine asker.old) (A.mine asker.new) calls
+        × IsReplied message result.reply result.is_open calls }
+    ensures closed { result.is_open ≡ false → A.saw_close asker.new ≡ true }
+    ensures seen { A.saw_close asker.old ≡ true → A.saw_close asker.new ≡ true }
+    ensures place { A.place asker.new ≡ A.place asker.old }
+{
+    match request_by(alloc, routes, message) {
+        Ok(ask) => reply_to_ask(alloc, asker, shown, ask),
+        Err(direct) => Replied {
+            reply: WorkerReply::Api {
+                reply: direct_bytes(alloc, &direct),
+            },
+            is_open: true,
+        },
+    }
+}
+
+// What the reply to a message shows of an answer.
+fn shown_for(alloc: Global, routes: &Routes, message: &Message) -> Result<Shown, AllocError>
+    ensures { IfOk result (λ shown. shown ≡ shown_of message.now.path) }
+{
+    shown_of(alloc, routes, message.path.as_slice())
+}
+
+// The same for each message of the REST API.
 fn reply_to_request<A: Asker>(
     alloc: Global,
     routes: &Routes,
@@ -82,11 +117,11 @@ fn reply_to_request<A: Asker>(
     ensures seen { A.saw_close asker.old ≡ true → A.saw_close asker.new ≡ true }
     ensures place { A.place asker.new ≡ A.place asker.old }
 {
-    match request_by(alloc, routes, message) {
-        Ok(ask) => reply_to_ask(alloc, asker, ask),
-        Err(direct) => Replied {
+    match shown_for(alloc, routes, &message) {
+        Ok(shown) => reply_to_shown(alloc, routes, asker, shown, message),
+        Err(AllocError) => Replied {
             reply: WorkerReply::Api {
-                reply: direct_bytes(alloc, &direct),
+                reply: out_of_memory(alloc),
             },
             is_open: true,
         },

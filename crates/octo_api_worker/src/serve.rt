@@ -6,7 +6,7 @@ ghost use Rattle.octo_api_worker.specs.Served.{Sends, HasServed, AsksOnce, AreFa
 
 use crate::reply::{WorkerReply, reply_to_message};
 use octo_api_page::page_bytes;
-use octo_api_replies::fault_bytes;
+use octo_api_refusals::fault_bytes;
 use octo_api_routes::Routes;
 use octo_asks::Asker;
 use octo_http::{HttpReply, Message, MessageFault, read_message, write_head, write_reply};

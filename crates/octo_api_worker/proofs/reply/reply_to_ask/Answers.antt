@@ -1,20 +1,24 @@
-use Rattle.std.proofs.Common.{[], ◌∷◌}
+use Rattle.std.proofs.Common.{[], ◌∷◌, subst}
+use Rattle.octo_asks.specs.declared.answer.Answer.TheVariants as answer
 use Rattle.octo_asks.specs.declared.entry.Entry.TheVariants as entry
-use Rattle.octo_api_worker.specs.Served.{answered, ended}
+use Rattle.octo_api_routes.specs.declared.shown.Shown.{Shown}
+use Rattle.octo_api_worker.specs.Served.{IsReply, answered, ended}
 use Rattle.octo_api_worker.proofs.Calls.{added_none, call_of}
 use Rattle.octo_api_worker.proofs.reply.reply_to_ask.Goals as goal
 
 pub returns-in-Ok-clause-replied : goal.returns-in-Ok-clause-replied
-returns-in-Ok-clause-replied g c message of_api says callers =
+returns-in-Ok-clause-replied g c message is of_api says callers =
+    let Replies : Shown → Type 0 = λ shown. IsReply shown c.in-Ok.answer c.reply_to.result in
     let call = call_of c.args.ask c.in-Ok.answer (g.A.Asker.mine c.args.asker.now) (g.A.Asker.mine c.ask.new.self) c.in-Ok.ensures.ok in (
       entry.Call call.0 c.args.ask call.1 c.in-Ok.answer ∷ [],
       call.2,
-      answered c.args.ask call.0 call.1 c.in-Ok.answer c.reply_to.result of_api says callers c.reply_to.ensures,
+      answered c.args.ask call.0 call.1 c.in-Ok.answer c.reply_to.result of_api says callers (subst Replies is c.reply_to.ensures),
     )
 
 pub returns-in-Err-clause-replied : goal.returns-in-Err-clause-replied
-returns-in-Err-clause-replied g c message of_api says callers = (
-  [],
-  added_none (g.A.Asker.mine c.args.asker.now) (g.A.Asker.mine c.ask.new.self) c.in-Err.ensures.err,
-  ended c.args.ask c.reply_to-in-Err.result of_api says c.reply_to-in-Err.ensures,
-)
+returns-in-Err-clause-replied g c message is of_api says callers =
+    let Replies : Shown → Type 0 = λ shown. IsReply shown answer.Closed c.reply_to-in-Err.result in (
+      [],
+      added_none (g.A.Asker.mine c.args.asker.now) (g.A.Asker.mine c.ask.new.self) c.in-Err.ensures.err,
+      ended c.args.ask c.reply_to-in-Err.result of_api says (subst Replies is c.reply_to-in-Err.ensures),
+    )

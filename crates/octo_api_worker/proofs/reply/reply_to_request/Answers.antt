@@ -1,11 +1,12 @@
-use Rattle.std.proofs.Common.{[]}
+use Rattle.std.proofs.Common.{[], inl, inr, refl}
 use Rattle.octo_outside.proofs.Recorded.{adds_none}
+use Rattle.octo_api_routes.specs.declared.direct.Direct.TheVariants as direct
 use Rattle.octo_api_worker.specs.Served.{refused}
 use Rattle.octo_api_worker.proofs.reply.reply_to_request.Goals as goal
 
 pub returns-in-Err-clause-replied : goal.returns-in-Err-clause-replied
 returns-in-Err-clause-replied g c of_api =
-    ([], adds_none (g.A.Asker.mine c.args.asker.now), refused c.in-Err.direct c.direct_bytes.result of_api c.in-Err.ensures.says c.direct_bytes.ensures)
+    ([], adds_none (g.A.Asker.mine c.args.asker.now), refused direct.NoMemory c.out_of_memory.result of_api (inl refl) (inl c.out_of_memory.ensures))
 
 pub returns-in-Ok-clause-replied : goal.returns-in-Ok-clause-replied
-returns-in-Ok-clause-replied g c of_api = c.reply_to_ask.ensures.replied c.args.message of_api c.in-Ok.ensures.says c.in-Ok.ensures.callers
+returns-in-Ok-clause-replied g c of_api = c.reply_to_shown.ensures.replied c.in-Ok.ensures of_api
