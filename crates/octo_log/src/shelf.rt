@@ -1,0 +1,157 @@
+//! The shelf of a host, whose calls are logged.
+ghost use Rattle.std.specs.Prelude.{◌≡◌};
+
+use crate::line::log_line;
+use crate::words::file_words;
+use byte_text::Name;
+use octo_keeper::{FileList, Shelf, ShelfFault};
+use octo_outside::{Blob, Sink};
+use std::alloc::Global;
+
+/// A shelf with a log: a line says that a file was stored or deleted, and that a call failed.
+#[derive(Drop)]
+pub struct LoggedShelf<S: Shelf + Drop, G: Sink + Drop> {
+    shelf: S,
+    log: G,
+}
+
+impl<S: Shelf + Drop, G: Sink + Drop> LoggedShelf<S, G> {
+    /// A shelf with its log.
+    pub fn new(shelf: S, log: G) -> Self
+        ensures { result ≡ record { shelf = shelf; log = log } }
+    {
+        LoggedShelf { shelf, log }
+    }
+
+    /// The log.
+    pub fn log(&self) -> &G
+        ensures { result.now ≡ self.now.log }
+    {
+        &self.log
+    }
+}
+
+impl<S: Shelf + Drop, G: Sink + Drop> Shelf for LoggedShelf<S, G> {
+    ghost use Rattle.std.specs.Prelude.{◌≡◌, option_map, is_err, IfOk, IfSome, OnOk, OnErr, IsErrOf};
+    ghost use Rattle.octo_outside.specs.Recorded.{Counts};
+    ghost use Rattle.octo_keeper.specs.declared.shelf.ShelfFault.TheVariants as fault;
+    ghost use Rattle.octo_keeper.specs.Files.{bytes_of, size_of, sizes_of, with_file, without_file};
+    ghost use Rattle.octo_log.specs.Lines.{line_of, list_line, get_line, file_words, put_words, remove_words};
+    ghost use Rattle.octo_log.specs.Logged.{Logs};
+
+    ghost files = { λ l. S.files l.shelf };
+
+    ghost faults = { λ l. S.faults l.shelf };
+
+    fn list(&mut self, alloc: Global) -> Result<FileList, ShelfFault>
+        ensures ok { IfOk result
+            (λ list. IfSome (S.files self.old.shelf) (λ held. list ≡ sizes_of held)) }
+        ensures stays { S.files self.new.shelf ≡ S.files self.old.shelf }
+        ensures counts { Counts (IsErrOf result fault.Failed)
+            (S.faults self.old.shelf) (S.faults self.new.shelf) }
+        ensures steady { (IsErrOf result fault.Failed → ⊥)
+            → S.faults self.new.shelf ≡ S.faults self.old.shelf }
+
+        ensures logged { Logs (list_line (is_err result))
+            (G.written self.old.log) (G.written self.new.log)
+            (G.faults self.old.log) (G.faults self.new.log) }
+    {
+        let listed = self.shelf.list(alloc);
+        if listed.is_err() {
+            log_line(&mut self.log, b"files: they can't be listed");
+        }
+        listed
+    }
+
+    fn get(&mut self, alloc: Global, name: &Name) -> Result<Option<Blob>, ShelfFault>
+        ensures ok { IfOk result (λ bytes. IfSome (S.files self.old.shelf)
+            (λ held. bytes ≡ bytes_of name.now held)) }
+        ensures stays { S.files self.new.shelf ≡ S.files self.old.shelf }
+        ensures counts { Counts (IsErrOf result fault.Failed)
+            (S.faults self.old.shelf) (S.faults self.new.shelf) }
+        ensures steady { (IsErrOf result fault.Failed → ⊥)
+            → S.faults self.new.shelf ≡ S.faults self.old.shelf }
+
+        ensures logged { Logs (get_line name.now (is_err result))
+            (G.written self.old.log) (G.written self.new.log)
+            (G.faults self.old.log) (G.faults self.new.log) }
+    {
+        let got = self.shelf.get(alloc, name);
+        if got.is_err() {
+            log_line(
+                &mut self.log,
+                file_words(name, b": it can't be read").as_slice(),
+            );
+        }
+        got
+    }
+
+    fn size(&mut self, name: &Name) -> Result<Option<u64>, ShelfFault>
+        ensures ok { IfOk result
+            (λ size. IfSome (S.files self.old.shelf) (λ held. size ≡ size_of name.now held)) }
+        ensures stays { S.files self.new.shelf ≡ S.files self.old.shelf }
+        ensures counts { Counts (IsErrOf result fault.Failed)
+            (S.faults self.old.shelf) (S.faults self.new.shelf) }
+        ensures steady { (IsErrOf result fault.Failed → ⊥)
+            → S.faults self.new.shelf ≡ S.faults self.old.shelf }
+
+        ensures logged { Logs (get_line name.now (is_err result))
+            (G.written self.old.log) (G.written self.new.log)
+            (G.faults self.old.log) (G.faults self.new.log) }
+    {
+        let size = self.shelf.size(name);
+        if size.is_err() {
+            log_line(
+                &mut self.log,
+                file_words(name, b": it can't be read").as_slice(),
+            );
+        }
+        size
+    }
+
+    fn put(&mut self, alloc: Global, name: &Name, bytes: &[u8]) -> Result<(), ShelfFault>
+        ensures ok { OnOk result (S.files self.new.shelf
+            ≡ option_map (with_file name.now bytes.now) (S.files self.old.shelf)) }
+        ensures err { OnErr result (S.files self.new.shelf ≡ S.files self.old.shelf) }
+        ensures counts { Counts (IsErrOf result fault.Failed)
+            (S.faults self.old.shelf) (S.faults self.new.shelf) }
+        ensures steady { (IsErrOf result fault.Failed → ⊥)
+            → S.faults self.new.shelf ≡ S.faults self.old.shelf }
+
+        ensures logged { Logs (line_of (file_words name.now (put_words (is_err result))))
+            (G.written self.old.log) (G.written self.new.log)
+            (G.faults self.old.log) (G.faults self.new.log) }
+    {
+        let done = self.shelf.put(alloc, name, bytes);
+        let what: &[u8] = if done.is_err() {
+            b": it can't be stored"
+        } else {
+            b": stored"
+        };
+        log_line(&mut self.log, file_words(name, what).as_slice());
+        done
+    }
+
+    fn remove(&mut self, alloc: Global, name: &Name) -> Result<(), ShelfFault>
+        ensures ok { OnOk result (S.files self.new.shelf
+            ≡ option_map (without_file name.now) (S.files self.old.shelf)) }
+        ensures err { OnErr result (S.files self.new.shelf ≡ S.files self.old.shelf) }
+        ensures counts { Counts (IsErrOf result fault.Failed)
+            (S.faults self.old.shelf) (S.faults self.new.shelf) }
+        ensures steady { (IsErrOf result fault.Failed → ⊥)
+            → S.faults self.new.shelf ≡ S.faults self.old.shelf }
+
+        ensures logged { Logs (line_of (file_words name.now (remove_words (is_err result))))
+            (G.written self.old.log) (G.written self.new.log)
+            (G.faults self.old.log) (G.faults self.new.log) }
+    {
+        let done = self.shelf.remove(alloc, name);
+        let what: &[u8] = if done.is_err() {
+            b": it can't be deleted"
+        } else {
+            b": deleted"
+        };
+        log_line(&mut self.log, file_words(name, what).as_slice());
+        done
+    }
+}
