@@ -1,5 +1,5 @@
 -- What a command comes to, by its arguments, its files and the history of its link.
-use Rattle.std.specs.Prelude.{◌≡◌, ◌≢◌, ◌⊎◌, ℕ, List, Option, None, Some, Ok, Err}
+use Rattle.std.specs.Prelude.{◌≡◌, ◌≢◌, ◌⊎◌, ℕ, false, List, Option, None, Some, Ok, Err}
 use Rattle.octo_outside.specs.Recorded.{Adds, AddsPrefix, Rose}
 use Rattle.octo_outside.specs.Traits.{Files}
 use Rattle.printer_link.specs.Link.{LinkKind, RoseBy}
@@ -21,7 +21,7 @@ use Rattle.octo_files.specs.Checks.{check_report}
 use Rattle.octo_files.specs.Measures.{measure_report, IsRestReport}
 use Rattle.octo_files.specs.Reading.{FileGives, IsTrouble}
 use Rattle.octo_files.specs.Settings.{HaveSettings}
-use Rattle.octo_commands_print.specs.Printing.{Seen, IsFilePrint, WaitedBySettings, over_port, seen_of}
+use Rattle.octo_commands_print.specs.Printing.{Seen, IsFilePrint, WaitedBySettings, over_port, seen_of, uses_link}
 use Rattle.hand_over.specs.Ends.{HistoryData}
 use Rattle.octo_serve_command.specs.Hosting.{Around, Hosts, HasHostCauses}
 use Rattle.octo_serve_command.specs.Reports.{host_code, host_text}
@@ -92,11 +92,12 @@ hosted_by asked = None
 abbrev pub seen_in : Around → Around → Seen
 seen_in old new = seen_of old.link.past new.link.past old.link.faults new.link.faults new.moment
 
--- what the other commands leave as it is
-pub record AreAside (old new : Around) : Type 0 where
+-- what the other commands, with this report, leave as it is: link and clock too, unless a print dialled
+pub record AreAside (plain : Report) (old new : Around) : Type 0 where
   pub keeper : new.keeper ≡ old.keeper
   pub shelf : new.shelf ≡ old.shelf
   pub doors : new.doors ≡ old.doors
+  pub unlinked : uses_link plain ≡ false → (new.link ≡ old.link) × (new.moment ≡ old.moment)
 
 -- what arguments come to: memory runs out before a command is known; they are no command; or their command is carried out, or serves
 pub data Comes (words : List (List ℕ)) (files : Option Files) (old new : Around) (r : HostReport) (known : Option HistoryData) : Type 0 where
@@ -104,7 +105,7 @@ pub data Comes (words : List (List ℕ)) (files : Option Files) (old new : Aroun
   no_command : r ≡ host.Command report.BadWords → command_of words ≡ None → new ≡ old → known ≡ None → Comes words files old new r known
   carried_out : (asked : Command) (plain : Report) → command_of words ≡ Some asked → r ≡ host.Command plain
       → Reports old.link.kind files (seen_in old new) asked plain → HasWaitedFor files old.moment new.moment asked plain
-      → AreAside old new → known ≡ None → Comes words files old new r known
+      → AreAside plain old new → known ≡ None → Comes words files old new r known
   hosted : (asked : Command) (settings : List ℕ) → command_of words ≡ Some asked → hosted_by asked ≡ Some settings
       → Hosts files settings old new r known → Comes words files old new r known
 

@@ -5,7 +5,7 @@ ghost use Rattle.octo_outside.specs.Recorded.{Counts, Steady};
 ghost use Rattle.octo_words.specs.Words.{IsInRange};
 ghost use Rattle.octo_files.specs.Status.{code_of};
 ghost use Rattle.octo_files.specs.declared.report.Report.TheVariants as report;
-ghost use Rattle.octo_commands_print.specs.Printing.{seen_of};
+ghost use Rattle.octo_commands_print.specs.Printing.{seen_of, uses_link};
 ghost use Rattle.octo_serve.specs.Around.{link_state, keeper_state, shelf_state, door_state};
 ghost use Rattle.octo_serve_command.specs.Hosting.{around};
 ghost use Rattle.octo_serve_command.specs.Reports.{host_code};
@@ -99,6 +99,8 @@ fn carry_out<F: Source, L: Link, T: Clock>(
     ensures files { F.files files.new ≡ F.files files.old }
     ensures counted { F.faults files.old ≤ F.faults files.new }
     ensures link_counted { L.faults link.old ≤ L.faults link.new }
+    ensures untouched { uses_link result ≡ false
+        → (link.new ≡ link.old) × (clock.new ≡ clock.old) }
 {
     match command {
         Command::Print {

@@ -1,16 +1,16 @@
 -- What a print of a job by settings comes to, by what `run_print` promises.
-use Rattle.std.proofs.Common.{◌≡◌, ◌↔◌, ◌≤◌, ◌+◌, ℕ, List, length, Option, None, ◌∙◌, ap, subst}
+use Rattle.std.proofs.Common.{◌≡◌, ◌↔◌, ◌≤◌, ◌+◌, ℕ, List, length, Option, None, true, false, refl, ◌∙◌, ap, subst}
 use Rattle.gcode_lines.specs.Job.{JobData, texts_of}
 use Rattle.temp_rules.specs.Hot.{first_hot_of}
 use Rattle.temp_rules.specs.declared.job.HotLine.{HotLine}
 use Rattle.job_desk.specs.Data.{Data, new_desk}
 use Rattle.send_window.specs.Data.{SenderData, new_sender}
 use Rattle.send_window.specs.declared.session_end.SessionEnd.{SessionEnd}
-use Rattle.send_window.specs.declared.session_end.SessionEnd.TheVariants.{NoAnswer, NumbersUsed}
+use Rattle.send_window.specs.declared.session_end.SessionEnd.TheVariants.{NoAnswer, LostOk, NumbersUsed}
 use Rattle.printer_link.specs.Link.{LinkKind, Recorded}
 use Rattle.octo_session.specs.Data.{SessionData}
 use Rattle.octo_session.specs.Plan.{plan}
-use Rattle.octo_session_print.specs.Ends.{IsTooHot, IsUnlisted, IsUnsent}
+use Rattle.octo_session_print.specs.Ends.{IsTooHot, IsUnlisted, IsUnsent, is_too_hot}
 use Rattle.octo_session_print.specs.Printed.{HasPrinted, HasEnded}
 use Rattle.octo_session_print.specs.Waiting.{HasWaited}
 use Rattle.octo_session.specs.Smooth.{IsSmooth}
@@ -19,7 +19,7 @@ use Rattle.octo_session_print.specs.declared.end.PrintEnd.TheVariants as end
 use Rattle.octo_settings.specs.declared.settings.Settings.{Settings}
 use Rattle.octo_files.specs.declared.report.Report.{Report}
 use Rattle.octo_files.specs.declared.report.Report.TheVariants as report
-use Rattle.octo_commands_print.specs.Printing.{Asked, Seen, HasRun, lines_planned, print_end_report}
+use Rattle.octo_commands_print.specs.Printing.{Asked, Seen, HasRun, lines_planned, print_end_report, uses_link}
 
 pub ran : (kind : LinkKind) (s : Settings) (job : JobData) (asked : Asked) (h : Seen) (x y : SessionData) (how : PrintEnd) →
     x.desk ≡ new_desk s.scripts s.limits s.poll_ms → x.sender ≡ new_sender s.window s.limit_ms → first_hot_of s.limits job.commands ≡ None →
@@ -48,6 +48,7 @@ ran kind s job asked h x y how desk sender cool printed too_hot no_port ended us
       no_port = (λ is. (let u = no_port.0 is in (u.some, u.unlisted)), λ u. no_port.1 (record { cool = none; some = u.0; unlisted = u.1 }));
       ended = λ why is. (ended why is).caused;
       limits = λ count is. (ended (NoAnswer count) is).fits.0;
+      missing = λ count is. (ended (LostOk count) is).fits.0;
       numbers = λ all is. (ended (NumbersUsed all) is).fits.0;
       used = used;
       unsent = unsent;
@@ -67,3 +68,13 @@ waited s job port x (end.Ended why) began now count r sender is long ended =
     let same : why ≡ NoAnswer count = cc in
     subst (λ (t : SenderData). HasWaited (end.Ended (NoAnswer count)) began t.limit now) sender
     (subst (λ w. HasWaited (end.Ended w) began x.sender.limit now) same long)
+
+-- what isn't reported after a dial was too hot, since it was no other end
+pub untouched : (how : PrintEnd) (port : List ℕ) (job : JobData) (r : Report) → r ≡ print_end_report how port job → uses_link r ≡ false →
+    is_too_hot how ≡ true
+untouched end.Done port job r is unused = absurd (cc)
+untouched (end.TooHot line asked limit) port job r is unused = refl
+untouched end.NoPort port job r is unused = absurd (cc)
+untouched end.LinkFailed port job r is unused = absurd (cc)
+untouched (end.Ended why) port job r is unused = absurd (cc)
+untouched (end.TurnsUsed turns) port job r is unused = absurd (cc)

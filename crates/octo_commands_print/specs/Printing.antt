@@ -1,13 +1,13 @@
 -- What a print of a file comes to, by its settings, its file and the history of its link.
-use Rattle.std.specs.Prelude.{◌≡◌, ◌≢◌, ◌⊎◌, ◌↔◌, ℕ, ◌≤◌, ◌+◌, false, List, length, Option, Result, Ok, Err}
+use Rattle.std.specs.Prelude.{◌≡◌, ◌≢◌, ◌⊎◌, ◌↔◌, ℕ, Bool, ◌≤◌, ◌+◌, true, false, List, length, Option, Result, Ok, Err}
 use Rattle.octo_outside.specs.Traits.{Files}
 use Rattle.gcode_lines.specs.Job.{JobData, texts_of}
 use Rattle.temp_rules.specs.declared.limits.Limits.{Limits}
 use Rattle.printer_model.specs.declared.event.WorldEvent.{WorldEvent}
 use Rattle.printer_link.specs.Link.{LinkKind, Recorded}
-use Rattle.send_window.specs.Data.{most_lines, most_silent}
+use Rattle.send_window.specs.Data.{most_lines, most_silent, most_told}
 use Rattle.send_window.specs.declared.session_end.SessionEnd.{SessionEnd}
-use Rattle.send_window.specs.declared.session_end.SessionEnd.TheVariants.{NoAnswer, NumbersUsed}
+use Rattle.send_window.specs.declared.session_end.SessionEnd.TheVariants.{NoAnswer, LostOk, NumbersUsed}
 use Rattle.octo_session.specs.Causes.{EndCausedAs}
 use Rattle.octo_session.specs.Plan.{plan}
 use Rattle.octo_session_print.specs.Ends.{IsUnsent}
@@ -44,6 +44,15 @@ print_end_report end.LinkFailed port job = report.LinkFailed
 print_end_report (end.Ended why) port job = report.Ended why
 print_end_report (end.TurnsUsed turns) port job = report.TurnsUsed turns
 
+-- whether it is reported once a link was dialled: not if settings or file were refused or failed, or memory ran out before
+abbrev pub uses_link : Report → Bool
+uses_link (report.Printed commands skipped) = true
+uses_link report.LinkFailed = true
+uses_link (report.NoPort port) = true
+uses_link (report.Ended why) = true
+uses_link (report.TurnsUsed turns) = true
+uses_link _ = false
+
 -- what a print is asked: over which port, and in how many turns at most
 pub record Asked : Type 0 where
   pub port : List ℕ
@@ -79,8 +88,9 @@ pub record HasRun (kind : LinkKind) (s : Settings) (job : JobData) (asked : Aske
   pub cool : (line hot limit : ℕ) → how ≢ end.TooHot line hot limit
   pub no_port : (how ≡ end.NoPort) ↔ ((1 ≤ asked.turns) × (kind.listed asked.port ≡ false))
   pub ended : (why : SessionEnd) → how ≡ end.Ended why → EndCausedAs kind h.now why
-  -- which names five limits, or how many lines a session may have
+  -- which names five limits, twenty, or how many lines a session may have
   pub limits : (count : ℕ) → how ≡ end.Ended (NoAnswer count) → count ≡ most_silent
+  pub missing : (count : ℕ) → how ≡ end.Ended (LostOk count) → count ≡ most_told
   pub numbers : (all : ℕ) → how ≡ end.Ended (NumbersUsed all) → all ≡ most_lines
   pub used : (made : ℕ) → how ≡ end.TurnsUsed made → made ≡ asked.turns
   pub unsent : IsUnsent how → h.now ≡ h.first

@@ -13,7 +13,7 @@ ghost use Rattle.octo_session_print.specs.Waiting.{HasWaited};
 ghost use Rattle.octo_session_print.specs.declared.end.PrintEnd.TheVariants as end;
 ghost use Rattle.octo_settings.specs.Sound.{IsSettings};
 ghost use Rattle.octo_files.specs.declared.report.Report.TheVariants as report;
-ghost use Rattle.octo_commands_print.specs.Printing.{IsFilePrint, IsRefused, IsRun, WaitedBySettings, seen_of, over_port, print_end_report};
+ghost use Rattle.octo_commands_print.specs.Printing.{IsFilePrint, IsRefused, IsRun, WaitedBySettings, seen_of, over_port, print_end_report, uses_link};
 
 use byte_text::Name;
 use gcode_lines::Job;
@@ -92,6 +92,9 @@ fn print_job<L: Link, T: Clock>(
         → RoseBy turns (L.calls link.old) (L.calls link.new) }
     ensures source { result ≢ report.SourceFailed }
 
+    ensures untouched { uses_link result ≡ false
+        → (link.new ≡ link.old) × (clock.new ≡ clock.old) }
+
     // The clock.
     ensures waited { (count : ℕ) → result ≡ report.Ended (NoAnswer count)
         → HasWaited (end.Ended (NoAnswer count)) (T.moment clock.old) settings.limit_ms
@@ -139,6 +142,10 @@ pub fn print_file<F: Source, L: Link, T: Clock>(
     ensures link { Counts (result ≡ report.LinkFailed) (L.faults link.old) (L.faults link.new) }
     ensures used { (made : ℕ) → result ≡ report.TurnsUsed made
         → RoseBy turns (L.calls link.old) (L.calls link.new) }
+
+    // If the report comes before a dial, link and clock are as they were.
+    ensures untouched { uses_link result ≡ false
+        → (link.new ≡ link.old) × (clock.new ≡ clock.old) }
 
     // The clock.
     ensures waited { (count : ℕ) → result ≡ report.Ended (NoAnswer count)

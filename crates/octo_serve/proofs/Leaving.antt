@@ -1,6 +1,7 @@
 -- A host that has ended without a shutdown: each worker has left, once, so no connection of its door will come any more.
-use Rattle.std.proofs.Common.{◌≡◌, ◌≢◌, ◌⊎◌, inl, inr, ℕ, zero, suc, ◌+◌, ◌≤◌, Bool, true, false, ◌&&◌, nat_lt, List, [], ◌∷◌, ◌++◌, Option, Some, None, IfSome, refl, sym, ap, subst, ◌∙◌, arith}
-use Rattle.std.specs.Prelude.{All}
+use Rattle.std.proofs.Common.{◌≡◌, ◌≢◌, ◌⊎◌, inl, inr, ℕ, zero, suc, ◌+◌, ◌≤◌, Bool, true, false, ◌&&◌, ◌||◌, nat_lt, List, [], ◌∷◌, ◌++◌, Option, Some, None, IfSome, refl, sym, ap, subst, ◌∙◌, arith}
+use Rattle.std.specs.Prelude.{All, ◌==◌, if◌then◌else◌}
+use Rattle.std.proofs.lemmas.Bool.{false≢true}
 use Rattle.std.proofs.lemmas.Bool.Decides.{nat_tests}
 use Rattle.std.proofs.lemmas.List.Elements.{All-head, All-tail}
 use Rattle.octo_outside.specs.Recorded.{Became}
@@ -9,14 +10,14 @@ use Rattle.octo_outside_doors.specs.declared.door.Doors.{Doors}
 use Rattle.octo_asks.specs.declared.answer.Answer.{Answer}
 use Rattle.octo_asks.specs.declared.request.Ask.{Ask}
 use Rattle.octo_asks.specs.declared.request.Request.{Request}
-use Rattle.octo_asks.specs.declared.request.Request.TheVariants.{Leave}
+use Rattle.octo_asks.specs.declared.request.Request.TheVariants.{Leave, AutoConnect}
 use Rattle.octo_asks.specs.declared.entry.Entry.TheVariants as entry
 use Rattle.octo_asks.specs.History.{History, calls_of}
 use Rattle.octo_api_worker.specs.Served.{IsServed, no_message, message}
 use Rattle.octo_api_worker.specs.Worked.{Served, none_served, one_more, Leaves, no_leave, one_leave, IsAsk, HasReturned, HasWorked}
 use Rattle.octo_api_worker.proofs.Asked.{leads_to, leads_asks}
 use Rattle.hand_over.specs.Ends.{HistoryData}
-use Rattle.hand_over.specs.Views.{AreCalls, has_close, all_of_four}
+use Rattle.hand_over.specs.Views.{AreCalls, has_close, is_own, all_of_four}
 use Rattle.octo_house_rules.specs.Counted.{is_leave, leaves_made, is_shut}
 use Rattle.octo_house_run.specs.Runs.{IsOver}
 use Rattle.octo_house_run.proofs.Tallying.{leaves_append}
@@ -33,7 +34,7 @@ not_leave _ callers = refl
 asks_leave_none : (calls : History) → All IsAsk calls → leaves_made calls ≡ 0
 asks_leave_none [] all = refl
 asks_leave_none (entry.Call worker ask moment x ∷ es) all =
-    let no : is_leave ask.request ≡ false = not_leave ask.request (All-head IsAsk (entry.Call worker ask moment x) es all) in
+    let no : is_leave ask.request ≡ false = not_leave ask.request (All-head IsAsk (entry.Call worker ask moment x) es all).0 in
     rw no (asks_leave_none es (All-tail IsAsk (entry.Call worker ask moment x) es all))
 asks_leave_none (entry.Note note ∷ es) all = absurd (All-head IsAsk (entry.Note note) es all)
 asks_leave_none (entry.Close ∷ es) all = absurd (All-head IsAsk entry.Close es all)
@@ -93,8 +94,42 @@ leaves_more : (worker : ℕ) (ask : Ask) (moment : ℕ) (x : Answer) (es : Histo
     → leaves_made (entry.Call worker ask moment x ∷ es) ≡ leaves_made (entry.Call worker ask moment x ∷ []) + leaves_made es
 leaves_more worker ask moment x es = leaves_append (entry.Call worker ask moment x ∷ []) es
 
-far : (worker : ℕ) (others : Bool) → (nat_lt (suc (suc (suc (suc worker)))) 4 && others) ≡ true → ⊥
-far worker others e = grind (arith, nat_tests)
+is_far : (worker : ℕ) → nat_lt (suc (suc (suc (suc worker)))) 4 ≡ false
+is_far worker = grind (arith, nat_tests)
+
+neither : (near others : Bool) → near ≡ false → ((near || false) && others) ≡ true → ⊥
+neither true others far e = false≢true (sym far)
+neither false others far e = false≢true e
+
+both : (b others : Bool) → (b && others) ≡ true → others ≡ true
+both true others e = e
+both false others e = absurd (false≢true e)
+
+-- a call of no worker is the house's own, and no leave
+far : (worker : ℕ) (asked : Request) (others : Bool)
+    → ((nat_lt (suc (suc (suc (suc worker)))) 4 || is_own (suc (suc (suc (suc worker)))) asked) && others) ≡ true
+    → (is_leave asked ≡ false) × (others ≡ true)
+far worker AutoConnect others e = (refl, both _ others e)
+far worker _ others e = absurd (neither (nat_lt (suc (suc (suc (suc worker)))) 4) others (is_far worker) e)
+
+-- the house's number is none of a worker's
+not_first : (worker : ℕ) → (suc (suc (suc (suc worker))) == 0) ≡ false
+not_first worker = grind (arith, nat_tests)
+
+not_second : (worker : ℕ) → (suc (suc (suc (suc worker))) == 1) ≡ false
+not_second worker = grind (arith, nat_tests)
+
+not_third : (worker : ℕ) → (suc (suc (suc (suc worker))) == 2) ≡ false
+not_third worker = grind (arith, nat_tests)
+
+not_fourth : (worker : ℕ) → (suc (suc (suc (suc worker))) == 3) ≡ false
+not_fourth worker = grind (arith, nat_tests)
+
+-- a call of another number is left out of a worker's
+left_out : (n worker : ℕ) (ask : Ask) (moment : ℕ) (x : Answer) (es : History) → (worker == n) ≡ false
+    → leaves_made (calls_of n (entry.Call worker ask moment x ∷ es)) ≡ leaves_made (calls_of n es)
+left_out n worker ask moment x es other =
+    ap (λ (b : Bool). leaves_made (if b then entry.Call worker ask moment x ∷ calls_of n es else calls_of n es)) other
 
 -- the leaves of a history are those of the four workers
 leaves_of_four : (h : History) → all_of_four h ≡ true
@@ -110,7 +145,19 @@ leaves_of_four (entry.Call (suc (suc zero)) ask moment x ∷ es) all =
     omega (arith, leaves_more 2 ask moment x es, leaves_more 2 ask moment x (calls_of 2 es), leaves_of_four es all)
 leaves_of_four (entry.Call (suc (suc (suc zero))) ask moment x ∷ es) all =
     omega (arith, leaves_more 3 ask moment x es, leaves_more 3 ask moment x (calls_of 3 es), leaves_of_four es all)
-leaves_of_four (entry.Call (suc (suc (suc (suc worker)))) ask moment x ∷ es) all = absurd (far worker (all_of_four es) all)
+leaves_of_four (entry.Call (suc (suc (suc (suc worker)))) ask moment x ∷ es) all =
+    let own = far worker ask.request (all_of_four es) all in
+    let far_one : ℕ = suc (suc (suc (suc worker))) in
+    let none : leaves_made (entry.Call far_one ask moment x ∷ es) ≡ leaves_made es = rw own.0 refl in
+    omega (
+      arith,
+      none,
+      left_out 0 far_one ask moment x es (not_first worker),
+      left_out 1 far_one ask moment x es (not_second worker),
+      left_out 2 far_one ask moment x es (not_third worker),
+      left_out 3 far_one ask moment x es (not_fourth worker),
+      leaves_of_four es own.1,
+    )
 
 -- four leaves, of which no worker made two
 module _ (patience : ℕ) (old new : Doors DoorState) (history : History) (held : Bool) (by : AreServed patience old new history held)

@@ -31,7 +31,7 @@ abbrev pub setting : {L T K S : Type 0} → (L → LinkState) → (T → Option 
 setting link_state moment keeper_state shelf_state house link clock keeper shelf =
     record { house = house; link = link_state link; moment = moment clock; keeper = keeper_state keeper; shelf = shelf_state shelf }
 
--- a house ran until its end: what its run says of its history, and what it leaves. It made these calls, leaves apart
+-- a house ran until its end: what its run says of its history, and what it leaves. It made these calls, leaves and its own apart
 pub record Ran (old new : Setting) (past past' : Option History) (calls : ℕ) : Type 0 where
   -- one legal history leads from the one to the other
   pub history : HasRun past past' old.shelf.files new.shelf.files old.house new.house
@@ -56,12 +56,12 @@ pub record Ran (old new : Setting) (past past' : Option History) (calls : ℕ) :
   pub keeper : old.keeper.faults ≤ new.keeper.faults
   pub shelf : old.shelf.faults ≤ new.shelf.faults
 
--- A host served its doors until its end. It made these calls, leaves apart; all doors held, or one didn't; and this is known of
+-- A host served its doors until its end. It made these calls, leaves and its own apart; all doors held, or one didn't; and this is known of
 -- what was asked, answered and noted
 pub record HasHosted (patience : ℕ) (old new : Setting) (doors doors' : Doors DoorState) (calls : ℕ) (all_held : Bool) (known : HistoryData) : Type 0 where
   pub ran : Ran old new (Some []) (Some known.history) calls
   pub ended : has_close known.history ≡ true
-  -- each call is one of the four workers'
+  -- each call is one of the four workers', or the house's own
   pub of_four : all_of_four known.history ≡ true
   -- each worker's calls are in the history once, in their order, and are those that its door's connections led to
   pub mines : AreCalls known.history 0 known.mines

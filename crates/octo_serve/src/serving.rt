@@ -23,7 +23,7 @@ use std::thread::Threads;
 /// What is known of a host that has served and has ended.
 #[derive(Drop)]
 pub struct Served {
-    /// The number of its calls other than those with which a worker leaves, at most `u64::MAX`.
+    /// The number of its calls other than those with which a worker leaves and the host's own, at most `u64::MAX`.
     pub calls: u64,
     /// Whether no door failed: no count of faults rose.
     pub doors_held: bool,
@@ -40,6 +40,7 @@ fn run_house<R: Wait, L: Link, T: Clock, K: Keeper, S: Shelf>(
     clock: &mut T,
     keeper: &mut K,
     shelf: &mut S,
+    connects: bool,
 ) -> u64
     requires fresh { IsFresh (session_of house.old) }
     requires down { L.up link.old ≡ false }
@@ -54,14 +55,14 @@ fn run_house<R: Wait, L: Link, T: Clock, K: Keeper, S: Shelf>(
     ensures closed { counter.new.view.closed ≡ true }
     ensures place { house_place counter.new ≡ house_place counter.old }
 {
-    run(rt, house, counter, link, clock, keeper, shelf)
+    run(rt, house, counter, link, clock, keeper, shelf, connects)
 }
 
 /// Serves the connections of four doors by four workers, each in a thread of its own, while the
 /// house answers their asks and turns the link in this thread. It goes on until a shutdown was
 /// accepted, or all four workers have left and no print is active.
 ///
-/// Each worker waits through at most `patience` quiet reads of a connection. The call may wait
+/// If `connects` says so, the house connects to its first port by itself, as `run` says. Each worker waits through at most `patience` quiet reads of a connection. The call may wait
 /// without an end. If memory runs out at its beginning, nothing was touched; if it runs out later,
 /// the connection that met it is answered 507. A worker for which no thread can be started comes
 /// after the house has ended.
@@ -82,6 +83,7 @@ pub fn serve<
     shelf: &mut S,
     doors: &mut Doors<D>,
     patience: u32,
+    connects: bool,
 ) -> Result<Served, AllocError>
     requires fresh { IsFresh (session_of house.old) }
     requires down { L.up link.old ≡ false }
@@ -123,7 +125,18 @@ pub fn serve<
                 (Some counter.entry.view.history) (Some counter.exit.view.history) result }
             ensures ended { counter.exit.view.closed ≡ true }
             ensures place { house_place counter.exit ≡ house_place counter.entry }
-        { run_house(rt, house, &mut counter, link, clock, keeper, shelf) },
+        {
+            run_house(
+                rt,
+                house,
+                &mut counter,
+                link,
+                clock,
+                keeper,
+                shelf,
+                connects,
+            )
+        },
     );
     Ok(Served {
         calls,

@@ -88,6 +88,7 @@ pub(crate) fn begin_by<K: Keeper, S: Shelf>(
         poll_ms,
         boot_ms: _,
         material,
+        connect: _,
         limits,
         admin,
         patience: _,

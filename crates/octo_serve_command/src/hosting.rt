@@ -123,12 +123,13 @@ fn serve_by<
     ensures recorded { is_some (L.past link.new) ≡ is_some (L.past link.old) }
 {
     let patience = settings.patience;
+    let connects = settings.connect;
     let mut house = match begin_by(alloc, settings, keeper, shelf) {
         Ok(house) => house,
         Err(fault) => return HostEnd::unserved(begin_fault_report(fault)),
     };
     match serve(
-        rt, alloc, &mut house, link, clock, keeper, shelf, doors, patience,
+        rt, alloc, &mut house, link, clock, keeper, shelf, doors, patience, connects,
     ) {
         Ok(served) => has_served(served),
         Err(AllocError) => HostEnd::unserved(HostReport::Command(Report::NoMemory)),

@@ -2,9 +2,9 @@
 use Rattle.std.specs.Prelude.{List, [], ◌∷◌, fold, codes, true, Some}
 use Rattle.std.specs.Borrow.{Bor}
 use Rattle.clap.specs.Words.{App, Rule, Text, new_app, new_rule, with_rule, with_subcommand}
-use Rattle.clap.specs.declared.builder.action.ArgAction.TheVariants.{Set}
+use Rattle.clap.specs.declared.builder.action.ArgAction.TheVariants.{Set, SetTrue}
 use Rattle.octo_words.specs.declared.apps.Kind.{Kind}
-use Rattle.octo_words.specs.declared.apps.Kind.TheVariants.{Operand, Optional, Needed}
+use Rattle.octo_words.specs.declared.apps.Kind.TheVariants.{Operand, Optional, Needed, Flag}
 
 -- an argument that has its place and must be given
 abbrev pub operand : Text → Rule
@@ -18,11 +18,16 @@ option id = record (new_rule id) { long = Some id; action = Some Set }
 abbrev pub needed_option : Text → Rule
 needed_option id = record (new_rule id) { long = Some id; required = true; action = Some Set }
 
+-- an option `--id` without a value, which may be left out
+abbrev pub flag : Text → Rule
+flag id = record (new_rule id) { long = Some id; action = Some SetTrue }
+
 -- an argument that is given in this way
 abbrev pub rule_of_kind : Kind → Text → Rule
 rule_of_kind Operand id = operand id
 rule_of_kind Optional id = option id
 rule_of_kind Needed id = needed_option id
+rule_of_kind Flag id = flag id
 
 -- a command with one more argument
 abbrev pub with_argument : App → Kind × Bor Text → App
@@ -32,9 +37,11 @@ with_argument app argument = with_rule app (rule_of_kind argument.0 argument.1.n
 abbrev pub command_app : Text → List Rule → App
 command_app name rules = fold with_rule (new_app name) rules
 
--- `print PORT FILE [--turns N] [--settings FILE]`
+-- `print PORT FILE [--turns N] [--settings FILE] [--progress]`
 abbrev pub print_app : App
-print_app = command_app (codes "print") (operand (codes "port") ∷ operand (codes "file") ∷ option (codes "turns") ∷ option (codes "settings") ∷ [])
+print_app =
+    command_app (codes "print")
+    (operand (codes "port") ∷ operand (codes "file") ∷ option (codes "turns") ∷ option (codes "settings") ∷ flag (codes "progress") ∷ [])
 
 -- `check FILE [--settings FILE]`
 abbrev pub check_app : App

@@ -1,5 +1,5 @@
 -- Which command the arguments are.
-use Rattle.std.specs.Prelude.{ℕ, Bool, ◌&&◌, ◌≡◌, ◌≤◌, nat_le, if◌then◌else◌, List, [], ◌∷◌, length, codes, Option, Some, None, option_and_then, option_map, Result, MatchResult}
+use Rattle.std.specs.Prelude.{ℕ, Bool, false, ◌&&◌, ◌≡◌, ◌≤◌, nat_le, if◌then◌else◌, List, [], ◌∷◌, length, codes, Option, Some, None, option_and_then, option_map, Result, MatchResult}
 use Rattle.std.specs.Str.{bytes_eq}
 use Rattle.clap.specs.Words.{Kinds, Row, Text, fault_of, first_of, subcommand_of, subcommand_rows_of}
 use Rattle.clap.specs.declared.parser.matches.ArgMatches.{ArgMatches}
@@ -91,6 +91,18 @@ command_named name rows =
 -- the command that arguments are, if they are one
 unfoldable pub command_of : List Text → Option Command
 command_of words = option_and_then (λ named. command_named named.0 named.1) (rows_named words)
+
+-- whether a command's arguments have `--progress`
+abbrev pub has_progress : List Row → Bool
+has_progress rows = by (first_of (codes "progress") rows)
+  where
+    by : Option Text → Bool
+    by None = false
+    by (Some text) = bytes_eq text (codes "true")
+
+-- whether arguments that are a command ask for the print's progress
+unfoldable pub progress_of : List Text → Option Bool
+progress_of words = option_map (λ named. has_progress named.1) (rows_named words)
 
 -- the numbers of a demo are within its ranges
 abbrev pub IsInRange : Command → Type 0

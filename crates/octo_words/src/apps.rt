@@ -2,7 +2,7 @@
 ghost use Rattle.std.specs.Prelude.{◌≡◌, false, true, fold, IfOk};
 ghost use Rattle.clap.specs.Words.{App, app_of, new_app, rule_of, with_subcommand};
 ghost use Rattle.clap.specs.declared.builder.command.Command.TheViews.{out-Command};
-ghost use Rattle.octo_words.specs.Apps.{operand, option, needed_option, rule_of_kind, with_argument, print_app, check_app, demo_app, measure_app, rest_app, serve_app, bare_app, helped_bare_app, with_commands, printing_commands, file_commands, octo_app, helped_app};
+ghost use Rattle.octo_words.specs.Apps.{operand, option, needed_option, flag, rule_of_kind, with_argument, print_app, check_app, demo_app, measure_app, rest_app, serve_app, bare_app, helped_bare_app, with_commands, printing_commands, file_commands, octo_app, helped_app};
 
 use clap::{Arg, ArgAction, Command};
 use std::alloc::{AllocError, Global};
@@ -37,6 +37,14 @@ fn needed_option<'a>(alloc: Global, id: &'a str) -> Arg<'a>
         .action(ArgAction::Set)
 }
 
+// An option `--id` without a value, which may be left out.
+fn flag<'a>(alloc: Global, id: &'a str) -> Arg<'a>
+    ensures rule { rule_of result ≡ flag id.entry.now }
+    ensures local { result.global ≡ false }
+{
+    Arg::new(alloc, id).long(id).action(ArgAction::SetTrue)
+}
+
 // How an argument is given.
 #[derive(Clone, Copy)]
 enum Kind {
@@ -46,6 +54,8 @@ enum Kind {
     Optional,
     // As an option, always.
     Needed,
+    // As an option without a value, which may be left out.
+    Flag,
 }
 
 fn argument<'a>(alloc: Global, kind: Kind, id: &'a str) -> Arg<'a>
@@ -56,6 +66,7 @@ fn argument<'a>(alloc: Global, kind: Kind, id: &'a str) -> Arg<'a>
         Kind::Operand => operand(alloc, id),
         Kind::Optional => option(alloc, id),
         Kind::Needed => needed_option(alloc, id),
+        Kind::Flag => flag(alloc, id),
     }
 }
 
@@ -90,6 +101,7 @@ fn print_app<'a>(alloc: Global) -> Result<Command<'a>, AllocError>
             (Kind::Operand, "file"),
             (Kind::Optional, "turns"),
             (Kind::Optional, "settings"),
+            (Kind::Flag, "progress"),
         ],
     )
 }

@@ -41,8 +41,8 @@ impl FilePath {
 /// What the host is asked to do.
 #[derive(Debug, Drop)]
 pub enum Command {
-    /// `print PORT FILE [--turns N] [--settings FILE]`: prints a file over a port of 1 to 100 bytes, in 1 to
-    /// 4,000,000,000,000 turns (1,000,000,000 if none are named).
+    /// `print PORT FILE [--turns N] [--settings FILE] [--progress]`: prints a file over a port of 1 to 100 bytes, in 1 to
+    /// 4,000,000,000,000 turns (1,000,000,000 if none are named). `asks_progress` says whether its progress is asked for.
     Print {
         port: Name,
         file: FilePath,

@@ -9,5 +9,5 @@ mod read;
 mod remark;
 
 pub use command::{Command, FilePath, WordsFault};
-pub use read::read_words;
+pub use read::{asks_progress, read_words};
 pub use remark::{Remark, remark_on};

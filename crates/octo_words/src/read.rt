@@ -1,10 +1,11 @@
 //! The command that the arguments are.
-ghost use Rattle.std.specs.Prelude.{◌≡◌, map, IfOk};
+ghost use Rattle.std.specs.Prelude.{◌≡◌, codes, map, IfOk};
+ghost use Rattle.std.specs.Str.{bytes_eq};
 ghost use Rattle.clap.specs.Words.{found_of, rows_of};
-ghost use Rattle.octo_words.specs.Words.{IsInRange, Reads, print_of, check_of, demo_of, measure_of, rest_of, serve_of, command_named, command_of};
+ghost use Rattle.octo_words.specs.Words.{IsInRange, Reads, has_progress, progress_of, print_of, check_of, demo_of, measure_of, rest_of, serve_of, command_named, command_of};
 
 use crate::command::{Command, WordsFault};
-use crate::fields::{file_in, name_in, number_in, optional_file_in, turns_in};
+use crate::fields::{file_in, name_in, number_in, optional_file_in, text_in, turns_in};
 use crate::parse::{parse, texts_of};
 use clap::ArgMatches;
 use octo_outside::WordList;
@@ -112,6 +113,46 @@ fn read_texts<'a>(alloc: Global, texts: &'a [&'a str]) -> Result<Command, WordsF
         Some((name, found)) => read_named(alloc, name, found),
         None => Err(WordsFault::BadWords),
     }
+}
+
+// Whether a text is the value of an option that is given.
+fn is_true(text: &str) -> bool
+    ensures { result ≡ bytes_eq text.now (codes "true") }
+{
+    text == "true"
+}
+
+// Whether a command's arguments have `--progress`.
+fn has_progress(found: &ArgMatches<'_>) -> bool
+    ensures { result ≡ has_progress (rows_of (found_of found.now)) }
+{
+    match text_in(found, "progress") {
+        Some(text) => is_true(text),
+        None => false,
+    }
+}
+
+// Whether these texts, which are a command, ask for a print's progress.
+#[tactic(auto, unfolding(crate::specs::Words::progress_of))]
+fn texts_ask_progress<'a>(alloc: Global, texts: &'a [&'a str]) -> Result<bool, WordsFault>
+    ensures { Reads (progress_of (map (λ w. w.now) texts.entry.now)) result }
+{
+    match parse(alloc, texts)?.subcommand() {
+        Some((_, found)) => Ok(has_progress(found)),
+        None => Err(WordsFault::BadWords),
+    }
+}
+
+/// Whether the arguments, which are a command, have the option `--progress` of `print`. It changes nothing of the command that they are.
+///
+/// # Errors
+///
+/// `BadWords` only if the arguments have none of the forms of `Command`, and `NoMemory`.
+pub fn asks_progress(alloc: Global, words: &WordList) -> Result<bool, WordsFault>
+    ensures { Reads (progress_of words.now) result }
+{
+    let texts = texts_of(alloc, words)?;
+    texts_ask_progress(alloc, texts.as_slice())
 }
 
 /// The command that the arguments are, without the program's name: one of those of `Command`.

@@ -1,6 +1,7 @@
 use Rattle.std.proofs.Common.{◌≡◌, refl, sym, ap, true, false}
 use Rattle.octo_serve_command.specs.declared.hosting.HostEnd.{HostEnd}
 use Rattle.octo_files.specs.declared.report.Report.TheVariants as report
+use Rattle.octo_serve.specs.Around.{link_state}
 use Rattle.octo_commands.specs.Commands.{carried_out, hosted}
 use Rattle.octo_commands.proofs.Refusals.{other_host}
 use Rattle.octo_commands.proofs.run.run.Goals as goal
@@ -23,4 +24,14 @@ returns-in-Some-clause-output g c = other_host c.host.result.report c.host.ensur
 pub returns-clause-comes : goal.returns-clause-comes
 returns-clause-comes g c =
     carried_out c.in-Ok.command c.carry_out-report.result c.in-Ok.ensures.read (ap (λ (h : HostEnd). h.report) c.unserved.ensures)
-    c.carry_out-report.ensures.reports c.carry_out-report.ensures.waited (record { keeper = refl; shelf = refl; doors = refl }) (ap (λ (h : HostEnd). h.history) c.unserved.ensures)
+    c.carry_out-report.ensures.reports c.carry_out-report.ensures.waited
+    (record {
+      keeper = refl;
+      shelf = refl;
+      doors = refl;
+      unlinked = λ unused. (
+        ap (link_state g.L.Link.kind g.L.Link.past g.L.Link.calls g.L.Link.up g.L.Link.faults) (c.carry_out-report.ensures.untouched unused).0,
+        ap g.T.Clock.moment (c.carry_out-report.ensures.untouched unused).1,
+      );
+    })
+    (ap (λ (h : HostEnd). h.history) c.unserved.ensures)

@@ -1,6 +1,6 @@
 use Rattle.std.proofs.Common.{inr, arith}
 use Rattle.octo_commands_print.specs.Printing.{over_port, seen_of}
-use Rattle.octo_commands_print.proofs.Runs.{ran, waited}
+use Rattle.octo_commands_print.proofs.Runs.{ran, untouched, waited}
 use Rattle.octo_commands_print.proofs.print.print_job.Goals as goal
 
 pub returns-in-Ok-clause-run : goal.returns-in-Ok-clause-run
@@ -20,3 +20,8 @@ returns-in-Ok-clause-waited g c count is =
     waited c.args.settings c.args.job c.args.port.now c.in-Ok.session c.run_print-end.result (g.T.Clock.moment c.args.clock.now) (g.T.Clock.moment c.run_print-end.new.clock) count c.report_of.result
     c.in-Ok.ensures.sender (c.report_of.ensures c.args.job (omega (arith, c.count-commands.ensures.value, c.count-commands.ensures.few)) c.skipped-skipped.ensures.value)
     c.run_print-end.ensures.waited is
+
+pub returns-in-Ok-clause-untouched : goal.returns-in-Ok-clause-untouched
+returns-in-Ok-clause-untouched g c unused =
+    c.run_print-end.ensures.untouched (untouched c.run_print-end.result c.args.port.now c.args.job c.report_of.result
+    (c.report_of.ensures c.args.job (omega (arith, c.count-commands.ensures.value, c.count-commands.ensures.few)) c.skipped-skipped.ensures.value) unused)
