@@ -6,22 +6,27 @@ ghost use Rattle.octo_commands.specs.Commands.{arguments_fault_report};
 
 mod absent;
 mod causes;
+mod host_log;
+mod showing;
 
 use absent::{AbsentKeeper, absent_doors};
 use byte_text::Name;
 use causes::{say_of_arguments, say_of_database, say_of_end};
+use host_log::{HostDoors, HostLog, with_log};
 use octo_commands::octo;
 use octo_files::{OUTPUT_FAILED, Report, SUCCESS, read_settings_of};
-use octo_keeper::Keeper;
+use octo_keeper::{Keeper, settle_prints};
 use octo_keeper_file::{close_keeper, open_keeper};
 use octo_keeper_folder::FolderShelf;
+use octo_log::{LoggedKeeper, LoggedLink, LoggedShelf, log_serving, log_stopped};
 use octo_outside::{
     ArgumentsFault, Blob, FileSource, StdSink, SystemClock, WordList, arguments, write_all,
 };
-use octo_outside_doors::{Doors, TcpDoor};
+use octo_outside_doors::TcpDoor;
 use octo_serve_command::{HostReport, Opened, write_host_report};
 use octo_words::{Command, Remark, WordsFault, read_words, remark_on};
 use printer_link_socket::{PortLink, SystemPorts};
+use showing::{view_of, with_progress};
 use std::alloc::AllocError;
 use std::net::{Net, TcpListener, TcpStream};
 use std::process::ExitCode;
@@ -65,7 +70,8 @@ fn boot_ms_of(system: &HostRuntime, command: &Command) -> Option<u16> {
     }
 }
 
-// Carries out the command that the arguments are, over the system's files and sockets, and returns the program's exit status.
+// Carries out the command that the arguments are, over the system's files and sockets, and returns the program's exit status. A host
+// that serves, which has a folder, has a log.
 // `rt` starts threads, waits and listens; `system` opens what else the program works with. The program has one handle for both.
 fn carry_out<
     R: Net<Listener = TcpListener, Stream = TcpStream>
@@ -85,12 +91,16 @@ fn carry_out<
     out: &mut StdSink<HostRuntime>,
     keeper: &mut K,
     folder: &Name,
-    doors: &mut Doors<TcpDoor<R>>,
+    doors: &mut HostDoors<R>,
 ) -> ExitCode {
+    let serves = !folder.as_bytes().is_empty();
     let mut files = FileSource::new(*system);
-    let mut link = PortLink::new(SystemPorts::new(*system, system.alloc()), boot_ms);
+    let port_link = PortLink::new(SystemPorts::new(*system, system.alloc()), boot_ms);
+    let print_link = with_progress(system, view_of(system, words), port_link);
+    let mut link = LoggedLink::new(print_link, HostLog::new(system, serves));
     let mut clock = SystemClock::new(*system);
-    let mut shelf = FolderShelf::new(*system, folder);
+    let folder_shelf = FolderShelf::new(*system, folder);
+    let mut shelf = LoggedShelf::new(folder_shelf, HostLog::new(system, serves));
     let status = octo(
         rt,
         system.alloc(),
@@ -130,11 +140,22 @@ fn serve_with<
     folder: &Name,
     database: &Name,
 ) -> ExitCode {
+    let mut log = HostLog::new(system, true);
     let mut doors = match TcpDoor::four(rt, system.alloc(), address.as_str()) {
-        Ok(doors) => doors,
+        Ok(doors) => with_log(system, doors),
         Err(AllocError) => return end_with(out, &HostReport::Command(Report::NoMemory)),
     };
-    let mut keeper = Opened::new(open_keeper(system, database));
+    let opened = Opened::new(open_keeper(system, database));
+    let mut keeper = LoggedKeeper::new(
+        opened,
+        HostLog::new(system, true),
+        SystemClock::new(*system),
+    );
+    if doors.a.door().address().is_some() {
+        log_serving(&mut log, address);
+    }
+    // If that fails, the host shows those prints as failed all the same.
+    let _ = settle_prints(system.alloc(), &mut keeper);
     let code = carry_out(
         rt,
         system,
@@ -145,7 +166,8 @@ fn serve_with<
         folder,
         &mut doors,
     );
-    match keeper.into_keeper() {
+    log_stopped(&mut log);
+    match keeper.into_keeper().into_keeper() {
         Ok(keeper) => close_keeper(keeper),
         Err(fault) => say_of_database(system, database.as_str(), fault),
     }
@@ -170,7 +192,7 @@ fn carry_out_unserved<
     out: &mut StdSink<HostRuntime>,
 ) -> ExitCode {
     let mut keeper = AbsentKeeper::new();
-    let mut doors = absent_doors(rt);
+    let mut doors = with_log(system, absent_doors(rt));
     carry_out(
         rt,
         system,

@@ -1,0 +1,61 @@
+//! The log of a host.
+use octo_log::LoggedDoor;
+use octo_outside::{Failed, Sink};
+use octo_outside_doors::{Door, Doors, TcpDoor};
+use std::io::Print;
+
+// Doors over TCP whose refusals are logged.
+pub(crate) type HostDoors<R> = Doors<LoggedDoor<TcpDoor<R>, HostLog>>;
+
+// The standard error for a host that serves, and nothing for another command. It doesn't record what was written.
+#[derive(Drop)]
+pub(crate) struct HostLog {
+    system: HostRuntime,
+    is_on: bool,
+    faults: u64,
+}
+
+impl HostLog {
+    pub(crate) fn new(system: &HostRuntime, is_on: bool) -> Self {
+        HostLog {
+            system: *system,
+            is_on,
+            faults: 0,
+        }
+    }
+}
+
+impl Sink for HostLog {
+    ghost use Rattle.std.specs.Prelude.{None};
+
+    ghost written = { λ _. None };
+
+    ghost faults = { λ l. l.faults };
+
+    fn write(&mut self, bytes: &[u8]) -> Result<usize, Failed> {
+        if !self.is_on {
+            return Ok(bytes.len());
+        }
+        if let Ok(n) = self.system.stderr().write_some(bytes)
+            && n > 0
+        {
+            return Ok(n);
+        }
+        self.faults = self.faults.saturating_add(1);
+        Err(Failed)
+    }
+}
+
+// These doors with a log each.
+pub(crate) fn with_log<D: Door + Drop>(
+    system: &HostRuntime,
+    doors: Doors<D>,
+) -> Doors<LoggedDoor<D, HostLog>> {
+    let Doors { a, b, c, d } = doors;
+    Doors {
+        a: LoggedDoor::new(a, HostLog::new(system, true)),
+        b: LoggedDoor::new(b, HostLog::new(system, true)),
+        c: LoggedDoor::new(c, HostLog::new(system, true)),
+        d: LoggedDoor::new(d, HostLog::new(system, true)),
+    }
+}
